@@ -1,0 +1,7 @@
+pub mod Cell
+pub mod Device
+pub mod Grid
+pub mod Name
+pub mod Region
+pub mod Shelf
+pub mod ShelfRefused
