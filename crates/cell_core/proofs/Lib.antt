@@ -1,2 +1,2 @@
 pub mod DeviceLemmas
-pub mod RegionLemmas
+pub mod NameLemmas

@@ -1,4 +1,7 @@
 //! Cells, regions, names, maps, the shelf of maps, and the sources and sinks of bytes.
+//!
+//! The meaning of maps, cells and regions is that of CELL maps of GRASS (g.region and r.in.ascii
+//! manuals). Where a rule is this project's own choice, its text says profile.
 #![tactic(auto)]
 
 pub mod cell;
@@ -10,3 +13,5 @@ pub mod region;
 pub mod shelf;
 pub mod sink;
 pub mod source;
+#[cfg(test)]
+mod tests;

@@ -1,7 +1,9 @@
-//! Maps of cells.
+//! Maps of cells, and maps in the making.
 
-ghost use Rattle.std.specs.Prelude.{◌≡◌, ℕ, ◌+◌, ◌<◌, ◌≤◌, List, ◌++◌, [], ◌∷◌, length, OnOk, OnErr};
-ghost use Rattle.cell_core.specs.Grid.{Grid, Draft, cell_at, IsFilled, no_labels};
+ghost use Rattle.std.specs.Prelude.{◌≡◌, ◌+◌, ◌<◌, ◌++◌, [], ◌∷◌, length, OnOk, OnErr};
+ghost use Rattle.std.specs.Option.{option_map};
+ghost use Rattle.std.specs.FinMap.{get};
+ghost use Rattle.cell_core.specs.Grid.{Grid, Draft, cell_at, row_at, IsFilled, IsDraft, no_labels};
 
 use crate::cell::Cell;
 use crate::memory::Memory;
@@ -9,8 +11,9 @@ use crate::region::Region;
 use std::alloc::Global;
 use std::marker::Model;
 
-/// A map of cells.
-#[derive(Drop)]
+/// A raster map of whole numbers (GRASS: a CELL map): its region, its rows from the top, and the
+/// labels of its categories. Rows and columns count from 0.
+#[derive(Debug, Drop)]
 pub struct CellMap {
     region: Region,
     rows: Vec<Vec<Cell>>,
@@ -30,6 +33,7 @@ impl Model for CellMap {
 }
 
 impl CellMap {
+    /// The region that it covers.
     pub fn region(&self) -> Region
         ensures value { result ≡ self.now.region }
         ensures filled { IsFilled self.now.region self.now.rows }
@@ -37,6 +41,7 @@ impl CellMap {
         self.region
     }
 
+    /// The cell at a row and a column.
     pub fn cell(&self, row: u32, col: u32) -> Cell
         requires row_in_range { row < self.now.region.rows }
         requires col_in_range { col < self.now.region.cols }
@@ -44,10 +49,30 @@ impl CellMap {
     {
         self.rows[row as usize][col as usize]
     }
+
+    /// Copies the cells of a row, from left to right. The slice has as many cells as the region
+    /// has columns.
+    pub fn copy_row(&self, row: u32, cells: &mut [Cell])
+        requires row_in_range { row < self.now.region.rows }
+        requires width { length cells.old ≡ self.now.region.cols }
+        ensures { cells.new ≡ row_at self.now row }
+    {
+        cells.copy_from_slice(&self.rows[row as usize]);
+    }
+
+    /// The label of a category, or None where it has none. No category has one as yet.
+    pub fn label(&self, category: i32) -> Option<&[u8]>
+        ensures { option_map (λ text. text.now) result ≡ get self.now.labels category }
+    {
+        // The proof looks into the map, which keeps no labels as yet.
+        let _ = &self.rows;
+        let _ = category;
+        None
+    }
 }
 
-/// A map that is filled row by row.
-#[derive(Drop)]
+/// A map that is filled row by row, from the top.
+#[derive(Debug, Drop)]
 pub struct MapBuilder {
     region: Region,
     alloc: Global,
@@ -66,6 +91,7 @@ impl Model for MapBuilder {
 }
 
 impl MapBuilder {
+    /// A map of this region without rows. Takes no memory.
     pub fn new(alloc: Global, region: Region) -> MapBuilder
         ensures { result ≡ record { region = region; rows = [] } }
     {
@@ -76,12 +102,19 @@ impl MapBuilder {
         }
     }
 
+    /// How many rows are still to be pushed.
     pub fn rows_left(&self) -> u32
-        ensures { result + length self.now.rows ≡ self.now.region.rows }
+        ensures count { result + length self.now.rows ≡ self.now.region.rows }
+        ensures draft { IsDraft self.now.region self.now.rows }
     {
         self.region.rows() - self.rows.len() as u32
     }
 
+    /// Puts a row of as many cells as the region has columns below the others. One is left.
+    ///
+    /// # Errors
+    ///
+    /// [`Memory`] where memory for the row was refused: nothing is changed.
     pub fn push_row(&mut self, row: &[Cell]) -> Result<(), Memory>
         requires width { length row.now ≡ self.old.region.cols }
         requires room { length self.old.rows < self.old.region.rows }
@@ -93,6 +126,7 @@ impl MapBuilder {
         Ok(())
     }
 
+    /// The map of the rows pushed, without labels. No row is left to be pushed.
     pub fn finish(self) -> CellMap
         requires { length self.rows ≡ self.region.rows }
         ensures { result ≡ record { region = self.region; rows = self.rows; labels = no_labels } }

@@ -1,22 +1,30 @@
-//! The region that a map covers.
+//! The rectangle that a map covers, cut into rows and columns.
 
-ghost use Rattle.std.specs.Prelude.{◌≡◌, ℕ, ℤ, ◌<◌, ◌≤◌, Option, MatchOption, MatchResult};
+ghost use Rattle.std.specs.Prelude.{◌≡◌, ◌<◌, ◌↔◌, IsTrue};
 ghost use Rattle.cell_core.specs.Region.{RegionValue, IsRegion, region_fault, is_above, is_side};
+ghost use Rattle.cell_core.specs.SameRegion.{is_same_region};
 
 use std::marker::Model;
 
-/// Why six numbers are no region, the first reason in this order.
+/// Why six numbers are no region: the first reason in this order (profile).
 #[derive(Clone, Copy, Debug, PartialEq, Eq)]
 pub enum RegionFault {
+    /// The north edge is not above the south edge, the east edge is not above the west edge, or
+    /// an edge lies beyond 9999999999.99999999 either way.
     BadExtent,
+    /// The number of rows is not from 1 to 32767.
     BadRows,
+    /// The number of columns is not from 1 to 32767.
     BadCols,
 }
 
 const LIMIT: i64 = 999999999999999999;
 
-/// A rectangle, in units of 10^-8, cut into rows and columns.
-#[derive(Clone, Copy, PartialEq, Eq)]
+/// A rectangle with its numbers of rows and columns (g.region manual).
+///
+/// The four edges are whole numbers of 10^-8 map units. Two regions are equal exactly where all
+/// six numbers are.
+#[derive(Clone, Copy, Debug)]
 pub struct Region {
     north: i64,
     south: i64,
@@ -38,20 +46,34 @@ impl Model for Region {
     ghost inverse = { λ e. record { north = e.north; south = e.south; east = e.east; west = e.west; rows = e.rows; cols = e.cols } };
 }
 
-// The first edge lies above the second, both within the limits.
+// Whether the first edge lies above the second, both within the limits.
 fn is_above(high: i64, low: i64) -> bool
     ensures { result ≡ is_above high low }
 {
     low < high && -LIMIT <= low && high <= LIMIT
 }
 
+// Whether it may be a number of rows or of columns.
 fn is_side(count: u32) -> bool
     ensures { result ≡ is_side count }
 {
     1 <= count && count <= 32767
 }
 
+// Whether all six numbers are equal.
+fn is_same_region(a: &Region, b: &Region) -> bool
+    ensures { result ≡ is_same_region a.now b.now }
+{
+    (a.north, a.south, a.east, a.west, a.rows, a.cols)
+        == (b.north, b.south, b.east, b.west, b.rows, b.cols)
+}
+
 impl Region {
+    /// The region of these edges, in units of 10^-8, with these numbers of rows and columns.
+    ///
+    /// # Errors
+    ///
+    /// The first [`RegionFault`] in the order that its variants have.
     pub fn new(
         north: i64,
         south: i64,
@@ -81,12 +103,39 @@ impl Region {
         })
     }
 
+    /// The upper edge, in units of 10^-8.
     pub fn north(&self) -> i64
-        ensures { result ≡ self.now.north }
+        ensures value { result ≡ self.now.north }
+        ensures region { IsRegion self.now }
     {
         self.north
     }
 
+    /// The lower edge, in units of 10^-8.
+    pub fn south(&self) -> i64
+        ensures value { result ≡ self.now.south }
+        ensures region { IsRegion self.now }
+    {
+        self.south
+    }
+
+    /// The right edge, in units of 10^-8.
+    pub fn east(&self) -> i64
+        ensures value { result ≡ self.now.east }
+        ensures region { IsRegion self.now }
+    {
+        self.east
+    }
+
+    /// The left edge, in units of 10^-8.
+    pub fn west(&self) -> i64
+        ensures value { result ≡ self.now.west }
+        ensures region { IsRegion self.now }
+    {
+        self.west
+    }
+
+    /// The number of rows, 1 to 32767.
     pub fn rows(&self) -> u32
         ensures value { result ≡ self.now.rows }
         ensures region { IsRegion self.now }
@@ -94,10 +143,34 @@ impl Region {
         self.rows
     }
 
+    /// The number of columns, 1 to 32767.
     pub fn cols(&self) -> u32
         ensures value { result ≡ self.now.cols }
         ensures region { IsRegion self.now }
     {
         self.cols
     }
+}
+
+impl PartialEq for Region {
+    ghost use Rattle.std.specs.Prelude.{◌≡◌, ◌↔◌, IsTrue};
+    ghost use Rattle.std.specs.Cmp.{partial_equiv_from_equiv};
+    ghost use Rattle.cell_core.specs.SameRegion.{is_same_region, is_same_region_equiv};
+
+    ghost eq = { is_same_region };
+
+    ghost laws = { partial_equiv_from_equiv is_same_region_equiv };
+
+    fn eq(&self, other: &Region) -> bool
+        ensures value { result ≡ is_same_region self.now other.now }
+        ensures same { IsTrue result ↔ (self.now ≡ other.now) }
+    {
+        is_same_region(self, other)
+    }
+}
+
+impl Eq for Region {
+    ghost use Rattle.cell_core.specs.SameRegion.{is_same_region_equiv};
+
+    ghost laws = { is_same_region_equiv };
 }

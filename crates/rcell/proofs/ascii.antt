@@ -1,0 +1,16 @@
+pub mod MapLemmas
+pub mod StartLemmas
+pub mod GapLemmas
+pub mod DigitLemmas
+pub mod NumberLemmas
+pub mod OpeningLemmas
+pub mod CellLemmas
+pub mod DataLemmas
+pub mod LexemeLemmas
+pub mod DataLawLemmas
+pub mod KeyLawLemmas
+pub mod HeaderLawLemmas
+pub mod LimitLawLemmas
+pub mod GridCellLemmas
+pub mod TextLawLemmas
+pub mod GridLawLemmas

@@ -1,0 +1,23 @@
+use Rattle.rcell.specs.ascii.Ahead.{to_come}
+use Rattle.rcell.proofs.ascii.CellLemmas.{cell_pending, cell_read, cell_fails}
+use Rattle.rcell.proofs.ascii.reader.GridReader.next_cell.Goals as goal
+
+pub returns-then-self-clause-cell : goal.returns-then-self-clause-cell
+returns-then-self-clause-cell g c =
+    let s = c.self.inside.scanner in
+    rw (← c.self.view_is, c.if-self.true, c.cell_here.ensures, c.end_run.ensures)
+    (cell_pending c.self.inside.header s.word s.line s.run s.ahead (to_come s.ahead))
+
+pub returns-in-Err-clause-cell : goal.returns-in-Err-clause-cell
+returns-in-Err-clause-cell g c =
+    let s = c.self.inside.scanner in
+    let t = c.read_token.new.scanner in
+    rw (← c.self.view_is, c.if-self.false)
+    (cell_fails c.self.inside.header s.line s.run (to_come s.ahead) (to_come t.ahead) t.line t.word c.in-Err.fault c.in-Err.ensures.token)
+
+pub returns-clause-cell : goal.returns-clause-cell
+returns-clause-cell g c =
+    let s = c.self.inside.scanner in
+    let t = c.read_token.new.scanner in
+    rw (← c.self.view_is, c.if-self.false, c.cell_here-2.ensures, c.in-Ok.ensures.none)
+    (cell_read c.self.inside.header s.line s.run (to_come s.ahead) (to_come t.ahead) t.line t.word t.ahead c.in-Ok.ensures.token)

@@ -1,0 +1,3 @@
+pub mod ExecutionLemmas
+pub mod LoadingLemmas
+pub mod TextLemmas

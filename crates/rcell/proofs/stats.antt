@@ -1,0 +1,4 @@
+pub mod OrderLemmas
+pub mod PutLemmas
+pub mod TableLemmas
+pub mod CellLemmas

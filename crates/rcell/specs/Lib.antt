@@ -1,0 +1,5 @@
+pub mod ascii
+pub mod output
+pub mod run
+pub mod script
+pub mod stats

@@ -1,0 +1,14 @@
+pub mod Words
+pub mod Numbers
+pub mod KeyNames
+pub mod Header
+pub mod Cells
+pub mod GridText
+pub mod Capped
+pub mod Given
+pub mod Ahead
+pub mod Scan
+pub mod Steps
+pub mod Opening
+pub mod Reader
+pub mod GridLaw

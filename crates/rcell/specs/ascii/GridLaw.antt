@@ -1,0 +1,10 @@
+-- The reading of a grid text gives the map that the text denotes, and gives none where it denotes none.
+use Rattle.std.specs.Prelude.{◌≡◌, ◌↔◌, Ok}
+use Rattle.cell_core.specs.Device.{Coming}
+use Rattle.cell_core.specs.Grid.{Grid}
+use Rattle.rcell.specs.ascii.Cells.{grid_of}
+use Rattle.rcell.specs.ascii.GridText.{Denotes}
+
+-- what is read of a text is a map exactly where the text denotes that map
+abbrev pub ReadingAgrees : Type 0
+ReadingAgrees = (c : Coming) (m : Grid) → (grid_of c ≡ Ok m) ↔ Denotes c m

@@ -1,0 +1,6 @@
+pub mod Faults
+pub mod Sources
+pub mod Loading
+pub mod Output
+pub mod Outcomes
+pub mod Execution

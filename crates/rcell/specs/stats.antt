@@ -1,0 +1,4 @@
+-- The combinations of categories that occur in several maps, and how often.
+pub mod Combinations
+pub mod Places
+pub mod Tables

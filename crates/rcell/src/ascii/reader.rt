@@ -1,0 +1,233 @@
+//! Whole grids, read row by row.
+
+ghost use Rattle.std.specs.Prelude.{◌≡◌, ◌≢◌, ℕ, ◌+◌, ◌*◌, ◌^◌, ◌<◌, ◌≤◌, length, Ok, Err, OnOk, IfOk, IfErr, IfSome};
+ghost use Rattle.std.specs.Option.{option_map};
+ghost use Rattle.cell_core.specs.Grid.{no_labels, IsFilled};
+ghost use Rattle.rcell.specs.ascii.Ahead.{to_come};
+ghost use Rattle.rcell.specs.ascii.Words.{start_of};
+ghost use Rattle.rcell.specs.ascii.Header.{at_line, header_of, header_of_text};
+ghost use Rattle.rcell.specs.ascii.Cells.{cell_of_word, cell_from, many, end_of, data_from, grid_of};
+ghost use Rattle.rcell.specs.ascii.Reader.{Place, at_place, opened_at, token_of, token_seen, reading_seen, writing_seen, always};
+
+use crate::ascii::fault::{GridFault, GridKind};
+use crate::ascii::header::Header;
+use crate::ascii::keys::Keys;
+use crate::ascii::opening;
+use crate::ascii::scanner::{Next, Scanner};
+use cell_core::cell::Cell;
+use cell_core::map::{CellMap, MapBuilder};
+use cell_core::region::Region;
+use cell_core::source::Source;
+use std::alloc::Global;
+use std::marker::Model;
+
+const NO_MEMORY: GridFault = GridFault {
+    kind: GridKind::Memory,
+    line: 0,
+};
+
+// A grid text behind its header.
+#[derive(Drop)]
+struct GridReader<R: Source> {
+    scanner: Scanner<R>,
+    header: Header,
+    waiting: bool,
+}
+
+impl<R: Source> Model for GridReader<R> {
+    ghost use Rattle.std.specs.Prelude.{Some, None, ◌≤◌, if◌then◌else◌};
+    ghost use Rattle.rcell.specs.ascii.Reader.{Place};
+
+    ghost Value = { Place };
+
+    ghost view = { λ r. record { header = r.header; pending = (if r.waiting then Some r.scanner.word else None); line = r.scanner.line; run = r.scanner.run; ahead = r.scanner.ahead } };
+
+    ghost invariant = { λ r. r.scanner.run ≤ 1048576 };
+}
+
+// Reads the next word.
+fn read_token<R: Source>(scanner: &mut Scanner<R>) -> Result<(), GridFault>
+    requires room { scanner.old.line + 1048576 < 2 ^ 64 }
+    requires run { scanner.old.run ≤ 1048576 }
+    ensures token { option_map (λ c. token_of (start_of scanner.old.line scanner.old.run c)) (to_come scanner.old.ahead)
+        ≡ option_map (token_seen result scanner.new.line scanner.new.word) (to_come scanner.new.ahead) }
+    ensures lines { scanner.new.line ≤ scanner.old.line + 1048576 }
+    ensures run { scanner.new.run ≤ 1048576 }
+    ensures none { OnOk result (scanner.new.run ≡ 0) }
+{
+    match scanner.skip_spaces() {
+        Ok(Next::Word) => {}
+        Ok(Next::End) => {
+            return Err(GridFault {
+                kind: GridKind::TooFew,
+                line: scanner.line(),
+            });
+        }
+        Err(fault) => return Err(fault),
+    }
+    match scanner.read_word() {
+        Ok(()) => Ok(()),
+        Err(fault) => Err(fault),
+    }
+}
+
+// The header that the keys give, judged at a line.
+fn header_at(keys: Keys, line: u64) -> Result<Header, GridFault>
+    ensures { result ≡ at_line line (header_of keys) }
+{
+    match keys.header() {
+        Ok(header) => Ok(header),
+        Err(kind) => Err(GridFault { kind, line }),
+    }
+}
+
+// The cell of the word that was read.
+fn cell_here<R: Source>(header: &Header, scanner: &Scanner<R>) -> Result<Cell, GridFault>
+    ensures { result ≡ at_line scanner.now.line (cell_of_word header.now scanner.now.word) }
+{
+    match header.cell_of_word(scanner.word()) {
+        Ok(cell) => Ok(cell),
+        Err(kind) => Err(GridFault {
+            kind,
+            line: scanner.line(),
+        }),
+    }
+}
+
+impl<R: Source> GridReader<R> {
+    // Reads the header, and the first word behind it.
+    fn open(alloc: Global, source: R) -> Result<GridReader<R>, GridFault>
+    where
+        R: Drop,
+        ensures opened { IfOk result (λ r. option_map header_of_text (R.coming source) ≡ option_map (λ c. Ok (opened_at r c)) (to_come r.ahead)) }
+        ensures fault { IfErr result (λ f. f.kind ≢ GridKind.Memory → IfSome (R.coming source) (λ c. header_of_text c ≡ Err f)) }
+        ensures line { IfOk result (λ r. r.line < 2 ^ 62) }
+    {
+        let Ok(mut scanner) = Scanner::new(alloc, source) else {
+            return Err(NO_MEMORY);
+        };
+        let mut keys = Keys::new();
+        let waiting = match opening::read_header(&mut scanner, &mut keys) {
+            Ok(waiting) => waiting,
+            Err(fault) => return Err(fault),
+        };
+        scanner.end_run();
+        match header_at(keys, scanner.line()) {
+            Ok(header) => Ok(GridReader {
+                scanner,
+                header,
+                waiting,
+            }),
+            Err(fault) => Err(fault),
+        }
+    }
+
+    fn region(&self) -> Region
+        ensures { result ≡ self.now.header.region }
+    {
+        self.header.region()
+    }
+
+    // Reads the next cell.
+    fn next_cell(&mut self) -> Result<Cell, GridFault>
+        requires room { self.old.line + 1048576 < 2 ^ 64 }
+        ensures cell { option_map (λ c. cell_from self.old.header (at_place self.old c)) (to_come self.old.ahead)
+            ≡ option_map (reading_seen result self.new) (to_come self.new.ahead) }
+        ensures header { self.new.header ≡ self.old.header }
+        ensures lines { self.new.line ≤ self.old.line + 1048576 }
+    {
+        if self.waiting {
+            self.waiting = false;
+            self.scanner.end_run();
+            return cell_here(&self.header, &self.scanner);
+        }
+        match read_token(&mut self.scanner) {
+            Ok(()) => {}
+            Err(fault) => return Err(fault),
+        }
+        cell_here(&self.header, &self.scanner)
+    }
+
+    // Nothing but blanks and line feeds is left.
+    fn finish(&mut self) -> Result<(), GridFault>
+        requires room { self.old.line + 1048576 < 2 ^ 64 }
+        ensures { option_map (λ c. end_of (start_of self.old.line self.old.run c)) (to_come self.old.ahead)
+            ≡ option_map (always result) (to_come self.new.ahead) }
+    {
+        match self.scanner.skip_spaces() {
+            Ok(Next::Word) => Err(GridFault {
+                kind: GridKind::TooMany,
+                line: self.scanner.line(),
+            }),
+            Ok(Next::End) => Ok(()),
+            Err(fault) => Err(fault),
+        }
+    }
+}
+
+// Reads a row of cells.
+fn read_row<R: Source>(reader: &mut GridReader<R>, row: &mut [Cell]) -> Result<(), GridFault>
+    requires room { reader.old.line + length row.old * 1048577 < 2 ^ 63 }
+    ensures row { option_map (λ c. many (cell_from reader.old.header) (length row.old) (at_place reader.old c)) (to_come reader.old.ahead)
+        ≡ option_map (writing_seen result row.new reader.new) (to_come reader.new.ahead) }
+    ensures header { reader.new.header ≡ reader.old.header }
+    ensures lines { reader.new.line ≤ reader.old.line + length row.old * 1048577 }
+{
+    for i in 0..row.len() {
+        match reader.next_cell() {
+            Ok(cell) => row[i] = cell,
+            Err(fault) => return Err(fault),
+        }
+    }
+    Ok(())
+}
+
+// Reads the rows of a grid and the end of the text.
+fn read_rows<R: Source>(alloc: Global, reader: &mut GridReader<R>) -> Result<CellMap, GridFault>
+    requires room { reader.old.line < 2 ^ 62 }
+    ensures region { IfOk result (λ m. (m.region ≡ reader.old.header.region) × (m.labels ≡ no_labels)) }
+    ensures rows { IfOk result (λ m. IfSome (to_come reader.old.ahead)
+        (λ c. data_from reader.old.header (at_place reader.old c) ≡ Ok m.rows)) }
+    ensures fault { IfErr result (λ f. f.kind ≢ GridKind.Memory → IfSome (to_come reader.old.ahead)
+        (λ c. data_from reader.old.header (at_place reader.old c) ≡ Err f)) }
+{
+    let region = reader.region();
+    let Ok(mut buffer) = vec![in alloc; Cell::null(); region.cols() as usize] else {
+        return Err(NO_MEMORY);
+    };
+    let row = buffer.as_mut_slice();
+    let mut builder = MapBuilder::new(alloc, region);
+    for r in 0..region.rows() {
+        match read_row(reader, row) {
+            Ok(()) => {}
+            Err(fault) => return Err(fault),
+        }
+        match builder.push_row(row) {
+            Ok(()) => {}
+            Err(_) => return Err(NO_MEMORY),
+        }
+    }
+    match reader.finish() {
+        Ok(()) => Ok(builder.finish()),
+        Err(fault) => Err(fault),
+    }
+}
+
+/// Reads a whole grid: the map that the text of a source denotes (r.in.ascii manual).
+///
+/// # Errors
+///
+/// The text's first fault with its line, or `Memory` with line 0 where memory is refused.
+pub fn read_map<R: Source + Drop>(alloc: Global, source: R) -> Result<CellMap, GridFault>
+    ensures map { IfOk result (λ m. IfSome (R.coming source) (λ c. grid_of c ≡ Ok m)) }
+    ensures fault { IfErr result (λ f. f.kind ≢ GridKind.Memory → IfSome (R.coming source) (λ c. grid_of c ≡ Err f)) }
+{
+    let mut reader = match GridReader::open(alloc, source) {
+        Ok(reader) => reader,
+        Err(fault) => return Err(fault),
+    };
+    match read_rows(alloc, &mut reader) {
+        Ok(map) => Ok(map),
+        Err(fault) => Err(fault),
+    }
+}

@@ -1,0 +1,8 @@
+//! Scripts over grids of whole-number cells.
+#![tactic(auto)]
+
+pub mod ascii;
+pub mod output;
+pub mod run;
+pub mod script;
+pub mod stats;

@@ -1,0 +1,4 @@
+//! How often each combination of categories occurs.
+
+pub mod combination;
+pub mod table;
