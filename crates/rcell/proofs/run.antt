@@ -1,3 +1,4 @@
+pub mod AcceptedLemmas
 pub mod ExecutionLemmas
 pub mod LoadingLemmas
 pub mod TextLemmas

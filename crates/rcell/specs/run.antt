@@ -4,3 +4,4 @@ pub mod Loading
 pub mod Output
 pub mod Outcomes
 pub mod Execution
+pub mod Accepted

@@ -1,14 +1,16 @@
 -- What a run answers: the whole output, or the first fault of what it is given.
-use Rattle.std.specs.Prelude.{ℕ, ◌≡◌, Bool, true, false, nat_lt, List, [], length, Option, Some, None, Result, Ok, Err, if◌then◌else◌}
+use Rattle.std.specs.Prelude.{ℕ, ◌≡◌, Bool, true, false, nat_lt, List, [], length, Option, Some, None, IfSome, Result, Ok, Err, if◌then◌else◌}
 use Rattle.cell_core.specs.Device.{Coming, append_known}
 use Rattle.cell_core.specs.Shelf.{ShelfValue}
 use Rattle.rcell.specs.script.Statements.{script_of}
 use Rattle.rcell.specs.declared.script.fault.ScriptFault.{ScriptFault}
 use Rattle.rcell.specs.declared.script.statement.Statement.{Statement}
 use Rattle.rcell.specs.output.Blocks.{IsCut, capped}
+use Rattle.rcell.specs.run.Faults.{IsOfMemory}
 use Rattle.rcell.specs.run.Sources.{Named}
 use Rattle.rcell.specs.run.Loading.{shelf_of}
 use Rattle.rcell.specs.run.Output.{output_of}
+use Rattle.rcell.specs.declared.run.outcome.Outcome.{Outcome}
 use Rattle.rcell.specs.declared.run.outcome.RunFault.{RunFault}
 use Rattle.rcell.specs.declared.run.outcome.RunFault.TheVariants.{GridTwice, ScriptRead, ScriptSize, Script}
 
@@ -43,3 +45,9 @@ IsDone (Err fault) before now written = ⊥
 abbrev pub IsFront : Result (List ℕ) RunFault → Option (List ℕ) → Option (List ℕ) → ℕ → Type 0
 IsFront (Ok text) before now written = IsCut before text now written
 IsFront (Err fault) before now written = ⊥
+
+-- where memory lasts and the sink takes everything: status 0, no fault, and exactly the text is out
+abbrev pub Writes : List ℕ → Option (List ℕ) → Option (List ℕ) → Bool → Outcome → Type 0
+Writes text before now failed outcome =
+    IfSome outcome.fault (λ f. IsOfMemory f → ⊥) → failed ≡ false
+    → (outcome.status ≡ 0) × ((outcome.fault ≡ None) × ((now ≡ append_known before text) × (outcome.written ≡ capped (length text))))

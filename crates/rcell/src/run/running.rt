@@ -2,12 +2,15 @@
 
 ghost use Rattle.std.specs.Prelude.{◌≡◌, ◌≢◌, ℕ, ◌<◌, ◌||◌, List, All, length, false, true, IsNone, IsSome, IfSome, IfOk, IfErr, Ok, Err, Some, None, vec_len};
 ghost use Rattle.cell_core.specs.Device.{append_known};
+ghost use Rattle.cell_core.specs.Shelf.{ShelfValue};
 ghost use Rattle.rcell.specs.output.Blocks.{IsCut, capped};
-ghost use Rattle.rcell.specs.run.Faults.{IsOfInput, IsOfMemory, IsBeforeExecution, IsInExecution, status_of, status_after};
-ghost use Rattle.rcell.specs.run.Outcomes.{outcome_of, output_on, script_text, IsDone, IsFront};
+ghost use Rattle.rcell.specs.run.Faults.{IsOfInput, IsBeforeExecution, IsInExecution, status_of, status_after};
+ghost use Rattle.rcell.specs.run.Outcomes.{outcome_of, output_on, script_text, IsDone, IsFront, Writes};
+ghost use Rattle.rcell.specs.run.Accepted.{IsAccepted};
 ghost use Rattle.rcell.specs.run.Output.{output_of};
 ghost use Rattle.rcell.specs.run.Sources.{AllKnown, known_of, coming_of};
 ghost use Rattle.rcell.specs.script.Statements.{ReadsWithin};
+ghost use Rattle.rcell.specs.declared.script.statement.Statement.{Statement};
 
 use crate::run::execution::{Stop, execute};
 use crate::run::loading::{load, names_of};
@@ -112,11 +115,15 @@ pub fn run<R: Source + Drop, W: Sink>(
     // Status 0 comes only where the sink did not fail in the run, and Write only where it failed.
     ensures sound { result.status ≡ 0 → W.failed out.new ≡ W.failed out.old }
     ensures write { result.fault ≡ Some RunFault.Write → W.failed out.new ≡ true }
-    // Where the texts have an output, memory lasts and the sink takes everything, exactly the output is written.
-    ensures headline { (text : List ℕ) → AllKnown R.coming grids.items → IsSome (R.coming script)
+    // For every accepted script over grids of one region, where memory lasts and the sink takes everything,
+    // exactly the output of its statements is written.
+    ensures headline { (shelf : ShelfValue) (statements : List Statement) → AllKnown R.coming grids.items → IsSome (R.coming script)
+        → IsAccepted (known_of R.coming grids.items) (coming_of R.coming script) shelf statements
+        → Writes (output_of shelf statements) (W.taken out.old) (W.taken out.new) (W.failed out.new) result }
+    // The same of whatever texts have an output.
+    ensures complete { (text : List ℕ) → AllKnown R.coming grids.items → IsSome (R.coming script)
         → outcome_of (known_of R.coming grids.items) (coming_of R.coming script) ≡ Ok text
-        → IfSome result.fault (λ f. IsOfMemory f → ⊥) → W.failed out.new ≡ false
-        → (result.status ≡ 0) × ((result.fault ≡ None) × ((W.taken out.new ≡ append_known (W.taken out.old) text) × (result.written ≡ capped (length text)))) }
+        → Writes text (W.taken out.old) (W.taken out.new) (W.failed out.new) result }
 {
     let shelf = match load(alloc, grids) {
         Ok(shelf) => shelf,
