@@ -1,5 +1,5 @@
 -- The whole data, from its rows and its end, and the whole text, from its header and its data.
-use Rattle.std.proofs.Common.{◌≡◌, ℕ, [], List, Option, Some, None, Result, Ok, Err, Bool, refl, ap, sym, ◌∙◌}
+use Rattle.std.proofs.Common.{◌≡◌, ◌≢◌, ℕ, [], List, Option, Some, None, Result, Ok, Err, Bool, refl, ap, sym, ◌∙◌}
 use Rattle.std.specs.Option.{option_map, IfSome}
 use Rattle.cell_core.specs.Device.{Coming}
 use Rattle.cell_core.specs.Grid.{CellValue, Grid, no_labels}
@@ -9,7 +9,9 @@ use Rattle.rcell.specs.ascii.Cells.{Reading, cell_from, many, end_of, data_from,
 use Rattle.rcell.specs.ascii.Reader.{always, Place, at_place, opened_at}
 use Rattle.rcell.specs.ascii.Opening.{header_seen}
 use Rattle.rcell.specs.ascii.Ahead.{to_come}
+use Rattle.rcell.specs.declared.ascii.fault.GridKind.TheVariants.{Memory}
 use Rattle.rcell.specs.declared.ascii.fault.GridFault.{GridFault}
+use Rattle.std.specs.Result.{IfOk, IfErr}
 use Rattle.rcell.proofs.ascii.MapLemmas.{then_map, known}
 use Rattle.rcell.proofs.ascii.CellLemmas.{with_front, read_all}
 
@@ -57,6 +59,17 @@ module _ (p : Place) (a b : Option Coming) (opened : option_map header_of_text a
 
   pub text_fails : (f : GridFault) → IfSome b (λ c. data_from p.header (at_place p c) ≡ Err f) → IfSome a (λ c. grid_of c ≡ Err f)
   text_fails f rows = text_is p (Err f) (Err f) a b refl opened rows
+
+  -- the same, of an answer
+  pub map_read : (r : Result Grid GridFault) → IfOk r (λ m. (m.region ≡ p.header.region) × (m.labels ≡ no_labels)) → IfOk r (λ m. IfSome b (λ c. data_from p.header (at_place p c) ≡ Ok m.rows))
+      → IfOk r (λ m. IfSome a (λ c. grid_of c ≡ Ok m))
+  map_read (Ok m) parts rows = text_map m parts rows
+  map_read (Err f) parts rows = tt
+
+  pub fault_read : (r : Result Grid GridFault) → IfErr r (λ f. f.kind ≢ Memory → IfSome b (λ c. data_from p.header (at_place p c) ≡ Err f))
+      → IfErr r (λ f. f.kind ≢ Memory → IfSome a (λ c. grid_of c ≡ Err f))
+  fault_read (Ok m) h = tt
+  fault_read (Err f) h = λ other. text_fails f (h other)
 
 -- a fault of the header is the text's
 pub header_faults : (a : Option Coming) (f : GridFault) → IfSome a (λ c. header_of_text c ≡ Err f) → IfSome a (λ c. grid_of c ≡ Err f)

@@ -9,11 +9,8 @@ use Rattle.rcell.specs.ascii.Capped.{capped, capped_number}
 use Rattle.rcell.specs.ascii.Cells.{cell_of_number}
 use Rattle.rcell.specs.declared.ascii.fault.GridKind.TheVariants.{CellRange}
 
-pub cell_far : (m n : ℤ) → is_in_range n ≡ false → cell_of_number m (Some n) ≡ Err CellRange
+cell_far : (m n : ℤ) → is_in_range n ≡ false → cell_of_number m (Some n) ≡ Err CellRange
 cell_far m n e = rw e refl
-
-pub cell_near : (m n : ℤ) → is_in_range n ≡ true → is_in_range (n *ℤ m) ≡ true → cell_of_number m (Some n) ≡ Ok (Some (n *ℤ m))
-cell_near m n e f = rw (e, f) refl
 
 -- a number that is in range is not capped, and one that is out of range stays so
 agree : (m z y : ℤ) → is_in_range y ≡ is_in_range z → (is_in_range z ≡ true → y ≡ z) → cell_of_number m (Some y) ≡ cell_of_number m (Some z)

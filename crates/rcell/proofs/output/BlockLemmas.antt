@@ -2,7 +2,7 @@
 use Rattle.std.proofs.Common.{◌≡◌, ℕ, ◌+◌, ◌≤◌, List, [], ◌++◌, length, take, drop, Option, Some, None, refl, ap, sym, ◌∙◌, arith, append_assoc, append-nil, length-append, length-take}
 use Rattle.std.proofs.lemmas.List.{take-append-drop}
 use Rattle.cell_core.specs.Device.{append_known}
-use Rattle.rcell.specs.output.Blocks.{BlockValue, Gathered, IsCut, IsPut, capped}
+use Rattle.rcell.specs.output.Blocks.{BlockValue, Gathered, IsCut, IsPut, capped, empty_block}
 
 append_known-append : (o : Option (List ℕ)) (xs ys : List ℕ) → append_known (append_known o xs) ys ≡ append_known o (xs ++ ys)
 append_known-append None xs ys = refl
@@ -89,3 +89,11 @@ IsCut-more before now text more written c = record {
   taken = c.taken;
   count = c.count;
 }
+
+append_known-nil : (o : Option (List ℕ)) → o ≡ append_known o []
+append_known-nil None = refl
+append_known-nil (Some xs) = ap Some (sym (append-nil xs))
+
+-- a new block gathered nothing
+pub Gathered-none : (before : Option (List ℕ)) → Gathered before [] before empty_block
+Gathered-none before = record { front = []; whole = refl; taken = append_known-nil before; written = refl }

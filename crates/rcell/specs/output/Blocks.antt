@@ -15,14 +15,14 @@ empty_block = record { held = []; written = 0 }
 abbrev pub capped : ℕ → ℕ
 capped n = min n (2 ^ 64 - 1)
 
--- after `before`, the sink took a front of the text, and the block holds the rest
+-- since it had taken `before`, the sink took a front of the text, and the block holds the rest
 pub record Gathered (before : Option (List ℕ)) (text : List ℕ) (now : Option (List ℕ)) (block : BlockValue) : Type 0 where
   pub front : List ℕ
   pub whole : front ++ block.held ≡ text
   pub taken : now ≡ append_known before front
   pub written : block.written ≡ capped (length front)
 
--- after `before`, the sink took a front of the text and then failed
+-- since it had taken `before`, the sink took a front of the text and then failed
 pub record IsCut (before : Option (List ℕ)) (text : List ℕ) (now : Option (List ℕ)) (written : ℕ) : Type 0 where
   pub front : List ℕ
   pub rest : List ℕ
@@ -30,7 +30,7 @@ pub record IsCut (before : Option (List ℕ)) (text : List ℕ) (now : Option (L
   pub taken : now ≡ append_known before front
   pub count : written ≡ capped (length front)
 
--- after `before`, the sink took the whole text, and the block holds nothing
+-- since it had taken `before`, the sink took the whole text, and the block holds nothing
 pub record IsPut (before : Option (List ℕ)) (text : List ℕ) (now : Option (List ℕ)) (block : BlockValue) : Type 0 where
   pub taken : now ≡ append_known before text
   pub held : block.held ≡ []

@@ -48,18 +48,9 @@ pub fn whole_number(text: &[u8]) -> Option<i64>
     ensures { result ≡ capped_number text.now }
 {
     match text {
-        [b'-', digits @ ..] => match digits_of(digits) {
-            Some(n) => Some(-(n as i64)),
-            None => None,
-        },
-        [b'+', digits @ ..] => match digits_of(digits) {
-            Some(n) => Some(n as i64),
-            None => None,
-        },
-        _ => match digits_of(text) {
-            Some(n) => Some(n as i64),
-            None => None,
-        },
+        [b'-', digits @ ..] => digits_of(digits).map(|n| -(n as i64)),
+        [b'+', digits @ ..] => digits_of(digits).map(|n| n as i64),
+        _ => digits_of(text).map(|n| n as i64),
     }
 }
 
@@ -74,8 +65,8 @@ fn whole_in_range(text: &[u8]) -> Option<i32>
     ensures { result ≡ whole_in_range text.now }
 {
     match whole_number(text) {
-        Some(n) => { if is_in_range(n) { Some(n as i32) } else { None } }
-        None => None,
+        Some(n) if is_in_range(n) => Some(n as i32),
+        _ => None,
     }
 }
 
@@ -83,10 +74,7 @@ fn whole_in_range(text: &[u8]) -> Option<i32>
 pub fn side(text: &[u8]) -> Option<u32>
     ensures { result ≡ side text.now }
 {
-    match whole_in_range(text) {
-        Some(n) => { if n < 0 { Some(0) } else { Some(n as u32) } }
-        None => None,
-    }
+    whole_in_range(text).map(|n| n.max(0) as u32)
 }
 
 fn are_short(whole: usize, part: usize) -> bool
@@ -137,17 +125,8 @@ pub fn coordinate(text: &[u8]) -> Option<i64>
     ensures { result ≡ coordinate text.now }
 {
     match text {
-        [b'-', rest @ ..] => match unsigned_coordinate(rest) {
-            Some(n) => Some(-(n as i64)),
-            None => None,
-        },
-        [b'+', rest @ ..] => match unsigned_coordinate(rest) {
-            Some(n) => Some(n as i64),
-            None => None,
-        },
-        _ => match unsigned_coordinate(text) {
-            Some(n) => Some(n as i64),
-            None => None,
-        },
+        [b'-', rest @ ..] => unsigned_coordinate(rest).map(|n| -(n as i64)),
+        [b'+', rest @ ..] => unsigned_coordinate(rest).map(|n| n as i64),
+        _ => unsigned_coordinate(text).map(|n| n as i64),
     }
 }

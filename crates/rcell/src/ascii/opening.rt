@@ -56,15 +56,13 @@ fn read_value<R: Source>(scanner: &mut Scanner<R>, start: usize) -> Result<usize
         return Ok(start);
     }
     let line = scanner.line();
-    match scanner.skip_blanks() {
-        Ok(InLine::Word) => {}
-        Ok(InLine::Feed) => return Err(bad_header(line)),
-        Ok(InLine::End) => return Err(bad_header(line)),
-        Err(fault) => return Err(fault),
-    }
-    match scanner.read_word() {
-        Ok(()) => Ok(0),
-        Err(fault) => Err(fault),
+    match scanner.skip_blanks()? {
+        InLine::Word => {
+            scanner.read_word()?;
+            Ok(0)
+        }
+        InLine::Feed => Err(bad_header(line)),
+        InLine::End => Err(bad_header(line)),
     }
 }
 
@@ -82,11 +80,10 @@ fn end_line<R: Source>(scanner: &mut Scanner<R>) -> Result<Ending, GridFault>
     ensures lines { scanner.new.line ≤ scanner.old.line + 1 }
 {
     let line = scanner.line();
-    match scanner.skip_blanks() {
-        Ok(InLine::Word) => Err(bad_header(line)),
-        Ok(InLine::Feed) => Ok(Ending::Feed),
-        Ok(InLine::End) => Ok(Ending::Text),
-        Err(fault) => Err(fault),
+    match scanner.skip_blanks()? {
+        InLine::Word => Err(bad_header(line)),
+        InLine::Feed => Ok(Ending::Feed),
+        InLine::End => Ok(Ending::Text),
     }
 }
 
@@ -110,14 +107,8 @@ fn read_key<R: Source>(
 {
     let line = scanner.line();
     let key = key::key_of(&scanner.word()[..colon]);
-    let start = match read_value(scanner, colon + 1) {
-        Ok(start) => start,
-        Err(fault) => return Err(fault),
-    };
-    let ending = match end_line(scanner) {
-        Ok(ending) => ending,
-        Err(fault) => return Err(fault),
-    };
+    let start = read_value(scanner, colon + 1)?;
+    let ending = end_line(scanner)?;
     match keys.with(key, &scanner.word()[start..]) {
         Ok(more) => {
             *keys = more;

@@ -55,19 +55,12 @@ fn read_token<R: Source>(scanner: &mut Scanner<R>) -> Result<(), GridFault>
     ensures run { scanner.new.run ≤ 1048576 }
     ensures none { OnOk result (scanner.new.run ≡ 0) }
 {
-    match scanner.skip_spaces() {
-        Ok(Next::Word) => {}
-        Ok(Next::End) => {
-            return Err(GridFault {
-                kind: GridKind::TooFew,
-                line: scanner.line(),
-            });
-        }
-        Err(fault) => return Err(fault),
-    }
-    match scanner.read_word() {
-        Ok(()) => Ok(()),
-        Err(fault) => Err(fault),
+    match scanner.skip_spaces()? {
+        Next::Word => scanner.read_word(),
+        Next::End => Err(GridFault {
+            kind: GridKind::TooFew,
+            line: scanner.line(),
+        }),
     }
 }
 
@@ -75,23 +68,17 @@ fn read_token<R: Source>(scanner: &mut Scanner<R>) -> Result<(), GridFault>
 fn header_at(keys: Keys, line: u64) -> Result<Header, GridFault>
     ensures { result ≡ at_line line (header_of keys) }
 {
-    match keys.header() {
-        Ok(header) => Ok(header),
-        Err(kind) => Err(GridFault { kind, line }),
-    }
+    keys.header().map_err(|kind| GridFault { kind, line })
 }
 
 // The cell of the word that was read.
 fn cell_here<R: Source>(header: &Header, scanner: &Scanner<R>) -> Result<Cell, GridFault>
     ensures { result ≡ at_line scanner.now.line (cell_of_word header.now scanner.now.word) }
 {
-    match header.cell_of_word(scanner.word()) {
-        Ok(cell) => Ok(cell),
-        Err(kind) => Err(GridFault {
-            kind,
-            line: scanner.line(),
-        }),
-    }
+    let line = scanner.line();
+    header
+        .cell_of_word(scanner.word())
+        .map_err(|kind| GridFault { kind, line })
 }
 
 impl<R: Source> GridReader<R> {
@@ -107,19 +94,14 @@ impl<R: Source> GridReader<R> {
             return Err(NO_MEMORY);
         };
         let mut keys = Keys::new();
-        let waiting = match opening::read_header(&mut scanner, &mut keys) {
-            Ok(waiting) => waiting,
-            Err(fault) => return Err(fault),
-        };
+        let waiting = opening::read_header(&mut scanner, &mut keys)?;
         scanner.end_run();
-        match header_at(keys, scanner.line()) {
-            Ok(header) => Ok(GridReader {
-                scanner,
-                header,
-                waiting,
-            }),
-            Err(fault) => Err(fault),
-        }
+        let header = header_at(keys, scanner.line())?;
+        Ok(GridReader {
+            scanner,
+            header,
+            waiting,
+        })
     }
 
     fn region(&self) -> Region
@@ -141,10 +123,7 @@ impl<R: Source> GridReader<R> {
             self.scanner.end_run();
             return cell_here(&self.header, &self.scanner);
         }
-        match read_token(&mut self.scanner) {
-            Ok(()) => {}
-            Err(fault) => return Err(fault),
-        }
+        read_token(&mut self.scanner)?;
         cell_here(&self.header, &self.scanner)
     }
 
@@ -154,13 +133,12 @@ impl<R: Source> GridReader<R> {
         ensures { option_map (λ c. end_of (start_of self.old.line self.old.run c)) (to_come self.old.ahead)
             ≡ option_map (always result) (to_come self.new.ahead) }
     {
-        match self.scanner.skip_spaces() {
-            Ok(Next::Word) => Err(GridFault {
+        match self.scanner.skip_spaces()? {
+            Next::Word => Err(GridFault {
                 kind: GridKind::TooMany,
                 line: self.scanner.line(),
             }),
-            Ok(Next::End) => Ok(()),
-            Err(fault) => Err(fault),
+            Next::End => Ok(()),
         }
     }
 }
@@ -174,10 +152,8 @@ fn read_row<R: Source>(reader: &mut GridReader<R>, row: &mut [Cell]) -> Result<(
     ensures lines { reader.new.line ≤ reader.old.line + length row.old * 1048577 }
 {
     for i in 0..row.len() {
-        match reader.next_cell() {
-            Ok(cell) => row[i] = cell,
-            Err(fault) => return Err(fault),
-        }
+        let cell = reader.next_cell()?;
+        row[i] = cell;
     }
     Ok(())
 }
@@ -198,19 +174,14 @@ fn read_rows<R: Source>(alloc: Global, reader: &mut GridReader<R>) -> Result<Cel
     let row = buffer.as_mut_slice();
     let mut builder = MapBuilder::new(alloc, region);
     for r in 0..region.rows() {
-        match read_row(reader, row) {
-            Ok(()) => {}
-            Err(fault) => return Err(fault),
-        }
+        read_row(reader, row)?;
         match builder.push_row(row) {
             Ok(()) => {}
             Err(_) => return Err(NO_MEMORY),
         }
     }
-    match reader.finish() {
-        Ok(()) => Ok(builder.finish()),
-        Err(fault) => Err(fault),
-    }
+    reader.finish()?;
+    Ok(builder.finish())
 }
 
 /// Reads a whole grid: the map that the text of a source denotes (r.in.ascii manual).
@@ -222,12 +193,6 @@ pub fn read_map<R: Source + Drop>(alloc: Global, source: R) -> Result<CellMap, G
     ensures map { IfOk result (λ m. IfSome (R.coming source) (λ c. grid_of c ≡ Ok m)) }
     ensures fault { IfErr result (λ f. f.kind ≢ GridKind.Memory → IfSome (R.coming source) (λ c. grid_of c ≡ Err f)) }
 {
-    let mut reader = match GridReader::open(alloc, source) {
-        Ok(reader) => reader,
-        Err(fault) => return Err(fault),
-    };
-    match read_rows(alloc, &mut reader) {
-        Ok(map) => Ok(map),
-        Err(fault) => Err(fault),
-    }
+    let mut reader = GridReader::open(alloc, source)?;
+    read_rows(alloc, &mut reader)
 }

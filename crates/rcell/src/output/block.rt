@@ -1,12 +1,13 @@
 //! Output gathered in a block, so that each put carries a few KiB.
 
-ghost use Rattle.std.specs.Prelude.{◌≡◌, ℕ, ◌+◌, ◌-◌, ◌^◌, ◌<◌, ◌≤◌, ◌||◌, List, [], ◌++◌, length, take, min, OnOk, OnErr, IfOk, IfErr, is_err};
+ghost use Rattle.std.specs.Prelude.{◌≡◌, ℕ, ◌+◌, ◌-◌, ◌^◌, ◌<◌, ◌≤◌, ◌||◌, List, [], ◌++◌, length, take, min, Option, OnOk, OnErr, IfOk, IfErr, is_err};
 ghost use Rattle.cell_core.specs.Device.{append_known};
-ghost use Rattle.rcell.specs.output.Blocks.{BlockValue, Gathers, Empties, PutsAll, Cuts, CutsOff, capped, empty_block};
+ghost use Rattle.rcell.specs.output.Blocks.{BlockValue, Gathered, Gathers, Empties, PutsAll, Cuts, CutsOff, capped, empty_block};
 
 use cell_core::sink::{Sink, WriteFault, put_bytes};
 use std::marker::Model;
 
+// The number of bytes that a block holds at most.
 const ROOM: usize = 4096;
 
 /// Bytes held until they fill a block, and the number of bytes that the sink took.
@@ -14,7 +15,7 @@ const ROOM: usize = 4096;
 /// It takes no memory. After a fault it holds nothing.
 #[derive(Drop)]
 pub struct Block {
-    bytes: [u8; 4096],
+    bytes: [u8; ROOM],
     len: usize,
     written: u64,
 }
@@ -48,10 +49,11 @@ fn put_counted<W: Sink>(out: &mut W, bytes: &[u8], written: u64) -> Result<u64, 
 impl Block {
     /// A block that holds nothing.
     pub fn new() -> Block
-        ensures { result ≡ empty_block }
+        ensures value { result ≡ empty_block }
+        ensures nothing { (before : Option (List ℕ)) → Gathered before [] before result }
     {
         Block {
-            bytes: [0; 4096],
+            bytes: [0; ROOM],
             len: 0,
             written: 0,
         }

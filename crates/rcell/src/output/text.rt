@@ -82,6 +82,3 @@ pub fn write_table<W: Sink>(out: &mut W, block: &mut Block, table: &Table) -> Re
     }
     Ok(())
 }
-
-#[cfg(test)]
-mod tests;

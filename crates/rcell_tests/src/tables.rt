@@ -1,13 +1,17 @@
+//! The printed table, on sinks with and without room.
+
 ghost use Rattle.std.specs.Prelude.{◌≡◌, [], ◌∷◌, length};
 
-use super::*;
-use crate::stats::table::tally;
+use cell_core::cell::Cell;
+use rcell::output::block::Block;
+use rcell::output::text::write_table;
+use rcell::stats::table::{Table, tally};
 use cell_core::map::MapBuilder;
 use cell_core::memory::Memory;
 use cell_core::name::Name;
 use cell_core::region::Region;
 use cell_core::shelf::Shelf;
-use cell_core::sink::MemorySink;
+use cell_core::sink::{MemorySink, WriteFault};
 use std::alloc::Global;
 use std::test::Fail;
 

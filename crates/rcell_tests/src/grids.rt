@@ -1,0 +1,104 @@
+//! Whole texts, read in pieces of seven bytes.
+
+use rcell::ascii::fault::{GridFault, GridKind};
+use rcell::ascii::reader::read_map;
+use cell_core::map::CellMap;
+use cell_core::region::RegionFault;
+use cell_core::source::MemorySource;
+use std::alloc::AllocGlobal;
+use std::process::Abort;
+use std::test::Fail;
+
+const GRID: &[u8] =
+    b"north: 3\nsouth: 0\neast: 4\nwest: 0\nrows: 3\ncols: 4\n1 1 2 *\n1 2 2 2\n3 3 1 1\n";
+
+fn read<R: AllocGlobal>(rt: &R, text: &[u8]) -> Result<Result<CellMap, GridFault>, Fail> {
+    let bytes = text.to_vec(rt.alloc())?;
+    Ok(read_map(rt.alloc(), MemorySource::new(bytes, 7, false)))
+}
+
+fn expect_fault<R: Abort + AllocGlobal>(
+    rt: &R,
+    text: &[u8],
+    kind: GridKind,
+    line: u64,
+) -> Result<(), Fail> {
+    let found = read(rt, text)?.err();
+    assert_eq!(rt; found, Some(GridFault { kind, line }));
+    Ok(())
+}
+
+// A text with further bytes behind it, all alike.
+fn followed_by<R: AllocGlobal>(rt: &R, text: &[u8], byte: u8, count: u32) -> Result<Vec<u8>, Fail> {
+    let mut bytes = text.to_vec(rt.alloc())?;
+    for _ in 0..count {
+        bytes.push(byte).map_err(|_| "no memory")?;
+    }
+    Ok(bytes)
+}
+
+#[test]
+fn reads_a_grid(rt: HostRuntime) -> Result<(), Fail> {
+    let map = read(&rt, GRID)?.map_err(|_| "a fault")?;
+    let region = map.region();
+    assert_eq!(rt; region.rows(), 3);
+    assert_eq!(rt; region.cols(), 4);
+    assert_eq!(rt; map.cell(0, 2).get(), Some(2));
+    assert_eq!(rt; map.cell(0, 3).get(), None);
+    assert_eq!(rt; map.cell(2, 0).get(), Some(3));
+    Ok(())
+}
+
+#[test]
+fn tells_the_first_fault(rt: HostRuntime) -> Result<(), Fail> {
+    let six = b"north: 3\nsouth: 0\neast: 4\nwest: 0\nrows: 3\ncols: 4\n";
+    expect_fault(&rt, b"", GridKind::MissingKey, 1)?;
+    expect_fault(&rt, b"north: 3 4\n", GridKind::BadHeader, 1)?;
+    expect_fault(&rt, b"type: int\n", GridKind::BadHeader, 1)?;
+    expect_fault(&rt, b"north: 12345678901\n", GridKind::BadNumber, 1)?;
+    expect_fault(&rt, b"north: 1\nnorth: 1\n", GridKind::TwiceKey, 2)?;
+    expect_fault(&rt, six, GridKind::TooFew, 7)?;
+    expect_fault(
+        &rt,
+        b"north: 3\nsouth: 0\neast: 4\nwest: 0\nrows: -1\ncols: 4\n",
+        GridKind::Region(RegionFault::BadRows),
+        7,
+    )?;
+    expect_fault(
+        &rt,
+        b"north: 0\nsouth: 0\neast: 4\nwest: 0\nrows: 3\ncols: 4\n",
+        GridKind::Region(RegionFault::BadExtent),
+        7,
+    )?;
+    expect_fault(
+        &rt,
+        b"north: 3\nsouth: 0\neast: 4\nwest: 0\nrows: 99999999999\n",
+        GridKind::BadNumber,
+        5,
+    )?;
+    expect_fault(
+        &rt,
+        b"north: 3\nsouth: 0\neast: 4\nwest: 0\nrows: 3\ncols: 4\n1 1 2 *\n1 2 2 2\n3 3 1\n",
+        GridKind::TooFew,
+        10,
+    )?;
+    expect_fault(
+        &rt,
+        b"north: 3\nsouth: 0\neast: 4\nwest: 0\nrows: 3\ncols: 4\n1 1 2 *\n1 2 2 2\n3 3 1 1 5\n",
+        GridKind::TooMany,
+        9,
+    )?;
+    Ok(())
+}
+
+#[test]
+fn limits_words_and_blanks(rt: HostRuntime) -> Result<(), Fail> {
+    let most = followed_by(&rt, GRID, b' ', 1048575)?;
+    assert_eq!(rt; read(&rt, most.as_slice())?.err(), None);
+    let more = followed_by(&rt, GRID, b' ', 1048576)?;
+    expect_fault(&rt, more.as_slice(), GridKind::ReaderStuck, 10)?;
+    let second = followed_by(&rt, b"north: 3 ", b'1', 65)?;
+    expect_fault(&rt, second.as_slice(), GridKind::BadHeader, 1)?;
+    let long = followed_by(&rt, b"north: ", b'1', 65)?;
+    expect_fault(&rt, long.as_slice(), GridKind::LongToken, 1)
+}

@@ -1,0 +1,9 @@
+//! Tests of whole runs over memory, and of the parts that a run is made of.
+#![tactic(auto)]
+
+#[cfg(test)]
+mod grids;
+#[cfg(test)]
+mod runs;
+#[cfg(test)]
+mod tables;

@@ -1,0 +1,146 @@
+//! Whole runs over memory: what is put out, how many bytes, the status and the fault.
+
+use cell_core::name::Name;
+use cell_core::sink::MemorySink;
+use cell_core::source::MemorySource;
+use rcell::ascii::fault::{GridFault, GridKind};
+use rcell::run::outcome::{Outcome, RunFault};
+use rcell::run::running::run;
+use rcell::script::fault::{ScriptFault, ScriptKind};
+use std::alloc::{AllocGlobal, Global};
+use std::process::Abort;
+use std::test::Fail;
+
+const HEADER: &[u8] = b"north: 3\nsouth: 0\neast: 4\nwest: 0\nrows: 3\ncols: 4\n";
+const GRID: &[u8] =
+    b"north: 3\nsouth: 0\neast: 4\nwest: 0\nrows: 3\ncols: 4\n1 1 2 *\n1 2 2 2\n3 3 1 1\n";
+const TABLE: &[u8] = b"1 5\n2 4\n3 2\n* 1\n";
+
+fn source(alloc: Global, text: &[u8], fails: bool) -> Result<MemorySource, Fail> {
+    Ok(MemorySource::new(text.to_vec(alloc)?, 7, fails))
+}
+
+// Runs a script over named texts.
+fn run_texts(
+    alloc: Global,
+    grids: &[(&[u8], &[u8])],
+    script: &[u8],
+    out: &mut MemorySink,
+) -> Result<Outcome, Fail> {
+    let mut named = Vec::new(alloc);
+    for (name, text) in grids {
+        let name = Name::read(alloc, *name).map_err(|_| "no name")?;
+        let text = source(alloc, *text, false)?;
+        named.push((name, text)).map_err(|_| "no memory")?;
+    }
+    if named.is_empty() {
+        Err("no grid")?;
+    }
+    Ok(run(alloc, source(alloc, script, false)?, named, out))
+}
+
+fn sink(alloc: Global, room: usize) -> Result<MemorySink, Fail> {
+    Ok(MemorySink::new(vec![in alloc; 0u8; room]?, 3, false))
+}
+
+// A run is done, and has put out the text.
+fn expect_text<R: Abort + AllocGlobal>(
+    rt: &R,
+    grids: &[(&[u8], &[u8])],
+    script: &[u8],
+    text: &[u8],
+) -> Result<(), Fail> {
+    let mut out = sink(rt.alloc(), 1000)?;
+    let outcome = run_texts(rt.alloc(), grids, script, &mut out)?;
+    assert_eq!(rt; out.bytes(), text);
+    let written = text.len() as u64;
+    assert_eq!(rt; outcome, Outcome { status: 0, written, fault: None });
+    Ok(())
+}
+
+// A run is refused, and has put out nothing.
+fn expect_refused<R: Abort + AllocGlobal>(
+    rt: &R,
+    grids: &[(&[u8], &[u8])],
+    script: &[u8],
+    status: u8,
+    fault: RunFault,
+) -> Result<(), Fail> {
+    let mut out = sink(rt.alloc(), 1000)?;
+    let outcome = run_texts(rt.alloc(), grids, script, &mut out)?;
+    assert_eq!(rt; outcome, Outcome { status, written: 0, fault: Some(fault) });
+    assert_eq!(rt; out.bytes().len(), 0);
+    Ok(())
+}
+
+#[test]
+fn puts_out_tables(rt: HostRuntime) -> Result<(), Fail> {
+    expect_text(&rt, &[(b"g", GRID)], b"r.stats -c input=g", TABLE)?;
+    let turned = b"cols: 4\r\nrows: 3\r\nwest: 0\r\neast: 4\r\nsouth: 0\r\nnorth: 3\r\n1 1 2 * 1 2 2 2 3 3 1 1   ";
+    expect_text(&rt, &[(b"g", turned)], b"# land cover\r\n\r\nr.stats -c input=g\r\n", TABLE)?;
+    expect_text(&rt, &[(b"g", GRID)], b"r.stats -c input=g,g", b"1 1 5\n2 2 4\n3 3 2\n* * 1\n")?;
+    let one = b"north: 1\nsouth: 0\neast: 1\nwest: 0\nrows: 1\ncols: 1\n*";
+    expect_text(&rt, &[(b"k", one)], b"r.stats -c input=k\n", b"* 1\n")?;
+    let same = b"north: 3.0\nsouth: 0\neast: 4\nwest: 0\nrows: 3\ncols: 4\n1 1 2 * 1 2 2 2 3 3 1 1";
+    expect_text(&rt, &[(b"g", GRID), (b"h", same)], b"r.stats -c input=h", TABLE)?;
+    expect_text(&rt, &[(b"g", GRID)], b"# nothing is asked for\n", b"")
+}
+
+#[test]
+fn refuses_before_it_writes(rt: HostRuntime) -> Result<(), Fail> {
+    let script = b"r.stats -c input=g\n";
+    let narrow = b"north: 3\nsouth: 0\neast: 4\nwest: 0\nrows: 3\ncols: 3\n1 1 2 1 2 2 3 3 1";
+    expect_refused(&rt, &[(b"g", GRID), (b"h", narrow)], script, 1, RunFault::GridRegion { grid: 1 })?;
+    expect_refused(&rt, &[(b"g", GRID), (b"g", GRID)], script, 1, RunFault::GridTwice { grid: 1 })?;
+    let fault = GridFault {
+        kind: GridKind::TooFew,
+        line: 7,
+    };
+    expect_refused(&rt, &[(b"g", HEADER)], script, 1, RunFault::Grid { grid: 0, fault })?;
+    let lines = [
+        (b"r.stats input=g".as_slice(), ScriptKind::BadOption, 1),
+        (b"r.stats -c\n", ScriptKind::MissingOption, 1),
+        (b"\nr.stats -c input=1a\n", ScriptKind::BadName, 2),
+        (b"r.stats -c input=g\n# note\nr.stats -c input=h\n", ScriptKind::UnknownMap, 3),
+        (b"r.clump input=g output=c\n", ScriptKind::UnknownCommand, 1),
+    ];
+    for (text, kind, line) in lines {
+        let fault = ScriptFault { kind, line };
+        expect_refused(&rt, &[(b"g", GRID)], text, 1, RunFault::Script(fault))?;
+    }
+    Ok(())
+}
+
+#[test]
+fn tells_what_a_failing_device_took(rt: HostRuntime) -> Result<(), Fail> {
+    let script = b"r.stats -c input=g\n";
+    let mut full = sink(rt.alloc(), 5)?;
+    let outcome = run_texts(rt.alloc(), &[(b"g", GRID)], script, &mut full)?;
+    assert_eq!(rt; outcome, Outcome { status: 4, written: 5, fault: Some(RunFault::Write) });
+    assert_eq!(rt; full.bytes(), b"1 5\n2".as_slice());
+    let mut unflushed = MemorySink::new(vec![in rt.alloc(); 0u8; 100]?, 3, true);
+    let outcome = run_texts(rt.alloc(), &[(b"g", GRID)], script, &mut unflushed)?;
+    assert_eq!(rt; outcome, Outcome { status: 4, written: 16, fault: Some(RunFault::Write) });
+    assert_eq!(rt; unflushed.bytes(), TABLE);
+    Ok(())
+}
+
+#[test]
+fn tells_a_failing_reader(rt: HostRuntime) -> Result<(), Fail> {
+    let alloc = rt.alloc();
+    let mut out = sink(alloc, 100)?;
+    let name = Name::read(alloc, b"g").map_err(|_| "no name")?;
+    let broken = vec![in alloc; (name, source(alloc, HEADER, true)?)]?;
+    let outcome = run(alloc, source(alloc, b"", false)?, broken, &mut out);
+    let fault = GridFault {
+        kind: GridKind::Read,
+        line: 7,
+    };
+    assert_eq!(rt; outcome, Outcome { status: 4, written: 0, fault: Some(RunFault::Grid { grid: 0, fault }) });
+    let name = Name::read(alloc, b"g").map_err(|_| "no name")?;
+    let whole = vec![in alloc; (name, source(alloc, GRID, false)?)]?;
+    let outcome = run(alloc, source(alloc, b"r.stats", true)?, whole, &mut out);
+    assert_eq!(rt; outcome, Outcome { status: 4, written: 0, fault: Some(RunFault::ScriptRead) });
+    assert_eq!(rt; out.bytes().len(), 0);
+    Ok(())
+}
