@@ -1,5 +1,7 @@
+pub mod Reports
 pub mod ascii
+pub mod clumps
 pub mod output
-pub mod run
+pub mod runs
 pub mod script
 pub mod stats

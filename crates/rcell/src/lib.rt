@@ -1,8 +1,16 @@
-//! Scripts over grids of whole-number cells.
+//! Scripts over grids of whole-number cells: grids and a script are read, and the tables that the script asks for are
+//! put out (GRASS manual: r.in.ascii, r.stats).
 #![tactic(auto)]
 
 pub mod ascii;
+pub mod clumps;
 pub mod output;
-pub mod run;
+pub mod report;
+pub mod runs;
 pub mod script;
 pub mod stats;
+
+pub use clumps::clump;
+pub use runs::outcome::{Outcome, RunFault};
+pub use runs::running::run;
+pub use script::parsing::parse_script;

@@ -1,0 +1,28 @@
+# make          proves and builds the program, bin/rcell
+# make example  builds it, and runs it on the land cover of examples/land-cover
+# make check    the gate: every proof from nothing, then the program on each folder of cases/ and examples/
+# make bench    times it against a plain program by hand on a grid of 100 MB
+
+PROGRAM = crates/rcell_program
+SOURCES = crates.txt $(shell find crates -path '*/out' -prune -o -type f -print)
+
+.PHONY: all example check bench clean
+
+all: bin/rcell
+
+bin/rcell: $(SOURCES)
+	cd $(PROGRAM) && rt run -- data/script g=data/g.txt > out/example 2> out/build.log || { cat out/build.log; exit 1; }
+	mkdir -p bin
+	cp $(PROGRAM)/out/rcell_program bin/rcell
+
+example: bin/rcell
+	cd examples/land-cover && ../../bin/rcell script landuse=landuse.txt
+
+check:
+	@sh tools/check.sh
+
+bench: bin/rcell
+	python3 bench/run.py
+
+clean:
+	rm -rf bin bench/out crates/*/out

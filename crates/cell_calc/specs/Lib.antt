@@ -1,0 +1,13 @@
+pub mod Assignment
+pub mod Code
+pub mod Function
+pub mod Grammar
+pub mod GrammarFault
+pub mod Operator
+pub mod Reading
+pub mod Spelling
+pub mod Stopping
+pub mod Term
+pub mod Token
+pub mod Tokens
+pub mod Tree

@@ -1,0 +1,20 @@
+-- Tokens at their columns.
+use Rattle.std.specs.Prelude.{ℕ, List, [], ◌∷◌, Option, Some, None}
+use Rattle.cell_calc.specs.declared.token.Placed.{Placed}
+use Rattle.cell_calc.specs.declared.token.Sign.{Sign}
+use Rattle.cell_calc.specs.declared.token.Token.{Token}
+use Rattle.cell_calc.specs.declared.token.Token.TheVariants as token
+
+abbrev pub number_at : (number column : ℕ) → Placed
+number_at n c = record { token = token.Number n; column = c }
+
+abbrev pub name_at : (name : List ℕ) (column : ℕ) → Placed
+name_at n c = record { token = token.Name n; column = c }
+
+abbrev pub sign_at : (sign : Sign) (column : ℕ) → Placed
+sign_at s c = record { token = token.Sign s; column = c }
+
+-- the token at the front
+abbrev pub head : List Placed → Option Token
+head [] = None
+head (s ∷ ts) = Some s.token

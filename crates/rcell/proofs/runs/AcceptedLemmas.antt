@@ -1,0 +1,92 @@
+-- An accepted script over grids of one region has an output.
+use Rattle.std.proofs.Common.{◌≡◌, ◌≢◌, ℕ, zero, suc, ◌+◌, ◌<◌, ◌≤◌, Bool, true, false, cond, List, [], ◌∷◌, ◌++◌, length, map, get_or, All, Option, Some, None, Result, Ok, Err, refl, ap, sym, ◌∙◌, arith, append_assoc, append-nil, length-append}
+use Rattle.std.specs.Prelude.{bytes_eq, nat_lt}
+use Rattle.std.specs.List.{position_from}
+use Rattle.std.proofs.lemmas.Bool.Decides.{nat_tests}
+use Rattle.std.proofs.lemmas.Slice.Eq.{bytes_eq-Decides}
+use Rattle.cell_core.specs.Device.{Coming}
+use Rattle.cell_core.specs.Grid.{Grid}
+use Rattle.cell_core.specs.Name.{place_of, AreDistinct}
+use Rattle.cell_core.specs.Shelf.{ShelfValue}
+use Rattle.rcell.specs.ascii.Cells.{grid_of}
+use Rattle.rcell.specs.ascii.GridText.{Denotes}
+use Rattle.rcell.proofs.ascii.GridLawLemmas.{reading_agrees}
+use Rattle.rcell.proofs.runs.LoadingLemmas.{added-same}
+use Rattle.rcell.specs.runs.Accepted.{AllDenote, AreGrids, IsAccepted}
+use Rattle.rcell.specs.runs.Loading.{with_grid, with_map, shelf_of_one, shelf_from, then_grids}
+use Rattle.rcell.specs.runs.Outcomes.{outcome_of, output_after, output_on, output_if, script_text, Writes}
+use Rattle.rcell.specs.runs.Output.{output_of}
+use Rattle.rcell.specs.runs.Sources.{Named}
+use Rattle.rcell.specs.declared.runs.outcome.Outcome.{Outcome}
+use Rattle.rcell.specs.declared.script.statement.Statement.{Statement}
+
+differs : (t : Bool) → (t ≡ true → ⊥) → t ≡ false
+differs true apart = absurd (apart refl)
+differs false apart = refl
+
+name_at : (front : List (List ℕ)) (name : List ℕ) (back : List (List ℕ)) (d : List ℕ) → get_or (front ++ name ∷ back) (length front) d ≡ name
+name_at [] name back d = refl
+name_at (x ∷ front) name back d = name_at front name back d
+
+free_from : (start : ℕ) (front : List (List ℕ)) (name : List ℕ) (back : List (List ℕ)) → AreDistinct (front ++ name ∷ back) → position_from (λ n. bytes_eq n name) start front ≡ None
+free_from start [] name back distinct = refl
+free_from start (x ∷ xs) name back distinct =
+    let apart : x ≢ name = λ e. distinct 0 (suc (length xs)) name (omega arith) (omega (arith, length-append xs (name ∷ back))) (e ∙ sym (name_at xs name back name)) in
+    let other : bytes_eq x name ≡ false = differs _ (λ t. apart ((bytes_eq-Decides x name).0 t)) in
+    rw other (free_from (start + 1) xs name back (λ i j d lt within. distinct (suc i) (suc j) d (omega arith) (omega arith)))
+
+-- among distinct names, one does not stand before its place
+free : (front : List (List ℕ)) (name : List ℕ) (back : List (List ℕ)) → AreDistinct (front ++ name ∷ back) → place_of name front ≡ None
+free front name back distinct = free_from 0 front name back distinct
+
+abbrev pub names_of : List Named → List (List ℕ)
+names_of gs = map (λ g. g.0) gs
+
+abbrev pub with_all : ShelfValue → List Named → List Grid → ShelfValue
+with_all shelf gs ms = record { region = shelf.region; names = shelf.names ++ names_of gs; maps = shelf.maps ++ ms }
+
+one_placed : (grid : ℕ) (shelf : ShelfValue) (g : Named) (m : Grid) (back : List (List ℕ)) → Denotes g.1 m → AreDistinct (shelf.names ++ g.0 ∷ back) → m.region ≡ shelf.region
+  → with_grid grid (Some shelf) g.0 (grid_of g.1) ≡ Ok (with_map shelf g.0 m)
+one_placed grid shelf g m back denotes distinct same = rw ((reading_agrees g.1 m).1 denotes) (added-same grid shelf g.0 m (free shelf.names g.0 back distinct) same)
+
+-- grids of the shelf's region under new names are all placed
+all_placed : (gs : List Named) (ms : List Grid) (grid : ℕ) (shelf : ShelfValue) → AllDenote gs ms → AreDistinct (shelf.names ++ names_of gs) → All (λ m. m.region ≡ shelf.region) ms
+  → shelf_from grid (Some shelf) gs ≡ Ok (Some (with_all shelf gs ms))
+unfolding shelf_from
+all_placed [] [] grid shelf denote distinct same = λ i. Ok (Some (record { region = shelf.region; names = sym (append-nil shelf.names) i; maps = sym (append-nil shelf.maps) i }))
+all_placed [] (m ∷ ms) grid shelf denote distinct same = absurd denote
+all_placed (g ∷ gs) [] grid shelf denote distinct same = absurd denote
+all_placed (g ∷ gs) (m ∷ ms) grid shelf denote distinct same =
+    let one = one_placed grid shelf g m (names_of gs) denote.0 distinct (same 0 m (omega arith)) in
+    let names : (shelf.names ++ g.0 ∷ []) ++ names_of gs ≡ shelf.names ++ names_of (g ∷ gs) = append_assoc shelf.names (g.0 ∷ []) (names_of gs) in
+    let maps : (shelf.maps ++ m ∷ []) ++ ms ≡ shelf.maps ++ m ∷ ms = append_assoc shelf.maps (m ∷ []) ms in
+    ap (then_grids (λ s. shelf_from (grid + 1) (Some s) gs)) one
+    ∙ all_placed gs ms (grid + 1) (with_map shelf g.0 m) denote.1 (rw names distinct) (λ k d h. same (suc k) d (omega arith))
+    ∙ (λ i. Ok (Some (record { region = shelf.region; names = names i; maps = maps i })))
+
+-- the first grid makes the shelf
+pub all_loaded : (gs : List Named) (shelf : ShelfValue) → AreGrids gs shelf → shelf_from 0 None gs ≡ Ok (Some shelf)
+unfolding shelf_from
+all_loaded gs shelf are = by gs shelf.maps are.some are.denote are.names are.distinct are.one_region refl
+  where
+    by : (gs : List Named) (ms : List Grid) → 0 < length gs → AllDenote gs ms → shelf.names ≡ names_of gs → AreDistinct shelf.names → All (λ m. m.region ≡ shelf.region) ms → ms ≡ shelf.maps → shelf_from 0 None gs ≡ Ok (Some shelf)
+    by [] ms some denote names distinct same maps = absurd (omega arith)
+    by (g ∷ gs) [] some denote names distinct same maps = absurd denote
+    by (g ∷ gs) (m ∷ ms) some denote names distinct same maps =
+        let region : m.region ≡ shelf.region = same 0 m (omega arith) in
+        let first : with_grid 0 None g.0 (grid_of g.1) ≡ Ok (shelf_of_one g.0 m) = rw ((reading_agrees g.1 m).1 denote.0) refl in
+        ap (then_grids (λ s. shelf_from (0 + 1) (Some s) gs)) first
+        ∙ all_placed gs ms (0 + 1) (shelf_of_one g.0 m) denote.1 (rw names at distinct) (λ k d h. same (suc k) d (omega arith) ∙ sym region)
+        ∙ (λ i. Ok (Some (record { region = region i; names = sym names i; maps = maps i })))
+
+-- an accepted script has the output of its statements
+accepted_outcome : (grids : List Named) (script : Coming) (shelf : ShelfValue) (statements : List Statement) → IsAccepted grids script shelf statements → outcome_of grids script ≡ Ok (output_of shelf statements)
+accepted_outcome grids script shelf statements ok =
+    let short : nat_lt 1048576 (length script.bytes) ≡ false = let h = ok.short in grind (arith, nat_tests) in
+    let text : script_text script ≡ Ok script.bytes = rw (short, ok.ends) refl in
+    ap (output_after script) (all_loaded grids shelf ok.loaded) ∙ ap (output_on shelf) text ∙ ap (output_if shelf) ok.denoted
+
+-- what is written of any output is written of an accepted script's
+pub accepted_writes : (grids : List Named) (script : Coming) (shelf : ShelfValue) (statements : List Statement) (before now : Option (List ℕ)) (failed : Bool) (outcome : Outcome)
+  → ((text : List ℕ) → outcome_of grids script ≡ Ok text → Writes text before now failed outcome) → IsAccepted grids script shelf statements → Writes (output_of shelf statements) before now failed outcome
+accepted_writes grids script shelf statements before now failed outcome whole ok = whole (output_of shelf statements) (accepted_outcome grids script shelf statements ok)

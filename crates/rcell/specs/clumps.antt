@@ -1,0 +1,3 @@
+-- The numbering of a map's areas.
+pub mod Clumping
+pub mod Numbers

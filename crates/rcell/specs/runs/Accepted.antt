@@ -1,0 +1,32 @@
+-- An accepted script over grids of one region.
+use Rattle.std.specs.Prelude.{ℕ, ◌≡◌, ◌<◌, ◌≤◌, ⊤, false, List, [], ◌∷◌, length, map, All, Ok}
+use Rattle.cell_core.specs.Device.{Coming}
+use Rattle.cell_core.specs.Grid.{Grid}
+use Rattle.cell_core.specs.Name.{AreDistinct}
+use Rattle.cell_core.specs.Shelf.{ShelfValue}
+use Rattle.rcell.specs.ascii.GridText.{Denotes}
+use Rattle.rcell.specs.runs.Sources.{Named}
+use Rattle.rcell.specs.script.Statements.{script_of}
+use Rattle.rcell.specs.declared.script.statement.Statement.{Statement}
+
+-- each grid's text denotes the map in its place
+abbrev pub AllDenote : List Named → List Grid → Type 0
+AllDenote [] [] = ⊤
+AllDenote [] (m ∷ ms) = ⊥
+AllDenote (g ∷ gs) [] = ⊥
+AllDenote (g ∷ gs) (m ∷ ms) = Denotes g.1 m × AllDenote gs ms
+
+-- the maps that the grids' texts denote, under distinct names and of one region
+pub record AreGrids (grids : List Named) (shelf : ShelfValue) : Type 0 where
+  pub some : 0 < length grids
+  pub denote : AllDenote grids shelf.maps
+  pub names : shelf.names ≡ map (λ g. g.0) grids
+  pub distinct : AreDistinct shelf.names
+  pub one_region : All (λ m. m.region ≡ shelf.region) shelf.maps
+
+-- grids of one region, and a script of at most 1048576 bytes that denotes statements over their names
+pub record IsAccepted (grids : List Named) (script : Coming) (shelf : ShelfValue) (statements : List Statement) : Type 0 where
+  pub loaded : AreGrids grids shelf
+  pub ends : script.fails ≡ false
+  pub short : length script.bytes ≤ 1048576
+  pub denoted : script_of shelf.names script.bytes ≡ Ok statements

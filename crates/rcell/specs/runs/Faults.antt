@@ -1,0 +1,78 @@
+-- The faults of a run: their exit statuses, and which of them come when.
+use Rattle.std.specs.Prelude.{ℕ, ◌≡◌, ◌≢◌, ◌<◌, ⊤, Option, Some, None}
+use Rattle.rcell.specs.declared.ascii.fault.GridKind.{GridKind}
+use Rattle.rcell.specs.declared.ascii.fault.GridKind.TheVariants as grid_kinds
+use Rattle.rcell.specs.declared.script.fault.ScriptKind.{ScriptKind}
+use Rattle.rcell.specs.declared.script.fault.ScriptKind.TheVariants as script_kinds
+use Rattle.rcell.specs.declared.runs.outcome.RunFault.{RunFault}
+use Rattle.rcell.specs.declared.runs.outcome.RunFault.TheVariants.{GridTwice, GridRegion, Grid, ScriptRead, ScriptSize, Script, Memory, Write}
+
+-- 4 where a read failed, 3 for want of memory, 1 for what a text has wrong
+abbrev pub grid_status : GridKind → ℕ
+grid_status grid_kinds.Read = 4
+grid_status grid_kinds.Memory = 3
+grid_status kind = 1
+
+abbrev pub script_status : ScriptKind → ℕ
+script_status script_kinds.Memory = 3
+script_status kind = 1
+
+-- the exit status of a fault
+abbrev pub status_of : RunFault → ℕ
+status_of (GridTwice grid) = 1
+status_of (GridRegion grid) = 1
+status_of (Grid grid fault) = grid_status fault.kind
+status_of ScriptRead = 4
+status_of ScriptSize = 1
+status_of (Script fault) = script_status fault.kind
+status_of (Memory line) = 3
+status_of Write = 4
+
+-- a fault that is neither want of memory nor a failing writer: what the texts and their readers have wrong
+abbrev pub IsOfInput : RunFault → Type 0
+IsOfInput (GridTwice grid) = ⊤
+IsOfInput (GridRegion grid) = ⊤
+IsOfInput (Grid grid fault) = fault.kind ≢ grid_kinds.Memory
+IsOfInput ScriptRead = ⊤
+IsOfInput ScriptSize = ⊤
+IsOfInput (Script fault) = fault.kind ≢ script_kinds.Memory
+IsOfInput (Memory line) = ⊥
+IsOfInput Write = ⊥
+
+-- want of memory
+abbrev pub IsOfMemory : RunFault → Type 0
+IsOfMemory (GridTwice grid) = ⊥
+IsOfMemory (GridRegion grid) = ⊥
+IsOfMemory (Grid grid fault) = fault.kind ≡ grid_kinds.Memory
+IsOfMemory ScriptRead = ⊥
+IsOfMemory ScriptSize = ⊥
+IsOfMemory (Script fault) = fault.kind ≡ script_kinds.Memory
+IsOfMemory (Memory line) = ⊤
+IsOfMemory Write = ⊥
+
+-- a fault that is told before the first statement is executed
+abbrev pub IsBeforeExecution : RunFault → Type 0
+IsBeforeExecution (GridTwice grid) = ⊤
+IsBeforeExecution (GridRegion grid) = ⊤
+IsBeforeExecution (Grid grid fault) = ⊤
+IsBeforeExecution ScriptRead = ⊤
+IsBeforeExecution ScriptSize = ⊤
+IsBeforeExecution (Script fault) = ⊤
+IsBeforeExecution (Memory line) = line ≡ 0
+IsBeforeExecution Write = ⊥
+
+-- a fault that is told once the first statement is executed
+abbrev pub IsInExecution : RunFault → Type 0
+IsInExecution (GridTwice grid) = ⊥
+IsInExecution (GridRegion grid) = ⊥
+IsInExecution (Grid grid fault) = ⊥
+IsInExecution ScriptRead = ⊥
+IsInExecution ScriptSize = ⊥
+IsInExecution (Script fault) = ⊥
+IsInExecution (Memory line) = 0 < line
+IsInExecution Write = ⊤
+
+-- the exit status of a run
+abbrev pub status_after : Option RunFault → ℕ
+status_after None = 0
+status_after (Some fault) = status_of fault

@@ -1,0 +1,122 @@
+//! The one line that tells why a run did not do its work.
+
+ghost use Rattle.std.specs.Prelude.{◌≡◌, is_some, IfSome};
+ghost use Rattle.rcell.specs.Reports.{name_at, source_of, line_of, text_of};
+
+use crate::ascii::fault::GridKind;
+use crate::runs::outcome::{Outcome, RunFault};
+use crate::script::fault::ScriptKind;
+use bstr::ByteSlice;
+use cell_core::name::Name;
+use std::fmt;
+use thiserror::Error;
+
+/// What a fault of a run says.
+#[derive(Clone, Copy, Debug, PartialEq, Eq, Error)]
+pub enum FaultText {
+    #[error("name used twice")]
+    GridTwice,
+    #[error("other region")]
+    GridRegion,
+    #[error(transparent)]
+    Grid(GridKind),
+    #[error("read failed")]
+    ScriptRead,
+    #[error("script too long")]
+    ScriptSize,
+    #[error(transparent)]
+    Script(ScriptKind),
+    #[error("no memory")]
+    Memory,
+    #[error("write failed after {written} bytes")]
+    Write { written: u64 },
+}
+
+/// A line `rcell: SOURCE:LINE: TEXT` (profile); the line is 0 where the fault belongs to none.
+#[derive(Clone, Copy, Debug)]
+pub struct FaultLine<'a, T> {
+    pub source: &'a [u8],
+    pub line: u64,
+    pub text: T,
+}
+
+impl<'a, T: fmt::Display> fmt::Display for FaultLine<'a, T> {
+    fn fmt<W: fmt::Write>(&self, f: &mut fmt::Formatter<W>) -> fmt::Result {
+        let source = self.source.as_bstr();
+        let line = self.line;
+        let text = &self.text;
+        write!(f, "rcell: {source}:{line}: {text}")
+    }
+}
+
+fn name_at<'a>(names: &'a [Name], grid: usize) -> &'a [u8]
+    ensures { result.now ≡ name_at names.now grid }
+{
+    match names.get(grid) {
+        Some(name) => name.bytes(),
+        None => b"",
+    }
+}
+
+fn source_of<'a>(names: &'a [Name], fault: RunFault) -> &'a [u8]
+    ensures { result.now ≡ source_of names.now fault }
+{
+    match fault {
+        RunFault::GridTwice { grid } => name_at(names, grid),
+        RunFault::GridRegion { grid } => name_at(names, grid),
+        RunFault::Grid { grid, fault: _ } => name_at(names, grid),
+        RunFault::ScriptRead => b"script",
+        RunFault::ScriptSize => b"script",
+        RunFault::Script(_) => b"script",
+        RunFault::Memory { .. } => b"script",
+        RunFault::Write => b"output",
+    }
+}
+
+fn line_of(fault: RunFault) -> u64
+    ensures { result ≡ line_of fault }
+{
+    match fault {
+        RunFault::GridTwice { .. } => 0,
+        RunFault::GridRegion { .. } => 0,
+        RunFault::Grid { grid: _, fault } => fault.line,
+        RunFault::ScriptRead => 0,
+        RunFault::ScriptSize => 0,
+        RunFault::Script(fault) => fault.line,
+        RunFault::Memory { line } => line,
+        RunFault::Write => 0,
+    }
+}
+
+fn text_of(written: u64, fault: RunFault) -> FaultText
+    ensures { result ≡ text_of written fault }
+{
+    match fault {
+        RunFault::GridTwice { .. } => FaultText::GridTwice,
+        RunFault::GridRegion { .. } => FaultText::GridRegion,
+        RunFault::Grid { grid: _, fault } => FaultText::Grid(fault.kind),
+        RunFault::ScriptRead => FaultText::ScriptRead,
+        RunFault::ScriptSize => FaultText::ScriptSize,
+        RunFault::Script(fault) => FaultText::Script(fault.kind),
+        RunFault::Memory { .. } => FaultText::Memory,
+        RunFault::Write => FaultText::Write { written },
+    }
+}
+
+/// The line that tells the fault of an outcome, by the names of the grids in the order of the run; None where
+/// there is no fault. A place without a name has an empty source. Takes no memory.
+pub fn fault_line<'a>(outcome: &Outcome, names: &'a [Name]) -> Option<FaultLine<'a, FaultText>>
+    ensures told { is_some result ≡ is_some outcome.now.fault }
+    ensures source { IfSome result (λ told. IfSome outcome.now.fault (λ fault. told.source.now ≡ source_of names.now fault)) }
+    ensures line { IfSome result (λ told. IfSome outcome.now.fault (λ fault. told.line ≡ line_of fault)) }
+    ensures text { IfSome result (λ told. IfSome outcome.now.fault (λ fault. told.text ≡ text_of outcome.now.written fault)) }
+{
+    match outcome.fault {
+        Some(fault) => Some(FaultLine {
+            source: source_of(names, fault),
+            line: line_of(fault),
+            text: text_of(outcome.written, fault),
+        }),
+        None => None,
+    }
+}

@@ -1,0 +1,74 @@
+//! What a run answers.
+
+ghost use Rattle.std.specs.Prelude.{◌≡◌};
+ghost use Rattle.rcell.specs.runs.Faults.{grid_status, script_status, status_of};
+
+use crate::ascii::fault::{GridFault, GridKind};
+use crate::script::fault::{ScriptFault, ScriptKind};
+
+/// Why a run did not do its work. `grid` is a place among the grids, from 0.
+#[derive(Clone, Copy, Debug, PartialEq, Eq)]
+pub enum RunFault {
+    /// The name of a grid is on the shelf already.
+    GridTwice { grid: usize },
+    /// A grid has another region than the first.
+    GridRegion { grid: usize },
+    /// A grid could not be read.
+    Grid { grid: usize, fault: GridFault },
+    /// The reader of the script failed.
+    ScriptRead,
+    /// The script has over 1,048,576 bytes.
+    ScriptSize,
+    /// The script was refused.
+    Script(ScriptFault),
+    /// A growth was refused; the line is that of the statement in execution, 0 before execution.
+    Memory { line: u64 },
+    /// A write, or the flush at the end, failed.
+    Write,
+}
+
+/// What a run did.
+#[derive(Clone, Copy, Debug, PartialEq, Eq)]
+pub struct Outcome {
+    /// 0 where it is done, 1 where a grid or the script was refused, 3 for want of memory, 4 where a read or a write failed.
+    pub status: u8,
+    /// The number of bytes that the writer took, or the greatest `u64` where it took more.
+    pub written: u64,
+    /// Why it is not done.
+    pub fault: Option<RunFault>,
+}
+
+fn grid_status(kind: GridKind) -> u8
+    ensures { result ≡ grid_status kind }
+{
+    match kind {
+        GridKind::Read => 4,
+        GridKind::Memory => 3,
+        _ => 1,
+    }
+}
+
+fn script_status(kind: ScriptKind) -> u8
+    ensures { result ≡ script_status kind }
+{
+    match kind {
+        ScriptKind::Memory => 3,
+        _ => 1,
+    }
+}
+
+/// The exit status of a fault.
+pub fn status_of(fault: RunFault) -> u8
+    ensures { result ≡ status_of fault }
+{
+    match fault {
+        RunFault::GridTwice { .. } => 1,
+        RunFault::GridRegion { .. } => 1,
+        RunFault::Grid { grid: _, fault } => grid_status(fault.kind),
+        RunFault::ScriptRead => 4,
+        RunFault::ScriptSize => 1,
+        RunFault::Script(fault) => script_status(fault.kind),
+        RunFault::Memory { .. } => 3,
+        RunFault::Write => 4,
+    }
+}

@@ -1,0 +1,136 @@
+//! A run, from bytes to bytes.
+
+ghost use Rattle.std.specs.Prelude.{◌≡◌, ◌≢◌, ℕ, ◌<◌, ◌||◌, List, All, length, false, true, IsNone, IsSome, IfSome, IfOk, IfErr, Ok, Err, Some, None, vec_len};
+ghost use Rattle.cell_core.specs.Device.{append_known};
+ghost use Rattle.cell_core.specs.Shelf.{ShelfValue};
+ghost use Rattle.rcell.specs.output.Blocks.{IsCut, capped};
+ghost use Rattle.rcell.specs.runs.Faults.{IsOfInput, IsBeforeExecution, IsInExecution, status_of, status_after};
+ghost use Rattle.rcell.specs.runs.Outcomes.{outcome_of, output_on, script_text, IsDone, IsFront, Writes};
+ghost use Rattle.rcell.specs.runs.Accepted.{IsAccepted};
+ghost use Rattle.rcell.specs.runs.Output.{output_of};
+ghost use Rattle.rcell.specs.runs.Sources.{AllKnown, known_of, coming_of};
+ghost use Rattle.rcell.specs.script.Statements.{ReadsWithin};
+ghost use Rattle.rcell.specs.declared.script.statement.Statement.{Statement};
+
+use crate::runs::execution::{Stop, execute};
+use crate::runs::loading::{load, names_of};
+use crate::runs::outcome::{Outcome, RunFault, status_of};
+use crate::runs::text::read_script;
+use crate::script::parsing::parse_script;
+use crate::script::statement::Script;
+use cell_core::name::Name;
+use cell_core::shelf::Shelf;
+use cell_core::sink::Sink;
+use cell_core::source::Source;
+use std::alloc::Global;
+
+// The statements of a script over the maps on a shelf.
+fn read_statements<R: Source + Drop>(
+    alloc: Global,
+    shelf: &Shelf,
+    script: R,
+) -> Result<Script, RunFault>
+    ensures ok { IsSome (R.coming script) → IfOk result (λ s. output_on shelf.now (script_text (coming_of R.coming script)) ≡ Ok (output_of shelf.now s)) }
+    ensures within { IfOk result (λ s. All (λ t. ReadsWithin (length shelf.now.maps) t.command) s) }
+    ensures numbered { IfOk result (λ s. All (λ t. 0 < t.line) s) }
+    ensures fault { IsSome (R.coming script) → IfErr result (λ f. IsOfInput f → output_on shelf.now (script_text (coming_of R.coming script)) ≡ Err f) }
+    ensures early { IfErr result IsBeforeExecution }
+{
+    let text = match read_script(alloc, script) {
+        Ok(text) => text,
+        Err(fault) => return Err(fault),
+    };
+    let Ok(names) = names_of(alloc, shelf) else {
+        return Err(RunFault::Memory { line: 0 });
+    };
+    match parse_script(alloc, &text, &names) {
+        Ok(script) => Ok(script),
+        Err(fault) => Err(RunFault::Script(fault)),
+    }
+}
+
+// Executes the statements, and flushes the sink unless it failed.
+fn put_out<W: Sink>(alloc: Global, shelf: &Shelf, script: &Script, out: &mut W) -> Outcome
+    requires within { All (λ t. ReadsWithin (length shelf.now.maps) t.command) script.now }
+    requires numbered { All (λ t. 0 < t.line) script.now }
+    ensures done { IsNone result.fault → (W.taken out.new ≡ append_known (W.taken out.old) (output_of shelf.now script.now)) × (result.written ≡ capped (length (output_of shelf.now script.now))) }
+    ensures late { IfSome result.fault IsInExecution }
+    ensures front { IfSome result.fault (λ f. IsCut (W.taken out.old) (output_of shelf.now script.now) (W.taken out.new) result.written) }
+    ensures status { result.status ≡ status_after result.fault }
+    ensures sound { IsNone result.fault → W.failed out.new ≡ W.failed out.old }
+    ensures write { result.fault ≡ Some RunFault.Write → W.failed out.new ≡ true }
+{
+    match execute(alloc, shelf, script.statements(), out) {
+        Ok(written) => match out.flush() {
+            Ok(()) => Outcome {
+                status: 0,
+                written,
+                fault: None,
+            },
+            Err(_) => refused(RunFault::Write, written),
+        },
+        Err(stopped) => match stopped.stop {
+            Stop::Memory { line } => {
+                let _ = out.flush();
+                refused(RunFault::Memory { line }, stopped.written)
+            }
+            Stop::Write => refused(RunFault::Write, stopped.written),
+        },
+    }
+}
+
+fn refused(fault: RunFault, written: u64) -> Outcome
+    ensures { result ≡ record { status = status_of fault; written = written; fault = Some fault } }
+{
+    Outcome {
+        status: status_of(fault),
+        written,
+        fault: Some(fault),
+    }
+}
+
+/// Runs a script over grids, and puts out what it asks for.
+///
+/// The grids are read whole, in their order, then the script, and only then the first statement is executed.
+/// Each statement has all that it needs of memory before its first byte goes out, and the sink is flushed once at the end.
+pub fn run<R: Source + Drop, W: Sink>(
+    alloc: Global,
+    script: R,
+    grids: Vec<(Name, R)>,
+    out: &mut W,
+) -> Outcome
+    requires { 0 < vec_len grids }
+    // With no fault the sink has taken exactly the output, and its length is told.
+    ensures done { AllKnown R.coming grids.items → IsSome (R.coming script) → IsNone result.fault
+        → IsDone (outcome_of (known_of R.coming grids.items) (coming_of R.coming script)) (W.taken out.old) (W.taken out.new) result.written }
+    // A fault of the grids or of the script is the one that they have.
+    ensures refused { AllKnown R.coming grids.items → IsSome (R.coming script)
+        → IfSome result.fault (λ f. IsOfInput f → outcome_of (known_of R.coming grids.items) (coming_of R.coming script) ≡ Err f) }
+    // A run that is refused before execution writes nothing.
+    ensures nothing { IfSome result.fault (λ f. IsBeforeExecution f → (W.taken out.new ≡ W.taken out.old) × (result.written ≡ 0)) }
+    // A run that is stopped in execution has written a front of the output, and its length is told.
+    ensures front { AllKnown R.coming grids.items → IsSome (R.coming script) → IfSome result.fault (λ f. IsInExecution f
+        → IsFront (outcome_of (known_of R.coming grids.items) (coming_of R.coming script)) (W.taken out.old) (W.taken out.new) result.written) }
+    ensures status { result.status ≡ status_after result.fault }
+    // Status 0 comes only where the sink did not fail in the run, and Write only where it failed.
+    ensures sound { result.status ≡ 0 → W.failed out.new ≡ W.failed out.old }
+    ensures write { result.fault ≡ Some RunFault.Write → W.failed out.new ≡ true }
+    // For every accepted script over grids of one region, where memory lasts and the sink takes everything,
+    // exactly the output of its statements is written.
+    ensures headline { (shelf : ShelfValue) (statements : List Statement) → AllKnown R.coming grids.items → IsSome (R.coming script)
+        → IsAccepted (known_of R.coming grids.items) (coming_of R.coming script) shelf statements
+        → Writes (output_of shelf statements) (W.taken out.old) (W.taken out.new) (W.failed out.new) result }
+    // The same of whatever texts have an output.
+    ensures complete { (text : List ℕ) → AllKnown R.coming grids.items → IsSome (R.coming script)
+        → outcome_of (known_of R.coming grids.items) (coming_of R.coming script) ≡ Ok text
+        → Writes text (W.taken out.old) (W.taken out.new) (W.failed out.new) result }
+{
+    let shelf = match load(alloc, grids) {
+        Ok(shelf) => shelf,
+        Err(fault) => return refused(fault, 0),
+    };
+    match read_statements(alloc, &shelf, script) {
+        Ok(statements) => put_out(alloc, &shelf, &statements, out),
+        Err(fault) => refused(fault, 0),
+    }
+}

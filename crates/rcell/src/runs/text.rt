@@ -1,0 +1,38 @@
+//! The text of a script.
+
+ghost use Rattle.std.specs.Prelude.{◌≡◌, IfOk, IfErr, IfSome, Ok, Err};
+ghost use Rattle.rcell.specs.runs.Faults.{IsOfInput, IsBeforeExecution};
+ghost use Rattle.rcell.specs.runs.Outcomes.{script_text};
+
+use crate::runs::outcome::RunFault;
+use cell_core::source::Source;
+use std::alloc::Global;
+
+/// The most bytes of a script.
+const MOST_BYTES: usize = 1048576;
+
+/// Reads a script whole, and no more than a block beyond its limit.
+pub fn read_script<R: Source + Drop>(alloc: Global, mut source: R) -> Result<Vec<u8>, RunFault>
+    ensures ok { IfOk result (λ text. IfSome (R.coming source) (λ c. script_text c ≡ Ok text.items)) }
+    ensures fault { IfErr result (λ f. IsOfInput f → IfSome (R.coming source) (λ c. script_text c ≡ Err f)) }
+    ensures early { IfErr result IsBeforeExecution }
+{
+    let mut text = Vec::new(alloc);
+    let mut block = [0u8; 4096];
+    'pieces: loop {
+        let count = match source.take(&mut block) {
+            Ok(count) => count,
+            Err(_) => return Err(RunFault::ScriptRead),
+        };
+        if count == 0 {
+            return Ok(text);
+        }
+        if count > MOST_BYTES - text.len() {
+            return Err(RunFault::ScriptSize);
+        }
+        match text.extend_from_slice(&block[..count]) {
+            Ok(()) => {}
+            Err(_) => return Err(RunFault::Memory { line: 0 }),
+        }
+    }
+}

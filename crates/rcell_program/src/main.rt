@@ -1,0 +1,64 @@
+//! The program `rcell`: runs a script over grids, `rcell SCRIPT NAME=PATH...`.
+#![tactic(auto)]
+
+mod opening;
+mod refusal;
+mod words;
+
+use crate::opening::open;
+use crate::refusal::Refusal;
+use crate::words::read;
+use cell_core::name::Name;
+use cell_core::sink::WriteSink;
+use rcell::report::fault_line;
+use rcell::run;
+use std::env;
+use std::io::{self, ErrorKind};
+use std::process::ExitCode;
+use std::rt::{Env, Files};
+
+// The words that the program was given, its own name first.
+fn words_given<R: Env + AllocGlobal>(rt: &R) -> Result<Vec<String>, Refusal> {
+    let given = env::args(rt).map_err(|fault| match fault.kind() {
+        ErrorKind::OutOfMemory => Refusal::Memory,
+        _ => Refusal::Usage,
+    })?;
+    let mut words = Vec::new(rt.alloc());
+    for word in given {
+        words.push(word).map_err(|_| Refusal::Memory)?;
+    }
+    Ok(words)
+}
+
+// Tells a refusal on standard error, and answers its status.
+fn tell<R: Eprint>(rt: &R, refusal: Refusal, names: &[Name]) -> u8 {
+    let line = refusal.line(names);
+    let _ = eprintln!(rt; "{line}");
+    refusal.status()
+}
+
+// Does what the words ask for, and answers the exit status.
+fn work<R: Env + Files + Print + Eprint + AllocGlobal>(rt: &R) -> u8 {
+    let words = match words_given(rt) {
+        Ok(words) => words,
+        Err(refusal) => return tell(rt, refusal, &[]),
+    };
+    let request = match read(rt.alloc(), &words) {
+        Ok(request) => request,
+        Err(refusal) => return tell(rt, refusal, &[]),
+    };
+    let opened = match open(rt, &request) {
+        Ok(opened) => opened,
+        Err(refusal) => return tell(rt, refusal, &request.names),
+    };
+    let mut output = WriteSink::new(io::writer(rt));
+    let outcome = run(rt.alloc(), opened.script, opened.grids, &mut output);
+    if let Some(line) = fault_line(&outcome, &request.names) {
+        let _ = eprintln!(rt; "{line}");
+    }
+    outcome.status
+}
+
+fn main(rt: HostRuntime) -> ExitCode {
+    ExitCode::from(work(&rt))
+}

@@ -1,0 +1,56 @@
+//! The files that a request names.
+
+ghost use Rattle.std.specs.Prelude.{◌<◌, vec_len, IfOk};
+
+use crate::refusal::Refusal;
+use crate::words::Request;
+use cell_core::name::Name;
+use cell_core::source::ReadSource;
+use std::fs;
+use std::io::{ErrorKind, Read};
+use std::rt::Files;
+
+/// The sources of a script and of its grids.
+#[derive(Drop)]
+pub struct Opened<F: Read> {
+    pub script: ReadSource<F>,
+    pub grids: Vec<(Name, ReadSource<F>)>,
+    ghost has_grid: { 0 < vec_len grids },
+}
+
+// Want of memory is told as such, and any other fault of an opening as the file's.
+fn of_opening(kind: ErrorKind, of_file: Refusal) -> Refusal {
+    match kind {
+        ErrorKind::OutOfMemory => Refusal::Memory,
+        _ => of_file,
+    }
+}
+
+/// Opens the script and then each grid in order.
+pub fn open<R: Files + AllocGlobal>(
+    rt: &R,
+    request: &Request<'_>,
+) -> Result<Opened<R::File>, Refusal> {
+    let script = fs::open(rt, request.script).map_err(|fault| of_opening(
+        fault.kind(),
+        Refusal::ScriptFile,
+    ))?;
+    let mut grids = Vec::new(rt.alloc());
+    for (grid, (name, path)) in request.names.iter().zip(request.paths.iter()).enumerate() {
+        let file = fs::open(rt, *path).map_err(|fault| of_opening(
+            fault.kind(),
+            Refusal::GridFile { grid },
+        ))?;
+        let name = name.copy(rt.alloc()).map_err(|_| Refusal::Memory)?;
+        grids
+            .push((name, ReadSource::new(file)))
+            .map_err(|_| Refusal::Memory)?;
+    }
+    if grids.is_empty() {
+        return Err(Refusal::Usage);
+    }
+    Ok(Opened {
+        script: ReadSource::new(script),
+        grids,
+    })
+}

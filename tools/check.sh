@@ -1,0 +1,22 @@
+#!/bin/sh
+# The gate: every proof from nothing, and then the program that was proved on each case.
+# The last line counts both: 'N passed, M failed'.
+cd "$(dirname "$0")/.." || exit 1
+room=$(mktemp -d) || exit 1
+trap 'rm -rf "$room"' EXIT
+
+{ rt ci; echo $? > "$room/status"; } 2>&1 | tee "$room/proofs"
+if [ "$(cat "$room/status")" != 0 ]; then
+    tail -1 "$room/proofs" | grep -qE '^[0-9]+ passed, [0-9]+ failed$' || echo '0 passed, 1 failed'
+    exit 1
+fi
+
+mkdir -p bin && cp crates/rcell_program/out/rcell_program bin/rcell || exit 1
+kit=$(dirname "$(rt doc)")
+python3 tools/cases.py "$kit/toolchain/bin/clang" > "$room/cases" 2>&1
+status=$?
+cat "$room/cases"
+tail -qn 1 "$room/proofs" "$room/cases" |
+    awk '/^[0-9]+ passed, [0-9]+ failed$/ { passed += $1; failed += $3; counted++ }
+         END { print passed + 0 " passed, " failed + 2 - counted " failed" }'
+exit $status
