@@ -1,10 +1,10 @@
 //! Whole texts, read in pieces of seven bytes.
 
-use rcell::ascii::fault::{GridFault, GridKind};
-use rcell::ascii::reader::read_map;
 use cell_core::map::CellMap;
 use cell_core::region::RegionFault;
 use cell_core::source::MemorySource;
+use rcell::ascii::fault::{GridFault, GridKind};
+use rcell::ascii::reader::read_map;
 use std::alloc::AllocGlobal;
 use std::process::Abort;
 use std::test::Fail;

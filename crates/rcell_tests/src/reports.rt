@@ -1,11 +1,11 @@
 //! The line that tells each fault.
 
 use cell_core::name::Name;
+use cell_core::region::RegionFault;
 use rcell::ascii::fault::{GridFault, GridKind};
 use rcell::report::fault_line;
 use rcell::runs::outcome::{Outcome, RunFault, status_of};
 use rcell::script::fault::{ScriptFault, ScriptKind};
-use cell_core::region::RegionFault;
 use std::test::Fail;
 
 fn of_grid(kind: GridKind, line: u64) -> RunFault {

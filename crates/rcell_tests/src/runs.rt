@@ -4,15 +4,17 @@ use cell_core::name::Name;
 use cell_core::sink::MemorySink;
 use cell_core::source::MemorySource;
 use rcell::ascii::fault::{GridFault, GridKind};
-use rcell::{Outcome, RunFault, run};
 use rcell::script::fault::{ScriptFault, ScriptKind};
+use rcell::{Outcome, RunFault, run};
 use std::alloc::{AllocGlobal, Global};
 use std::process::Abort;
 use std::test::Fail;
 
 const HEADER: &[u8] = b"north: 3\nsouth: 0\neast: 4\nwest: 0\nrows: 3\ncols: 4\n";
+
 const GRID: &[u8] =
     b"north: 3\nsouth: 0\neast: 4\nwest: 0\nrows: 3\ncols: 4\n1 1 2 *\n1 2 2 2\n3 3 1 1\n";
+
 const TABLE: &[u8] = b"1 5\n2 4\n3 2\n* 1\n";
 
 fn source(alloc: Global, text: &[u8], fails: bool) -> Result<MemorySource, Fail> {
@@ -53,7 +55,14 @@ fn expect_text<R: Abort + AllocGlobal>(
     let outcome = run_texts(rt.alloc(), grids, script, &mut out)?;
     assert_eq!(rt; out.bytes(), text);
     let written = text.len() as u64;
-    assert_eq!(rt; outcome, Outcome { status: 0, written, fault: None });
+    assert_eq!(rt;
+        outcome,
+        Outcome {
+            status: 0,
+            written,
+            fault: None
+        }
+    );
     Ok(())
 }
 
@@ -67,7 +76,14 @@ fn expect_refused<R: Abort + AllocGlobal>(
 ) -> Result<(), Fail> {
     let mut out = sink(rt.alloc(), 1000)?;
     let outcome = run_texts(rt.alloc(), grids, script, &mut out)?;
-    assert_eq!(rt; outcome, Outcome { status, written: 0, fault: Some(fault) });
+    assert_eq!(rt;
+        outcome,
+        Outcome {
+            status,
+            written: 0,
+            fault: Some(fault)
+        }
+    );
     assert_eq!(rt; out.bytes().len(), 0);
     Ok(())
 }
@@ -75,13 +91,29 @@ fn expect_refused<R: Abort + AllocGlobal>(
 #[test]
 fn puts_out_tables(rt: HostRuntime) -> Result<(), Fail> {
     expect_text(&rt, &[(b"g", GRID)], b"r.stats -c input=g", TABLE)?;
-    let turned = b"cols: 4\r\nrows: 3\r\nwest: 0\r\neast: 4\r\nsouth: 0\r\nnorth: 3\r\n1 1 2 * 1 2 2 2 3 3 1 1   ";
-    expect_text(&rt, &[(b"g", turned)], b"# land cover\r\n\r\nr.stats -c input=g\r\n", TABLE)?;
-    expect_text(&rt, &[(b"g", GRID)], b"r.stats -c input=g,g", b"1 1 5\n2 2 4\n3 3 2\n* * 1\n")?;
+    let turned =
+        b"cols: 4\r\nrows: 3\r\nwest: 0\r\neast: 4\r\nsouth: 0\r\nnorth: 3\r\n1 1 2 * 1 2 2 2 3 3 1 1   ";
+    expect_text(
+        &rt,
+        &[(b"g", turned)],
+        b"# land cover\r\n\r\nr.stats -c input=g\r\n",
+        TABLE,
+    )?;
+    expect_text(
+        &rt,
+        &[(b"g", GRID)],
+        b"r.stats -c input=g,g",
+        b"1 1 5\n2 2 4\n3 3 2\n* * 1\n",
+    )?;
     let one = b"north: 1\nsouth: 0\neast: 1\nwest: 0\nrows: 1\ncols: 1\n*";
     expect_text(&rt, &[(b"k", one)], b"r.stats -c input=k\n", b"* 1\n")?;
     let same = b"north: 3.0\nsouth: 0\neast: 4\nwest: 0\nrows: 3\ncols: 4\n1 1 2 * 1 2 2 2 3 3 1 1";
-    expect_text(&rt, &[(b"g", GRID), (b"h", same)], b"r.stats -c input=h", TABLE)?;
+    expect_text(
+        &rt,
+        &[(b"g", GRID), (b"h", same)],
+        b"r.stats -c input=h",
+        TABLE,
+    )?;
     expect_text(&rt, &[(b"g", GRID)], b"# nothing is asked for\n", b"")
 }
 
@@ -89,18 +121,40 @@ fn puts_out_tables(rt: HostRuntime) -> Result<(), Fail> {
 fn refuses_before_it_writes(rt: HostRuntime) -> Result<(), Fail> {
     let script = b"r.stats -c input=g\n";
     let narrow = b"north: 3\nsouth: 0\neast: 4\nwest: 0\nrows: 3\ncols: 3\n1 1 2 1 2 2 3 3 1";
-    expect_refused(&rt, &[(b"g", GRID), (b"h", narrow)], script, 1, RunFault::GridRegion { grid: 1 })?;
-    expect_refused(&rt, &[(b"g", GRID), (b"g", GRID)], script, 1, RunFault::GridTwice { grid: 1 })?;
+    expect_refused(
+        &rt,
+        &[(b"g", GRID), (b"h", narrow)],
+        script,
+        1,
+        RunFault::GridRegion { grid: 1 },
+    )?;
+    expect_refused(
+        &rt,
+        &[(b"g", GRID), (b"g", GRID)],
+        script,
+        1,
+        RunFault::GridTwice { grid: 1 },
+    )?;
     let fault = GridFault {
         kind: GridKind::TooFew,
         line: 7,
     };
-    expect_refused(&rt, &[(b"g", HEADER)], script, 1, RunFault::Grid { grid: 0, fault })?;
+    expect_refused(
+        &rt,
+        &[(b"g", HEADER)],
+        script,
+        1,
+        RunFault::Grid { grid: 0, fault },
+    )?;
     let lines = [
         (b"r.stats input=g".as_slice(), ScriptKind::BadOption, 1),
         (b"r.stats -c\n", ScriptKind::MissingOption, 1),
         (b"\nr.stats -c input=1a\n", ScriptKind::BadName, 2),
-        (b"r.stats -c input=g\n# note\nr.stats -c input=h\n", ScriptKind::UnknownMap, 3),
+        (
+            b"r.stats -c input=g\n# note\nr.stats -c input=h\n",
+            ScriptKind::UnknownMap,
+            3,
+        ),
         (b"r.clump input=g output=c\n", ScriptKind::UnknownCommand, 1),
     ];
     for (text, kind, line) in lines {
@@ -115,11 +169,25 @@ fn tells_what_a_failing_device_took(rt: HostRuntime) -> Result<(), Fail> {
     let script = b"r.stats -c input=g\n";
     let mut full = sink(rt.alloc(), 5)?;
     let outcome = run_texts(rt.alloc(), &[(b"g", GRID)], script, &mut full)?;
-    assert_eq!(rt; outcome, Outcome { status: 4, written: 5, fault: Some(RunFault::Write) });
+    assert_eq!(rt;
+        outcome,
+        Outcome {
+            status: 4,
+            written: 5,
+            fault: Some(RunFault::Write)
+        }
+    );
     assert_eq!(rt; full.bytes(), b"1 5\n2".as_slice());
     let mut unflushed = MemorySink::new(vec![in rt.alloc(); 0u8; 100]?, 3, true);
     let outcome = run_texts(rt.alloc(), &[(b"g", GRID)], script, &mut unflushed)?;
-    assert_eq!(rt; outcome, Outcome { status: 4, written: 16, fault: Some(RunFault::Write) });
+    assert_eq!(rt;
+        outcome,
+        Outcome {
+            status: 4,
+            written: 16,
+            fault: Some(RunFault::Write)
+        }
+    );
     assert_eq!(rt; unflushed.bytes(), TABLE);
     Ok(())
 }
@@ -135,11 +203,25 @@ fn tells_a_failing_reader(rt: HostRuntime) -> Result<(), Fail> {
         kind: GridKind::Read,
         line: 7,
     };
-    assert_eq!(rt; outcome, Outcome { status: 4, written: 0, fault: Some(RunFault::Grid { grid: 0, fault }) });
+    assert_eq!(rt;
+        outcome,
+        Outcome {
+            status: 4,
+            written: 0,
+            fault: Some(RunFault::Grid { grid: 0, fault })
+        }
+    );
     let name = Name::read(alloc, b"g").map_err(|_| "no name")?;
     let whole = vec![in alloc; (name, source(alloc, GRID, false)?)]?;
     let outcome = run(alloc, source(alloc, b"r.stats", true)?, whole, &mut out);
-    assert_eq!(rt; outcome, Outcome { status: 4, written: 0, fault: Some(RunFault::ScriptRead) });
+    assert_eq!(rt;
+        outcome,
+        Outcome {
+            status: 4,
+            written: 0,
+            fault: Some(RunFault::ScriptRead)
+        }
+    );
     assert_eq!(rt; out.bytes().len(), 0);
     Ok(())
 }

@@ -3,15 +3,15 @@
 ghost use Rattle.std.specs.Prelude.{◌≡◌, [], ◌∷◌, length};
 
 use cell_core::cell::Cell;
-use rcell::output::block::Block;
-use rcell::output::text::write_table;
-use rcell::stats::table::{Table, tally};
 use cell_core::map::MapBuilder;
 use cell_core::memory::Memory;
 use cell_core::name::Name;
 use cell_core::region::Region;
 use cell_core::shelf::Shelf;
 use cell_core::sink::{MemorySink, WriteFault};
+use rcell::output::block::Block;
+use rcell::output::text::write_table;
+use rcell::stats::table::{Table, tally};
 use std::alloc::Global;
 use std::test::Fail;
 

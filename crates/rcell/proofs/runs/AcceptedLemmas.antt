@@ -46,12 +46,12 @@ abbrev pub with_all : ShelfValue → List Named → List Grid → ShelfValue
 with_all shelf gs ms = record { region = shelf.region; names = shelf.names ++ names_of gs; maps = shelf.maps ++ ms }
 
 one_placed : (grid : ℕ) (shelf : ShelfValue) (g : Named) (m : Grid) (back : List (List ℕ)) → Denotes g.1 m → AreDistinct (shelf.names ++ g.0 ∷ back) → m.region ≡ shelf.region
-  → with_grid grid (Some shelf) g.0 (grid_of g.1) ≡ Ok (with_map shelf g.0 m)
+    → with_grid grid (Some shelf) g.0 (grid_of g.1) ≡ Ok (with_map shelf g.0 m)
 one_placed grid shelf g m back denotes distinct same = rw ((reading_agrees g.1 m).1 denotes) (added-same grid shelf g.0 m (free shelf.names g.0 back distinct) same)
 
 -- grids of the shelf's region under new names are all placed
 all_placed : (gs : List Named) (ms : List Grid) (grid : ℕ) (shelf : ShelfValue) → AllDenote gs ms → AreDistinct (shelf.names ++ names_of gs) → All (λ m. m.region ≡ shelf.region) ms
-  → shelf_from grid (Some shelf) gs ≡ Ok (Some (with_all shelf gs ms))
+    → shelf_from grid (Some shelf) gs ≡ Ok (Some (with_all shelf gs ms))
 unfolding shelf_from
 all_placed [] [] grid shelf denote distinct same = λ i. Ok (Some (record { region = shelf.region; names = sym (append-nil shelf.names) i; maps = sym (append-nil shelf.maps) i }))
 all_placed [] (m ∷ ms) grid shelf denote distinct same = absurd denote
@@ -88,5 +88,5 @@ accepted_outcome grids script shelf statements ok =
 
 -- what is written of any output is written of an accepted script's
 pub accepted_writes : (grids : List Named) (script : Coming) (shelf : ShelfValue) (statements : List Statement) (before now : Option (List ℕ)) (failed : Bool) (outcome : Outcome)
-  → ((text : List ℕ) → outcome_of grids script ≡ Ok text → Writes text before now failed outcome) → IsAccepted grids script shelf statements → Writes (output_of shelf statements) before now failed outcome
+    → ((text : List ℕ) → outcome_of grids script ≡ Ok text → Writes text before now failed outcome) → IsAccepted grids script shelf statements → Writes (output_of shelf statements) before now failed outcome
 accepted_writes grids script shelf statements before now failed outcome whole ok = whole (output_of shelf statements) (accepted_outcome grids script shelf statements ok)

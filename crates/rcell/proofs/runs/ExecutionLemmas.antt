@@ -18,7 +18,7 @@ IsPut-gathered before text now block put = record { front = text; whole = rw put
 
 -- a text is gathered, and then all is put
 pub gathered_then_put : (taken : Option (List ℕ)) (old : BlockValue) (bytes : List ℕ) (middle : Option (List ℕ)) (between : BlockValue) (now : Option (List ℕ)) (new : BlockValue)
-  → Gathers taken old bytes middle between → PutsAll middle between now new → Puts taken old bytes now new
+    → Gathers taken old bytes middle between → PutsAll middle between now new → Puts taken old bytes now new
 gathered_then_put taken old bytes middle between now new gathers puts = λ before text put. puts before (text ++ bytes) (gathers before text (IsPut-gathered before text taken old put))
 
 cut_at : (statements : List Statement) (i : ℕ) (s : Statement) → i < length statements → s ≡ get_or statements i s → take i statements ++ s ∷ drop (i + 1) statements ≡ statements
@@ -28,13 +28,13 @@ cut_at statements i s h read =
 
 -- the output goes on after the statements up to place i
 output_cut : (shelf : ShelfValue) (statements : List Statement) (i : ℕ) (s : Statement) → i < length statements → s ≡ get_or statements i s
-  → (output_of shelf (take i statements) ++ statement_text shelf s) ++ output_of shelf (drop (i + 1) statements) ≡ output_of shelf statements
+    → (output_of shelf (take i statements) ++ statement_text shelf s) ++ output_of shelf (drop (i + 1) statements) ≡ output_of shelf statements
 output_cut shelf statements i s h read =
     append_assoc (output_of shelf (take i statements)) (statement_text shelf s) (output_of shelf (drop (i + 1) statements))
     ∙ sym (flat_map-append (statement_text shelf) (take i statements) (s ∷ drop (i + 1) statements)) ∙ ap (output_of shelf) (cut_at statements i s h read)
 
 module _ (shelf : ShelfValue) (statements : List Statement) (i : ℕ) (s : Statement) (h : i < length statements) (read : s ≡ get_or statements i s)
-  (before : Option (List ℕ)) (taken : Option (List ℕ)) (old : BlockValue) (put : IsPut before (output_of shelf (take i statements)) taken old) where
+    (before : Option (List ℕ)) (taken : Option (List ℕ)) (old : BlockValue) (put : IsPut before (output_of shelf (take i statements)) taken old) where
   -- the execution stops where the statement at place i stops
   pub stops_at : (now : Option (List ℕ)) (written : ℕ) (stop : Stop) → IsStopped s.line (statement_text shelf s) taken old now written stop → Stops shelf statements before now written stop
   stops_at now written (Memory line) stopped = record {

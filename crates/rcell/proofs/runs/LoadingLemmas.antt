@@ -43,7 +43,7 @@ added-first grid region name map same =
 
 -- the first map is not refused
 pub first_fault : (r : Result ShelfValue RunFault) (grid : ℕ) (region : RegionValue) (shelf : ShelfValue) (name : List ℕ) (map : Grid) → shelf ≡ record { region = region; names = []; maps = [] } → region ≡ map.region
-  → IfErr r (λ f. IsOfInput f → added grid shelf name map (place_of name shelf.names) ≡ Err f) → IfErr r (λ f. IsOfInput f → placed grid None name map ≡ Err f)
+    → IfErr r (λ f. IsOfInput f → added grid shelf name map (place_of name shelf.names) ≡ Err f) → IfErr r (λ f. IsOfInput f → placed grid None name map ≡ Err f)
 first_fault (Ok s) grid region shelf name map is same h = tt
 first_fault (Err f) grid region shelf name map is same h = λ input.
     let told : added grid (record { region = region; names = []; maps = [] }) name map None ≡ Err f = ap (λ (s : ShelfValue). added grid s name map (place_of name s.names)) (sym is) ∙ h input in
@@ -91,7 +91,7 @@ position_from-before t i (x ∷ xs) p zero e at = refl
 position_from-before {K} t i (x ∷ xs) p (suc j) e at = by (t x) (λ h. position_from-before t (i + 1) xs p j h (omega arith)) e
   where
     by : (b : Bool) → (position_from t (i + 1) xs ≡ Some p → position_from t (i + 1) (take j xs) ≡ None)
-      → cond b (Some i) (position_from t (i + 1) xs) ≡ Some p → cond b (Some i) (position_from t (i + 1) (take j xs)) ≡ None
+        → cond b (Some i) (position_from t (i + 1) xs) ≡ Some p → cond b (Some i) (position_from t (i + 1) (take j xs)) ≡ None
     by true rest h = let q : i ≡ p = cc in absurd (omega arith)
     by false rest h = rest h
 

@@ -19,7 +19,7 @@ abbrev pub texts : List (Bor (List ℕ)) → List (List ℕ)
 texts xs = map (λ w. w.now) xs
 
 words_more : (xs : List (Bor (List ℕ))) (i : ℕ) (d : Bor (List ℕ)) → i < length xs
-  → filter is_word (texts (take (i + 1) xs)) ≡ filter is_word (texts (take i xs)) ++ filter is_word ((get_or xs i d).now ∷ [])
+    → filter is_word (texts (take (i + 1) xs)) ≡ filter is_word (texts (take i xs)) ++ filter is_word ((get_or xs i d).now ∷ [])
 words_more xs i d h =
     ap (λ l. filter is_word (texts l)) (take_more xs i d h)
     ∙ ap (filter is_word) (map-append (λ w. w.now) (take i xs) (get_or xs i d ∷ []))
@@ -27,7 +27,7 @@ words_more xs i d h =
 
 -- a piece that is a word goes last
 pub kept : (words xs : List (Bor (List ℕ))) (i : ℕ) (d : Bor (List ℕ)) → i < length xs → texts words ≡ filter is_word (texts (take i xs))
-  → false ≡ (length (get_or xs i d).now == 0) → texts (words ++ get_or xs i d ∷ []) ≡ filter is_word (texts (take (i + 1) xs))
+    → false ≡ (length (get_or xs i d).now == 0) → texts (words ++ get_or xs i d ∷ []) ≡ filter is_word (texts (take (i + 1) xs))
 kept words xs i d h so_far test =
     let word : is_word (get_or xs i d).now ≡ true = is_word-length (get_or xs i d).now ∙ sym (ap not test) in
     map-append (λ w. w.now) words (get_or xs i d ∷ []) ∙ ap (λ l. l ++ (get_or xs i d).now ∷ []) so_far
@@ -35,7 +35,7 @@ kept words xs i d h so_far test =
 
 -- an empty piece is left out
 pub left_out : (words xs : List (Bor (List ℕ))) (i : ℕ) (d : Bor (List ℕ)) → i < length xs → texts words ≡ filter is_word (texts (take i xs))
-  → true ≡ (length (get_or xs i d).now == 0) → texts words ≡ filter is_word (texts (take (i + 1) xs))
+    → true ≡ (length (get_or xs i d).now == 0) → texts words ≡ filter is_word (texts (take (i + 1) xs))
 left_out words xs i d h so_far test =
     let empty : is_word (get_or xs i d).now ≡ false = is_word-length (get_or xs i d).now ∙ sym (ap not test) in
     so_far ∙ sym (words_more xs i d h ∙ rw empty (append-nil _))

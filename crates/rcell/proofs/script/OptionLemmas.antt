@@ -10,7 +10,7 @@ use Rattle.rcell.specs.script.Options.{is_equals, pair_of, names_from}
 
 -- the first equals sign stands at place i
 pub pair_of-at : (w : List ℕ) (i : ℕ) → i < length w → ((k : ℕ) → k < i → is_equals (get_or w k 0) ≡ false) → is_equals (get_or w i 0) ≡ true
-  → Some (take i w, take (length w - (i + 1)) (drop (i + 1) w)) ≡ pair_of w
+    → Some (take i w, take (length w - (i + 1)) (drop (i + 1) w)) ≡ pair_of w
 pair_of-at w i h before here =
     let at : position_or_len is_equals w ≡ i = position_or_len_is is_equals w i 0 (omega arith) before (λ _. here) in
     let rest : take (length w - (i + 1)) (drop (i + 1) w) ≡ drop (i + 1) w = take_all (length w - (i + 1)) (drop (i + 1) w) (omega (arith, length-drop (i + 1) w)) in

@@ -31,8 +31,8 @@ places_of-push known [] x ps p e f = let none : [] ≡ ps = cc in rw f (ap (λ l
 places_of-push known (y ∷ ys) x ps p e f = by (place_of y known) (places_of known ys) (λ qs g. places_of-push known ys x qs p g f) e
   where
     by : (o : Option ℕ) (r : Option (List ℕ)) → ((qs : List ℕ) → r ≡ Some qs → places_of known (ys ++ x ∷ []) ≡ Some (qs ++ p ∷ []))
-      → option_and_then (λ place. option_map (λ places. place ∷ places) r) o ≡ Some ps
-      → option_and_then (λ place. option_map (λ places. place ∷ places) (places_of known (ys ++ x ∷ []))) o ≡ Some (ps ++ p ∷ [])
+        → option_and_then (λ place. option_map (λ places. place ∷ places) r) o ≡ Some ps
+        → option_and_then (λ place. option_map (λ places. place ∷ places) (places_of known (ys ++ x ∷ []))) o ≡ Some (ps ++ p ∷ [])
     by None r more h = cc
     by (Some q) None more h = cc
     by (Some q) (Some qs) more h =
@@ -54,7 +54,7 @@ unknown_at known xs i x y h read same e = places_of-none known xs i x h (ap (λ 
 
 -- the name at place i, read as y, is known
 pub known_at : (known xs : List (List ℕ)) (i : ℕ) (x y : List ℕ) (ps : List ℕ) (p : ℕ) → i < length xs → x ≡ get_or xs i x → y ≡ x → places_of known (take i xs) ≡ Some ps → Some p ≡ place_of y known
-  → places_of known (take (i + 1) xs) ≡ Some (ps ++ p ∷ [])
+    → places_of known (take (i + 1) xs) ≡ Some (ps ++ p ∷ [])
 known_at known xs i x y ps p h read same so_far e =
     ap (places_of known) (take_more xs i x h) ∙ places_of-push known (take i xs) (get_or xs i x) ps p so_far (ap (λ n. place_of n known) (sym read ∙ sym same) ∙ sym e)
 
@@ -79,33 +79,33 @@ abbrev pub left_from : List (List ℕ) → List Statement → List (Bor (List �
 left_from known done lines i = prepended done (statements_from known (i + 1) (texts (drop i lines)))
 
 line_at : (known : List (List ℕ)) (done : List Statement) (lines : List (Bor (List ℕ))) (i : ℕ) (d : Bor (List ℕ)) → i < length lines
-  → left_from known done lines i ≡ prepended done (with_statement (i + 1) (line_command known (get_or lines i d).now) (statements_from known (i + 1 + 1) (texts (drop (i + 1) lines))))
+    → left_from known done lines i ≡ prepended done (with_statement (i + 1) (line_command known (get_or lines i d).now) (statements_from known (i + 1 + 1) (texts (drop (i + 1) lines))))
 line_at known done lines i d h =
     let cut : drop i lines ≡ get_or lines i d ∷ drop (i + 1) lines = rw add-one (drop-cons lines i d h) in
     ap (λ l. prepended done (statements_from known (i + 1) (texts l))) cut
 
 one_more : (done : List Statement) (line : ℕ) (command : Command) (r : Result (List Statement) ScriptFault)
-  → prepended done (with_statement line (Ok (Some command)) r) ≡ prepended (done ++ (record { line = line; command = command }) ∷ []) r
+    → prepended done (with_statement line (Ok (Some command)) r) ≡ prepended (done ++ (record { line = line; command = command }) ∷ []) r
 one_more done line command (Ok rest) = ap Ok (sym (append_assoc done (record { line = line; command = command } ∷ []) rest))
 one_more done line command (Err fault) = refl
 
 -- a line that is skipped
 pub line_skipped : (known : List (List ℕ)) (all : Result (List Statement) ScriptFault) (done : List Statement) (lines : List (Bor (List ℕ))) (i : ℕ) (d : Bor (List ℕ)) → i < length lines
-  → all ≡ left_from known done lines i → line_command known (get_or lines i d).now ≡ Ok None → all ≡ left_from known done lines (i + 1)
+    → all ≡ left_from known done lines i → line_command known (get_or lines i d).now ≡ Ok None → all ≡ left_from known done lines (i + 1)
 line_skipped known all done lines i d h so_far e =
     so_far ∙ line_at known done lines i d h ∙ ap (λ r. prepended done (with_statement (i + 1) r (statements_from known (i + 1 + 1) (texts (drop (i + 1) lines))))) e
 
 -- a line that is a statement
 pub line_added : (known : List (List ℕ)) (all : Result (List Statement) ScriptFault) (done : List Statement) (lines : List (Bor (List ℕ))) (i : ℕ) (d : Bor (List ℕ)) (command : Command) → i < length lines
-  → all ≡ left_from known done lines i → line_command known (get_or lines i d).now ≡ Ok (Some command)
-  → all ≡ left_from known (done ++ (record { line = i + 1; command = command }) ∷ []) lines (i + 1)
+    → all ≡ left_from known done lines i → line_command known (get_or lines i d).now ≡ Ok (Some command)
+    → all ≡ left_from known (done ++ (record { line = i + 1; command = command }) ∷ []) lines (i + 1)
 line_added known all done lines i d command h so_far e =
     so_far ∙ line_at known done lines i d h ∙ ap (λ r. prepended done (with_statement (i + 1) r (statements_from known (i + 1 + 1) (texts (drop (i + 1) lines))))) e
     ∙ one_more done (i + 1) command (statements_from known (i + 1 + 1) (texts (drop (i + 1) lines)))
 
 -- a line that has a fault
 pub line_refused : (known : List (List ℕ)) (all : Result (List Statement) ScriptFault) (done : List Statement) (lines : List (Bor (List ℕ))) (i : ℕ) (d : Bor (List ℕ)) (kind : ScriptKind) → i < length lines
-  → all ≡ left_from known done lines i → line_command known (get_or lines i d).now ≡ Err kind → all ≡ Err (record { kind = kind; line = i + 1 })
+    → all ≡ left_from known done lines i → line_command known (get_or lines i d).now ≡ Err kind → all ≡ Err (record { kind = kind; line = i + 1 })
 line_refused known all done lines i d kind h so_far e =
     so_far ∙ line_at known done lines i d h ∙ ap (λ r. prepended done (with_statement (i + 1) r (statements_from known (i + 1 + 1) (texts (drop (i + 1) lines))))) e
 

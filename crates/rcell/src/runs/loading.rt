@@ -76,10 +76,7 @@ fn with_grid<R: Source + Drop>(
 }
 
 /// Reads the grids, each whole and in order, and puts them on a shelf.
-pub fn load<R: Source + Drop>(
-    alloc: Global,
-    mut grids: Vec<(Name, R)>,
-) -> Result<Shelf, RunFault>
+pub fn load<R: Source + Drop>(alloc: Global, mut grids: Vec<(Name, R)>) -> Result<Shelf, RunFault>
     requires { 0 < vec_len grids }
     ensures ok { AllKnown R.coming grids.items → IfOk result (λ s. shelf_of (known_of R.coming grids.items) ≡ Ok (Some s)) }
     ensures fault { AllKnown R.coming grids.items → IfErr result (λ f. IsOfInput f → shelf_of (known_of R.coming grids.items) ≡ Err f) }

@@ -72,11 +72,7 @@ fn stats_of(alloc: Global, known: &Names, words: &[&[u8]]) -> Result<Command, Sc
 }
 
 // The command of a line, where it has one.
-fn line_command(
-    alloc: Global,
-    known: &Names,
-    line: &[u8],
-) -> Result<Option<Command>, ScriptKind>
+fn line_command(alloc: Global, known: &Names, line: &[u8]) -> Result<Option<Command>, ScriptKind>
     ensures ok { IfOk result (λ command. line_command known.now line.now ≡ Ok command) }
     ensures within { IfOk result (λ command. IfSome command (ReadsWithin (length known.now))) }
     ensures err { IfErr result (λ kind. kind ≢ ScriptKind.Memory → line_command known.now line.now ≡ Err kind) }
@@ -91,11 +87,7 @@ fn line_command(
 }
 
 // The command that words spell, where they spell one.
-fn command_of(
-    alloc: Global,
-    known: &Names,
-    words: &[&[u8]],
-) -> Result<Option<Command>, ScriptKind>
+fn command_of(alloc: Global, known: &Names, words: &[&[u8]]) -> Result<Option<Command>, ScriptKind>
     ensures ok { IfOk result (λ command. command_of known.now (map (λ w. w.now) words.now) ≡ Ok command) }
     ensures within { IfOk result (λ command. IfSome command (ReadsWithin (length known.now))) }
     ensures err { IfErr result (λ kind. kind ≢ ScriptKind.Memory → command_of known.now (map (λ w. w.now) words.now) ≡ Err kind) }
