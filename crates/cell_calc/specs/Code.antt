@@ -8,14 +8,17 @@ use Rattle.cell_calc.specs.declared.operator.Operator.{Operator}
 use Rattle.cell_calc.specs.declared.operator.Operator.TheVariants.{Times, Divide, Modulo, Plus, Minus, Less, LessEqual, Greater, GreaterEqual, Equal, NotEqual, And, Or}
 use Rattle.cell_calc.specs.Term.{Term, Number, Map, Negated, Not, Binary, Call, Terms, NoTerms, Then}
 
+-- what stands at a place of a list
 abbrev pub place_in : {A : Type 0} → A → List A → ℕ → A
 place_in d [] n = d
 place_in d (x ∷ xs) zero = x
 place_in d (x ∷ xs) (suc n) = place_in d xs n
 
+-- the operator of a number
 abbrev pub operator_at : ℕ → Operator
 operator_at n = place_in Times (Times ∷ Divide ∷ Modulo ∷ Plus ∷ Minus ∷ Less ∷ LessEqual ∷ Greater ∷ GreaterEqual ∷ Equal ∷ NotEqual ∷ And ∷ Or ∷ []) n
 
+-- the number of an operator
 abbrev pub operator_place : Operator → ℕ
 operator_place Times = 0
 operator_place Divide = 1
@@ -46,9 +49,11 @@ operator_back NotEqual = refl
 operator_back And = refl
 operator_back Or = refl
 
+-- the function of a number
 abbrev pub function_at : ℕ → Function
 function_at n = place_in If (If ∷ IsNull ∷ Null ∷ Abs ∷ Min ∷ Max ∷ Mode ∷ Row ∷ Column ∷ RowCount ∷ ColumnCount ∷ []) n
 
+-- the number of a function
 abbrev pub function_place : Function → ℕ
 function_place If = 0
 function_place IsNull = 1
@@ -79,10 +84,12 @@ function_back ColumnCount = refl
 abbrev pub Step : Type 0
 Step = ℕ × (List ℕ × (ℤ × (ℤ × ℕ)))
 
+-- a step that takes a number alone
 abbrev pub step : ℕ → ℕ → Step
 step kind n = (kind, ([], (pos 0, (pos 0, n))))
 
 abbrev mutual
+  -- the steps that build a term
   pub steps_of : Term → List Step
   steps_of (Number n) = step 0 n ∷ []
   steps_of (Map name down right column) = (1, (name, (down, (right, column)))) ∷ []
@@ -96,6 +103,7 @@ abbrev mutual
   steps_of_all NoTerms = step 6 0 ∷ []
   steps_of_all (Then a xs) = steps_of_all xs ++ (steps_of a ++ step 7 0 ∷ [])
 
+-- the stack after a step
 abbrev pub built : ℕ → List ℕ × (ℤ × (ℤ × ℕ)) → List Term → List Term
 built zero x stack = Number x.1.1.1 ∷ stack
 built (suc zero) x stack = Map x.0 x.1.0 x.1.1.0 x.1.1.1 ∷ stack
@@ -107,10 +115,12 @@ built (suc (suc (suc (suc (suc (suc zero)))))) x stack = Call If NoTerms ∷ sta
 built (suc (suc (suc (suc (suc (suc (suc n))))))) x (a ∷ Call f xs ∷ stack) = Call f (Then a xs) ∷ stack
 built _ x stack = stack
 
+-- the stack after steps
 abbrev pub run : List Step → List Term → List Term
 run [] stack = stack
 run (s ∷ steps) stack = run steps (built s.0 s.1 stack)
 
+-- the term on top of the stack
 abbrev pub topmost : List Term → Term
 topmost [] = Number 0
 topmost (a ∷ stack) = a

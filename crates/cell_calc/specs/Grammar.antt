@@ -23,8 +23,7 @@ pub data AreOffsets : List Placed → ℤ → ℤ → Type 0 where
       → AreOffsets (ts ++ sign_at Comma c ∷ (us ++ sign_at CloseBracket d ∷ [])) down right
 
 mutual
-  -- a list of tokens stands for an expression at a level: 0 has no operator between operands outside parentheses,
-  -- and each further level has one of the level below, or one of its own, an operator of it and one of the level below
+  -- level 0 has operands alone; each further level has one of the level below, or one of its own, its operator and one of the level below
   pub data Stands : ℕ → List Placed → Term → Type 0 where
     number : {n c : ℕ} → Stands zero (number_at n c ∷ []) (Number n)
     map : {name : List ℕ} {c : ℕ} → Stands zero (name_at name c ∷ []) (Map name (pos 0) (pos 0) c)

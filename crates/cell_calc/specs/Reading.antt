@@ -16,6 +16,7 @@ use Rattle.cell_calc.specs.Operator.{operator_of, level_of, top}
 use Rattle.cell_calc.specs.Term.{Term, Number, Map, Negated, Not, Binary, Call, Terms, NoTerms, Then, count}
 use Rattle.cell_calc.specs.Token.{number_at, name_at, sign_at, head}
 
+-- the tokens after the first
 abbrev pub tail : List Placed → List Placed
 tail [] = []
 tail (s ∷ ts) = ts
@@ -29,6 +30,7 @@ abbrev pub and_then : {A B : Type 0} → Part A → (A → List Placed → Part 
 and_then (Ok x) f = f x.0 x.1
 and_then (Err e) f = Err e
 
+-- a distance, by the token at the front
 abbrev pub distance_at : Option Token → List Placed → Part ℕ
 distance_at (Some (token.Number n)) ts = if nat_le n 255 then Ok (n, tail ts) else Err (BadOffset, ts)
 distance_at _ ts = Err (Expected, ts)
@@ -37,10 +39,12 @@ distance_at _ ts = Err (Expected, ts)
 abbrev pub distance : List Placed → Part ℕ
 distance ts = distance_at (head ts) ts
 
+-- a distance as an offset
 abbrev pub signed : (ℕ → ℤ) → Part ℕ → Part ℤ
 signed f (Ok x) = Ok (f x.0, x.1)
 signed f (Err e) = Err e
 
+-- an offset, by the token at the front
 abbrev pub offset_at : Option Token → List Placed → Part ℤ
 offset_at (Some (token.Sign Minus)) ts = signed (λ n. neg_ℤ (pos n)) (distance (tail ts))
 offset_at (Some (token.Sign Plus)) ts = signed pos (distance (tail ts))
@@ -50,10 +54,12 @@ offset_at _ ts = signed pos (distance ts)
 abbrev pub offset : List Placed → Part ℤ
 offset ts = offset_at (head ts) ts
 
+-- the comma between offsets, by the token at the front
 abbrev pub comma_at : Option Token → List Placed → Part (Unit {0})
 comma_at (Some (token.Sign Comma)) ts = Ok (tt, tail ts)
 comma_at _ ts = Err (Expected, ts)
 
+-- the closing bracket, by the token at the front
 abbrev pub bracket_at : Option Token → List Placed → Part (Unit {0})
 bracket_at (Some (token.Sign CloseBracket)) ts = Ok (tt, tail ts)
 bracket_at _ ts = Err (Expected, ts)
@@ -72,9 +78,7 @@ pub data Outcome : Type 0 where
   GotAll : (xs : Terms) (rest : List Placed) → Outcome
   Stops : (kind : CalcKind) (rest : List Placed) → Outcome
 
--- what is to be read: an operand, an expression of a level, or what goes on after an operand; an expression with
--- its choice, what follows the condition or the question mark; what follows the opening parenthesis of a call, one
--- argument or more, or what follows an argument
+-- what is to be read, or what goes on after what was read
 pub data State : Type 0 where
   Operand : (ts : List Placed) → State
   Whole : (k : ℕ) (ts : List Placed) → State
@@ -86,10 +90,12 @@ pub data State : Type 0 where
   Arguments : (ts : List Placed) → State
   Onward : (argument : Outcome) → State
 
+-- the operator, if it is one of a level below
 abbrev pub below_level : ℕ → Option Operator → Option Operator
 below_level k None = None
 below_level k (Some op) = if nat_lt (level_of op) k then Some op else None
 
+-- the operator that a token is, if an expression of the level goes on with it
 abbrev pub goes_on : ℕ → Option Token → Option Operator
 goes_on k None = None
 goes_on k (Some s) = below_level k (operator_of s)
@@ -119,16 +125,19 @@ BeginsNone (Some (token.Sign Exclamation)) = ⊥
 BeginsNone (Some (token.Sign OpenParenthesis)) = ⊥
 BeginsNone _ = Unit {0}
 
+-- after a unary minus
 abbrev pub negate : Outcome → Outcome
 negate (Got a rest) = Got (Negated a) rest
 negate (GotAll xs rest) = Stops Expected rest
 negate (Stops kind rest) = Stops kind rest
 
+-- after a unary `!`
 abbrev pub invert : Outcome → Outcome
 invert (Got a rest) = Got (Not a) rest
 invert (GotAll xs rest) = Stops Expected rest
 invert (Stops kind rest) = Stops kind rest
 
+-- an expression in parentheses, by the token that follows it
 abbrev pub closed : Option Token → Term → List Placed → Outcome
 closed (Some (token.Sign CloseParenthesis)) a rest = Got a (tail rest)
 closed _ a rest = Stops Expected rest
@@ -139,11 +148,13 @@ close (Got a rest) = closed (head rest) a rest
 close (GotAll xs rest) = Stops Expected rest
 close (Stops kind rest) = Stops kind rest
 
+-- after an operator and its left operand
 abbrev pub join : Operator → Term → Outcome → Outcome
 join op a (Got b rest) = Got (Binary op a b) rest
 join op a (GotAll xs rest) = Stops Expected rest
 join op a (Stops kind rest) = Stops kind rest
 
+-- after a condition, what is chosen where it holds, and the colon
 abbrev pub choose : Term → Term → Outcome → Outcome
 choose x a (Got b rest) = Got (Call If (Then x (Then a (Then b NoTerms)))) rest
 choose x a (GotAll xs rest) = Stops Expected rest
@@ -158,16 +169,19 @@ move name c (Err e) = Stops e.0 e.1
 abbrev pub judged : Bool → Function → Terms → (from rest : List Placed) → Outcome
 judged b f xs from rest = cond b (Got (Call f xs) rest) (Stops BadArguments from)
 
+-- after a function's name and the opening parenthesis, from where it begins
 abbrev pub call : Function → List Placed → Outcome → Outcome
 call f from (Got a rest) = Stops Expected rest
 call f from (GotAll xs rest) = judged (accepts f (count xs)) f xs from rest
 call f from (Stops kind rest) = Stops kind rest
 
+-- after an argument and a comma
 abbrev pub add : Term → Outcome → Outcome
 add a (Got b rest) = Stops Expected rest
 add a (GotAll xs rest) = GotAll (Then a xs) rest
 add a (Stops kind rest) = Stops kind rest
 
+-- one rule for each step: what is read of a state
 pub data Reads : State → Outcome → Type 0 where
   number : {n c : ℕ} {ts : List Placed} → Reads (Operand (number_at n c ∷ ts)) (Got (Number n) ts)
   map : {name : List ℕ} {c : ℕ} {ts : List Placed} → IsAlone (head ts) → Reads (Operand (name_at name c ∷ ts)) (Got (Map name (pos 0) (pos 0) c) ts)

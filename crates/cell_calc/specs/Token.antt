@@ -5,12 +5,15 @@ use Rattle.cell_calc.specs.declared.token.Sign.{Sign}
 use Rattle.cell_calc.specs.declared.token.Token.{Token}
 use Rattle.cell_calc.specs.declared.token.Token.TheVariants as token
 
+-- a number at a column
 abbrev pub number_at : (number column : ℕ) → Placed
 number_at n c = record { token = token.Number n; column = c }
 
+-- a name at a column
 abbrev pub name_at : (name : List ℕ) (column : ℕ) → Placed
 name_at n c = record { token = token.Name n; column = c }
 
+-- a sign at a column
 abbrev pub sign_at : (sign : Sign) (column : ℕ) → Placed
 sign_at s c = record { token = token.Sign s; column = c }
 

@@ -60,20 +60,20 @@ fn assignments_are_read(rt: HostRuntime) -> Result<(), Fail> {
     Ok(())
 }
 
-// `x =`, so many times the first sign, a 1 and so many times the second text.
+// `x =`, the first text so many times, a 1 and the second text so many times.
 fn repeated(
     alloc: Global,
-    sign: u8,
-    signs: u32,
+    before: &[u8],
+    first: u32,
     after: &[u8],
-    times: u32,
+    second: u32,
 ) -> Result<Option<CalcFault>, Fail> {
     let mut text = b"x = ".to_vec(alloc)?;
-    for _ in 0..signs {
-        text.push(sign)?;
+    for _ in 0..first {
+        text.extend_from_slice(before)?;
     }
     text.push(b'1')?;
-    for _ in 0..times {
+    for _ in 0..second {
         text.extend_from_slice(after)?;
     }
     Ok(fault_of(alloc, &text))
@@ -81,19 +81,20 @@ fn repeated(
 
 #[test]
 fn a_thousand_tokens_are_read(rt: HostRuntime) -> Result<(), Fail> {
-    let too_long = |column| {
-        Some(CalcFault {
+    for (before, first, after, second, column) in [
+        (b"-".as_slice(), 1, b" + 1".as_slice(), 498, None),
+        (b"-", 2, b" + 1", 498, Some(1999)),
+        (b"-", 997, b"", 0, None),
+        (b"-", 998, b"", 0, Some(1003)),
+        (b"(", 498, b")", 498, None),
+        (b"abs(", 332, b")", 332, None),
+        (b"", 0, b" ? 1 : 1", 249, None),
+    ] {
+        let wanted = column.map(|column| CalcFault {
             kind: CalcKind::TooLong,
             column,
-        })
-    };
-    assert_eq!(rt; repeated(rt.alloc(), b'-', 1, b" + 1", 498)?, None);
-    assert_eq!(rt;
-        repeated(rt.alloc(), b'-', 2, b" + 1", 498)?,
-        too_long(1999)
-    );
-    assert_eq!(rt; repeated(rt.alloc(), b'-', 997, b"", 0)?, None);
-    assert_eq!(rt; repeated(rt.alloc(), b'-', 998, b"", 0)?, too_long(1003));
-    assert_eq!(rt; repeated(rt.alloc(), b'(', 498, b")", 498)?, None);
+        });
+        assert_eq!(rt; repeated(rt.alloc(), before, first, after, second)?, wanted);
+    }
     Ok(())
 }

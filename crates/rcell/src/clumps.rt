@@ -4,7 +4,7 @@ ghost use Rattle.std.specs.Prelude.{◌≡◌, ℕ, ◌+◌, ◌<◌, ◌≤◌,
 ghost use Rattle.std.specs.Ordering.{int_eq};
 ghost use Rattle.std.specs.HashMap.{get, hash_map_len};
 ghost use Rattle.rcell.specs.clumps.Clumping.{IsWeakClumping};
-ghost use Rattle.rcell.specs.clumps.Numbers.{IsDistinct, IsNumbered, KeepsNumbers};
+ghost use Rattle.rcell.specs.clumps.Numbers.{IsOneToOne, IsNumbered, KeepsNumbers};
 
 use cell_core::cell::Cell;
 use cell_core::map::{CellMap, MapBuilder};
@@ -15,11 +15,12 @@ use std::collections::HashMap;
 // The number of a category. A new one has the next number.
 fn number_of(numbers: &mut HashMap<i32, u32>, category: i32) -> Result<u32, Memory>
     requires room { hash_map_len numbers.old < 2147483647 }
-    requires distinct { IsDistinct numbers.old }
-    ensures next { IfOk result (λ number. number ≡ unwrap_or (get int_eq numbers.old category) (hash_map_len numbers.old + 1)) }
+    requires one_to_one { IsOneToOne numbers.old }
+    ensures next { IfOk result (λ number.
+        number ≡ unwrap_or (get int_eq numbers.old category) (hash_map_len numbers.old + 1)) }
     ensures number { IfOk result (λ number. get int_eq numbers.new category ≡ Some number) }
     ensures keeps { OnOk result (KeepsNumbers numbers.old numbers.new) }
-    ensures distinct { OnOk result (IsDistinct numbers.new) }
+    ensures one_to_one { OnOk result (IsOneToOne numbers.new) }
     ensures one_more { OnOk result (hash_map_len numbers.new ≤ hash_map_len numbers.old + 1) }
 {
     if let Some(number) = numbers.get(&category).copied() {
@@ -33,10 +34,10 @@ fn number_of(numbers: &mut HashMap<i32, u32>, category: i32) -> Result<u32, Memo
 // What a cell becomes: null stays null, a category becomes its number.
 fn number_cell(numbers: &mut HashMap<i32, u32>, cell: Cell) -> Result<Cell, Memory>
     requires room { hash_map_len numbers.old < 2147483647 }
-    requires distinct { IsDistinct numbers.old }
+    requires one_to_one { IsOneToOne numbers.old }
     ensures cell { IfOk result (IsNumbered numbers.new cell) }
     ensures keeps { OnOk result (KeepsNumbers numbers.old numbers.new) }
-    ensures distinct { OnOk result (IsDistinct numbers.new) }
+    ensures one_to_one { OnOk result (IsOneToOne numbers.new) }
     ensures one_more { OnOk result (hash_map_len numbers.new ≤ hash_map_len numbers.old + 1) }
 {
     match cell.get() {
@@ -51,11 +52,11 @@ fn number_cell(numbers: &mut HashMap<i32, u32>, cell: Cell) -> Result<Cell, Memo
 // Writes over each cell of a row what it becomes.
 fn number_row(numbers: &mut HashMap<i32, u32>, row: &mut [Cell]) -> Result<(), Memory>
     requires room { hash_map_len numbers.old + length row.old ≤ 2147483647 }
-    requires distinct { IsDistinct numbers.old }
+    requires one_to_one { IsOneToOne numbers.old }
     ensures cells { OnOk result ((col : ℕ) →
         IsNumbered numbers.new (slice_index_or row.old col None) (slice_index_or row.new col None)) }
     ensures keeps { OnOk result (KeepsNumbers numbers.old numbers.new) }
-    ensures distinct { OnOk result (IsDistinct numbers.new) }
+    ensures one_to_one { OnOk result (IsOneToOne numbers.new) }
     ensures more { OnOk result (hash_map_len numbers.new ≤ hash_map_len numbers.old + length row.old) }
 {
     for cell in row.iter_mut() {

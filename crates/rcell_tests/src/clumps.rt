@@ -4,7 +4,7 @@ use cell_core::cell::Cell;
 use cell_core::map::{CellMap, MapBuilder};
 use cell_core::memory::Memory;
 use cell_core::region::Region;
-use rcell::clumps::clump;
+use rcell::clump;
 use std::alloc::{AllocGlobal, Global};
 use std::process::Abort;
 use std::test::Fail;
@@ -22,7 +22,8 @@ fn cells_of(alloc: Global, row: &[i32]) -> Result<Vec<Cell>, Memory> {
 
 // The map of these rows, or None where they are not all of one width.
 fn map_of(alloc: Global, rows: &[&[i32]], cols: u32) -> Result<Option<CellMap>, Memory> {
-    let Ok(region) = Region::new(1, 0, 1, 0, rows.len() as u32, cols) else {
+    let height = u32::try_from(rows.len()).unwrap_or(0);
+    let Ok(region) = Region::new(1, 0, 1, 0, height, cols) else {
         return Ok(None);
     };
     let mut builder = MapBuilder::new(alloc, region);

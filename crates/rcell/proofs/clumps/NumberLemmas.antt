@@ -5,7 +5,7 @@ use Rattle.std.proofs.lemmas.Bool.{cases_lt}
 use Rattle.cell_core.specs.Grid.{Grid, CellValue, no_labels}
 use Rattle.cell_core.specs.Region.{RegionValue}
 use Rattle.rcell.specs.clumps.Clumping.{Position, at, IsWeakClumping}
-use Rattle.rcell.specs.clumps.Numbers.{Numbers, IsDistinct, IsNumbered, KeepsNumbers}
+use Rattle.rcell.specs.clumps.Numbers.{Numbers, IsOneToOne, IsNumbered, KeepsNumbers}
 
 -- what a cell became stays while categories keep their numbers
 pub IsNumbered-keeps : (old new : Numbers) → KeepsNumbers old new → (x y : CellValue) → IsNumbered old x y → IsNumbered new x y
@@ -35,10 +35,12 @@ IsNumberedTo-more old new before after count row numbered keeps long last = λ r
 pub most_more : (found before width r cols : ℕ) → found ≤ before + width → width ≡ cols → before ≤ r * cols → found ≤ (r + 1) * cols
 most_more found before width r cols more same most = omega arith
 
+-- only null becomes null
 null_from : (numbers : Numbers) (x y : CellValue) → IsNumbered numbers x y → y ≡ None → x ≡ None
 null_from numbers None y h e = refl
 null_from numbers (Some v) y h e = let is = h.2 in cc
 
+-- null stays null
 null_to : (numbers : Numbers) (x y : CellValue) → IsNumbered numbers x y → x ≡ None → y ≡ None
 null_to numbers None y h e = h
 null_to numbers (Some v) y h e = cc
@@ -56,27 +58,29 @@ same_to numbers (Some v) (Some w) a b h k e =
     h.2 ∙ ap (λ (m : ℕ). Some (pos m)) n ∙ sym k.2
 
 -- cells that become equal were equal
-same_from : (numbers : Numbers) → IsDistinct numbers → (x y a b : CellValue) → IsNumbered numbers x a → IsNumbered numbers y b → a ≡ b → x ≡ y
-same_from numbers distinct None None a b h k e = refl
-same_from numbers distinct None (Some w) a b h k e = let other = k.2 in cc
-same_from numbers distinct (Some v) None a b h k e = let other = h.2 in cc
-same_from numbers distinct (Some v) (Some w) a b h k e =
+same_from : (numbers : Numbers) → IsOneToOne numbers → (x y a b : CellValue) → IsNumbered numbers x a → IsNumbered numbers y b → a ≡ b → x ≡ y
+same_from numbers one_to_one None None a b h k e = refl
+same_from numbers one_to_one None (Some w) a b h k e = let other = k.2 in cc
+same_from numbers one_to_one (Some v) None a b h k e = let other = h.2 in cc
+same_from numbers one_to_one (Some v) (Some w) a b h k e =
     let one = h.2 in
     let other = k.2 in
     let same : k.0 ≡ h.0 = cc in
-    ap Some (distinct.apart v w h.0 h.1 (k.1 ∙ ap Some same))
+    ap Some (one_to_one.apart v w h.0 h.1 (k.1 ∙ ap Some same))
 
+-- a category becomes a number
 some_to : (numbers : Numbers) (x y : CellValue) → IsNumbered numbers x y → IsSome x → IsSome y
 some_to numbers None y h some = cc
 some_to numbers (Some v) y h some = rw h.2 refl
 
+-- only a category becomes a number
 some_from : (numbers : Numbers) (x y : CellValue) → IsNumbered numbers x y → IsSome y → IsSome x
 some_from numbers None y h some = rw h at some
 some_from numbers (Some v) y h some = refl
 
 -- a map of the numbers of categories is a numbering of areas
-pub IsWeakClumping-numbered : (numbers : Numbers) (map : Grid) (region : RegionValue) (rows : List (List CellValue)) → IsDistinct numbers → region ≡ map.region → length map.rows ≡ length rows → IsNumberedTo numbers map.rows rows (length rows) → IsWeakClumping map (record { region = region; rows = rows; labels = no_labels })
-IsWeakClumping-numbered numbers map region rows distinct same long numbered = record {
+pub IsWeakClumping-numbered : (numbers : Numbers) (map : Grid) (region : RegionValue) (rows : List (List CellValue)) → IsOneToOne numbers → region ≡ map.region → length map.rows ≡ length rows → IsNumberedTo numbers map.rows rows (length rows) → IsWeakClumping map (record { region = region; rows = rows; labels = no_labels })
+IsWeakClumping-numbered numbers map region rows one_to_one same long numbered = record {
   region = same;
   labels = refl;
   nulls = λ p. (null_from numbers _ _ (each p), null_to numbers _ _ (each p));
@@ -86,7 +90,7 @@ IsWeakClumping-numbered numbers map region rows distinct same long numbered = re
   };
   one_category = λ p q alike. record {
     category = some_from numbers _ _ (each p) alike.category;
-    same = same_from numbers distinct _ _ _ _ (each p) (each q) alike.same;
+    same = same_from numbers one_to_one _ _ _ _ (each p) (each q) alike.same;
   };
 }
   where

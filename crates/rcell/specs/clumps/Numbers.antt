@@ -11,7 +11,7 @@ abbrev pub Numbers : Type 0
 Numbers = HashMap ℤ ℕ (BuildHasherDefault FoldHasher)
 
 -- no two categories have one number, and none is above the number of categories
-pub record IsDistinct (numbers : Numbers) : Type 0 where
+pub record IsOneToOne (numbers : Numbers) : Type 0 where
   pub apart : (v w : ℤ) (n : ℕ) → get int_eq numbers v ≡ Some n → get int_eq numbers w ≡ Some n → v ≡ w
   pub most : (v : ℤ) (n : ℕ) → get int_eq numbers v ≡ Some n → n ≤ hash_map_len numbers
 

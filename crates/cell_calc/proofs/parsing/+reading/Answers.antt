@@ -35,22 +35,22 @@ arguments-returns-clause-ok t c =
     (arguments c.in_ok-tree.ensures.ok (another_reads (term_of c.in_ok-tree.tree) c.in_ok-tree.rest.now c.in-Some-after_sign.after.now (GotAll (terms_of c.in_ok-others.others) c.in_ok-others.left.now) c.in-Some-after_sign.ensures.some c.in_ok-others.ensures.ok))
 
 pub call-returns-in_default-clause-err : goal.call-returns-in_default-clause-err
-call-returns-in_default-clause-err t c = unknown_reads c.args.name.now c.args.tokens.now c.args.inside.now c.requires (ap function_of (sym c.bytes.ensures) ∙ sym c.function_of.ensures ∙ c.in_default.is)
+call-returns-in_default-clause-err t c = unknown_reads c.args.name.now c.args.tokens.now c.args.inside.now c.requires (ap function_of (sym c.bytes.ensures.value) ∙ sym c.function_of.ensures ∙ c.in_default.is)
 
 pub call-returns-in_err-arguments-clause-err : goal.call-returns-in_err-arguments-clause-err
 call-returns-in_err-arguments-clause-err t c =
     let p = err_from_is_err_and c.from_residual.result c.from_residual.ensures.1 in
     rw (p.1, p.2)
-    (stop_on (Called c.args.inside.now) (Operand c.args.tokens.now) (λ kind rest r. call_reads c.args.name.now c.args.tokens.now c.args.inside.now c.in-Some.function (Stops kind rest) c.requires (ap function_of (sym c.bytes.ensures) ∙ sym c.function_of.ensures ∙ c.in-Some.is) r) _ c.in_err-arguments.ensures.err)
+    (stop_on (Called c.args.inside.now) (Operand c.args.tokens.now) (λ kind rest r. call_reads c.args.name.now c.args.tokens.now c.args.inside.now c.in-Some.function (Stops kind rest) c.requires (ap function_of (sym c.bytes.ensures.value) ∙ sym c.function_of.ensures ∙ c.in-Some.is) r) _ c.in_err-arguments.ensures.err)
 
 pub call-returns-then-accepts-clause-ok : goal.call-returns-then-accepts-clause-ok
 call-returns-then-accepts-clause-ok t c =
-    call_accepted c.args.name.now c.args.tokens.now c.args.inside.now c.in_ok-arguments.rest.now c.in-Some.function (terms_of c.in_ok-arguments.arguments) c.requires (ap function_of (sym c.bytes.ensures) ∙ sym c.function_of.ensures ∙ c.in-Some.is) c.in_ok-arguments.ensures.ok
+    call_accepted c.args.name.now c.args.tokens.now c.args.inside.now c.in_ok-arguments.rest.now c.in-Some.function (terms_of c.in_ok-arguments.arguments) c.requires (ap function_of (sym c.bytes.ensures.value) ∙ sym c.function_of.ensures ∙ c.in-Some.is) c.in_ok-arguments.ensures.ok
     (ap (accepts c.in-Some.function) (sym c.len.ensures) ∙ sym c.accepts.ensures ∙ c.if-accepts.true)
 
 pub call-returns-clause-err : goal.call-returns-clause-err
 call-returns-clause-err t c =
-    call_refused c.args.name.now c.args.tokens.now c.args.inside.now c.in_ok-arguments.rest.now c.in-Some.function (terms_of c.in_ok-arguments.arguments) c.requires (ap function_of (sym c.bytes.ensures) ∙ sym c.function_of.ensures ∙ c.in-Some.is) c.in_ok-arguments.ensures.ok
+    call_refused c.args.name.now c.args.tokens.now c.args.inside.now c.in_ok-arguments.rest.now c.in-Some.function (terms_of c.in_ok-arguments.arguments) c.requires (ap function_of (sym c.bytes.ensures.value) ∙ sym c.function_of.ensures ∙ c.in-Some.is) c.in_ok-arguments.ensures.ok
     (ap (accepts c.in-Some.function) (sym c.len.ensures) ∙ sym c.accepts.ensures ∙ c.if-accepts.false)
 
 pub called-returns-in-Some-clause-ok : goal.called-returns-in-Some-clause-ok

@@ -14,7 +14,7 @@ loop-r-preserved c =
       region = search rules;
       count = rw (grown, length_push) (omega (arith, c.loop-r.invariant.count));
       width = search rules;
-      distinct = c.in_ok-number_row.ensures.distinct;
+      one_to_one = c.in_ok-number_row.ensures.one_to_one;
       most = most_more _ _ _ _ _ c.in_ok-number_row.ensures.more width c.loop-r.invariant.most;
     }
 
@@ -23,5 +23,5 @@ returns c =
     let map = c.args.map.now in
     let rows : c.rows-r-end.result ≡ map.region.rows = rw c.region-region.ensures.value at c.rows-r-end.ensures.value in
     let long : length map.rows ≡ length c.loop-r.builder.rows = omega (arith, c.region-region.ensures.filled.count) in
-    rw c.finish.ensures (IsWeakClumping-numbered c.loop-r.numbers map c.loop-r.builder.region c.loop-r.builder.rows c.loop-r.invariant.distinct c.loop-r.invariant.region long
+    rw c.finish.ensures (IsWeakClumping-numbered c.loop-r.numbers map c.loop-r.builder.region c.loop-r.builder.rows c.loop-r.invariant.one_to_one c.loop-r.invariant.region long
     (λ r k lt. c.loop-r.invariant.numbered r k (omega arith)))
