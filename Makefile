@@ -11,8 +11,8 @@ SOURCES = crates.txt $(shell find crates -path '*/out' -prune -o -type f -print)
 all: bin/rcell
 
 bin/rcell: $(SOURCES)
+	mkdir -p bin $(PROGRAM)/out
 	cd $(PROGRAM) && rt run -- data/script g=data/g.txt > out/example 2> out/build.log || { cat out/build.log; exit 1; }
-	mkdir -p bin
 	cp $(PROGRAM)/out/rcell_program bin/rcell
 
 example: bin/rcell

@@ -7,6 +7,7 @@ A case is a folder with the files that the program reads and
     stderr   what it must tell; no file: nothing
     status   its exit status; no file: 0
     output   where its standard output goes in place of a pipe that is read: a path, or `closed` for a closed pipe
+    spaces   lines FILE COUNT: so many spaces go behind what the file has
     whole    an empty file where the growths are not refused in turn, as the case is large
 The last line is 'N passed, M failed'.
 """
@@ -19,7 +20,7 @@ import tempfile
 
 ROOT = os.path.dirname(os.path.dirname(os.path.abspath(__file__)))
 PROGRAM = f"{ROOT}/bin/rcell"
-OUR_OWN = ("args", "stdout", "stderr", "status", "output", "whole")
+OUR_OWN = ("args", "stdout", "stderr", "status", "output", "spaces", "whole")
 
 
 def read(path, otherwise=b""):
@@ -75,6 +76,9 @@ def judge(case, room, shim):
     folder = f"{room}/folder"
     shutil.rmtree(folder, ignore_errors=True)
     shutil.copytree(case, folder, ignore=shutil.ignore_patterns(*OUR_OWN))
+    for name, count in (line.split() for line in read(f"{case}/spaces").decode().splitlines()):
+        with open(f"{folder}/{name}", "ab") as file:
+            file.write(b" " * int(count))
     wanted = int(read(f"{case}/status", b"0")), read(f"{case}/stdout"), read(f"{case}/stderr")
     got = run(case, folder)
     for what, is_so, must_be in zip(("status", "output", "told"), got, wanted):

@@ -105,13 +105,12 @@ fn boxed<'a, T: Drop>(alloc: Global, value: T) -> Result<Box<T>, Stop<'a>>
     }
 }
 
-// A name that was read as one: only memory can be wanting.
 fn copied<'a>(alloc: Global, name: &Name) -> Result<Name, Stop<'a>>
     ensures ok { IfOk result (λ copy. copy ≡ name.now) }
     ensures err { IfErr result (λ e. e ≡ Memory) }
 {
-    match Name::read(alloc, name.bytes()) {
-        Ok(name) => Ok(name),
+    match name.copy(alloc) {
+        Ok(copy) => Ok(copy),
         Err(_) => Err(Stop::Memory),
     }
 }

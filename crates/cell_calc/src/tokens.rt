@@ -1,6 +1,6 @@
 //! Cuts an assignment into its tokens.
 
-ghost use Rattle.std.specs.Prelude.{◌≡◌, ℕ, ◌+◌, ◌<◌, ◌≤◌, ◌⊎◌, IfOk, IfErr, IsTrue, Ok, if◌then◌else◌, true, length, min, false, nat_eq, List, [], ◌∷◌, ◌||◌, ◌==◌};
+ghost use Rattle.std.specs.Prelude.{◌≡◌, ◌+◌, ◌<◌, ◌≤◌, IfOk, IfErr, IsTrue, Ok, true, length, min, false, nat_eq, [], ◌∷◌, ◌||◌, ◌==◌};
 ghost use Rattle.std.specs.List.{list_all, list_any, prefix_len, starts_with};
 ghost use Rattle.cell_core.specs.Name.{is_name_start, is_name_byte, starts_name};
 ghost use Rattle.cell_calc.specs.Spelling.{AreSpelled, ListIsSpelled};

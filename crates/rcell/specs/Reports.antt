@@ -1,5 +1,5 @@
 -- Where a fault of a run is told, and by what text.
-use Rattle.std.specs.Prelude.{ℕ, List, [], Option, Some, None, codes, slice_get, unwrap_or}
+use Rattle.std.specs.Prelude.{ℕ, List, [], codes, slice_get, unwrap_or}
 use Rattle.rcell.specs.declared.runs.outcome.RunFault.{RunFault}
 use Rattle.rcell.specs.declared.runs.outcome.RunFault.TheVariants.{GridTwice, GridRegion, Grid, ScriptRead, ScriptSize, Script, Memory, Write}
 use Rattle.rcell.specs.declared.report.FaultText.{FaultText}

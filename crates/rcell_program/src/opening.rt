@@ -1,6 +1,6 @@
 //! The files that a request names.
 
-ghost use Rattle.std.specs.Prelude.{◌<◌, vec_len, IfOk};
+ghost use Rattle.std.specs.Prelude.{◌<◌, vec_len};
 
 use crate::refusal::Refusal;
 use crate::words::Request;

@@ -1,7 +1,6 @@
 //! Why no run was started.
 
 ghost use Rattle.std.specs.Prelude.{◌≡◌};
-ghost use Rattle.rcell.specs.Reports.{name_at};
 ghost use Rattle.rcell_program.specs.Refusals.{status_of, source_of, line_of};
 
 use cell_core::name::Name;

@@ -1,6 +1,6 @@
 //! The printed table, on sinks with and without room.
 
-ghost use Rattle.std.specs.Prelude.{◌≡◌, [], ◌∷◌, length};
+ghost use Rattle.std.specs.Prelude.{◌≡◌};
 
 use cell_core::cell::Cell;
 use cell_core::map::MapBuilder;

@@ -1,6 +1,6 @@
 -- Capped numbers denote the cells that the whole ones do.
-use Rattle.std.proofs.Common.{◌≡◌, ℕ, ℤ, pos, Bool, true, false, List, [], ◌∷◌, ap, sym, ◌∙◌, refl, arith, Option, Some, None, Ok, Err, if◌then◌else◌}
-use Rattle.std.specs.Prelude.{neg_ℤ, ◌*ℤ◌, ◌==◌}
+use Rattle.std.proofs.Common.{◌≡◌, ℕ, ℤ, pos, Bool, true, false, List, [], ◌∷◌, ap, sym, ◌∙◌, refl, arith, Option, Some, None, Err, if◌then◌else◌}
+use Rattle.std.specs.Prelude.{neg_ℤ, ◌==◌}
 use Rattle.std.specs.Option.{option_map}
 use Rattle.std.proofs.lemmas.Bool.Decides.{nat_tests}
 use Rattle.std.proofs.lemmas.Int.{ints}

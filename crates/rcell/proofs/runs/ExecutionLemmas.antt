@@ -2,11 +2,9 @@
 use Rattle.std.proofs.Common.{◌≡◌, ℕ, suc, ◌+◌, ◌<◌, List, [], ◌∷◌, ◌++◌, length, take, drop, get_or, Option, refl, ap, sym, ◌∙◌, arith, add-one, append-nil, append_assoc, length-append, take-append-drop, All}
 use Rattle.std.proofs.Math.Seq.{drop-cons}
 use Rattle.std.proofs.lemmas.Grind.{flat_map-append}
-use Rattle.std.proofs.lemmas.List.{take_more}
-use Rattle.cell_core.specs.Device.{append_known}
 use Rattle.cell_core.specs.Shelf.{ShelfValue}
-use Rattle.rcell.specs.output.Blocks.{BlockValue, Gathered, IsPut, IsCut, Gathers, PutsAll, capped}
-use Rattle.rcell.specs.runs.Execution.{Puts, PutsCut, IsStopped, IsBefore, Stops}
+use Rattle.rcell.specs.output.Blocks.{BlockValue, Gathered, IsPut, Gathers, PutsAll}
+use Rattle.rcell.specs.runs.Execution.{Puts, IsStopped, IsBefore, Stops}
 use Rattle.rcell.specs.runs.Output.{output_of, statement_text}
 use Rattle.rcell.specs.declared.script.statement.Statement.{Statement}
 use Rattle.rcell.specs.declared.runs.execution.Stop.{Stop}

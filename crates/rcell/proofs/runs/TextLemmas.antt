@@ -1,10 +1,10 @@
 -- The text of a script, block by block.
-use Rattle.std.proofs.Common.{◌≡◌, ℕ, ◌+◌, ◌≤◌, ◌<◌, Bool, true, false, cond, List, [], ◌∷◌, ◌++◌, length, take, drop, Option, Some, None, Result, Ok, Err, IfSome, refl, ap, sym, ◌∙◌, arith, append_assoc, append-nil, length-append, take-append-drop}
+use Rattle.std.proofs.Common.{◌≡◌, ℕ, ◌+◌, ◌≤◌, ◌<◌, true, false, List, ◌++◌, length, take, drop, Option, Some, None, Result, Ok, Err, IfSome, refl, ap, sym, ◌∙◌, arith, append_assoc, append-nil, length-append, take-append-drop}
 use Rattle.std.specs.Prelude.{nat_lt}
 use Rattle.std.specs.Option.{option_map}
 use Rattle.std.proofs.lemmas.Bool.Decides.{nat_tests}
 use Rattle.cell_core.specs.declared.device.DeviceFault.{DeviceFault}
-use Rattle.cell_core.specs.Device.{Coming, Takes, Gives, FailsNow, after_bytes}
+use Rattle.cell_core.specs.Device.{Coming, Takes, after_bytes}
 use Rattle.rcell.specs.runs.Outcomes.{script_text}
 use Rattle.rcell.specs.declared.runs.outcome.RunFault.{RunFault}
 use Rattle.rcell.specs.declared.runs.outcome.RunFault.TheVariants.{ScriptRead, ScriptSize}

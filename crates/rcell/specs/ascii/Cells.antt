@@ -4,7 +4,7 @@ use Rattle.cell_core.specs.Device.{Coming}
 use Rattle.cell_core.specs.Grid.{CellValue, Grid, no_labels}
 use Rattle.rcell.specs.ascii.Words.{Start, Begins, Ends, Stops, start_of, word_from, fault}
 use Rattle.rcell.specs.ascii.Numbers.{whole_number, is_in_range}
-use Rattle.rcell.specs.ascii.Header.{At, Header, Opened, header_of_text, ◌>>=◌}
+use Rattle.rcell.specs.ascii.Header.{At, Header, header_of_text, ◌>>=◌}
 use Rattle.rcell.specs.declared.ascii.fault.GridKind.{GridKind}
 use Rattle.rcell.specs.declared.ascii.fault.GridKind.TheVariants.{BadCell, CellRange, TooFew, TooMany}
 use Rattle.rcell.specs.declared.ascii.fault.GridFault.{GridFault}

@@ -1,5 +1,5 @@
 -- Which byte texts denote which maps (r.in.ascii manual: header lines, then the cells row by row; the limits are the profile's).
-use Rattle.std.specs.Prelude.{ℕ, ℤ, ◌≡◌, ◌+◌, ◌*◌, ◌<◌, ◌≤◌, Bool, true, false, not, ◌==◌, List, [], ◌∷◌, ◌++◌, length, map, drop, All, Option, Some, None, Result, Ok, Err, IsTrue, IsSome, bytes_eq, codes, slice_get}
+use Rattle.std.specs.Prelude.{ℕ, ◌≡◌, ◌+◌, ◌*◌, ◌<◌, ◌≤◌, Bool, true, false, not, ◌==◌, List, [], ◌∷◌, ◌++◌, length, map, drop, All, Option, Some, Ok, IsTrue, IsSome, bytes_eq, codes, slice_get}
 use Rattle.std.specs.List.{slice_split, filter, flat_map, list_any, list_all, find, take_while, prefix_len, before_first, after_first, IsDistinct}
 use Rattle.std.specs.Option.{option_and_then, option_map}
 use Rattle.cell_core.specs.Device.{Coming}

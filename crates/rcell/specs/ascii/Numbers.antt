@@ -1,5 +1,5 @@
 -- Whole numbers and coordinates in decimal (r.in.ascii manual; the numbers of digits are the profile's).
-use Rattle.std.specs.Prelude.{ℕ, ℤ, pos, negsuc, neg_ℤ, int_le, ◌+◌, ◌-◌, ◌*◌, ◌^◌, min, Bool, true, false, nat_le, ◌&&◌, ◌==◌, List, [], ◌∷◌, fold, length, Option, Some, None, if◌then◌else◌}
+use Rattle.std.specs.Prelude.{ℕ, ℤ, pos, negsuc, neg_ℤ, int_le, ◌+◌, ◌-◌, ◌*◌, ◌^◌, Bool, nat_le, ◌&&◌, ◌==◌, List, [], ◌∷◌, fold, length, Option, Some, None, if◌then◌else◌}
 use Rattle.std.specs.List.{list_all, before_first, after_first}
 use Rattle.std.specs.Option.{option_map}
 

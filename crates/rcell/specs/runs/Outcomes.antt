@@ -1,5 +1,5 @@
 -- What a run answers: the whole output, or the first fault of what it is given.
-use Rattle.std.specs.Prelude.{ℕ, ◌≡◌, Bool, true, false, nat_lt, List, [], length, Option, Some, None, IfSome, Result, Ok, Err, if◌then◌else◌}
+use Rattle.std.specs.Prelude.{ℕ, ◌≡◌, Bool, false, nat_lt, List, [], length, Option, Some, None, IfSome, Result, Ok, Err, if◌then◌else◌}
 use Rattle.cell_core.specs.Device.{Coming, append_known}
 use Rattle.cell_core.specs.Shelf.{ShelfValue}
 use Rattle.rcell.specs.script.Statements.{script_of}
@@ -12,7 +12,7 @@ use Rattle.rcell.specs.runs.Loading.{shelf_of}
 use Rattle.rcell.specs.runs.Output.{output_of}
 use Rattle.rcell.specs.declared.runs.outcome.Outcome.{Outcome}
 use Rattle.rcell.specs.declared.runs.outcome.RunFault.{RunFault}
-use Rattle.rcell.specs.declared.runs.outcome.RunFault.TheVariants.{GridTwice, ScriptRead, ScriptSize, Script}
+use Rattle.rcell.specs.declared.runs.outcome.RunFault.TheVariants.{ScriptRead, ScriptSize, Script}
 
 -- a script has at most 1048576 bytes, and its reader ends
 abbrev pub script_text : Coming → Result (List ℕ) RunFault

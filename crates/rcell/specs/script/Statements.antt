@@ -1,5 +1,5 @@
 -- Which texts are scripts, and of which statements.
-use Rattle.std.specs.Prelude.{ℕ, ◌+◌, ◌<◌, ◌==◌, Bool, true, false, nat_lt, List, [], ◌∷◌, All, length, map, Option, Some, None, Result, Ok, Err, if◌then◌else◌, bytes_eq, codes}
+use Rattle.std.specs.Prelude.{ℕ, ◌+◌, ◌<◌, ◌==◌, Bool, false, nat_lt, List, [], ◌∷◌, All, length, Option, Some, None, Result, Ok, Err, if◌then◌else◌, bytes_eq, codes}
 use Rattle.std.specs.Option.{option_map, option_and_then}
 use Rattle.cell_core.specs.Name.{place_of}
 use Rattle.rcell.specs.script.Lines.{script_lines, words_of}

@@ -1,6 +1,6 @@
 //! What the header of a grid text says of its cells.
 
-ghost use Rattle.std.specs.Prelude.{◌≡◌, ℤ, Some};
+ghost use Rattle.std.specs.Prelude.{◌≡◌, Some};
 ghost use Rattle.rcell.specs.ascii.Header.{plain};
 ghost use Rattle.rcell.specs.ascii.Cells.{cell_of_word, cell_of_number};
 ghost use Rattle.rcell.specs.ascii.Capped.{cell_in_range};

@@ -1,6 +1,6 @@
 //! Bytes of a source, one at a time.
 
-ghost use Rattle.std.specs.Prelude.{◌≡◌, ℕ, ◌<◌, ◌≤◌, List, [], ◌∷◌, drop, length, OnErr, IfOk, IfSome, IfNone, OnOk, Some, slice_get, true, false};
+ghost use Rattle.std.specs.Prelude.{◌≡◌, ◌<◌, ◌≤◌, [], drop, length, OnErr, IfOk, IfSome, IfNone, Some, slice_get, true, false};
 ghost use Rattle.rcell.specs.ascii.Ahead.{Ahead, to_come, IsAtEnd};
 
 use cell_core::device::DeviceFault;

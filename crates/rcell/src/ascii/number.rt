@@ -1,6 +1,6 @@
 //! Whole numbers and coordinates in decimal.
 
-ghost use Rattle.std.specs.Prelude.{◌≡◌, ℕ, ℤ, pos, negsuc, ◌≤ℤ◌, ◌&&◌, ◌==◌, ◌+◌, ◌*◌, ◌<◌, ◌≤◌, ◌^◌, true, nat_le, length, Option, IfSome, IsTrue};
+ghost use Rattle.std.specs.Prelude.{◌≡◌, ◌&&◌, ◌==◌, ◌+◌, ◌*◌, ◌<◌, ◌≤◌, ◌^◌, nat_le, length, Option, IfSome};
 ghost use Rattle.std.specs.List.{list_all, position_or_len};
 ghost use Rattle.rcell.specs.ascii.Numbers.{is_digit, value_of_digits, in_units, unsigned_coordinate, coordinate, whole_in_range, is_in_range, side};
 ghost use Rattle.rcell.specs.ascii.Capped.{capped, capped_digits, capped_number};

@@ -1,11 +1,11 @@
 //! The header of a grid text, line by line.
 
-ghost use Rattle.std.specs.Prelude.{◌≡◌, ℕ, ◌+◌, ◌^◌, ◌<◌, ◌≤◌, ◌*◌, false, drop, length, Ok, OnOk, IfOk};
+ghost use Rattle.std.specs.Prelude.{◌≡◌, ◌+◌, ◌^◌, ◌<◌, ◌≤◌, ◌*◌, false, drop, length, Ok, OnOk, IfOk};
 ghost use Rattle.std.specs.List.{position_or_len};
 ghost use Rattle.std.specs.Option.{option_map};
 ghost use Rattle.rcell.specs.ascii.Ahead.{to_come, IsAtEnd};
 ghost use Rattle.rcell.specs.ascii.Words.{start_of};
-ghost use Rattle.rcell.specs.ascii.Header.{gap_of, value_from, line_end, key_line, is_colon, header_from, no_keys};
+ghost use Rattle.rcell.specs.ascii.Header.{gap_of, value_from, line_end, key_line, is_colon, header_from};
 ghost use Rattle.rcell.specs.ascii.Opening.{value_seen, ending_seen, key_line_seen, line_read, line_seen, header_seen};
 
 use crate::ascii::fault::{GridFault, GridKind};

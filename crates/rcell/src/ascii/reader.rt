@@ -1,8 +1,8 @@
 //! Whole grids, read row by row.
 
-ghost use Rattle.std.specs.Prelude.{◌≡◌, ◌≢◌, ℕ, ◌+◌, ◌*◌, ◌^◌, ◌<◌, ◌≤◌, length, Ok, Err, OnOk, IfOk, IfErr, IfSome};
+ghost use Rattle.std.specs.Prelude.{◌≡◌, ◌≢◌, ◌+◌, ◌*◌, ◌^◌, ◌<◌, ◌≤◌, length, Ok, Err, OnOk, IfOk, IfErr, IfSome};
 ghost use Rattle.std.specs.Option.{option_map};
-ghost use Rattle.cell_core.specs.Grid.{no_labels, IsFilled};
+ghost use Rattle.cell_core.specs.Grid.{no_labels};
 ghost use Rattle.rcell.specs.ascii.Ahead.{to_come};
 ghost use Rattle.rcell.specs.ascii.Words.{start_of};
 ghost use Rattle.rcell.specs.ascii.Header.{at_line, header_of, header_of_text};

@@ -1,6 +1,6 @@
 //! Words of a text, with their lines.
 
-ghost use Rattle.std.specs.Prelude.{true, false, ◌≡◌, ℕ, ◌+◌, ◌-◌, ◌^◌, ◌<◌, ◌≤◌, List, [], length, Ok, IfOk};
+ghost use Rattle.std.specs.Prelude.{true, false, ◌≡◌, ◌+◌, ◌-◌, ◌^◌, ◌<◌, ◌≤◌, [], length, Ok, IfOk};
 ghost use Rattle.std.specs.Option.{option_map};
 ghost use Rattle.rcell.specs.ascii.Ahead.{to_come, IsAtEnd};
 ghost use Rattle.rcell.specs.ascii.Words.{is_space, start_of, word_from};

@@ -1,6 +1,6 @@
 //! Output gathered in a block, so that each put carries a few KiB.
 
-ghost use Rattle.std.specs.Prelude.{◌≡◌, ℕ, ◌+◌, ◌-◌, ◌^◌, ◌<◌, ◌≤◌, ◌||◌, List, [], ◌++◌, length, take, min, Option, OnOk, OnErr, IfOk, IfErr, is_err};
+ghost use Rattle.std.specs.Prelude.{◌≡◌, ℕ, ◌+◌, ◌-◌, ◌<◌, ◌≤◌, ◌||◌, List, [], ◌++◌, length, take, Option, OnOk, IfOk, IfErr, is_err};
 ghost use Rattle.cell_core.specs.Device.{append_known};
 ghost use Rattle.rcell.specs.output.Blocks.{BlockValue, Gathered, Gathers, Empties, PutsAll, Cuts, CutsOff, capped, empty_block};
 

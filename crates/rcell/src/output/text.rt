@@ -1,6 +1,6 @@
 //! The printed form of a table.
 
-ghost use Rattle.std.specs.Prelude.{◌≡◌, ◌||◌, List, [], ◌∷◌, ◌++◌, decimal, flat_map, OnOk, IfErr, is_err};
+ghost use Rattle.std.specs.Prelude.{◌≡◌, ◌||◌, [], ◌∷◌, ◌++◌, decimal, OnOk, IfErr, is_err};
 ghost use Rattle.rcell.specs.output.Blocks.{Gathers, CutsOff};
 ghost use Rattle.rcell.specs.output.TableText.{cell_text, field_text, line_text, table_text};
 

@@ -1,6 +1,6 @@
 //! The shelf of the grids.
 
-ghost use Rattle.std.specs.Prelude.{◌≡◌, ◌≢◌, ◌+◌, ◌<◌, IsSome, OnOk, IfOk, IfErr, Ok, Err, Some, length, vec_len};
+ghost use Rattle.std.specs.Prelude.{◌≡◌, ◌+◌, ◌<◌, IsSome, IfOk, IfErr, Ok, Err, Some, length, vec_len};
 ghost use Rattle.cell_core.specs.Name.{place_of};
 ghost use Rattle.rcell.specs.ascii.Cells.{grid_of};
 ghost use Rattle.rcell.specs.runs.Faults.{IsOfInput, IsBeforeExecution};

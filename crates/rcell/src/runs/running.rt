@@ -1,6 +1,6 @@
 //! A run, from bytes to bytes.
 
-ghost use Rattle.std.specs.Prelude.{◌≡◌, ◌≢◌, ℕ, ◌<◌, ◌||◌, List, All, length, false, true, IsNone, IsSome, IfSome, IfOk, IfErr, Ok, Err, Some, None, vec_len};
+ghost use Rattle.std.specs.Prelude.{◌≡◌, ℕ, ◌<◌, List, All, length, true, IsNone, IsSome, IfSome, IfOk, IfErr, Ok, Err, Some, None, vec_len};
 ghost use Rattle.cell_core.specs.Device.{append_known};
 ghost use Rattle.cell_core.specs.Shelf.{ShelfValue};
 ghost use Rattle.rcell.specs.output.Blocks.{IsCut, capped};

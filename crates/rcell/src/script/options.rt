@@ -1,9 +1,8 @@
 //! The options of a statement.
 
-ghost use Rattle.std.specs.Prelude.{◌≡◌, ◌≢◌, IfOk, IfErr, All, length, map, nat_lt, ◌==◌};
+ghost use Rattle.std.specs.Prelude.{◌≡◌, ◌≢◌, IfOk, IfErr, map, ◌==◌};
 ghost use Rattle.std.specs.List.{list_all};
 ghost use Rattle.std.specs.Option.{option_map};
-ghost use Rattle.cell_core.specs.Name.{is_name};
 ghost use Rattle.rcell.specs.script.Lines.{parts_of};
 ghost use Rattle.rcell.specs.script.Options.{no_options, are_flags, inputs_of, names_from, pair_of, with_pair, with_word};
 

@@ -1,9 +1,8 @@
 //! From the text of a script to its statements.
 
-ghost use Rattle.std.specs.Prelude.{◌≡◌, ◌≢◌, IfOk, IfErr, Ok, Err, ◌+◌, ◌<◌, ◌^◌, All, length, map, IfSome, Some, None};
-ghost use Rattle.cell_core.specs.Name.{place_of};
+ghost use Rattle.std.specs.Prelude.{◌≡◌, ◌≢◌, IfOk, IfErr, Ok, Err, ◌+◌, ◌<◌, All, length, map, IfSome, Some, None};
 ghost use Rattle.rcell.specs.script.Options.{with_words, no_options};
-ghost use Rattle.rcell.specs.script.Statements.{places_of, stats_of, stats_if, command_of, line_command, statements_from, script_of, ReadsWithin, is_note};
+ghost use Rattle.rcell.specs.script.Statements.{places_of, stats_of, stats_if, command_of, line_command, script_of, ReadsWithin, is_note};
 
 use crate::script::fault::{ScriptFault, ScriptKind};
 use crate::script::options::Options;

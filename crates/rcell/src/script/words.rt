@@ -2,7 +2,7 @@
 
 ghost use Rattle.std.specs.Prelude.{◌≡◌, IfOk, map};
 ghost use Rattle.std.specs.List.{slice_split};
-ghost use Rattle.rcell.specs.script.Lines.{is_blank, is_word, words_of, parts_of, script_lines};
+ghost use Rattle.rcell.specs.script.Lines.{is_blank, words_of, parts_of, script_lines};
 
 use bstr::ByteSlice;
 use cell_core::memory::Memory;

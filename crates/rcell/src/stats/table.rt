@@ -1,6 +1,6 @@
 //! How often each combination occurs.
 
-ghost use Rattle.std.specs.Prelude.{◌≡◌, ℕ, ◌+◌, ◌-◌, ◌<◌, ◌≤◌, ◌^◌, ◌↔◌, All, OnOk, OnErr, IfOk, IfErr, IsTrue, length, slice_get};
+ghost use Rattle.std.specs.Prelude.{◌≡◌, ◌+◌, ◌-◌, ◌<◌, ◌^◌, ◌↔◌, All, OnOk, OnErr, IfOk, IfErr, IsTrue, length, slice_get};
 ghost use Rattle.std.specs.FinMap.Entries.{is_sorted};
 ghost use Rattle.cell_core.specs.Region.{IsRegion};
 ghost use Rattle.rcell.specs.stats.Combinations.{combination_cmp, combination_at, all_combinations};

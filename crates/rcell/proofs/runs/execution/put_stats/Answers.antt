@@ -1,4 +1,3 @@
-use Rattle.std.proofs.Common.{ap, sym}
 use Rattle.rcell.specs.output.TableText.{table_text}
 use Rattle.rcell.proofs.runs.ExecutionLemmas.{gathered_then_put}
 use Rattle.rcell.proofs.runs.execution.put_stats.Goals as goal

@@ -1,4 +1,3 @@
-use Rattle.std.proofs.Common.{ap, sym, ◌∙◌, subst, ◌≡◌, ◌≢◌, rules}
 use Rattle.rcell.proofs.runs.LoadingLemmas.{added-other}
 use Rattle.rcell.proofs.runs.loading.added.Goals as goal
 

@@ -1,4 +1,4 @@
-use Rattle.std.proofs.Common.{◌≡◌, ◌<◌, ◌+◌, length, vec_len, None, IsSome}
+use Rattle.std.proofs.Common.{◌≡◌, ◌<◌, ◌+◌, vec_len, None, IsSome}
 use Rattle.rcell.specs.runs.Sources.{AllKnown, known_of}
 use Rattle.rcell.specs.runs.Loading.{shelf_from}
 use Rattle.rcell.proofs.runs.loading.load.Given as goal

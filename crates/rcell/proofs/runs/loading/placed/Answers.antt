@@ -1,7 +1,3 @@
-use Rattle.std.proofs.Common.{subst, sym, IfErr, Err, Option, ◌≡◌}
-use Rattle.cell_core.specs.Shelf.{ShelfValue}
-use Rattle.rcell.specs.runs.Faults.{IsOfInput}
-use Rattle.rcell.specs.runs.Loading.{placed}
 use Rattle.rcell.proofs.runs.LoadingLemmas.{first_fault}
 use Rattle.rcell.proofs.runs.loading.placed.Goals as goal
 

@@ -1,4 +1,4 @@
-use Rattle.std.proofs.Common.{rules, arith}
+use Rattle.std.proofs.Common.{arith}
 use Rattle.rcell.proofs.script.StatementLemmas.{script_of-left}
 use Rattle.rcell.proofs.script.parsing.parse_script.Goals as goal
 

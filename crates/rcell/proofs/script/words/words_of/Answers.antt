@@ -1,4 +1,3 @@
-use Rattle.std.proofs.Common.{refl}
 use Rattle.rcell.proofs.script.LineLemmas.{kept, left_out}
 use Rattle.rcell.proofs.script.words.words_of.Goals.{then-not-is_empty+in_ok-push, else-not-is_empty}
 use Rattle.rcell.proofs.script.words.words_of.Goals as goal
