@@ -98,3 +98,21 @@ fn a_thousand_tokens_are_read(rt: HostRuntime) -> Result<(), Fail> {
     }
     Ok(())
 }
+
+// The longest text, of 999 tokens with blanks behind them, a hundred times: bench/parse.py times this test.
+#[test]
+fn the_longest_text_is_read(rt: HostRuntime) -> Result<(), Fail> {
+    let alloc = rt.alloc();
+    let mut text = b"x = 1".to_vec(alloc)?;
+    for _ in 0..498 {
+        text.extend_from_slice(b" + 1")?;
+    }
+    for _ in text.len()..65535 {
+        text.push(b' ').map_err(|_| "no memory")?;
+    }
+    assert_eq!(rt; text.len(), 65535);
+    for _ in 0..100 {
+        assert_eq!(rt; fault_of(alloc, text.as_slice()), None);
+    }
+    Ok(())
+}

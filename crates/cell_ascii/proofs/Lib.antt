@@ -1,0 +1,15 @@
+pub mod LexemeLemmas
+pub mod DataLawLemmas
+pub mod KeyLawLemmas
+pub mod HeaderLawLemmas
+pub mod LimitLawLemmas
+pub mod GridCellLemmas
+pub mod TextLawLemmas
+pub mod GridLawLemmas
+pub mod SeenLemmas
+pub mod PlaceWordLemmas
+pub mod PlaceDataLemmas
+pub mod PlaceKeyLemmas
+pub mod PlaceHeaderLemmas
+pub mod GridFaultLemmas
+pub mod ExampleLemmas

@@ -1,0 +1,26 @@
+//! What the reading of a grid text means.
+
+ghost use Rattle.cell_ascii.specs.GridLaw.{FaultsAgree, OpeningAgrees, ReadingAgrees, TextsAreJudged};
+
+/// The reading of a text gives a map exactly where the text denotes that map
+/// (r.in.ascii manual: header lines, then the cells row by row).
+pub fn reading_denotes()
+    ensures { ReadingAgrees }
+{}
+
+/// The reading of a text gives a fault exactly where the first byte or end that tells one
+/// tells that fault, with its line.
+pub fn reading_faults()
+    ensures { FaultsAgree }
+{}
+
+/// The header of a text, up to the end of the first token of the data, is read with a fault
+/// exactly where a place up to there tells that fault, those about cells left out.
+pub fn opening_faults()
+    ensures { OpeningAgrees }
+{}
+
+/// A text denotes one map and tells no fault, or tells one fault and denotes no map.
+pub fn texts_are_judged()
+    ensures { TextsAreJudged }
+{}

@@ -1,0 +1,6 @@
+//! Grid texts: the reader.
+#![tactic(auto)]
+
+pub mod fault;
+pub mod key;
+pub mod law;
