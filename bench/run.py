@@ -39,13 +39,13 @@ def best(programs):
 
 
 def grass(grid):
-    """Seconds on the wall of r.in.ascii and r.stats -c in a new location, or None."""
+    """What `measure` tells of r.in.ascii and r.stats -c in a new location, or None."""
     if not shutil.which("grass"):
         return None
     with tempfile.TemporaryDirectory() as room:
         subprocess.run(["grass", "-e", "-c", "XY", f"{room}/here"], check=True, capture_output=True)
         words = ["grass", f"{room}/here/PERMANENT", "--exec", "sh", "-c",
-                 f"r.in.ascii -i input={grid} output=g --quiet && g.region raster=g && r.stats -c input=g --quiet"]
+                 f"r.in.ascii input={grid} output=g type=CELL --quiet && g.region raster=g && r.stats -c input=g --quiet"]
         return measure(words)
 
 
@@ -70,7 +70,8 @@ def main():
     if by_grass is None:
         print("grass: not installed, skipped")
     else:
-        print(f"grass (import and r.stats): {by_grass[0]:.3f} s of processor, {by_grass[1]:.3f} s on the wall")
+        same = "the same table" if by_grass[3] == found["rcell"][3] else "another table"
+        print(f"grass (import and r.stats): {by_grass[0]:.3f} s of processor, {by_grass[1]:.3f} s on the wall, {same}")
 
 
 main()
