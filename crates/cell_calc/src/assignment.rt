@@ -20,7 +20,7 @@ pub struct Assignment {
     pub expr: Expr,
 }
 
-/// Reads `NAME = EXPRESSION` (r.mapcalc manual, without comments, decimals and `eval`).
+/// Reads `NAME = EXPRESSION` (r.mapcalc manual; whole numbers, the operators and functions of specs/Operator and specs/Function).
 ///
 /// # Errors
 ///

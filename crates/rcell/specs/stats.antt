@@ -2,3 +2,4 @@
 pub mod Combinations
 pub mod Places
 pub mod Tables
+pub mod TableLaw

@@ -1,4 +1,5 @@
 //! How often each combination of categories occurs.
 
 pub mod combination;
+pub mod law;
 pub mod table;

@@ -201,7 +201,7 @@ found_among f q (k ∷ cells) =
     one_more : (n : ℕ) → suc n ≡ 1 + n
     one_more n = omega arith
 
-table_of-IsTable : (cells : List Combination) → IsTable cells (table_of cells)
+pub table_of-IsTable : (cells : List Combination) → IsTable cells (table_of cells)
 unfolding table_of
 table_of-IsTable cells =
     let m = finmap.from_entries {R = combination_cmp} (map (λ k. (k, count_of k cells)) cells) in

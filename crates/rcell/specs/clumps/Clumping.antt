@@ -1,4 +1,4 @@
--- A numbering of the areas of a map, in which cells that touch have one category (r.clump manual, "contiguous").
+-- A numbering of the areas of a map: cells of one category that touch at an edge have one number (r.clump manual, "contiguous").
 use Rattle.std.specs.Prelude.{ℕ, ◌+◌, ◌≡◌, ◌⊎◌, ◌↔◌, None, IsSome}
 use Rattle.cell_core.specs.Grid.{Grid, CellValue, cell_at, no_labels}
 

@@ -50,7 +50,7 @@ IsOfMemory (Script fault) = fault.kind ≡ script_kinds.Memory
 IsOfMemory (Memory line) = ⊤
 IsOfMemory Write = ⊥
 
--- a fault that is told before the first statement is executed
+-- a fault that is told before the script was accepted
 abbrev pub IsBeforeExecution : RunFault → Type 0
 IsBeforeExecution (GridTwice grid) = ⊤
 IsBeforeExecution (GridRegion grid) = ⊤
@@ -61,7 +61,7 @@ IsBeforeExecution (Script fault) = ⊤
 IsBeforeExecution (Memory line) = line ≡ 0
 IsBeforeExecution Write = ⊥
 
--- a fault that is told once the first statement is executed
+-- a fault that is told once the script was accepted
 abbrev pub IsInExecution : RunFault → Type 0
 IsInExecution (GridTwice grid) = ⊥
 IsInExecution (GridRegion grid) = ⊥

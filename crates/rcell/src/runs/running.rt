@@ -92,7 +92,8 @@ fn refused(fault: RunFault, written: u64) -> Outcome
 /// Runs a script over grids, and puts out what it asks for.
 ///
 /// The grids are read whole, in their order, then the script, and only then the first statement is executed.
-/// Each statement has all that it needs of memory before its first byte goes out, and the sink is flushed once at the end.
+/// Each statement has all that it needs of memory before its first byte goes out. Where the script was accepted and no
+/// write failed, the sink is flushed once at the end.
 pub fn run<R: Source + Drop, W: Sink>(
     alloc: Global,
     script: R,

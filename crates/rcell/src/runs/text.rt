@@ -11,7 +11,7 @@ use std::alloc::Global;
 /// The most bytes of a script.
 const MOST_BYTES: usize = 1048576;
 
-/// Reads a script whole, and no more than a block beyond its limit.
+/// Reads a script whole, up to one byte more than its limit.
 pub fn read_script<R: Source + Drop>(alloc: Global, mut source: R) -> Result<Vec<u8>, RunFault>
     ensures ok { IfOk result (λ text. IfSome (R.coming source) (λ c. script_text c ≡ Ok text.items)) }
     ensures fault { IfErr result (λ f. IsOfInput f → IfSome (R.coming source) (λ c. script_text c ≡ Err f)) }
@@ -20,7 +20,8 @@ pub fn read_script<R: Source + Drop>(alloc: Global, mut source: R) -> Result<Vec
     let mut text = Vec::new(alloc);
     let mut block = [0u8; 4096];
     'pieces: loop {
-        let count = match source.take(&mut block) {
+        let room = (MOST_BYTES - text.len() + 1).min(4096);
+        let count = match source.take(&mut block[..room]) {
             Ok(count) => count,
             Err(_) => return Err(RunFault::ScriptRead),
         };
