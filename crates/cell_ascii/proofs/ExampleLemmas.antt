@@ -1,13 +1,14 @@
 -- Worked texts: what each denotes, or the fault that it tells.
-use Rattle.std.proofs.Common.{◌≡◌, ℕ, List, [], ◌∷◌, ◌++◌, Option, Some, None, true, false, refl, Ok, pos, negsuc}
+use Rattle.std.proofs.Common.{◌≡◌, Bool, true, false, ℕ, List, [], ◌∷◌, ◌++◌, Option, Some, None, refl, Ok, pos, negsuc}
 use Rattle.std.specs.Prelude.{codes}
 use Rattle.std.specs.List.{flat_map}
 use Rattle.cell_core.specs.Grid.{Grid, no_labels}
 use Rattle.cell_core.specs.declared.region.RegionFault.TheVariants.{BadExtent, BadRows}
 use Rattle.cell_ascii.specs.Words.{start_of, word_from, fault}
-use Rattle.cell_ascii.specs.Header.{header_from, gap_of}
+use Rattle.cell_ascii.specs.Header.{At, Header, header_from, gap_of}
 use Rattle.cell_ascii.specs.Cells.{cell_from, grid_of}
 use Rattle.cell_ascii.specs.GridText.{Denotes}
+use Rattle.cell_ascii.specs.RowPlaces.{cells_fault, end_fault}
 use Rattle.cell_ascii.specs.Places.{Byte, stuck, text_fault, opening_fault}
 use Rattle.cell_ascii.specs.declared.fault.GridFault.{GridFault}
 use Rattle.cell_ascii.specs.declared.fault.GridKind.TheVariants.{BadHeader, TwiceKey, MissingKey, BadNumber, BadType, Region, BadCell, CellRange, TooFew, TooMany, Read, LongToken, ReaderStuck}
@@ -159,3 +160,31 @@ too_wide = refl
 
 widest : stuck 1048575 (Byte 32) ≡ None
 widest = refl
+
+-- the next cells, and the end
+abbrev behind : Option (List ℕ) → List ℕ → Bool → At
+behind pending bs fails = record { pending = pending; line = 8; run = 0; coming = record { bytes = bs; fails = fails } }
+
+abbrev head : Header
+head = record { region = record { north = pos 3; south = pos 0; east = pos 3; west = pos 0; rows = 1; cols = 3 }; null_text = codes "*"; multiplier = pos 1 }
+
+cells_few : cells_fault head 3 (behind (Some (codes "1")) (codes " 2") false) ≡ Some (fault TooFew 8)
+cells_few = refl
+
+cells_bad : cells_fault head 3 (behind (Some (codes "x")) (codes " 2") false) ≡ Some (fault BadCell 8)
+cells_bad = refl
+
+cells_next : cells_fault head 1 (behind (Some (codes "1")) (10 ∷ codes "x") false) ≡ None
+cells_next = refl
+
+cells_later : cells_fault head 2 (behind (Some (codes "1")) (10 ∷ codes "x") false) ≡ Some (fault BadCell 9)
+cells_later = refl
+
+cells_read : cells_fault head 2 (behind None (codes "1") true) ≡ Some (fault Read 8)
+cells_read = refl
+
+end_many : end_fault (behind None (10 ∷ digits ++ codes "5") false) ≡ Some (fault TooMany 9)
+end_many = refl
+
+end_good : end_fault (behind None (10 ∷ 32 ∷ []) false) ≡ None
+end_good = refl

@@ -1,11 +1,15 @@
 -- The law of the faults of a grid text.
-use Rattle.std.proofs.Common.{◌≡◌, Bool, true, false, [], Some, refl, ap, sym, ◌∙◌, arith, Result, Ok, Err, ◌⊎◌, inl, inr}
+use Rattle.std.proofs.Common.{◌≡◌, ◌↔◌, Bool, true, false, [], Option, Some, refl, ap, sym, ◌∙◌, arith, Result, Ok, Err, ◌⊎◌, inl, inr}
 use Rattle.cell_core.specs.Device.{Coming}
 use Rattle.cell_core.specs.Grid.{Grid}
 use Rattle.cell_ascii.specs.Header.{Opened, no_keys, header_of_text, ◌>>=◌}
-use Rattle.cell_ascii.specs.Cells.{grid_of}
+use Rattle.cell_ascii.specs.Words.{start_of}
+use Rattle.cell_ascii.specs.Cells.{cell_from, many, end_of, grid_of}
+use Rattle.cell_ascii.specs.RowPlaces.{cells_fault, end_fault}
+use Rattle.cell_ascii.proofs.PlaceKeptLemmas.{header_kept, cells_kept}
+use Rattle.cell_ascii.proofs.RowPlaceLemmas.{cells_told, end_told}
 use Rattle.cell_ascii.specs.Places.{first_told, text_fault, opening_fault}
-use Rattle.cell_ascii.specs.GridLaw.{OpeningAgrees, FaultsAgree, TextsAreJudged, IsMapText, IsFaultText}
+use Rattle.cell_ascii.specs.GridLaw.{OpeningKeepsPlaces, CellsKeepPlaces, OpeningAgrees, CellsAgree, EndAgrees, FaultsAgree, TextsAreJudged, IsMapText, IsFaultText}
 use Rattle.cell_ascii.specs.declared.fault.GridFault.{GridFault}
 use Rattle.cell_ascii.proofs.SeenLemmas.{first_is}
 use Rattle.cell_ascii.proofs.PlaceDataLemmas.{fault_in}
@@ -35,19 +39,25 @@ opening_is c = by (header_of_text c) ∙ told_is false c
     by (Ok o) = refl
     by (Err e) = refl
 
-pub opening_agrees : OpeningAgrees
-opening_agrees c f = (λ e. sym (opening_is c) ∙ ap fault_in e, λ e. by (header_of_text c) (opening_is c ∙ e))
+-- a reading answers the fault that is told of it
+is_told : {X : Type 0} (r : Result X GridFault) (o : Option GridFault) → fault_in r ≡ o → (f : GridFault) → (r ≡ Err f) ↔ (o ≡ Some f)
+is_told {X} r o told f = (λ e. sym told ∙ ap fault_in e, λ e. by r (told ∙ e))
   where
-    by : (r : Result Opened GridFault) → fault_in r ≡ Some f → r ≡ Err f
-    by (Ok o) e = cc
+    by : (r : Result X GridFault) → fault_in r ≡ Some f → r ≡ Err f
+    by (Ok x) e = cc
     by (Err g) e = cc
 
+pub opening_agrees : OpeningAgrees
+opening_agrees c f = is_told (header_of_text c) (opening_fault c) (opening_is c) f
+
+pub cells_agree : CellsAgree
+cells_agree h count at f is = is_told (many (cell_from h) count at) (cells_fault h count at) (cells_told h count at is) f
+
+pub end_agrees : EndAgrees
+end_agrees at f is none = is_told (end_of (start_of at.line at.run at.coming)) (end_fault at) (end_told at none is.low) f
+
 pub faults_agree : FaultsAgree
-faults_agree c f = (λ e. sym (fault_is c) ∙ ap fault_in e, λ e. by (grid_of c) (fault_is c ∙ e))
-  where
-    by : (r : Result Grid GridFault) → fault_in r ≡ Some f → r ≡ Err f
-    by (Ok m) e = cc
-    by (Err g) e = cc
+faults_agree c f = is_told (grid_of c) (text_fault c) (fault_is c) f
 
 pub texts_are_judged : TextsAreJudged
 texts_are_judged c = by (grid_of c) refl
@@ -55,3 +65,9 @@ texts_are_judged c = by (grid_of c) refl
     by : (r : Result Grid GridFault) → grid_of c ≡ r → IsMapText c ⊎ IsFaultText c
     by (Ok m) e = inl (record { map = m; denotes = (reading_agrees c m).0 e; alone = λ other is. (let o : Ok other ≡ Ok m = sym ((reading_agrees c other).1 is) ∙ e in cc); silent = sym (fault_is c) ∙ ap fault_in e })
     by (Err f) e = inr (record { fault = f; told = sym (fault_is c) ∙ ap fault_in e; none = λ m is. (let o : Ok m ≡ Err f = sym ((reading_agrees c m).1 is) ∙ e in cc) })
+
+pub opening_keeps_places : OpeningKeepsPlaces
+opening_keeps_places c o e = header_kept 10 no_keys 1 0 c o e
+
+pub cells_keep_places : CellsKeepPlaces
+cells_keep_places h count at x is e = cells_kept h count at x is e

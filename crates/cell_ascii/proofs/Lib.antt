@@ -13,3 +13,6 @@ pub mod PlaceKeyLemmas
 pub mod PlaceHeaderLemmas
 pub mod GridFaultLemmas
 pub mod ExampleLemmas
+pub mod RowSeenLemmas
+pub mod RowPlaceLemmas
+pub mod PlaceKeptLemmas

@@ -52,7 +52,7 @@ split_free p [] bs free = onto-none (slice_split p bs) (split_made p bs)
 split_free p (b ∷ t) bs free = ap (λ (s : Bool). cond s ([] ∷ slice_split p (t ++ bs)) (onto_first b (slice_split p (t ++ bs)))) free.0
     ∙ ap (onto_first b) (split_free p t bs free.1) ∙ onto-more b t (slice_split p bs)
 
-abbrev as_word : List ℕ → List (List ℕ)
+abbrev pub as_word : List ℕ → List (List ℕ)
 as_word [] = []
 as_word (b ∷ bs) = (b ∷ bs) ∷ []
 

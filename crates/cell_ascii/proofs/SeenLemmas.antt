@@ -87,7 +87,7 @@ tracked_lines (b ∷ bs) ls ws t free = by (cases_Bool (is_space b)) (cases_Bool
     by (inl space) (inr blank) _ _ go = (λ i. lines_at (fold track (track_by (space i) (blank i) (tracked_at ls ws t) b) bs)) ∙ go
         ∙ ap (λ (l : Lines). ls ++ l) (join_more ws t (line_words bs) (lines_made bs) ∙ ap (λ (u : Bool). join ws (put_token t (opening u (line_words bs)))) (sym blank) ∙ ap (join ws) (sym (lines_space t b bs free space)))
 
-last_onto : (x : List ℕ) (ps : List (List ℕ)) → IsMade ps → last_of (x ∷ ps) ≡ last_of ps
+pub last_onto : (x : List ℕ) (ps : List (List ℕ)) → IsMade ps → last_of (x ∷ ps) ≡ last_of ps
 last_onto x [] made = absurd made
 last_onto x (p ∷ ps) made = refl
 
@@ -181,7 +181,7 @@ told_is table before place = λ i. option_map (λ kind. fault kind (line_of befo
 line_more : (before : List ℕ) (b : ℕ) → line_of (before ++ b ∷ []) ≡ line_of before + cond (b == 10) 1 0
 line_more before b = omega (arith, sum_by-append (λ (x : ℕ). cond (x == 10) 1 0) before (b ∷ []))
 
-gap_more : (before : List ℕ) (b : ℕ) → gap_of (before ++ b ∷ []) ≡ cond (is_space b) (1 + gap_of before) 0
+pub gap_more : (before : List ℕ) (b : ℕ) → gap_of (before ++ b ∷ []) ≡ cond (is_space b) (1 + gap_of before) 0
 gap_more before b = ap (prefix_len is_space) (reverse-append before (b ∷ []))
 
 abbrev parts : ℕ → ℕ → Tracked → Seen

@@ -6,3 +6,4 @@ pub mod Cells
 pub mod GridText
 pub mod GridLaw
 pub mod Places
+pub mod RowPlaces

@@ -1,6 +1,6 @@
 //! What the reading of a grid text means.
 
-ghost use Rattle.cell_ascii.specs.GridLaw.{FaultsAgree, OpeningAgrees, ReadingAgrees, TextsAreJudged};
+ghost use Rattle.cell_ascii.specs.GridLaw.{CellsAgree, CellsKeepPlaces, EndAgrees, FaultsAgree, OpeningAgrees, OpeningKeepsPlaces, ReadingAgrees, TextsAreJudged};
 
 /// The reading of a text gives a map exactly where the text denotes that map
 /// (r.in.ascii manual: header lines, then the cells row by row).
@@ -18,6 +18,24 @@ pub fn reading_faults()
 /// exactly where a place up to there tells that fault, those about cells left out.
 pub fn opening_faults()
     ensures { OpeningAgrees }
+{}
+
+/// From a place behind the header on, the next cells are read with a fault exactly where a place
+/// up to the end of the last of them tells that fault.
+pub fn cells_faults()
+    ensures { CellsAgree }
+{}
+
+/// Behind the last cell the end is read with a fault exactly where a place up to the first byte of
+/// a token tells that fault.
+pub fn end_faults()
+    ensures { EndAgrees }
+{}
+
+/// The opening of a text ends at such a place, and so do cells.
+pub fn places_are_kept()
+    ensures opening { OpeningKeepsPlaces }
+    ensures cells { CellsKeepPlaces }
 {}
 
 /// A text denotes one map and tells no fault, or tells one fault and denotes no map.
