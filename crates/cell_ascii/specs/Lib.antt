@@ -1,4 +1,5 @@
 pub mod Words
+pub mod Writing
 pub mod Numbers
 pub mod KeyNames
 pub mod Header

@@ -1,6 +1,7 @@
 //! What the reading of a grid text means.
 
 ghost use Rattle.cell_ascii.specs.GridLaw.{CellsAgree, CellsKeepPlaces, EndAgrees, FaultsAgree, OpeningAgrees, OpeningKeepsPlaces, ReadingAgrees, TextsAreJudged};
+ghost use Rattle.cell_ascii.specs.Writing.{WritingIsRead};
 
 /// The reading of a text gives a map exactly where the text denotes that map
 /// (r.in.ascii manual: header lines, then the cells row by row).
@@ -41,4 +42,9 @@ pub fn places_are_kept()
 /// A text denotes one map and tells no fault, or tells one fault and denotes no map.
 pub fn texts_are_judged()
     ensures { TextsAreJudged }
+{}
+
+/// What is written of a map denotes the same region and rows, where no cell's decimal text equals the null text.
+pub fn written_denotes()
+    ensures { WritingIsRead }
 {}
