@@ -16,3 +16,11 @@ pub mod ExampleLemmas
 pub mod RowSeenLemmas
 pub mod RowPlaceLemmas
 pub mod PlaceKeptLemmas
+pub mod MapLemmas
+pub mod StartLemmas
+pub mod GapLemmas
+pub mod DigitLemmas
+pub mod NumberLemmas
+pub mod OpeningLemmas
+pub mod CellLemmas
+pub mod DataLemmas

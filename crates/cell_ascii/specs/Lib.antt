@@ -8,3 +8,10 @@ pub mod GridText
 pub mod GridLaw
 pub mod Places
 pub mod RowPlaces
+pub mod Capped
+pub mod Given
+pub mod Ahead
+pub mod Scan
+pub mod Steps
+pub mod Opening
+pub mod Reader

@@ -2,5 +2,13 @@
 #![tactic(auto)]
 
 pub mod fault;
+mod header;
+mod input;
 pub mod key;
+mod keys;
 pub mod law;
+mod null_text;
+mod number;
+mod opening;
+pub mod reader;
+mod scanner;

@@ -1,0 +1,105 @@
+-- The next cell, and n of them, one after another.
+use Rattle.std.proofs.Common.{◌≡◌, ℕ, suc, [], ◌∷◌, ◌++◌, append_assoc, append-nil, ◌+◌, ◌-◌, ◌<◌, arith, List, Option, Some, None, Result, Ok, Err, refl, ap, sym, ◌∙◌}
+use Rattle.std.specs.Option.{option_map}
+use Rattle.cell_core.specs.Device.{Coming}
+use Rattle.cell_core.specs.Grid.{CellValue}
+use Rattle.cell_ascii.specs.Ahead.{Ahead}
+use Rattle.cell_ascii.specs.Words.{Start, Begins, Ends, Stops, start_of, word_from}
+use Rattle.cell_ascii.specs.Header.{◌>>=◌, At, Header, at_line}
+use Rattle.cell_ascii.specs.Cells.{Reading, after_start, after_word, after_cell, cell_from, cell_of_word, at_of, many}
+use Rattle.cell_ascii.specs.Reader.{Place, token_of, token_seen, reading_seen}
+use Rattle.cell_ascii.specs.declared.fault.GridFault.{GridFault}
+use Rattle.cell_ascii.specs.declared.fault.GridKind.{GridKind}
+use Rattle.cell_ascii.proofs.MapLemmas.{then_map, map_same}
+
+-- where a cell leaves a reader
+abbrev pub place_after : Header → ℕ → Ahead → Place
+place_after h line ahead = record { header = h; pending = None; line = line; run = 0; ahead = ahead }
+
+judged : (h : Header) (line : ℕ) (ahead : Ahead) (c : Coming) (r : Result CellValue GridKind) → after_cell line c r ≡ reading_seen (at_line line r) (place_after h line ahead) c
+judged h line ahead c (Ok v) = refl
+judged h line ahead c (Err kind) = refl
+
+-- the word that waits is the next cell
+pub cell_pending : (h : Header) (word : List ℕ) (line run : ℕ) (ahead : Ahead) (a : Option Coming)
+    → option_map (λ c. cell_from h (record { pending = Some word; line = line; run = run; coming = c })) a
+    ≡ option_map (reading_seen (at_line line (cell_of_word h word)) (place_after h line ahead)) a
+unfolding cell_from
+cell_pending h word line run ahead a =
+    map_same (λ c. after_cell line c (cell_of_word h word)) (reading_seen (at_line line (cell_of_word h word)) (place_after h line ahead)) a (λ c. judged h line ahead c (cell_of_word h word))
+
+abbrev after_token : Header → Result (ℕ × (List ℕ × Coming)) GridFault → Reading CellValue
+after_token h (Ok (line, (word, c))) = after_cell line c (cell_of_word h word)
+after_token h (Err f) = Err f
+
+word_token : (h : Header) (line : ℕ) (r : Result (List ℕ × Coming) GridFault) → after_word h line r ≡ after_token h (r >>= (λ w. Ok (line, w)))
+word_token h line (Ok (word, c)) = refl
+word_token h line (Err f) = refl
+
+start_token : (h : Header) (s : Start) → after_start h s ≡ after_token h (token_of s)
+start_token h (Begins line c) = word_token h line (word_from line [] c)
+start_token h (Ends line) = refl
+start_token h (Stops f) = refl
+
+module _ (h : Header) (line run : ℕ) (a b : Option Coming) (r : Result (Unit {0}) GridFault) (l : ℕ) (word : List ℕ)
+    (read : option_map (λ c. token_of (start_of line run c)) a ≡ option_map (token_seen r l word) b) where
+  token_cell : option_map (λ c. cell_from h (at_of line run c)) a ≡ option_map (λ c. after_token h (token_seen r l word c)) b
+  unfolding cell_from
+  token_cell =
+      map_same (λ c. after_start h (start_of line run c)) (λ c. after_token h (token_of (start_of line run c))) a (λ c. start_token h (start_of line run c))
+      ∙ then_map (after_token h) (λ c. token_of (start_of line run c)) (token_seen r l word) a b read
+
+-- the next word is the next cell
+pub cell_read : (h : Header) (line run : ℕ) (a b : Option Coming) (l : ℕ) (word : List ℕ) (ahead : Ahead)
+    → option_map (λ c. token_of (start_of line run c)) a ≡ option_map (token_seen (Ok tt) l word) b
+    → option_map (λ c. cell_from h (at_of line run c)) a ≡ option_map (reading_seen (at_line l (cell_of_word h word)) (place_after h l ahead)) b
+cell_read h line run a b l word ahead read =
+    token_cell h line run a b (Ok tt) l word read
+    ∙ map_same (λ c. after_cell l c (cell_of_word h word)) (reading_seen (at_line l (cell_of_word h word)) (place_after h l ahead)) b (λ c. judged h l ahead c (cell_of_word h word))
+
+pub cell_fails : (h : Header) (line run : ℕ) (a b : Option Coming) (l : ℕ) (word : List ℕ) (f : GridFault)
+    → option_map (λ c. token_of (start_of line run c)) a ≡ option_map (token_seen (Err f) l word) b
+    → option_map (λ c. cell_from h (at_of line run c)) a ≡ option_map (λ c. Err f) b
+cell_fails h line run a b l word f read = token_cell h line run a b (Err f) l word read
+
+-- what was read so far stands in front
+abbrev pub with_front : {X : Type 0} → List X → Reading (List X) → Reading (List X)
+with_front front (Ok x) = Ok (front ++ x.0, x.1)
+with_front front (Err f) = Err f
+
+-- one more of many
+abbrev with_next : {X : Type 0} → (At → Reading X) → ℕ → List X → Reading X → Reading (List X)
+with_next one n front (Ok x) = with_front (front ++ x.0 ∷ []) (many one n x.1)
+with_next one n front (Err f) = Err f
+
+many_more : {X : Type 0} (one : At → Reading X) (n : ℕ) (front : List X) (at : At) → with_front front (many one (suc n) at) ≡ with_next one n front (one at)
+many_more {X} one n front at = by (one at)
+  where
+    rest : (front : List X) (x : X) (r : Reading (List X)) → with_front front (r >>= (λ y. Ok (x ∷ y.0, y.1))) ≡ with_front (front ++ x ∷ []) r
+    rest front x (Ok y) = ap (λ l. Ok (l, y.1)) (sym (append_assoc front (x ∷ []) y.0))
+    rest front x (Err f) = refl
+
+    by : (r : Reading X) → with_front front (r >>= (λ x. many one n x.1 >>= (λ y. Ok (x.0 ∷ y.0, y.1)))) ≡ with_next one n front r
+    by (Ok x) = rest front x.0 (many one n x.1)
+    by (Err f) = refl
+
+less_one : (n i : ℕ) → i < n → n - i ≡ suc (n - (i + 1))
+less_one n i h = omega arith
+
+-- nothing more
+pub read_all : {X : Type 0} (one : At → Reading X) (front : List X) (at : At) → with_front front (many one 0 at) ≡ Ok (front, at)
+read_all one front at = ap (λ l. Ok (l, at)) (append-nil front)
+
+module _ {X : Type 0} (one : At → Reading X) (F : Coming → Reading (List X)) (a b d : Option Coming) (front : List X) (n i : ℕ) (here : Coming → At) (in_range : i < n)
+    (so_far : option_map F a ≡ option_map (λ c. with_front front (many one (n - i) (here c))) b) where
+  next : option_map F a ≡ option_map (λ c. with_next one (n - (i + 1)) front (one (here c))) b
+  next = so_far ∙ ap (λ (m : ℕ). option_map (λ c. with_front front (many one m (here c))) b) (less_one n i in_range) ∙ (λ j. option_map (λ c. many_more one (n - (i + 1)) front (here c) j) b)
+
+  -- one more was read
+  pub more_read : (x : X) (there : Coming → At) → option_map (λ c. one (here c)) b ≡ option_map (λ c. Ok (x, there c)) d
+      → option_map F a ≡ option_map (λ c. with_front (front ++ x ∷ []) (many one (n - (i + 1)) (there c))) d
+  more_read x there e = next ∙ then_map (with_next one (n - (i + 1)) front) (λ c. one (here c)) (λ c. Ok (x, there c)) b d e
+
+  -- a fault comes next
+  pub more_fails : (f : GridFault) → option_map (λ c. one (here c)) b ≡ option_map (λ c. Err f) d → option_map F a ≡ option_map (λ c. Err f) d
+  more_fails f e = next ∙ then_map (with_next one (n - (i + 1)) front) (λ c. one (here c)) (λ c. Err f) b d e

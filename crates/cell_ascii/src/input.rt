@@ -1,0 +1,77 @@
+//! Bytes of a source, one at a time.
+
+ghost use Rattle.std.specs.Prelude.{◌≡◌, ◌<◌, ◌≤◌, [], drop, length, OnErr, IfOk, IfSome, IfNone, Some, slice_get, true, false};
+ghost use Rattle.cell_ascii.specs.Ahead.{Ahead, to_come, IsAtEnd};
+
+use cell_core::device::DeviceFault;
+use cell_core::memory::Memory;
+use cell_core::source::Source;
+use std::alloc::Global;
+use std::marker::Model;
+
+// How many bytes are asked for at once.
+const BLOCK: usize = 65536;
+
+/// A source with a buffer.
+#[derive(Drop)]
+pub struct Input<R: Source> {
+    source: R,
+    buffer: Vec<u8>,
+    at: usize,
+    filled: usize,
+}
+
+impl<R: Source> Model for Input<R> {
+    ghost use Rattle.std.specs.Prelude.{take, drop, length, ◌<◌, ◌≤◌};
+    ghost use Rattle.cell_ascii.specs.Ahead.{Ahead};
+
+    ghost Value = { Ahead };
+
+    ghost view = { λ i. record { held = drop i.at (take i.filled i.buffer.items); rest = R.coming i.source } };
+
+    ghost invariant = { λ i. (i.at ≤ i.filled) × (i.filled ≤ length i.buffer.items) × (0 < length i.buffer.items) };
+}
+
+impl<R: Source> Input<R> {
+    pub fn new(alloc: Global, source: R) -> Result<Input<R>, Memory>
+    where
+        R: Drop,
+        ensures { IfOk result (λ i. i ≡ record { held = []; rest = R.coming source }) }
+    {
+        let buffer = vec![in alloc; 0u8; BLOCK]?;
+        Ok(Input {
+            source,
+            buffer,
+            at: 0,
+            filled: 0,
+        })
+    }
+
+    /// The next byte, or `None` at the end.
+    pub fn peek(&mut self) -> Result<Option<u8>, DeviceFault>
+        ensures same { to_come self.new ≡ to_come self.old }
+        ensures byte { IfOk result (λ o. IfSome o (λ b. slice_get self.new.held 0 ≡ Some b)) }
+        ensures end { IfOk result (λ o. IfNone o (IsAtEnd false (to_come self.old))) }
+        ensures fault { OnErr result (IsAtEnd true (to_come self.old)) }
+    {
+        if self.at < self.filled {
+            return Ok(Some(self.buffer[self.at]));
+        }
+        let n = self.source.take(&mut self.buffer)?;
+        self.at = 0;
+        self.filled = n;
+        if n == 0 {
+            return Ok(None);
+        }
+        Ok(Some(self.buffer[0]))
+    }
+
+    /// Passes the byte that `peek` gave.
+    pub fn advance(&mut self)
+        requires { 0 < length self.old.held }
+        ensures held { self.new.held ≡ drop 1 self.old.held }
+        ensures rest { self.new.rest ≡ self.old.rest }
+    {
+        self.at += 1;
+    }
+}
