@@ -16,3 +16,7 @@ pub mod ExampleLemmas
 pub mod RowSeenLemmas
 pub mod RowPlaceLemmas
 pub mod PlaceKeptLemmas
+pub mod WritingDigitLemmas
+pub mod WritingNumberLemmas
+pub mod WritingLexLemmas
+pub mod WritingTokenLemmas
