@@ -20,3 +20,6 @@ pub mod WritingDigitLemmas
 pub mod WritingNumberLemmas
 pub mod WritingLexLemmas
 pub mod WritingTokenLemmas
+pub mod WritingDataLemmas
+pub mod WritingHeaderLemmas
+pub mod WritingLawLemmas

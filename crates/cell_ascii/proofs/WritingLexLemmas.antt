@@ -57,31 +57,37 @@ module _ (w : List ℕ) (is : IsToken w) (bs : List ℕ) (ls : Lines) (on : Lexe
   fed run low = token_first (10 ∷ bs) run w is ∙ lex-space 0 w 10 bs false refl (omega arith) ∙ ap (option_map (λ l. put_token w (opening true l))) (on 1 (omega arith)) ∙ ap Some (put_is w ([] ∷ ls) is.some)
 
 -- a text adds lines to those of what follows it
-abbrev pub Adds : List ℕ → Lines → Type 0
-Adds text new = (bs : List ℕ) (ls : Lines) → Lexes bs ls → Lexes (text ++ bs) (new ++ ls)
+pub record Adds (text : List ℕ) (new : Lines) : Type 0 where
+  pub to : (bs : List ℕ) (ls : Lines) → Lexes bs ls → Lexes (text ++ bs) (new ++ ls)
 
 pub adds_none : Adds [] []
-adds_none bs ls on = on
+adds_none = record { to = λ bs ls on. on }
 
-pub adds_both : (text text' : List ℕ) (new new' : Lines) → Adds text new → Adds text' new' → Adds (text ++ text') (new ++ new')
-adds_both text text' new new' first second bs ls on = rw (append_assoc text text' bs, append_assoc new new' ls) (first (text' ++ bs) (new' ++ ls) (second bs ls on))
+pub adds_both : {text text' : List ℕ} {new new' : Lines} → Adds text new → Adds text' new' → Adds (text ++ text') (new ++ new')
+adds_both {text} {text'} {new} {new'} first second = record { to = λ bs ls on. rw (append_assoc text text' bs, append_assoc new new' ls) (first.to (text' ++ bs) (new' ++ ls) (second.to bs ls on)) }
 
 -- a line of a key and its value
 pub adds_key : (key value : List ℕ) → IsToken key → IsToken value → Adds (key ++ 32 ∷ (value ++ 10 ∷ [])) ((key ∷ value ∷ []) ∷ [])
-adds_key key value is_key is_value bs ls on =
-    let text : (key ++ 32 ∷ (value ++ 10 ∷ [])) ++ bs ≡ key ++ 32 ∷ (value ++ 10 ∷ bs) = append_assoc key (32 ∷ (value ++ 10 ∷ [])) bs ∙ ap (λ l. key ++ 32 ∷ l) (append_assoc value (10 ∷ []) bs) in
-    subst (λ t. Lexes t ((key ∷ value ∷ []) ∷ ls)) (sym text) (spaced key is_key (value ++ 10 ∷ bs) ((value ∷ []) ∷ ls) (fed value is_value bs ls on))
+adds_key key value is_key is_value = record { to = to }
+  where
+    to : (bs : List ℕ) (ls : Lines) → Lexes bs ls → Lexes ((key ++ 32 ∷ (value ++ 10 ∷ [])) ++ bs) ((key ∷ value ∷ []) ∷ ls)
+    to bs ls on =
+        let text : (key ++ 32 ∷ (value ++ 10 ∷ [])) ++ bs ≡ key ++ 32 ∷ (value ++ 10 ∷ bs) = append_assoc key (32 ∷ (value ++ 10 ∷ [])) bs ∙ ap (λ l. key ++ 32 ∷ l) (append_assoc value (10 ∷ []) bs) in
+        subst (λ t. Lexes t ((key ∷ value ∷ []) ∷ ls)) (sym text) (spaced key is_key (value ++ 10 ∷ bs) ((value ∷ []) ∷ ls) (fed value is_value bs ls on))
 
 -- a line of tokens that are joined by one space
 pub adds_tokens : (w : List ℕ) (ws : List (List ℕ)) → All IsToken (w ∷ ws) → Adds (join_with_byte 32 (w ∷ ws) ++ 10 ∷ []) ((w ∷ ws) ∷ [])
-adds_tokens w [] are bs ls on = subst (λ t. Lexes t ((w ∷ []) ∷ ls)) (sym (append_assoc w (10 ∷ []) bs)) (fed w (All-head IsToken w [] are) bs ls on)
-adds_tokens w (x ∷ xs) are bs ls on =
-    let rest = join_with_byte 32 (x ∷ xs) in
-    let text : ((w ++ 32 ∷ rest) ++ 10 ∷ []) ++ bs ≡ w ++ 32 ∷ ((rest ++ 10 ∷ []) ++ bs) = append_assoc (w ++ 32 ∷ rest) (10 ∷ []) bs ∙ append_assoc w (32 ∷ rest) (10 ∷ bs) ∙ ap (λ l. w ++ 32 ∷ l) (sym (append_assoc rest (10 ∷ []) bs)) in
-    subst (λ t. Lexes t ((w ∷ x ∷ xs) ∷ ls)) (sym text) (spaced w (All-head IsToken w (x ∷ xs) are) ((rest ++ 10 ∷ []) ++ bs) ((x ∷ xs) ∷ ls) (adds_tokens x xs (All-tail IsToken w (x ∷ xs) are) bs ls on))
+adds_tokens w ws are = record { to = to w ws are }
+  where
+    to : (w : List ℕ) (ws : List (List ℕ)) → All IsToken (w ∷ ws) → (bs : List ℕ) (ls : Lines) → Lexes bs ls → Lexes ((join_with_byte 32 (w ∷ ws) ++ 10 ∷ []) ++ bs) ((w ∷ ws) ∷ ls)
+    to w [] are bs ls on = subst (λ t. Lexes t ((w ∷ []) ∷ ls)) (sym (append_assoc w (10 ∷ []) bs)) (fed w (All-head IsToken w [] are) bs ls on)
+    to w (x ∷ xs) are bs ls on =
+        let rest = join_with_byte 32 (x ∷ xs) in
+        let text : ((w ++ 32 ∷ rest) ++ 10 ∷ []) ++ bs ≡ w ++ 32 ∷ ((rest ++ 10 ∷ []) ++ bs) =
+        append_assoc (w ++ 32 ∷ rest) (10 ∷ []) bs ∙ append_assoc w (32 ∷ rest) (10 ∷ bs) ∙ ap (λ l. w ++ 32 ∷ l) (sym (append_assoc rest (10 ∷ []) bs)) in
+        subst (λ t. Lexes t ((w ∷ x ∷ xs) ∷ ls)) (sym text) (spaced w (All-head IsToken w (x ∷ xs) are) ((rest ++ 10 ∷ []) ++ bs) ((x ∷ xs) ∷ ls) (to x xs (All-tail IsToken w (x ∷ xs) are) bs ls on))
 
 -- lines one after another
 pub adds_each : {X : Type 0} (text : X → List ℕ) (line : X → List (List ℕ)) → (xs : List X) → All (λ x. Adds (text x) (line x ∷ [])) xs → Adds (flat_map text xs) (map line xs)
 adds_each text line [] are = adds_none
-adds_each text line (x ∷ xs) are =
-    adds_both (text x) (flat_map text xs) (line x ∷ []) (map line xs) (All-head (λ y. Adds (text y) (line y ∷ [])) x xs are) (adds_each text line xs (All-tail (λ y. Adds (text y) (line y ∷ [])) x xs are))
+adds_each text line (x ∷ xs) are = adds_both (All-head (λ y. Adds (text y) (line y ∷ [])) x xs are) (adds_each text line xs (All-tail (λ y. Adds (text y) (line y ∷ [])) x xs are))
