@@ -1,6 +1,6 @@
 -- The cells of a written map are read back.
-use Rattle.std.proofs.Common.{◌≡◌, ◌≢◌, ℕ, zero, suc, ◌^◌, ◌<◌, ◌≤◌, ℤ, pos, ◌*ℤ◌, List, [], ◌∷◌, ◌++◌, length, map, Option, Some, None, Result, Ok, Err, Bool, true, false, refl, ap, sym, ◌∙◌, arith, append-nil, append_assoc, if◌then◌else◌}
-use Rattle.std.specs.Prelude.{bytes_eq, IfSome, IsTrue}
+use Rattle.std.proofs.Common.{◌≡◌, ◌≢◌, ℕ, List, [], ◌∷◌, ◌++◌, length, map, Some, None, Ok, Err, refl, ap, sym, ◌∙◌, if◌then◌else◌}
+use Rattle.std.specs.Prelude.{IfSome, IsTrue}
 use Rattle.std.specs.Fmt.{signed_decimal}
 use Rattle.std.specs.List.{All}
 use Rattle.std.proofs.Math.IntN.{one, *ℤ-one}
@@ -12,11 +12,10 @@ use Rattle.cell_ascii.specs.Numbers.{whole_number, is_in_range}
 use Rattle.cell_ascii.specs.Header.{Header, usual_multiplier}
 use Rattle.cell_ascii.specs.Cells.{cell_of_number, cell_of_word}
 use Rattle.cell_ascii.specs.Writing.{cell_text}
-use Rattle.cell_ascii.specs.declared.fault.GridKind.{GridKind}
 use Rattle.cell_ascii.specs.declared.fault.GridKind.TheVariants.{CellRange}
 use Rattle.cell_ascii.proofs.LexemeLemmas.{Lines}
 use Rattle.cell_ascii.proofs.DataLawLemmas.{all_words, then_words, taken_cell, take_cell, take_many}
-use Rattle.cell_ascii.proofs.WritingNumberLemmas.{size, whole_back, in_range_low}
+use Rattle.cell_ascii.proofs.WritingNumberLemmas.{whole_back, in_range_low}
 
 module _ (h : Header) (once : h.multiplier ≡ usual_multiplier) where
   -- a category in range, that is not written as the null text

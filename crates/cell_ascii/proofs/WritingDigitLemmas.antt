@@ -1,13 +1,12 @@
 -- The digits of a number, and what is left of them without the zeros at their end.
-use Rattle.std.proofs.Common.{◌≡◌, ℕ, zero, suc, ◌+◌, ◌-◌, ◌*◌, ◌^◌, ◌/◌, ◌%◌, ◌<◌, ◌≤◌, List, [], ◌∷◌, ◌++◌, length, drop, take, replicate, reverse, Bool, true, false, ◌==◌, decimal, refl, ap, sym, ◌∙◌, arith, cond, fold, length-append, ◌⊎◌, inl, inr, rules, subst}
+use Rattle.std.proofs.Common.{◌≡◌, ℕ, zero, suc, ◌+◌, ◌-◌, ◌*◌, ◌^◌, ◌<◌, ◌≤◌, List, [], ◌∷◌, ◌++◌, length, drop, take, replicate, reverse, Bool, true, false, ◌==◌, decimal, refl, ap, sym, ◌∙◌, arith, cond, fold, ◌⊎◌, inl, inr, rules, subst}
 use Rattle.std.proofs.Math.Nat.{pow-suc}
 use Rattle.std.proofs.Math.Seq.{take-append_seam}
 use Rattle.std.specs.List.{list_all, prefix_len}
 use Rattle.std.proofs.lemmas.List.Folds.{list_all-append}
-use Rattle.std.proofs.lemmas.Bool.{cases_Bool, cases_lt, and_parts, eqb-true}
-use Rattle.std.proofs.lemmas.Bool.Decides.{nat_tests}
+use Rattle.std.proofs.lemmas.Bool.{cases_lt, and_parts, eqb-true}
 use Rattle.std.proofs.lemmas.Fmt.{digits_decimal, digits_value-decimal, decimal_nonempty, length-decimal-le}
-use Rattle.std.proofs.lemmas.List.{reverse-append, reverse-reverse, length-reverse, length-replicate, length-drop, replicate-append-replicate}
+use Rattle.std.proofs.lemmas.List.{reverse-append, reverse-reverse, length-reverse, length-drop, replicate-append-replicate}
 use Rattle.std.proofs.lemmas.List.Sums.{fold-append, prefix_len-le-length}
 use Rattle.std.proofs.lemmas.Str.Parse.{IsNumeralModel, numerals_by_fold, digits_value_short}
 use Rattle.cell_ascii.specs.Numbers.{is_digit, value_of_digits}
@@ -103,7 +102,7 @@ pub record IsCut (ds front : List ℕ) : Type 0 where
   pub count : length front + zeros ds ≡ length ds
 
 pub cut : (ds : List ℕ) → IsCut ds (without_zeros ds)
-cut ds = 
+cut ds =
     let k = zeros ds in
     let front = reverse (drop k (reverse ds)) in
     let whole : ds ≡ front ++ replicate k 48 = sym (reverse-reverse ds) ∙ ap reverse (leading (reverse ds)) ∙ reverse-append (replicate k 48) (drop k (reverse ds)) ∙ ap (λ l. front ++ l) (reverse_same k) in

@@ -1,9 +1,8 @@
 -- The header of a written map is read back.
-use Rattle.std.proofs.Common.{◌≡◌, ℕ, ◌+◌, ◌≤◌, ◌<◌, pos, negsuc, ℤ, List, [], ◌∷◌, ◌++◌, length, Option, Some, None, Result, Ok, Err, Bool, true, false, not, ◌&&◌, refl, ap, sym, ◌∙◌, arith, append_assoc, length-append, if◌then◌else◌, subst, codes, decimal}
+use Rattle.std.proofs.Common.{◌≡◌, ℕ, ◌≤◌, ◌<◌, pos, negsuc, ℤ, List, [], ◌∷◌, ◌++◌, length, Some, None, Ok, Err, Bool, true, false, not, ◌&&◌, refl, ap, sym, ◌∙◌, arith, append_assoc, if◌then◌else◌, subst, codes, decimal}
 use Rattle.std.specs.Prelude.{nat_le, nat_lt, bytes_eq}
 use Rattle.std.specs.List.{filter, list_all, before_first, after_first}
 use Rattle.std.proofs.lemmas.Bool.{and_parts, leb-true, ltb-true}
-use Rattle.std.proofs.lemmas.List.Folds.{list_all-append}
 use Rattle.std.proofs.lemmas.Slice.Eq.{bytes_eq-Decides}
 use Rattle.cell_core.specs.Region.{RegionValue, IsRegion, region_fault, is_above, is_rectangle, is_side}
 use Rattle.cell_core.specs.declared.region.RegionFault.TheVariants.{BadExtent, BadRows, BadCols}
@@ -20,7 +19,7 @@ use Rattle.cell_ascii.proofs.DataLawLemmas.{all_words}
 use Rattle.cell_ascii.proofs.KeyLawLemmas.{IsHeaderOf, header_kept}
 use Rattle.cell_ascii.proofs.HeaderLawLemmas.{take_text, take_data, with_values, after_key}
 use Rattle.cell_ascii.proofs.WritingNumberLemmas.{size, coordinate_back, side_back}
-use Rattle.cell_ascii.proofs.WritingTokenLemmas.{IsValue, decimal_value, null_value, coordinate_value}
+use Rattle.cell_ascii.proofs.WritingTokenLemmas.{decimal_value, null_value, coordinate_value}
 use Rattle.cell_ascii.proofs.WritingLexLemmas.{IsToken, Adds, adds_none, adds_both, adds_key}
 
 -- the lines of a text lead from some keys to more
@@ -64,9 +63,9 @@ line_leads q name value keys more is token takes =
       new = (word ∷ value ∷ []) ∷ [];
       adds = line_adds q name value is token;
       reads = λ ls.
-      (λ i. if is.colon i then after_key (with_values keys (is.known i) (filter is_token (is.alone i ∷ value ∷ []))) (λ k. take_text k ls) else take_data keys (word ∷ ((value ∷ []) ++ all_words ls)))
-      ∙ ap (λ vs. after_key (with_values keys (Some q) vs) (λ k. take_text k ls)) (one_value value token.some)
-      ∙ ap (λ r. after_key r (λ k. take_text k ls)) takes;
+          (λ i. if is.colon i then after_key (with_values keys (is.known i) (filter is_token (is.alone i ∷ value ∷ []))) (λ k. take_text k ls) else take_data keys (word ∷ ((value ∷ []) ++ all_words ls)))
+          ∙ ap (λ vs. after_key (with_values keys (Some q) vs) (λ k. take_text k ls)) (one_value value token.some)
+          ∙ ap (λ r. after_key r (λ k. take_text k ls)) takes;
     }
 
 -- The edges of a region lie within the limits of coordinates.

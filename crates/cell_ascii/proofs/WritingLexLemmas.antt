@@ -1,11 +1,11 @@
 -- The lines of a text that is written token by token.
-use Rattle.std.proofs.Common.{◌≡◌, ℕ, suc, ◌+◌, ◌<◌, ◌≤◌, List, [], ◌∷◌, ◌++◌, length, map, Option, Some, None, Bool, true, false, ◌==◌, not, refl, ap, sym, ◌∙◌, arith, append-nil, append_assoc, length-append, subst}
+use Rattle.std.proofs.Common.{◌≡◌, ℕ, ◌+◌, ◌<◌, ◌≤◌, List, [], ◌∷◌, ◌++◌, length, map, Some, Bool, true, false, not, refl, ap, sym, ◌∙◌, arith, append-nil, append_assoc, length-append, subst}
 use Rattle.std.specs.Option.{option_map}
 use Rattle.std.specs.List.{list_all, join_with_byte, flat_map, All}
 use Rattle.std.proofs.lemmas.Bool.{and_parts}
 use Rattle.std.proofs.lemmas.List.Elements.{All-head, All-tail}
 use Rattle.cell_ascii.specs.Words.{is_space, is_word}
-use Rattle.cell_ascii.proofs.LexemeLemmas.{Lines, first_line, rest_lines, put, put_token, opening, lex, lex-space, lex-word}
+use Rattle.cell_ascii.proofs.LexemeLemmas.{Lines, put, put_token, opening, lex, lex-space, lex-word}
 
 -- a word within the limits
 pub record IsToken (w : List ℕ) : Type 0 where

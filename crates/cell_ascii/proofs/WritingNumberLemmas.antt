@@ -1,14 +1,13 @@
 -- The numbers of a grid text are read back as they were written.
-use Rattle.std.proofs.Common.{◌≡◌, ℕ, zero, suc, ◌+◌, ◌-◌, ◌*◌, ◌^◌, ◌/◌, ◌%◌, ◌<◌, ◌≤◌, ℤ, pos, negsuc, neg_ℤ, List, [], ◌∷◌, ◌++◌, length, drop, take, Option, Some, None, Bool, true, false, ◌==◌, ◌&&◌, not, decimal, refl, ap, sym, ◌∙◌, arith, cond, if◌then◌else◌, append-nil, length-append, subst, ◌⊎◌, inl, inr}
+use Rattle.std.proofs.Common.{◌≡◌, ℕ, suc, ◌+◌, ◌-◌, ◌*◌, ◌^◌, ◌/◌, ◌%◌, ◌<◌, ◌≤◌, ℤ, pos, negsuc, List, [], ◌∷◌, ◌++◌, length, drop, take, Option, Some, Bool, true, false, ◌==◌, not, decimal, refl, ap, sym, ◌∙◌, arith, cond, if◌then◌else◌, append-nil}
 use Rattle.std.proofs.Math.Seq.{take-append_seam, drop-append-add}
 use Rattle.std.specs.Prelude.{nat_le}
 use Rattle.std.specs.Fmt.{signed_decimal}
-use Rattle.std.specs.Option.{option_map}
 use Rattle.std.specs.List.{list_all, prefix_len, before_first, after_first}
 use Rattle.std.proofs.lemmas.Bool.{and_parts, leb-true, eqb-true}
 use Rattle.std.proofs.lemmas.Bool.Decides.{nat_tests}
 use Rattle.std.proofs.lemmas.Fmt.{length-decimal-le}
-use Rattle.cell_ascii.specs.Numbers.{is_digit, value_of_digits, digits_of, signed, whole_number, is_in_range, whole_in_range, in_units, unsigned_coordinate, coordinate, side}
+use Rattle.cell_ascii.specs.Numbers.{is_digit, value_of_digits, digits_of, signed, whole_number, is_in_range, in_units, unsigned_coordinate, coordinate, side}
 use Rattle.cell_ascii.specs.Writing.{without_zeros, fraction_text, units_text, coordinate_text}
 use Rattle.cell_ascii.proofs.WritingDigitLemmas.{IsNumeralOf, numeral, eight, IsFraction, fraction}
 
