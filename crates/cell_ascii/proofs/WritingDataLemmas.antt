@@ -11,7 +11,7 @@ use Rattle.cell_core.proofs.NameLemmas.{bytes_eq-differ}
 use Rattle.cell_ascii.specs.Numbers.{whole_number, is_in_range}
 use Rattle.cell_ascii.specs.Header.{Header, usual_multiplier}
 use Rattle.cell_ascii.specs.Cells.{cell_of_number, cell_of_word}
-use Rattle.cell_ascii.specs.Writing.{cell_text}
+use Rattle.cell_core.specs.Text.{cell_text}
 use Rattle.cell_ascii.specs.declared.fault.GridKind.TheVariants.{CellRange}
 use Rattle.cell_ascii.proofs.LexemeLemmas.{Lines}
 use Rattle.cell_ascii.proofs.DataLawLemmas.{all_words, then_words, taken_cell, take_cell, take_many}

@@ -8,7 +8,8 @@ use Rattle.cell_core.specs.Grid.{CellValue, Grid}
 use Rattle.cell_ascii.specs.Numbers.{is_in_range}
 use Rattle.cell_ascii.specs.Header.{Keys, no_keys}
 use Rattle.cell_ascii.specs.Cells.{grid_of}
-use Rattle.cell_ascii.specs.Writing.{cell_text, row_text, grid_text, IsNullText, IsWritable, without_labels, WritingIsRead}
+use Rattle.cell_core.specs.Text.{cell_text}
+use Rattle.cell_ascii.specs.Writing.{row_text, grid_text, IsNullText, IsWritable, without_labels, WritingIsRead}
 use Rattle.cell_ascii.specs.declared.fault.GridFault.{GridFault}
 use Rattle.cell_ascii.proofs.LexemeLemmas.{coming, Lines, lex}
 use Rattle.cell_ascii.proofs.DataLawLemmas.{accepted, all_words, then_words, take_cell, take_many, take_end, take_grid}

@@ -2,9 +2,9 @@
 
 ghost use Rattle.std.specs.Prelude.{◌≡◌, ℕ, ◌+◌, ◌-◌, ◌<◌, ◌≤◌, ◌||◌, List, [], ◌++◌, length, take, Option, OnOk, IfOk, IfErr, is_err};
 ghost use Rattle.cell_core.specs.Device.{append_known};
-ghost use Rattle.rcell.specs.output.Blocks.{BlockValue, Gathered, Gathers, Empties, PutsAll, Cuts, CutsOff, capped, empty_block};
+ghost use Rattle.cell_core.specs.Blocks.{BlockValue, Gathered, Gathers, Empties, PutsAll, Cuts, CutsOff, capped, empty_block};
 
-use cell_core::sink::{Sink, WriteFault, put_bytes};
+use crate::sink::{Sink, WriteFault, put_bytes};
 use std::marker::Model;
 
 // The number of bytes that a block holds at most.
@@ -22,7 +22,7 @@ pub struct Block {
 
 impl Model for Block {
     ghost use Rattle.std.specs.Prelude.{◌≤◌, take};
-    ghost use Rattle.rcell.specs.output.Blocks.{BlockValue};
+    ghost use Rattle.cell_core.specs.Blocks.{BlockValue};
 
     ghost Value = { BlockValue };
 
