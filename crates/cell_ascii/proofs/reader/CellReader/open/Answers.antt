@@ -1,7 +1,7 @@
 use Rattle.std.proofs.lemmas.Result.{err_from_is_err_and}
 use Rattle.cell_ascii.specs.Ahead.{to_come}
 use Rattle.cell_ascii.proofs.DataLemmas.{open_fails}
-use Rattle.cell_ascii.proofs.reader.GridReader.open.Goals as goal
+use Rattle.cell_ascii.proofs.reader.CellReader.open.Goals as goal
 
 pub returns-in_err-header-clause-fault : goal.returns-in_err-header-clause-fault
 returns-in_err-header-clause-fault g c =
