@@ -83,8 +83,8 @@ nothing_held (Some c) = refl
 
 -- the keys give no header
 pub open_fails : (keys : Keys) (word : List ℕ) (line : ℕ) (waiting : Bool) (r b : Option Coming) (f : GridFault)
-    → option_map (header_from 7 no_keys 1 0) (to_come (record { held = []; rest = r })) ≡ option_map (header_seen (Ok waiting) keys word line) b
+    → option_map (header_from 10 no_keys 1 0) (to_come (record { held = []; rest = r })) ≡ option_map (header_seen (Ok waiting) keys word line) b
     → Err f ≡ at_line line (header_of keys) → IfSome r (λ c. header_of_text c ≡ Err f)
 open_fails keys word line waiting r b f e bad =
-    known (header_from 7 no_keys 1 0) (header_seen (Ok waiting) keys word line) r b (Err f)
-    (ap (option_map (header_from 7 no_keys 1 0)) (sym (nothing_held r)) ∙ e) (λ c. rw (← bad) refl)
+    known (header_from 10 no_keys 1 0) (header_seen (Ok waiting) keys word line) r b (Err f)
+    (ap (option_map (header_from 10 no_keys 1 0)) (sym (nothing_held r)) ∙ e) (λ c. rw (← bad) refl)

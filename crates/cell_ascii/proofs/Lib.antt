@@ -24,3 +24,10 @@ pub mod NumberLemmas
 pub mod OpeningLemmas
 pub mod CellLemmas
 pub mod DataLemmas
+pub mod WritingDigitLemmas
+pub mod WritingNumberLemmas
+pub mod WritingLexLemmas
+pub mod WritingTokenLemmas
+pub mod WritingDataLemmas
+pub mod WritingHeaderLemmas
+pub mod WritingLawLemmas

@@ -163,18 +163,18 @@ header_none keys line run c = refl
 less_one : (n i : ℕ) → i < n → n - i ≡ suc (n - (i + 1))
 less_one n i h = omega arith
 
-module _ (F : Coming → Result Opened GridFault) (a b d : Option Coming) (i : ℕ) (keys : Keys) (line run : ℕ) (in_range : i < 7)
-    (so_far : option_map F a ≡ option_map (header_from (7 - i) keys line run) b) where
+module _ (F : Coming → Result Opened GridFault) (a b d : Option Coming) (i : ℕ) (keys : Keys) (line run : ℕ) (in_range : i < 10)
+    (so_far : option_map F a ≡ option_map (header_from (10 - i) keys line run) b) where
   one_line : (seen : Coming → Result AfterLine GridFault) → option_map (λ c. line_read keys (start_of line run c)) b ≡ option_map seen d
-      → option_map F a ≡ option_map (λ c. go_on (λ k l r x. header_from (7 - (i + 1)) k l r x) (seen c)) d
+      → option_map F a ≡ option_map (λ c. go_on (λ k l r x. header_from (10 - (i + 1)) k l r x) (seen c)) d
   one_line seen h =
-      so_far ∙ ap (λ (n : ℕ). option_map (header_from n keys line run) b) (less_one 7 i in_range)
-      ∙ map_same (header_from (suc (7 - (i + 1))) keys line run) (λ c. go_on (λ k l r x. header_from (7 - (i + 1)) k l r x) (line_read keys (start_of line run c))) b (header_more (7 - (i + 1)) keys line run)
-      ∙ then_map (go_on (λ k l r x. header_from (7 - (i + 1)) k l r x)) (λ c. line_read keys (start_of line run c)) seen b d h
+      so_far ∙ ap (λ (n : ℕ). option_map (header_from n keys line run) b) (less_one 10 i in_range)
+      ∙ map_same (header_from (suc (10 - (i + 1))) keys line run) (λ c. go_on (λ k l r x. header_from (10 - (i + 1)) k l r x) (line_read keys (start_of line run c))) b (header_more (10 - (i + 1)) keys line run)
+      ∙ then_map (go_on (λ k l r x. header_from (10 - (i + 1)) k l r x)) (λ c. line_read keys (start_of line run c)) seen b d h
 
   -- the keys after the line, and the lines behind it
   pub header_goes : (more : Keys) (l r : ℕ) → option_map (λ c. line_read keys (start_of line run c)) b ≡ option_map (λ c. Ok (More more l r c)) d
-      → option_map F a ≡ option_map (header_from (7 - (i + 1)) more l r) d
+      → option_map F a ≡ option_map (header_from (10 - (i + 1)) more l r) d
   header_goes more l r h = one_line (λ c. Ok (More more l r c)) h
 
   pub header_stops : (more : Keys) (l : ℕ) (pending : Option (List ℕ)) → option_map (λ c. line_read keys (start_of line run c)) b ≡ option_map (λ c. Ok (Stop more l pending c)) d

@@ -1,10 +1,10 @@
 -- The grid text of a map (r.out.ascii manual: header lines, then the cells row by row; how numbers are printed is the profile's).
-use Rattle.std.specs.Prelude.{ℕ, ℤ, pos, negsuc, suc, ◌≡◌, ◌≢◌, ◌+◌, ◌-◌, ◌/◌, ◌%◌, ◌≤◌, Bool, false, ◌==◌, List, [], ◌∷◌, ◌++◌, length, map, flat_map, drop, take, reverse, All, Some, None, IfSome, IsTrue, bytes_eq, codes, decimal, if◌then◌else◌}
+use Rattle.std.specs.Prelude.{ℕ, ℤ, pos, negsuc, suc, ◌≡◌, ◌≢◌, ◌+◌, ◌-◌, ◌/◌, ◌%◌, ◌≤◌, false, ◌==◌, List, [], ◌∷◌, ◌++◌, length, map, flat_map, drop, take, reverse, All, IfSome, IsTrue, bytes_eq, codes, decimal, if◌then◌else◌}
 use Rattle.std.specs.Fmt.{signed_decimal}
 use Rattle.std.specs.List.{list_all, join_with_byte, prefix_len}
-use Rattle.cell_core.specs.Device.{Coming}
 use Rattle.cell_core.specs.Region.{RegionValue, IsRegion}
 use Rattle.cell_core.specs.Grid.{CellValue, Grid, IsFilled, no_labels}
+use Rattle.cell_core.specs.Text.{cell_text}
 use Rattle.cell_ascii.specs.Words.{is_word}
 use Rattle.cell_ascii.specs.Numbers.{is_in_range}
 use Rattle.cell_ascii.specs.Header.{has_colon, usual_null}
@@ -44,11 +44,6 @@ region_text e =
 -- the line of a null text that is not the usual one
 abbrev pub null_line : List ℕ → List ℕ
 null_line null_text = if bytes_eq null_text usual_null then [] else line_of_key (codes "null") null_text
-
--- a category in decimal, or the null text
-abbrev pub cell_text : List ℕ → CellValue → List ℕ
-cell_text null_text None = null_text
-cell_text null_text (Some category) = signed_decimal category
 
 -- the cells of a row, joined by one space
 abbrev pub row_text : List ℕ → List CellValue → List ℕ

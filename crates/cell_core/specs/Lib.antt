@@ -1,3 +1,4 @@
+pub mod Blocks
 pub mod Cell
 pub mod Device
 pub mod Grid
@@ -6,3 +7,4 @@ pub mod Region
 pub mod SameRegion
 pub mod Shelf
 pub mod ShelfRefused
+pub mod Text

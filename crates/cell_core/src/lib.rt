@@ -1,9 +1,10 @@
-//! Cells, regions, names, maps, the shelf of maps, and the sources and sinks of bytes.
+//! Cells, regions, names, maps, the shelf of maps, the sources and sinks of bytes, and output in blocks.
 //!
 //! The meaning of maps, cells and regions is that of CELL maps of GRASS (g.region and r.in.ascii
 //! manuals). Where a rule is this project's own choice, its text says profile.
 #![tactic(auto)]
 
+pub mod block;
 pub mod cell;
 pub mod device;
 pub mod map;
@@ -15,3 +16,4 @@ pub mod sink;
 pub mod source;
 #[cfg(test)]
 mod tests;
+pub mod text;

@@ -1,5 +1,4 @@
 pub mod Reports
-pub mod ascii
 pub mod clumps
 pub mod output
 pub mod runs

@@ -1,3 +1,2 @@
--- The text that a run puts out, and the block that gathers it.
-pub mod Blocks
+-- The text that a run puts out.
 pub mod TableText

@@ -2,7 +2,6 @@
 //! put out (GRASS manual: r.in.ascii, r.stats).
 #![tactic(auto)]
 
-pub mod ascii;
 pub mod clumps;
 pub mod output;
 pub mod report;

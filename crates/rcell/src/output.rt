@@ -1,4 +1,3 @@
 //! The text that a run puts out.
 
-pub mod block;
 pub mod text;

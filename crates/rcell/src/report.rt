@@ -3,7 +3,7 @@
 ghost use Rattle.std.specs.Prelude.{◌≡◌, is_some, IfSome};
 ghost use Rattle.rcell.specs.Reports.{name_at, source_of, line_of, text_of};
 
-use crate::ascii::fault::GridKind;
+use cell_ascii::fault::GridKind;
 use crate::runs::outcome::{Outcome, RunFault};
 use crate::script::fault::ScriptKind;
 use bstr::ByteSlice;

@@ -3,8 +3,8 @@
 use cell_core::map::CellMap;
 use cell_core::region::RegionFault;
 use cell_core::source::MemorySource;
-use rcell::ascii::fault::{GridFault, GridKind};
-use rcell::ascii::reader::read_map;
+use cell_ascii::fault::{GridFault, GridKind};
+use cell_ascii::reader::read_map;
 use std::alloc::AllocGlobal;
 use std::process::Abort;
 use std::test::Fail;

@@ -2,7 +2,7 @@
 
 use cell_core::name::Name;
 use cell_core::region::RegionFault;
-use rcell::ascii::fault::{GridFault, GridKind};
+use cell_ascii::fault::{GridFault, GridKind};
 use rcell::report::fault_line;
 use rcell::runs::outcome::{Outcome, RunFault, status_of};
 use rcell::script::fault::{ScriptFault, ScriptKind};

@@ -3,7 +3,7 @@
 use cell_core::name::Name;
 use cell_core::sink::MemorySink;
 use cell_core::source::MemorySource;
-use rcell::ascii::fault::{GridFault, GridKind};
+use cell_ascii::fault::{GridFault, GridKind};
 use rcell::script::fault::{ScriptFault, ScriptKind};
 use rcell::{Outcome, RunFault, run};
 use std::alloc::{AllocGlobal, Global};

@@ -3,7 +3,7 @@ use Rattle.std.proofs.Common.{◌≡◌, ℕ, suc, ◌+◌, ◌<◌, List, [], �
 use Rattle.std.proofs.Math.Seq.{drop-cons}
 use Rattle.std.proofs.lemmas.Grind.{flat_map-append}
 use Rattle.cell_core.specs.Shelf.{ShelfValue}
-use Rattle.rcell.specs.output.Blocks.{BlockValue, Gathered, IsPut, Gathers, PutsAll}
+use Rattle.cell_core.specs.Blocks.{BlockValue, Gathered, IsPut, Gathers, PutsAll}
 use Rattle.rcell.specs.runs.Execution.{Puts, IsStopped, IsBefore, Stops}
 use Rattle.rcell.specs.runs.Output.{output_of, statement_text}
 use Rattle.rcell.specs.declared.script.statement.Statement.{Statement}

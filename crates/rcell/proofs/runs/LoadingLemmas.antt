@@ -7,7 +7,7 @@ use Rattle.cell_core.specs.Name.{place_of}
 use Rattle.cell_core.specs.Region.{RegionValue}
 use Rattle.cell_core.specs.SameRegion.{is_same_region, is_same_region-Decides}
 use Rattle.cell_core.specs.Shelf.{ShelfValue}
-use Rattle.rcell.specs.ascii.Cells.{grid_of}
+use Rattle.cell_ascii.specs.Cells.{grid_of}
 use Rattle.rcell.specs.runs.Sources.{AllKnown, known_of, coming_of}
 use Rattle.rcell.specs.runs.Faults.{IsOfInput}
 use Rattle.rcell.specs.runs.Loading.{added, placed, with_map, with_grid, shelf_from, then_grids}

@@ -1,23 +1,18 @@
 -- The printed text of a table (r.stats manual; the separator is a space, and null is `*`).
-use Rattle.std.specs.Prelude.{ℕ, List, [], ◌∷◌, ◌++◌, map, flat_map, codes, decimal, Some, None}
-use Rattle.std.specs.Fmt.{signed_decimal}
+use Rattle.std.specs.Prelude.{ℕ, List, [], ◌∷◌, ◌++◌, map, flat_map, codes, decimal}
 use Rattle.std.specs.List.{join_with_byte}
 use Rattle.cell_core.specs.Grid.{CellValue}
+use Rattle.cell_core.specs.Text.{cell_text}
 use Rattle.rcell.specs.stats.Combinations.{Combination}
 use Rattle.rcell.specs.stats.Tables.{Pairs}
 
--- a category in decimal, or `*`
-abbrev pub cell_text : CellValue → List ℕ
-cell_text None = codes "*"
-cell_text (Some category) = signed_decimal category
-
 -- a cell and the separator after it
 abbrev pub field_text : CellValue → List ℕ
-field_text cell = cell_text cell ++ 32 ∷ []
+field_text cell = cell_text (codes "*") cell ++ 32 ∷ []
 
 -- the cells of the combination, then the count
 abbrev pub fields : Combination × ℕ → List (List ℕ)
-fields pair = map cell_text pair.0 ++ decimal pair.1 ∷ []
+fields pair = map (cell_text (codes "*")) pair.0 ++ decimal pair.1 ∷ []
 
 -- the fields joined by a space, then a line feed
 abbrev pub line_text : Combination × ℕ → List ℕ

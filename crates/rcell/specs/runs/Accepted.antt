@@ -4,7 +4,7 @@ use Rattle.cell_core.specs.Device.{Coming}
 use Rattle.cell_core.specs.Grid.{Grid}
 use Rattle.cell_core.specs.Name.{AreDistinct}
 use Rattle.cell_core.specs.Shelf.{ShelfValue}
-use Rattle.rcell.specs.ascii.GridText.{Denotes}
+use Rattle.cell_ascii.specs.GridText.{Denotes}
 use Rattle.rcell.specs.runs.Sources.{Named}
 use Rattle.rcell.specs.script.Statements.{script_of}
 use Rattle.rcell.specs.declared.script.statement.Statement.{Statement}

@@ -2,7 +2,7 @@
 use Rattle.std.specs.Prelude.{ℕ, ◌≡◌, Bool, true, false, List, ◌∷◌, ◌++◌, length, Option, Result, Ok, Err}
 use Rattle.cell_core.specs.Device.{append_known}
 use Rattle.cell_core.specs.Shelf.{ShelfValue}
-use Rattle.rcell.specs.output.Blocks.{BlockValue, IsPut, IsCut, capped}
+use Rattle.cell_core.specs.Blocks.{BlockValue, IsPut, IsCut, capped}
 use Rattle.rcell.specs.runs.Output.{output_of}
 use Rattle.rcell.specs.declared.script.statement.Statement.{Statement}
 use Rattle.rcell.specs.declared.runs.execution.Stop.{Stop}

@@ -1,7 +1,7 @@
 -- The faults of a run: their exit statuses, and which of them come when.
 use Rattle.std.specs.Prelude.{ℕ, ◌≡◌, ◌≢◌, ◌<◌, ⊤, Option, Some, None}
-use Rattle.rcell.specs.declared.ascii.fault.GridKind.{GridKind}
-use Rattle.rcell.specs.declared.ascii.fault.GridKind.TheVariants as grid_kinds
+use Rattle.cell_ascii.specs.declared.fault.GridKind.{GridKind}
+use Rattle.cell_ascii.specs.declared.fault.GridKind.TheVariants as grid_kinds
 use Rattle.rcell.specs.declared.script.fault.ScriptKind.{ScriptKind}
 use Rattle.rcell.specs.declared.script.fault.ScriptKind.TheVariants as script_kinds
 use Rattle.rcell.specs.declared.runs.outcome.RunFault.{RunFault}

@@ -5,7 +5,7 @@ use Rattle.cell_core.specs.Shelf.{ShelfValue}
 use Rattle.rcell.specs.script.Statements.{script_of}
 use Rattle.rcell.specs.declared.script.fault.ScriptFault.{ScriptFault}
 use Rattle.rcell.specs.declared.script.statement.Statement.{Statement}
-use Rattle.rcell.specs.output.Blocks.{IsCut, capped}
+use Rattle.cell_core.specs.Blocks.{IsCut, capped}
 use Rattle.rcell.specs.runs.Faults.{IsOfMemory}
 use Rattle.rcell.specs.runs.Sources.{Named}
 use Rattle.rcell.specs.runs.Loading.{shelf_of}

@@ -1,27 +1,15 @@
 //! The printed form of a table.
 
 ghost use Rattle.std.specs.Prelude.{◌≡◌, ◌||◌, [], ◌∷◌, ◌++◌, decimal, OnOk, IfErr, is_err};
-ghost use Rattle.rcell.specs.output.Blocks.{Gathers, CutsOff};
-ghost use Rattle.rcell.specs.output.TableText.{cell_text, field_text, line_text, table_text};
+ghost use Rattle.cell_core.specs.Blocks.{Gathers, CutsOff};
+ghost use Rattle.rcell.specs.output.TableText.{field_text, line_text, table_text};
 
-use crate::output::block::Block;
 use crate::stats::table::Table;
+use cell_core::block::Block;
 use cell_core::cell::Cell;
 use cell_core::sink::{Sink, WriteFault};
+use cell_core::text::write_cell;
 use itoa::Buffer;
-
-// Writes a cell.
-fn write_cell<W: Sink>(out: &mut W, block: &mut Block, cell: Cell) -> Result<(), WriteFault>
-    ensures ok { OnOk result (Gathers (W.taken out.old) block.old (cell_text cell) (W.taken out.new) block.new) }
-    ensures err { IfErr result (λ fault. CutsOff (W.taken out.old) block.old (cell_text cell) (W.taken out.new) fault.written) }
-    ensures lost { IfErr result (λ fault. block.new ≡ record { held = []; written = fault.written }) }
-    ensures failed { W.failed out.new ≡ (W.failed out.old || is_err result) }
-{
-    match cell.get() {
-        None => block.push(out, b"*"),
-        Some(category) => block.push(out, Buffer::new().format(category).as_bytes()),
-    }
-}
 
 // Writes a cell and the space after it.
 fn write_field<W: Sink>(out: &mut W, block: &mut Block, cell: Cell) -> Result<(), WriteFault>
@@ -30,7 +18,7 @@ fn write_field<W: Sink>(out: &mut W, block: &mut Block, cell: Cell) -> Result<()
     ensures lost { IfErr result (λ fault. block.new ≡ record { held = []; written = fault.written }) }
     ensures failed { W.failed out.new ≡ (W.failed out.old || is_err result) }
 {
-    write_cell(out, block, cell)?;
+    write_cell(out, block, cell, b"*")?;
     block.push(out, b" ")
 }
 

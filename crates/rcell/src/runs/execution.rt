@@ -2,15 +2,15 @@
 
 ghost use Rattle.std.specs.Prelude.{◌≡◌, ◌<◌, ◌||◌, All, [], length, OnOk, IfOk, IfErr};
 ghost use Rattle.cell_core.specs.Device.{append_known};
-ghost use Rattle.rcell.specs.output.Blocks.{capped};
+ghost use Rattle.cell_core.specs.Blocks.{capped};
 ghost use Rattle.rcell.specs.runs.Execution.{Puts, IsStopped, Stops, stops_write};
 ghost use Rattle.rcell.specs.runs.Output.{output_of, statement_text, stats_text};
 ghost use Rattle.rcell.specs.script.Statements.{ReadsWithin};
 
-use crate::output::block::Block;
 use crate::output::text::write_table;
 use crate::script::statement::{Command, Statement};
 use crate::stats::table::tally;
+use cell_core::block::Block;
 use cell_core::shelf::Shelf;
 use cell_core::sink::{Sink, WriteFault};
 use std::alloc::Global;

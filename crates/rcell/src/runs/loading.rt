@@ -2,12 +2,12 @@
 
 ghost use Rattle.std.specs.Prelude.{◌≡◌, ◌+◌, ◌<◌, IsSome, IfOk, IfErr, Ok, Err, Some, length, vec_len};
 ghost use Rattle.cell_core.specs.Name.{place_of};
-ghost use Rattle.rcell.specs.ascii.Cells.{grid_of};
+ghost use Rattle.cell_ascii.specs.Cells.{grid_of};
 ghost use Rattle.rcell.specs.runs.Faults.{IsOfInput, IsBeforeExecution};
 ghost use Rattle.rcell.specs.runs.Loading.{added, placed, with_grid, shelf_of};
 ghost use Rattle.rcell.specs.runs.Sources.{AllKnown, known_of, coming_of};
 
-use crate::ascii::reader::read_map;
+use cell_ascii::reader::read_map;
 use crate::runs::outcome::RunFault;
 use cell_core::map::CellMap;
 use cell_core::memory::Memory;

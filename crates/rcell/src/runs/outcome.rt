@@ -3,7 +3,7 @@
 ghost use Rattle.std.specs.Prelude.{◌≡◌};
 ghost use Rattle.rcell.specs.runs.Faults.{grid_status, script_status, status_of};
 
-use crate::ascii::fault::{GridFault, GridKind};
+use cell_ascii::fault::{GridFault, GridKind};
 use crate::script::fault::{ScriptFault, ScriptKind};
 
 /// Why a run did not do its work. `grid` is a place among the grids, from 0.

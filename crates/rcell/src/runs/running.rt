@@ -3,7 +3,7 @@
 ghost use Rattle.std.specs.Prelude.{◌≡◌, ℕ, ◌<◌, List, All, length, true, IsNone, IsSome, IfSome, IfOk, IfErr, Ok, Err, Some, None, vec_len};
 ghost use Rattle.cell_core.specs.Device.{append_known};
 ghost use Rattle.cell_core.specs.Shelf.{ShelfValue};
-ghost use Rattle.rcell.specs.output.Blocks.{IsCut, capped};
+ghost use Rattle.cell_core.specs.Blocks.{IsCut, capped};
 ghost use Rattle.rcell.specs.runs.Faults.{IsOfInput, IsBeforeExecution, IsInExecution, status_of, status_after};
 ghost use Rattle.rcell.specs.runs.Outcomes.{outcome_of, output_on, script_text, IsDone, IsFront, Writes};
 ghost use Rattle.rcell.specs.runs.Accepted.{IsAccepted};

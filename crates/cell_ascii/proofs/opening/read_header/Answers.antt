@@ -47,6 +47,6 @@ returns-in-Err-clause-header g c =
 pub returns-clause-header : goal.returns-clause-header
 returns-clause-header g c =
     let t = c.loop.scanner in
-    let none : 7 - c.loop.counter ≡ 0 = omega arith in
+    let none : 10 - c.loop.counter ≡ 0 = omega arith in
     rw (c.bad_header.ensures, c.line.ensures)
     ((rw none at c.loop.invariant.header) ∙ map_same (header_from 0 c.loop.keys t.line t.run) (λ (x : Coming). Err (fault BadHeader t.line)) (to_come t.ahead) (header_none c.loop.keys t.line t.run))

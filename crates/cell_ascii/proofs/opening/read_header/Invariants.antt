@@ -9,7 +9,7 @@ invariant-loop g l =
     let s = l.fn.scanner in
     record {
       header : option_map (header_from 10 l.fn.keys s.line s.run) (to_come s.ahead)
-          ≡ option_map (header_from (7 - l.counter) l.keys l.scanner.line l.scanner.run) (to_come l.scanner.ahead);
+          ≡ option_map (header_from (10 - l.counter) l.keys l.scanner.line l.scanner.run) (to_come l.scanner.ahead);
       lines : l.scanner.line ≤ s.line + l.counter * 1048577;
       run : l.scanner.run ≤ 1048576;
     }

@@ -1,4 +1,4 @@
-use Rattle.std.proofs.Common.{◌∙◌}
+use Rattle.std.proofs.Common.{◌∙◌, sym}
 use Rattle.cell_ascii.specs.Ahead.{to_come}
 use Rattle.cell_ascii.proofs.OpeningLemmas.{key_done, key_given}
 use Rattle.cell_ascii.proofs.opening.read_key.Goals as goal
@@ -8,7 +8,7 @@ returns-in-Ok-clause-key g c =
     let s = c.args.scanner.now in
     let t = c.read_value.new.scanner in
     let u = c.end_line.new.scanner in
-    let given = key_given c.args.keys.now c.in-Ok.more s.word c.word.result.now c.word-2.result.now t.word c.args.colon c.in_ok-start.start c.key_of-key.result
-    c.requires.colon c.word.ensures c.key_of-key.ensures (c.word-2.ensures ∙ c.end_line.ensures.word) c.in-Ok.ensures in
-    key_done s.line c.args.keys.now s.word t.word c.in_ok-start.start u.run c.in_ok-ending.ending c.in-Ok.more (to_come s.ahead) (to_come t.ahead) (to_come u.ahead)
+    let given = key_given c.args.keys.now c.give.new.self s.word c.word.result.now c.word-2.result.now t.word c.args.colon c.in_ok-start.start c.key_of-key.result
+    c.requires.colon c.word.ensures.value c.key_of-key.ensures (c.word-2.ensures.value ∙ c.end_line.ensures.word) (sym c.in-Ok.ensures.ok) in
+    key_done s.line c.args.keys.now s.word t.word c.in_ok-start.start u.run c.in_ok-ending.ending c.give.new.self (to_come s.ahead) (to_come t.ahead) (to_come u.ahead)
     (rw c.requires.colon at c.in_ok-start.ensures.value) (rw c.in_ok-start.ensures.line at c.in_ok-ending.ensures.ending) given

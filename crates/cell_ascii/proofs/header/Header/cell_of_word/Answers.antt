@@ -1,4 +1,4 @@
-use Rattle.std.proofs.Common.{◌≡◌, ℕ, ℤ, List, false, sym, ◌∙◌, ap, rules, Some, w32, w64, take}
+use Rattle.std.proofs.Common.{◌≡◌, ℕ, ℤ, List, false, sym, ◌∙◌, ap, rules, Some, w32, w64}
 use Rattle.std.specs.Prelude.{bytes_eq}
 use Rattle.std.specs.Int.RustNames.{FitsSigned}
 use Rattle.std.proofs.lemmas.Int.{to_z-of_z}
@@ -16,6 +16,6 @@ pub returns-in-Some : goal.returns-in-Some
 returns-in-Some c =
     let number_fits : FitsSigned w64 c.in-Some.number = search rules in
     let multiplier_fits : FitsSigned w32 c.self.inside.multiplier = search rules in
-    let other = sym c.eq.ensures ∙ c.if-eq.false in
+    let other = sym c.is.ensures ∙ c.if-is.false in
     rw (← c.self.view_is)
-    ((simp to_z-of_z at c.cell_of_number.ensures) ∙ by_number (record { region = c.self.inside.region; null_text = take c.self.inside.null_len c.self.inside.null_text; multiplier = c.self.inside.multiplier }) c.args.word.now c.in-Some.number other c.in-Some.ensures)
+    ((simp to_z-of_z at c.cell_of_number.ensures) ∙ by_number (record { region = c.self.inside.region; null_text = c.self.inside.null_text; multiplier = c.self.inside.multiplier }) c.args.word.now c.in-Some.number other c.in-Some.ensures)

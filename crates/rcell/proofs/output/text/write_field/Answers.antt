@@ -1,5 +1,5 @@
 use Rattle.std.proofs.lemmas.Result.{err_from_is_err_and, IfErr-weaker}
-use Rattle.rcell.proofs.output.TextLemmas.{CutsOff-first, CutsOff-second}
+use Rattle.cell_core.proofs.GatherLemmas.{CutsOff-first, CutsOff-second}
 use Rattle.rcell.proofs.output.text.write_field.Goals as goal
 
 pub returns-in_err-write_cell-clause-err : goal.returns-in_err-write_cell-clause-err

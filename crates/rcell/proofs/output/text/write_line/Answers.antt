@@ -1,7 +1,8 @@
 use Rattle.std.proofs.Common.{◌≡◌, ◌<◌, length, take, arith, take_all}
 use Rattle.std.proofs.lemmas.Result.{err_from_is_err_and, IfErr-weaker, IfOk-weaker}
+use Rattle.cell_core.proofs.GatherLemmas.{CutsOff-first, CutsOff-second, Gathers-then, flat_map-rest}
 use Rattle.rcell.specs.output.TableText.{field_text}
-use Rattle.rcell.proofs.output.TextLemmas.{CutsOff-first, CutsOff-second, Gathers-then, flat_map-rest, line_text-fields}
+use Rattle.rcell.proofs.output.TextLemmas.{line_text-fields}
 use Rattle.rcell.proofs.output.text.write_line.Goals as goal
 
 pub returns-in_err-write_field-clause-err : goal.returns-in_err-write_field-clause-err

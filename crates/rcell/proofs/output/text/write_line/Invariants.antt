@@ -1,5 +1,5 @@
 use Rattle.std.proofs.Common.{◌≡◌, take, flat_map}
-use Rattle.rcell.specs.output.Blocks.{Gathers}
+use Rattle.cell_core.specs.Blocks.{Gathers}
 use Rattle.rcell.specs.output.TableText.{field_text}
 use Rattle.rcell.proofs.output.text.write_line.Given as goal
 

@@ -3,7 +3,7 @@ use Rattle.std.proofs.lemmas.Result.{err_from_is_err_and}
 use Rattle.std.proofs.lemmas.Option.{get_or_from_slice_get}
 use Rattle.rcell.specs.output.TableText.{line_text}
 use Rattle.rcell.specs.stats.Combinations.{Combination}
-use Rattle.rcell.proofs.output.TextLemmas.{CutsOff-first, CutsOff-second, Gathers-then, flat_map-rest, flat_map-take}
+use Rattle.cell_core.proofs.GatherLemmas.{CutsOff-first, CutsOff-second, Gathers-then, flat_map-rest, flat_map-take}
 use Rattle.rcell.proofs.output.text.write_table.Goals as goal
 
 pub returns-in_err-write_line-clause-err : goal.returns-in_err-write_line-clause-err

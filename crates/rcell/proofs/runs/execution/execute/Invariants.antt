@@ -1,5 +1,5 @@
 use Rattle.std.proofs.Common.{◌≡◌, take, []}
-use Rattle.rcell.specs.output.Blocks.{IsPut}
+use Rattle.cell_core.specs.Blocks.{IsPut}
 use Rattle.rcell.specs.runs.Output.{output_of}
 use Rattle.rcell.proofs.runs.execution.execute.Given as goal
 
