@@ -211,10 +211,7 @@ impl<R: Source> GridReader<R> {
         ensures memory { IfErr result (λ f. f.kind ≡ GridKind.Memory → f.line ≡ 0) }
     {
         let cells = CellReader::open(alloc, source)?;
-        let region = cells.region();
-        let rows_left = region.rows();
-        // The proof takes from it that a row has cells.
-        let _ = region.cols();
+        let rows_left = cells.region().rows();
         Ok(GridReader {
             cells,
             rows_left,
