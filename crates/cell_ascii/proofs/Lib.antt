@@ -23,7 +23,6 @@ pub mod DigitLemmas
 pub mod NumberLemmas
 pub mod OpeningLemmas
 pub mod CellLemmas
-pub mod DataLemmas
 pub mod WritingDigitLemmas
 pub mod WritingNumberLemmas
 pub mod WritingLexLemmas
@@ -31,3 +30,6 @@ pub mod WritingTokenLemmas
 pub mod WritingDataLemmas
 pub mod WritingHeaderLemmas
 pub mod WritingLawLemmas
+pub mod RowReadLemmas
+pub mod DataLemmas
+pub mod KindLemmas

@@ -15,3 +15,4 @@ pub mod Scan
 pub mod Steps
 pub mod Opening
 pub mod Reader
+pub mod GridReaders

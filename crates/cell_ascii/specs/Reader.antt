@@ -1,10 +1,13 @@
 -- What a reader is at, and what its calls answer.
-use Rattle.std.specs.Prelude.{ℕ, List, [], Option, Result, Ok, Err}
+use Rattle.std.specs.Prelude.{ℕ, ◌≡◌, ◌+◌, ◌*◌, ◌^◌, ◌<◌, Bool, false, List, [], Option, None, Result, Ok, Err, IfSome}
 use Rattle.cell_core.specs.Device.{Coming}
-use Rattle.cell_ascii.specs.Ahead.{Ahead}
+use Rattle.cell_core.specs.Grid.{CellValue}
+use Rattle.cell_ascii.specs.Ahead.{Ahead, to_come}
 use Rattle.cell_ascii.specs.Words.{Start, Begins, Ends, Stops, word_from, fault}
 use Rattle.cell_ascii.specs.Header.{◌>>=◌, At, Header, Opened}
-use Rattle.cell_ascii.specs.Cells.{Reading}
+use Rattle.cell_ascii.specs.Cells.{Reading, cell_from, many}
+use Rattle.cell_ascii.specs.RowPlaces.{IsPlaceOf}
+use Rattle.cell_ascii.specs.GridReaders.{ReaderValue, place_in}
 use Rattle.cell_ascii.specs.declared.fault.GridKind.TheVariants.{TooFew}
 use Rattle.cell_ascii.specs.declared.fault.GridFault.{GridFault}
 
@@ -32,15 +35,30 @@ abbrev pub token_seen : Result (Unit {0}) GridFault → ℕ → List ℕ → Com
 token_seen (Ok u) line word c = Ok (line, (word, c))
 token_seen (Err f) line word c = Err f
 
--- what an answer says of a reading, where the value is what was returned, and where it is what was written
+-- what an answer says of a reading
 abbrev pub reading_seen : {X : Type 0} → Result X GridFault → Place → Coming → Reading X
 reading_seen (Ok x) p c = Ok (x, at_place p c)
 reading_seen (Err f) p c = Err f
 
-abbrev pub writing_seen : {X : Type 0} → Result (Unit {0}) GridFault → X → Place → Coming → Reading X
-writing_seen (Ok u) x p c = Ok (x, at_place p c)
-writing_seen (Err f) x p c = Err f
-
 -- whatever is to come
 abbrev pub always : {X : Type 0} → X → Coming → X
 always x c = x
+
+-- a reader of rows at a place
+abbrev pub reader_at : Place → ℕ → Bool → ReaderValue
+reader_at p rows_left failed =
+    record { header = p.header; rows_left = rows_left; pending = p.pending; line = p.line; run = p.run; failed = failed; coming = to_come p.ahead }
+
+-- a place of the text, where no token waits behind the last row
+abbrev pub IsPlaced : ReaderValue → Type 0
+IsPlaced r = IfSome r.coming (λ c. IsPlaceOf (place_in r c) × (r.rows_left ≡ 0 → r.pending ≡ None))
+
+-- a reader of rows that has not failed can number the lines to come, and is at a place of the text
+pub record IsReady (r : ReaderValue) : Type 0 where
+  pub wide : 0 < r.header.region.cols
+  pub lines : r.failed ≡ false → r.line + (r.rows_left * r.header.region.cols + 1) * 1048577 < 2 ^ 63
+  pub placed : r.failed ≡ false → IsPlaced r
+
+-- the rows of the data
+abbrev pub rows_from : Header → At → Reading (List (List CellValue))
+rows_from h at = many (many (cell_from h) h.region.cols) h.region.rows at

@@ -1,13 +1,18 @@
 //! Whole grids, read row by row.
 
-ghost use Rattle.std.specs.Prelude.{◌≡◌, ◌≢◌, ◌+◌, ◌*◌, ◌^◌, ◌<◌, ◌≤◌, length, Ok, Err, OnOk, IfOk, IfErr, IfSome};
+ghost use Rattle.std.specs.Prelude.{◌≡◌, ◌≢◌, ◌+◌, ◌*◌, ◌^◌, ◌<◌, ◌≤◌, ◌||◌, true, false, length, Some, Ok, Err, OnOk, IfOk, IfErr, IfSome};
 ghost use Rattle.std.specs.Option.{option_map};
+ghost use Rattle.std.specs.Result.{is_err};
 ghost use Rattle.cell_core.specs.Grid.{no_labels};
 ghost use Rattle.cell_ascii.specs.Ahead.{to_come};
 ghost use Rattle.cell_ascii.specs.Words.{start_of};
 ghost use Rattle.cell_ascii.specs.Header.{at_line, header_of, header_of_text};
-ghost use Rattle.cell_ascii.specs.Cells.{cell_of_word, cell_from, many, end_of, data_from, grid_of};
-ghost use Rattle.cell_ascii.specs.Reader.{Place, at_place, opened_at, token_of, token_seen, reading_seen, writing_seen, always};
+ghost use Rattle.cell_ascii.specs.Cells.{cell_of_word, cell_from, many, end_of, grid_of};
+ghost use Rattle.cell_ascii.specs.GridText.{Denotes};
+ghost use Rattle.cell_ascii.specs.Places.{opening_fault, text_fault};
+ghost use Rattle.cell_ascii.specs.RowPlaces.{cells_fault, end_fault};
+ghost use Rattle.cell_ascii.specs.Reader.{Place, at_place, opened_at, token_of, token_seen, reading_seen, always, IsPlaced, rows_from};
+ghost use Rattle.cell_ascii.specs.GridReaders.{place_in, opened_in, fault_of, has_failed, IsCutRow};
 
 use crate::fault::{GridFault, GridKind};
 use crate::header::Header;
@@ -26,15 +31,20 @@ const NO_MEMORY: GridFault = GridFault {
     line: 0,
 };
 
-// A grid text behind its header.
+const HAS_FAILED: GridFault = GridFault {
+    kind: GridKind::Failed,
+    line: 0,
+};
+
+// A grid text behind its header, read cell by cell.
 #[derive(Drop)]
-struct GridReader<R: Source> {
+struct CellReader<R: Source> {
     scanner: Scanner<R>,
     header: Header,
     waiting: bool,
 }
 
-impl<R: Source> Model for GridReader<R> {
+impl<R: Source> Model for CellReader<R> {
     ghost use Rattle.std.specs.Prelude.{Some, None, ◌≤◌, if◌then◌else◌};
     ghost use Rattle.cell_ascii.specs.Reader.{Place};
 
@@ -54,6 +64,7 @@ fn read_token<R: Source>(scanner: &mut Scanner<R>) -> Result<(), GridFault>
     ensures lines { scanner.new.line ≤ scanner.old.line + 1048576 }
     ensures run { scanner.new.run ≤ 1048576 }
     ensures none { OnOk result (scanner.new.run ≡ 0) }
+    ensures kind { IfErr result (λ f. f.kind ≢ GridKind.Memory) }
 {
     match scanner.skip_spaces()? {
         Next::Word => scanner.read_word(),
@@ -81,13 +92,14 @@ fn cell_here<R: Source>(header: &Header, scanner: &Scanner<R>) -> Result<Cell, G
         .map_err(|kind| GridFault { kind, line })
 }
 
-impl<R: Source> GridReader<R> {
+impl<R: Source> CellReader<R> {
     // Reads the header, and the first word behind it.
-    fn open(alloc: Global, source: R) -> Result<GridReader<R>, GridFault>
+    fn open(alloc: Global, source: R) -> Result<CellReader<R>, GridFault>
     where
         R: Drop,
         ensures opened { IfOk result (λ r. option_map header_of_text (R.coming source) ≡ option_map (λ c. Ok (opened_at r c)) (to_come r.ahead)) }
         ensures fault { IfErr result (λ f. f.kind ≢ GridKind.Memory → IfSome (R.coming source) (λ c. header_of_text c ≡ Err f)) }
+        ensures memory { IfErr result (λ f. f.kind ≡ GridKind.Memory → f.line ≡ 0) }
         ensures line { IfOk result (λ r. r.line < 2 ^ 62) }
     {
         let Ok(mut scanner) = Scanner::new(alloc, source) else {
@@ -97,7 +109,7 @@ impl<R: Source> GridReader<R> {
         let waiting = opening::read_header(&mut scanner, &mut keys)?;
         scanner.end_run();
         let header = header_at(keys, scanner.line())?;
-        Ok(GridReader {
+        Ok(CellReader {
             scanner,
             header,
             waiting,
@@ -117,6 +129,7 @@ impl<R: Source> GridReader<R> {
             ≡ option_map (reading_seen result self.new) (to_come self.new.ahead) }
         ensures header { self.new.header ≡ self.old.header }
         ensures lines { self.new.line ≤ self.old.line + 1048576 }
+        ensures kind { IfErr result (λ f. f.kind ≢ GridKind.Memory) }
     {
         if self.waiting {
             self.waiting = false;
@@ -130,8 +143,9 @@ impl<R: Source> GridReader<R> {
     // Nothing but blanks and line feeds is left.
     fn finish(&mut self) -> Result<(), GridFault>
         requires room { self.old.line + 1048576 < 2 ^ 64 }
-        ensures { option_map (λ c. end_of (start_of self.old.line self.old.run c)) (to_come self.old.ahead)
+        ensures end { option_map (λ c. end_of (start_of self.old.line self.old.run c)) (to_come self.old.ahead)
             ≡ option_map (always result) (to_come self.new.ahead) }
+        ensures kind { IfErr result (λ f. f.kind ≢ GridKind.Memory) }
     {
         match self.scanner.skip_spaces()? {
             Next::Word => Err(GridFault {
@@ -144,28 +158,158 @@ impl<R: Source> GridReader<R> {
 }
 
 // Reads a row of cells.
-fn read_row<R: Source>(reader: &mut GridReader<R>, row: &mut [Cell]) -> Result<(), GridFault>
-    requires room { reader.old.line + length row.old * 1048577 < 2 ^ 63 }
-    ensures row { option_map (λ c. many (cell_from reader.old.header) (length row.old) (at_place reader.old c)) (to_come reader.old.ahead)
-        ≡ option_map (writing_seen result row.new reader.new) (to_come reader.new.ahead) }
-    ensures header { reader.new.header ≡ reader.old.header }
-    ensures lines { reader.new.line ≤ reader.old.line + length row.old * 1048577 }
+fn read_row<R: Source>(cells: &mut CellReader<R>, row: &mut [Cell]) -> Result<(), GridFault>
+    requires room { cells.old.line + length row.old * 1048577 < 2 ^ 63 }
+    ensures row { OnOk result (option_map (λ c. many (cell_from cells.old.header) (length row.old) (at_place cells.old c)) (to_come cells.old.ahead)
+        ≡ option_map (λ d. Ok (row.new, at_place cells.new d)) (to_come cells.new.ahead)) }
+    ensures cut { IfErr result (λ f. IfSome (to_come cells.old.ahead) (λ c. IsCutRow cells.old.header (at_place cells.old c) f row.old row.new)) }
+    ensures header { cells.new.header ≡ cells.old.header }
+    ensures lines { cells.new.line ≤ cells.old.line + length row.old * 1048577 }
+    ensures kind { IfErr result (λ f. f.kind ≢ GridKind.Memory) }
 {
     for i in 0..row.len() {
-        let cell = reader.next_cell()?;
+        let cell = cells.next_cell()?;
         row[i] = cell;
     }
     Ok(())
 }
 
-// Reads the rows of a grid and the end of the text.
+/// A grid text whose header was read, and whose cells are read row by row from the north.
+///
+/// After a refusal it answers `Failed`, with line 0, from then on.
+#[derive(Drop)]
+pub struct GridReader<R: Source> {
+    cells: CellReader<R>,
+    rows_left: u32,
+    failed: bool,
+}
+
+impl<R: Source> Model for GridReader<R> {
+    ghost use Rattle.cell_ascii.specs.GridReaders.{ReaderValue};
+    ghost use Rattle.cell_ascii.specs.Reader.{reader_at, IsReady};
+
+    ghost Value = { ReaderValue };
+
+    ghost view = { λ r. reader_at r.cells r.rows_left r.failed };
+
+    ghost invariant = { λ r. IsReady (reader_at r.cells r.rows_left r.failed) };
+}
+
+impl<R: Source> GridReader<R> {
+    /// Reads the header of a text and the first token of its data, which is not yet judged as a
+    /// cell (r.in.ascii manual).
+    ///
+    /// # Errors
+    ///
+    /// The first fault up to there with its line, or `Memory` with line 0 where memory is refused.
+    pub fn open(alloc: Global, source: R) -> Result<GridReader<R>, GridFault>
+    where
+        R: Drop,
+        ensures opened { IfOk result (λ r. option_map header_of_text (R.coming source) ≡ option_map (λ c. Ok (opened_in r c)) r.coming) }
+        ensures whole { IfOk result (λ r. (r.rows_left ≡ r.header.region.rows) × (r.failed ≡ false)) }
+        ensures fault { IfErr result (λ f. f.kind ≢ GridKind.Memory → IfSome (R.coming source) (λ c. opening_fault c ≡ Some f)) }
+        ensures memory { IfErr result (λ f. f.kind ≡ GridKind.Memory → f.line ≡ 0) }
+    {
+        let cells = CellReader::open(alloc, source)?;
+        let rows_left = cells.region().rows();
+        Ok(GridReader {
+            cells,
+            rows_left,
+            failed: false,
+        })
+    }
+
+    /// The region that the header gives.
+    pub fn region(&self) -> Region
+        ensures { result ≡ self.now.header.region }
+    {
+        self.cells.region()
+    }
+
+    /// How many rows are still to be read.
+    pub fn rows_left(&self) -> u32
+        ensures { result ≡ self.now.rows_left }
+    {
+        self.rows_left
+    }
+
+    /// Reads the next row into a slice of as many cells as the region has columns, from west to
+    /// east. Answers whether one was left; else the slice is unchanged. Takes no memory.
+    ///
+    /// # Errors
+    ///
+    /// The first fault up to the end of the row, with its line: the cells read before it stand in
+    /// the front of the slice, the others are unchanged. `Failed`, with line 0, where an earlier
+    /// call was refused: the slice is unchanged.
+    pub fn next_row(&mut self, row: &mut [Cell]) -> Result<bool, GridFault>
+        requires width { length row.old ≡ self.old.header.region.cols }
+        ensures failed { self.old.failed ≡ true → (result ≡ Err has_failed) × (row.new ≡ row.old) × (self.new ≡ self.old) }
+        ensures none { self.old.failed ≡ false → self.old.rows_left ≡ 0 → (result ≡ Ok false) × (row.new ≡ row.old) × (self.new ≡ self.old) }
+        ensures told { self.old.failed ≡ false → 0 < self.old.rows_left
+            → IfSome self.old.coming (λ c. fault_of result ≡ cells_fault self.old.header (length row.old) (place_in self.old c)) }
+        ensures row { result ≡ Ok true → option_map (λ c. many (cell_from self.old.header) (length row.old) (place_in self.old c)) self.old.coming
+            ≡ option_map (λ d. Ok (row.new, place_in self.new d)) self.new.coming }
+        ensures cut { IfErr result (λ f. self.old.failed ≡ false → IfSome self.old.coming (λ c. IsCutRow self.old.header (place_in self.old c) f row.old row.new)) }
+        ensures width { length row.new ≡ length row.old }
+        ensures left { result ≡ Ok true → self.new.rows_left + 1 ≡ self.old.rows_left }
+        ensures stays { result ≢ Ok true → self.new.rows_left ≡ self.old.rows_left }
+        ensures last { result ≡ Ok false → self.old.rows_left ≡ 0 }
+        ensures header { self.new.header ≡ self.old.header }
+        ensures fails { self.new.failed ≡ (self.old.failed || is_err result) }
+        ensures memory { IfErr result (λ f. f.kind ≢ GridKind.Memory) }
+    {
+        if self.failed {
+            return Err(HAS_FAILED);
+        }
+        if self.rows_left == 0 {
+            return Ok(false);
+        }
+        match read_row(&mut self.cells, row) {
+            Ok(()) => {
+                self.rows_left -= 1;
+                Ok(true)
+            }
+            Err(fault) => {
+                self.failed = true;
+                Err(fault)
+            }
+        }
+    }
+
+    /// Reads to the end of the text behind the last row: nothing but blanks and line feeds is
+    /// left. Takes no memory.
+    ///
+    /// # Errors
+    ///
+    /// The first fault from there on, with its line, or `Failed`, with line 0, where an earlier
+    /// call was refused.
+    pub fn finish(self) -> Result<(), GridFault>
+    where
+        R: Drop,
+        requires done { self.failed ≡ false → self.rows_left ≡ 0 }
+        ensures failed { self.failed ≡ true → result ≡ Err has_failed }
+        ensures told { self.failed ≡ false → IfSome self.coming (λ c. fault_of result ≡ end_fault (place_in self c)) }
+        ensures memory { IfErr result (λ f. f.kind ≢ GridKind.Memory) }
+    {
+        if self.failed {
+            return Err(HAS_FAILED);
+        }
+        let mut cells = self.cells;
+        cells.finish()
+    }
+}
+
+// Reads the rows that are left into a map.
 fn read_rows<R: Source>(alloc: Global, reader: &mut GridReader<R>) -> Result<CellMap, GridFault>
-    requires room { reader.old.line < 2 ^ 62 }
+    requires whole { (reader.old.rows_left ≡ reader.old.header.region.rows) × (reader.old.failed ≡ false) }
     ensures region { IfOk result (λ m. (m.region ≡ reader.old.header.region) × (m.labels ≡ no_labels)) }
-    ensures rows { IfOk result (λ m. IfSome (to_come reader.old.ahead)
-        (λ c. data_from reader.old.header (at_place reader.old c) ≡ Ok m.rows)) }
-    ensures fault { IfErr result (λ f. f.kind ≢ GridKind.Memory → IfSome (to_come reader.old.ahead)
-        (λ c. data_from reader.old.header (at_place reader.old c) ≡ Err f)) }
+    ensures rows { IfOk result (λ m. option_map (λ c. rows_from reader.old.header (place_in reader.old c)) reader.old.coming
+        ≡ option_map (λ d. Ok (m.rows, place_in reader.new d)) reader.new.coming) }
+    ensures done { OnOk result ((reader.new.rows_left ≡ 0) × (reader.new.failed ≡ false)) }
+    ensures wide { (0 < reader.old.header.region.rows) × (0 < reader.old.header.region.cols) }
+    ensures fault { IfErr result (λ f. f.kind ≢ GridKind.Memory → IfSome reader.old.coming
+        (λ c. rows_from reader.old.header (place_in reader.old c) ≡ Err f)) }
+    ensures memory { IfErr result (λ f. f.kind ≡ GridKind.Memory → f.line ≡ 0) }
 {
     let region = reader.region();
     let Ok(mut buffer) = vec![in alloc; Cell::null(); region.cols() as usize] else {
@@ -173,14 +317,12 @@ fn read_rows<R: Source>(alloc: Global, reader: &mut GridReader<R>) -> Result<Cel
     };
     let row = buffer.as_mut_slice();
     let mut builder = MapBuilder::new(alloc, region);
-    for r in 0..region.rows() {
-        read_row(reader, row)?;
+    'rows: while reader.next_row(row)? {
         match builder.push_row(row) {
             Ok(()) => {}
             Err(_) => return Err(NO_MEMORY),
         }
     }
-    reader.finish()?;
     Ok(builder.finish())
 }
 
@@ -190,9 +332,14 @@ fn read_rows<R: Source>(alloc: Global, reader: &mut GridReader<R>) -> Result<Cel
 ///
 /// The text's first fault with its line, or `Memory` with line 0 where memory is refused.
 pub fn read_map<R: Source + Drop>(alloc: Global, source: R) -> Result<CellMap, GridFault>
-    ensures map { IfOk result (λ m. IfSome (R.coming source) (λ c. grid_of c ≡ Ok m)) }
-    ensures fault { IfErr result (λ f. f.kind ≢ GridKind.Memory → IfSome (R.coming source) (λ c. grid_of c ≡ Err f)) }
+    ensures map { IfOk result (λ m. IfSome (R.coming source) (λ c. Denotes c m)) }
+    ensures fault { IfErr result (λ f. f.kind ≢ GridKind.Memory → IfSome (R.coming source) (λ c. text_fault c ≡ Some f)) }
+    ensures memory { IfErr result (λ f. f.kind ≡ GridKind.Memory → f.line ≡ 0) }
+    ensures reading_map { IfOk result (λ m. IfSome (R.coming source) (λ c. grid_of c ≡ Ok m)) }
+    ensures reading_fault { IfErr result (λ f. f.kind ≢ GridKind.Memory → IfSome (R.coming source) (λ c. grid_of c ≡ Err f)) }
 {
     let mut reader = GridReader::open(alloc, source)?;
-    read_rows(alloc, &mut reader)
+    let map = read_rows(alloc, &mut reader)?;
+    reader.finish()?;
+    Ok(map)
 }

@@ -1,18 +1,16 @@
-use Rattle.std.proofs.Common.{◌≡◌, ◌+◌, ◌-◌, ◌*◌, ◌≤◌, take, length}
+use Rattle.std.proofs.Common.{◌≡◌, ◌+◌, ◌*◌, ◌≤◌, Ok, take, drop}
 use Rattle.std.specs.Option.{option_map}
 use Rattle.cell_ascii.specs.Ahead.{to_come}
 use Rattle.cell_ascii.specs.Cells.{cell_from, many}
 use Rattle.cell_ascii.specs.Reader.{at_place}
-use Rattle.cell_ascii.proofs.CellLemmas.{with_front}
 use Rattle.cell_ascii.proofs.reader.read_row.Given as goal
 
 abbrev pub invariant-loop-i : goal.invariant-loop-i
 invariant-loop-i g l =
-    let s = l.fn.reader in
-    let n = length l.fn.row in
+    let s = l.fn.cells in
     record {
-      row : option_map (λ c. many (cell_from s.header) n (at_place s c)) (to_come s.ahead)
-          ≡ option_map (λ c. with_front (take l.i l.row) (many (cell_from s.header) (n - l.i) (at_place l.reader c))) (to_come l.reader.ahead);
-      header : l.reader.header ≡ s.header;
-      lines : l.reader.line ≤ s.line + l.i * 1048577;
+      row : option_map (λ c. many (cell_from s.header) l.i (at_place s c)) (to_come s.ahead) ≡ option_map (λ d. Ok (take l.i l.row, at_place l.cells d)) (to_come l.cells.ahead);
+      rest : drop l.i l.row ≡ drop l.i l.fn.row;
+      header : l.cells.header ≡ s.header;
+      lines : l.cells.line ≤ s.line + l.i * 1048577;
     }

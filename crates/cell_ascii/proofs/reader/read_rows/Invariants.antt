@@ -1,22 +1,24 @@
-use Rattle.std.proofs.Common.{◌≡◌, ◌+◌, ◌-◌, ◌*◌, ◌≤◌, length}
+use Rattle.std.proofs.Common.{◌≡◌, ◌+◌, ◌-◌, false, length}
 use Rattle.std.specs.Option.{option_map}
-use Rattle.cell_ascii.specs.Ahead.{to_come}
 use Rattle.cell_ascii.specs.Cells.{cell_from, many}
-use Rattle.cell_ascii.specs.Reader.{at_place}
+use Rattle.cell_ascii.specs.Reader.{rows_from}
+use Rattle.cell_ascii.specs.GridReaders.{place_in}
 use Rattle.cell_ascii.proofs.CellLemmas.{with_front}
-use Rattle.cell_ascii.proofs.DataLemmas.{rows_from}
 use Rattle.cell_ascii.proofs.reader.read_rows.Given as goal
 
-abbrev pub invariant-loop-r : goal.invariant-loop-r
-invariant-loop-r g l =
+abbrev pub invariant-rows : goal.invariant-rows
+invariant-rows g l =
     let s = l.fn.reader in
     let h = s.header in
     record {
-      rows : option_map (λ c. rows_from h (at_place s c)) (to_come s.ahead)
-          ≡ option_map (λ c. with_front l.builder.rows (many (many (cell_from h) h.region.cols) (h.region.rows - l.r) (at_place l.reader c))) (to_come l.reader.ahead);
+      rows : option_map (λ c. rows_from h (place_in s c)) s.coming
+          ≡ option_map (λ d. with_front l.builder.rows (many (many (cell_from h) h.region.cols) (h.region.rows - length l.builder.rows) (place_in l.reader d))) l.reader.coming;
       header : l.reader.header ≡ h;
       region : l.builder.region ≡ h.region;
-      count : length l.builder.rows ≡ l.r;
+      count : length l.builder.rows + l.reader.rows_left ≡ h.region.rows;
       width : length l.row ≡ h.region.cols;
-      lines : l.reader.line ≤ s.line + l.r * 34358722559;
+      live : l.reader.failed ≡ false;
     }
+
+abbrev pub decreases-rows : goal.decreases-rows
+decreases-rows g l = l.reader.rows_left

@@ -1,13 +1,27 @@
 use Rattle.std.proofs.lemmas.Result.{err_from_is_err_and}
+use Rattle.std.proofs.Common.{◌≡◌, ◌+◌, ◌*◌, ◌^◌, ◌<◌, ◌≤◌, Some, Err, arith}
 use Rattle.cell_ascii.specs.Ahead.{to_come}
-use Rattle.cell_ascii.proofs.DataLemmas.{open_fails}
+use Rattle.cell_ascii.specs.Header.{header_of_text}
+use Rattle.cell_ascii.specs.Places.{opening_fault}
+use Rattle.cell_ascii.specs.Reader.{at_place}
+use Rattle.cell_ascii.proofs.GridFaultLemmas.{opening_agrees}
+use Rattle.cell_ascii.proofs.RowReadLemmas.{implied, opening_placed, lines_fit}
 use Rattle.cell_ascii.proofs.reader.GridReader.open.Goals as goal
 
-pub returns-in_err-header-clause-fault : goal.returns-in_err-header-clause-fault
-returns-in_err-header-clause-fault g c =
-    let t = c.read_header.new.scanner in
-    let p = err_from_is_err_and c.from_residual-in_err-header.result c.from_residual-in_err-header.ensures.1 in
+pub returns-in_err-cells-clause-fault : goal.returns-in_err-cells-clause-fault
+returns-in_err-cells-clause-fault g c =
+    let f = c.in_err-cells.field-0.0 in
+    let p = err_from_is_err_and c.from_residual.result c.from_residual.ensures.1 in
     rw (p.1, p.2)
-    (λ _. open_fails c.read_header.new.keys t.word t.line c.in_ok-waiting.waiting (g.R.Source.coming c.args.source) (to_come t.ahead) c.in_err-header.field-0.0
-    (rw (c.in-Ok.ensures, c.new-keys.ensures) at c.in_ok-waiting.ensures.header)
-    (rw (c.line.ensures, c.end_run.ensures) at c.in_err-header.ensures))
+    (λ other. implied (λ x. header_of_text x ≡ Err f) (λ x. opening_fault x ≡ Some f) (g.R.Source.coming c.args.source) (λ x. (opening_agrees x f).0) (c.in_err-cells.ensures.fault other))
+
+pub invariant_of-result : goal.invariant_of-result
+invariant_of-result g c =
+    let p = c.in_ok-cells.cells in
+    let is = rw c.region.ensures at c.rows-rows_left.ensures.region in
+    rw (c.rows-rows_left.ensures.value, c.region.ensures)
+    (record {
+      wide = is.cols_least;
+      lines = λ _. lines_fit p.line p.header.region.rows p.header.region.cols c.in_ok-cells.ensures.line is.rows_most is.cols_most;
+      placed = λ _. opening_placed p.header (at_place p) p.header.region.rows (g.R.Source.coming c.args.source) (to_come p.ahead) is.rows_least c.in_ok-cells.ensures.opened;
+    })

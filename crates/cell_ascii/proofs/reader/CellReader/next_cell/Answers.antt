@@ -1,7 +1,7 @@
 use Rattle.std.proofs.lemmas.Result.{err_from_is_err_and}
 use Rattle.cell_ascii.specs.Ahead.{to_come}
 use Rattle.cell_ascii.proofs.CellLemmas.{cell_pending, cell_read, cell_fails}
-use Rattle.cell_ascii.proofs.reader.GridReader.next_cell.Goals as goal
+use Rattle.cell_ascii.proofs.reader.CellReader.next_cell.Goals as goal
 
 pub returns-then-self-clause-cell : goal.returns-then-self-clause-cell
 returns-then-self-clause-cell g c =

@@ -1,0 +1,200 @@
+-- What a row that was read, or was cut off, says of the text.
+use Rattle.std.proofs.Common.{◌≡◌, ℕ, zero, suc, ◌+◌, ◌-◌, ◌*◌, ◌^◌, ◌<◌, ◌≤◌, List, [], ◌∷◌, ◌++◌, Option, Some, None, Result, Ok, Err, length, take, drop, refl, ap, sym, ◌∙◌, arith, subst, mul-le-mul}
+use Rattle.std.specs.Option.{option_map, IfSome}
+use Rattle.cell_core.specs.Device.{Coming}
+use Rattle.cell_core.specs.Grid.{CellValue}
+use Rattle.cell_ascii.specs.Words.{start_of}
+use Rattle.cell_ascii.specs.Header.{◌>>=◌, At, Header, Opened, header_of_text}
+use Rattle.cell_ascii.specs.Cells.{Reading, cell_from, many, end_of}
+use Rattle.cell_ascii.specs.RowPlaces.{IsPlaceOf, cells_fault, end_fault}
+use Rattle.cell_ascii.specs.Reader.{always}
+use Rattle.cell_ascii.specs.GridReaders.{fault_of, IsCutRow}
+use Rattle.cell_ascii.specs.declared.fault.GridFault.{GridFault}
+use Rattle.cell_ascii.proofs.PlaceDataLemmas.{fault_in}
+use Rattle.cell_ascii.proofs.RowPlaceLemmas.{cells_told, end_told}
+use Rattle.cell_ascii.proofs.PlaceKeptLemmas.{cells_kept}
+use Rattle.cell_ascii.proofs.GridFaultLemmas.{opening_keeps_places}
+use Rattle.cell_ascii.proofs.MapLemmas.{then_map, map_same}
+
+-- what a known source gives, gives more
+pub implied : {A : Type 0} (P Q : A → Type 0) (a : Option A) → ((c : A) → P c → Q c) → IfSome a P → IfSome a Q
+implied P Q None go h = tt
+implied P Q (Some c) go h = go c h
+
+module _ {X : Type 0} (one : At → Reading X) where
+  -- one more behind some
+  abbrev pub snoc : List X → X × At → Reading (List X)
+  snoc xs x = Ok (xs ++ x.0 ∷ [], x.1)
+
+  abbrev pub with_last : List X × At → Reading (List X)
+  with_last y = one y.1 >>= snoc y.0
+
+  abbrev cons : X → List X × At → Reading (List X)
+  cons x y = Ok (x ∷ y.0, y.1)
+
+  Snoc : ℕ → Type 0
+  Snoc n = (at : At) → many one (suc n) at ≡ (many one n at >>= with_last)
+
+  many_step : (n : ℕ) → Snoc n → Snoc (suc n)
+  unfolding Snoc
+  many_step n on at = by (one at)
+    where
+      third : (x : X) (y : List X × At) (r : Reading X)
+          → ((r >>= snoc y.0) >>= cons x) ≡ (r >>= snoc (x ∷ y.0))
+      third x y (Ok z) = refl
+      third x y (Err f) = refl
+
+      next : (x : X) (r : Reading (List X)) → ((r >>= with_last) >>= (cons x)) ≡ ((r >>= (cons x)) >>= with_last)
+      next x (Ok y) = third x y (one y.1)
+      next x (Err f) = refl
+
+      by : (r : Reading X) → (r >>= (λ x. many one (suc n) x.1 >>= (cons x.0))) ≡ ((r >>= (λ x. many one n x.1 >>= (cons x.0))) >>= with_last)
+      by (Ok x) = ap (λ (r : Reading (List X)). r >>= (cons x.0)) (on x.1) ∙ next x.0 (many one n x.1)
+      by (Err f) = refl
+
+  pub many_snoc : (n : ℕ) (at : At) → many one (suc n) at ≡ (many one n at >>= with_last)
+  unfolding Snoc
+  many_snoc zero at = refl
+  many_snoc (suc n) at = many_step n (many_snoc n) at
+
+  many_more : (n : ℕ) (at : At) → many one (n + 1) at ≡ (many one n at >>= with_last)
+  many_more n at = let e : n + 1 ≡ suc n = omega arith in ap (λ (m : ℕ). many one m at) e ∙ many_snoc n at
+
+  still_fails : (k m : ℕ) (at : At) (f : GridFault) → many one m at ≡ Err f → many one (k + m) at ≡ Err f
+  still_fails zero m at f e = let o : 0 + m ≡ m = omega arith in ap (λ (j : ℕ). many one j at) o ∙ e
+  still_fails (suc k) m at f e =
+      let o : suc k + m ≡ suc (k + m) = omega arith in
+      ap (λ (j : ℕ). many one j at) o ∙ many_snoc (k + m) at ∙ ap (λ (r : Reading (List X)). r >>= with_last) (still_fails k m at f e)
+
+  -- a fault behind some is that of all
+  pub many_cut : (i n : ℕ) (at mid : At) (xs : List X) (f : GridFault) → i < n → many one i at ≡ Ok (xs, mid) → one mid ≡ Err f → many one n at ≡ Err f
+  many_cut i n at mid xs f lower e o =
+      let parts : n ≡ n - (i + 1) + (i + 1) = omega arith in
+      ap (λ (j : ℕ). many one j at) parts
+      ∙ still_fails (n - (i + 1)) (i + 1) at f
+      (many_more i at ∙ ap (λ (r : Reading (List X)). r >>= with_last) e ∙ ap (λ (r : Reading X). r >>= snoc xs) o)
+
+  -- one more was read
+  pub row_more : (here mid there : Coming → At) (a b d : Option Coming) (i : ℕ) (front : List X) (x : X)
+      → option_map (λ c. many one i (here c)) a ≡ option_map (λ c. Ok (front, mid c)) b → option_map (λ c. one (mid c)) b ≡ option_map (λ c. Ok (x, there c)) d
+      → option_map (λ c. many one (i + 1) (here c)) a ≡ option_map (λ c. Ok (front ++ x ∷ [], there c)) d
+  row_more here mid there a b d i front x so_far e =
+      map_same (λ c. many one (i + 1) (here c)) (λ c. many one i (here c) >>= with_last) a (λ c. many_more i (here c))
+      ∙ then_map (λ (r : Reading (List X)). r >>= with_last) (λ c. many one i (here c)) (λ c. Ok (front, mid c)) a b so_far
+      ∙ then_map (λ (r : Reading X). r >>= snoc front) (λ c. one (mid c)) (λ c. Ok (x, there c)) b d e
+
+-- a row that was cut off there
+pub row_cut : (h : Header) (here mid : Coming → At) (a b d : Option Coming) (i : ℕ) (f : GridFault) (old row : List CellValue) → i < length old → drop i row ≡ drop i old
+    → option_map (λ c. many (cell_from h) i (here c)) a ≡ option_map (λ c. Ok (take i row, mid c)) b → option_map (λ c. cell_from h (mid c)) b ≡ option_map (λ c. Err f) d
+    → IfSome a (λ c. IsCutRow h (here c) f old row)
+row_cut h here mid None b d i f old row lower kept e o = tt
+row_cut h here mid (Some c) None d i f old row lower kept e o = cc
+row_cut h here mid (Some c) (Some m) None i f old row lower kept e o = cc
+row_cut h here mid (Some c) (Some m) (Some z) i f old row lower kept e o =
+    let cells : many (cell_from h) i (here c) ≡ Ok (take i row, mid m) = cc in
+    let stop : cell_from h (mid m) ≡ Err f = cc in
+    record { count = i; fewer = lower; rest = mid m; cells = cells; stop = stop; kept = kept }
+
+-- the fault of the whole row
+pub cut_fails : (h : Header) (at : At) (f : GridFault) (old row : List CellValue) → IsCutRow h at f old row → many (cell_from h) (length old) at ≡ Err f
+cut_fails h at f old row cut = many_cut (cell_from h) cut.count (length old) at cut.rest (take cut.count row) f cut.fewer cut.cells cut.stop
+
+module _ (h : Header) (here : Coming → At) (Q : Coming → Type 0) (a : Option Coming) (placed : IfSome a (λ c. IsPlaceOf (here c) × Q c)) where
+  -- a row that was read tells no fault
+  pub row_told : (n : ℕ) (there : Coming → At) (b : Option Coming) (row : List CellValue) → option_map (λ c. many (cell_from h) n (here c)) a ≡ option_map (λ d. Ok (row, there d)) b
+      → IfSome a (λ c. None ≡ cells_fault h n (here c))
+  row_told n there b row e = by a b placed e
+    where
+      by : (a b : Option Coming) → IfSome a (λ c. IsPlaceOf (here c) × Q c) → option_map (λ c. many (cell_from h) n (here c)) a ≡ option_map (λ d. Ok (row, there d)) b
+          → IfSome a (λ c. None ≡ cells_fault h n (here c))
+      by None b placed e = tt
+      by (Some c) None placed e = cc
+      by (Some c) (Some d) placed e = let o : many (cell_from h) n (here c) ≡ Ok (row, there d) = cc in sym (ap fault_in o) ∙ cells_told h n (here c) placed.0
+
+  -- and one that was cut off its fault
+  pub cut_told : (f : GridFault) (old row : List CellValue) → IfSome a (λ c. IsCutRow h (here c) f old row) → IfSome a (λ c. Some f ≡ cells_fault h (length old) (here c))
+  cut_told f old row cut = by a placed cut
+    where
+      by : (a : Option Coming) → IfSome a (λ c. IsPlaceOf (here c) × Q c) → IfSome a (λ c. IsCutRow h (here c) f old row) → IfSome a (λ c. Some f ≡ cells_fault h (length old) (here c))
+      by None placed cut = tt
+      by (Some c) placed cut = sym (ap fault_in (cut_fails h (here c) f old row cut)) ∙ cells_told h (length old) (here c) placed.0
+
+  -- behind a row is a place where no token waits
+  pub row_placed : (n left : ℕ) (there : Coming → At) (b : Option Coming) (row : List CellValue) → 0 < n → option_map (λ c. many (cell_from h) n (here c)) a ≡ option_map (λ d. Ok (row, there d)) b
+      → IfSome b (λ d. IsPlaceOf (there d) × (left ≡ 0 → (there d).pending ≡ None))
+  row_placed n left there b row some e = by a b placed e
+    where
+      by : (a b : Option Coming) → IfSome a (λ c. IsPlaceOf (here c) × Q c) → option_map (λ c. many (cell_from h) n (here c)) a ≡ option_map (λ d. Ok (row, there d)) b
+          → IfSome b (λ d. IsPlaceOf (there d) × (left ≡ 0 → (there d).pending ≡ None))
+      by a None placed e = tt
+      by None (Some d) placed e = cc
+      by (Some c) (Some d) placed e =
+          let o : many (cell_from h) n (here c) ≡ Ok (row, there d) = cc in
+          let kept = cells_kept h n (here c) (row, there d) placed.0 o in
+          (kept.0, λ _. kept.1 some)
+
+-- the data begins at a place
+pub opening_placed : (h : Header) (there : Coming → At) (left : ℕ) (a b : Option Coming) → 0 < left
+    → option_map header_of_text a ≡ option_map (λ c. Ok (record { header = h; at = there c })) b → IfSome b (λ c. IsPlaceOf (there c) × (left ≡ 0 → (there c).pending ≡ None))
+opening_placed h there left a None some e = tt
+opening_placed h there left None (Some d) some e = cc
+opening_placed h there left (Some c) (Some d) some e =
+    let o : header_of_text c ≡ Ok (record { header = h; at = there d }) = cc in
+    (opening_keeps_places c (record { header = h; at = there d }) o, λ none. absurd (omega arith))
+
+same_fault : {X : Type 0} (r : Result X GridFault) → fault_of r ≡ fault_in r
+same_fault (Ok x) = refl
+same_fault (Err f) = refl
+
+-- what the end answers is what it tells
+pub end_answers : (here : Coming → At) (left : ℕ) (a b : Option Coming) (r : Result (Unit {0}) GridFault) → left ≡ 0
+    → IfSome a (λ c. IsPlaceOf (here c) × (left ≡ 0 → (here c).pending ≡ None))
+    → option_map (λ c. end_of (start_of (here c).line (here c).run (here c).coming)) a ≡ option_map (always r) b → IfSome a (λ c. fault_of r ≡ end_fault (here c))
+end_answers here left None b r none placed e = tt
+end_answers here left (Some c) None r none placed e = cc
+end_answers here left (Some c) (Some d) r none placed e =
+    let o : end_of (start_of (here c).line (here c).run (here c).coming) ≡ r = cc in
+    same_fault r ∙ sym (ap fault_in o) ∙ end_told (here c) (placed.1 none) placed.0.low
+
+-- and what it tells is what it answers
+pub end_is : (at : At) (r : Result (Unit {0}) GridFault) → IsPlaceOf at → at.pending ≡ None → fault_of r ≡ end_fault at → end_of (start_of at.line at.run at.coming) ≡ r
+end_is at r is none told = by (end_of (start_of at.line at.run at.coming)) r (end_told at none is.low ∙ sym told ∙ same_fault r)
+  where
+    by : (q r : Result (Unit {0}) GridFault) → fault_in q ≡ fault_in r → q ≡ r
+    by (Ok x) (Ok y) e = refl
+    by (Ok x) (Err g) e = cc
+    by (Err f) (Ok y) e = cc
+    by (Err f) (Err g) e = cc
+
+module _ (h : Header) (cols : ℕ) (some : 0 < cols) where
+  -- behind rows is a place, and no token waits behind the last
+  pub rows_kept : (n : ℕ) (at : At) (x : List (List CellValue) × At) → IsPlaceOf at → many (many (cell_from h) cols) n at ≡ Ok x → IsPlaceOf x.1 × (0 < n → x.1.pending ≡ None)
+  rows_kept zero at x is e = (let p : at ≡ x.1 = cc in subst IsPlaceOf p is, λ none. absurd (omega arith))
+  rows_kept (suc n) at x is e = by (many (many (cell_from h) cols) n at) (rows_kept n at) (sym (many_snoc (many (cell_from h) cols) n at) ∙ e)
+    where
+      last : (y : List (List CellValue) × At) → IsPlaceOf y.1 → (r : Reading (List CellValue)) → many (cell_from h) cols y.1 ≡ r → (r >>= (λ z. Ok (y.0 ++ z.0 ∷ [], z.1))) ≡ Ok x → IsPlaceOf x.1 × (0 < suc n → x.1.pending ≡ None)
+      last y is (Err f) o e = cc
+      last y is (Ok z) o e =
+          let kept = cells_kept h cols y.1 z is o in
+          let p : ◌≡◌ {A = List (List CellValue) × At} (y.0 ++ z.0 ∷ [], z.1) x = cc in
+          subst (λ (w : List (List CellValue) × At). IsPlaceOf w.1 × (0 < suc n → w.1.pending ≡ None)) p (kept.0, λ _. kept.1 some)
+
+      by : (r : Reading (List (List CellValue))) → ((y : List (List CellValue) × At) → IsPlaceOf at → r ≡ Ok y → IsPlaceOf y.1 × (0 < n → y.1.pending ≡ None))
+          → (r >>= with_last (many (cell_from h) cols)) ≡ Ok x → IsPlaceOf x.1 × (0 < suc n → x.1.pending ≡ None)
+      by (Err f) on e = cc
+      by (Ok y) on e = last y (on y is refl).0 (many (cell_from h) cols y.1) refl e
+
+-- the lines of a grid have numbers
+pub lines_fit : (line rows cols : ℕ) → line < 2 ^ 62 → rows ≤ 32767 → cols ≤ 32767 → line + (rows * cols + 1) * 1048577 < 2 ^ 63
+lines_fit line rows cols low high wide = let most : rows * cols ≤ 32767 * 32767 = mul-le-mul high wide in omega arith
+
+one_less : (rows cols : ℕ) → 0 < rows → rows * cols ≡ (rows - 1) * cols + cols
+one_less zero cols some = absurd (omega arith)
+one_less (suc rows) cols some = let o : suc rows - 1 ≡ rows = omega arith in rw o (omega arith)
+
+pub row_fits : (line rows cols : ℕ) → 0 < rows → line + (rows * cols + 1) * 1048577 < 2 ^ 63 → line + cols * 1048577 < 2 ^ 63
+row_fits line rows cols some fits = let e : rows * cols ≡ (rows - 1) * cols + cols = one_less rows cols some in omega arith
+
+-- and those behind a row
+pub rows_fit : (line more rows left cols : ℕ) → left + 1 ≡ rows → more ≤ line + cols * 1048577 → line + (rows * cols + 1) * 1048577 < 2 ^ 63 → more + (left * cols + 1) * 1048577 < 2 ^ 63
+rows_fit line more rows left cols one low fits = let e : rows * cols ≡ left * cols + cols = (let o : rows ≡ left + 1 = omega arith in rw o (omega arith)) in omega arith

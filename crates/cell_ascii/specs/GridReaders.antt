@@ -1,0 +1,46 @@
+-- An open grid reader, and what its calls answer.
+use Rattle.std.specs.Prelude.{ℕ, ◌≡◌, ◌<◌, Bool, true, false, List, length, take, drop, Option, Some, None, Result, Ok, Err}
+use Rattle.cell_core.specs.Device.{Coming}
+use Rattle.cell_core.specs.Grid.{CellValue}
+use Rattle.cell_ascii.specs.Header.{At, Header, Opened}
+use Rattle.cell_ascii.specs.Cells.{cell_from, many}
+use Rattle.cell_ascii.specs.Words.{fault}
+use Rattle.cell_ascii.specs.declared.fault.GridKind.TheVariants.{Failed}
+use Rattle.cell_ascii.specs.declared.fault.GridFault.{GridFault}
+
+-- what the header says, how many rows are still to come, a first token of the data that is not yet judged, the line,
+-- the length of the run of blanks and line feeds, whether it has failed, and the bytes to come where they are known
+pub record ReaderValue : Type 0 where
+  pub header : Header
+  pub rows_left : ℕ
+  pub pending : Option (List ℕ)
+  pub line : ℕ
+  pub run : ℕ
+  pub failed : Bool
+  pub coming : Option Coming
+
+-- the place of a text that it is at
+abbrev pub place_in : ReaderValue → Coming → At
+place_in r c = record { pending = r.pending; line = r.line; run = r.run; coming = c }
+
+-- the header that was read, and where the data begins
+abbrev pub opened_in : ReaderValue → Coming → Opened
+opened_in r c = record { header = r.header; at = place_in r c }
+
+-- the fault of an answer
+abbrev pub fault_of : {X : Type 0} → Result X GridFault → Option GridFault
+fault_of (Ok x) = None
+fault_of (Err f) = Some f
+
+-- a reader that refused answers this from then on
+abbrev pub has_failed : GridFault
+has_failed = fault Failed 0
+
+-- a row that was cut off: the cells that were read of it stand in front, and behind them what stood there
+pub record IsCutRow (h : Header) (at : At) (f : GridFault) (old new : List CellValue) : Type 0 where
+  pub count : ℕ
+  pub fewer : count < length old
+  pub rest : At
+  pub cells : many (cell_from h) count at ≡ Ok (take count new, rest)
+  pub stop : cell_from h rest ≡ Err f
+  pub kept : drop count new ≡ drop count old
