@@ -1,6 +1,6 @@
 use Rattle.std.proofs.Common.{refl}
-use Rattle.rcell.proofs.script.StatementLemmas.{unknown_at, known_at, within_more}
-use Rattle.rcell.proofs.script.parsing.places_of.Goals as goal
+use Rattle.rcell.proofs.script.PlaceLemmas.{unknown_at, known_at, within_more}
+use Rattle.rcell.proofs.script.r_stats.places_of.Goals as goal
 
 pub returns-in-None-clause-err : goal.returns-in-None-clause-err
 returns-in-None-clause-err c _ = (refl, unknown_at c.args.known.now c.args.names.now c.loop-name.name-index _ _ c.loop-name-test.true c.name-item.is c.bytes.ensures.value c.in-None.ensures.place)

@@ -1,6 +1,6 @@
 use Rattle.std.proofs.Common.{◌≡◌, ◌<◌, take, length, Some, All}
-use Rattle.rcell.specs.script.Statements.{places_of}
-use Rattle.rcell.proofs.script.parsing.places_of.Given as goal
+use Rattle.rcell.specs.script.RStats.{places_of}
+use Rattle.rcell.proofs.script.r_stats.places_of.Given as goal
 
 abbrev pub invariant-loop-name : goal.invariant-loop-name
 invariant-loop-name l = record {
