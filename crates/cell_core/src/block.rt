@@ -124,11 +124,16 @@ impl Block {
         }
     }
 
-    /// Counts bytes that were put on the sink past the block.
+    /// Counts bytes that the sink took past the block, which holds nothing.
     pub fn count(&mut self, bytes: u64)
-        ensures { self.new ≡ record { held = self.old.held; written = capped (self.old.written + bytes) } }
+        requires { self.old.held ≡ [] }
+        ensures value { self.new ≡ record { held = []; written = capped (self.old.written + bytes) } }
+        // Where the sink took a whole text, it follows what was gathered.
+        ensures ok { (taken : Option (List ℕ)) (text : List ℕ) → bytes ≡ length text → Gathers taken self.old text (append_known taken text) self.new }
+        // Where it took a front of a text, it failed within what was gathered and that text.
+        ensures err { (taken : Option (List ℕ)) (text : List ℕ) → bytes ≤ length text → CutsOff taken self.old text (append_known taken (take bytes text)) self.new.written }
     {
-        self.written = self.written.saturating_add(bytes);
+        self.renew(self.written().saturating_add(bytes));
     }
 
     // Puts the bytes on the sink, past the block, which holds nothing.

@@ -75,7 +75,7 @@ fn stopped_by(fault: WriteFault) -> Stopped
     }
 }
 
-// Puts out the grid text of a map. It takes no memory.
+// Puts out the grid text of a map, past the block, which counts it. It takes no memory.
 fn put_grid<W: Sink>(
     map: &CellMap,
     null_text: &[u8],
