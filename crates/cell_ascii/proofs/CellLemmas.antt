@@ -86,10 +86,6 @@ many_more {X} one n front at = by (one at)
 less_one : (n i : ℕ) → i < n → n - i ≡ suc (n - (i + 1))
 less_one n i h = omega arith
 
--- nothing more
-pub read_all : {X : Type 0} (one : At → Reading X) (front : List X) (at : At) → with_front front (many one 0 at) ≡ Ok (front, at)
-read_all one front at = ap (λ l. Ok (l, at)) (append-nil front)
-
 module _ {X : Type 0} (one : At → Reading X) (F : Coming → Reading (List X)) (a b d : Option Coming) (front : List X) (n i : ℕ) (here : Coming → At) (in_range : i < n)
     (so_far : option_map F a ≡ option_map (λ c. with_front front (many one (n - i) (here c))) b) where
   next : option_map F a ≡ option_map (λ c. with_next one (n - (i + 1)) front (one (here c))) b

@@ -188,13 +188,6 @@ module _ (h : Header) (cols : ℕ) (some : 0 < cols) where
 pub lines_fit : (line rows cols : ℕ) → line < 2 ^ 62 → rows ≤ 32767 → cols ≤ 32767 → line + (rows * cols + 1) * 1048577 < 2 ^ 63
 lines_fit line rows cols low high wide = let most : rows * cols ≤ 32767 * 32767 = mul-le-mul high wide in omega arith
 
-one_less : (rows cols : ℕ) → 0 < rows → rows * cols ≡ (rows - 1) * cols + cols
-one_less zero cols some = absurd (omega arith)
-one_less (suc rows) cols some = let o : suc rows - 1 ≡ rows = omega arith in rw o (omega arith)
-
-pub row_fits : (line rows cols : ℕ) → 0 < rows → line + (rows * cols + 1) * 1048577 < 2 ^ 63 → line + cols * 1048577 < 2 ^ 63
-row_fits line rows cols some fits = let e : rows * cols ≡ (rows - 1) * cols + cols = one_less rows cols some in omega arith
-
 -- and those behind a row
 pub rows_fit : (line more rows left cols : ℕ) → left + 1 ≡ rows → more ≤ line + cols * 1048577 → line + (rows * cols + 1) * 1048577 < 2 ^ 63 → more + (left * cols + 1) * 1048577 < 2 ^ 63
 rows_fit line more rows left cols one low fits = let e : rows * cols ≡ left * cols + cols = (let o : rows ≡ left + 1 = omega arith in rw o (omega arith)) in omega arith
