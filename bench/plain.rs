@@ -1,4 +1,5 @@
-//! The same table by hand, without proofs: `plain GRID` reads the grid and writes the counts of its categories.
+//! The same work by hand, without proofs: `plain read|count|write GRID` reads the grid, and then does no more, writes the
+//! counts of its categories, or writes it back.
 use std::collections::BTreeMap;
 use std::fs::File;
 use std::io::{self, BufWriter, Read, Write};
@@ -53,27 +54,63 @@ fn category(word: &[u8]) -> Result<Option<i32>, Box<dyn std::error::Error>> {
     Ok(Some(std::str::from_utf8(word)?.parse()?))
 }
 
-/// The numbers of rows and columns of six header lines `key: value`.
-fn header(words: &mut Words<File>) -> Result<(usize, usize), Box<dyn std::error::Error>> {
-    let (mut rows, mut cols, mut word) = (0, 0, Vec::new());
+/// The six header lines `key: value`, and the numbers of rows and columns that they give.
+fn header(words: &mut Words<File>) -> Result<(Vec<(String, String)>, usize, usize), Box<dyn std::error::Error>> {
+    let (mut lines, mut rows, mut cols, mut word) = (Vec::new(), 0, 0, Vec::new());
     for _ in 0..6 {
         words.next(&mut word)?;
-        let key = word.clone();
+        let key = String::from_utf8(word.clone())?;
         words.next(&mut word)?;
-        match key.as_slice() {
-            b"rows:" => rows = std::str::from_utf8(&word)?.parse()?,
-            b"cols:" => cols = std::str::from_utf8(&word)?.parse()?,
+        let value = String::from_utf8(word.clone())?;
+        match key.as_str() {
+            "rows:" => rows = value.parse()?,
+            "cols:" => cols = value.parse()?,
             _ => {}
         }
+        lines.push((key, value));
     }
-    Ok((rows, cols))
+    Ok((lines, rows, cols))
+}
+
+fn count(cells: &[Option<i32>], out: &mut impl Write) -> io::Result<()> {
+    let mut counts: BTreeMap<i64, u64> = BTreeMap::new();
+    for cell in cells {
+        *counts.entry(cell.map_or(i64::MAX, i64::from)).or_insert(0) += 1;
+    }
+    for (category, count) in &counts {
+        match *category {
+            i64::MAX => writeln!(out, "* {count}")?,
+            category => writeln!(out, "{category} {count}")?,
+        }
+    }
+    Ok(())
+}
+
+fn write(lines: &[(String, String)], cells: &[Option<i32>], cols: usize, out: &mut impl Write) -> io::Result<()> {
+    for (key, value) in lines {
+        writeln!(out, "{key} {value}")?;
+    }
+    for row in cells.chunks(cols) {
+        for (at, cell) in row.iter().enumerate() {
+            if at > 0 {
+                out.write_all(b" ")?;
+            }
+            match cell {
+                Some(category) => write!(out, "{category}")?,
+                None => out.write_all(b"*")?,
+            }
+        }
+        out.write_all(b"\n")?;
+    }
+    Ok(())
 }
 
 fn main() -> Result<(), Box<dyn std::error::Error>> {
-    let path = std::env::args().nth(1).ok_or("usage: plain GRID")?;
+    let usage = "usage: plain read|count|write GRID";
+    let (task, path) = (std::env::args().nth(1).ok_or(usage)?, std::env::args().nth(2).ok_or(usage)?);
     let mut words = Words::new(File::open(path)?);
-    let (rows, cols) = header(&mut words)?;
-    // The map is held whole, since a script may ask for more than one table of it.
+    let (lines, rows, cols) = header(&mut words)?;
+    // The map is held whole, since a script may ask for more than one thing of it.
     let mut cells = Vec::with_capacity(rows * cols);
     let mut word = Vec::new();
     while words.next(&mut word)? {
@@ -82,16 +119,12 @@ fn main() -> Result<(), Box<dyn std::error::Error>> {
     if cells.len() != rows * cols {
         return Err("another number of cells".into());
     }
-    let mut counts: BTreeMap<i64, u64> = BTreeMap::new();
-    for cell in &cells {
-        *counts.entry(cell.map_or(i64::MAX, i64::from)).or_insert(0) += 1;
-    }
     let mut out = BufWriter::new(io::stdout().lock());
-    for (category, count) in &counts {
-        match *category {
-            i64::MAX => writeln!(out, "* {count}")?,
-            category => writeln!(out, "{category} {count}")?,
-        }
+    match task.as_str() {
+        "read" => {}
+        "count" => count(&cells, &mut out)?,
+        "write" => write(&lines, &cells, cols, &mut out)?,
+        _ => return Err(usage.into()),
     }
     out.flush()?;
     Ok(())

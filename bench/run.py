@@ -49,28 +49,47 @@ def grass(grid):
         return measure(words)
 
 
+# What a run does, and the script that asks for it.
+TASKS = {"read": "", "count": "r.stats -c input=g\n", "write": "r.out.ascii input=g\n"}
+
+
+def programs(grid, plain):
+    """Each task by both programs."""
+    for task, script in TASKS.items():
+        with open(f"{OUT}/{task}", "w", encoding="ascii") as file:
+            file.write(script)
+        yield f"rcell {task}", [f"{ROOT}/bin/rcell", f"{OUT}/{task}", f"g={grid}"]
+        yield f"plain {task}", [plain, task, grid]
+
+
+def ratio(found, task, without=None):
+    """How many times the plain program's seconds of the processor a task takes, those of another task left out."""
+    rcell, plain = (found[f"{by} {task}"][0] - (found[f"{by} {without}"][0] if without else 0) for by in ("rcell", "plain"))
+    print(f"{task}: {rcell:.3f} s, plain {plain:.3f} s, ratio {rcell / plain:.2f}" + (f" ({without} left out)" if without else ""))
+
+
 def main():
     size = sys.argv[1:3] or ["6000", "6000"]
     os.makedirs(OUT, exist_ok=True)
-    grid, script, plain = f"{OUT}/grid-{'x'.join(size)}.txt", f"{OUT}/script", f"{OUT}/plain"
+    grid, plain = f"{OUT}/grid-{'x'.join(size)}.txt", f"{OUT}/plain"
     if not os.path.exists(grid):
         subprocess.run([sys.executable, f"{HERE}/make_grid.py", grid, *size], check=True)
-    with open(script, "w", encoding="ascii") as file:
-        file.write("r.stats -c input=g\n")
     subprocess.run(["rustc", "--edition", "2021", "-O", "-o", plain, f"{HERE}/plain.rs"], check=True)
     cells, length = int(size[0]) * int(size[1]), os.path.getsize(grid)
     print(f"grid: {length / 1e6:.1f} MB, {cells} cells")
-    found = best({"rcell": [f"{ROOT}/bin/rcell", script, f"g={grid}"], "plain": [plain, grid]})
+    found = best(dict(programs(grid, plain)))
     for name, (seconds, wall, peak, _) in found.items():
         print(f"{name}: {seconds:.3f} s of processor, {wall:.3f} s on the wall, peak {peak / 1e6:.1f} MB, {peak / cells:.2f} bytes a cell")
-    if found["rcell"][3] != found["plain"][3]:
-        sys.exit("the two programs wrote different tables")
-    print(f"ratio: {found['rcell'][0] / found['plain'][0]:.2f} of processor, {found['rcell'][1] / found['plain'][1]:.2f} on the wall")
+    for task in TASKS:
+        if found[f"rcell {task}"][3] != found[f"plain {task}"][3]:
+            sys.exit(f"the two programs wrote different texts: {task}")
+        ratio(found, task)
+    ratio(found, "write", "read")
     by_grass = grass(grid)
     if by_grass is None:
         print("grass: not installed, skipped")
     else:
-        same = "the same table" if by_grass[3] == found["rcell"][3] else "another table"
+        same = "the same table" if by_grass[3] == found["rcell count"][3] else "another table"
         print(f"grass (import and r.stats): {by_grass[0]:.3f} s of processor, {by_grass[1]:.3f} s on the wall, {same}")
 
 

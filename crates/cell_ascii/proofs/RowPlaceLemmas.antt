@@ -114,8 +114,8 @@ module _ (h : Header) (count : ℕ) where
   abbrev table : RowTable
   table = cells_table h count
 
-  row : (gap : ℕ) (token : List ℕ) (words : List (List ℕ)) (place : Place) → is_within count words token ≡ true → table gap token words place ≡ cell_rows h count gap token words place
-  row gap token words place e = ap (λ (t : Bool). if t then cell_rows h count gap token words place else None) e
+  judged : (gap : ℕ) (token : List ℕ) (words : List (List ℕ)) (place : Place) → is_within count words token ≡ true → table gap token words place ≡ cell_rows h count gap token words place
+  judged gap token words place e = ap (λ (t : Bool). if t then cell_rows h count gap token words place else None) e
 
   behind : (gap : ℕ) (token : List ℕ) (words : List (List ℕ)) (place : Place) → is_within count words token ≡ false → table gap token words place ≡ None
   behind gap token words place e = ap (λ (t : Bool). if t then cell_rows h count gap token words place else None) e
@@ -139,23 +139,23 @@ module _ (h : Header) (count : ℕ) where
 
     between : IsBetween table ws
     between = record {
-      blank = λ gap b space room. row gap [] ws (Byte b) inside ∙ (let t : (gap == 1048576) ≡ false = grind (arith, nat_tests) in rw (space, t));
-      full = λ gap b space full. row gap [] ws (Byte b) inside ∙ rw (space, full);
-      fails = λ gap. row gap [] ws Fails inside;
+      blank = λ gap b space room. judged gap [] ws (Byte b) inside ∙ (let t : (gap == 1048576) ≡ false = grind (arith, nat_tests) in rw (space, t));
+      full = λ gap b space full. judged gap [] ws (Byte b) inside ∙ rw (space, full);
+      fails = λ gap. judged gap [] ws Fails inside;
     }
 
     within : IsWithin table ws
     within = record {
-      short = λ b x xs word short. row 0 (x ∷ xs) (ws ++ (x ∷ xs) ∷ []) (Byte b) (inside_word x xs) ∙ (let t : (length (x ∷ xs) == 64) ≡ false = grind (arith, nat_tests) in rw (word, t));
-      long = λ b x xs word long. row 0 (x ∷ xs) (ws ++ (x ∷ xs) ∷ []) (Byte b) (inside_word x xs) ∙ rw (word, sym long);
-      fails = λ x xs. row 0 (x ∷ xs) (ws ++ (x ∷ xs) ∷ []) Fails (inside_word x xs);
+      short = λ b x xs word short. judged 0 (x ∷ xs) (ws ++ (x ∷ xs) ∷ []) (Byte b) (inside_word x xs) ∙ (let t : (length (x ∷ xs) == 64) ≡ false = grind (arith, nat_tests) in rw (word, t));
+      long = λ b x xs word long. judged 0 (x ∷ xs) (ws ++ (x ∷ xs) ∷ []) (Byte b) (inside_word x xs) ∙ rw (word, sym long);
+      fails = λ x xs. judged 0 (x ∷ xs) (ws ++ (x ∷ xs) ∷ []) Fails (inside_word x xs);
     }
 
     first : (gap b : ℕ) → is_space b ≡ false → table gap [] ws (Byte b) ≡ None
-    first gap b word = row gap [] ws (Byte b) inside ∙ rw word
+    first gap b word = judged gap [] ws (Byte b) inside ∙ rw word
 
     early : (gap : ℕ) → table gap [] ws End ≡ Some TooFew
-    early gap = row gap [] ws End inside ∙ (let t : nat_lt (length ws) count ≡ true = grind (arith, nat_tests) in rw t)
+    early gap = judged gap [] ws End inside ∙ (let t : nat_lt (length ws) count ≡ true = grind (arith, nat_tests) in rw t)
 
   -- behind the last cell nothing is told
   over : (ws : List (List ℕ)) (t : List ℕ) → count ≤ length ws → is_within count (with_token ws t) t ≡ false
@@ -188,7 +188,7 @@ module _ (h : Header) (count : ℕ) where
     now = ws ++ (x ∷ xs) ∷ []
 
     no_cell : (kind : GridKind) → cell_of_word h (x ∷ xs) ≡ Err kind → (place : Place) → ends_token place ≡ true → table 0 (x ∷ xs) now place ≡ Some kind
-    no_cell kind e place ends = row 0 (x ∷ xs) now place (inside_word ws fewer x xs) ∙ by ws place ends
+    no_cell kind e place ends = judged 0 (x ∷ xs) now place (inside_word ws fewer x xs) ∙ by ws place ends
       where
         by : (vs : List (List ℕ)) (place : Place) → ends_token place ≡ true → cell_rows h count 0 (x ∷ xs) (vs ++ (x ∷ xs) ∷ []) place ≡ Some kind
         by [] (Byte b) space = rw (space, e)
@@ -198,7 +198,7 @@ module _ (h : Header) (count : ℕ) where
         by vs Fails ends = cc
 
     a_cell : (v : CellValue) → cell_of_word h (x ∷ xs) ≡ Ok v → (place : Place) → ends_token place ≡ true → table 0 (x ∷ xs) now place ≡ table 0 [] now place
-    a_cell v e place ends = row 0 (x ∷ xs) now place (inside_word ws fewer x xs) ∙ by ws place ends ∙ last (cases_lt (length now) count)
+    a_cell v e place ends = judged 0 (x ∷ xs) now place (inside_word ws fewer x xs) ∙ by ws place ends ∙ last (cases_lt (length now) count)
       where
         by : (vs : List (List ℕ)) (place : Place) → ends_token place ≡ true → cell_rows h count 0 (x ∷ xs) (vs ++ (x ∷ xs) ∷ []) place ≡ (ends_early count (vs ++ (x ∷ xs) ∷ []) place or None)
         by [] (Byte b) space = rw (space, e)
@@ -218,7 +218,7 @@ module _ (h : Header) (count : ℕ) where
         none Fails ends all = refl
 
         last : (length now < count) ⊎ (count ≤ length now) → (ends_early count now place or None) ≡ table 0 [] now place
-        last (inl less) = more place ends ∙ sym (row 0 [] now place (inside now less))
+        last (inl less) = more place ends ∙ sym (judged 0 [] now place (inside now less))
         last (inr all) = none place ends (let u : nat_lt (length now) count ≡ false = grind (arith, nat_tests) in u) ∙ sym (behind 0 [] now place (over now [] all))
 
   -- what is told from a cell on

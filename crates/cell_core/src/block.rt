@@ -124,6 +124,13 @@ impl Block {
         }
     }
 
+    /// Counts bytes that were put on the sink past the block.
+    pub fn count(&mut self, bytes: u64)
+        ensures { self.new ≡ record { held = self.old.held; written = capped (self.old.written + bytes) } }
+    {
+        self.written = self.written.saturating_add(bytes);
+    }
+
     // Puts the bytes on the sink, past the block, which holds nothing.
     fn put_long<W: Sink>(&mut self, out: &mut W, bytes: &[u8]) -> Result<(), WriteFault>
         requires { self.old.held ≡ [] }

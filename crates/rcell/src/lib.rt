@@ -1,5 +1,5 @@
-//! Scripts over grids of whole-number cells: grids and a script are read, and the tables that the script asks for are
-//! put out (GRASS manual: r.in.ascii, r.stats).
+//! Scripts over grids of whole-number cells: grids and a script are read, and the tables and grid texts that the script
+//! asks for are put out (GRASS manual: r.in.ascii, r.stats, r.out.ascii).
 #![tactic(auto)]
 
 pub mod clumps;

@@ -1,7 +1,9 @@
 //! Scripts: one command a line.
 
 pub mod fault;
-pub mod options;
+pub mod null_text;
 pub mod parsing;
+pub mod r_out_ascii;
+pub mod r_stats;
 pub mod statement;
 pub mod words;

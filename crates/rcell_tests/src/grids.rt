@@ -54,7 +54,7 @@ fn tells_the_first_fault(rt: HostRuntime) -> Result<(), Fail> {
     let six = b"north: 3\nsouth: 0\neast: 4\nwest: 0\nrows: 3\ncols: 4\n";
     expect_fault(&rt, b"", GridKind::MissingKey, 1)?;
     expect_fault(&rt, b"north: 3 4\n", GridKind::BadHeader, 1)?;
-    expect_fault(&rt, b"type: int\n", GridKind::BadHeader, 1)?;
+    expect_fault(&rt, b"type: int\n", GridKind::MissingKey, 2)?;
     expect_fault(&rt, b"north: 12345678901\n", GridKind::BadNumber, 1)?;
     expect_fault(&rt, b"north: 1\nnorth: 1\n", GridKind::TwiceKey, 2)?;
     expect_fault(&rt, six, GridKind::TooFew, 7)?;

@@ -118,6 +118,26 @@ fn puts_out_tables(rt: HostRuntime) -> Result<(), Fail> {
 }
 
 #[test]
+fn puts_out_grids(rt: HostRuntime) -> Result<(), Fail> {
+    expect_text(&rt, &[(b"g", GRID)], b"r.out.ascii input=g\n", GRID)?;
+    let short = b"north: 10.50\nsouth: -.25\neast: 4.\nwest: +0\nrows: 1\ncols: 2\n7 *";
+    expect_text(
+        &rt,
+        &[(b"p", short)],
+        b"r.out.ascii null_value=-9 input=p",
+        b"north: 10.5\nsouth: -0.25\neast: 4\nwest: 0\nrows: 1\ncols: 2\nnull: -9\n7 -9\n",
+    )?;
+    let mut full = sink(rt.alloc(), 60)?;
+    let script = b"r.stats -c input=g\nr.out.ascii input=g null_value=*\n";
+    let outcome = run_texts(rt.alloc(), &[(b"g", GRID)], script, &mut full)?;
+    assert_eq!(rt; outcome.written, 60);
+    assert_eq!(rt; outcome.fault, Some(RunFault::Write));
+    assert_eq!(rt; &full.bytes()[..16], TABLE);
+    assert_eq!(rt; &full.bytes()[16..], &GRID[..44]);
+    Ok(())
+}
+
+#[test]
 fn refuses_before_it_writes(rt: HostRuntime) -> Result<(), Fail> {
     let script = b"r.stats -c input=g\n";
     let narrow = b"north: 3\nsouth: 0\neast: 4\nwest: 0\nrows: 3\ncols: 3\n1 1 2 1 2 2 3 3 1";

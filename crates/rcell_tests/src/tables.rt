@@ -9,7 +9,7 @@ use cell_core::name::Name;
 use cell_core::region::Region;
 use cell_core::shelf::Shelf;
 use cell_core::sink::{MemorySink, WriteFault};
-use rcell::output::block::Block;
+use cell_core::block::Block;
 use rcell::output::text::write_table;
 use rcell::stats::table::{Table, tally};
 use std::alloc::Global;

@@ -1,11 +1,17 @@
 -- One statement more.
-use Rattle.std.proofs.Common.{◌≡◌, ℕ, suc, ◌+◌, ◌<◌, List, [], ◌∷◌, ◌++◌, length, take, drop, get_or, Option, refl, ap, sym, ◌∙◌, arith, add-one, append-nil, append_assoc, length-append, take-append-drop, All}
+use Rattle.std.proofs.Common.{◌≡◌, ℕ, suc, ◌+◌, ◌<◌, ◌≤◌, Some, List, [], ◌∷◌, ◌++◌, length, take, drop, get_or, Option, refl, ap, sym, ◌∙◌, arith, add-one, append-nil, append_assoc, length-append, take-append-drop, All}
+use Rattle.std.specs.Prelude.{slice_get}
 use Rattle.std.proofs.Math.Seq.{drop-cons}
 use Rattle.std.proofs.lemmas.Grind.{flat_map-append}
+use Rattle.cell_ascii.specs.Writing.{grid_text}
+use Rattle.cell_core.specs.Device.{append_known}
+use Rattle.cell_core.specs.Grid.{Grid}
 use Rattle.cell_core.specs.Shelf.{ShelfValue}
-use Rattle.cell_core.specs.Blocks.{BlockValue, Gathered, IsPut, Gathers, PutsAll}
-use Rattle.rcell.specs.runs.Execution.{Puts, IsStopped, IsBefore, Stops}
+use Rattle.cell_core.specs.Blocks.{BlockValue, Gathered, IsPut, Gathers, PutsAll, capped}
+use Rattle.cell_core.proofs.BlockLemmas.{Gathered-long, IsCut-long}
+use Rattle.rcell.specs.runs.Execution.{Puts, PutsCut, IsStopped, IsBefore, Stops}
 use Rattle.rcell.specs.runs.Output.{output_of, statement_text}
+use Rattle.rcell.specs.declared.script.statement.Command.TheVariants.{OutAscii}
 use Rattle.rcell.specs.declared.script.statement.Statement.{Statement}
 use Rattle.rcell.specs.declared.runs.execution.Stop.{Stop}
 use Rattle.rcell.specs.declared.runs.execution.Stop.TheVariants.{Memory, Write}
@@ -18,6 +24,29 @@ IsPut-gathered before text now block put = record { front = text; whole = rw put
 pub gathered_then_put : (taken : Option (List ℕ)) (old : BlockValue) (bytes : List ℕ) (middle : Option (List ℕ)) (between : BlockValue) (now : Option (List ℕ)) (new : BlockValue)
     → Gathers taken old bytes middle between → PutsAll middle between now new → Puts taken old bytes now new
 gathered_then_put taken old bytes middle between now new gathers puts = λ before text put. puts before (text ++ bytes) (gathers before text (IsPut-gathered before text taken old put))
+
+-- a text was put past a block that holds nothing
+pub put_past : (taken : Option (List ℕ)) (old : BlockValue) (bytes : List ℕ) → old.held ≡ []
+    → Puts taken old bytes (append_known taken bytes) (record { held = old.held; written = capped (old.written + length bytes) })
+put_past taken old bytes none = λ before text put.
+    let gathered = Gathered-long before taken text old (IsPut-gathered before text taken old put) bytes none in
+    let all : gathered.front ≡ text ++ bytes = sym (append-nil gathered.front) ∙ gathered.whole in
+    record { taken = gathered.taken ∙ ap (append_known before) all; held = none; count = gathered.written ∙ ap (λ t. capped (length t)) all }
+
+-- the sink failed within such a text
+pub cut_past : (taken : Option (List ℕ)) (old : BlockValue) (bytes : List ℕ) (n : ℕ) → old.held ≡ [] → n ≤ length bytes
+    → PutsCut taken old bytes (append_known taken (take n bytes)) (capped (old.written + n))
+cut_past taken old bytes n none within = λ before text put. IsCut-long before taken text old (IsPut-gathered before text taken old put) bytes n none within
+
+-- a statement whose text was cut is stopped by the sink
+pub stopped_in_text : (line : ℕ) (bytes : List ℕ) (taken : Option (List ℕ)) (old : BlockValue) (now : Option (List ℕ)) (written : ℕ) (stop : Stop) → (stop ≡ Write) × PutsCut taken old bytes now written
+    → IsStopped line bytes taken old now written stop
+stopped_in_text line bytes taken old now written stop (write, cut) = rw write cut
+
+-- the text of a statement that asks for the grid text of a map
+pub grid_statement : (shelf : ShelfValue) (statement : Statement) (place : ℕ) (text : List ℕ) (m : Grid) → statement.command ≡ OutAscii place text → slice_get shelf.maps place ≡ Some m
+    → grid_text text m ≡ statement_text shelf statement
+grid_statement shelf statement place text m command map = rw (command, map) refl
 
 cut_at : (statements : List Statement) (i : ℕ) (s : Statement) → i < length statements → s ≡ get_or statements i s → take i statements ++ s ∷ drop (i + 1) statements ≡ statements
 cut_at statements i s h read =

@@ -6,7 +6,8 @@ use Rattle.std.proofs.lemmas.List.Sums.{position_or_len_is}
 use Rattle.std.proofs.lemmas.Bool.Decides.{nat_tests}
 use Rattle.cell_core.specs.Name.{is_name}
 use Rattle.rcell.specs.declared.script.fault.ScriptKind.TheVariants.{BadName}
-use Rattle.rcell.specs.script.Options.{is_equals, pair_of, names_from}
+use Rattle.rcell.specs.script.Options.{is_equals, pair_of}
+use Rattle.rcell.specs.script.RStats.{names_from}
 
 -- the first equals sign stands at place i
 pub pair_of-at : (w : List ℕ) (i : ℕ) → i < length w → ((k : ℕ) → k < i → is_equals (get_or w k 0) ≡ false) → is_equals (get_or w i 0) ≡ true

@@ -1,36 +1,20 @@
 -- Which texts are scripts, and of which statements.
 use Rattle.std.specs.Prelude.{ℕ, ◌+◌, ◌<◌, ◌==◌, Bool, false, nat_lt, List, [], ◌∷◌, All, length, Option, Some, None, Result, Ok, Err, if◌then◌else◌, bytes_eq, codes}
-use Rattle.std.specs.Option.{option_map, option_and_then}
-use Rattle.cell_core.specs.Name.{place_of}
 use Rattle.rcell.specs.script.Lines.{script_lines, words_of}
-use Rattle.rcell.specs.script.Options.{Options, no_options, with_words}
+use Rattle.rcell.specs.script.RStats.{stats_of}
+use Rattle.rcell.specs.script.ROutAscii.{out_ascii_of}
 use Rattle.rcell.specs.declared.script.fault.ScriptKind.{ScriptKind}
-use Rattle.rcell.specs.declared.script.fault.ScriptKind.TheVariants.{UnknownCommand, BadOption, MissingOption, UnknownMap, LongLine}
+use Rattle.rcell.specs.declared.script.fault.ScriptKind.TheVariants.{UnknownCommand, LongLine}
 use Rattle.rcell.specs.declared.script.fault.ScriptFault.{ScriptFault}
 use Rattle.rcell.specs.declared.script.statement.Command.{Command}
-use Rattle.rcell.specs.declared.script.statement.Command.TheVariants.{Stats}
+use Rattle.rcell.specs.declared.script.statement.Command.TheVariants.{Stats, OutAscii}
 use Rattle.rcell.specs.declared.script.statement.Statement.{Statement}
 
--- the places of names among the known ones, where all are known
-abbrev pub places_of : List (List ℕ) → List (List ℕ) → Option (List ℕ)
-places_of known [] = Some []
-places_of known (name ∷ names) = option_and_then (λ place. option_map (λ places. place ∷ places) (places_of known names)) (place_of name known)
-
-abbrev pub stats_at : Option (List ℕ) → Result Command ScriptKind
-stats_at None = Err UnknownMap
-stats_at (Some places) = Ok (Stats places)
-
--- an input, then counts (tables without them come later), then known maps
-abbrev pub stats_of : List (List ℕ) → Options → Result Command ScriptKind
-stats_of known options = checked options.inputs
-  where
-    checked : Option (List (List ℕ)) → Result Command ScriptKind
-    checked None = Err MissingOption
-    checked (Some names) = if options.counts then stats_at (places_of known names) else Err BadOption
-
-abbrev pub stats_if : List (List ℕ) → Result Options ScriptKind → Result Command ScriptKind
-stats_if known (Ok options) = stats_of known options
-stats_if known (Err kind) = Err kind
+-- the command of a name and of the words behind it
+abbrev pub command_named : List (List ℕ) → List ℕ → List (List ℕ) → Result Command ScriptKind
+command_named known name words =
+    if bytes_eq name (codes "r.stats") then stats_of known words
+    else (if bytes_eq name (codes "r.out.ascii") then out_ascii_of known words else Err UnknownCommand)
 
 abbrev pub as_command : Result Command ScriptKind → Result (Option Command) ScriptKind
 as_command (Ok command) = Ok (Some command)
@@ -43,9 +27,7 @@ is_note (b ∷ bs) = b == 35
 -- a line of blanks and a note are skipped; in any other line the first word is the command
 abbrev pub command_of : List (List ℕ) → List (List ℕ) → Result (Option Command) ScriptKind
 command_of known [] = Ok None
-command_of known (w ∷ ws) =
-    if is_note w then Ok None
-    else (if bytes_eq w (codes "r.stats") then as_command (stats_if known (with_words no_options ws)) else Err UnknownCommand)
+command_of known (w ∷ ws) = if is_note w then Ok None else as_command (command_named known w ws)
 
 -- a line has at most 65535 bytes
 abbrev pub line_command : List (List ℕ) → List ℕ → Result (Option Command) ScriptKind
@@ -69,3 +51,4 @@ script_of known text = statements_from known 1 (script_lines text)
 -- the places that a command names are those of maps
 abbrev pub ReadsWithin : ℕ → Command → Type 0
 ReadsWithin count (Stats places) = All (λ place. place < count) places
+ReadsWithin count (OutAscii place null_text) = place < count

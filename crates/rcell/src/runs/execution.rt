@@ -1,16 +1,19 @@
 //! Statements are executed in order, and each puts out its text.
 
 ghost use Rattle.std.specs.Prelude.{◌≡◌, ◌<◌, ◌||◌, All, [], length, OnOk, IfOk, IfErr};
+ghost use Rattle.cell_ascii.specs.Writing.{grid_text, IsNullText};
 ghost use Rattle.cell_core.specs.Device.{append_known};
 ghost use Rattle.cell_core.specs.Blocks.{capped};
-ghost use Rattle.rcell.specs.runs.Execution.{Puts, IsStopped, Stops, stops_write};
+ghost use Rattle.rcell.specs.runs.Execution.{Puts, PutsCut, IsStopped, Stops, stops_write};
 ghost use Rattle.rcell.specs.runs.Output.{output_of, statement_text, stats_text};
 ghost use Rattle.rcell.specs.script.Statements.{ReadsWithin};
 
 use crate::output::text::write_table;
 use crate::script::statement::{Command, Statement};
 use crate::stats::table::tally;
+use cell_ascii::writer::write_map;
 use cell_core::block::Block;
+use cell_core::map::CellMap;
 use cell_core::shelf::Shelf;
 use cell_core::sink::{Sink, WriteFault};
 use std::alloc::Global;
@@ -72,6 +75,34 @@ fn stopped_by(fault: WriteFault) -> Stopped
     }
 }
 
+// Puts out the grid text of a map. It takes no memory.
+fn put_grid<W: Sink>(
+    map: &CellMap,
+    null_text: &[u8],
+    block: &mut Block,
+    out: &mut W,
+) -> Result<(), Stopped>
+    requires null { IsNullText null_text.now }
+    requires held { block.old.held ≡ [] }
+    ensures ok { OnOk result (Puts (W.taken out.old) block.old (grid_text null_text.now map.now) (W.taken out.new) block.new) }
+    ensures held { OnOk result (block.new.held ≡ []) }
+    ensures err { IfErr result (λ s. (s.stop ≡ Stop.Write) × PutsCut (W.taken out.old) block.old (grid_text null_text.now map.now) (W.taken out.new) s.written) }
+    ensures failed { W.failed out.new ≡ (W.failed out.old || stops_write result) }
+{
+    match write_map(map, null_text, out) {
+        Ok(count) => {
+            block.count(count);
+            Ok(())
+        }
+        Err(fault) => {
+            block.count(fault.written);
+            Err(stopped_by(WriteFault {
+                written: block.written(),
+            }))
+        }
+    }
+}
+
 // Puts out the text of a statement.
 fn put_statement<W: Sink>(
     alloc: Global,
@@ -90,6 +121,9 @@ fn put_statement<W: Sink>(
     match &statement.command {
         Command::Stats(places) => {
             put_stats(alloc, shelf, places.as_slice(), statement.line, block, out)
+        }
+        Command::OutAscii { place, null_text } => {
+            put_grid(shelf.map(*place), null_text.bytes(), block, out)
         }
     }
 }

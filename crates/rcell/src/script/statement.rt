@@ -2,6 +2,7 @@
 
 ghost use Rattle.std.specs.Prelude.{◌≡◌, OnOk, OnErr, ◌++◌, [], ◌∷◌};
 
+use crate::script::null_text::NullText;
 use cell_core::memory::Memory;
 use std::alloc::Global;
 use std::marker::Model;
@@ -41,6 +42,8 @@ impl Places {
 pub enum Command {
     /// `r.stats -c`: the table of the combinations that occur in the maps at the places, with their counts.
     Stats(Places),
+    /// `r.out.ascii`: the grid text of the map at the place, in which the null text stands for null.
+    OutAscii { place: usize, null_text: NullText },
 }
 
 /// A command and the line on which it stands.

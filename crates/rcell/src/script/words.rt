@@ -1,8 +1,10 @@
-//! The lines of a script and the words of a line.
+//! The lines of a script, the words of a line, and the parts of a word.
 
 ghost use Rattle.std.specs.Prelude.{◌≡◌, IfOk, map};
 ghost use Rattle.std.specs.List.{slice_split};
+ghost use Rattle.std.specs.Option.{option_map};
 ghost use Rattle.rcell.specs.script.Lines.{is_blank, words_of, parts_of, script_lines};
+ghost use Rattle.rcell.specs.script.Options.{pair_of};
 
 use bstr::ByteSlice;
 use cell_core::memory::Memory;
@@ -33,6 +35,18 @@ pub fn words_of<'a>(alloc: Global, line: &'a [u8]) -> Result<Vec<&'a [u8]>, Memo
         }
     }
     Ok(words)
+}
+
+/// The key and the value around the first equals sign.
+pub fn pair_of<'a>(word: &'a [u8]) -> Option<(&'a [u8], &'a [u8])>
+    ensures { option_map (λ pair. (pair.0.now, pair.1.now)) result ≡ pair_of word.now }
+{
+    for (i, b) in word.iter().enumerate() {
+        if *b == b'=' {
+            return Some((&word[..i], &word[i + 1..]));
+        }
+    }
+    None
 }
 
 /// The parts between commas.

@@ -1,0 +1,10 @@
+use Rattle.std.proofs.Common.{◌≡◌, take, map, IsTrue}
+use Rattle.std.specs.List.{list_all}
+use Rattle.cell_core.specs.Name.{is_name}
+use Rattle.rcell.proofs.script.r_stats.names_of.Given as goal
+
+abbrev pub invariant-loop-text : goal.invariant-loop-text
+invariant-loop-text l = record {
+  names : l.names.items ≡ map (λ text. text.now) (take l.text-index l.texts);
+  good : IsTrue (list_all is_name l.names.items);
+}
