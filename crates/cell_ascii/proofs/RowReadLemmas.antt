@@ -4,7 +4,7 @@ use Rattle.std.specs.Option.{option_map, IfSome}
 use Rattle.cell_core.specs.Device.{Coming}
 use Rattle.cell_core.specs.Grid.{CellValue}
 use Rattle.cell_ascii.specs.Words.{start_of}
-use Rattle.cell_ascii.specs.Header.{◌>>=◌, At, Header, Opened, header_of_text}
+use Rattle.cell_ascii.specs.Header.{◌>>=◌, At, Header, header_of_text}
 use Rattle.cell_ascii.specs.Cells.{Reading, cell_from, many, end_of}
 use Rattle.cell_ascii.specs.RowPlaces.{IsPlaceOf, cells_fault, end_fault}
 use Rattle.cell_ascii.specs.Reader.{always}
