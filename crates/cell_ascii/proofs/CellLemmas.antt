@@ -1,5 +1,5 @@
 -- The next cell, and n of them, one after another.
-use Rattle.std.proofs.Common.{◌≡◌, ℕ, suc, [], ◌∷◌, ◌++◌, append_assoc, append-nil, ◌+◌, ◌-◌, ◌<◌, arith, List, Option, Some, None, Result, Ok, Err, refl, ap, sym, ◌∙◌}
+use Rattle.std.proofs.Common.{◌≡◌, ℕ, suc, [], ◌∷◌, ◌++◌, append_assoc, ◌+◌, ◌-◌, ◌<◌, arith, List, Option, Some, None, Result, Ok, Err, refl, ap, sym, ◌∙◌}
 use Rattle.std.specs.Option.{option_map}
 use Rattle.cell_core.specs.Device.{Coming}
 use Rattle.cell_core.specs.Grid.{CellValue}
@@ -85,10 +85,6 @@ many_more {X} one n front at = by (one at)
 
 less_one : (n i : ℕ) → i < n → n - i ≡ suc (n - (i + 1))
 less_one n i h = omega arith
-
--- nothing more
-pub read_all : {X : Type 0} (one : At → Reading X) (front : List X) (at : At) → with_front front (many one 0 at) ≡ Ok (front, at)
-read_all one front at = ap (λ l. Ok (l, at)) (append-nil front)
 
 module _ {X : Type 0} (one : At → Reading X) (F : Coming → Reading (List X)) (a b d : Option Coming) (front : List X) (n i : ℕ) (here : Coming → At) (in_range : i < n)
     (so_far : option_map F a ≡ option_map (λ c. with_front front (many one (n - i) (here c))) b) where

@@ -1,5 +1,5 @@
 -- What a fault of a key is not about.
-use Rattle.std.proofs.Common.{◌≡◌, ℕ, List, Option, Some, None, Result, Ok, Err, Bool, true, false, if◌then◌else◌}
+use Rattle.std.proofs.Common.{◌≡◌, ℕ, List, Option, Some, None, Ok, Err, Bool, true, false, if◌then◌else◌}
 use Rattle.cell_ascii.specs.Numbers.{coordinate, side, whole_in_range}
 use Rattle.cell_ascii.specs.Header.{Keys, given, is_int, has_colon, with_key}
 use Rattle.cell_ascii.specs.declared.key.Key.{Key}

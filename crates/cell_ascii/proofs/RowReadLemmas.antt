@@ -4,7 +4,7 @@ use Rattle.std.specs.Option.{option_map, IfSome}
 use Rattle.cell_core.specs.Device.{Coming}
 use Rattle.cell_core.specs.Grid.{CellValue}
 use Rattle.cell_ascii.specs.Words.{start_of}
-use Rattle.cell_ascii.specs.Header.{◌>>=◌, At, Header, Opened, header_of_text}
+use Rattle.cell_ascii.specs.Header.{◌>>=◌, At, Header, header_of_text}
 use Rattle.cell_ascii.specs.Cells.{Reading, cell_from, many, end_of}
 use Rattle.cell_ascii.specs.RowPlaces.{IsPlaceOf, cells_fault, end_fault}
 use Rattle.cell_ascii.specs.Reader.{always}
@@ -187,13 +187,6 @@ module _ (h : Header) (cols : ℕ) (some : 0 < cols) where
 -- the lines of a grid have numbers
 pub lines_fit : (line rows cols : ℕ) → line < 2 ^ 62 → rows ≤ 32767 → cols ≤ 32767 → line + (rows * cols + 1) * 1048577 < 2 ^ 63
 lines_fit line rows cols low high wide = let most : rows * cols ≤ 32767 * 32767 = mul-le-mul high wide in omega arith
-
-one_less : (rows cols : ℕ) → 0 < rows → rows * cols ≡ (rows - 1) * cols + cols
-one_less zero cols some = absurd (omega arith)
-one_less (suc rows) cols some = let o : suc rows - 1 ≡ rows = omega arith in rw o (omega arith)
-
-pub row_fits : (line rows cols : ℕ) → 0 < rows → line + (rows * cols + 1) * 1048577 < 2 ^ 63 → line + cols * 1048577 < 2 ^ 63
-row_fits line rows cols some fits = let e : rows * cols ≡ (rows - 1) * cols + cols = one_less rows cols some in omega arith
 
 -- and those behind a row
 pub rows_fit : (line more rows left cols : ℕ) → left + 1 ≡ rows → more ≤ line + cols * 1048577 → line + (rows * cols + 1) * 1048577 < 2 ^ 63 → more + (left * cols + 1) * 1048577 < 2 ^ 63

@@ -22,7 +22,7 @@ returns-in_err-reader-clause-fault g c =
     let p = err_from_is_err_and c.from_residual.result c.from_residual.ensures.1 in
     rw (p.1, p.2)
     (λ other. implied (λ x. grid_of x ≡ Err f) (λ x. text_fault x ≡ Some f) (g.R.Source.coming c.args.source) (λ x. (faults_agree x f).0)
-        (opening_fails (g.R.Source.coming c.args.source) f (c.in_err-reader.ensures.fault other)))
+    (opening_fails (g.R.Source.coming c.args.source) f (c.in_err-reader.ensures.fault other)))
 
 pub returns-in_err-map-clause-reading_fault : goal.returns-in_err-map-clause-reading_fault
 returns-in_err-map-clause-reading_fault g c =
@@ -38,7 +38,7 @@ returns-in_err-map-clause-fault g c =
     let p = err_from_is_err_and c.from_residual-in_err-map.result c.from_residual-in_err-map.ensures.1 in
     rw (p.1, p.2)
     (λ other. implied (λ x. grid_of x ≡ Err f) (λ x. text_fault x ≡ Some f) (g.R.Source.coming c.args.source) (λ x. (faults_agree x f).0)
-        (text_fails r (g.R.Source.coming c.args.source) r.coming c.in_ok-reader.ensures.opened f (data_fails r.header (place_in r) r.coming f (c.in_err-map.ensures.fault other))))
+    (text_fails r (g.R.Source.coming c.args.source) r.coming c.in_ok-reader.ensures.opened f (data_fails r.header (place_in r) r.coming f (c.in_err-map.ensures.fault other))))
 
 pub returns-in_err-finish-clause-reading_fault : goal.returns-in_err-finish-clause-reading_fault
 returns-in_err-finish-clause-reading_fault g c =
@@ -47,7 +47,7 @@ returns-in_err-finish-clause-reading_fault g c =
     let p = err_from_is_err_and c.from_residual-in_err-finish.result c.from_residual-in_err-finish.ensures.1 in
     rw (p.1, p.2)
     (λ other. end_fails c.in_ok-reader.reader c.read_rows.new.reader (g.R.Source.coming c.args.source) c.in_ok-reader.ensures.opened high.0 high.1 c.in_ok-map.map.rows c.in_ok-map.ensures.rows
-        f (c.in_err-finish.ensures.told c.in_ok-map.ensures.done.1))
+    f (c.in_err-finish.ensures.told c.in_ok-map.ensures.done.1))
 
 pub returns-in_err-finish-clause-fault : goal.returns-in_err-finish-clause-fault
 returns-in_err-finish-clause-fault g c =
@@ -56,8 +56,8 @@ returns-in_err-finish-clause-fault g c =
     let p = err_from_is_err_and c.from_residual-in_err-finish.result c.from_residual-in_err-finish.ensures.1 in
     rw (p.1, p.2)
     (λ other. implied (λ x. grid_of x ≡ Err f) (λ x. text_fault x ≡ Some f) (g.R.Source.coming c.args.source) (λ x. (faults_agree x f).0)
-        (end_fails c.in_ok-reader.reader c.read_rows.new.reader (g.R.Source.coming c.args.source) c.in_ok-reader.ensures.opened high.0 high.1 c.in_ok-map.map.rows c.in_ok-map.ensures.rows
-        f (c.in_err-finish.ensures.told c.in_ok-map.ensures.done.1)))
+    (end_fails c.in_ok-reader.reader c.read_rows.new.reader (g.R.Source.coming c.args.source) c.in_ok-reader.ensures.opened high.0 high.1 c.in_ok-map.map.rows c.in_ok-map.ensures.rows
+    f (c.in_err-finish.ensures.told c.in_ok-map.ensures.done.1)))
 
 pub returns-clause-reading_map : goal.returns-clause-reading_map
 returns-clause-reading_map g c =

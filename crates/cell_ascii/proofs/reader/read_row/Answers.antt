@@ -1,10 +1,11 @@
+use Rattle.std.proofs.lemmas.Result.{err_from_is_err_and}
 use Rattle.std.proofs.Common.{◌≡◌, ◌+◌, ◌<◌, ◌∙◌, arith, take, set, ◌++◌, ◌∷◌, []}
 use Rattle.std.proofs.lemmas.List.{take_more_set, drop-set-lt}
 use Rattle.std.proofs.lemmas.Grind.{drop_more_same}
 use Rattle.cell_ascii.specs.Ahead.{to_come}
 use Rattle.cell_ascii.specs.Cells.{cell_from}
 use Rattle.cell_ascii.specs.Reader.{at_place}
-use Rattle.cell_ascii.proofs.RowReadLemmas.{row_more}
+use Rattle.cell_ascii.proofs.RowReadLemmas.{row_more, row_cut}
 use Rattle.cell_ascii.proofs.reader.read_row.Goals as goal
 
 pub loop-i-preserved : goal.loop-i-preserved
@@ -22,3 +23,12 @@ loop-i-preserved g c =
       header = c.next_cell.ensures.header ∙ c.loop-i.invariant.header;
       lines = omega arith;
     }
+
+pub returns-in_err-cell-clause-cut : goal.returns-in_err-cell-clause-cut
+returns-in_err-cell-clause-cut g c =
+    let s = c.args.cells.now in
+    let t = c.loop-i.cells in
+    let p = err_from_is_err_and c.from_residual.result c.from_residual.ensures.1 in
+    rw (p.1, p.2)
+    (row_cut s.header (at_place s) (at_place t) (to_come s.ahead) (to_come t.ahead) (to_come c.next_cell.new.self.ahead) c.loop-i.i c.in_err-cell.field-0.0 c.args.row.now c.loop-i.row
+    c.loop-i-test.true c.loop-i.invariant.rest c.loop-i.invariant.row (rw c.loop-i.invariant.header at c.in_err-cell.ensures.cell))

@@ -24,7 +24,7 @@ returns-in_err-next_row-clause-fault g c =
     let lower : length c.rows.builder.rows < h.region.rows = omega (arith, is.count, left) in
     let p = err_from_is_err_and c.from_residual.result c.from_residual.ensures.1 in
     let cut = implied (λ x. IsCutRow t.header (place_in t x) f c.rows.row c.next_row.new.row) (λ x. many (cell_from t.header) (length c.rows.row) (place_in t x) ≡ Err f) t.coming
-        (λ x. cut_fails t.header (place_in t x) f c.rows.row c.next_row.new.row) (c.in_err-next_row.ensures.cut is.live) in
+    (λ x. cut_fails t.header (place_in t x) f c.rows.row c.next_row.new.row) (c.in_err-next_row.ensures.cut is.live) in
     rw (p.1, p.2)
     (λ _. rows_fail h (λ (x : Coming). rows_from h (place_in s x)) s.coming t.coming c.rows.builder.rows h.region.rows (length c.rows.builder.rows) (place_in t) f lower is.rows (rw (is.width, is.header) at cut))
 

@@ -28,7 +28,7 @@ returns c =
     let e : FitsSigned w64 c.in-Some-east.east = search rules in
     let w : FitsSigned w64 c.in-Some-west.west = search rules in
     let good : c.new.result ≡ region_fault (record { north = c.in-Some.north; south = c.in-Some-south.south; east = c.in-Some-east.east; west = c.in-Some-west.west; rows = c.in-Some-rows.rows; cols = c.in-Some-cols.cols }) =
-        c.new.ensures ∙ region_same (to_z-of_z w64 c.in-Some.north n) (to_z-of_z w64 c.in-Some-south.south s) (to_z-of_z w64 c.in-Some-east.east e) (to_z-of_z w64 c.in-Some-west.west w) c.in-Some-rows.rows c.in-Some-cols.cols in
+    c.new.ensures ∙ region_same (to_z-of_z w64 c.in-Some.north n) (to_z-of_z w64 c.in-Some-south.south s) (to_z-of_z w64 c.in-Some-east.east e) (to_z-of_z w64 c.in-Some-west.west w) c.in-Some-rows.rows c.in-Some-cols.cols in
     c.judged.ensures ∙ ap (λ r. judged_parts r k.null k.multiplier) good ∙ parts_judged k (region_fault (record { north = c.in-Some.north; south = c.in-Some-south.south; east = c.in-Some-east.east; west = c.in-Some-west.west; rows = c.in-Some-rows.rows; cols = c.in-Some-cols.cols }))
     ∙ all_given k c.in-Some.north c.in-Some-south.south c.in-Some-east.east c.in-Some-west.west c.in-Some-rows.rows c.in-Some-cols.cols
     c.in-Some.is c.in-Some-south.is c.in-Some-east.is c.in-Some-west.is c.in-Some-rows.is c.in-Some-cols.is

@@ -31,7 +31,7 @@ returns-in-Ok-clause-told g c =
     let u = c.read_row.new.cells in
     subst (λ (r : ReaderValue). r.failed ≡ false → 0 < r.rows_left → IfSome r.coming (λ x. None ≡ cells_fault r.header (length c.args.row.now) (place_in r x))) c.self.view_is
     (λ live some. row_told p.header (at_place p) (λ (x : Coming). i.rows_left ≡ 0 → p.pending ≡ None) (to_come p.ahead) (c.self.invariant.placed live)
-        (length c.args.row.now) (at_place u) (to_come u.ahead) c.read_row.new.row c.in-Ok.ensures.row)
+    (length c.args.row.now) (at_place u) (to_come u.ahead) c.read_row.new.row c.in-Ok.ensures.row)
 
 pub returns-in-Err-clause-told : goal.returns-in-Err-clause-told
 returns-in-Err-clause-told g c =
@@ -39,4 +39,4 @@ returns-in-Err-clause-told g c =
     let p = i.cells in
     subst (λ (r : ReaderValue). r.failed ≡ false → 0 < r.rows_left → IfSome r.coming (λ x. Some c.in-Err.fault ≡ cells_fault r.header (length c.args.row.now) (place_in r x))) c.self.view_is
     (λ live some. cut_told p.header (at_place p) (λ (x : Coming). i.rows_left ≡ 0 → p.pending ≡ None) (to_come p.ahead) (c.self.invariant.placed live)
-        c.in-Err.fault c.args.row.now c.read_row.new.row c.in-Err.ensures.cut)
+    c.in-Err.fault c.args.row.now c.read_row.new.row c.in-Err.ensures.cut)

@@ -1,5 +1,5 @@
 use Rattle.std.proofs.lemmas.Result.{err_from_is_err_and}
-use Rattle.std.proofs.Common.{◌≡◌, ◌+◌, ◌*◌, ◌^◌, ◌<◌, ◌≤◌, Some, Err, arith}
+use Rattle.std.proofs.Common.{◌≡◌, Some, Err}
 use Rattle.cell_ascii.specs.Ahead.{to_come}
 use Rattle.cell_ascii.specs.Header.{header_of_text}
 use Rattle.cell_ascii.specs.Places.{opening_fault}
