@@ -8,7 +8,7 @@ pub mod key;
 mod keys;
 pub mod law;
 mod null_text;
-mod number;
+pub mod number;
 mod opening;
 pub mod reader;
 mod scanner;

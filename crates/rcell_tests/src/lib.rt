@@ -4,8 +4,6 @@
 #[cfg(test)]
 mod clumps;
 #[cfg(test)]
-mod grids;
-#[cfg(test)]
 mod reports;
 #[cfg(test)]
 mod runs;

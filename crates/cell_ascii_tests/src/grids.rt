@@ -1,10 +1,10 @@
 //! Whole texts, read in pieces of seven bytes.
 
+use cell_ascii::fault::{GridFault, GridKind};
+use cell_ascii::reader::read_map;
 use cell_core::map::CellMap;
 use cell_core::region::RegionFault;
 use cell_core::source::MemorySource;
-use cell_ascii::fault::{GridFault, GridKind};
-use cell_ascii::reader::read_map;
 use std::alloc::AllocGlobal;
 use std::process::Abort;
 use std::test::Fail;
@@ -50,32 +50,58 @@ fn reads_a_grid(rt: HostRuntime) -> Result<(), Fail> {
 }
 
 #[test]
-fn tells_the_first_fault(rt: HostRuntime) -> Result<(), Fail> {
-    let six = b"north: 3\nsouth: 0\neast: 4\nwest: 0\nrows: 3\ncols: 4\n";
+fn tells_faults_of_a_header(rt: HostRuntime) -> Result<(), Fail> {
     expect_fault(&rt, b"", GridKind::MissingKey, 1)?;
     expect_fault(&rt, b"north: 3 4\n", GridKind::BadHeader, 1)?;
+    expect_fault(&rt, b"kind: int\n", GridKind::BadHeader, 1)?;
     expect_fault(&rt, b"type: int\n", GridKind::MissingKey, 2)?;
-    expect_fault(&rt, b"north: 12345678901\n", GridKind::BadNumber, 1)?;
     expect_fault(&rt, b"north: 1\nnorth: 1\n", GridKind::TwiceKey, 2)?;
-    expect_fault(&rt, six, GridKind::TooFew, 7)?;
     expect_fault(
         &rt,
-        b"north: 3\nsouth: 0\neast: 4\nwest: 0\nrows: -1\ncols: 4\n",
+        b"north: 12345678901\nsouth: 0\neast: 4\nwest: 0\nrows: 3\ncols: 4\n1 1 2 *\n1 2 2 2\n3 3 1 1\n",
+        GridKind::BadNumber,
+        1,
+    )?;
+    expect_fault(
+        &rt,
+        b"north: 3\nsouth: 0\neast: 4\nwest: 0\nrows: 99999999999\ncols: 4\n1 1 2 *\n1 2 2 2\n3 3 1 1\n",
+        GridKind::BadNumber,
+        5,
+    )?;
+    expect_fault(
+        &rt,
+        b"north: 3\nsouth: 0\neast: 4\nwest: 0\nrows: 3\ncols: 4\ntype: float\n1 1 2 *\n1 2 2 2\n3 3 1 1\n",
+        GridKind::BadType,
+        7,
+    )
+}
+
+#[test]
+fn tells_faults_of_a_region(rt: HostRuntime) -> Result<(), Fail> {
+    expect_fault(
+        &rt,
+        b"north: 3\nsouth: 0\neast: 4\nwest: 0\nrows: -1\ncols: 4\n1 1 2 *\n1 2 2 2\n3 3 1 1\n",
         GridKind::Region(RegionFault::BadRows),
         7,
     )?;
     expect_fault(
         &rt,
-        b"north: 0\nsouth: 0\neast: 4\nwest: 0\nrows: 3\ncols: 4\n",
+        b"north: 0\nsouth: 0\neast: 4\nwest: 0\nrows: 3\ncols: 4\n1 1 2 *\n1 2 2 2\n3 3 1 1\n",
         GridKind::Region(RegionFault::BadExtent),
         7,
     )?;
     expect_fault(
         &rt,
-        b"north: 3\nsouth: 0\neast: 4\nwest: 0\nrows: 99999999999\n",
-        GridKind::BadNumber,
-        5,
-    )?;
+        b"north: 3\nsouth: 0\neast: 4\nwest: 0\nrows: -1\ncols: 4\n",
+        GridKind::Region(RegionFault::BadRows),
+        7,
+    )
+}
+
+#[test]
+fn tells_faults_of_cells(rt: HostRuntime) -> Result<(), Fail> {
+    let six = b"north: 3\nsouth: 0\neast: 4\nwest: 0\nrows: 3\ncols: 4\n";
+    expect_fault(&rt, six, GridKind::TooFew, 7)?;
     expect_fault(
         &rt,
         b"north: 3\nsouth: 0\neast: 4\nwest: 0\nrows: 3\ncols: 4\n1 1 2 *\n1 2 2 2\n3 3 1\n",
@@ -87,8 +113,32 @@ fn tells_the_first_fault(rt: HostRuntime) -> Result<(), Fail> {
         b"north: 3\nsouth: 0\neast: 4\nwest: 0\nrows: 3\ncols: 4\n1 1 2 *\n1 2 2 2\n3 3 1 1 5\n",
         GridKind::TooMany,
         9,
+    )
+}
+
+#[test]
+fn reads_null_and_multiplier(rt: HostRuntime) -> Result<(), Fail> {
+    let row =
+        b"north: 1\nsouth: 0\neast: 3\nwest: 0\nrows: 1\ncols: 3\nnull: -9\nmultiplier: 3\n-9 9 -2\n";
+    let map = read(&rt, row)?.map_err(|_| "a fault")?;
+    let region = map.region();
+    assert_eq!(rt; region.rows(), 1);
+    assert_eq!(rt; region.cols(), 3);
+    assert_eq!(rt; map.cell(0, 0).get(), None);
+    assert_eq!(rt; map.cell(0, 1).get(), Some(27));
+    assert_eq!(rt; map.cell(0, 2).get(), Some(-6));
+    expect_fault(
+        &rt,
+        b"north: 1\nsouth: 0\neast: 3\nwest: 0\nrows: 1\ncols: 3\nnull: -9\nmultiplier: 3\n* 9 -2\n",
+        GridKind::BadCell,
+        9,
     )?;
-    Ok(())
+    expect_fault(
+        &rt,
+        b"north: 1\nsouth: 0\neast: 3\nwest: 0\nrows: 1\ncols: 3\nnull: -9\nmultiplier: 2\n1073741824 1 1\n",
+        GridKind::CellRange,
+        9,
+    )
 }
 
 #[test]

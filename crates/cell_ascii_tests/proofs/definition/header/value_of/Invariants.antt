@@ -1,0 +1,7 @@
+use Rattle.std.proofs.Common.{◌≡◌, ◌+◌, take, drop, not, List, ℕ}
+use Rattle.cell_ascii.specs.GridText.{value_of}
+use Rattle.cell_ascii_tests.specs.Seen.{texts, words_of_each}
+use Rattle.cell_ascii_tests.proofs.definition.header.value_of.Given as goal
+
+abbrev pub invariant-loop-line : goal.invariant-loop-line
+invariant-loop-line l = value_of l.key (words_of_each l.lines) ≡ value_of l.key (words_of_each (drop l.line-index l.lines))

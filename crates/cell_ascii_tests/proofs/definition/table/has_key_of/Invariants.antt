@@ -1,0 +1,7 @@
+use Rattle.std.proofs.Common.{◌≡◌, ◌+◌, take, drop, not, List, ℕ}
+use Rattle.cell_ascii.specs.Places.{has_key_of}
+use Rattle.cell_ascii_tests.specs.Seen.{texts, words_of_each}
+use Rattle.cell_ascii_tests.proofs.definition.table.has_key_of.Given as goal
+
+abbrev pub invariant-loop-other : goal.invariant-loop-other
+invariant-loop-other l = has_key_of (texts l.line) (words_of_each l.earlier) ≡ has_key_of (texts l.line) (words_of_each (drop l.other-index l.earlier))

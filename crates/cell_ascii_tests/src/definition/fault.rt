@@ -1,0 +1,60 @@
+//! The first fault that the places of a text tell.
+
+ghost use Rattle.std.specs.Prelude.{◌≡◌, [], IfOk};
+ghost use Rattle.cell_ascii.specs.Places.{front_of, told, whole_table, text_fault};
+ghost use Rattle.cell_ascii_tests.specs.Seen.{words_of_each, place_seen};
+
+use crate::definition::header::data_words;
+use crate::definition::keys::header_in;
+use crate::definition::place::Place;
+use crate::definition::table::{in_header_line, whole_table};
+use crate::definition::words::{gap_of, last_of, line_of, lines_of, token_of, words_of};
+use cell_ascii::fault::GridFault;
+use cell_core::memory::Memory;
+use std::alloc::Global;
+
+// All lines but the last.
+fn earlier_lines<'b, 'a>(lines: &'b [&'a [u8]]) -> &'b [&'a [u8]]
+    ensures { words_of_each result.now ≡ front_of (words_of_each lines.now) }
+{
+    &lines[..lines.len().saturating_sub(1)]
+}
+
+/// What a place tells, after the bytes before it.
+pub fn told(alloc: Global, before: &[u8], place: Place) -> Result<Option<GridFault>, Memory>
+    ensures { IfOk result (λ fault. fault ≡ told whole_table before.now (place_seen place)) }
+{
+    let lines = lines_of(alloc, before)?;
+    let line = words_of(alloc, last_of(&lines))?;
+    let earlier = earlier_lines(&lines);
+    let token = token_of(alloc, before)?;
+    let inside = in_header_line(alloc, earlier, &line)?;
+    let header = header_in(alloc, &lines)?;
+    let words = data_words(alloc, &lines)?;
+    let gap = gap_of(before);
+    let kind = whole_table(
+        alloc, gap, token, inside, earlier, &line, &header, &words, place,
+    )?;
+    let line = line_of(before);
+    match kind {
+        Some(kind) => Ok(Some(GridFault { kind, line })),
+        None => Ok(None),
+    }
+}
+
+/// The fault of a text, of a source that ends or fails behind it; or None for a text that is a grid.
+pub fn text_fault(alloc: Global, text: &[u8], fails: bool) -> Result<Option<GridFault>, Memory>
+    ensures { IfOk result (λ fault. fault ≡ text_fault (record { bytes = text.now; fails = fails })) }
+{
+    for i in 0..text.len() {
+        let fault = told(alloc, &text[..i], Place::Byte(text[i]))?;
+        if fault.is_some() {
+            return Ok(fault);
+        }
+    }
+    if fails {
+        told(alloc, text, Place::Fails)
+    } else {
+        told(alloc, text, Place::End)
+    }
+}

@@ -1,0 +1,99 @@
+//! The lines and the words of a text, and what a place knows of the bytes before it.
+
+ghost use Rattle.std.specs.Prelude.{◌≡◌, ◌≤◌, length, IfOk};
+ghost use Rattle.std.specs.List.{slice_split, filter};
+ghost use Rattle.cell_ascii.specs.Words.{is_space, is_word};
+ghost use Rattle.cell_ascii.specs.GridText.{is_token, lines_of, words_of};
+ghost use Rattle.cell_ascii.specs.Places.{line_of, gap_of, last_of, token_of};
+ghost use Rattle.cell_ascii_tests.specs.Seen.{texts};
+
+use cell_core::memory::Memory;
+use std::alloc::{AllocError, Global};
+
+/// A space, a tab, a carriage return or a line feed.
+pub fn is_space(b: u8) -> bool
+    ensures { result ≡ is_space b }
+{
+    (b == b' ' || b == b'\t') || (b == b'\r' || b == b'\n')
+}
+
+/// Any other byte.
+pub fn is_word(b: u8) -> bool
+    ensures { result ≡ is_word b }
+{
+    !is_space(b)
+}
+
+/// Whether a piece holds a byte.
+pub fn is_token(piece: &[u8]) -> bool
+    ensures { result ≡ is_token piece.now }
+{
+    !piece.is_empty()
+}
+
+// The pieces between blanks and line feeds, empty ones too.
+fn pieces_of<'a>(alloc: Global, text: &'a [u8]) -> Result<Vec<&'a [u8]>, AllocError>
+    ensures { IfOk result (λ pieces. texts pieces.items ≡ slice_split is_space text.now) }
+{
+    text.split(|b| is_space(*b)).collect(alloc)
+}
+
+/// The pieces that hold a byte.
+pub fn tokens_of<'a>(alloc: Global, pieces: &[&'a [u8]]) -> Result<Vec<&'a [u8]>, Memory>
+    ensures { IfOk result (λ tokens. texts tokens.items ≡ filter is_token (texts pieces.now)) }
+{
+    let mut tokens = Vec::new(alloc);
+    for piece in pieces {
+        if is_token(piece) {
+            tokens.push(*piece)?;
+        }
+    }
+    Ok(tokens)
+}
+
+/// The longest runs of bytes that are neither blank nor line feed.
+pub fn words_of<'a>(alloc: Global, text: &'a [u8]) -> Result<Vec<&'a [u8]>, Memory>
+    ensures { IfOk result (λ words. texts words.items ≡ words_of text.now) }
+{
+    let pieces = pieces_of(alloc, text)?;
+    tokens_of(alloc, &pieces)
+}
+
+/// The lines between line feeds.
+pub fn lines_of<'a>(alloc: Global, text: &'a [u8]) -> Result<Vec<&'a [u8]>, AllocError>
+    ensures { IfOk result (λ lines. texts lines.items ≡ lines_of text.now) }
+{
+    text.split(|b| *b == b'\n').collect(alloc)
+}
+
+/// The number of the line that a place behind these bytes stands in, from 1.
+pub fn line_of(before: &[u8]) -> u64
+    ensures { result ≡ line_of before.now }
+{
+    1 + before.iter().filter(|b| **b == b'\n').count() as u64
+}
+
+/// The number of blanks and line feeds in a row that end these bytes.
+pub fn gap_of(before: &[u8]) -> usize
+    ensures { result ≡ gap_of before.now }
+{
+    before.iter().rev().take_while(|b| is_space(**b)).count()
+}
+
+/// The last of some slices; empty where there is none.
+pub fn last_of<'a>(slices: &[&'a [u8]]) -> &'a [u8]
+    ensures { result.now ≡ last_of (texts slices.now) }
+{
+    match slices.split_last() {
+        Some((last, _)) => *last,
+        None => &[],
+    }
+}
+
+/// The token that the last byte belongs to; empty after a blank or line feed, and at the front.
+pub fn token_of<'a>(alloc: Global, before: &'a [u8]) -> Result<&'a [u8], Memory>
+    ensures { IfOk result (λ token. token.now ≡ token_of before.now) }
+{
+    let pieces = pieces_of(alloc, before)?;
+    Ok(last_of(&pieces))
+}

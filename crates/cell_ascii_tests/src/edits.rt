@@ -1,0 +1,186 @@
+//! The reader beside the definitions' own program, over texts that small edits make of good ones.
+
+ghost use Rattle.std.specs.Prelude.{◌<◌};
+
+use crate::definition::cells::{cells, header};
+use crate::definition::fault::text_fault;
+use crate::definition::words::is_space;
+use cell_ascii::fault::GridFault;
+use cell_ascii::reader::read_map;
+use cell_core::map::CellMap;
+use cell_core::memory::Memory;
+use cell_core::source::MemorySource;
+use std::alloc::{AllocGlobal, Global};
+use std::process::Abort;
+use std::test::Fail;
+
+const SQUARE: &[u8] = b"north: 3\nsouth: 0\neast: 2\nwest: 0\nrows: 2\ncols: 2\n1 2\n* -4\n";
+
+const WHOLE: &[u8] =
+    b"rows:2\r\ncols: 2\r\n\nnull: -9\ntype: int\nmultiplier: -3\nnorth:+1.5\nsouth:.25\neast:\t2.\nwest:-1\n-9 7 +1 \r\n 0\n\n";
+
+const WIDE: &[u8] =
+    b"cols: 4\nrows: 3\nwest: 0\neast: 4\nsouth: 0\nnorth: 3\n1 1 2 *\n1 2 2 2\n3 3 1 1";
+
+const LONG: &[u8] = b"11111111111111111111111111111111111111111111111111111111111111111";
+
+fn read<R: AllocGlobal>(
+    rt: &R,
+    text: &[u8],
+    piece: usize,
+    fails: bool,
+) -> Result<Result<CellMap, GridFault>, Fail>
+    requires { 0 < piece }
+{
+    let bytes = text.to_vec(rt.alloc())?;
+    Ok(read_map(rt.alloc(), MemorySource::new(bytes, piece, fails)))
+}
+
+fn expect_map<R: Abort + AllocGlobal>(rt: &R, map: &CellMap, text: &[u8]) -> Result<(), Fail> {
+    let header = header(rt.alloc(), text).map_err(|_| "no memory")?;
+    let header = header.map_err(|_| "no header")?;
+    let cells = cells(rt.alloc(), &header, text).map_err(|_| "no memory")?;
+    let region = map.region();
+    assert!(rt; region == header.region());
+    let mut wanted = cells.iter();
+    for r in 0..region.rows() {
+        for c in 0..region.cols() {
+            match wanted.next() {
+                Some(cell) => assert_eq!(rt; *cell, Ok(map.cell(r, c))),
+                None => assert!(rt; false),
+            }
+        }
+    }
+    assert!(rt; wanted.next().is_none());
+    Ok(())
+}
+
+fn expect<R: Abort + AllocGlobal>(
+    rt: &R,
+    answer: Result<CellMap, GridFault>,
+    text: &[u8],
+    told: Option<GridFault>,
+) -> Result<(), Fail> {
+    match answer {
+        Ok(map) => {
+            assert_eq!(rt; told, None);
+            expect_map(rt, &map, text)
+        }
+        Err(fault) => {
+            assert_eq!(rt; Some(fault), told);
+            Ok(())
+        }
+    }
+}
+
+// The reader answers what the definitions say, in pieces of each size.
+fn agrees<R: Abort + AllocGlobal>(rt: &R, text: &[u8], fails: bool) -> Result<(), Fail> {
+    let told = text_fault(rt.alloc(), text, fails).map_err(|_| "no memory")?;
+    expect(rt, read(rt, text, 1, fails)?, text, told)?;
+    expect(rt, read(rt, text, 2, fails)?, text, told)?;
+    expect(rt, read(rt, text, 7, fails)?, text, told)?;
+    expect(rt, read(rt, text, 65536, fails)?, text, told)
+}
+
+// The parts up to one, other parts, and the parts from one on.
+fn spliced(
+    alloc: Global,
+    parts: &[&[u8]],
+    to: usize,
+    others: &[&[u8]],
+    from: usize,
+) -> Result<Vec<u8>, Memory> {
+    let mut text = Vec::new(alloc);
+    for part in parts.iter().take(to) {
+        text.extend_from_slice(part)?;
+    }
+    for part in others {
+        text.extend_from_slice(part)?;
+    }
+    for part in parts.iter().skip(from) {
+        text.extend_from_slice(part)?;
+    }
+    Ok(text)
+}
+
+fn agrees_spliced<R: Abort + AllocGlobal>(
+    rt: &R,
+    parts: &[&[u8]],
+    to: usize,
+    others: &[&[u8]],
+    from: usize,
+) -> Result<(), Fail> {
+    let text = spliced(rt.alloc(), parts, to, others, from).map_err(|_| "no memory")?;
+    agrees(rt, &text, false)?;
+    agrees(rt, &text, true)
+}
+
+// Cuts the text at each part, leaves each out, and doubles it.
+fn agrees_without<R: Abort + AllocGlobal>(rt: &R, parts: &[&[u8]]) -> Result<(), Fail> {
+    for i in 0..parts.len() {
+        agrees_spliced(rt, parts, i, &[], parts.len())?;
+        agrees_spliced(rt, parts, i, &[], i + 1)?;
+        agrees_spliced(rt, parts, i + 1, &[], i)?;
+    }
+    Ok(())
+}
+
+// Doubles each part with the next, and swaps parts.
+fn agrees_swapped<R: Abort + AllocGlobal>(rt: &R, parts: &[&[u8]]) -> Result<(), Fail> {
+    for i in 0..parts.len() {
+        if let [one, two, ..] = &parts[i..] {
+            agrees_spliced(rt, parts, i, &[one, two], i)?;
+            agrees_spliced(rt, parts, i, &[two, one], i + 2)?;
+        }
+        if let [one, two, three, ..] = &parts[i..] {
+            agrees_spliced(rt, parts, i, &[three, two, one], i + 3)?;
+        }
+    }
+    Ok(())
+}
+
+// Puts other tokens in the place of each part.
+fn agrees_replaced<R: Abort + AllocGlobal>(rt: &R, parts: &[&[u8]]) -> Result<(), Fail> {
+    for i in 0..parts.len() {
+        agrees_spliced(rt, parts, i, &[LONG], i + 1)?;
+        agrees_spliced(rt, parts, i, &[b"x"], i + 1)?;
+        agrees_spliced(rt, parts, i, &[b"x:"], i + 1)?;
+        agrees_spliced(rt, parts, i, &[b"2147483648"], i + 1)?;
+        agrees_spliced(rt, parts, i, &[b"-9"], i + 1)?;
+        agrees_spliced(rt, parts, i, &[b"*"], i + 1)?;
+    }
+    Ok(())
+}
+
+// Edits a text byte by byte, token by token and line by line.
+fn agrees_edited<R: Abort + AllocGlobal>(rt: &R, text: &[u8]) -> Result<(), Fail> {
+    let bytes: Vec<&[u8]> = text.chunks(1).collect(rt.alloc())?;
+    agrees_without(rt, &bytes)?;
+    let runs: Vec<&[u8]> = text
+        .chunk_by(|a, b| is_space(*a) == is_space(*b))
+        .collect(rt.alloc())?;
+    agrees_without(rt, &runs)?;
+    agrees_swapped(rt, &runs)?;
+    agrees_replaced(rt, &runs)?;
+    let lines: Vec<&[u8]> = text.split_inclusive(|b| *b == b'\n').collect(rt.alloc())?;
+    agrees_without(rt, &lines)?;
+    agrees_swapped(rt, &lines)
+}
+
+#[test]
+fn small_square_edited(rt: HostRuntime) -> Result<(), Fail> {
+    agrees(&rt, SQUARE, false)?;
+    agrees_edited(&rt, SQUARE)
+}
+
+#[test]
+fn all_keys_edited(rt: HostRuntime) -> Result<(), Fail> {
+    agrees(&rt, WHOLE, false)?;
+    agrees_edited(&rt, WHOLE)
+}
+
+#[test]
+fn wide_grid_edited(rt: HostRuntime) -> Result<(), Fail> {
+    agrees(&rt, WIDE, false)?;
+    agrees_edited(&rt, WIDE)
+}

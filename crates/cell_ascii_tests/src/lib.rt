@@ -1,0 +1,8 @@
+//! What the definitions of a grid text say, as a plain program, and tests of the reader against it.
+#![tactic(auto)]
+
+pub mod definition;
+#[cfg(test)]
+mod edits;
+#[cfg(test)]
+mod grids;
