@@ -1,11 +1,8 @@
 -- Lists of slices, one slice after another.
-use Rattle.std.proofs.Common.{◌≡◌, ℕ, suc, ◌+◌, ◌-◌, ◌<◌, true, false, Bool, not, List, [], ◌∷◌, ◌++◌, length, map, take, drop, get_or, refl, ap, sym, ◌∙◌, arith, Bor, append-nil}
-use Rattle.std.specs.Prelude.{◌==◌}
+use Rattle.std.proofs.Common.{◌≡◌, ℕ, suc, ◌-◌, not, List, [], ◌∷◌, ◌++◌, length, map, take, drop, refl, ap, sym, ◌∙◌, arith, Bor}
 use Rattle.std.specs.List.{filter, flat_map, prefix_len}
-use Rattle.std.proofs.lemmas.List.{take_more, take-map, drop-map, map-append}
-use Rattle.std.proofs.lemmas.List.Elements.{filter-append}
-use Rattle.std.proofs.lemmas.Bool.Decides.{nat_tests}
-use Rattle.cell_ascii.specs.GridText.{is_token, words_of, lines_of, line_words, is_data_line, is_header_line, header_lines, data_words}
+use Rattle.std.proofs.lemmas.List.{take-map, drop-map, map-append}
+use Rattle.cell_ascii.specs.GridText.{words_of, lines_of, line_words, is_data_line, is_header_line, header_lines, data_words}
 use Rattle.cell_ascii.specs.Places.{last_of, front_of}
 use Rattle.cell_ascii_tests.specs.Seen.{texts, words_of_each}
 
@@ -44,31 +41,3 @@ lines_before xs n e = ap (filter is_header_line) (sym (take-map (λ line. words_
 
 pub lines_behind : (xs : List (Bor (List ℕ))) (n : ℕ) → n ≡ prefix_len (λ l. not (is_data_line l)) (words_of_each xs) → flat_map (λ l. l) (words_of_each (drop n xs)) ≡ data_words (words_of_each xs)
 lines_behind xs n e = ap (flat_map (λ l. l)) (sym (drop-map (λ line. words_of line.now) n xs) ∙ ap (λ k. drop k (words_of_each xs)) e)
-
-not_zero : (n : ℕ) → ((n + 1) == 0) ≡ false
-not_zero n = grind (arith, nat_tests)
-
--- a token is a piece that is not empty
-pub is_token-length : (bs : List ℕ) → is_token bs ≡ not (length bs == 0)
-is_token-length [] = refl
-is_token-length (b ∷ bs) = let e : length (b ∷ bs) ≡ length bs + 1 = omega arith in sym (ap (λ n. not (n == 0)) e ∙ ap not (not_zero (length bs)))
-
--- one more element of a list that is filtered, as f sees it
-filter_more : {X Y : Type 0} (f : X → Y) (p : Y → Bool) (xs : List X) (i : ℕ) (d : X) → i < length xs
-    → filter p (map f (take (i + 1) xs)) ≡ filter p (map f (take i xs)) ++ filter p (f (get_or xs i d) ∷ [])
-filter_more f p xs i d h =
-    ap (λ l. filter p (map f l)) (take_more xs i d h)
-    ∙ ap (filter p) (map-append f (take i xs) (get_or xs i d ∷ []))
-    ∙ filter-append p (map f (take i xs)) (f (get_or xs i d) ∷ [])
-
--- one that passes goes last
-pub kept : {X Y : Type 0} (f : X → Y) (p : Y → Bool) (found xs : List X) (i : ℕ) (d : X) → i < length xs → map f found ≡ filter p (map f (take i xs))
-    → p (f (get_or xs i d)) ≡ true → map f (found ++ get_or xs i d ∷ []) ≡ filter p (map f (take (i + 1) xs))
-kept f p found xs i d h so_far test =
-    map-append f found (get_or xs i d ∷ []) ∙ ap (λ l. l ++ f (get_or xs i d) ∷ []) so_far
-    ∙ sym (filter_more f p xs i d h ∙ rw test refl)
-
--- one that does not is left out
-pub left_out : {X Y : Type 0} (f : X → Y) (p : Y → Bool) (found xs : List X) (i : ℕ) (d : X) → i < length xs → map f found ≡ filter p (map f (take i xs))
-    → p (f (get_or xs i d)) ≡ false → map f found ≡ filter p (map f (take (i + 1) xs))
-left_out f p found xs i d h so_far test = so_far ∙ sym (filter_more f p xs i d h ∙ rw test (append-nil _))

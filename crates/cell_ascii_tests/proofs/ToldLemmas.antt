@@ -1,5 +1,5 @@
 -- What a place tells, from what is known of the bytes before it.
-use Rattle.std.proofs.Common.{◌≡◌, ℕ, Bool, List, map, ap, ◌∙◌, Bor, Option, Result}
+use Rattle.std.proofs.Common.{◌≡◌, ℕ, Bool, List, ap, ◌∙◌, Bor, Option, Result}
 use Rattle.std.specs.Option.{option_map}
 use Rattle.cell_ascii.specs.Words.{fault}
 use Rattle.cell_ascii.specs.Header.{Header}

@@ -5,10 +5,11 @@ ghost use Rattle.std.specs.Prelude.{◌<◌};
 use crate::definition::cells::{cells, header};
 use crate::definition::fault::text_fault;
 use crate::definition::words::is_space;
-use cell_ascii::fault::GridFault;
+use cell_ascii::fault::{GridFault, GridKind};
 use cell_ascii::reader::read_map;
 use cell_core::map::CellMap;
 use cell_core::memory::Memory;
+use cell_core::region::RegionFault;
 use cell_core::source::MemorySource;
 use std::alloc::{AllocGlobal, Global};
 use std::process::Abort;
@@ -17,7 +18,7 @@ use std::test::Fail;
 const SQUARE: &[u8] = b"north: 3\nsouth: 0\neast: 2\nwest: 0\nrows: 2\ncols: 2\n1 2\n* -4\n";
 
 const WHOLE: &[u8] =
-    b"rows:2\r\ncols: 2\r\n\nnull: -9\ntype: int\nmultiplier: -3\nnorth:+1.5\nsouth:.25\neast:\t2.\nwest:-1\n-9 7 +1 \r\n 0\n\n";
+    b"rows: 2\r\ncols:\r2\r\n\nnull: -9\ntype: int\nmultiplier: -3\nnorth:+1.5\nsouth:.25\neast:\t2.\nwest:-1\n-9 7 +1 \r\n 0\n\n";
 
 const WIDE: &[u8] =
     b"cols: 4\nrows: 3\nwest: 0\neast: 4\nsouth: 0\nnorth: 3\n1 1 2 *\n1 2 2 2\n3 3 1 1";
@@ -73,9 +74,25 @@ fn expect<R: Abort + AllocGlobal>(
     }
 }
 
+// Adds the kind of a fault, where it was not yet told.
+fn note(kinds: &mut Vec<GridKind>, told: Option<GridFault>) -> Result<(), Memory> {
+    if let Some(fault) = told {
+        if !kinds.contains(&fault.kind) {
+            kinds.push(fault.kind)?;
+        }
+    }
+    Ok(())
+}
+
 // The reader answers what the definitions say, in pieces of each size.
-fn agrees<R: Abort + AllocGlobal>(rt: &R, text: &[u8], fails: bool) -> Result<(), Fail> {
+fn agrees<R: Abort + AllocGlobal>(
+    rt: &R,
+    kinds: &mut Vec<GridKind>,
+    text: &[u8],
+    fails: bool,
+) -> Result<(), Fail> {
     let told = text_fault(rt.alloc(), text, fails).map_err(|_| "no memory")?;
+    note(kinds, told).map_err(|_| "no memory")?;
     expect(rt, read(rt, text, 1, fails)?, text, told)?;
     expect(rt, read(rt, text, 2, fails)?, text, told)?;
     expect(rt, read(rt, text, 7, fails)?, text, told)?;
@@ -105,82 +122,118 @@ fn spliced(
 
 fn agrees_spliced<R: Abort + AllocGlobal>(
     rt: &R,
+    kinds: &mut Vec<GridKind>,
     parts: &[&[u8]],
     to: usize,
     others: &[&[u8]],
     from: usize,
 ) -> Result<(), Fail> {
     let text = spliced(rt.alloc(), parts, to, others, from).map_err(|_| "no memory")?;
-    agrees(rt, &text, false)?;
-    agrees(rt, &text, true)
+    agrees(rt, kinds, &text, false)?;
+    agrees(rt, kinds, &text, true)
 }
 
 // Cuts the text at each part, leaves each out, and doubles it.
-fn agrees_without<R: Abort + AllocGlobal>(rt: &R, parts: &[&[u8]]) -> Result<(), Fail> {
+fn agrees_without<R: Abort + AllocGlobal>(
+    rt: &R,
+    kinds: &mut Vec<GridKind>,
+    parts: &[&[u8]],
+) -> Result<(), Fail> {
     for i in 0..parts.len() {
-        agrees_spliced(rt, parts, i, &[], parts.len())?;
-        agrees_spliced(rt, parts, i, &[], i + 1)?;
-        agrees_spliced(rt, parts, i + 1, &[], i)?;
+        agrees_spliced(rt, kinds, parts, i, &[], parts.len())?;
+        agrees_spliced(rt, kinds, parts, i, &[], i + 1)?;
+        agrees_spliced(rt, kinds, parts, i + 1, &[], i)?;
     }
     Ok(())
 }
 
 // Doubles each part with the next, and swaps parts.
-fn agrees_swapped<R: Abort + AllocGlobal>(rt: &R, parts: &[&[u8]]) -> Result<(), Fail> {
+fn agrees_swapped<R: Abort + AllocGlobal>(
+    rt: &R,
+    kinds: &mut Vec<GridKind>,
+    parts: &[&[u8]],
+) -> Result<(), Fail> {
     for i in 0..parts.len() {
         if let [one, two, ..] = &parts[i..] {
-            agrees_spliced(rt, parts, i, &[one, two], i)?;
-            agrees_spliced(rt, parts, i, &[two, one], i + 2)?;
+            agrees_spliced(rt, kinds, parts, i, &[one, two], i)?;
+            agrees_spliced(rt, kinds, parts, i, &[two, one], i + 2)?;
         }
         if let [one, two, three, ..] = &parts[i..] {
-            agrees_spliced(rt, parts, i, &[three, two, one], i + 3)?;
+            agrees_spliced(rt, kinds, parts, i, &[three, two, one], i + 3)?;
         }
     }
     Ok(())
 }
 
 // Puts other tokens in the place of each part.
-fn agrees_replaced<R: Abort + AllocGlobal>(rt: &R, parts: &[&[u8]]) -> Result<(), Fail> {
+fn agrees_replaced<R: Abort + AllocGlobal>(
+    rt: &R,
+    kinds: &mut Vec<GridKind>,
+    parts: &[&[u8]],
+) -> Result<(), Fail> {
     for i in 0..parts.len() {
-        agrees_spliced(rt, parts, i, &[LONG], i + 1)?;
-        agrees_spliced(rt, parts, i, &[b"x"], i + 1)?;
-        agrees_spliced(rt, parts, i, &[b"x:"], i + 1)?;
-        agrees_spliced(rt, parts, i, &[b"2147483648"], i + 1)?;
-        agrees_spliced(rt, parts, i, &[b"-9"], i + 1)?;
-        agrees_spliced(rt, parts, i, &[b"*"], i + 1)?;
+        agrees_spliced(rt, kinds, parts, i, &[LONG], i + 1)?;
+        agrees_spliced(rt, kinds, parts, i, &[b"x"], i + 1)?;
+        agrees_spliced(rt, kinds, parts, i, &[b"x:"], i + 1)?;
+        agrees_spliced(rt, kinds, parts, i, &[b"2147483648"], i + 1)?;
+        agrees_spliced(rt, kinds, parts, i, &[b"-9"], i + 1)?;
+        agrees_spliced(rt, kinds, parts, i, &[b"*"], i + 1)?;
     }
     Ok(())
 }
 
-// Edits a text byte by byte, token by token and line by line.
-fn agrees_edited<R: Abort + AllocGlobal>(rt: &R, text: &[u8]) -> Result<(), Fail> {
+// Edits a text byte by byte, token by token and line by line. Answers the kinds of fault that were told.
+fn agrees_edited<R: Abort + AllocGlobal>(rt: &R, text: &[u8]) -> Result<Vec<GridKind>, Fail> {
+    let mut kinds = Vec::new(rt.alloc());
+    agrees(rt, &mut kinds, text, false)?;
+    assert!(rt; kinds.is_empty());
     let bytes: Vec<&[u8]> = text.chunks(1).collect(rt.alloc())?;
-    agrees_without(rt, &bytes)?;
+    agrees_without(rt, &mut kinds, &bytes)?;
     let runs: Vec<&[u8]> = text
         .chunk_by(|a, b| is_space(*a) == is_space(*b))
         .collect(rt.alloc())?;
-    agrees_without(rt, &runs)?;
-    agrees_swapped(rt, &runs)?;
-    agrees_replaced(rt, &runs)?;
+    agrees_without(rt, &mut kinds, &runs)?;
+    agrees_swapped(rt, &mut kinds, &runs)?;
+    agrees_replaced(rt, &mut kinds, &runs)?;
     let lines: Vec<&[u8]> = text.split_inclusive(|b| *b == b'\n').collect(rt.alloc())?;
-    agrees_without(rt, &lines)?;
-    agrees_swapped(rt, &lines)
+    agrees_without(rt, &mut kinds, &lines)?;
+    agrees_swapped(rt, &mut kinds, &lines)?;
+    Ok(kinds)
 }
 
 #[test]
 fn small_square_edited(rt: HostRuntime) -> Result<(), Fail> {
-    agrees(&rt, SQUARE, false)?;
-    agrees_edited(&rt, SQUARE)
-}
-
-#[test]
-fn all_keys_edited(rt: HostRuntime) -> Result<(), Fail> {
-    agrees(&rt, WHOLE, false)?;
-    agrees_edited(&rt, WHOLE)
+    let _ = agrees_edited(&rt, SQUARE)?;
+    Ok(())
 }
 
 #[test]
 fn wide_grid_edited(rt: HostRuntime) -> Result<(), Fail> {
-    agrees(&rt, WIDE, false)?;
-    agrees_edited(&rt, WIDE)
+    let _ = agrees_edited(&rt, WIDE)?;
+    Ok(())
+}
+
+// All faults of a text but the gap of over a million blanks.
+#[test]
+fn all_keys_edited(rt: HostRuntime) -> Result<(), Fail> {
+    let kinds = agrees_edited(&rt, WHOLE)?;
+    for kind in [
+        GridKind::BadHeader,
+        GridKind::TwiceKey,
+        GridKind::MissingKey,
+        GridKind::BadNumber,
+        GridKind::BadType,
+        GridKind::Region(RegionFault::BadExtent),
+        GridKind::Region(RegionFault::BadRows),
+        GridKind::Region(RegionFault::BadCols),
+        GridKind::BadCell,
+        GridKind::CellRange,
+        GridKind::TooFew,
+        GridKind::TooMany,
+        GridKind::Read,
+        GridKind::LongToken,
+    ] {
+        assert!(rt; kinds.contains(&kind), "{kind}");
+    }
+    Ok(())
 }

@@ -42,7 +42,7 @@ pub fn told(alloc: Global, before: &[u8], place: Place) -> Result<Option<GridFau
     }
 }
 
-/// The fault of a text, of a source that ends or fails behind it; or None for a text that is a grid.
+/// The first fault that a text tells, where the source ends behind it or fails there; None where no place tells one.
 pub fn text_fault(alloc: Global, text: &[u8], fails: bool) -> Result<Option<GridFault>, Memory>
     ensures { IfOk result (λ fault. fault ≡ text_fault (record { bytes = text.now; fails = fails })) }
 {

@@ -163,6 +163,7 @@ pub fn header_in<'a>(
     Ok(header_of(&keys_of(alloc, &found)?))
 }
 
+// The cell of a number in range.
 fn in_range(number: i64) -> Result<Cell, GridKind>
     ensures { result ≡ cell_in_range number }
 {
@@ -175,6 +176,7 @@ fn in_range(number: i64) -> Result<Cell, GridKind>
     }
 }
 
+// The cell of a number, by the multiplier.
 fn cell_of_number(multiplier: i32, number: i64) -> Result<Cell, GridKind>
     ensures { result ≡ cell_of_number multiplier (Some number) }
 {
@@ -192,6 +194,7 @@ impl<'a> Header<'a> {
         self.region.rows() as u64 * self.region.cols() as u64
     }
 
+    /// The region that the map covers.
     pub fn region(&self) -> Region
         ensures { result ≡ self.now.region }
     {

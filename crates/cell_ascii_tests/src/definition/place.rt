@@ -36,6 +36,7 @@ pub fn ends_line(place: Place) -> bool
     }
 }
 
+/// The end of a text.
 pub fn is_end(place: Place) -> bool
     ensures { result ≡ is_end (place_seen place) }
 {

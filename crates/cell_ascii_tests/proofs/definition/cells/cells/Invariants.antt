@@ -1,6 +1,6 @@
-use Rattle.std.proofs.Common.{◌≡◌, ◌+◌, take, map, not, List, ℕ}
+use Rattle.std.proofs.Common.{◌≡◌, take, map}
 use Rattle.cell_ascii.specs.Cells.{cell_of_word}
-use Rattle.cell_ascii_tests.specs.Seen.{texts, words_of_each}
+use Rattle.cell_ascii_tests.specs.Seen.{texts}
 use Rattle.cell_ascii_tests.proofs.definition.cells.cells.Given as goal
 
 abbrev pub invariant-loop-word : goal.invariant-loop-word

@@ -1,4 +1,4 @@
-use Rattle.std.proofs.Common.{◌≡◌, ◌+◌, take, drop, not, List, ℕ}
+use Rattle.std.proofs.Common.{◌≡◌, take, List, ℕ}
 use Rattle.std.specs.List.{flat_map}
 use Rattle.cell_ascii_tests.specs.Seen.{texts, words_of_each}
 use Rattle.cell_ascii_tests.proofs.definition.header.all_words.Given as goal

@@ -1,7 +1,5 @@
-use Rattle.std.proofs.Common.{◌≡◌, ◌∙◌, ap, sym}
+use Rattle.std.proofs.Common.{◌∙◌}
 use Rattle.std.proofs.lemmas.Result.{IfOk-weaker}
-use Rattle.cell_ascii_tests.specs.Seen.{words_of_each}
-use Rattle.cell_ascii.specs.GridText.{header_lines}
 use Rattle.cell_ascii_tests.proofs.ListLemmas.{lines_before}
 use Rattle.cell_ascii_tests.proofs.definition.header.header_lines.Goals as goal
 

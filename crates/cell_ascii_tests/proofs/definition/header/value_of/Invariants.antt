@@ -1,6 +1,6 @@
-use Rattle.std.proofs.Common.{◌≡◌, ◌+◌, take, drop, not, List, ℕ}
+use Rattle.std.proofs.Common.{◌≡◌, drop}
 use Rattle.cell_ascii.specs.GridText.{value_of}
-use Rattle.cell_ascii_tests.specs.Seen.{texts, words_of_each}
+use Rattle.cell_ascii_tests.specs.Seen.{words_of_each}
 use Rattle.cell_ascii_tests.proofs.definition.header.value_of.Given as goal
 
 abbrev pub invariant-loop-line : goal.invariant-loop-line
