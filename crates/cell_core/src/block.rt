@@ -2,7 +2,7 @@
 
 ghost use Rattle.std.specs.Prelude.{◌≡◌, ℕ, ◌+◌, ◌-◌, ◌<◌, ◌≤◌, ◌||◌, List, [], ◌++◌, length, take, Option, OnOk, IfOk, IfErr, is_err};
 ghost use Rattle.cell_core.specs.Device.{append_known};
-ghost use Rattle.cell_core.specs.Blocks.{BlockValue, Gathered, Gathers, Empties, PutsAll, Cuts, CutsOff, capped, empty_block};
+ghost use Rattle.cell_core.specs.Blocks.{BlockValue, Gathered, Gathers, Empties, PutsAll, Cuts, CutsOff, capped, counted, empty_block};
 
 use crate::sink::{Sink, WriteFault, put_bytes};
 use std::marker::Model;
@@ -110,6 +110,7 @@ impl Block {
         ensures held { OnOk result (self.new.held ≡ []) }
         ensures err { IfErr result (λ fault. Cuts (W.taken out.old) self.old (W.taken out.new) fault.written) }
         ensures lost { IfErr result (λ fault. self.new ≡ record { held = []; written = fault.written }) }
+        ensures counted { counted self.new ≤ counted self.old }
         ensures failed { W.failed out.new ≡ (W.failed out.old || is_err result) }
     {
         match put_counted(out, self.bytes(), self.written()) {
@@ -130,6 +131,7 @@ impl Block {
         ensures ok { OnOk result (Gathers (W.taken out.old) self.old bytes.now (W.taken out.new) self.new) }
         ensures err { IfErr result (λ fault. CutsOff (W.taken out.old) self.old bytes.now (W.taken out.new) fault.written) }
         ensures lost { IfErr result (λ fault. self.new ≡ record { held = []; written = fault.written }) }
+        ensures counted { counted self.new ≤ counted self.old + length bytes.now }
         ensures failed { W.failed out.new ≡ (W.failed out.old || is_err result) }
     {
         match put_counted(out, bytes, self.written()) {
@@ -153,6 +155,7 @@ impl Block {
         ensures ok { OnOk result (Gathers (W.taken out.old) self.old bytes.now (W.taken out.new) self.new) }
         ensures err { IfErr result (λ fault. CutsOff (W.taken out.old) self.old bytes.now (W.taken out.new) fault.written) }
         ensures lost { IfErr result (λ fault. self.new ≡ record { held = []; written = fault.written }) }
+        ensures counted { counted self.new ≤ counted self.old + length bytes.now }
         ensures failed { W.failed out.new ≡ (W.failed out.old || is_err result) }
     {
         if bytes.len() > ROOM - self.len() {
