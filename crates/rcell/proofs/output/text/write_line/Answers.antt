@@ -11,7 +11,7 @@ returns-in_err-write_field-clause-err g c =
     let cells = c.args.cells.now in
     let cell = c.cell-item.result in
     let within : c.loop-cell.cell-index < length cells = omega arith in
-    rw (p.1, p.2, line_text-fields cells c.args.count, flat_map-rest field_text cells c.loop-cell.cell-index cell within c.cell-item.is)
+    rw (p.1, p.2, line_text-fields cells c.args.count, flat_map-rest field_text cells c.loop-cell.cell-index cell cell within c.cell-item.is)
     (CutsOff-first _ _ _ _ _ _ (CutsOff-first _ _ _ _ _ _ (CutsOff-second _ _ _ _ _ _ _ _ c.loop-cell.invariant.gathers c.in_err-write_field.ensures.err)))
 
 pub returns-clause-ok : goal.returns-clause-ok

@@ -14,7 +14,7 @@ returns-in_err-write_line-clause-err g c =
     let within : i < length pairs = omega arith in
     let pair : Combination × ℕ = (c.cells.result.now, c.entry-count.result.1) in
     let got : slice_get pairs i ≡ Some pair = rw c.cells.ensures c.entry-count.ensures in
-    rw (p.1, p.2, flat_map-rest line_text pairs i pair within (sym (get_or_from_slice_get pairs i pair pair got)))
+    rw (p.1, p.2, flat_map-rest line_text pairs i pair pair within (sym (get_or_from_slice_get pairs i pair pair got)))
     (CutsOff-first _ _ _ _ _ _ (CutsOff-second _ _ _ _ _ _ _ _ c.loop-i.invariant.gathers c.in_err-write_line.ensures.err))
 
 pub loop-i-preserved : goal.loop-i-preserved
@@ -25,6 +25,6 @@ loop-i-preserved g c =
     let pair : Combination × ℕ = (c.cells.result.now, c.entry-count.result.1) in
     let got : slice_get pairs i ≡ Some pair = rw c.cells.ensures c.entry-count.ensures in
     record {
-      gathers = rw (flat_map-take line_text pairs i pair within (sym (get_or_from_slice_get pairs i pair pair got))) (Gathers-then _ _ _ _ _ _ _ _ c.loop-i.invariant.gathers c.in_ok-write_line.ensures.ok);
+      gathers = rw (flat_map-take line_text pairs i pair pair within (sym (get_or_from_slice_get pairs i pair pair got))) (Gathers-then _ _ _ _ _ _ _ _ c.loop-i.invariant.gathers c.in_ok-write_line.ensures.ok);
       failed = search rules;
     }
