@@ -2,14 +2,15 @@
 //! asks for are put out (GRASS manual: r.in.ascii, r.stats, r.out.ascii).
 #![tactic(auto)]
 
-pub mod clumps;
-pub mod output;
+mod clumps;
+mod output;
 pub mod report;
 pub mod runs;
 pub mod script;
-pub mod stats;
+mod stats;
 
 pub use clumps::clump;
 pub use runs::outcome::{Outcome, RunFault};
 pub use runs::running::run;
 pub use script::parsing::parse_script;
+pub use stats::law::table_lists_what_occurs;

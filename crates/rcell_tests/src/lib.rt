@@ -7,5 +7,3 @@ mod clumps;
 mod reports;
 #[cfg(test)]
 mod runs;
-#[cfg(test)]
-mod tables;

@@ -15,6 +15,8 @@ const HEADER: &[u8] = b"north: 3\nsouth: 0\neast: 4\nwest: 0\nrows: 3\ncols: 4\n
 const GRID: &[u8] =
     b"north: 3\nsouth: 0\neast: 4\nwest: 0\nrows: 3\ncols: 4\n1 1 2 *\n1 2 2 2\n3 3 1 1\n";
 
+const FOUR_CELLS: &[u8] = b"north: 2\nsouth: 0\neast: 2\nwest: 0\nrows: 2\ncols: 2\n1 *\n1 -7\n";
+
 const TABLE: &[u8] = b"1 5\n2 4\n3 2\n* 1\n";
 
 fn source(alloc: Global, text: &[u8], fails: bool) -> Result<MemorySource, Fail> {
@@ -113,6 +115,12 @@ fn puts_out_tables(rt: HostRuntime) -> Result<(), Fail> {
         &[(b"g", GRID), (b"h", same)],
         b"r.stats -c input=h",
         TABLE,
+    )?;
+    expect_text(
+        &rt,
+        &[(b"k", FOUR_CELLS)],
+        b"r.stats -c input=k,k\n",
+        b"-7 -7 1\n1 1 2\n* * 1\n",
     )?;
     expect_text(&rt, &[(b"g", GRID)], b"# nothing is asked for\n", b"")
 }
