@@ -33,3 +33,4 @@ pub mod WritingLawLemmas
 pub mod RowReadLemmas
 pub mod DataLemmas
 pub mod KindLemmas
+pub mod WriterLemmas

@@ -1,4 +1,4 @@
-//! Grid texts: the reader.
+//! Grid texts: how they are read, row by row or whole, and written (r.in.ascii, r.out.ascii).
 #![tactic(auto)]
 
 pub mod fault;
@@ -12,3 +12,4 @@ pub mod number;
 mod opening;
 pub mod reader;
 mod scanner;
+pub mod writer;
