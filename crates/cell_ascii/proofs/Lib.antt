@@ -16,3 +16,4 @@ pub mod ExampleLemmas
 pub mod RowSeenLemmas
 pub mod RowPlaceLemmas
 pub mod PlaceKeptLemmas
+pub mod WriterLemmas

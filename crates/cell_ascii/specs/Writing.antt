@@ -1,8 +1,7 @@
 -- The grid text of a map (r.out.ascii manual: header lines, then the cells row by row; how numbers are printed is the profile's).
-use Rattle.std.specs.Prelude.{ℕ, ℤ, pos, negsuc, suc, ◌≡◌, ◌≢◌, ◌+◌, ◌/◌, ◌%◌, ◌≤◌, Bool, ◌&&◌, ◌||◌, not, ◌==◌, List, [], ◌∷◌, ◌++◌, length, map, flat_map, drop, take, reverse, All, IfSome, IsTrue, bytes_eq, codes, decimal, if◌then◌else◌}
+use Rattle.std.specs.Prelude.{ℕ, ℤ, pos, negsuc, suc, ◌≡◌, ◌≢◌, ◌+◌, ◌-◌, ◌/◌, ◌%◌, ◌≤◌, false, ◌==◌, List, [], ◌∷◌, ◌++◌, length, map, flat_map, drop, take, reverse, All, IfSome, IsTrue, bytes_eq, codes, decimal, if◌then◌else◌}
 use Rattle.std.specs.Fmt.{signed_decimal}
 use Rattle.std.specs.List.{list_all, join_with_byte, prefix_len}
-use Rattle.cell_core.specs.Device.{Coming}
 use Rattle.cell_core.specs.Region.{RegionValue, IsRegion}
 use Rattle.cell_core.specs.Grid.{CellValue, Grid, IsFilled, no_labels}
 use Rattle.cell_core.specs.Text.{cell_text}

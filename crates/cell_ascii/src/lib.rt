@@ -4,3 +4,4 @@
 pub mod fault;
 pub mod key;
 pub mod law;
+pub mod writer;

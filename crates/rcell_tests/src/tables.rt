@@ -2,6 +2,7 @@
 
 ghost use Rattle.std.specs.Prelude.{◌≡◌};
 
+use cell_core::block::Block;
 use cell_core::cell::Cell;
 use cell_core::map::MapBuilder;
 use cell_core::memory::Memory;
@@ -9,7 +10,6 @@ use cell_core::name::Name;
 use cell_core::region::Region;
 use cell_core::shelf::Shelf;
 use cell_core::sink::{MemorySink, WriteFault};
-use rcell::output::block::Block;
 use rcell::output::text::write_table;
 use rcell::stats::table::{Table, tally};
 use std::alloc::Global;

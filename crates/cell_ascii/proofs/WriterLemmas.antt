@@ -1,0 +1,88 @@
+-- The parts of a grid text, as they are written.
+use Rattle.std.proofs.Common.{◌≡◌, ◌≢◌, ℕ, ◌<◌, ℤ, pos, negsuc, ◌+◌, ◌==◌, ◌||◌, Bool, true, false, List, [], ◌∷◌, ◌++◌, length, take, drop, map, get_or, Option, None, codes, decimal, unsigned_abs, refl, ap, sym, ◌∙◌, arith, append_assoc, take_all}
+use Rattle.std.specs.Prelude.{int_lt}
+use Rattle.std.proofs.lemmas.Bool.Decides.{nat_tests}
+use Rattle.std.specs.List.{flat_map, join_with_byte}
+use Rattle.std.proofs.lemmas.List.{map-append, take_more}
+use Rattle.std.proofs.lemmas.List.Folds.{flat_map-map}
+use Rattle.cell_core.specs.Blocks.{BlockValue, CutsOff}
+use Rattle.cell_core.specs.Grid.{CellValue, Grid, IsFilled, row_at}
+use Rattle.cell_core.specs.Region.{RegionValue}
+use Rattle.cell_core.specs.Text.{cell_text}
+use Rattle.cell_core.proofs.GatherLemmas.{CutsOff-first, join_with_byte-last}
+use Rattle.cell_ascii.specs.Writing.{coordinate_text, fraction_text, line_of_key, region_text, row_text, units_text, without_zeros}
+
+pub fraction_text-some : (part : ℕ) → part ≢ 0 → fraction_text part ≡ (46 ∷ []) ++ without_zeros (drop 1 (decimal (100000000 + part)))
+fraction_text-some part some = let t : (part == 0) ≡ false = grind (arith, nat_tests) in rw t
+
+pub coordinate_text-negative : (z : ℤ) → int_lt z (pos 0) ≡ true → coordinate_text z ≡ (45 ∷ []) ++ units_text (unsigned_abs z)
+coordinate_text-negative (pos n) below = absurd (grind (arith, nat_tests))
+coordinate_text-negative (negsuc n) below = refl
+
+pub coordinate_text-positive : (z : ℤ) → int_lt z (pos 0) ≡ false → coordinate_text z ≡ units_text (unsigned_abs z)
+coordinate_text-positive (pos n) above = refl
+coordinate_text-positive (negsuc n) above = cc
+
+-- a cell and the space after it
+abbrev pub field_text : List ℕ → CellValue → List ℕ
+field_text null_text cell = cell_text null_text cell ++ 32 ∷ []
+
+-- each cell of a row but the last is followed by a space
+pub row_text-fields : (null_text : List ℕ) (row : List CellValue) (k : ℕ) (last : CellValue) → length row ≡ k + 1 → last ≡ get_or row k None
+    → row_text null_text row ≡ flat_map (field_text null_text) (take k row) ++ (cell_text null_text last ++ 10 ∷ [])
+row_text-fields null_text row k last count read =
+    let text = cell_text null_text in
+    let within : k < length row = omega arith in
+    let whole : row ≡ take k row ++ last ∷ [] = sym (take_all (k + 1) row (omega arith)) ∙ take_more row k None within ∙ ap (λ (cell : CellValue). take k row ++ cell ∷ []) (sym read) in
+    ap (λ (cells : List CellValue). join_with_byte 32 (map text cells) ++ 10 ∷ []) whole
+    ∙ ap (λ (texts : List (List ℕ)). join_with_byte 32 texts ++ 10 ∷ []) (map-append text (take k row) (last ∷ []))
+    ∙ ap (λ (t : List ℕ). t ++ 10 ∷ []) (join_with_byte-last 32 (map text (take k row)) (text last) ∙ ap (λ (t : List ℕ). t ++ text last) (flat_map-map (λ t. t ++ 32 ∷ []) text (take k row)))
+    ∙ append_assoc (flat_map (field_text null_text) (take k row)) (text last) (10 ∷ [])
+
+-- each row is as wide as the region says
+pub row_width : (m : Grid) (r : ℕ) → IsFilled m.region m.rows → r < m.region.rows → length (row_at m r) ≡ m.region.cols
+row_width m r filled within = filled.width r [] (omega (arith, filled.count))
+
+-- the lines of a region, and the first of them together
+abbrev pub edge_line : List ℕ → ℤ → List ℕ
+edge_line key edge = line_of_key key (coordinate_text edge)
+
+abbrev pub side_line : List ℕ → ℕ → List ℕ
+side_line key count = line_of_key key (decimal count)
+
+abbrev pub one_line : RegionValue → List ℕ
+one_line e = edge_line (codes "north") e.north
+
+abbrev pub two_lines : RegionValue → List ℕ
+two_lines e = one_line e ++ edge_line (codes "south") e.south
+
+abbrev pub three_lines : RegionValue → List ℕ
+three_lines e = two_lines e ++ edge_line (codes "east") e.east
+
+abbrev pub four_lines : RegionValue → List ℕ
+four_lines e = three_lines e ++ edge_line (codes "west") e.west
+
+abbrev pub five_lines : RegionValue → List ℕ
+five_lines e = four_lines e ++ side_line (codes "rows") e.rows
+
+-- a cut within the first lines is one within the region's text
+module _ (taken : Option (List ℕ)) (old : BlockValue) (e : RegionValue) (now : Option (List ℕ)) (written : ℕ) where
+  pub cut_in_five : CutsOff taken old (five_lines e) now written → CutsOff taken old (region_text e) now written
+  cut_in_five cuts = CutsOff-first taken old (five_lines e) (side_line (codes "cols") e.cols) now written cuts
+
+  pub cut_in_four : CutsOff taken old (four_lines e) now written → CutsOff taken old (region_text e) now written
+  cut_in_four cuts = cut_in_five (CutsOff-first taken old (four_lines e) (side_line (codes "rows") e.rows) now written cuts)
+
+  pub cut_in_three : CutsOff taken old (three_lines e) now written → CutsOff taken old (region_text e) now written
+  cut_in_three cuts = cut_in_four (CutsOff-first taken old (three_lines e) (edge_line (codes "west") e.west) now written cuts)
+
+  pub cut_in_two : CutsOff taken old (two_lines e) now written → CutsOff taken old (region_text e) now written
+  cut_in_two cuts = cut_in_three (CutsOff-first taken old (two_lines e) (edge_line (codes "east") e.east) now written cuts)
+
+  pub cut_in_one : CutsOff taken old (one_line e) now written → CutsOff taken old (region_text e) now written
+  cut_in_one cuts = cut_in_two (CutsOff-first taken old (one_line e) (edge_line (codes "south") e.south) now written cuts)
+
+-- a sink that did not fail in a call failed only before
+pub still_failed : (now before : Bool) → now ≡ (before || false) → now ≡ before
+still_failed now true same = same
+still_failed now false same = same
