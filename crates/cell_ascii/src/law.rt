@@ -44,7 +44,8 @@ pub fn texts_are_judged()
     ensures { TextsAreJudged }
 {}
 
-/// What is written of a map denotes the same region and rows, where no cell's decimal text equals the null text.
+/// What is written of a map (a region that is accepted, its rows filled with nulls and categories in range, and a good
+/// null text) denotes the same region and rows, where no cell's decimal text equals the null text.
 pub fn written_denotes()
     ensures { WritingIsRead }
 {}

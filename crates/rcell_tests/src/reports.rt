@@ -1,8 +1,8 @@
 //! The line that tells each fault.
 
+use cell_ascii::fault::{GridFault, GridKind};
 use cell_core::name::Name;
 use cell_core::region::RegionFault;
-use cell_ascii::fault::{GridFault, GridKind};
 use rcell::report::fault_line;
 use rcell::runs::outcome::{Outcome, RunFault, status_of};
 use rcell::script::fault::{ScriptFault, ScriptKind};

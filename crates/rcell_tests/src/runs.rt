@@ -1,9 +1,9 @@
 //! Whole runs over memory: what is put out, how many bytes, the status and the fault.
 
+use cell_ascii::fault::{GridFault, GridKind};
 use cell_core::name::Name;
 use cell_core::sink::MemorySink;
 use cell_core::source::MemorySource;
-use cell_ascii::fault::{GridFault, GridKind};
 use rcell::script::fault::{ScriptFault, ScriptKind};
 use rcell::{Outcome, RunFault, run};
 use std::alloc::{AllocGlobal, Global};
@@ -128,13 +128,14 @@ fn puts_out_tables(rt: HostRuntime) -> Result<(), Fail> {
 #[test]
 fn puts_out_grids(rt: HostRuntime) -> Result<(), Fail> {
     expect_text(&rt, &[(b"g", GRID)], b"r.out.ascii input=g\n", GRID)?;
-    let short = b"north: 10.50\nsouth: -.25\neast: 4.\nwest: +0\nrows: 1\ncols: 2\n7 *";
-    expect_text(
-        &rt,
-        &[(b"p", short)],
-        b"r.out.ascii null_value=-9 input=p",
-        b"north: 10.5\nsouth: -0.25\neast: 4\nwest: 0\nrows: 1\ncols: 2\nnull: -9\n7 -9\n",
-    )?;
+    let given = b"north: 10.50\nsouth: -.25\neast: 4.\nwest: +0\nrows: 1\ncols: 2\n7 *";
+    let written =
+        b"north: 10.5\nsouth: -0.25\neast: 4\nwest: 0\nrows: 1\ncols: 2\nnull: -9\n7 -9\n";
+    // What is written is read again as the same map.
+    for text in [given.as_slice(), written.as_slice()] {
+        let script = b"r.out.ascii null_value=-9 input=p";
+        expect_text(&rt, &[(b"p", text)], script, written)?;
+    }
     let mut full = sink(rt.alloc(), 60)?;
     let script = b"r.stats -c input=g\nr.out.ascii input=g null_value=*\n";
     let outcome = run_texts(rt.alloc(), &[(b"g", GRID)], script, &mut full)?;

@@ -7,8 +7,8 @@ ghost use Rattle.rcell.specs.runs.Faults.{IsOfInput, IsBeforeExecution};
 ghost use Rattle.rcell.specs.runs.Loading.{added, placed, with_grid, shelf_of};
 ghost use Rattle.rcell.specs.runs.Sources.{AllKnown, known_of, coming_of};
 
-use cell_ascii::reader::read_map;
 use crate::runs::outcome::RunFault;
+use cell_ascii::reader::read_map;
 use cell_core::map::CellMap;
 use cell_core::memory::Memory;
 use cell_core::name::{Name, Names};
