@@ -2,11 +2,12 @@
 # make example  builds it, and runs it on the land cover of examples/land-cover
 # make check    the gate: every proof from nothing, then the program on each folder of cases/ and examples/
 # make bench    times it against a plain program by hand on a grid of 100 MB
+# make exchange has GRASS, where it is installed, read what it writes and the other way round
 
 PROGRAM = crates/rcell_program
 SOURCES = crates.txt $(shell find crates -path '*/out' -prune -o -type f -print)
 
-.PHONY: all example check bench clean
+.PHONY: all example check bench exchange clean
 
 all: bin/rcell
 
@@ -23,6 +24,9 @@ check:
 
 bench: bin/rcell
 	python3 bench/run.py
+
+exchange: bin/rcell
+	python3 tools/exchange.py
 
 clean:
 	rm -rf bin bench/out crates/*/out

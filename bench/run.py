@@ -1,5 +1,7 @@
 #!/usr/bin/env python3
-"""Times bin/rcell against bench/plain.rs, and GRASS where it is installed, on one grid in one run: best of 3.
+"""Times bin/rcell against bench/plain.rs, and GRASS where it is installed, on one grid in one run.
+
+Our programs take turns, and the best of 3 is told; GRASS runs once.
 
 run.py [ROWS COLS]; without a size the grid has 6000 rows and columns, about 100 MB. A program's user and system
 seconds are added, so that other work on the machine disturbs little; the seconds on the wall stand beside them.
@@ -89,8 +91,9 @@ def main():
     if by_grass is None:
         print("grass: not installed, skipped")
     else:
-        same = "the same table" if by_grass[3] == found["rcell count"][3] else "another table"
-        print(f"grass (import and r.stats): {by_grass[0]:.3f} s of processor, {by_grass[1]:.3f} s on the wall, {same}")
+        print(f"grass (import and r.stats): {by_grass[0]:.3f} s of processor, {by_grass[1]:.3f} s on the wall")
+        if by_grass[3] != found["rcell count"][3]:
+            sys.exit("GRASS wrote another table")
 
 
 main()

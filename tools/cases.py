@@ -8,7 +8,6 @@ A case is a folder with the files that the program reads and
     status   its exit status; no file: 0
     output   where its standard output goes in place of a pipe that is read: a path, or `closed` for a closed pipe
     spaces   lines FILE COUNT: so many spaces go behind what the file has
-    whole    an empty file where the growths are not refused in turn, as the case is large
 The last line is 'N passed, M failed'.
 """
 import glob
@@ -20,7 +19,7 @@ import tempfile
 
 ROOT = os.path.dirname(os.path.dirname(os.path.abspath(__file__)))
 PROGRAM = f"{ROOT}/bin/rcell"
-OUR_OWN = ("args", "stdout", "stderr", "status", "output", "spaces", "whole")
+OUR_OWN = ("args", "stdout", "stderr", "status", "output", "spaces")
 
 
 def read(path, otherwise=b""):
@@ -84,7 +83,7 @@ def judge(case, room, shim):
     for what, is_so, must_be in zip(("status", "output", "told"), got, wanted):
         if is_so != must_be:
             return f"{what} is {is_so!r}, and not {must_be!r}", 0
-    if os.path.exists(f"{case}/whole") or wanted[0]:
+    if wanted[0]:
         return "", 0
     grown, wrong = refused_in_turn(case, folder, shim, room, wanted)
     return wrong, grown

@@ -1,6 +1,7 @@
 #!/usr/bin/env python3
 """Exchanges grids with GRASS: it reads what bin/rcell writes, and bin/rcell reads what its r.out.ascii writes.
 
+GRASS writes no line for another null text than `*`, so that line is put into what it wrote.
 Skips with a message where GRASS is not installed (Debian: grass-core). The last line is 'N passed, M failed'.
 """
 import os
@@ -20,25 +21,30 @@ GRIDS = {
 }
 
 
+def ran(words, room):
+    """What a program writes, or what it told where it was refused."""
+    done = subprocess.run(words, cwd=room, capture_output=True)
+    return done.stdout if done.returncode == 0 else done.stderr
+
+
 def by_rcell(room, text, script):
     """What rcell writes of a grid text."""
     for name, content in (("g.txt", text), ("script", script)):
         with open(f"{room}/{name}", "wb") as file:
             file.write(content)
-    return subprocess.run([f"{ROOT}/bin/rcell", "script", "g=g.txt"], cwd=room, check=True, capture_output=True).stdout
+    return ran([f"{ROOT}/bin/rcell", "script", "g=g.txt"], room)
 
 
 def by_grass(room, command):
     """What commands in a location of GRASS print."""
-    words = ["grass", f"{room}/here/PERMANENT", "--exec", "sh", "-c", command]
-    return subprocess.run(words, cwd=room, check=True, capture_output=True).stdout
+    return ran(["grass", f"{room}/here/PERMANENT", "--exec", "sh", "-c", command], room)
 
 
 def exchange(room, text, null_value):
-    """The tables of a grid as rcell and GRASS count it: read as it is, and after each has written it for the other."""
+    """What differs between rcell and GRASS: the tables, or the grid text after GRASS has read and written it."""
     counts = b"r.stats -c input=g\n"
-    wanted = by_rcell(room, text, counts)
-    written = by_rcell(room, text, b"r.out.ascii input=g null_value=" + null_value + b"\n")
+    writes = b"r.out.ascii input=g null_value=" + null_value + b"\n"
+    table, written = by_rcell(room, text, counts), by_rcell(room, text, writes)
     with open(f"{room}/written", "wb") as file:
         file.write(written)
     found = by_grass(room, "r.in.ascii input=written output=g type=CELL --overwrite --quiet && g.region raster=g "
@@ -46,7 +52,8 @@ def exchange(room, text, null_value):
     back = by_grass(room, "g.region raster=g && r.out.ascii -i input=g output=- null_value=" + null_value.decode() + " --quiet")
     if null_value != b"*":
         back = back.replace(b"cols:", b"null: " + null_value + b"\ncols:", 1)
-    return wanted, found, by_rcell(room, back, counts)
+    again = by_rcell(room, back, writes)
+    return [f"{wanted!r}, by GRASS {other!r}" for wanted, other in ((table, found), (written, again)) if wanted != other]
 
 
 def main():
@@ -59,11 +66,10 @@ def main():
         subprocess.run(["grass", "-e", "-c", "XY", f"{room}/here"], check=True, capture_output=True)
         for name, text in GRIDS.items():
             for null_value in (b"*", b"-9999"):
-                wanted, found, back = exchange(room, text.encode(), null_value)
-                same = wanted == found == back
-                passed, failed = passed + same, failed + (not same)
-                if not same:
-                    print(f"{name}, null {null_value.decode()}: {wanted!r}, by GRASS {found!r}, back {back!r}")
+                differences = exchange(room, text.encode(), null_value)
+                passed, failed = passed + (not differences), failed + bool(differences)
+                for difference in differences:
+                    print(f"{name}, null {null_value.decode()}: {difference}")
     print(f"{passed} passed, {failed} failed")
     sys.exit(failed > 0)
 

@@ -1,4 +1,4 @@
--- The grid text of a map (r.out.ascii manual: header lines, then the cells row by row; how numbers are printed is the profile's).
+-- The grid text of a map (r.out.ascii manual: header lines, then the cells row by row; how numbers are printed, the line of a null text and rows without a space at the end are the profile's).
 use Rattle.std.specs.Prelude.{ℕ, ℤ, pos, negsuc, suc, ◌≡◌, ◌≢◌, ◌+◌, ◌-◌, ◌/◌, ◌%◌, ◌≤◌, false, ◌==◌, List, [], ◌∷◌, ◌++◌, length, map, flat_map, drop, take, reverse, All, IfSome, IsTrue, bytes_eq, codes, decimal, if◌then◌else◌}
 use Rattle.std.specs.Fmt.{signed_decimal}
 use Rattle.std.specs.List.{list_all, join_with_byte, prefix_len}

@@ -6,3 +6,5 @@ pub mod definition;
 mod edits;
 #[cfg(test)]
 mod grids;
+#[cfg(test)]
+mod rows;

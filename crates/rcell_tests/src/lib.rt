@@ -7,3 +7,5 @@ mod clumps;
 mod reports;
 #[cfg(test)]
 mod runs;
+#[cfg(test)]
+mod scripts;

@@ -1,0 +1,68 @@
+//! Grids read call by call, in pieces of seven bytes.
+
+use cell_ascii::fault::{GridFault, GridKind};
+use cell_ascii::reader::GridReader;
+use cell_core::cell::Cell;
+use cell_core::source::MemorySource;
+use std::alloc::AllocGlobal;
+use std::test::Fail;
+
+const FAILED: GridFault = GridFault {
+    kind: GridKind::Failed,
+    line: 0,
+};
+
+fn open<R: AllocGlobal>(rt: &R, text: &[u8]) -> Result<GridReader<MemorySource>, Fail> {
+    let bytes = text.to_vec(rt.alloc())?;
+    let opened = GridReader::open(rt.alloc(), MemorySource::new(bytes, 7, false));
+    Ok(opened.map_err(|_| "no header")?)
+}
+
+#[test]
+fn stops_at_a_bad_cell(rt: HostRuntime) -> Result<(), Fail> {
+    let text =
+        b"north: 3\nsouth: 0\neast: 4\nwest: 0\nrows: 3\ncols: 4\n1 1 2 *\n1 2 2 2\n3 3 x 1\n";
+    let mut reader = open(&rt, text)?;
+    let mut cells = vec![in rt.alloc(); Cell::null(); reader.region().cols() as usize]?;
+    let row = cells.as_mut_slice();
+    assert_eq!(rt; reader.rows_left(), 3);
+    assert_eq!(rt; reader.next_row(row), Ok(true));
+    assert_eq!(rt; reader.next_row(row), Ok(true));
+    let Err(fault) = reader.next_row(row) else {
+        panic!(rt; "a bad cell was read");
+    };
+    let kind = GridKind::BadCell;
+    assert_eq!(rt; fault, GridFault { kind, line: 9 });
+    assert_eq!(rt; reader.rows_left(), 1);
+    let Err(again) = reader.next_row(row) else {
+        panic!(rt; "a reader that failed goes on");
+    };
+    assert_eq!(rt; again, FAILED);
+    let held = [3, 3, 2, 2];
+    assert_eq!(rt; row.len(), held.len());
+    for (cell, category) in row.iter().zip(held.iter()) {
+        assert_eq!(rt; cell.get(), Some(*category));
+    }
+    assert_eq!(rt; reader.finish(), Err(FAILED));
+    Ok(())
+}
+
+#[test]
+fn reads_rows_to_the_end(rt: HostRuntime) -> Result<(), Fail> {
+    let six = b"north: 3\nsouth: 0\neast: 4\nwest: 0\nrows: 3\ncols: 4\n";
+    let mut reader = open(&rt, six)?;
+    let mut cells = vec![in rt.alloc(); Cell::null(); reader.region().cols() as usize]?;
+    let kind = GridKind::TooFew;
+    let few = reader.next_row(cells.as_mut_slice());
+    assert_eq!(rt; few, Err(GridFault { kind, line: 7 }));
+    let one = b"north: 1\nsouth: 0\neast: 1\nwest: 0\nrows: 1\ncols: 1\n7\n8";
+    let mut reader = open(&rt, one)?;
+    let mut cells = vec![in rt.alloc(); Cell::null(); reader.region().cols() as usize]?;
+    assert_eq!(rt; reader.next_row(cells.as_mut_slice()), Ok(true));
+    let Ok(false) = reader.next_row(cells.as_mut_slice()) else {
+        panic!(rt; "a row behind the last");
+    };
+    let kind = GridKind::TooMany;
+    assert_eq!(rt; reader.finish(), Err(GridFault { kind, line: 8 }));
+    Ok(())
+}
