@@ -1,6 +1,6 @@
 //! Whole grids, read row by row.
 
-ghost use Rattle.std.specs.Prelude.{◌≡◌, ◌≢◌, ◌+◌, ◌*◌, ◌^◌, ◌<◌, ◌≤◌, ◌||◌, true, false, length, Some, Ok, Err, OnOk, IfOk, IfErr, IfSome};
+ghost use Rattle.std.specs.Prelude.{◌≡◌, ◌≢◌, ◌+◌, ◌*◌, ◌^◌, ◌<◌, ◌≤◌, ◌||◌, true, false, length, Some, Ok, Err, OnOk, OnErr, IfOk, IfErr, IfSome};
 ghost use Rattle.std.specs.Option.{option_map};
 ghost use Rattle.std.specs.Result.{is_err};
 ghost use Rattle.cell_core.specs.Grid.{no_labels};
@@ -12,7 +12,7 @@ ghost use Rattle.cell_ascii.specs.GridText.{Denotes};
 ghost use Rattle.cell_ascii.specs.Places.{opening_fault, text_fault};
 ghost use Rattle.cell_ascii.specs.RowPlaces.{cells_fault, end_fault};
 ghost use Rattle.cell_ascii.specs.Reader.{Place, at_place, opened_at, token_of, token_seen, reading_seen, always, IsPlaced, rows_from};
-ghost use Rattle.cell_ascii.specs.GridReaders.{place_in, opened_in, fault_of, has_failed, IsCutRow};
+ghost use Rattle.cell_ascii.specs.GridReaders.{place_in, opened_in, fault_of, has_failed, IsCutRow, IsChangedInFront};
 
 use crate::fault::{GridFault, GridKind};
 use crate::header::Header;
@@ -163,6 +163,7 @@ fn read_row<R: Source>(cells: &mut CellReader<R>, row: &mut [Cell]) -> Result<()
     ensures row { OnOk result (option_map (λ c. many (cell_from cells.old.header) (length row.old) (at_place cells.old c)) (to_come cells.old.ahead)
         ≡ option_map (λ d. Ok (row.new, at_place cells.new d)) (to_come cells.new.ahead)) }
     ensures cut { IfErr result (λ f. IfSome (to_come cells.old.ahead) (λ c. IsCutRow cells.old.header (at_place cells.old c) f row.old row.new)) }
+    ensures kept { OnErr result (IsChangedInFront row.old row.new) }
     ensures header { cells.new.header ≡ cells.old.header }
     ensures lines { cells.new.line ≤ cells.old.line + length row.old * 1048577 }
     ensures kind { IfErr result (λ f. f.kind ≢ GridKind.Memory) }
@@ -250,6 +251,7 @@ impl<R: Source> GridReader<R> {
         ensures row { result ≡ Ok true → option_map (λ c. many (cell_from self.old.header) (length row.old) (place_in self.old c)) self.old.coming
             ≡ option_map (λ d. Ok (row.new, place_in self.new d)) self.new.coming }
         ensures cut { IfErr result (λ f. self.old.failed ≡ false → IfSome self.old.coming (λ c. IsCutRow self.old.header (place_in self.old c) f row.old row.new)) }
+        ensures kept { OnErr result (self.old.failed ≡ false → IsChangedInFront row.old row.new) }
         ensures width { length row.new ≡ length row.old }
         ensures left { result ≡ Ok true → self.new.rows_left + 1 ≡ self.old.rows_left }
         ensures stays { result ≢ Ok true → self.new.rows_left ≡ self.old.rows_left }
