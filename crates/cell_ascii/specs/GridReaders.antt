@@ -44,3 +44,9 @@ pub record IsCutRow (h : Header) (at : At) (f : GridFault) (old new : List CellV
   pub cells : many (cell_from h) count at ≡ Ok (take count new, rest)
   pub stop : cell_from h rest ≡ Err f
   pub kept : drop count new ≡ drop count old
+
+-- a row whose old cells stand behind some front that is not the whole
+pub record IsChangedInFront (old new : List CellValue) : Type 0 where
+  pub count : ℕ
+  pub fewer : count < length old
+  pub kept : drop count new ≡ drop count old

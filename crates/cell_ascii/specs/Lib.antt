@@ -10,6 +10,7 @@ pub mod Places
 pub mod RowPlaces
 pub mod Capped
 pub mod Given
+pub mod Kinds
 pub mod Ahead
 pub mod Scan
 pub mod Steps

@@ -1,8 +1,9 @@
 //! The header of a grid text, line by line.
 
-ghost use Rattle.std.specs.Prelude.{◌≡◌, ◌≢◌, ◌+◌, ◌^◌, ◌<◌, ◌≤◌, ◌*◌, false, drop, length, Ok, OnOk, IfOk, IfErr};
+ghost use Rattle.std.specs.Prelude.{◌≡◌, ◌+◌, ◌^◌, ◌<◌, ◌≤◌, ◌*◌, false, drop, length, Ok, OnOk, IfOk, IfErr};
 ghost use Rattle.std.specs.List.{position_or_len};
 ghost use Rattle.std.specs.Option.{option_map};
+ghost use Rattle.cell_ascii.specs.Kinds.{IsOfText};
 ghost use Rattle.cell_ascii.specs.Ahead.{to_come, IsAtEnd};
 ghost use Rattle.cell_ascii.specs.Words.{start_of};
 ghost use Rattle.cell_ascii.specs.Header.{gap_of, value_from, line_end, key_line, is_colon, header_from};
@@ -51,7 +52,7 @@ fn read_value<R: Source>(scanner: &mut Scanner<R>, start: usize) -> Result<usize
     ensures run { OnOk result (scanner.new.run ≡ 0) }
     ensures within { IfOk result (λ at. at ≤ length scanner.new.word) }
     ensures lines { scanner.new.line ≤ scanner.old.line + 1 }
-    ensures kind { IfErr result (λ f. f.kind ≢ GridKind.Memory) }
+    ensures kind { IfErr result (λ f. IsOfText f.kind) }
 {
     if start < scanner.word().len() {
         return Ok(start);
@@ -79,7 +80,7 @@ fn end_line<R: Source>(scanner: &mut Scanner<R>) -> Result<Ending, GridFault>
     ensures run { scanner.new.run ≤ 1048576 }
     ensures end { result ≡ Ok Ending.Text → IsAtEnd false (to_come scanner.new.ahead) }
     ensures lines { scanner.new.line ≤ scanner.old.line + 1 }
-    ensures kind { IfErr result (λ f. f.kind ≢ GridKind.Memory) }
+    ensures kind { IfErr result (λ f. IsOfText f.kind) }
 {
     let line = scanner.line();
     match scanner.skip_blanks()? {
@@ -106,7 +107,7 @@ fn read_key<R: Source>(
     ensures run { OnOk result (scanner.new.run ≤ 1048576) }
     ensures end { result ≡ Ok Ending.Text → IsAtEnd false (to_come scanner.new.ahead) }
     ensures lines { OnOk result (scanner.new.line ≤ scanner.old.line + 1) }
-    ensures kind { IfErr result (λ f. f.kind ≢ GridKind.Memory) }
+    ensures kind { IfErr result (λ f. IsOfText f.kind) }
 {
     let line = scanner.line();
     let key = key::key_of(&scanner.word()[..colon]);
@@ -126,7 +127,7 @@ fn read_line<R: Source>(scanner: &mut Scanner<R>, keys: &mut Keys) -> Result<Lin
         ≡ option_map (line_seen result keys.new scanner.new.word scanner.new.line scanner.new.run) (to_come scanner.new.ahead) }
     ensures run { OnOk result (scanner.new.run ≤ 1048576) }
     ensures lines { OnOk result (scanner.new.line ≤ scanner.old.line + 1048577) }
-    ensures kind { IfErr result (λ f. f.kind ≢ GridKind.Memory) }
+    ensures kind { IfErr result (λ f. IsOfText f.kind) }
 {
     match scanner.skip_spaces() {
         Ok(Next::Word) => {}
@@ -155,7 +156,7 @@ pub fn read_header<R: Source>(scanner: &mut Scanner<R>, keys: &mut Keys) -> Resu
     ensures header { option_map (header_from 10 keys.old scanner.old.line scanner.old.run) (to_come scanner.old.ahead)
         ≡ option_map (header_seen result keys.new scanner.new.word scanner.new.line) (to_come scanner.new.ahead) }
     ensures lines { OnOk result (scanner.new.line ≤ scanner.old.line + 10485770) }
-    ensures kind { IfErr result (λ f. f.kind ≢ GridKind.Memory) }
+    ensures kind { IfErr result (λ f. IsOfText f.kind) }
 {
     for _ in 0..LINES {
         match read_line(scanner, keys) {

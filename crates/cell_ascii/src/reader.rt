@@ -1,9 +1,10 @@
 //! Whole grids, read row by row.
 
-ghost use Rattle.std.specs.Prelude.{◌≡◌, ◌≢◌, ◌+◌, ◌*◌, ◌^◌, ◌<◌, ◌≤◌, ◌||◌, true, false, length, Some, Ok, Err, OnOk, IfOk, IfErr, IfSome};
+ghost use Rattle.std.specs.Prelude.{◌≡◌, ◌≢◌, ◌+◌, ◌*◌, ◌^◌, ◌<◌, ◌≤◌, ◌||◌, true, false, length, Some, Ok, Err, OnOk, OnErr, IfOk, IfErr, IfSome};
 ghost use Rattle.std.specs.Option.{option_map};
 ghost use Rattle.std.specs.Result.{is_err};
 ghost use Rattle.cell_core.specs.Grid.{no_labels};
+ghost use Rattle.cell_ascii.specs.Kinds.{IsOfText};
 ghost use Rattle.cell_ascii.specs.Ahead.{to_come};
 ghost use Rattle.cell_ascii.specs.Words.{start_of};
 ghost use Rattle.cell_ascii.specs.Header.{at_line, header_of, header_of_text};
@@ -12,7 +13,7 @@ ghost use Rattle.cell_ascii.specs.GridText.{Denotes};
 ghost use Rattle.cell_ascii.specs.Places.{opening_fault, text_fault};
 ghost use Rattle.cell_ascii.specs.RowPlaces.{cells_fault, end_fault};
 ghost use Rattle.cell_ascii.specs.Reader.{Place, at_place, opened_at, token_of, token_seen, reading_seen, always, IsPlaced, rows_from};
-ghost use Rattle.cell_ascii.specs.GridReaders.{place_in, opened_in, fault_of, has_failed, IsCutRow};
+ghost use Rattle.cell_ascii.specs.GridReaders.{place_in, opened_in, fault_of, has_failed, IsCutRow, IsChangedInFront};
 
 use crate::fault::{GridFault, GridKind};
 use crate::header::Header;
@@ -64,7 +65,7 @@ fn read_token<R: Source>(scanner: &mut Scanner<R>) -> Result<(), GridFault>
     ensures lines { scanner.new.line ≤ scanner.old.line + 1048576 }
     ensures run { scanner.new.run ≤ 1048576 }
     ensures none { OnOk result (scanner.new.run ≡ 0) }
-    ensures kind { IfErr result (λ f. f.kind ≢ GridKind.Memory) }
+    ensures kind { IfErr result (λ f. IsOfText f.kind) }
 {
     match scanner.skip_spaces()? {
         Next::Word => scanner.read_word(),
@@ -100,6 +101,7 @@ impl<R: Source> CellReader<R> {
         ensures opened { IfOk result (λ r. option_map header_of_text (R.coming source) ≡ option_map (λ c. Ok (opened_at r c)) (to_come r.ahead)) }
         ensures fault { IfErr result (λ f. f.kind ≢ GridKind.Memory → IfSome (R.coming source) (λ c. header_of_text c ≡ Err f)) }
         ensures memory { IfErr result (λ f. f.kind ≡ GridKind.Memory → f.line ≡ 0) }
+        ensures kinds { IfErr result (λ f. f.kind ≢ GridKind.Failed) }
         ensures line { IfOk result (λ r. r.line < 2 ^ 62) }
     {
         let Ok(mut scanner) = Scanner::new(alloc, source) else {
@@ -129,7 +131,7 @@ impl<R: Source> CellReader<R> {
             ≡ option_map (reading_seen result self.new) (to_come self.new.ahead) }
         ensures header { self.new.header ≡ self.old.header }
         ensures lines { self.new.line ≤ self.old.line + 1048576 }
-        ensures kind { IfErr result (λ f. f.kind ≢ GridKind.Memory) }
+        ensures kind { IfErr result (λ f. IsOfText f.kind) }
     {
         if self.waiting {
             self.waiting = false;
@@ -145,7 +147,7 @@ impl<R: Source> CellReader<R> {
         requires room { self.old.line + 1048576 < 2 ^ 64 }
         ensures end { option_map (λ c. end_of (start_of self.old.line self.old.run c)) (to_come self.old.ahead)
             ≡ option_map (always result) (to_come self.new.ahead) }
-        ensures kind { IfErr result (λ f. f.kind ≢ GridKind.Memory) }
+        ensures kind { IfErr result (λ f. IsOfText f.kind) }
     {
         match self.scanner.skip_spaces()? {
             Next::Word => Err(GridFault {
@@ -163,9 +165,10 @@ fn read_row<R: Source>(cells: &mut CellReader<R>, row: &mut [Cell]) -> Result<()
     ensures row { OnOk result (option_map (λ c. many (cell_from cells.old.header) (length row.old) (at_place cells.old c)) (to_come cells.old.ahead)
         ≡ option_map (λ d. Ok (row.new, at_place cells.new d)) (to_come cells.new.ahead)) }
     ensures cut { IfErr result (λ f. IfSome (to_come cells.old.ahead) (λ c. IsCutRow cells.old.header (at_place cells.old c) f row.old row.new)) }
+    ensures kept { OnErr result (IsChangedInFront row.old row.new) }
     ensures header { cells.new.header ≡ cells.old.header }
     ensures lines { cells.new.line ≤ cells.old.line + length row.old * 1048577 }
-    ensures kind { IfErr result (λ f. f.kind ≢ GridKind.Memory) }
+    ensures kind { IfErr result (λ f. IsOfText f.kind) }
 {
     for i in 0..row.len() {
         let cell = cells.next_cell()?;
@@ -209,6 +212,7 @@ impl<R: Source> GridReader<R> {
         ensures whole { IfOk result (λ r. (r.rows_left ≡ r.header.region.rows) × (r.failed ≡ false)) }
         ensures fault { IfErr result (λ f. f.kind ≢ GridKind.Memory → IfSome (R.coming source) (λ c. opening_fault c ≡ Some f)) }
         ensures memory { IfErr result (λ f. f.kind ≡ GridKind.Memory → f.line ≡ 0) }
+        ensures kinds { IfErr result (λ f. f.kind ≢ GridKind.Failed) }
     {
         let cells = CellReader::open(alloc, source)?;
         let rows_left = cells.region().rows();
@@ -250,6 +254,7 @@ impl<R: Source> GridReader<R> {
         ensures row { result ≡ Ok true → option_map (λ c. many (cell_from self.old.header) (length row.old) (place_in self.old c)) self.old.coming
             ≡ option_map (λ d. Ok (row.new, place_in self.new d)) self.new.coming }
         ensures cut { IfErr result (λ f. self.old.failed ≡ false → IfSome self.old.coming (λ c. IsCutRow self.old.header (place_in self.old c) f row.old row.new)) }
+        ensures kept { OnErr result (self.old.failed ≡ false → IsChangedInFront row.old row.new) }
         ensures width { length row.new ≡ length row.old }
         ensures left { result ≡ Ok true → self.new.rows_left + 1 ≡ self.old.rows_left }
         ensures stays { result ≢ Ok true → self.new.rows_left ≡ self.old.rows_left }
@@ -257,6 +262,7 @@ impl<R: Source> GridReader<R> {
         ensures header { self.new.header ≡ self.old.header }
         ensures fails { self.new.failed ≡ (self.old.failed || is_err result) }
         ensures memory { IfErr result (λ f. f.kind ≢ GridKind.Memory) }
+        ensures kinds { self.old.failed ≡ false → IfErr result (λ f. IsOfText f.kind) }
     {
         if self.failed {
             return Err(HAS_FAILED);
@@ -290,6 +296,7 @@ impl<R: Source> GridReader<R> {
         ensures failed { self.failed ≡ true → result ≡ Err has_failed }
         ensures told { self.failed ≡ false → IfSome self.coming (λ c. fault_of result ≡ end_fault (place_in self c)) }
         ensures memory { IfErr result (λ f. f.kind ≢ GridKind.Memory) }
+        ensures kinds { self.failed ≡ false → IfErr result (λ f. IsOfText f.kind) }
     {
         if self.failed {
             return Err(HAS_FAILED);
@@ -310,6 +317,7 @@ fn read_rows<R: Source>(alloc: Global, reader: &mut GridReader<R>) -> Result<Cel
     ensures fault { IfErr result (λ f. f.kind ≢ GridKind.Memory → IfSome reader.old.coming
         (λ c. rows_from reader.old.header (place_in reader.old c) ≡ Err f)) }
     ensures memory { IfErr result (λ f. f.kind ≡ GridKind.Memory → f.line ≡ 0) }
+    ensures kinds { IfErr result (λ f. f.kind ≢ GridKind.Failed) }
 {
     let region = reader.region();
     let Ok(mut buffer) = vec![in alloc; Cell::null(); region.cols() as usize] else {
@@ -335,6 +343,7 @@ pub fn read_map<R: Source + Drop>(alloc: Global, source: R) -> Result<CellMap, G
     ensures map { IfOk result (λ m. IfSome (R.coming source) (λ c. Denotes c m)) }
     ensures fault { IfErr result (λ f. f.kind ≢ GridKind.Memory → IfSome (R.coming source) (λ c. text_fault c ≡ Some f)) }
     ensures memory { IfErr result (λ f. f.kind ≡ GridKind.Memory → f.line ≡ 0) }
+    ensures kinds { IfErr result (λ f. f.kind ≢ GridKind.Failed) }
     ensures reading_map { IfOk result (λ m. IfSome (R.coming source) (λ c. grid_of c ≡ Ok m)) }
     ensures reading_fault { IfErr result (λ f. f.kind ≢ GridKind.Memory → IfSome (R.coming source) (λ c. grid_of c ≡ Err f)) }
 {

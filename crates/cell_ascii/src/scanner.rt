@@ -1,7 +1,8 @@
 //! Words of a text, with their lines.
 
-ghost use Rattle.std.specs.Prelude.{true, false, ◌≡◌, ◌≢◌, ◌+◌, ◌-◌, ◌^◌, ◌<◌, ◌≤◌, [], length, Ok, IfOk, IfErr};
+ghost use Rattle.std.specs.Prelude.{true, false, ◌≡◌, ◌+◌, ◌-◌, ◌^◌, ◌<◌, ◌≤◌, [], length, Ok, IfOk, IfErr};
 ghost use Rattle.std.specs.Option.{option_map};
+ghost use Rattle.cell_ascii.specs.Kinds.{IsOfText};
 ghost use Rattle.cell_ascii.specs.Ahead.{to_come, IsAtEnd};
 ghost use Rattle.cell_ascii.specs.Words.{is_space, start_of, word_from};
 ghost use Rattle.cell_ascii.specs.Header.{gap_of};
@@ -83,7 +84,7 @@ impl<R: Source> Scanner<R> {
         ensures blank { result ≡ Ok Step.Blank → self.new.run ≡ self.old.run + 1 }
         ensures feed { result ≡ Ok Step.Feed → self.new.run ≡ self.old.run + 1 }
         ensures end { result ≡ Ok Step.End → IsAtEnd false (to_come self.new.ahead) }
-        ensures kind { IfErr result (λ f. f.kind ≢ GridKind.Memory) }
+        ensures kind { IfErr result (λ f. IsOfText f.kind) }
     {
         let Ok(next) = self.input.peek() else {
             return Err(GridFault {
@@ -121,7 +122,7 @@ impl<R: Source> Scanner<R> {
         ensures lines { self.new.line ≤ self.old.line + 1048576 }
         ensures run { self.new.run ≤ 1048576 }
         ensures end { result ≡ Ok Next.End → IsAtEnd false (to_come self.new.ahead) }
-        ensures kind { IfErr result (λ f. f.kind ≢ GridKind.Memory) }
+        ensures kind { IfErr result (λ f. IsOfText f.kind) }
     {
         'spaces: loop {
             match self.step() {
@@ -144,7 +145,7 @@ impl<R: Source> Scanner<R> {
         ensures run { self.new.run ≤ 1048576 }
         ensures word { self.new.word ≡ self.old.word }
         ensures end { result ≡ Ok InLine.End → IsAtEnd false (to_come self.new.ahead) }
-        ensures kind { IfErr result (λ f. f.kind ≢ GridKind.Memory) }
+        ensures kind { IfErr result (λ f. IsOfText f.kind) }
     {
         'blanks: loop {
             match self.step() {
@@ -166,7 +167,7 @@ impl<R: Source> Scanner<R> {
         ensures run { self.new.run ≡ self.old.run }
         ensures short { length self.new.word ≤ 64 }
         ensures further { result ≡ Ok true → length self.new.word ≡ length self.old.word + 1 }
-        ensures kind { IfErr result (λ f. f.kind ≢ GridKind.Memory) }
+        ensures kind { IfErr result (λ f. IsOfText f.kind) }
     {
         let Ok(next) = self.input.peek() else {
             return Err(GridFault {
@@ -198,7 +199,7 @@ impl<R: Source> Scanner<R> {
             ≡ option_map (word_seen result self.new.word) (to_come self.new.ahead) }
         ensures line { self.new.line ≡ self.old.line }
         ensures run { self.new.run ≡ 0 }
-        ensures kind { IfErr result (λ f. f.kind ≢ GridKind.Memory) }
+        ensures kind { IfErr result (λ f. IsOfText f.kind) }
     {
         self.len = 0;
         self.run = 0;

@@ -15,4 +15,4 @@ returns-in-Ok-clause-key g c =
     (rw c.requires.colon at c.in_ok-start.ensures.value) (rw c.in_ok-start.ensures.line at c.in_ok-ending.ensures.ending) given
 
 pub returns-in-Err-clause-kind : goal.returns-in-Err-clause-kind
-returns-in-Err-clause-kind g c bad = key_kind c.args.keys.now c.key_of-key.result (take (length c.word-2.result.now - c.in_ok-start.start) (drop c.in_ok-start.start c.word-2.result.now)) c.in-Err.kind c.in-Err.ensures.err bad
+returns-in-Err-clause-kind g c = key_kind c.args.keys.now c.key_of-key.result (take (length c.word-2.result.now - c.in_ok-start.start) (drop c.in_ok-start.start c.word-2.result.now)) c.in-Err.kind c.in-Err.ensures.err

@@ -32,3 +32,8 @@ returns-in_err-cell-clause-cut g c =
     rw (p.1, p.2)
     (row_cut s.header (at_place s) (at_place t) (to_come s.ahead) (to_come t.ahead) (to_come c.next_cell.new.self.ahead) c.loop-i.i c.in_err-cell.field-0.0 c.args.row.now c.loop-i.row
     c.loop-i-test.true c.loop-i.invariant.rest c.loop-i.invariant.row (rw c.loop-i.invariant.header at c.in_err-cell.ensures.cell))
+
+pub returns-in_err-cell-clause-kept : goal.returns-in_err-cell-clause-kept
+returns-in_err-cell-clause-kept g c =
+    let p = err_from_is_err_and c.from_residual.result c.from_residual.ensures.1 in
+    rw p.1 (record { count = c.loop-i.i; fewer = c.loop-i-test.true; kept = c.loop-i.invariant.rest })
