@@ -1,4 +1,4 @@
--- The faults of a run: their exit statuses, and which of them come when.
+-- The faults of a run: their exit statuses, which of them come when, and what they tell.
 use Rattle.std.specs.Prelude.{ℕ, ◌≡◌, ◌≢◌, ◌<◌, ⊤, Option, Some, None}
 use Rattle.cell_ascii.specs.declared.fault.GridKind.{GridKind}
 use Rattle.cell_ascii.specs.declared.fault.GridKind.TheVariants as grid_kinds
@@ -71,6 +71,17 @@ IsInExecution ScriptSize = ⊥
 IsInExecution (Script fault) = ⊥
 IsInExecution (Memory line) = 0 < line
 IsInExecution Write = ⊤
+
+-- a fault names one of so many grids, and want of memory for a grid or for the script is told at line 0
+abbrev pub IsTold : ℕ → RunFault → Type 0
+IsTold grids (GridTwice grid) = grid < grids
+IsTold grids (GridRegion grid) = grid < grids
+IsTold grids (Grid grid fault) = (grid < grids) × (fault.kind ≡ grid_kinds.Memory → fault.line ≡ 0)
+IsTold grids ScriptRead = ⊤
+IsTold grids ScriptSize = ⊤
+IsTold grids (Script fault) = fault.kind ≡ script_kinds.Memory → fault.line ≡ 0
+IsTold grids (Memory line) = ⊤
+IsTold grids Write = ⊤
 
 -- the exit status of a run
 abbrev pub status_after : Option RunFault → ℕ

@@ -1,4 +1,4 @@
--- What a run answers: the whole output, or the first fault of what it is given.
+-- What a run answers: the whole output (r.stats manual, r.out.ascii manual), or the first fault of what it is given (the limit of a script and the order of the faults are the profile's).
 use Rattle.std.specs.Prelude.{ℕ, ◌≡◌, Bool, false, nat_lt, List, [], length, Option, Some, None, IfSome, Result, Ok, Err, if◌then◌else◌}
 use Rattle.cell_core.specs.Device.{Coming, append_known}
 use Rattle.cell_core.specs.Shelf.{ShelfValue}

@@ -1,4 +1,4 @@
--- What a script puts out.
+-- What a script puts out: the tables and the grid texts that its statements ask for (r.stats manual, r.out.ascii manual), one after another (profile).
 use Rattle.std.specs.Prelude.{ℕ, List, [], flat_map, slice_get}
 use Rattle.std.specs.Option.{option_map_or}
 use Rattle.cell_ascii.specs.Writing.{grid_text}

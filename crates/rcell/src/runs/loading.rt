@@ -1,9 +1,9 @@
 //! The shelf of the grids.
 
-ghost use Rattle.std.specs.Prelude.{◌≡◌, ◌+◌, ◌<◌, IsSome, IfOk, IfErr, Ok, Err, Some, length, vec_len};
+ghost use Rattle.std.specs.Prelude.{ℕ, ◌≡◌, ◌+◌, ◌<◌, IsSome, IfOk, IfErr, Ok, Err, Some, length, vec_len};
 ghost use Rattle.cell_core.specs.Name.{place_of};
 ghost use Rattle.cell_ascii.specs.Cells.{grid_of};
-ghost use Rattle.rcell.specs.runs.Faults.{IsOfInput, IsBeforeExecution};
+ghost use Rattle.rcell.specs.runs.Faults.{IsOfInput, IsBeforeExecution, IsTold};
 ghost use Rattle.rcell.specs.runs.Loading.{added, placed, with_grid, shelf_of};
 ghost use Rattle.rcell.specs.runs.Sources.{AllKnown, known_of, coming_of};
 
@@ -21,6 +21,7 @@ fn added(mut shelf: Shelf, grid: usize, name: Name, map: CellMap) -> Result<Shel
     ensures ok { IfOk result (λ s. added grid shelf name map (place_of name shelf.names) ≡ Ok s) }
     ensures fault { IfErr result (λ f. IsOfInput f → added grid shelf name map (place_of name shelf.names) ≡ Err f) }
     ensures early { IfErr result IsBeforeExecution }
+    ensures told { (count : ℕ) → grid < count → IfErr result (IsTold count) }
 {
     match shelf.add(name, map) {
         Ok(()) => Ok(shelf),
@@ -43,6 +44,7 @@ fn placed(
     ensures ok { IfOk result (λ s. placed grid shelf name map ≡ Ok s) }
     ensures fault { IfErr result (λ f. IsOfInput f → placed grid shelf name map ≡ Err f) }
     ensures early { IfErr result IsBeforeExecution }
+    ensures told { (count : ℕ) → grid < count → IfErr result (IsTold count) }
 {
     match shelf {
         Some(shelf) => added(shelf, grid, name, map),
@@ -64,6 +66,7 @@ fn with_grid<R: Source + Drop>(
     ensures ok { IsSome (R.coming source) → IfOk result (λ s. with_grid grid shelf name (grid_of (coming_of R.coming source)) ≡ Ok s) }
     ensures fault { IsSome (R.coming source) → IfErr result (λ f. IsOfInput f → with_grid grid shelf name (grid_of (coming_of R.coming source)) ≡ Err f) }
     ensures early { IfErr result IsBeforeExecution }
+    ensures told { (count : ℕ) → grid < count → IfErr result (IsTold count) }
 {
     let map = match read_map(alloc, source) {
         Ok(map) => map,
@@ -81,6 +84,7 @@ pub fn load<R: Source + Drop>(alloc: Global, mut grids: Vec<(Name, R)>) -> Resul
     ensures ok { AllKnown R.coming grids.items → IfOk result (λ s. shelf_of (known_of R.coming grids.items) ≡ Ok (Some s)) }
     ensures fault { AllKnown R.coming grids.items → IfErr result (λ f. IsOfInput f → shelf_of (known_of R.coming grids.items) ≡ Err f) }
     ensures early { IfErr result IsBeforeExecution }
+    ensures told { IfErr result (IsTold (length grids.items)) }
 {
     let mut shelf = None;
     let mut grid = 0;

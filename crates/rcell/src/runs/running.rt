@@ -4,7 +4,7 @@ ghost use Rattle.std.specs.Prelude.{◌≡◌, ℕ, ◌<◌, List, All, length, 
 ghost use Rattle.cell_core.specs.Device.{append_known};
 ghost use Rattle.cell_core.specs.Shelf.{ShelfValue};
 ghost use Rattle.cell_core.specs.Blocks.{IsCut, capped};
-ghost use Rattle.rcell.specs.runs.Faults.{IsOfInput, IsBeforeExecution, IsInExecution, status_of, status_after};
+ghost use Rattle.rcell.specs.runs.Faults.{IsOfInput, IsBeforeExecution, IsInExecution, IsTold, status_of, status_after};
 ghost use Rattle.rcell.specs.runs.Outcomes.{outcome_of, output_on, script_text, IsDone, IsFront, Writes};
 ghost use Rattle.rcell.specs.runs.Accepted.{IsAccepted};
 ghost use Rattle.rcell.specs.runs.Output.{output_of};
@@ -35,6 +35,7 @@ fn read_statements<R: Source + Drop>(
     ensures numbered { IfOk result (λ s. All (λ t. 0 < t.line) s) }
     ensures fault { IsSome (R.coming script) → IfErr result (λ f. IsOfInput f → output_on shelf.now (script_text (coming_of R.coming script)) ≡ Err f) }
     ensures early { IfErr result IsBeforeExecution }
+    ensures told { (grids : ℕ) → IfErr result (IsTold grids) }
 {
     let text = match read_script(alloc, script) {
         Ok(text) => text,
@@ -113,6 +114,8 @@ pub fn run<R: Source + Drop, W: Sink>(
     ensures front { AllKnown R.coming grids.items → IsSome (R.coming script) → IfSome result.fault (λ f. IsInExecution f
         → IsFront (outcome_of (known_of R.coming grids.items) (coming_of R.coming script)) (W.taken out.old) (W.taken out.new) result.written) }
     ensures status { result.status ≡ status_after result.fault }
+    // A fault of a grid names one that was given, and want of memory for a grid or for the script is told at line 0.
+    ensures told { IfSome result.fault (IsTold (length grids.items)) }
     // Status 0 comes only where the sink did not fail in the run, and Write only where it failed.
     ensures sound { result.status ≡ 0 → W.failed out.new ≡ W.failed out.old }
     ensures write { result.fault ≡ Some RunFault.Write → W.failed out.new ≡ true }

@@ -1,7 +1,7 @@
 //! The text of a script.
 
-ghost use Rattle.std.specs.Prelude.{◌≡◌, IfOk, IfErr, IfSome, Ok, Err};
-ghost use Rattle.rcell.specs.runs.Faults.{IsOfInput, IsBeforeExecution};
+ghost use Rattle.std.specs.Prelude.{ℕ, ◌≡◌, IfOk, IfErr, IfSome, Ok, Err};
+ghost use Rattle.rcell.specs.runs.Faults.{IsOfInput, IsBeforeExecution, IsTold};
 ghost use Rattle.rcell.specs.runs.Outcomes.{script_text};
 
 use crate::runs::outcome::RunFault;
@@ -16,6 +16,7 @@ pub fn read_script<R: Source + Drop>(alloc: Global, mut source: R) -> Result<Vec
     ensures ok { IfOk result (λ text. IfSome (R.coming source) (λ c. script_text c ≡ Ok text.items)) }
     ensures fault { IfErr result (λ f. IsOfInput f → IfSome (R.coming source) (λ c. script_text c ≡ Err f)) }
     ensures early { IfErr result IsBeforeExecution }
+    ensures told { (grids : ℕ) → IfErr result (IsTold grids) }
 {
     let mut text = Vec::new(alloc);
     let mut block = [0u8; 4096];

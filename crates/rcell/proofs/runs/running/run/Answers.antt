@@ -1,4 +1,4 @@
-use Rattle.std.proofs.Common.{rules}
+use Rattle.std.proofs.Common.{length, rules}
 use Rattle.rcell.specs.runs.Sources.{known_of, coming_of}
 use Rattle.rcell.proofs.runs.AcceptedLemmas.{accepted_writes}
 use Rattle.rcell.proofs.runs.running.run.Goals as goal
@@ -23,3 +23,6 @@ returns-clause-headline g c =
     λ shelf statements known tells ok.
     accepted_writes (known_of coming c.args.grids.items) (coming_of coming c.args.script) shelf statements (g.W.Sink.taken c.args.out.now) (g.W.Sink.taken c.args.out.now) (g.W.Sink.failed c.args.out.now) c.refused-in-Err-read_statements.result
     (λ text e. search rules) ok
+
+pub returns-clause-told : goal.returns-clause-told
+returns-clause-told g c = rw c.refused-in-Err-read_statements.ensures (c.in-Err-read_statements.ensures.told (length c.args.grids.items))
