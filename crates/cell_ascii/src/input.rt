@@ -19,17 +19,19 @@ pub struct Input<R: Source> {
     buffer: Vec<u8>,
     at: usize,
     filled: usize,
+    ended: bool,
 }
 
 impl<R: Source> Model for Input<R> {
-    ghost use Rattle.std.specs.Prelude.{take, drop, length, ◌<◌, ◌≤◌};
-    ghost use Rattle.cell_ascii.specs.Ahead.{Ahead};
+    ghost use Rattle.std.specs.Prelude.{take, drop, length, ◌≡◌, ◌<◌, ◌≤◌, true, false};
+    ghost use Rattle.cell_ascii.specs.Ahead.{Ahead, IsAtEnd};
 
     ghost Value = { Ahead };
 
     ghost view = { λ i. record { held = drop i.at (take i.filled i.buffer.items); rest = R.coming i.source } };
 
-    ghost invariant = { λ i. (i.at ≤ i.filled) × (i.filled ≤ length i.buffer.items) × (0 < length i.buffer.items) };
+    ghost invariant = { λ i. (i.at ≤ i.filled) × (i.filled ≤ length i.buffer.items) × (0 < length i.buffer.items)
+        × (i.ended ≡ true → (i.at ≡ i.filled) × IsAtEnd false (R.coming i.source)) };
 }
 
 impl<R: Source> Input<R> {
@@ -44,10 +46,11 @@ impl<R: Source> Input<R> {
             buffer,
             at: 0,
             filled: 0,
+            ended: false,
         })
     }
 
-    /// The next byte, or `None` at the end.
+    /// The next byte, or `None` at the end. The source is not asked again behind its end.
     pub fn peek(&mut self) -> Result<Option<u8>, DeviceFault>
         ensures same { to_come self.new ≡ to_come self.old }
         ensures byte { IfOk result (λ o. IfSome o (λ b. slice_get self.new.held 0 ≡ Some b)) }
@@ -57,10 +60,13 @@ impl<R: Source> Input<R> {
         if self.at < self.filled {
             return Ok(Some(self.buffer[self.at]));
         }
-        let n = self.source.take(&mut self.buffer)?;
-        self.at = 0;
-        self.filled = n;
-        if n == 0 {
+        if !self.ended {
+            let n = self.source.take(&mut self.buffer)?;
+            self.at = 0;
+            self.filled = n;
+            self.ended = n == 0;
+        }
+        if self.ended {
             return Ok(None);
         }
         Ok(Some(self.buffer[0]))
