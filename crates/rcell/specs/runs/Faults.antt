@@ -76,7 +76,7 @@ IsInExecution Write = ⊤
 abbrev pub IsTold : ℕ → RunFault → Type 0
 IsTold grids (GridTwice grid) = grid < grids
 IsTold grids (GridRegion grid) = grid < grids
-IsTold grids (Grid grid fault) = (grid < grids) × (fault.kind ≡ grid_kinds.Memory → fault.line ≡ 0)
+IsTold grids (Grid grid fault) = (grid < grids) × (fault.kind ≢ grid_kinds.Failed) × (fault.kind ≡ grid_kinds.Memory → fault.line ≡ 0)
 IsTold grids ScriptRead = ⊤
 IsTold grids ScriptSize = ⊤
 IsTold grids (Script fault) = fault.kind ≡ script_kinds.Memory → fault.line ≡ 0
