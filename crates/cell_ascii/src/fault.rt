@@ -38,7 +38,8 @@ pub enum GridKind {
     LongToken,
 }
 
-/// What is wrong, and the line, counted from 1; 0 for want of memory.
+/// What is wrong, and the line, counted from 1; 0 for want of memory and for a reader that failed
+/// before.
 #[derive(Clone, Copy, Debug, PartialEq, Eq, Error)]
 #[error("{line}: {kind}")]
 pub struct GridFault {
