@@ -140,8 +140,7 @@ fn puts_out_grids(rt: HostRuntime) -> Result<(), Fail> {
     let outcome = run_texts(rt.alloc(), &[(b"g", GRID)], script, &mut full)?;
     assert_eq!(rt; outcome.written, 60);
     assert_eq!(rt; outcome.fault, Some(RunFault::Write));
-    let front =
-        b"1 5\n2 4\n3 2\n* 1\nnorth: 3\nsouth: 0\neast: 4\nwest: 0\nrows: 3\nco";
+    let front = b"1 5\n2 4\n3 2\n* 1\nnorth: 3\nsouth: 0\neast: 4\nwest: 0\nrows: 3\nco";
     assert_eq!(rt; full.bytes(), front.as_slice());
     Ok(())
 }
