@@ -3,6 +3,7 @@ use Rattle.std.specs.Prelude.{ℕ, ◌≡◌, Bool, List, [], ◌++◌, Option, 
 use Rattle.std.specs.Option.{option_map}
 use Rattle.cell_core.specs.Device.{Coming}
 
+-- the bytes that a buffer holds, and what its source still gives, where that is known
 pub record Ahead : Type 0 where
   pub held : List ℕ
   pub rest : Option Coming

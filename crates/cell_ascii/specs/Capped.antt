@@ -6,6 +6,7 @@ use Rattle.cell_core.specs.Grid.{CellValue}
 use Rattle.cell_ascii.specs.declared.fault.GridKind.{GridKind}
 use Rattle.cell_ascii.specs.declared.fault.GridKind.TheVariants.{CellRange}
 
+-- a number, or 10^18 where it is greater
 abbrev pub capped : ℕ → ℕ
 capped n = min n 1000000000000000000
 

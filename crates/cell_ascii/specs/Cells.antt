@@ -27,14 +27,17 @@ Reading X = Result (X × At) GridFault
 abbrev pub at_of : ℕ → ℕ → Coming → At
 at_of line run c = record { pending = None; line = line; run = run; coming = c }
 
+-- a cell and the place behind it, or why the word is no cell, told at its line
 abbrev pub after_cell : ℕ → Coming → Result CellValue GridKind → Reading CellValue
 after_cell line c (Ok v) = Ok (v, at_of line 0 c)
 after_cell line c (Err kind) = Err (fault kind line)
 
+-- the cell of a word that begins at a line, or the first fault of the word or of the cell
 abbrev pub after_word : Header → ℕ → Result (List ℕ × Coming) GridFault → Reading CellValue
 after_word h line (Ok x) = after_cell line x.1 (cell_of_word h x.0)
 after_word h line (Err f) = Err f
 
+-- the cell of the next word, or why none begins
 abbrev pub after_start : Header → Start → Reading CellValue
 after_start h (Begins line c) = after_word h line (word_from line [] c)
 after_start h (Ends line) = Err (fault TooFew line)

@@ -11,9 +11,11 @@ use Rattle.cell_ascii.specs.KeyNames.{key_of}
 use Rattle.cell_ascii.specs.Header.{Header, is_colon, has_colon, is_int, usual_null, usual_multiplier}
 use Rattle.cell_ascii.specs.Cells.{cell_of_word}
 
+-- the lines of a text, parted by line feeds
 abbrev pub lines_of : List ℕ → List (List ℕ)
 lines_of text = slice_split (λ b. b == 10) text
 
+-- a word has one byte or more
 abbrev pub is_token : List ℕ → Bool
 is_token [] = false
 is_token (b ∷ bs) = true
@@ -31,6 +33,7 @@ abbrev pub is_data_line : List (List ℕ) → Bool
 is_data_line [] = false
 is_data_line (word ∷ words) = not (has_colon word)
 
+-- a line whose first word has a colon: before the data it is a header line
 abbrev pub is_header_line : List (List ℕ) → Bool
 is_header_line [] = false
 is_header_line (word ∷ words) = has_colon word
@@ -66,6 +69,7 @@ read_or read usual (Some value) = read value
 abbrev pub null_text : List ℕ → Option (List ℕ)
 null_text value = if has_colon value then None else Some value
 
+-- a type is that of whole numbers
 abbrev pub int_type : List ℕ → Option (Unit {0})
 int_type value = if is_int value then Some tt else None
 

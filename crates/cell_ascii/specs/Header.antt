@@ -19,6 +19,7 @@ abbrev pub ◌>>=◌ : {A B : Type 0} → Result A GridFault → (A → Result B
 (Ok x) >>= f = f x
 (Err e) >>= f = Err e
 
+-- a colon
 abbrev pub is_colon : ℕ → Bool
 is_colon b = b == 58
 
@@ -34,6 +35,7 @@ pub record Keys : Type 0 where
   pub kind : Bool
   pub multiplier : Option ℤ
 
+-- no key stood so far
 abbrev pub no_keys : Keys
 no_keys = record { north = None; south = None; east = None; west = None; rows = None; cols = None; null = None; kind = false; multiplier = None }
 
@@ -78,6 +80,7 @@ usual_null = codes "*"
 abbrev pub usual_multiplier : ℤ
 usual_multiplier = pos 1
 
+-- the header of the keys over their region, or why the six numbers are no region
 abbrev pub judged : Keys → Result RegionValue RegionFault → Result Header GridKind
 judged keys (Ok region) = Ok (record { region = region; null_text = unwrap_or keys.null usual_null; multiplier = unwrap_or keys.multiplier usual_multiplier })
 judged keys (Err f) = Err (Region f)
@@ -101,6 +104,7 @@ pub data Gap : Type 0 where
   Last : Gap
   Fault : GridFault → Gap
 
+-- what stands behind the blanks, where a run of blanks has gone on for `run` bytes
 abbrev pub gap_at : ℕ → ℕ → List ℕ → Bool → Gap
 gap_at line run [] true = Fault (fault Read line)
 gap_at line run [] false = Last
@@ -166,6 +170,7 @@ pub record Opened : Type 0 where
 abbrev pub ended : Coming
 ended = record { bytes = []; fails = false }
 
+-- the header of the keys and where the data begins, or why they give no header, told at the line
 abbrev pub opened : Keys → ℕ → Option (List ℕ) → Coming → Result Opened GridFault
 opened keys line pending c =
     at_line line (header_of keys) >>= (λ h. Ok (record { header = h; at = record { pending = pending; line = line; run = 0; coming = c } }))

@@ -3,6 +3,7 @@ use Rattle.std.specs.Prelude.{ℕ, List, Option, Some, None, if◌then◌else◌
 use Rattle.cell_ascii.specs.declared.key.Key.{Key}
 use Rattle.cell_ascii.specs.declared.key.Key.TheVariants.{North, South, East, West, Rows, Cols, Null, CellType, Multiplier}
 
+-- the key of a name, if it is the name of one
 abbrev pub key_of : List ℕ → Option Key
 key_of name =
     if bytes_eq name (codes "north") then Some North

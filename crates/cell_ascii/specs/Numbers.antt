@@ -3,6 +3,7 @@ use Rattle.std.specs.Prelude.{ℕ, ℤ, pos, negsuc, neg_ℤ, int_le, ◌+◌, �
 use Rattle.std.specs.List.{list_all, before_first, after_first}
 use Rattle.std.specs.Option.{option_map}
 
+-- a decimal digit
 abbrev pub is_digit : ℕ → Bool
 is_digit b = nat_le 48 b && nat_le b 57
 
@@ -44,6 +45,7 @@ in_units whole part =
     if (list_all is_digit whole && list_all is_digit part) && ((nat_le (length whole) 10 && nat_le (length part) 8) && nat_le 1 (length whole + length part))
     then Some (value_of_digits whole * 100000000 + value_of_digits part * 10 ^ (8 - length part)) else None
 
+-- digits, and optionally a point with further digits, in units of 10^-8
 abbrev pub unsigned_coordinate : List ℕ → Option ℕ
 unsigned_coordinate bs = in_units (before_first (λ b. b == 46) bs) (after_first (λ b. b == 46) bs)
 

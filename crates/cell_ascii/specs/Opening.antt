@@ -21,6 +21,7 @@ ending_seen (Ok Feed) run c = Ok (Some (run, c))
 ending_seen (Ok Text) run c = Ok None
 ending_seen (Err f) run c = Err f
 
+-- what an answer says of a header line behind its first word
 abbrev pub key_line_seen : Result Ending GridFault → Keys → ℕ → Coming → Result (Keys × LineEnd) GridFault
 key_line_seen (Ok Feed) keys run c = Ok (keys, Some (run, c))
 key_line_seen (Ok Text) keys run c = Ok (keys, None)
@@ -31,10 +32,12 @@ pub data AfterLine : Type 0 where
   More : Keys → ℕ → ℕ → Coming → AfterLine
   Stop : Keys → ℕ → Option (List ℕ) → Coming → AfterLine
 
+-- what comes after a header line
 abbrev pub after_key : ℕ → Keys × LineEnd → Result AfterLine GridFault
 after_key line (keys, None) = Ok (Stop keys line None ended)
 after_key line (keys, Some (run, c)) = Ok (More keys (line + 1) run c)
 
+-- what comes after a line of either kind, read from its first word on
 abbrev pub line_read : Keys → Start → Result AfterLine GridFault
 line_read keys (Stops f) = Err f
 line_read keys (Ends line) = Ok (Stop keys line None ended)

@@ -33,20 +33,24 @@ ends_line (Byte b) = b == 10
 ends_line End = true
 ends_line Fails = false
 
+-- the end
 abbrev pub is_end : Place → Bool
 is_end (Byte b) = false
 is_end End = true
 is_end Fails = false
 
+-- a list that holds nothing
 abbrev pub is_empty : {X : Type 0} → List X → Bool
 is_empty [] = true
 is_empty (x ∷ xs) = false
 
+-- the last of some lists, empty where there is none
 abbrev pub last_of : {X : Type 0} → List (List X) → List X
 last_of [] = []
 last_of (p ∷ []) = p
 last_of (p ∷ q ∷ ps) = last_of (q ∷ ps)
 
+-- all but the last
 abbrev pub front_of : {X : Type 0} → List X → List X
 front_of [] = []
 front_of (p ∷ []) = []
@@ -68,10 +72,12 @@ token_of before = last_of (slice_split is_space before)
 
 -- The rows of the table. `earlier` are the words of each line before that of the place, `line` the words of its own line so far.
 
+-- a fault that is told where something holds
 abbrev pub when : Bool → GridKind → Option GridKind
 when true kind = Some kind
 when false kind = None
 
+-- a fault that is told where something is missing
 abbrev pub unless : {X : Type 0} → Option X → GridKind → Option GridKind
 unless (Some x) kind = None
 unless None kind = Some kind
@@ -154,6 +160,7 @@ keys_of lines = record {
 abbrev pub header_in : List (List (List ℕ)) → Result Header GridKind
 header_in lines = header_of (keys_of (header_lines lines))
 
+-- the fault of an answer
 abbrev pub why_not : {X : Type 0} → Result X GridKind → Option GridKind
 why_not (Ok x) = None
 why_not (Err kind) = Some kind
@@ -163,6 +170,7 @@ abbrev pub header_ends : Result Header GridKind → List (List ℕ) → List ℕ
 header_ends header words token place =
     if (is_end place && is_empty words) || ((ends_token place && is_token token) && length words == 1) then why_not header else None
 
+-- why a token of the data is no cell, where the header is a good one
 abbrev pub cell_fault : Result Header GridKind → List (List ℕ) → List ℕ → Option GridKind
 cell_fault (Err kind) words token = None
 cell_fault (Ok h) [] token = None
@@ -172,10 +180,12 @@ cell_fault (Ok h) (word ∷ words) token = why_not (cell_of_word h token)
 abbrev pub bad_cell : Result Header GridKind → List (List ℕ) → List ℕ → Place → Option GridKind
 bad_cell header words token place = if ends_token place && is_token token then cell_fault header words token else None
 
+-- fewer words than the region of a good header has cells
 abbrev pub has_fewer : Result Header GridKind → List (List ℕ) → Bool
 has_fewer (Err kind) words = false
 has_fewer (Ok h) words = nat_lt (length words) (h.region.rows * h.region.cols)
 
+-- as many words as the region of a good header has cells, or more
 abbrev pub has_all : Result Header GridKind → List (List ℕ) → Bool
 has_all (Err kind) words = false
 has_all (Ok h) words = nat_le (h.region.rows * h.region.cols) (length words)

@@ -19,9 +19,11 @@ pub record Place : Type 0 where
   pub run : ℕ
   pub ahead : Ahead
 
+-- the place of a text that it is at
 abbrev pub at_place : Place → Coming → At
 at_place p c = record { pending = p.pending; line = p.line; run = p.run; coming = c }
 
+-- the header that was read, and where the data begins
 abbrev pub opened_at : Place → Coming → Opened
 opened_at p c = record { header = p.header; at = at_place p c }
 
@@ -31,6 +33,7 @@ token_of (Begins line c) = word_from line [] c >>= (λ w. Ok (line, w))
 token_of (Ends line) = Err (fault TooFew line)
 token_of (Stops f) = Err f
 
+-- what an answer says of the next word, with its line
 abbrev pub token_seen : Result (Unit {0}) GridFault → ℕ → List ℕ → Coming → Result (ℕ × (List ℕ × Coming)) GridFault
 token_seen (Ok u) line word c = Ok (line, (word, c))
 token_seen (Err f) line word c = Err f

@@ -7,6 +7,7 @@ use Rattle.cell_ascii.specs.declared.fault.GridFault.{GridFault}
 use Rattle.cell_ascii.specs.declared.scanner.Step.{Step}
 use Rattle.cell_ascii.specs.declared.scanner.Step.TheVariants.{Blank, Feed as FeedStep, Word as WordStep, End}
 
+-- what a step says of the next word
 abbrev pub start_step : Result Step GridFault → ℕ → ℕ → Coming → Start
 start_step (Ok Blank) line run c = start_of line run c
 start_step (Ok FeedStep) line run c = start_of line run c
@@ -14,6 +15,7 @@ start_step (Ok WordStep) line run c = Begins line c
 start_step (Ok End) line run c = Ends line
 start_step (Err f) line run c = Stops f
 
+-- what a step says of the rest of a line
 abbrev pub gap_step : Result Step GridFault → ℕ → ℕ → Coming → Gap
 gap_step (Ok Blank) line run c = gap_of line run c
 gap_step (Ok FeedStep) line run c = Feed run c

@@ -10,12 +10,15 @@ use Rattle.cell_ascii.specs.declared.fault.GridFault.{GridFault}
 abbrev pub is_space : ℕ → Bool
 is_space b = (b == 32 || b == 9) || (b == 13 || b == 10)
 
+-- a byte that is neither a blank nor a line feed
 abbrev pub is_word : ℕ → Bool
 is_word b = not (is_space b)
 
+-- the number of line feeds
 abbrev pub newlines : List ℕ → ℕ
 newlines bs = count_by (λ b. b == 10) bs
 
+-- a fault at a line
 abbrev pub fault : GridKind → ℕ → GridFault
 fault kind line = record { kind = kind; line = line }
 

@@ -156,6 +156,7 @@ mutual
       ∙ last_step (steps_of a) rest (step 7 0) (Call If xs ∷ stack)
       ∙ run_steps a (step 7 0 ∷ rest) (Call If xs ∷ stack)
 
+-- the steps that build a term give that term
 pub from_steps : (a : Term) → topmost (run (steps_of a) []) ≡ a
 from_steps a = ap (λ l. topmost (run l [])) (sym (append-nil (steps_of a))) ∙ ap topmost (run_steps a [] [])
 

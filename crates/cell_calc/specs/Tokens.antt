@@ -54,6 +54,7 @@ single_signs =
 abbrev pub refused : List (List ℕ)
 refused = codes "&&&" ∷ codes "|||" ∷ []
 
+-- bytes that have one of these spellings
 abbrev pub is_refused : List ℕ → Bool
 is_refused bytes = list_any (λ s. bytes_eq s bytes) refused
 

@@ -15,6 +15,7 @@ abbrev mutual
   term_of (tree.Binary' op p a q b) = Binary op (term_of a) (term_of b)
   term_of (tree.Call f xs) = Call f (terms_of xs)
 
+  -- the arguments of a call
   pub terms_of : Arguments → Terms
   terms_of arguments.Empty = NoTerms
   terms_of (arguments.Then' p a q xs) = Then (term_of a) (terms_of xs)

@@ -10,6 +10,7 @@ pub record ShelfValue : Type 0 where
   pub names : List (List ℕ)
   pub maps : List Grid
 
+-- how a shelf is stored
 abbrev pub shelf_code : Coded ShelfValue
 shelf_code =
     code_by (RegionValue × (List (List ℕ) × List Grid)) (coded× region_code (coded× (coded_list (coded_list coded_ℕ)) (coded_list grid_code)))

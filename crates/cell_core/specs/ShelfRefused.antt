@@ -6,6 +6,7 @@ use Rattle.cell_core.specs.Name.{place_of}
 use Rattle.cell_core.specs.declared.shelf.ShelfFault.{ShelfFault}
 use Rattle.cell_core.specs.declared.shelf.ShelfFault.TheVariants.{Exists, OtherRegion, Memory}
 
+-- a name that stands already, else a map of another region, else want of memory
 abbrev pub IsRefused : ShelfValue → List ℕ → Grid → ShelfFault → Type 0
 IsRefused shelf name map Exists = IsSome (place_of name shelf.names)
 IsRefused shelf name map OtherRegion = (place_of name shelf.names ≡ None) × (map.region ≢ shelf.region)

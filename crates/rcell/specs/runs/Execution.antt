@@ -42,6 +42,7 @@ abbrev pub is_write : Stop → Bool
 is_write (Memory line) = false
 is_write Write = true
 
+-- whether an answer tells that the sink failed
 abbrev pub stops_write : {A : Type 0} → Result A Stopped → Bool
 stops_write (Ok x) = false
 stops_write (Err stopped) = is_write stopped.stop

@@ -13,6 +13,7 @@ grid_status grid_kinds.Read = 4
 grid_status grid_kinds.Memory = 3
 grid_status kind = 1
 
+-- 3 for want of memory, 1 for what a script has wrong
 abbrev pub script_status : ScriptKind → ℕ
 script_status script_kinds.Memory = 3
 script_status kind = 1

@@ -14,6 +14,7 @@ use Rattle.rcell.specs.declared.runs.outcome.RunFault.TheVariants as faults
 abbrev pub shelf_of_one : List ℕ → Grid → ShelfValue
 shelf_of_one name map = record { region = map.region; names = name ∷ []; maps = map ∷ [] }
 
+-- the shelf with one more map, as its last
 abbrev pub with_map : ShelfValue → List ℕ → Grid → ShelfValue
 with_map shelf name map = record { region = shelf.region; names = shelf.names ++ name ∷ []; maps = shelf.maps ++ map ∷ [] }
 
@@ -32,6 +33,7 @@ abbrev pub with_grid : ℕ → Option ShelfValue → List ℕ → Result Grid Gr
 with_grid grid shelf name (Ok map) = placed grid shelf name map
 with_grid grid shelf name (Err fault) = Err (faults.Grid grid fault)
 
+-- what the grids that are left give, unless there was a fault
 abbrev pub then_grids : (ShelfValue → Result (Option ShelfValue) RunFault) → Result ShelfValue RunFault → Result (Option ShelfValue) RunFault
 then_grids rest (Ok shelf) = rest shelf
 then_grids rest (Err fault) = Err fault

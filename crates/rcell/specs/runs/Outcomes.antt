@@ -18,10 +18,12 @@ use Rattle.rcell.specs.declared.runs.outcome.RunFault.TheVariants.{ScriptRead, S
 abbrev pub script_text : Coming → Result (List ℕ) RunFault
 script_text c = if nat_lt 1048576 (length c.bytes) then Err ScriptSize else (if c.fails then Err ScriptRead else Ok c.bytes)
 
+-- the output of a script's statements, or the fault of the script
 abbrev pub output_if : ShelfValue → Result (List Statement) ScriptFault → Result (List ℕ) RunFault
 output_if shelf (Ok statements) = Ok (output_of shelf statements)
 output_if shelf (Err fault) = Err (Script fault)
 
+-- the output of a script over a shelf, or the first fault of its bytes or lines
 abbrev pub output_on : ShelfValue → Result (List ℕ) RunFault → Result (List ℕ) RunFault
 output_on shelf (Ok text) = output_if shelf (script_of shelf.names text)
 output_on shelf (Err fault) = Err fault

@@ -18,10 +18,12 @@ stats_text shelf places = table_text (table_of (all_combinations shelf.maps plac
 abbrev pub out_ascii_text : ShelfValue → ℕ → List ℕ → List ℕ
 out_ascii_text shelf place null_text = option_map_or (grid_text null_text) (slice_get shelf.maps place) []
 
+-- the text that a command asks for
 abbrev pub command_text : ShelfValue → Command → List ℕ
 command_text shelf (Stats places) = stats_text shelf places
 command_text shelf (OutAscii place null_text) = out_ascii_text shelf place null_text
 
+-- the text that a statement asks for
 abbrev pub statement_text : ShelfValue → Statement → List ℕ
 statement_text shelf statement = command_text shelf statement.command
 

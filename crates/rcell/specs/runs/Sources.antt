@@ -15,6 +15,7 @@ nothing = record { bytes = []; fails = false }
 abbrev pub coming_of : {R : Type 0} → (R → Option Coming) → R → Coming
 coming_of coming source = unwrap_or (coming source) nothing
 
+-- names, each with what its source gives, where that is known
 abbrev pub known_of : {R : Type 0} → (R → Option Coming) → List (List ℕ × R) → List Named
 known_of coming grids = map (λ g. (g.0, coming_of coming g.1)) grids
 

@@ -11,6 +11,7 @@ script_lines text = map without_terminator (lines_of text)
 abbrev pub is_blank : ℕ → Bool
 is_blank b = (b == 32 || b == 9) || b == 13
 
+-- a word has one byte or more
 abbrev pub is_word : List ℕ → Bool
 is_word [] = false
 is_word (b ∷ bs) = true

@@ -9,6 +9,7 @@ abbrev pub and_then : {A B : Type 0} → (A → Result B ScriptKind) → Result 
 and_then next (Ok x) = next x
 and_then next (Err kind) = Err kind
 
+-- an equals sign
 abbrev pub is_equals : ℕ → Bool
 is_equals b = b == 61
 

@@ -14,6 +14,7 @@ pub record OutAsciiOptions : Type 0 where
   pub input : Option (List ℕ)
   pub null_text : Option (List ℕ)
 
+-- no option was given
 abbrev pub no_options : OutAsciiOptions
 no_options = record { input = None; null_text = None }
 
@@ -29,6 +30,7 @@ with_input options value = given_once options.input (and_then (λ name. Ok (reco
 abbrev pub with_null_value : OutAsciiOptions → List ℕ → Result OutAsciiOptions ScriptKind
 with_null_value options value = given_once options.null_text (and_then (λ text. Ok (record { input = options.input; null_text = Some text })) (null_text_of value))
 
+-- with the value of a key, `input` or `null_value`
 abbrev pub with_pair : OutAsciiOptions → List ℕ → List ℕ → Result OutAsciiOptions ScriptKind
 with_pair options key value =
     if bytes_eq key (codes "input") then with_input options value

@@ -15,6 +15,7 @@ pub record StatsOptions : Type 0 where
   pub counts : Bool
   pub inputs : Option (List (List ℕ))
 
+-- no option was given
 abbrev pub no_options : StatsOptions
 no_options = record { counts = false; inputs = None }
 
@@ -22,6 +23,7 @@ no_options = record { counts = false; inputs = None }
 abbrev pub are_flags : List ℕ → Bool
 are_flags letters = not (length letters == 0) && list_all (λ letter. letter == 99) letters
 
+-- with flags, which ask for counts
 abbrev pub with_flags : StatsOptions → List ℕ → Result StatsOptions ScriptKind
 with_flags options letters = if are_flags letters then Ok (record { counts = true; inputs = options.inputs }) else Err BadOption
 
@@ -37,6 +39,7 @@ inputs_of texts = if nat_lt 16 (length texts) then Err BadOption else names_from
 abbrev pub with_input : StatsOptions → List ℕ → Result StatsOptions ScriptKind
 with_input options value = given_once options.inputs (and_then (λ names. Ok (record { counts = options.counts; inputs = Some names })) (inputs_of (parts_of value)))
 
+-- with the value of a key, which is `input`
 abbrev pub with_pair : StatsOptions → List ℕ → List ℕ → Result StatsOptions ScriptKind
 with_pair options key value = if bytes_eq key (codes "input") then with_input options value else Err BadOption
 
@@ -54,6 +57,7 @@ abbrev pub places_of : List (List ℕ) → List (List ℕ) → Option (List ℕ)
 places_of known [] = Some []
 places_of known (name ∷ names) = option_and_then (λ place. option_map (λ places. place ∷ places) (places_of known names)) (place_of name known)
 
+-- the table of the maps at these places, where all maps are known
 abbrev pub stats_at : Option (List ℕ) → Result Command ScriptKind
 stats_at None = Err UnknownMap
 stats_at (Some places) = Ok (Stats places)

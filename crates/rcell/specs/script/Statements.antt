@@ -16,10 +16,12 @@ command_named known name words =
     if bytes_eq name (codes "r.stats") then stats_of known words
     else (if bytes_eq name (codes "r.out.ascii") then out_ascii_of known words else Err UnknownCommand)
 
+-- the command of a line that has one, or its fault
 abbrev pub as_command : Result Command ScriptKind → Result (Option Command) ScriptKind
 as_command (Ok command) = Ok (Some command)
 as_command (Err kind) = Err kind
 
+-- a word that begins a note: its first byte is `#`
 abbrev pub is_note : List ℕ → Bool
 is_note [] = false
 is_note (b ∷ bs) = b == 35
@@ -33,6 +35,7 @@ command_of known (w ∷ ws) = if is_note w then Ok None else as_command (command
 abbrev pub line_command : List (List ℕ) → List ℕ → Result (Option Command) ScriptKind
 line_command known line = if nat_lt 65535 (length line) then Err LongLine else command_of known (words_of line)
 
+-- the statement of a line, if it has one, before those of the lines behind it; the fault of the first line counts
 abbrev pub with_statement : ℕ → Result (Option Command) ScriptKind → Result (List Statement) ScriptFault → Result (List Statement) ScriptFault
 with_statement line (Err kind) rest = Err (record { kind = kind; line = line })
 with_statement line (Ok None) rest = rest
