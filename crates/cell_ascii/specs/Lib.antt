@@ -1,3 +1,4 @@
+-- Grid texts: what they mean, which fault they tell, how they are read and written.
 pub mod Words
 pub mod Writing
 pub mod Numbers

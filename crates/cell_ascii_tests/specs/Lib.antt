@@ -1,1 +1,2 @@
+-- What the slow program of a grid text holds.
 pub mod Seen

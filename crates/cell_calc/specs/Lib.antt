@@ -1,3 +1,4 @@
+-- The language of r.mapcalc: tokens, expressions, the grammar and its faults.
 pub mod Assignment
 pub mod Code
 pub mod Function

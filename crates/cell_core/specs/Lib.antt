@@ -1,3 +1,4 @@
+-- Cells, regions, names, maps, the shelf, sources and sinks.
 pub mod Blocks
 pub mod Cell
 pub mod Device

@@ -1,3 +1,4 @@
+-- Tables, areas, scripts, runs and fault lines.
 pub mod Reports
 pub mod clumps
 pub mod output

@@ -1,3 +1,4 @@
+-- A run: the shelf of its grids, its output and its faults.
 pub mod Faults
 pub mod Sources
 pub mod Loading

@@ -1,3 +1,4 @@
+-- Scripts: their lines, their options and their statements.
 pub mod Lines
 pub mod NullText
 pub mod Options

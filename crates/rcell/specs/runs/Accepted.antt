@@ -1,4 +1,4 @@
--- An accepted script over grids of one region.
+-- An accepted script over grids of one region (r.in.ascii manual, r.stats manual, r.out.ascii manual; names, the one region and the form of a script are the profile's).
 use Rattle.std.specs.Prelude.{◌≡◌, ◌<◌, ◌≤◌, ⊤, false, List, [], ◌∷◌, length, map, All, Ok}
 use Rattle.cell_core.specs.Device.{Coming}
 use Rattle.cell_core.specs.Grid.{Grid}

@@ -1,4 +1,4 @@
--- The shelf that grids give, in their order, or the first fault.
+-- The shelf that grids give, in their order, or the first fault (profile).
 use Rattle.std.specs.Prelude.{ℕ, ◌+◌, List, [], ◌∷◌, ◌++◌, Option, Some, None, Result, Ok, Err, if◌then◌else◌}
 use Rattle.cell_core.specs.Grid.{Grid}
 use Rattle.cell_core.specs.Name.{place_of}

@@ -1,4 +1,4 @@
--- What named sources still give, where that is known.
+-- What named sources still give, where that is known (profile).
 use Rattle.std.specs.Prelude.{ℕ, false, List, [], ◌∷◌, map, Option, IsSome}
 use Rattle.std.specs.Option.{unwrap_or}
 use Rattle.cell_core.specs.Device.{Coming}

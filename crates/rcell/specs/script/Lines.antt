@@ -1,4 +1,4 @@
--- The lines of a script, and the words of a line.
+-- The lines of a script and the words of a line (profile), and the parts of a value between commas (r.stats manual).
 use Rattle.std.specs.Prelude.{ℕ, Bool, true, false, ◌||◌, ◌==◌, List, [], ◌∷◌, map}
 use Rattle.std.specs.List.{slice_split, filter}
 use Rattle.bstr.specs.Text.{lines_of, without_terminator}

@@ -1,4 +1,4 @@
--- Which texts are scripts, and of which statements.
+-- Which texts are scripts, and of which statements (profile; the commands are those of the r.stats manual and the r.out.ascii manual).
 use Rattle.std.specs.Prelude.{ℕ, ◌+◌, ◌<◌, ◌==◌, Bool, false, nat_lt, List, [], ◌∷◌, All, length, Option, Some, None, Result, Ok, Err, if◌then◌else◌, bytes_eq, codes}
 use Rattle.rcell.specs.script.Lines.{script_lines, words_of}
 use Rattle.rcell.specs.script.RStats.{stats_of}

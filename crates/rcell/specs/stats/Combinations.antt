@@ -1,4 +1,4 @@
--- The combinations of the cells of several maps, their order, and how many cells have one.
+-- The combinations of the cells of several maps, their order, and how many cells have one (r.stats manual; null last is the profile's).
 use Rattle.std.specs.Prelude.{ℕ, List, map, None, count_by, flat_map, slice_get}
 use Rattle.std.specs.Option.{option_map_or}
 use Rattle.std.specs.Ordering.{eq_by_cmp}
