@@ -10,7 +10,8 @@ use Rattle.std.specs.List.Sorted.{IsStrictlySortedBy}
 use Rattle.std.specs.Cmp.{tied_itself}
 use Rattle.std.specs.FinMap as finmap
 use Rattle.std.specs.FinMap.Entries.{find, is_sorted, below_all, is_sorted-put, find-put, same_entries}
-use Rattle.rcell.specs.stats.Combinations.{Combination, combination_cmp, count_of}
+use Rattle.rcell.specs.stats.Combinations.{Combination, combination_cmp}
+use Rattle.rcell.specs.stats.Counts.{count_of}
 use Rattle.rcell.specs.stats.Places.{IsAt, IsGap, count_more}
 use Rattle.rcell.specs.stats.Tables.{Pairs, IsTable, table_of}
 use Rattle.rcell.proofs.stats.OrderLemmas.{combination_cmp-total, combination_cmp-exact, is_equal}

@@ -1,7 +1,6 @@
--- The combinations of the cells of several maps, their order, and how many cells have one (r.stats manual; null last is the profile's).
-use Rattle.std.specs.Prelude.{ℕ, List, map, None, count_by, flat_map, slice_get}
+-- The combinations of the cells of several maps, and their order (r.stats manual; null last is the profile's).
+use Rattle.std.specs.Prelude.{ℕ, List, map, None, flat_map, slice_get}
 use Rattle.std.specs.Option.{option_map_or}
-use Rattle.std.specs.Ordering.{eq_by_cmp}
 use Rattle.std.specs.declared.cmp.Ordering.{Ordering}
 use Rattle.std.specs.Cmp.Lexicographic.{slice_cmp}
 use Rattle.std.specs.List.{range_with_len}
@@ -31,7 +30,3 @@ row_combinations maps picks cols row = map (combination_at maps picks row) (rang
 -- the combinations of all cells, row by row from the top left
 abbrev pub all_combinations : List Grid → List ℕ → ℕ → ℕ → List Combination
 all_combinations maps picks rows cols = flat_map (row_combinations maps picks cols) (range_with_len 0 rows)
-
--- how many cells have the combination
-abbrev pub count_of : Combination → List Combination → ℕ
-count_of k cells = count_by (eq_by_cmp combination_cmp k) cells

@@ -3,7 +3,8 @@ use Rattle.std.specs.Prelude.{ℕ, ◌≡◌, ◌<◌, ◌↔◌, List, map}
 use Rattle.std.specs.FinMap as finmap
 use Rattle.std.specs.List.{Contains}
 use Rattle.std.specs.List.Sorted.{IsStrictlySortedBy}
-use Rattle.rcell.specs.stats.Combinations.{Combination, combination_cmp, count_of}
+use Rattle.rcell.specs.stats.Combinations.{Combination, combination_cmp}
+use Rattle.rcell.specs.stats.Counts.{count_of}
 
 -- combinations with their counts
 abbrev pub Pairs : Type 0
