@@ -6,34 +6,49 @@ use thiserror::Error;
 /// What is wrong with a grid text.
 #[derive(Clone, Copy, Debug, PartialEq, Eq, Error)]
 pub enum GridKind {
+    /// An unknown key, no value, or more than one, or a null text with a colon.
     #[error("bad header line")]
     BadHeader,
+    /// A key that stood before.
     #[error("key given twice")]
     TwiceKey,
+    /// The header ends without one of the six keys that must stand.
     #[error("missing key")]
     MissingKey,
+    /// A value that is no number of its kind.
     #[error("bad number")]
     BadNumber,
+    /// A type other than `int`.
     #[error("type not supported")]
     BadType,
+    /// The six numbers are no region.
     #[error("bad region")]
     Region(RegionFault),
+    /// A word that is neither null nor a whole number.
     #[error("bad cell")]
     BadCell,
+    /// A number, or its product with the multiplier, that is no category.
     #[error("cell out of range")]
     CellRange,
+    /// The text ends before the last cell.
     #[error("too few cells")]
     TooFew,
+    /// A word after the last cell.
     #[error("too many cells")]
     TooMany,
+    /// The text cannot be read on.
     #[error("read failed")]
     Read,
+    /// A growth was refused.
     #[error("no memory")]
     Memory,
+    /// An earlier call of the reader was refused.
     #[error("reader failed")]
     Failed,
+    /// More than 1,048,576 blanks and line feeds in a row.
     #[error("too many blanks")]
     ReaderStuck,
+    /// A word of more than 64 bytes.
     #[error("token too long")]
     LongToken,
 }

@@ -129,6 +129,11 @@ fn put_statement<W: Sink>(
 }
 
 /// Executes statements in order. Answers the number of bytes that the sink took.
+///
+/// # Errors
+///
+/// [`Stop::Memory`] with the line of the first statement whose memory was refused, which has put out nothing, or
+/// [`Stop::Write`] where the sink failed; either with the number of bytes that the sink took.
 pub fn execute<W: Sink>(
     alloc: Global,
     shelf: &Shelf,

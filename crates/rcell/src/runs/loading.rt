@@ -79,6 +79,12 @@ fn with_grid<R: Source + Drop>(
 }
 
 /// Reads the grids, each whole and in order, and puts them on a shelf.
+///
+/// # Errors
+///
+/// That of the first grid that has one: [`RunFault::Grid`] where its text is refused, then [`RunFault::GridTwice`] where
+/// its name stands already, then [`RunFault::GridRegion`] where its region is not the first grid's. Where memory was
+/// refused, [`RunFault::Grid`] of kind `Memory`, or [`RunFault::Memory`], both with line 0.
 pub fn load<R: Source + Drop>(alloc: Global, mut grids: Vec<(Name, R)>) -> Result<Shelf, RunFault>
     requires { 0 < vec_len grids }
     ensures ok { AllKnown R.coming grids.items → IfOk result (λ s. shelf_of (known_of R.coming grids.items) ≡ Ok (Some s)) }
@@ -103,6 +109,10 @@ pub fn load<R: Source + Drop>(alloc: Global, mut grids: Vec<(Name, R)>) -> Resul
 }
 
 /// The names of the maps on a shelf, in order.
+///
+/// # Errors
+///
+/// [`Memory`] where memory was refused.
 pub fn names_of(alloc: Global, shelf: &Shelf) -> Result<Names, Memory>
     ensures names { IfOk result (λ names. names ≡ shelf.now.names) }
     ensures count { IfOk result (λ names. length names ≡ length shelf.now.maps) }

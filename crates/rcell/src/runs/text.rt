@@ -12,6 +12,11 @@ use std::alloc::Global;
 const MOST_BYTES: usize = 1048576;
 
 /// Reads a script whole, up to one byte more than its limit.
+///
+/// # Errors
+///
+/// [`RunFault::ScriptSize`] where it has over 1,048,576 bytes, [`RunFault::ScriptRead`] where its reader fails before,
+/// or [`RunFault::Memory`] with line 0 where memory was refused.
 pub fn read_script<R: Source + Drop>(alloc: Global, mut source: R) -> Result<Vec<u8>, RunFault>
     ensures ok { IfOk result (λ text. IfSome (R.coming source) (λ c. script_text c ≡ Ok text.items)) }
     ensures fault { IfErr result (λ f. IsOfInput f → IfSome (R.coming source) (λ c. script_text c ≡ Err f)) }

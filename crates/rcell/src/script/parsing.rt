@@ -77,6 +77,11 @@ fn is_note(word: &[u8]) -> bool
 }
 
 /// The statements of a script over maps of these names.
+///
+/// # Errors
+///
+/// The fault of the first line that has one, with its number from 1, or [`ScriptKind::Memory`] with line 0 where memory
+/// was refused.
 pub fn parse_script(alloc: Global, text: &[u8], known: &Names) -> Result<Script, ScriptFault>
     ensures ok { IfOk result (λ script. script_of known.now text.now ≡ Ok script) }
     ensures within { IfOk result (λ script. All (λ s. ReadsWithin (length known.now) s.command) script) }

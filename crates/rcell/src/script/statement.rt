@@ -79,6 +79,10 @@ impl Script {
     }
 
     /// Adds a statement at the end.
+    ///
+    /// # Errors
+    ///
+    /// [`Memory`] where memory was refused: the script is unchanged.
     pub fn push(&mut self, statement: Statement) -> Result<(), Memory>
         ensures ok { OnOk result (self.new ≡ self.old ++ statement ∷ []) }
         ensures err { OnErr result (self.new ≡ self.old) }

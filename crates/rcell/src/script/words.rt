@@ -24,6 +24,10 @@ fn pieces_of<'a>(alloc: Global, line: &'a [u8]) -> Result<Vec<&'a [u8]>, AllocEr
 }
 
 /// The longest runs of bytes that are no blanks.
+///
+/// # Errors
+///
+/// [`Memory`] where memory was refused.
 pub fn words_of<'a>(alloc: Global, line: &'a [u8]) -> Result<Vec<&'a [u8]>, Memory>
     ensures { IfOk result (λ words. map (λ w. w.now) words.items ≡ words_of line.now) }
 {
@@ -50,6 +54,10 @@ pub fn pair_of<'a>(word: &'a [u8]) -> Option<(&'a [u8], &'a [u8])>
 }
 
 /// The parts between commas.
+///
+/// # Errors
+///
+/// [`AllocError`] where memory was refused.
 pub fn parts_of<'a>(alloc: Global, value: &'a [u8]) -> Result<Vec<&'a [u8]>, AllocError>
     ensures { IfOk result (λ parts. map (λ w. w.now) parts.items ≡ parts_of value.now) }
 {
@@ -57,6 +65,10 @@ pub fn parts_of<'a>(alloc: Global, value: &'a [u8]) -> Result<Vec<&'a [u8]>, All
 }
 
 /// The lines of a script.
+///
+/// # Errors
+///
+/// [`AllocError`] where memory was refused.
 pub fn lines_of<'a>(alloc: Global, text: &'a [u8]) -> Result<Vec<&'a [u8]>, AllocError>
     ensures { IfOk result (λ lines. map (λ line. line.now) lines.items ≡ script_lines text.now) }
 {
