@@ -1,9 +1,9 @@
 //! The definitions of a grid text as a program: slow, over a whole text in memory, with whole lists of lines and words.
 
-pub mod cells;
-pub mod fault;
-pub mod header;
-pub mod keys;
-pub mod place;
-pub mod table;
-pub mod words;
+pub(crate) mod cells;
+pub(crate) mod fault;
+pub(crate) mod header;
+pub(crate) mod keys;
+pub(crate) mod place;
+pub(crate) mod table;
+pub(crate) mod words;

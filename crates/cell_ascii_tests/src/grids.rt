@@ -2,8 +2,10 @@
 
 use cell_ascii::fault::{GridFault, GridKind};
 use cell_ascii::reader::read_map;
+use cell_ascii::writer::write_map;
 use cell_core::map::CellMap;
 use cell_core::region::RegionFault;
+use cell_core::sink::MemorySink;
 use cell_core::source::MemorySource;
 use std::alloc::AllocGlobal;
 use std::process::Abort;
@@ -150,5 +152,25 @@ fn limits_words_and_blanks(rt: HostRuntime) -> Result<(), Fail> {
     let second = followed_by(&rt, b"north: 3 ", b'1', 65)?;
     expect_fault(&rt, second.as_slice(), GridKind::BadHeader, 1)?;
     let long = followed_by(&rt, b"north: ", b'1', 65)?;
-    expect_fault(&rt, long.as_slice(), GridKind::LongToken, 1)
+    expect_fault(&rt, long.as_slice(), GridKind::LongToken, 1)?;
+    let header = b"north: 1\nsouth: 0\neast: 1\nwest: 0\nrows: 1\ncols: 1\n";
+    let cell = followed_by(&rt, header, b'1', 65)?;
+    expect_fault(&rt, cell.as_slice(), GridKind::LongToken, 7)
+}
+
+#[test]
+fn reads_what_it_writes(rt: HostRuntime) -> Result<(), Fail> {
+    let row = b"north: 10.50\nsouth: -.25\neast: 4.\nwest: +0\nrows: 1\ncols: 2\n7 *";
+    let map = read(&rt, row)?.map_err(|_| "a fault")?;
+    let mut sink = MemorySink::new(vec![in rt.alloc(); 0u8; 100]?, 3, false);
+    let length = write_map(&map, b"-9", &mut sink).map_err(|_| "no room")?;
+    assert_eq!(rt; length, 71);
+    let again = read(&rt, sink.bytes())?.map_err(|_| "a fault")?;
+    assert_eq!(rt; again.region(), map.region());
+    let region = again.region();
+    assert_eq!(rt; region.rows(), 1);
+    assert_eq!(rt; region.cols(), 2);
+    assert_eq!(rt; again.cell(0, 0).get(), Some(7));
+    assert_eq!(rt; again.cell(0, 1).get(), None);
+    Ok(())
 }

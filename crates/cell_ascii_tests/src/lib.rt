@@ -1,7 +1,7 @@
 //! What the definitions of a grid text say, as a plain program, and tests of the reader against it.
 #![tactic(auto)]
 
-pub mod definition;
+mod definition;
 #[cfg(test)]
 mod edits;
 #[cfg(test)]

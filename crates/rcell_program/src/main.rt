@@ -3,6 +3,8 @@
 
 mod opening;
 mod refusal;
+#[cfg(test)]
+mod tests;
 mod words;
 
 use crate::opening::open;

@@ -15,6 +15,18 @@ const HEADER: &[u8] = b"north: 3\nsouth: 0\neast: 4\nwest: 0\nrows: 3\ncols: 4\n
 const GRID: &[u8] =
     b"north: 3\nsouth: 0\neast: 4\nwest: 0\nrows: 3\ncols: 4\n1 1 2 *\n1 2 2 2\n3 3 1 1\n";
 
+const ELEVEN_CELLS: &[u8] =
+    b"north: 3\nsouth: 0\neast: 4\nwest: 0\nrows: 3\ncols: 4\n1 1 2 *\n1 2 2 2\n3 3 1\n";
+
+const THIRTEEN_CELLS: &[u8] =
+    b"north: 3\nsouth: 0\neast: 4\nwest: 0\nrows: 3\ncols: 4\n1 1 2 *\n1 2 2 2\n3 3 1 1 5\n";
+
+const TWO_VALUES: &[u8] = b"north: 3 4\n";
+
+// The second value has 65 digits.
+const LONG_SECOND_VALUE: &[u8] =
+    b"north: 3 11111111111111111111111111111111111111111111111111111111111111111\n";
+
 const FOUR_CELLS: &[u8] = b"north: 2\nsouth: 0\neast: 2\nwest: 0\nrows: 2\ncols: 2\n1 *\n1 -7\n";
 
 const TABLE: &[u8] = b"1 5\n2 4\n3 2\n* 1\n";
@@ -146,34 +158,32 @@ fn puts_out_grids(rt: HostRuntime) -> Result<(), Fail> {
 }
 
 #[test]
-fn refuses_before_it_writes(rt: HostRuntime) -> Result<(), Fail> {
+fn refuses_grids_before_it_writes(rt: HostRuntime) -> Result<(), Fail> {
     let script = b"r.stats -c input=g\n";
     let narrow = b"north: 3\nsouth: 0\neast: 4\nwest: 0\nrows: 3\ncols: 3\n1 1 2 1 2 2 3 3 1";
-    expect_refused(
-        &rt,
-        &[(b"g", GRID), (b"h", narrow)],
-        script,
-        1,
-        RunFault::GridRegion { grid: 1 },
-    )?;
-    expect_refused(
-        &rt,
-        &[(b"g", GRID), (b"g", GRID)],
-        script,
-        1,
-        RunFault::GridTwice { grid: 1 },
-    )?;
-    let fault = GridFault {
-        kind: GridKind::TooFew,
-        line: 7,
-    };
-    expect_refused(
-        &rt,
-        &[(b"g", HEADER)],
-        script,
-        1,
-        RunFault::Grid { grid: 0, fault },
-    )?;
+    let fault = RunFault::GridRegion { grid: 1 };
+    expect_refused(&rt, &[(b"g", GRID), (b"h", narrow)], script, 1, fault)?;
+    let fault = RunFault::GridTwice { grid: 1 };
+    expect_refused(&rt, &[(b"g", GRID), (b"g", GRID)], script, 1, fault)?;
+    let texts = [
+        (HEADER, GridKind::TooFew, 7),
+        (ELEVEN_CELLS, GridKind::TooFew, 10),
+        (THIRTEEN_CELLS, GridKind::TooMany, 9),
+        (TWO_VALUES, GridKind::BadHeader, 1),
+        (LONG_SECOND_VALUE, GridKind::BadHeader, 1),
+    ];
+    for (text, kind, line) in texts {
+        let fault = RunFault::Grid {
+            grid: 0,
+            fault: GridFault { kind, line },
+        };
+        expect_refused(&rt, &[(b"g", text)], script, 1, fault)?;
+    }
+    Ok(())
+}
+
+#[test]
+fn refuses_scripts_before_it_writes(rt: HostRuntime) -> Result<(), Fail> {
     let lines = [
         (b"r.stats input=g".as_slice(), ScriptKind::BadOption, 1),
         (b"r.stats -c\n", ScriptKind::MissingOption, 1),

@@ -14,7 +14,10 @@ use cell_core::memory::Memory;
 use std::alloc::Global;
 
 /// The header of a text, or why it is none.
-pub fn header<'a>(alloc: Global, text: &'a [u8]) -> Result<Result<Header<'a>, GridKind>, Memory>
+pub(crate) fn header<'a>(
+    alloc: Global,
+    text: &'a [u8],
+) -> Result<Result<Header<'a>, GridKind>, Memory>
     ensures { IfOk result (λ header. header ≡ header_in (line_words text.now)) }
 {
     let lines = lines_of(alloc, text)?;
@@ -22,7 +25,7 @@ pub fn header<'a>(alloc: Global, text: &'a [u8]) -> Result<Result<Header<'a>, Gr
 }
 
 /// What each word of the data of a text denotes under a header: a cell, or why it is none.
-pub fn cells(
+pub(crate) fn cells(
     alloc: Global,
     header: &Header<'_>,
     text: &[u8],

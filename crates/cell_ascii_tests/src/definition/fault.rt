@@ -21,7 +21,7 @@ fn earlier_lines<'b, 'a>(lines: &'b [&'a [u8]]) -> &'b [&'a [u8]]
 }
 
 /// What a place tells, after the bytes before it.
-pub fn told(alloc: Global, before: &[u8], place: Place) -> Result<Option<GridFault>, Memory>
+pub(crate) fn told(alloc: Global, before: &[u8], place: Place) -> Result<Option<GridFault>, Memory>
     ensures { IfOk result (λ fault. fault ≡ told whole_table before.now (place_seen place)) }
 {
     let lines = lines_of(alloc, before)?;
@@ -43,7 +43,11 @@ pub fn told(alloc: Global, before: &[u8], place: Place) -> Result<Option<GridFau
 }
 
 /// The first fault that a text tells, where the source ends behind it or fails there; None where no place tells one.
-pub fn text_fault(alloc: Global, text: &[u8], fails: bool) -> Result<Option<GridFault>, Memory>
+pub(crate) fn text_fault(
+    alloc: Global,
+    text: &[u8],
+    fails: bool,
+) -> Result<Option<GridFault>, Memory>
     ensures { IfOk result (λ fault. fault ≡ text_fault (record { bytes = text.now; fails = fails })) }
 {
     for i in 0..text.len() {

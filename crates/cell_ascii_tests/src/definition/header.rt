@@ -41,7 +41,7 @@ fn after_colon<'a>(word: &'a [u8]) -> &'a [u8]
 }
 
 /// Whether the first word of a line has no colon.
-pub fn is_data_line(words: &[&[u8]]) -> bool
+pub(crate) fn is_data_line(words: &[&[u8]]) -> bool
     ensures { result ≡ is_data_line (texts words.now) }
 {
     match words {
@@ -51,7 +51,7 @@ pub fn is_data_line(words: &[&[u8]]) -> bool
 }
 
 /// Whether the first word of a line has one.
-pub fn is_header_line(words: &[&[u8]]) -> bool
+pub(crate) fn is_header_line(words: &[&[u8]]) -> bool
     ensures { result ≡ is_header_line (texts words.now) }
 {
     match words {
@@ -87,7 +87,7 @@ fn with_colon<'a>(alloc: Global, lines: &[&'a [u8]]) -> Result<Vec<&'a [u8]>, Me
 }
 
 /// The header lines before the data.
-pub fn header_lines<'a>(alloc: Global, lines: &[&'a [u8]]) -> Result<Vec<&'a [u8]>, Memory>
+pub(crate) fn header_lines<'a>(alloc: Global, lines: &[&'a [u8]]) -> Result<Vec<&'a [u8]>, Memory>
     ensures { IfOk result (λ kept. words_of_each kept.items ≡ header_lines (words_of_each lines.now)) }
 {
     let count = lines_before_data(alloc, lines)?;
@@ -106,7 +106,7 @@ fn all_words<'a>(alloc: Global, lines: &[&'a [u8]]) -> Result<Vec<&'a [u8]>, Mem
 }
 
 /// The words of the data.
-pub fn data_words<'a>(alloc: Global, lines: &[&'a [u8]]) -> Result<Vec<&'a [u8]>, Memory>
+pub(crate) fn data_words<'a>(alloc: Global, lines: &[&'a [u8]]) -> Result<Vec<&'a [u8]>, Memory>
     ensures { IfOk result (λ words. texts words.items ≡ data_words (words_of_each lines.now)) }
 {
     let count = lines_before_data(alloc, lines)?;
@@ -114,7 +114,7 @@ pub fn data_words<'a>(alloc: Global, lines: &[&'a [u8]]) -> Result<Vec<&'a [u8]>
 }
 
 /// What stands before the first colon of a header line.
-pub fn key_text<'a>(words: &[&'a [u8]]) -> &'a [u8]
+pub(crate) fn key_text<'a>(words: &[&'a [u8]]) -> &'a [u8]
     ensures { result.now ≡ key_text (texts words.now) }
 {
     match words {
@@ -124,7 +124,7 @@ pub fn key_text<'a>(words: &[&'a [u8]]) -> &'a [u8]
 }
 
 /// The words that stand behind it.
-pub fn values<'a>(alloc: Global, words: &[&'a [u8]]) -> Result<Vec<&'a [u8]>, Memory>
+pub(crate) fn values<'a>(alloc: Global, words: &[&'a [u8]]) -> Result<Vec<&'a [u8]>, Memory>
     ensures { IfOk result (λ found. texts found.items ≡ values (texts words.now)) }
 {
     let mut pieces = Vec::new(alloc);
@@ -139,7 +139,7 @@ pub fn values<'a>(alloc: Global, words: &[&'a [u8]]) -> Result<Vec<&'a [u8]>, Me
 }
 
 /// The first value of the header line with this key.
-pub fn value_of<'a>(
+pub(crate) fn value_of<'a>(
     alloc: Global,
     key: &[u8],
     lines: &[&'a [u8]],
@@ -156,14 +156,14 @@ pub fn value_of<'a>(
 }
 
 /// A null text is any word without a colon.
-pub fn null_text<'a>(value: &'a [u8]) -> Option<&'a [u8]>
+pub(crate) fn null_text<'a>(value: &'a [u8]) -> Option<&'a [u8]>
     ensures { option_copied result ≡ null_text value.now }
 {
     if has_colon(value) { None } else { Some(value) }
 }
 
 /// The only type is that of whole numbers.
-pub fn int_type(value: &[u8]) -> Option<()>
+pub(crate) fn int_type(value: &[u8]) -> Option<()>
     ensures { result ≡ int_type value.now }
 {
     if value == b"int".as_slice() {

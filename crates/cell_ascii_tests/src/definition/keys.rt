@@ -22,7 +22,7 @@ use std::marker::Model;
 
 /// What header lines give their keys.
 #[derive(Drop)]
-pub struct Keys<'a> {
+pub(crate) struct Keys<'a> {
     north: Option<i64>,
     south: Option<i64>,
     east: Option<i64>,
@@ -45,7 +45,7 @@ impl<'a> Model for Keys<'a> {
 
 /// What a header says of the cells.
 #[derive(Drop)]
-pub struct Header<'a> {
+pub(crate) struct Header<'a> {
     region: Region,
     null_text: &'a [u8],
     multiplier: i32,
@@ -105,7 +105,7 @@ fn has_type(alloc: Global, lines: &[&[u8]]) -> Result<bool, Memory>
 }
 
 /// What header lines give their keys.
-pub fn keys_of<'a>(alloc: Global, lines: &[&'a [u8]]) -> Result<Keys<'a>, Memory>
+pub(crate) fn keys_of<'a>(alloc: Global, lines: &[&'a [u8]]) -> Result<Keys<'a>, Memory>
     ensures { IfOk result (λ keys. keys ≡ keys_of (words_of_each lines.now)) }
 {
     Ok(Keys {
@@ -140,7 +140,7 @@ fn judged<'a>(
 }
 
 /// The header that the keys give.
-pub fn header_of<'a>(keys: &Keys<'a>) -> Result<Header<'a>, GridKind>
+pub(crate) fn header_of<'a>(keys: &Keys<'a>) -> Result<Header<'a>, GridKind>
     ensures { result ≡ header_of keys.now }
 {
     let (Some(north), Some(south), Some(east), Some(west), Some(rows), Some(cols)) = (
@@ -153,7 +153,7 @@ pub fn header_of<'a>(keys: &Keys<'a>) -> Result<Header<'a>, GridKind>
 }
 
 /// The header of lines, or why it is none.
-pub fn header_in<'a>(
+pub(crate) fn header_in<'a>(
     alloc: Global,
     lines: &[&'a [u8]],
 ) -> Result<Result<Header<'a>, GridKind>, Memory>
@@ -188,14 +188,14 @@ fn cell_of_number(multiplier: i32, number: i64) -> Result<Cell, GridKind>
 
 impl<'a> Header<'a> {
     /// How many cells the region has.
-    pub fn cells(&self) -> u64
+    pub(crate) fn cells(&self) -> u64
         ensures { result ≡ self.now.region.rows * self.now.region.cols }
     {
         self.region.rows() as u64 * self.region.cols() as u64
     }
 
     /// The region that the map covers.
-    pub fn region(&self) -> Region
+    pub(crate) fn region(&self) -> Region
         ensures { result ≡ self.now.region }
     {
         self.region
@@ -209,7 +209,7 @@ impl<'a> Header<'a> {
     }
 
     /// The cell that a word denotes.
-    pub fn cell_of_word(&self, word: &[u8]) -> Result<Cell, GridKind>
+    pub(crate) fn cell_of_word(&self, word: &[u8]) -> Result<Cell, GridKind>
         ensures { result ≡ cell_of_word self.now word.now }
     {
         if self.is_null(word) {

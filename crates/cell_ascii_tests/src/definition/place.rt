@@ -8,14 +8,14 @@ use crate::definition::words;
 
 /// A byte, the end of a text, or a failing read.
 #[derive(Clone, Copy)]
-pub enum Place {
+pub(crate) enum Place {
     Byte(u8),
     End,
     Fails,
 }
 
 /// A blank or line feed, or the end.
-pub fn ends_token(place: Place) -> bool
+pub(crate) fn ends_token(place: Place) -> bool
     ensures { result ≡ ends_token (place_seen place) }
 {
     match place {
@@ -26,7 +26,7 @@ pub fn ends_token(place: Place) -> bool
 }
 
 /// A line feed, or the end.
-pub fn ends_line(place: Place) -> bool
+pub(crate) fn ends_line(place: Place) -> bool
     ensures { result ≡ ends_line (place_seen place) }
 {
     match place {
@@ -37,7 +37,7 @@ pub fn ends_line(place: Place) -> bool
 }
 
 /// The end of a text.
-pub fn is_end(place: Place) -> bool
+pub(crate) fn is_end(place: Place) -> bool
     ensures { result ≡ is_end (place_seen place) }
 {
     match place {

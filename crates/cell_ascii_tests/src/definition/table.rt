@@ -53,7 +53,7 @@ fn no_words(words: &[&[u8]]) -> bool
 }
 
 /// The 65th byte of a token.
-pub fn long_token(token: &[u8], place: Place) -> Option<GridKind>
+pub(crate) fn long_token(token: &[u8], place: Place) -> Option<GridKind>
     ensures { result ≡ long_token token.now (place_seen place) }
 {
     match place {
@@ -64,7 +64,7 @@ pub fn long_token(token: &[u8], place: Place) -> Option<GridKind>
 }
 
 /// Blank or line feed number 1048577 in a row.
-pub fn stuck(gap: usize, place: Place) -> Option<GridKind>
+pub(crate) fn stuck(gap: usize, place: Place) -> Option<GridKind>
     ensures { result ≡ stuck gap (place_seen place) }
 {
     match place {
@@ -87,14 +87,18 @@ fn has_data_line(alloc: Global, lines: &[&[u8]]) -> Result<bool, Memory>
 }
 
 /// A line of the header that has a key.
-pub fn in_header_line(alloc: Global, earlier: &[&[u8]], line: &[&[u8]]) -> Result<bool, Memory>
+pub(crate) fn in_header_line(
+    alloc: Global,
+    earlier: &[&[u8]],
+    line: &[&[u8]],
+) -> Result<bool, Memory>
     ensures { IfOk result (λ inside. inside ≡ in_header_line (words_of_each earlier.now) (texts line.now)) }
 {
     Ok(!has_data_line(alloc, earlier)? && is_header_line(line))
 }
 
 /// The first byte of a second value.
-pub fn second_value(
+pub(crate) fn second_value(
     alloc: Global,
     inside: bool,
     line: &[&[u8]],
@@ -115,7 +119,7 @@ pub fn second_value(
 }
 
 /// A null text with a colon.
-pub fn bad_null(key: Key, value: &[u8]) -> Option<GridKind>
+pub(crate) fn bad_null(key: Key, value: &[u8]) -> Option<GridKind>
     ensures { result ≡ bad_null key value.now }
 {
     match key {
@@ -125,7 +129,7 @@ pub fn bad_null(key: Key, value: &[u8]) -> Option<GridKind>
 }
 
 /// A value that its key does not allow.
-pub fn bad_value(key: Key, value: &[u8]) -> Option<GridKind>
+pub(crate) fn bad_value(key: Key, value: &[u8]) -> Option<GridKind>
     ensures { result ≡ bad_value key value.now }
 {
     match key {
@@ -142,7 +146,7 @@ pub fn bad_value(key: Key, value: &[u8]) -> Option<GridKind>
 }
 
 /// An unknown key, no value, or a null text with a colon; a key twice; a bad value.
-pub fn line_fault(twice: bool, key: Option<Key>, values: &[&[u8]]) -> Option<GridKind>
+pub(crate) fn line_fault(twice: bool, key: Option<Key>, values: &[&[u8]]) -> Option<GridKind>
     ensures { result ≡ line_fault twice key (texts values.now) }
 {
     let Some(key) = key else {
@@ -170,7 +174,7 @@ fn has_key_of(alloc: Global, line: &[&[u8]], earlier: &[&[u8]]) -> Result<bool, 
 }
 
 /// The end of a header line.
-pub fn header_line_ends(
+pub(crate) fn header_line_ends(
     alloc: Global,
     inside: bool,
     earlier: &[&[u8]],
@@ -198,7 +202,7 @@ fn why_not<T>(answer: &Result<T, GridKind>) -> Option<GridKind>
 }
 
 /// The end of the first token of the data, or the end before any.
-pub fn header_ends(
+pub(crate) fn header_ends(
     header: &Result<Header<'_>, GridKind>,
     words: &[&[u8]],
     token: &[u8],
@@ -232,7 +236,7 @@ fn cell_fault(
 }
 
 /// The end of a token of the data.
-pub fn bad_cell(
+pub(crate) fn bad_cell(
     header: &Result<Header<'_>, GridKind>,
     words: &[&[u8]],
     token: &[u8],
@@ -266,7 +270,7 @@ fn has_all(header: &Result<Header<'_>, GridKind>, words: &[&[u8]]) -> bool
 }
 
 /// The end before the last cell.
-pub fn too_few(
+pub(crate) fn too_few(
     header: &Result<Header<'_>, GridKind>,
     words: &[&[u8]],
     place: Place,
@@ -281,7 +285,7 @@ pub fn too_few(
 }
 
 /// The first byte of a token after the last cell.
-pub fn too_many(
+pub(crate) fn too_many(
     header: &Result<Header<'_>, GridKind>,
     words: &[&[u8]],
     token: &[u8],
@@ -300,7 +304,7 @@ pub fn too_many(
 }
 
 /// A failing read.
-pub fn read_fails(place: Place) -> Option<GridKind>
+pub(crate) fn read_fails(place: Place) -> Option<GridKind>
     ensures { result ≡ read_fails (place_seen place) }
 {
     match place {
@@ -311,7 +315,7 @@ pub fn read_fails(place: Place) -> Option<GridKind>
 }
 
 /// The table: a place that stands in several rows is judged by them from the top.
-pub fn whole_table(
+pub(crate) fn whole_table(
     alloc: Global,
     gap: usize,
     token: &[u8],

@@ -11,21 +11,21 @@ use cell_core::memory::Memory;
 use std::alloc::{AllocError, Global};
 
 /// A space, a tab, a carriage return or a line feed.
-pub fn is_space(b: u8) -> bool
+pub(crate) fn is_space(b: u8) -> bool
     ensures { result ≡ is_space b }
 {
     (b == b' ' || b == b'\t') || (b == b'\r' || b == b'\n')
 }
 
 /// Any other byte.
-pub fn is_word(b: u8) -> bool
+pub(crate) fn is_word(b: u8) -> bool
     ensures { result ≡ is_word b }
 {
     !is_space(b)
 }
 
 /// Whether a piece holds a byte.
-pub fn is_token(piece: &[u8]) -> bool
+pub(crate) fn is_token(piece: &[u8]) -> bool
     ensures { result ≡ is_token piece.now }
 {
     !piece.is_empty()
@@ -39,7 +39,7 @@ fn pieces_of<'a>(alloc: Global, text: &'a [u8]) -> Result<Vec<&'a [u8]>, AllocEr
 }
 
 /// The pieces that hold a byte.
-pub fn tokens_of<'a>(alloc: Global, pieces: &[&'a [u8]]) -> Result<Vec<&'a [u8]>, Memory>
+pub(crate) fn tokens_of<'a>(alloc: Global, pieces: &[&'a [u8]]) -> Result<Vec<&'a [u8]>, Memory>
     ensures { IfOk result (λ tokens. texts tokens.items ≡ filter is_token (texts pieces.now)) }
 {
     let mut tokens = Vec::new(alloc);
@@ -52,7 +52,7 @@ pub fn tokens_of<'a>(alloc: Global, pieces: &[&'a [u8]]) -> Result<Vec<&'a [u8]>
 }
 
 /// The longest runs of bytes that are neither blank nor line feed.
-pub fn words_of<'a>(alloc: Global, text: &'a [u8]) -> Result<Vec<&'a [u8]>, Memory>
+pub(crate) fn words_of<'a>(alloc: Global, text: &'a [u8]) -> Result<Vec<&'a [u8]>, Memory>
     ensures { IfOk result (λ words. texts words.items ≡ words_of text.now) }
 {
     let pieces = pieces_of(alloc, text)?;
@@ -60,28 +60,28 @@ pub fn words_of<'a>(alloc: Global, text: &'a [u8]) -> Result<Vec<&'a [u8]>, Memo
 }
 
 /// The lines between line feeds.
-pub fn lines_of<'a>(alloc: Global, text: &'a [u8]) -> Result<Vec<&'a [u8]>, AllocError>
+pub(crate) fn lines_of<'a>(alloc: Global, text: &'a [u8]) -> Result<Vec<&'a [u8]>, AllocError>
     ensures { IfOk result (λ lines. texts lines.items ≡ lines_of text.now) }
 {
     text.split(|b| *b == b'\n').collect(alloc)
 }
 
 /// The number of the line that a place behind these bytes stands in, from 1.
-pub fn line_of(before: &[u8]) -> u64
+pub(crate) fn line_of(before: &[u8]) -> u64
     ensures { result ≡ line_of before.now }
 {
     1 + before.iter().filter(|b| **b == b'\n').count() as u64
 }
 
 /// The number of blanks and line feeds in a row that end these bytes.
-pub fn gap_of(before: &[u8]) -> usize
+pub(crate) fn gap_of(before: &[u8]) -> usize
     ensures { result ≡ gap_of before.now }
 {
     before.iter().rev().take_while(|b| is_space(**b)).count()
 }
 
 /// The last of some slices; empty where there is none.
-pub fn last_of<'a>(slices: &[&'a [u8]]) -> &'a [u8]
+pub(crate) fn last_of<'a>(slices: &[&'a [u8]]) -> &'a [u8]
     ensures { result.now ≡ last_of (texts slices.now) }
 {
     match slices.split_last() {
@@ -91,7 +91,7 @@ pub fn last_of<'a>(slices: &[&'a [u8]]) -> &'a [u8]
 }
 
 /// The token that the last byte belongs to; empty after a blank or line feed, and at the front.
-pub fn token_of<'a>(alloc: Global, before: &'a [u8]) -> Result<&'a [u8], Memory>
+pub(crate) fn token_of<'a>(alloc: Global, before: &'a [u8]) -> Result<&'a [u8], Memory>
     ensures { IfOk result (λ token. token.now ≡ token_of before.now) }
 {
     let pieces = pieces_of(alloc, before)?;

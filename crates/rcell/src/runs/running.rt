@@ -116,7 +116,7 @@ pub fn run<R: Source + Drop, W: Sink>(
     ensures status { result.status ≡ status_after result.fault }
     // A fault of a grid names one that was given, and want of memory for a grid or for the script is told at line 0.
     ensures told { IfSome result.fault (IsTold (length grids.items)) }
-    // Status 0 comes only where the sink did not fail in the run, and Write only where it failed.
+    // Of a sink that had not failed before, status 0 comes only where it did not fail, and Write only where it failed.
     ensures sound { result.status ≡ 0 → W.failed out.new ≡ W.failed out.old }
     ensures write { result.fault ≡ Some RunFault.Write → W.failed out.new ≡ true }
     // For every accepted script over grids of one region, where memory lasts and the sink takes everything,
