@@ -1,4 +1,4 @@
--- The data of a grid text, from the bytes to come: one word after another, and the end.
+-- The data of a grid text, from the bytes to come: one word after another, and the end (r.in.ascii manual).
 use Rattle.std.specs.Prelude.{ℕ, ℤ, ◌*ℤ◌, zero, suc, List, [], ◌∷◌, Option, Some, None, Result, Ok, Err, if◌then◌else◌, bytes_eq}
 use Rattle.cell_core.specs.Device.{Coming}
 use Rattle.cell_core.specs.Grid.{CellValue, Grid, no_labels}

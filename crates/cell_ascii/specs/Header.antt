@@ -1,4 +1,4 @@
--- The header of a grid text, from the bytes to come: key lines, up to the end of the first word of the data.
+-- The header of a grid text, from the bytes to come: key lines, up to the end of the first word of the data (r.in.ascii manual; the limits are the profile's).
 use Rattle.std.specs.Prelude.{ℕ, ℤ, pos, zero, suc, ◌+◌, Bool, true, false, ◌&&◌, ◌==◌, not, nat_lt, List, [], ◌∷◌, drop, Option, Some, None, Result, Ok, Err, if◌then◌else◌, bytes_eq, codes, unwrap_or}
 use Rattle.std.specs.List.{prefix_len, list_any, before_first, after_first}
 use Rattle.cell_core.specs.Device.{Coming}

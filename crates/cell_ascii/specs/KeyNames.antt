@@ -1,4 +1,4 @@
--- The names of the keys.
+-- The names of the keys (r.in.ascii manual).
 use Rattle.std.specs.Prelude.{ℕ, List, Option, Some, None, if◌then◌else◌, codes, bytes_eq}
 use Rattle.cell_ascii.specs.declared.key.Key.{Key}
 use Rattle.cell_ascii.specs.declared.key.Key.TheVariants.{North, South, East, West, Rows, Cols, Null, CellType, Multiplier}

@@ -1,4 +1,4 @@
--- Words of a grid text: what stands before the next word, and the word.
+-- Words of a grid text: what stands before the next word, and the word (profile: blanks, line feeds and their limits).
 use Rattle.std.specs.Prelude.{ℕ, ◌+◌, ◌-◌, Bool, true, false, ◌||◌, ◌==◌, not, nat_lt, List, [], ◌∷◌, ◌++◌, length, take, drop, count_by, Result, Ok, Err, if◌then◌else◌}
 use Rattle.std.specs.List.{prefix_len}
 use Rattle.cell_core.specs.Device.{Coming}

@@ -1,4 +1,4 @@
--- Which lists of tokens stand for which assignments.
+-- Which lists of tokens stand for which assignments (r.mapcalc manual).
 use Rattle.std.specs.Prelude.{◌≡◌, ℕ, List, ◌∷◌, IsOkAnd}
 use Rattle.cell_calc.specs.declared.assignment.Assignment.{Assignment}
 use Rattle.cell_calc.specs.declared.token.Placed.{Placed}

@@ -1,4 +1,4 @@
--- Why a list of tokens stands for no assignment.
+-- Why a list of tokens stands for no assignment (profile).
 use Rattle.std.specs.Prelude.{◌≡◌, ◌<◌, ◌+◌, ℕ, List, [], ◌∷◌, ◌++◌, length, Some, None, false, ◌⊎◌, MatchResult}
 use Rattle.cell_calc.specs.declared.assignment.Assignment.{Assignment}
 use Rattle.cell_calc.specs.declared.fault.CalcFault.{CalcFault}

@@ -1,4 +1,4 @@
--- How a text spells its tokens.
+-- How a text spells its tokens (r.mapcalc manual; the limits are the profile's).
 use Rattle.std.specs.Prelude.{◌≡◌, ℕ, ◌+◌, ◌<◌, ◌≤◌, IsTrue, List, [], ◌∷◌, ◌++◌, length, Some, Ok, ◌↔◌}
 use Rattle.std.specs.List.{list_all}
 use Rattle.cell_core.specs.Name.{is_name}

@@ -1,4 +1,4 @@
--- Tokens at their columns.
+-- Tokens at their columns (profile: columns count bytes from 1).
 use Rattle.std.specs.Prelude.{ℕ, List, [], ◌∷◌, Option, Some, None}
 use Rattle.cell_calc.specs.declared.token.Placed.{Placed}
 use Rattle.cell_calc.specs.declared.token.Sign.{Sign}

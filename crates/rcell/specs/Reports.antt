@@ -1,4 +1,4 @@
--- Where a fault of a run is told, and by what text.
+-- Where a fault of a run is told, and by what text (profile).
 use Rattle.std.specs.Prelude.{ℕ, List, [], codes, slice_get, unwrap_or}
 use Rattle.rcell.specs.declared.runs.outcome.RunFault.{RunFault}
 use Rattle.rcell.specs.declared.runs.outcome.RunFault.TheVariants.{GridTwice, GridRegion, Grid, ScriptRead, ScriptSize, Script, Memory, Write}

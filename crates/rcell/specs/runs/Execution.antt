@@ -1,4 +1,4 @@
--- What has gone out when statements are executed in order.
+-- What has gone out when statements are executed in order (profile).
 use Rattle.std.specs.Prelude.{ℕ, ◌≡◌, Bool, true, false, List, ◌∷◌, ◌++◌, length, Option, Result, Ok, Err}
 use Rattle.cell_core.specs.Device.{append_known}
 use Rattle.cell_core.specs.Shelf.{ShelfValue}

@@ -1,4 +1,4 @@
--- The faults of a run: their exit statuses, which of them come when, and what they tell.
+-- The faults of a run: their exit statuses, which of them come when, and what they tell (profile).
 use Rattle.std.specs.Prelude.{ℕ, ◌≡◌, ◌≢◌, ◌<◌, ⊤, Option, Some, None}
 use Rattle.cell_ascii.specs.declared.fault.GridKind.{GridKind}
 use Rattle.cell_ascii.specs.declared.fault.GridKind.TheVariants as grid_kinds
