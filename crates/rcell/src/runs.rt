@@ -1,7 +1,7 @@
 //! A run: grids are read, a script is parsed, and what it asks for is put out.
 
-pub mod execution;
-pub mod loading;
+pub(crate) mod execution;
+pub(crate) mod loading;
 pub mod outcome;
-pub mod running;
-pub mod text;
+pub(crate) mod running;
+pub(crate) mod text;

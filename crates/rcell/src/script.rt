@@ -2,8 +2,8 @@
 
 pub mod fault;
 pub mod null_text;
-pub mod parsing;
-pub mod r_out_ascii;
-pub mod r_stats;
+pub(crate) mod parsing;
+pub(crate) mod r_out_ascii;
+pub(crate) mod r_stats;
 pub mod statement;
-pub mod words;
+pub(crate) mod words;
