@@ -3,10 +3,11 @@ use Rattle.std.specs.Prelude.{ℕ, ◌≡◌, Bool, List, [], ◌++◌, Option, 
 use Rattle.std.specs.Option.{option_map}
 use Rattle.cell_core.specs.Device.{Coming}
 
--- the bytes that a buffer holds, and what its source still gives, where that is known
+-- the bytes that a buffer holds, what its source still gives, where that is known, and whether it has told its end
 pub record Ahead : Type 0 where
   pub held : List ℕ
   pub rest : Option Coming
+  pub ended : Bool
 
 -- the bytes come first
 abbrev pub before_coming : List ℕ → Coming → Coming

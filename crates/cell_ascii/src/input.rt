@@ -1,6 +1,6 @@
 //! Bytes of a source, one at a time.
 
-ghost use Rattle.std.specs.Prelude.{◌≡◌, ◌<◌, ◌≤◌, [], drop, length, OnErr, IfOk, IfSome, IfNone, Some, slice_get, true, false};
+ghost use Rattle.std.specs.Prelude.{◌≡◌, ◌<◌, ◌≤◌, [], drop, length, OnErr, IfOk, IfSome, IfNone, Ok, Some, None, slice_get, true, false};
 ghost use Rattle.cell_ascii.specs.Ahead.{Ahead, to_come, IsAtEnd};
 
 use cell_core::device::DeviceFault;
@@ -28,7 +28,7 @@ impl<R: Source> Model for Input<R> {
 
     ghost Value = { Ahead };
 
-    ghost view = { λ i. record { held = drop i.at (take i.filled i.buffer.items); rest = R.coming i.source } };
+    ghost view = { λ i. record { held = drop i.at (take i.filled i.buffer.items); rest = R.coming i.source; ended = i.ended } };
 
     ghost invariant = { λ i. (i.at ≤ i.filled) × (i.filled ≤ length i.buffer.items) × (0 < length i.buffer.items)
         × (i.ended ≡ true → (i.at ≡ i.filled) × IsAtEnd false (R.coming i.source)) };
@@ -38,7 +38,7 @@ impl<R: Source> Input<R> {
     pub fn new(alloc: Global, source: R) -> Result<Input<R>, Memory>
     where
         R: Drop,
-        ensures { IfOk result (λ i. i ≡ record { held = []; rest = R.coming source }) }
+        ensures { IfOk result (λ i. i ≡ record { held = []; rest = R.coming source; ended = false }) }
     {
         let buffer = vec![in alloc; 0u8; BLOCK]?;
         Ok(Input {
@@ -56,6 +56,8 @@ impl<R: Source> Input<R> {
         ensures byte { IfOk result (λ o. IfSome o (λ b. slice_get self.new.held 0 ≡ Some b)) }
         ensures end { IfOk result (λ o. IfNone o (IsAtEnd false (to_come self.old))) }
         ensures fault { OnErr result (IsAtEnd true (to_come self.old)) }
+        ensures told { IfOk result (λ o. IfNone o (self.new.ended ≡ true)) }
+        ensures again { self.old.ended ≡ true → (self.new ≡ self.old) × (result ≡ Ok None) }
     {
         if self.at < self.filled {
             return Ok(Some(self.buffer[self.at]));
@@ -77,6 +79,7 @@ impl<R: Source> Input<R> {
         requires { 0 < length self.old.held }
         ensures held { self.new.held ≡ drop 1 self.old.held }
         ensures rest { self.new.rest ≡ self.old.rest }
+        ensures ended { self.new.ended ≡ self.old.ended }
     {
         self.at += 1;
     }

@@ -80,6 +80,7 @@ impl<R: Source> Scanner<R> {
         ensures line { self.new.line ≡ line_step result self.old.line }
         ensures lines { self.new.line + self.old.run ≤ self.old.line + self.new.run }
         ensures run { self.new.run ≤ 1048576 }
+        ensures further { self.old.run ≤ self.new.run }
         ensures word { self.new.word ≡ self.old.word }
         ensures blank { result ≡ Ok Step.Blank → self.new.run ≡ self.old.run + 1 }
         ensures feed { result ≡ Ok Step.Feed → self.new.run ≡ self.old.run + 1 }
@@ -121,6 +122,8 @@ impl<R: Source> Scanner<R> {
             ≡ option_map (start_seen result self.new.line) (to_come self.new.ahead) }
         ensures lines { self.new.line ≤ self.old.line + 1048576 }
         ensures run { self.new.run ≤ 1048576 }
+        ensures further { self.old.run ≤ self.new.run }
+        ensures word { self.new.word ≡ self.old.word }
         ensures end { result ≡ Ok Next.End → IsAtEnd false (to_come self.new.ahead) }
         ensures kind { IfErr result (λ f. IsOfText f.kind) }
     {
@@ -236,7 +239,7 @@ impl<R: Source> Scanner<R> {
     pub fn new(alloc: Global, source: R) -> Result<Scanner<R>, Memory>
     where
         R: Drop,
-        ensures { IfOk result (λ s. s ≡ record { line = 1; run = 0; word = []; ahead = record { held = []; rest = R.coming source } }) }
+        ensures { IfOk result (λ s. s ≡ record { line = 1; run = 0; word = []; ahead = record { held = []; rest = R.coming source; ended = false } }) }
     {
         let input = Input::new(alloc, source)?;
         Ok(Scanner {
