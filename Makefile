@@ -1,13 +1,14 @@
 # make          proves and builds the program, bin/rcell
 # make example  builds it, and runs it on the land cover of examples/land-cover
 # make check    the gate: every proof from nothing, then the program on each folder of cases/ and examples/
+# make edits    tries the edits of crates/NAME/edits/, which the gate leaves alone: each must be refused
 # make bench    times it against a plain program by hand on a grid of 100 MB
 # make exchange has GRASS, where it is installed, read what it writes and the other way round
 
 PROGRAM = crates/rcell_program
-SOURCES = crates.txt $(shell find crates -path '*/out' -prune -o -type f -print)
+SOURCES = crates.txt $(shell find crates \( -name out -o -name edits -o -name must-fail -o -name '*_tests' \) -prune -o -type f -print)
 
-.PHONY: all example check bench exchange clean
+.PHONY: all example check edits bench exchange clean
 
 all: bin/rcell
 
@@ -21,6 +22,9 @@ example: bin/rcell
 
 check:
 	@sh tools/check.sh
+
+edits:
+	sh tools/edits.sh
 
 bench: bin/rcell
 	python3 bench/run.py

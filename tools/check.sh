@@ -5,6 +5,9 @@ cd "$(dirname "$0")/.." || exit 1
 room=$(mktemp -d) || exit 1
 trap 'rm -rf "$room"' EXIT
 
+# No edit outside the gate may go stale.
+python3 tools/stale_edits.py || { echo '0 passed, 1 failed'; exit 1; }
+
 { rt ci; echo $? > "$room/status"; } 2>&1 | tee "$room/proofs"
 if [ "$(cat "$room/status")" != 0 ]; then
     tail -1 "$room/proofs" | grep -qE '^[0-9]+ passed, [0-9]+ failed$' || echo '0 passed, 1 failed'

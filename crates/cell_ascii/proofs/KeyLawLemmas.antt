@@ -3,9 +3,9 @@ use Rattle.std.proofs.Common.{◌≡◌, ℕ, suc, ◌+◌, ◌<◌, ℤ, List, 
 use Rattle.std.specs.Prelude.{nat_le, unwrap_or, if◌then◌else◌}
 use Rattle.std.specs.Option.{option_map}
 use Rattle.std.proofs.lemmas.Bool.{leb-true, and_parts}
-use Rattle.cell_core.specs.Region.{RegionValue, region_fault, is_side, is_rectangle}
+use Rattle.cell_core.specs.Region.{RegionValue, region_fault, is_side, is_rectangle, is_countable}
 use Rattle.cell_core.specs.declared.region.RegionFault.{RegionFault}
-use Rattle.cell_core.specs.declared.region.RegionFault.TheVariants.{BadExtent, BadRows, BadCols}
+use Rattle.cell_core.specs.declared.region.RegionFault.TheVariants.{BadExtent, BadRows, BadCols, TooManyCells}
 use Rattle.cell_ascii.specs.Numbers.{coordinate, side, whole_in_range}
 use Rattle.cell_ascii.specs.Header.{Keys, Header, judged, given, with_key, header_of, has_colon, is_int, usual_null, usual_multiplier}
 use Rattle.cell_ascii.specs.GridText.{null_text, int_type}
@@ -252,13 +252,14 @@ pub record IsHeaderOf (k : Keys) (h : Header) : Type 0 where
   pub good : region_fault h.region ≡ Ok h.region
 
 same_region : (e r : RegionValue) → region_fault e ≡ Ok r → e ≡ r
-same_region e r g = by (is_rectangle e) (is_side e.rows) (is_side e.cols) g
+same_region e r g = by (is_rectangle e) (is_side e.rows) (is_side e.cols) (is_countable e) g
   where
-    by : (t u v : Bool) → (if not t then Err BadExtent else (if not u then Err BadRows else (if not v then Err BadCols else Ok e))) ≡ Ok r → e ≡ r
-    by false u v g = cc
-    by true false v g = cc
-    by true true false g = cc
-    by true true true g = cc
+    by : (t u v w : Bool) → (if not t then Err BadExtent else (if not u then Err BadRows else (if not v then Err BadCols else (if not w then Err TooManyCells else Ok e)))) ≡ Ok r → e ≡ r
+    by false u v w g = cc
+    by true false v w g = cc
+    by true true false w g = cc
+    by true true true false g = cc
+    by true true true true g = cc
 
 abbrev headed : Keys → RegionValue → Header
 headed k x = record { region = x; null_text = unwrap_or k.null usual_null; multiplier = unwrap_or k.multiplier usual_multiplier }
@@ -294,9 +295,9 @@ pub sides : (region : RegionValue) → region_fault region ≡ Ok region → (0 
 sides region good = by (is_rectangle region) (is_side region.rows) (is_side region.cols) refl refl good
   where
     least : (n : ℕ) → is_side n ≡ true → 0 < n
-    least n e = let t = leb-true 1 n (and_parts (nat_le 1 n) (nat_le n 32767) e).0 in omega arith
+    least n e = let t = leb-true 1 n (and_parts (nat_le 1 n) (nat_le n 65535) e).0 in omega arith
 
-    by : (t u v : Bool) → is_side region.rows ≡ u → is_side region.cols ≡ v → (if not t then Err BadExtent else (if not u then Err BadRows else (if not v then Err BadCols else Ok region))) ≡ Ok region → (0 < region.rows) × (0 < region.cols)
+    by : (t u v : Bool) → is_side region.rows ≡ u → is_side region.cols ≡ v → (if not t then Err BadExtent else (if not u then Err BadRows else (if not v then Err BadCols else (if not (is_countable region) then Err TooManyCells else Ok region)))) ≡ Ok region → (0 < region.rows) × (0 < region.cols)
     by false u v r c g = cc
     by true false v r c g = cc
     by true true false r c g = cc

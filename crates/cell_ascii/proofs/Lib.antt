@@ -17,6 +17,7 @@ pub mod RowSeenLemmas
 pub mod RowPlaceLemmas
 pub mod PlaceKeptLemmas
 pub mod MapLemmas
+pub mod HeldLemmas
 pub mod StartLemmas
 pub mod GapLemmas
 pub mod DigitLemmas
@@ -34,3 +35,4 @@ pub mod RowReadLemmas
 pub mod DataLemmas
 pub mod KindLemmas
 pub mod WriterLemmas
+pub mod RunWritingLemmas

@@ -185,8 +185,8 @@ module _ (h : Header) (cols : ℕ) (some : 0 < cols) where
       by (Ok y) on e = last y (on y is refl).0 (many (cell_from h) cols y.1) refl e
 
 -- the lines of a grid have numbers
-pub lines_fit : (line rows cols : ℕ) → line < 2 ^ 62 → rows ≤ 32767 → cols ≤ 32767 → line + (rows * cols + 1) * 1048577 < 2 ^ 63
-lines_fit line rows cols low high wide = let most : rows * cols ≤ 32767 * 32767 = mul-le-mul high wide in omega arith
+pub lines_fit : (line rows cols : ℕ) → line < 2 ^ 62 → rows ≤ 65535 → cols ≤ 65535 → line + (rows * cols + 1) * 1048577 < 2 ^ 63
+lines_fit line rows cols low high wide = let most : rows * cols ≤ 65535 * 65535 = mul-le-mul high wide in omega arith
 
 -- and those behind a row
 pub rows_fit : (line more rows left cols : ℕ) → left + 1 ≡ rows → more ≤ line + cols * 1048577 → line + (rows * cols + 1) * 1048577 < 2 ^ 63 → more + (left * cols + 1) * 1048577 < 2 ^ 63

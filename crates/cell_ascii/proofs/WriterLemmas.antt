@@ -1,16 +1,11 @@
 -- The parts of a grid text, as they are written.
-use Rattle.std.proofs.Common.{◌≡◌, ◌≢◌, ℕ, ◌<◌, ℤ, pos, negsuc, ◌+◌, ◌==◌, ◌||◌, Bool, true, false, List, [], ◌∷◌, ◌++◌, length, take, drop, map, get_or, Option, None, codes, decimal, unsigned_abs, refl, ap, sym, ◌∙◌, arith, append_assoc, take_all}
+use Rattle.std.proofs.Common.{◌≡◌, ◌≢◌, ℕ, ℤ, pos, negsuc, ◌+◌, ◌==◌, ◌||◌, Bool, true, false, List, [], ◌∷◌, ◌++◌, drop, Option, codes, decimal, unsigned_abs, refl, arith}
 use Rattle.std.specs.Prelude.{int_lt}
 use Rattle.std.proofs.lemmas.Bool.Decides.{nat_tests}
-use Rattle.std.specs.List.{flat_map, join_with_byte}
-use Rattle.std.proofs.lemmas.List.{map-append, take_more}
-use Rattle.std.proofs.lemmas.List.Folds.{flat_map-map}
 use Rattle.cell_core.specs.Blocks.{BlockValue, CutsOff}
-use Rattle.cell_core.specs.Grid.{CellValue, Grid, IsFilled, row_at}
 use Rattle.cell_core.specs.Region.{RegionValue}
-use Rattle.cell_core.specs.Text.{cell_text}
-use Rattle.cell_core.proofs.GatherLemmas.{CutsOff-first, join_with_byte-last}
-use Rattle.cell_ascii.specs.Writing.{coordinate_text, fraction_text, line_of_key, region_text, row_text, units_text, without_zeros}
+use Rattle.cell_core.proofs.GatherLemmas.{CutsOff-first}
+use Rattle.cell_ascii.specs.Writing.{coordinate_text, fraction_text, line_of_key, region_text, units_text, without_zeros}
 
 pub fraction_text-some : (part : ℕ) → part ≢ 0 → fraction_text part ≡ (46 ∷ []) ++ without_zeros (drop 1 (decimal (100000000 + part)))
 fraction_text-some part some = let t : (part == 0) ≡ false = grind (arith, nat_tests) in rw t
@@ -22,26 +17,6 @@ coordinate_text-negative (negsuc n) below = refl
 pub coordinate_text-positive : (z : ℤ) → int_lt z (pos 0) ≡ false → coordinate_text z ≡ units_text (unsigned_abs z)
 coordinate_text-positive (pos n) above = refl
 coordinate_text-positive (negsuc n) above = cc
-
--- a cell and the space after it
-abbrev pub field_text : List ℕ → CellValue → List ℕ
-field_text null_text cell = cell_text null_text cell ++ 32 ∷ []
-
--- each cell of a row but the last is followed by a space
-pub row_text-fields : (null_text : List ℕ) (row : List CellValue) (k : ℕ) (last : CellValue) → length row ≡ k + 1 → last ≡ get_or row k None
-    → row_text null_text row ≡ flat_map (field_text null_text) (take k row) ++ (cell_text null_text last ++ 10 ∷ [])
-row_text-fields null_text row k last count read =
-    let text = cell_text null_text in
-    let within : k < length row = omega arith in
-    let whole : row ≡ take k row ++ last ∷ [] = sym (take_all (k + 1) row (omega arith)) ∙ take_more row k None within ∙ ap (λ (cell : CellValue). take k row ++ cell ∷ []) (sym read) in
-    ap (λ (cells : List CellValue). join_with_byte 32 (map text cells) ++ 10 ∷ []) whole
-    ∙ ap (λ (texts : List (List ℕ)). join_with_byte 32 texts ++ 10 ∷ []) (map-append text (take k row) (last ∷ []))
-    ∙ ap (λ (t : List ℕ). t ++ 10 ∷ []) (join_with_byte-last 32 (map text (take k row)) (text last) ∙ ap (λ (t : List ℕ). t ++ text last) (flat_map-map (λ t. t ++ 32 ∷ []) text (take k row)))
-    ∙ append_assoc (flat_map (field_text null_text) (take k row)) (text last) (10 ∷ [])
-
--- each row is as wide as the region says
-pub row_width : (m : Grid) (r : ℕ) → IsFilled m.region m.rows → r < m.region.rows → length (row_at m r) ≡ m.region.cols
-row_width m r filled within = filled.width r [] (omega (arith, filled.count))
 
 -- the lines of a region, and the first of them together
 abbrev pub edge_line : List ℕ → ℤ → List ℕ

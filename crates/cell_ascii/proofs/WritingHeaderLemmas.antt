@@ -4,8 +4,8 @@ use Rattle.std.specs.Prelude.{nat_le, nat_lt, bytes_eq}
 use Rattle.std.specs.List.{filter, list_all, before_first, after_first}
 use Rattle.std.proofs.lemmas.Bool.{and_parts, leb-true, ltb-true}
 use Rattle.std.proofs.lemmas.Slice.Eq.{bytes_eq-Decides}
-use Rattle.cell_core.specs.Region.{RegionValue, IsRegion, region_fault, is_above, is_rectangle, is_side}
-use Rattle.cell_core.specs.declared.region.RegionFault.TheVariants.{BadExtent, BadRows, BadCols}
+use Rattle.cell_core.specs.Region.{RegionValue, IsRegion, region_fault, is_above, is_rectangle, is_side, is_countable}
+use Rattle.cell_core.specs.declared.region.RegionFault.TheVariants.{BadExtent, BadRows, BadCols, TooManyCells}
 use Rattle.cell_ascii.specs.Words.{is_word}
 use Rattle.cell_ascii.specs.KeyNames.{key_of}
 use Rattle.cell_ascii.specs.Header.{Header, Keys, no_keys, with_key, given, header_of, is_colon, has_colon, usual_null, usual_multiplier}
@@ -100,7 +100,7 @@ bounded e good =
     let second = above_bounded e.east e.west parts.1 in
     record { north = first.0; south = first.1; east = second.0; west = second.1 }
   where
-    by : (t : Bool) → (if not t then Err BadExtent else (if not (is_side e.rows) then Err BadRows else (if not (is_side e.cols) then Err BadCols else Ok e))) ≡ Ok e → t ≡ true
+    by : (t : Bool) → (if not t then Err BadExtent else (if not (is_side e.rows) then Err BadRows else (if not (is_side e.cols) then Err BadCols else (if not (is_countable e) then Err TooManyCells else Ok e)))) ≡ Ok e → t ≡ true
     by true g = refl
     by false g = cc
 

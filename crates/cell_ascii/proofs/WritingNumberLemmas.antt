@@ -50,7 +50,7 @@ in_range_low (negsuc n) e = let h = leb-true n 2147483646 (and_parts (nat_le n 2
 side_of : (bs : List ℕ) (n : ℕ) → whole_number bs ≡ Some (pos n) → is_in_range (pos n) ≡ true → side bs ≡ Some n
 side_of bs n e range = rw (e, range) refl
 
-pub side_back : (n : ℕ) → n ≤ 32767 → side (decimal n) ≡ Some n
+pub side_back : (n : ℕ) → n ≤ 65535 → side (decimal n) ≡ Some n
 side_back n low = side_of (decimal n) n (whole_back (pos n) (omega arith)) (grind (arith, nat_tests))
 
 -- Coordinates.

@@ -1,6 +1,7 @@
 -- Grid texts: what they mean, which fault they tell, how they are read and written.
 pub mod Words
 pub mod Writing
+pub mod WrittenRuns
 pub mod Numbers
 pub mod KeyNames
 pub mod Header
@@ -18,3 +19,4 @@ pub mod Steps
 pub mod Opening
 pub mod Reader
 pub mod GridReaders
+pub mod Held

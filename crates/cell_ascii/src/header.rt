@@ -3,6 +3,7 @@
 ghost use Rattle.std.specs.Prelude.{◌≡◌, Some};
 ghost use Rattle.cell_ascii.specs.Cells.{cell_of_word, cell_of_number};
 ghost use Rattle.cell_ascii.specs.Capped.{cell_in_range};
+ghost use Rattle.cell_ascii.specs.Numbers.{whole_number};
 
 use crate::fault::GridKind;
 use crate::null_text::NullText;
@@ -65,6 +66,18 @@ impl Header {
         ensures { result ≡ self.now.region }
     {
         self.region
+    }
+
+    /// The cell that the word of a number denotes.
+    pub fn cell_of_number(&self, word: &[u8], number: i64) -> Result<Cell, GridKind>
+        requires { whole_number word.now ≡ Some number }
+        ensures { result ≡ cell_of_word self.now word.now }
+    {
+        if self.null_text.is(word) {
+            Ok(Cell::null())
+        } else {
+            cell_of_number(self.multiplier, number)
+        }
     }
 
     /// The cell that a word denotes.

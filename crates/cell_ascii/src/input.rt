@@ -74,6 +74,21 @@ impl<R: Source> Input<R> {
         Ok(Some(self.buffer[0]))
     }
 
+    /// The bytes that are held.
+    pub fn held(&self) -> &[u8]
+        ensures { result.now ≡ self.now.held }
+    {
+        &self.buffer[self.at..self.filled]
+    }
+
+    /// Passes held bytes.
+    pub fn pass(&mut self, n: usize)
+        requires { n ≤ length self.old.held }
+        ensures { self.new ≡ record self.old { held = drop n self.old.held } }
+    {
+        self.at += n;
+    }
+
     /// Passes the byte that `peek` gave.
     pub fn advance(&mut self)
         requires { 0 < length self.old.held }

@@ -3,6 +3,7 @@
 
 pub mod fault;
 mod header;
+mod held;
 mod input;
 pub mod key;
 mod keys;

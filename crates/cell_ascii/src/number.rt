@@ -8,7 +8,8 @@ ghost use Rattle.cell_ascii.specs.Capped.{capped, capped_digits, capped_number};
 // Greater than each number that is in range.
 const CAP: u64 = 1000000000000000000;
 
-fn is_digit(b: u8) -> bool
+/// A decimal digit.
+pub(crate) fn is_digit(b: u8) -> bool
     ensures { result ≡ is_digit b }
 {
     b'0' <= b && b <= b'9'

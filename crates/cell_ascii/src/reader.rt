@@ -17,6 +17,7 @@ ghost use Rattle.cell_ascii.specs.GridReaders.{place_in, opened_in, fault_of, ha
 
 use crate::fault::{GridFault, GridKind};
 use crate::header::Header;
+use crate::held::cell_in;
 use crate::keys::Keys;
 use crate::opening;
 use crate::scanner::{Next, Scanner};
@@ -137,6 +138,12 @@ impl<R: Source> CellReader<R> {
             self.waiting = false;
             self.scanner.end_run();
             return cell_here(&self.header, &self.scanner);
+        }
+        if self.scanner.has_room() {
+            if let Some((cell, n)) = cell_in(self.scanner.held(), &self.header) {
+                self.scanner.pass(n);
+                return Ok(cell);
+            }
         }
         read_token(&mut self.scanner)?;
         cell_here(&self.header, &self.scanner)

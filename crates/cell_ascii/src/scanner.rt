@@ -1,6 +1,6 @@
 //! Words of a text, with their lines.
 
-ghost use Rattle.std.specs.Prelude.{true, false, ◌≡◌, ◌+◌, ◌-◌, ◌^◌, ◌<◌, ◌≤◌, [], length, Ok, IfOk, IfErr};
+ghost use Rattle.std.specs.Prelude.{true, false, ◌≡◌, ◌+◌, ◌-◌, ◌^◌, ◌<◌, ◌≤◌, [], length, drop, Ok, IfOk, IfErr};
 ghost use Rattle.std.specs.Option.{option_map};
 ghost use Rattle.cell_ascii.specs.Kinds.{IsOfText};
 ghost use Rattle.cell_ascii.specs.Ahead.{to_come, IsAtEnd};
@@ -35,7 +35,8 @@ impl<R: Source> Model for Scanner<R> {
     ghost invariant = { λ s. (s.run ≤ 1048576) × (s.len ≤ 64) };
 }
 
-fn is_space(b: u8) -> bool
+/// A blank or a line feed.
+pub fn is_space(b: u8) -> bool
     ensures { result ≡ is_space b }
 {
     b == b' ' || b == b'\t' || b == b'\r' || b == b'\n'
@@ -220,6 +221,29 @@ impl<R: Source> Scanner<R> {
         ensures { self.new ≡ record self.old { run = 0 } }
     {
         self.run = 0;
+    }
+
+    /// The bytes that are held.
+    pub fn held(&self) -> &[u8]
+        ensures { result.now ≡ self.now.ahead.held }
+    {
+        self.input.held()
+    }
+
+    /// Whether a further blank may come.
+    pub fn has_room(&self) -> bool
+        ensures { result ≡ true → self.now.run < 1048576 }
+    {
+        self.run < 1048576
+    }
+
+    /// Passes held bytes that end with a word.
+    pub fn pass(&mut self, n: usize)
+        requires { n ≤ length self.old.ahead.held }
+        ensures { self.new ≡ record self.old { run = 0; ahead = record self.old.ahead { held = drop n self.old.ahead.held } } }
+    {
+        self.run = 0;
+        self.input.pass(n);
     }
 
     pub fn line(&self) -> u64

@@ -1,20 +1,25 @@
 //! Writing a map as a grid text.
 
-ghost use Rattle.std.specs.Prelude.{◌≡◌, ◌+◌, ◌*◌, ◌<◌, ◌≤◌, ◌||◌, ◌==◌, [], ◌∷◌, ◌++◌, codes, decimal, drop, flat_map, length, reverse, take, OnOk, IfOk, IfErr, is_err};
+ghost use Rattle.std.specs.Prelude.{◌≡◌, ◌+◌, ◌*◌, ◌<◌, ◌≤◌, ◌||◌, ◌==◌, [], ◌∷◌, ◌++◌, codes, decimal, drop, flat_map, length, replicate, reverse, take, OnOk, IfOk, IfErr, is_err};
 ghost use Rattle.std.specs.List.{prefix_len};
 ghost use Rattle.cell_core.specs.Blocks.{Gathers, CutsOff, counted};
 ghost use Rattle.cell_core.specs.Device.{append_known};
 ghost use Rattle.cell_core.specs.Grid.{row_at};
-ghost use Rattle.cell_core.specs.Text.{cell_text};
+ghost use Rattle.cell_core.specs.Runs.{AreRuns, written_out};
+ghost use Rattle.cell_ascii.specs.WrittenRuns.{cells_text, joined_cells, times};
 ghost use Rattle.cell_ascii.specs.Writing.{IsNullText, coordinate_text, fraction_text, grid_text, line_of_key, null_line, region_text, row_text, units_text, without_zeros};
 
 use cell_core::block::Block;
 use cell_core::cell::Cell;
 use cell_core::map::CellMap;
 use cell_core::region::Region;
+use cell_core::runs::Runs;
 use cell_core::sink::{Sink, WriteFault};
 use cell_core::text::write_cell;
 use itoa::Buffer;
+
+// The bytes of a space and of the longest text of a cell.
+const FIELD: usize = 65;
 
 // How many units a coordinate of 1 has.
 const UNIT: u64 = 100000000;
@@ -192,23 +197,101 @@ fn write_null_line<W: Sink>(
     write_line(out, block, b"null", null_text)
 }
 
-// Writes a cell and what stands behind it.
-fn write_field<W: Sink>(
+// A space and a text, with spaces behind them.
+fn spaced(text: &[u8]) -> [u8; FIELD]
+    requires { length text.now ≤ 64 }
+    ensures { take (length text.now + 1) result ≡ 32 ∷ text.now }
+{
+    let mut field = [b' '; FIELD];
+    field[1..=text.len()].copy_from_slice(text);
+    field
+}
+
+// Writes a space and a text, so many times.
+fn write_times<W: Sink>(
+    out: &mut W,
+    block: &mut Block,
+    text: &[u8],
+    count: u32,
+) -> Result<(), WriteFault>
+    requires { length text.now ≤ 64 }
+    ensures ok { OnOk result (Gathers (W.taken out.old) block.old (times count (32 ∷ text.now)) (W.taken out.new) block.new) }
+    ensures err { IfErr result (λ fault. CutsOff (W.taken out.old) block.old (times count (32 ∷ text.now)) (W.taken out.new) fault.written) }
+    ensures lost { IfErr result (λ fault. block.new ≡ record { held = []; written = fault.written }) }
+    ensures counted { counted block.new ≤ counted block.old + 65 * count }
+    ensures failed { W.failed out.new ≡ (W.failed out.old || is_err result) }
+{
+    let bytes = spaced(text);
+    let field = &bytes[..text.len() + 1];
+    for _ in 0..count {
+        block.push(out, field)?;
+    }
+    Ok(())
+}
+
+// Writes a space and the cell of a run, as often as it stands there. Its text is made once.
+fn write_run<W: Sink>(
     out: &mut W,
     block: &mut Block,
     cell: Cell,
+    count: u32,
     null_text: &[u8],
-    behind: &[u8],
 ) -> Result<(), WriteFault>
     requires { length null_text.now ≤ 64 }
-    ensures ok { OnOk result (Gathers (W.taken out.old) block.old (cell_text null_text.now cell ++ behind.now) (W.taken out.new) block.new) }
-    ensures err { IfErr result (λ fault. CutsOff (W.taken out.old) block.old (cell_text null_text.now cell ++ behind.now) (W.taken out.new) fault.written) }
+    ensures ok { OnOk result (Gathers (W.taken out.old) block.old (cells_text null_text.now (replicate count cell)) (W.taken out.new) block.new) }
+    ensures err { IfErr result (λ fault. CutsOff (W.taken out.old) block.old (cells_text null_text.now (replicate count cell)) (W.taken out.new) fault.written) }
     ensures lost { IfErr result (λ fault. block.new ≡ record { held = []; written = fault.written }) }
-    ensures counted { counted block.new ≤ counted block.old + (75 + length behind.now) }
+    ensures counted { counted block.new ≤ counted block.old + 65 * count }
     ensures failed { W.failed out.new ≡ (W.failed out.old || is_err result) }
 {
-    write_cell(out, block, cell, null_text)?;
-    block.push(out, behind)
+    match cell.get() {
+        None => write_times(out, block, null_text, count),
+        Some(category) => write_times(out, block, Buffer::new().format(category).as_bytes(), count),
+    }
+}
+
+// Writes a space and a cell for each cell of the runs.
+fn write_runs<W: Sink>(
+    out: &mut W,
+    block: &mut Block,
+    runs: Runs<'_>,
+    null_text: &[u8],
+) -> Result<(), WriteFault>
+    requires { length null_text.now ≤ 64 }
+    ensures ok { OnOk result (Gathers (W.taken out.old) block.old (cells_text null_text.now (written_out runs.entry)) (W.taken out.new) block.new) }
+    ensures err { IfErr result (λ fault. CutsOff (W.taken out.old) block.old (cells_text null_text.now (written_out runs.entry)) (W.taken out.new) fault.written) }
+    ensures lost { IfErr result (λ fault. block.new ≡ record { held = []; written = fault.written }) }
+    ensures counted { counted block.new ≤ counted block.old + 65 * length (written_out runs.entry) }
+    ensures failed { W.failed out.new ≡ (W.failed out.old || is_err result) }
+{
+    for (cell, count) in runs {
+        write_run(out, block, cell, count, null_text)?;
+    }
+    Ok(())
+}
+
+// Writes the cells of the runs of a row, with a space between each two.
+fn write_cells<W: Sink>(
+    out: &mut W,
+    block: &mut Block,
+    runs: Runs<'_>,
+    null_text: &[u8],
+) -> Result<(), WriteFault>
+    requires null { length null_text.now ≤ 64 }
+    requires runs { AreRuns runs }
+    ensures ok { OnOk result (Gathers (W.taken out.old) block.old (joined_cells null_text.now (written_out runs.entry)) (W.taken out.new) block.new) }
+    ensures err { IfErr result (λ fault. CutsOff (W.taken out.old) block.old (joined_cells null_text.now (written_out runs.entry)) (W.taken out.new) fault.written) }
+    ensures lost { IfErr result (λ fault. block.new ≡ record { held = []; written = fault.written }) }
+    ensures counted { counted block.new ≤ counted block.old + (75 + 65 * length (written_out runs.entry)) }
+    ensures failed { W.failed out.new ≡ (W.failed out.old || is_err result) }
+{
+    let mut others = runs;
+    let Some(first) = others.next() else {
+        return Ok(());
+    };
+    write_cell(out, block, first.0, null_text)?;
+    write_run(out, block, first.0, first.1 - 1, null_text)?;
+    write_runs(out, block, others, null_text)
 }
 
 // Writes the line of a row.
@@ -221,17 +304,15 @@ fn write_row<W: Sink>(
 ) -> Result<(), WriteFault>
     requires null { length null_text.now ≤ 64 }
     requires row { row < map.now.region.rows }
+    requires cols { map.now.region.cols ≤ 65535 }
     ensures ok { OnOk result (Gathers (W.taken out.old) block.old (row_text null_text.now (row_at map.now row)) (W.taken out.new) block.new) }
     ensures err { IfErr result (λ fault. CutsOff (W.taken out.old) block.old (row_text null_text.now (row_at map.now row)) (W.taken out.new) fault.written) }
     ensures lost { IfErr result (λ fault. block.new ≡ record { held = []; written = fault.written }) }
-    ensures counted { counted block.new ≤ counted block.old + 76 * 32767 }
+    ensures counted { counted block.new ≤ counted block.old + 76 * 65535 }
     ensures failed { W.failed out.new ≡ (W.failed out.old || is_err result) }
 {
-    let last = map.region().cols() - 1;
-    for col in 0..last {
-        write_field(out, block, map.cell(row, col), null_text, b" ")?;
-    }
-    write_field(out, block, map.cell(row, last), null_text, b"\n")
+    write_cells(out, block, map.runs(row), null_text)?;
+    block.push(out, b"\n")
 }
 
 // Writes the lines of all rows.
@@ -245,7 +326,7 @@ fn write_rows<W: Sink>(
     ensures ok { OnOk result (Gathers (W.taken out.old) block.old (flat_map (row_text null_text.now) map.now.rows) (W.taken out.new) block.new) }
     ensures err { IfErr result (λ fault. CutsOff (W.taken out.old) block.old (flat_map (row_text null_text.now) map.now.rows) (W.taken out.new) fault.written) }
     ensures lost { IfErr result (λ fault. block.new ≡ record { held = []; written = fault.written }) }
-    ensures counted { counted block.new ≤ counted block.old + 76 * 32767 * 32767 }
+    ensures counted { counted block.new ≤ counted block.old + 76 * 65535 * 65535 }
     ensures failed { W.failed out.new ≡ (W.failed out.old || is_err result) }
 {
     for row in 0..map.region().rows() {

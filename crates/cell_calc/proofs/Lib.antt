@@ -1,10 +1,8 @@
-pub mod Complete
-pub mod Law
-pub mod Sound
-pub mod Local
-pub mod Told
-pub mod Steps
-pub mod Faults
-pub mod Pieces
-pub mod SpellingLemmas
-pub mod OnlyLemmas
+-- What several proofs share.
+pub mod Columns
+pub mod Fit
+pub mod Frequent
+pub mod Ready
+pub mod Rings
+pub mod Strips
+pub mod Worked

@@ -1,14 +1,8 @@
--- The language of r.mapcalc: tokens, expressions, the grammar and its faults.
-pub mod Assignment
-pub mod Code
-pub mod Function
-pub mod Grammar
-pub mod GrammarFault
-pub mod Operator
-pub mod Reading
-pub mod Spelling
-pub mod Stopping
-pub mod Term
-pub mod Token
-pub mod Tokens
-pub mod Tree
+-- Values of expressions of r.mapcalc at cells, windows over maps, names bound to places.
+pub mod Binding
+pub mod Cells
+pub mod Formula
+pub mod Reach
+pub mod Value
+pub mod Window
+pub mod parts

@@ -1,14 +1,20 @@
-//! The language of r.mapcalc over whole-number maps.
+//! Values of expressions of r.mapcalc, row by row over windows.
 #![tactic(auto)]
 
-pub mod assignment;
-pub mod expr;
-pub mod fault;
-pub mod function;
-pub mod operator;
-mod parsing;
-#[cfg(test)]
-mod tests;
-pub mod token;
-pub mod tokens;
-mod tree;
+mod along;
+pub mod binding;
+pub mod bound;
+mod calls;
+mod cells;
+pub mod formula;
+mod held;
+mod modes;
+mod rows;
+pub mod window;
+
+pub use binding::resolve;
+pub use bound::{Bound, eval_row};
+pub use cell_language::assignment::{Assignment, parse};
+pub use cell_language::expr::Expr;
+pub use cell_language::fault::{CalcFault, CalcKind};
+pub use window::RowWindow;

@@ -1,4 +1,6 @@
 pub mod BlockLemmas
 pub mod DeviceLemmas
 pub mod GatherLemmas
+pub mod LabelLemmas
 pub mod NameLemmas
+pub mod RunLemmas

@@ -11,9 +11,8 @@ pub mod map;
 pub mod memory;
 pub mod name;
 pub mod region;
+pub mod runs;
 pub mod shelf;
 pub mod sink;
 pub mod source;
-#[cfg(test)]
-mod tests;
 pub mod text;

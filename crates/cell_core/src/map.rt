@@ -1,35 +1,43 @@
 //! Maps of cells, and maps in the making.
 
-ghost use Rattle.std.specs.Prelude.{◌≡◌, ◌+◌, ◌<◌, ◌++◌, [], ◌∷◌, length, OnOk, OnErr};
+ghost use Rattle.std.specs.Prelude.{◌≡◌, ◌≢◌, ◌+◌, ◌<◌, ◌++◌, [], ◌∷◌, length, OnOk, OnErr};
 ghost use Rattle.std.specs.Option.{option_map};
-ghost use Rattle.std.specs.FinMap.{get};
-ghost use Rattle.cell_core.specs.Grid.{Grid, Draft, cell_at, row_at, IsFilled, IsDraft, no_labels};
+ghost use Rattle.std.specs.FinMap.{get, insert};
+ghost use Rattle.cell_core.specs.Grid.{Grid, Draft, cell_at, row_at, IsFilled, IsDraft, AreCells, no_labels};
+ghost use Rattle.cell_core.specs.Runs.{AreRuns, written_out};
 
 use crate::cell::Cell;
 use crate::memory::Memory;
 use crate::region::Region;
+use crate::runs::{Runs, cell_in, runs_of, write_out};
 use std::alloc::Global;
+use std::collections::BTreeMap;
 use std::marker::Model;
 
 /// A raster map of whole numbers (GRASS: a CELL map): its region, its rows from the top, and the
-/// labels of its categories. Rows and columns count from 0.
+/// labels of its categories. Rows and columns count from 0. A row is kept as its runs.
 #[derive(Debug, Drop)]
 pub struct CellMap {
     region: Region,
-    rows: Vec<Vec<Cell>>,
+    alloc: Global,
+    rows: Vec<Vec<(Cell, u32)>>,
+    labels: BTreeMap<i32, Vec<u8>>,
 }
 
 impl Model for CellMap {
-    ghost use Rattle.std.specs.Prelude.{map};
-    ghost use Rattle.cell_core.specs.Grid.{Grid, grid_code, IsFilled, no_labels};
+    ghost use Rattle.std.specs.Prelude.{map, All};
+    ghost use Rattle.std.specs.FinMap.{from_entries};
+    ghost use Rattle.cell_core.specs.Grid.{Grid, grid_code, IsFilled};
+    ghost use Rattle.cell_core.specs.Cell.{IsCell};
+    ghost use Rattle.cell_core.specs.Runs.{AreRuns, written_out};
 
     ghost Value = { Grid };
 
     ghost coded = { grid_code };
 
-    ghost view = { λ m. record { region = m.region; rows = map (λ row. row.items) m.rows.items; labels = no_labels } };
+    ghost view = { λ m. record { region = m.region; rows = map (λ row. written_out row.items) m.rows.items; labels = from_entries (map (λ e. (e.0, e.1.items)) m.labels.entries) } };
 
-    ghost invariant = { λ m. IsFilled m.region (map (λ row. row.items) m.rows.items) };
+    ghost invariant = { λ m. IsFilled m.region (map (λ row. written_out row.items) m.rows.items) × All (λ row. AreRuns row.items) m.rows.items × All (λ row. All IsCell (written_out row.items)) m.rows.items };
 }
 
 impl CellMap {
@@ -47,7 +55,7 @@ impl CellMap {
         requires col_in_range { col < self.now.region.cols }
         ensures { result ≡ cell_at self.now row col }
     {
-        self.rows[row as usize][col as usize]
+        cell_in(&self.rows[row as usize], col)
     }
 
     /// Copies the cells of a row, from left to right. The slice has as many cells as the region
@@ -57,17 +65,50 @@ impl CellMap {
         requires width { length cells.old ≡ self.now.region.cols }
         ensures { cells.new ≡ row_at self.now row }
     {
-        cells.copy_from_slice(&self.rows[row as usize]);
+        write_out(&self.rows[row as usize], cells);
     }
 
-    /// The label of a category, or None where it has none. No category has one as yet.
+    /// The runs of a row, from left to right.
+    pub fn runs(&self, row: u32) -> Runs<'_>
+        requires row_in_range { row < self.now.region.rows }
+        ensures written { written_out result ≡ row_at self.now row }
+        ensures width { length (written_out result) ≡ self.now.region.cols }
+        ensures runs { AreRuns result }
+    {
+        Runs::over(&self.rows[row as usize])
+    }
+
+    /// Says that each cell of a map is null or a category. Does nothing.
+    pub fn cells_are_in_range(&self)
+        ensures { AreCells self.now.rows }
+    {
+        // The proof looks at the rows that are kept.
+        let _ = &self.rows;
+    }
+
+    /// The label that was last set for a category, or None where none was.
     pub fn label(&self, category: i32) -> Option<&[u8]>
         ensures { option_map (λ text. text.now) result ≡ get self.now.labels category }
     {
-        // The proof looks into the map, which keeps no labels as yet.
-        let _ = &self.rows;
-        let _ = category;
-        None
+        match self.labels.get(&category) {
+            Some(text) => Some(text.as_slice()),
+            None => None,
+        }
+    }
+
+    /// Sets the label of a category to a copy of the text. All else of the map stays.
+    ///
+    /// # Errors
+    ///
+    /// [`Memory`] where memory was refused: nothing is changed.
+    pub fn set_label(&mut self, category: i32, text: &[u8]) -> Result<(), Memory>
+        requires { category ≢ i32.MIN }
+        ensures ok { OnOk result (self.new ≡ record self.old { labels = insert self.old.labels category text.now }) }
+        ensures err { OnErr result (self.new ≡ self.old) }
+    {
+        let label = Vec::from_slice(self.alloc, text)?;
+        self.labels.insert(category, label)?;
+        Ok(())
     }
 }
 
@@ -76,18 +117,20 @@ impl CellMap {
 pub struct MapBuilder {
     region: Region,
     alloc: Global,
-    rows: Vec<Vec<Cell>>,
+    rows: Vec<Vec<(Cell, u32)>>,
 }
 
 impl Model for MapBuilder {
-    ghost use Rattle.std.specs.Prelude.{map};
+    ghost use Rattle.std.specs.Prelude.{map, All};
     ghost use Rattle.cell_core.specs.Grid.{Draft, IsDraft};
+    ghost use Rattle.cell_core.specs.Cell.{IsCell};
+    ghost use Rattle.cell_core.specs.Runs.{AreRuns, written_out};
 
     ghost Value = { Draft };
 
-    ghost view = { λ m. record { region = m.region; rows = map (λ row. row.items) m.rows.items } };
+    ghost view = { λ m. record { region = m.region; rows = map (λ row. written_out row.items) m.rows.items } };
 
-    ghost invariant = { λ m. IsDraft m.region (map (λ row. row.items) m.rows.items) };
+    ghost invariant = { λ m. IsDraft m.region (map (λ row. written_out row.items) m.rows.items) × All (λ row. AreRuns row.items) m.rows.items × All (λ row. All IsCell (written_out row.items)) m.rows.items };
 }
 
 impl MapBuilder {
@@ -121,8 +164,8 @@ impl MapBuilder {
         ensures ok { OnOk result (self.new ≡ record self.old { rows = self.old.rows ++ row.now ∷ [] }) }
         ensures err { OnErr result (self.new ≡ self.old) }
     {
-        let copy = Vec::from_slice(self.alloc, row)?;
-        self.rows.push(copy)?;
+        let runs = runs_of(self.alloc, row)?;
+        self.rows.push(runs)?;
         Ok(())
     }
 
@@ -133,9 +176,14 @@ impl MapBuilder {
     {
         let MapBuilder {
             region,
-            alloc: _,
+            alloc,
             rows,
         } = self;
-        CellMap { region, rows }
+        CellMap {
+            region,
+            alloc,
+            rows,
+            labels: BTreeMap::new(alloc),
+        }
     }
 }

@@ -1,7 +1,7 @@
 //! The rectangle that a map covers, cut into rows and columns.
 
-ghost use Rattle.std.specs.Prelude.{◌≡◌, ◌<◌, ◌↔◌, IsTrue};
-ghost use Rattle.cell_core.specs.Region.{RegionValue, IsRegion, region_fault, is_above, is_side};
+ghost use Rattle.std.specs.Prelude.{◌≡◌, ◌<◌, ◌≤◌, ◌*◌, ◌↔◌, IsTrue, nat_le};
+ghost use Rattle.cell_core.specs.Region.{RegionValue, IsRegion, most_side, most_cells, region_fault, is_above, is_side};
 ghost use Rattle.cell_core.specs.SameRegion.{is_same_region};
 
 use std::marker::Model;
@@ -12,13 +12,22 @@ pub enum RegionFault {
     /// The north edge is not above the south edge, the east edge is not above the west edge, or
     /// an edge lies beyond 9999999999.99999999 either way.
     BadExtent,
-    /// The number of rows is not from 1 to 32767.
+    /// The number of rows is not from 1 to 65535.
     BadRows,
-    /// The number of columns is not from 1 to 32767.
+    /// The number of columns is not from 1 to 65535.
     BadCols,
+    /// There are more than 2147483647 cells.
+    TooManyCells,
 }
 
-const LIMIT: i64 = 999999999999999999;
+// The greatest edge, in units of 10^-8; its opposite is the least.
+const MOST_EDGE: i64 = 999999999999999999;
+
+// The greatest number of rows, and of columns.
+const MOST_SIDE: u32 = 65535;
+
+// The greatest number of cells.
+const MOST_CELLS: u32 = 2147483647;
 
 /// A rectangle with its numbers of rows and columns (g.region manual).
 ///
@@ -50,14 +59,22 @@ impl Model for Region {
 fn is_above(high: i64, low: i64) -> bool
     ensures { result ≡ is_above high low }
 {
-    low < high && -LIMIT <= low && high <= LIMIT
+    low < high && -MOST_EDGE <= low && high <= MOST_EDGE
 }
 
 // Whether it may be a number of rows or of columns.
 fn is_side(count: u32) -> bool
     ensures { result ≡ is_side count }
 {
-    1 <= count && count <= 32767
+    1 <= count && count <= MOST_SIDE
+}
+
+// Whether so many rows of so many columns have no more cells than there are categories above 0.
+fn is_countable(rows: u32, cols: u32) -> bool
+    requires { (rows ≤ most_side) × (cols ≤ most_side) }
+    ensures { result ≡ nat_le (rows * cols) most_cells }
+{
+    rows * cols <= MOST_CELLS
 }
 
 // Whether all six numbers are equal.
@@ -92,6 +109,9 @@ impl Region {
         }
         if !is_side(cols) {
             return Err(RegionFault::BadCols);
+        }
+        if !is_countable(rows, cols) {
+            return Err(RegionFault::TooManyCells);
         }
         Ok(Region {
             north,
@@ -135,7 +155,7 @@ impl Region {
         self.west
     }
 
-    /// The number of rows, 1 to 32767.
+    /// The number of rows, 1 to 65535.
     pub fn rows(&self) -> u32
         ensures value { result ≡ self.now.rows }
         ensures region { IsRegion self.now }
@@ -143,7 +163,7 @@ impl Region {
         self.rows
     }
 
-    /// The number of columns, 1 to 32767.
+    /// The number of columns, 1 to 65535.
     pub fn cols(&self) -> u32
         ensures value { result ≡ self.now.cols }
         ensures region { IsRegion self.now }

@@ -1,0 +1,32 @@
+-- A cell whose bytes are held: a space, a word and a byte that ends it.
+use Rattle.std.specs.Prelude.{ℕ, ◌-◌, ◌≡◌, ◌<◌, ◌≤◌, true, List, drop, take, length, slice_index_or, Ok}
+use Rattle.std.specs.List.{list_all}
+use Rattle.cell_core.specs.Device.{Coming}
+use Rattle.cell_core.specs.Grid.{CellValue}
+use Rattle.cell_ascii.specs.Ahead.{before_coming}
+use Rattle.cell_ascii.specs.Words.{is_space}
+use Rattle.cell_ascii.specs.Numbers.{is_digit, value_of_digits}
+use Rattle.cell_ascii.specs.Header.{Header}
+use Rattle.cell_ascii.specs.Cells.{cell_from, cell_of_word, at_of}
+
+-- whatever comes behind these bytes, the next cell is this one and takes the first n of them
+abbrev pub HoldsCell : Header → List ℕ → CellValue → ℕ → Type 0
+HoldsCell h bs v n = (line run : ℕ) → run < 1048576 → (c : Coming)
+    → cell_from h (at_of line run (before_coming bs c)) ≡ Ok (v, at_of line 0 (before_coming (drop n bs) c))
+
+-- the first n bytes, without the first of all
+abbrev pub held_word : List ℕ → ℕ → List ℕ
+held_word bs n = take (n - 1) (drop 1 bs)
+
+-- they are the next word, so that it decides the next cell
+abbrev pub HoldsWord : List ℕ → ℕ → Type 0
+HoldsWord bs n = (h : Header) (v : CellValue) → cell_of_word h (held_word bs n) ≡ Ok v → HoldsCell h bs v n
+
+-- the first n bytes are the digits of a value, and a byte that ends a word follows
+pub record IsNumeral (bs : List ℕ) (value n : ℕ) : Type 0 where
+  pub some : 0 < n
+  pub few : n ≤ 9
+  pub within : n < length bs
+  pub digits : list_all is_digit (take n bs) ≡ true
+  pub sum : value ≡ value_of_digits (take n bs)
+  pub ends : is_space (slice_index_or bs n 0) ≡ true

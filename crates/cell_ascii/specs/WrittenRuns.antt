@@ -1,0 +1,17 @@
+-- The cells of a row as they are written, run by run.
+use Rattle.std.specs.Prelude.{ℕ, List, ◌∷◌, map, flat_map, replicate}
+use Rattle.std.specs.List.{join_with_byte}
+use Rattle.cell_core.specs.Grid.{CellValue}
+use Rattle.cell_core.specs.Text.{cell_text}
+
+-- a text, so many times
+abbrev pub times : ℕ → List ℕ → List ℕ
+times n text = flat_map (λ t. t) (replicate n text)
+
+-- a space and a cell, for each cell
+abbrev pub cells_text : List ℕ → List CellValue → List ℕ
+cells_text null_text cells = flat_map (λ cell. 32 ∷ cell_text null_text cell) cells
+
+-- the cells, with a space between each two
+abbrev pub joined_cells : List ℕ → List CellValue → List ℕ
+joined_cells null_text cells = join_with_byte 32 (map (cell_text null_text) cells)

@@ -1,0 +1,11 @@
+use Rattle.std.proofs.Common.{◌≡◌, ◌<◌, ℕ, length, map}
+use Rattle.cell_calc.specs.parts.Rows.{at, column}
+use Rattle.cell_calc.specs.Cells.{most_frequent, known}
+use Rattle.cell_calc.proofs.modes.known_mode.Given as goal
+
+abbrev pub invariant-loop-c : goal.invariant-loop-c
+invariant-loop-c l =
+    record {
+      width : length l.row ≡ length l.initial.row;
+      done : (k : ℕ) → k < l.c → at l.row k ≡ most_frequent (known (column k (map (λ cells. cells.items) l.arguments)));
+    }

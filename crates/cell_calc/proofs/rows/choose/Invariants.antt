@@ -1,0 +1,11 @@
+use Rattle.std.proofs.Common.{◌≡◌, ◌<◌, ◌≤◌, ℕ}
+use Rattle.cell_calc.specs.parts.Rows.{at}
+use Rattle.cell_calc.specs.Cells.{chosen}
+use Rattle.cell_calc.proofs.rows.choose.Given as goal
+
+abbrev pub invariant-loop-i : goal.invariant-loop-i
+invariant-loop-i l =
+    record {
+      done : (c : ℕ) → c < l.i → at l.row c ≡ chosen (at l.initial.row c) (at l.yes c) (at l.no c);
+      rest : (c : ℕ) → l.i ≤ c → at l.row c ≡ at l.initial.row c;
+    }

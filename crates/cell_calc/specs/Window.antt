@@ -1,0 +1,38 @@
+-- Windows: the rows of a map around a centre row (profile).
+use Rattle.std.specs.Prelude.{◌≡◌, ◌≤◌, ℕ, ℤ, pos, ◌+◌, ◌-◌, ◌≤ℤ◌, neg_ℤ, List, take, drop, Option, Some, None}
+use Rattle.cell_core.specs.Grid.{Grid, CellValue}
+
+-- how many rows it reaches up and down, its centre, how many rows and columns its map has, and the rows that it holds
+pub record Window : Type 0 where
+  pub above : ℕ
+  pub below : ℕ
+  pub centre : ℕ
+  pub rows : ℕ
+  pub cols : ℕ
+  pub held : List (List CellValue)
+
+-- the rows from so many above a row to so many below it, as far as there are any, in order
+abbrev pub around : (above below centre : ℕ) → List (List CellValue) → List (List CellValue)
+around above below centre rows = drop (centre - above) (take (centre + below + 1) rows)
+
+-- it is one of this map: it holds the rows around its centre, and no other
+pub record IsWindowOf (w : Window) (m : Grid) : Type 0 where
+  pub rows : w.rows ≡ m.region.rows
+  pub cols : w.cols ≡ m.region.cols
+  pub held : w.held ≡ around w.above w.below w.centre m.rows
+
+-- an offset within its reach
+pub record Reaches (w : Window) (offset : ℤ) : Type 0 where
+  pub up : neg_ℤ (pos w.above) ≤ℤ offset
+  pub down : offset ≤ℤ pos w.below
+
+-- there is a window and a map, and the window is one of the map
+abbrev pub IsOver : Option Window → Option Grid → Type 0
+IsOver None m = ⊥
+IsOver (Some w) None = ⊥
+IsOver (Some w) (Some m) = IsWindowOf w m
+
+-- there is a window that stands at the row and reaches so far up and down
+abbrev pub HasReach : (row up down : ℕ) → Option Window → Type 0
+HasReach row up down None = ⊥
+HasReach row up down (Some w) = (w.centre ≡ row) × ((up ≤ w.above) × (down ≤ w.below))

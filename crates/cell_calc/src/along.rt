@@ -1,0 +1,97 @@
+//! Values along strips.
+
+ghost use Rattle.std.specs.Prelude.{◌≡◌, ◌≤◌, ◌<◌, ◌+◌, length, OnOk, IfOk, map, All};
+ghost use Rattle.cell_calc.specs.Reach.{IsProper, AreProper};
+ghost use Rattle.cell_calc.specs.parts.Along.{AreReady, AreAllReady, AreValues, AreColumns};
+ghost use Rattle.cell_calc.specs.parts.Tree.{formula_of, formulas_of};
+
+use crate::calls::call;
+use crate::formula::{Node, Nodes};
+use crate::window::RowWindow;
+use crate::{cells, rows};
+use cell_core::cell::Cell;
+use cell_core::memory::Memory;
+use cell_core::region::Region;
+use std::alloc::Global;
+
+/// The values of an expression along a strip, from windows that stand at its row.
+#[cycle(along)]
+pub(crate) fn along(
+    alloc: Global,
+    node: &Node,
+    region: Region,
+    row: u32,
+    from: usize,
+    windows: &[RowWindow],
+    cells: &mut [Cell],
+) -> Result<(), Memory>
+    requires proper { IsProper (formula_of node.now) }
+    requires ready { AreReady (formula_of node.now) row windows.now }
+    requires row { row < region.rows }
+    requires width { from + length cells.old ≤ region.cols }
+    ensures width { length cells.new ≡ length cells.old }
+    ensures each { OnOk result (AreValues (formula_of node.now) windows.now region row from cells.new) }
+{
+    match node {
+        Node::Number(n) => {
+            rows::fill(cells, cells::number(*n));
+            Ok(())
+        }
+        Node::Map { place, down, right } => {
+            rows::shift(windows[*place].row(*down), from, *right, cells);
+            Ok(())
+        }
+        Node::Negated(a) => {
+            along(alloc, a, region, row, from, windows, cells)?;
+            rows::negate(cells);
+            Ok(())
+        }
+        Node::Not(a) => {
+            along(alloc, a, region, row, from, windows, cells)?;
+            rows::invert(cells);
+            Ok(())
+        }
+        Node::Binary(operator, a, b) => {
+            along(alloc, a, region, row, from, windows, cells)?;
+            let mut others = Vec::from_slice(alloc, cells)?;
+            along(alloc, b, region, row, from, windows, others.as_mut_slice())?;
+            rows::apply(*operator, cells, others.as_slice());
+            Ok(())
+        }
+        Node::Call(function, xs) => {
+            let arguments = along_all(alloc, xs, region, row, from, windows, cells)?;
+            call(*function, region, row, from, arguments.as_slice(), cells);
+            Ok(())
+        }
+    }
+}
+
+// Those of arguments. Rows are copies of a row of that width, since a copy is made faster than a blank row.
+#[cycle(along)]
+fn along_all(
+    alloc: Global,
+    nodes: &Nodes,
+    region: Region,
+    row: u32,
+    from: usize,
+    windows: &[RowWindow],
+    like: &[Cell],
+) -> Result<Vec<Vec<Cell>>, Memory>
+    requires proper { AreProper (formulas_of nodes.now) }
+    requires ready { AreAllReady (formulas_of nodes.now) row windows.now }
+    requires row { row < region.rows }
+    requires width { from + length like.now ≤ region.cols }
+    ensures width { IfOk result (λ rows. All (λ cells. length cells.items ≡ length like.now) rows.items) }
+    ensures each { IfOk result (λ rows. AreColumns (formulas_of nodes.now) windows.now region row from (length like.now) (map (λ cells. cells.items) rows.items)) }
+{
+    match nodes {
+        Nodes::Empty => Ok(Vec::new(alloc)),
+        Nodes::Then(a, xs) => {
+            let mut first = Vec::from_slice(alloc, like)?;
+            along(alloc, a, region, row, from, windows, first.as_mut_slice())?;
+            let mut rows = along_all(alloc, xs, region, row, from, windows, like)?;
+            rows.insert(0, first)?;
+            Ok(rows)
+        }
+    }
+}

@@ -1,0 +1,352 @@
+//! What operators and functions do with cells.
+
+ghost use Rattle.std.specs.Prelude.{◌≡◌, pos, ◌+ℤ◌, ◌-ℤ◌, ◌*ℤ◌, ◌≤ℤ◌, ◌≤◌, Some, negsuc, neg_ℤ, int_div, unsigned_abs, false};
+ghost use Rattle.cell_calc.specs.Cells.{fit, truth, chosen, lesser, greater, is_zero, is_false, is_true, is_null, known_and, known_or, of_one};
+ghost use Rattle.cell_calc.specs.Value.{negated, inverted, size_of, applied};
+ghost use Rattle.cell_calc.specs.parts.Joins.{known_lesser, known_greater};
+ghost use Rattle.cell_language.specs.declared.operator.Operator.TheVariants as operator;
+
+use cell_core::cell::Cell;
+
+/// A number as a category, null outside the range.
+pub(crate) fn fit(number: i32) -> Cell
+    ensures { result ≡ fit number }
+{
+    match Cell::value(number) {
+        Some(cell) => cell,
+        None => Cell::null(),
+    }
+}
+
+/// A natural number as a category.
+#[tactic(auto, using(crate::proofs::Fit::fit_number))]
+pub(crate) fn number(number: u32) -> Cell
+    requires { number ≤ 2147483647 }
+    ensures { result ≡ Some (pos number) }
+{
+    fit(number as i32)
+}
+
+/// A result that was found, null where none was.
+fn found(number: Option<i32>) -> Cell
+    ensures { result ≡ of_one (λ n. fit n) number }
+{
+    match number {
+        Some(number) => fit(number),
+        None => Cell::null(),
+    }
+}
+
+pub(crate) fn truth(holds: bool) -> Cell
+    ensures { result ≡ truth holds }
+{
+    if holds { fit(1) } else { fit(0) }
+}
+
+fn is_zero(x: i32) -> bool
+    ensures { result ≡ is_zero x }
+{
+    x == 0
+}
+
+pub(crate) fn is_null(a: Cell) -> bool
+    ensures { result ≡ is_null a }
+{
+    match a.get() {
+        Some(_) => false,
+        None => true,
+    }
+}
+
+fn is_false(a: Cell) -> bool
+    ensures { result ≡ is_false a }
+{
+    match a.get() {
+        Some(x) => is_zero(x),
+        None => false,
+    }
+}
+
+fn is_true(a: Cell) -> bool
+    ensures { result ≡ is_true a }
+{
+    match a.get() {
+        Some(x) => !is_zero(x),
+        None => false,
+    }
+}
+
+#[tactic(auto, using(crate::proofs::Fit::fit_checked))]
+fn sum_of(x: i32, y: i32) -> Cell
+    ensures { result ≡ fit (x +ℤ y) }
+{
+    found(x.checked_add(y))
+}
+
+#[tactic(auto, using(crate::proofs::Fit::fit_checked))]
+fn difference_of(x: i32, y: i32) -> Cell
+    ensures { result ≡ fit (x -ℤ y) }
+{
+    found(x.checked_sub(y))
+}
+
+#[tactic(auto, using(crate::proofs::Fit::fit_checked))]
+fn product_of(x: i32, y: i32) -> Cell
+    ensures { result ≡ fit (x *ℤ y) }
+{
+    found(x.checked_mul(y))
+}
+
+fn quotient_of(x: i32, y: i32) -> Cell
+    requires { is_zero y ≡ false }
+    ensures { result ≡ fit (int_div x y) }
+{
+    found(x.checked_div(y))
+}
+
+fn remainder_of(x: i32, y: i32) -> Cell
+    requires category { negsuc 2147483646 ≤ℤ x }
+    requires divisor { is_zero y ≡ false }
+    ensures { result ≡ fit (x -ℤ (y *ℤ int_div x y)) }
+{
+    found(x.checked_rem(y))
+}
+
+pub(crate) fn sum(a: Cell, b: Cell) -> Cell
+    ensures { result ≡ applied operator.Plus a b }
+{
+    match (a.get(), b.get()) {
+        (Some(x), Some(y)) => sum_of(x, y),
+        _ => Cell::null(),
+    }
+}
+
+pub(crate) fn difference(a: Cell, b: Cell) -> Cell
+    ensures { result ≡ applied operator.Minus a b }
+{
+    match (a.get(), b.get()) {
+        (Some(x), Some(y)) => difference_of(x, y),
+        _ => Cell::null(),
+    }
+}
+
+pub(crate) fn product(a: Cell, b: Cell) -> Cell
+    ensures { result ≡ applied operator.Times a b }
+{
+    match (a.get(), b.get()) {
+        (Some(x), Some(y)) => product_of(x, y),
+        _ => Cell::null(),
+    }
+}
+
+pub(crate) fn quotient(a: Cell, b: Cell) -> Cell
+    ensures { result ≡ applied operator.Divide a b }
+{
+    match (a.get(), b.get()) {
+        (Some(x), Some(y)) => {
+            if is_zero(y) {
+                Cell::null()
+            } else {
+                quotient_of(x, y)
+            }
+        }
+        _ => Cell::null(),
+    }
+}
+
+pub(crate) fn remainder(a: Cell, b: Cell) -> Cell
+    ensures { result ≡ applied operator.Modulo a b }
+{
+    match (a.get(), b.get()) {
+        (Some(x), Some(y)) => {
+            if is_zero(y) {
+                Cell::null()
+            } else {
+                remainder_of(x, y)
+            }
+        }
+        _ => Cell::null(),
+    }
+}
+
+pub(crate) fn less(a: Cell, b: Cell) -> Cell
+    ensures { result ≡ applied operator.Less a b }
+{
+    match (a.get(), b.get()) {
+        (Some(x), Some(y)) => truth(x < y),
+        _ => Cell::null(),
+    }
+}
+
+pub(crate) fn less_equal(a: Cell, b: Cell) -> Cell
+    ensures { result ≡ applied operator.LessEqual a b }
+{
+    match (a.get(), b.get()) {
+        (Some(x), Some(y)) => truth(x <= y),
+        _ => Cell::null(),
+    }
+}
+
+pub(crate) fn greater(a: Cell, b: Cell) -> Cell
+    ensures { result ≡ applied operator.Greater a b }
+{
+    match (a.get(), b.get()) {
+        (Some(x), Some(y)) => truth(x > y),
+        _ => Cell::null(),
+    }
+}
+
+pub(crate) fn greater_equal(a: Cell, b: Cell) -> Cell
+    ensures { result ≡ applied operator.GreaterEqual a b }
+{
+    match (a.get(), b.get()) {
+        (Some(x), Some(y)) => truth(x >= y),
+        _ => Cell::null(),
+    }
+}
+
+pub(crate) fn equal(a: Cell, b: Cell) -> Cell
+    ensures { result ≡ applied operator.Equal a b }
+{
+    match (a.get(), b.get()) {
+        (Some(x), Some(y)) => truth(x == y),
+        _ => Cell::null(),
+    }
+}
+
+pub(crate) fn not_equal(a: Cell, b: Cell) -> Cell
+    ensures { result ≡ applied operator.NotEqual a b }
+{
+    match (a.get(), b.get()) {
+        (Some(x), Some(y)) => truth(x != y),
+        _ => Cell::null(),
+    }
+}
+
+pub(crate) fn and(a: Cell, b: Cell) -> Cell
+    ensures { result ≡ applied operator.And a b }
+{
+    match (a.get(), b.get()) {
+        (Some(x), Some(y)) => truth(!is_zero(x) && !is_zero(y)),
+        _ => Cell::null(),
+    }
+}
+
+pub(crate) fn or(a: Cell, b: Cell) -> Cell
+    ensures { result ≡ applied operator.Or a b }
+{
+    match (a.get(), b.get()) {
+        (Some(x), Some(y)) => truth(!is_zero(x) || !is_zero(y)),
+        _ => Cell::null(),
+    }
+}
+
+pub(crate) fn lesser(a: Cell, b: Cell) -> Cell
+    ensures { result ≡ lesser a b }
+{
+    match (a.get(), b.get()) {
+        (Some(x), Some(y)) => { if y < x { b } else { a } }
+        _ => Cell::null(),
+    }
+}
+
+pub(crate) fn larger(a: Cell, b: Cell) -> Cell
+    ensures { result ≡ greater a b }
+{
+    match (a.get(), b.get()) {
+        (Some(x), Some(y)) => { if y < x { a } else { b } }
+        _ => Cell::null(),
+    }
+}
+
+pub(crate) fn known_and(a: Cell, b: Cell) -> Cell
+    ensures { result ≡ applied operator.KnownAnd a b }
+{
+    if is_false(a) || is_false(b) {
+        return fit(0);
+    }
+    if is_null(a) || is_null(b) {
+        return Cell::null();
+    }
+    fit(1)
+}
+
+pub(crate) fn known_or(a: Cell, b: Cell) -> Cell
+    ensures { result ≡ applied operator.KnownOr a b }
+{
+    if is_true(a) || is_true(b) {
+        return fit(1);
+    }
+    if is_null(a) || is_null(b) {
+        return Cell::null();
+    }
+    fit(0)
+}
+
+pub(crate) fn known_lesser(a: Cell, b: Cell) -> Cell
+    ensures { result ≡ known_lesser a b }
+{
+    if is_null(a) {
+        return b;
+    }
+    if is_null(b) {
+        return a;
+    }
+    lesser(a, b)
+}
+
+pub(crate) fn known_larger(a: Cell, b: Cell) -> Cell
+    ensures { result ≡ known_greater a b }
+{
+    if is_null(a) {
+        return b;
+    }
+    if is_null(b) {
+        return a;
+    }
+    larger(a, b)
+}
+
+#[tactic(auto, using(crate::proofs::Fit::fit_checked))]
+pub(crate) fn negated(a: Cell) -> Cell
+    ensures { result ≡ negated a }
+{
+    match a.get() {
+        Some(x) => found(x.checked_neg()),
+        None => Cell::null(),
+    }
+}
+
+pub(crate) fn inverted(a: Cell) -> Cell
+    ensures { result ≡ inverted a }
+{
+    match a.get() {
+        Some(x) => truth(is_zero(x)),
+        None => Cell::null(),
+    }
+}
+
+#[tactic(auto, using(crate::proofs::Fit::fit_checked))]
+pub(crate) fn size(a: Cell) -> Cell
+    ensures { result ≡ size_of a }
+{
+    match a.get() {
+        Some(x) => found(x.checked_abs()),
+        None => Cell::null(),
+    }
+}
+
+pub(crate) fn chosen(condition: Cell, yes: Cell, no: Cell) -> Cell
+    ensures { result ≡ chosen condition yes no }
+{
+    match condition.get() {
+        Some(x) => { if is_zero(x) { no } else { yes } }
+        None => condition,
+    }
+}
+
+pub(crate) fn nullness(a: Cell) -> Cell
+    ensures { result ≡ truth (is_null a) }
+{
+    truth(is_null(a))
+}

@@ -1,0 +1,214 @@
+//! Rows of cells.
+
+ghost use Rattle.std.specs.Prelude.{◌≡◌, ◌≤◌, ◌<◌, ℕ, pos, length, None, Some, ◌+ℤ◌, ◌+◌};
+ghost use Rattle.cell_calc.specs.Cells.{chosen, truth, is_null, lesser, greater};
+ghost use Rattle.cell_calc.specs.Value.{applied, item_at, size_of, negated, inverted};
+ghost use Rattle.cell_calc.specs.parts.Joins.{known_lesser, known_greater};
+ghost use Rattle.cell_calc.specs.parts.Rows.{at};
+
+use crate::cells;
+use cell_core::cell::Cell;
+use cell_language::operator::Operator;
+
+/// Writes a cell into each place of a row.
+pub(crate) fn fill(row: &mut [Cell], cell: Cell)
+    ensures width { length row.new ≡ length row.old }
+    ensures each { (c : ℕ) → c < length row.old → at row.new c ≡ cell }
+{
+    for i in 0..row.len() {
+        row[i] = cell;
+    }
+}
+
+/// Changes each cell of a row.
+pub(crate) fn each<F: Fn(Cell) -> Cell>(row: &mut [Cell], f: F)
+    requires callable { F.IsAlwaysCallable f }
+    ensures width { length row.new ≡ length row.old }
+    ensures each { (c : ℕ) → c < length row.old → F.post f (at row.old c) (at row.new c) }
+{
+    for i in 0..row.len() {
+        row[i] = f(row[i]);
+    }
+}
+
+/// Changes each cell of a row by that of another.
+pub(crate) fn combine<F: Fn(Cell, Cell) -> Cell>(row: &mut [Cell], other: &[Cell], f: F)
+    requires callable { F.IsAlwaysCallable f }
+    requires width { length other.now ≡ length row.old }
+    ensures width { length row.new ≡ length row.old }
+    ensures each { (c : ℕ) → c < length row.old → F.post f (at row.old c) (at other.now c) (at row.new c) }
+{
+    for i in 0..row.len() {
+        row[i] = f(row[i], other[i]);
+    }
+}
+
+/// Where a row of conditions holds, the cell of the first row, else that of the second.
+pub(crate) fn choose(row: &mut [Cell], yes: &[Cell], no: &[Cell])
+    requires width_yes { length yes.now ≡ length row.old }
+    requires width_no { length no.now ≡ length row.old }
+    ensures width { length row.new ≡ length row.old }
+    ensures each { (c : ℕ) → c < length row.old → at row.new c ≡ chosen (at row.old c) (at yes.now c) (at no.now c) }
+{
+    for i in 0..row.len() {
+        row[i] = cells::chosen(row[i], yes[i], no[i]);
+    }
+}
+
+/// The columns' numbers, from 1, of a strip that begins at a column from 0.
+pub(crate) fn number(row: &mut [Cell], from: usize)
+    requires { from + length row.old ≤ 65535 }
+    ensures width { length row.new ≡ length row.old }
+    ensures each { (c : ℕ) → c < length row.old → at row.new c ≡ Some (pos (from + c + 1)) }
+{
+    for i in 0..row.len() {
+        row[i] = cells::number((from + i) as u32 + 1);
+    }
+}
+
+/// Moves a row's cells to the left.
+fn from_right(source: &[Cell], skip: usize, row: &mut [Cell])
+    requires { (c : ℕ) → c < length row.old → at row.old c ≡ None }
+    ensures width { length row.new ≡ length row.old }
+    ensures each { (c : ℕ) → c < length row.old → at row.new c ≡ at source.now (c + skip) }
+{
+    if skip < source.len() {
+        let count = (source.len() - skip).min(row.len());
+        for i in 0..count {
+            row[i] = source[i + skip];
+        }
+    }
+}
+
+/// Moves a row's cells to the right.
+fn from_left(source: &[Cell], skip: usize, row: &mut [Cell])
+    requires { (c : ℕ) → c < length row.old → at row.old c ≡ None }
+    ensures width { length row.new ≡ length row.old }
+    ensures before { (c : ℕ) → c < skip → c < length row.old → at row.new c ≡ None }
+    ensures each { (c : ℕ) → c + skip < length row.old → at row.new (c + skip) ≡ at source.now c }
+{
+    if skip < row.len() {
+        let count = (row.len() - skip).min(source.len());
+        for i in 0..count {
+            row[i + skip] = source[i];
+        }
+    }
+}
+
+/// The cells of a row so many columns to the right, null outside, of a strip that begins at a column.
+pub(crate) fn shift(source: &[Cell], from: usize, right: i32, row: &mut [Cell])
+    requires { from ≤ 65535 }
+    ensures width { length row.new ≡ length row.old }
+    ensures each { (c : ℕ) → c < length row.old → at row.new c ≡ item_at None source.now (pos (from + c) +ℤ right) }
+{
+    fill(row, Cell::null());
+    let skip = from as i64 + right as i64;
+    if skip >= 0 {
+        from_right(source, skip as usize, row);
+    } else {
+        from_left(source, -skip as usize, row);
+    }
+}
+
+pub(crate) fn nullness(row: &mut [Cell])
+    ensures width { length row.new ≡ length row.old }
+    ensures each { (c : ℕ) → c < length row.old → at row.new c ≡ truth (is_null (at row.old c)) }
+{
+    each(row, |a| cells::nullness(a));
+}
+
+pub(crate) fn size(row: &mut [Cell])
+    ensures width { length row.new ≡ length row.old }
+    ensures each { (c : ℕ) → c < length row.old → at row.new c ≡ size_of (at row.old c) }
+{
+    each(row, |a| cells::size(a));
+}
+
+pub(crate) fn negate(row: &mut [Cell])
+    ensures width { length row.new ≡ length row.old }
+    ensures each { (c : ℕ) → c < length row.old → at row.new c ≡ negated (at row.old c) }
+{
+    each(row, |a| cells::negated(a));
+}
+
+pub(crate) fn invert(row: &mut [Cell])
+    ensures width { length row.new ≡ length row.old }
+    ensures each { (c : ℕ) → c < length row.old → at row.new c ≡ inverted (at row.old c) }
+{
+    each(row, |a| cells::inverted(a));
+}
+
+pub(crate) fn truth(row: &mut [Cell])
+    ensures width { length row.new ≡ length row.old }
+    ensures each { (c : ℕ) → c < length row.old → at row.new c ≡ chosen (at row.old c) (Some (pos 1)) (Some (pos 0)) }
+{
+    each(
+        row,
+        |a| cells::chosen(a, cells::truth(true), cells::truth(false)),
+    );
+}
+
+pub(crate) fn lesser(row: &mut [Cell], other: &[Cell])
+    requires width { length other.now ≡ length row.old }
+    ensures width { length row.new ≡ length row.old }
+    ensures each { (c : ℕ) → c < length row.old → at row.new c ≡ lesser (at row.old c) (at other.now c) }
+{
+    combine(row, other, |a, b| cells::lesser(a, b));
+}
+
+pub(crate) fn larger(row: &mut [Cell], other: &[Cell])
+    requires width { length other.now ≡ length row.old }
+    ensures width { length row.new ≡ length row.old }
+    ensures each { (c : ℕ) → c < length row.old → at row.new c ≡ greater (at row.old c) (at other.now c) }
+{
+    combine(row, other, |a, b| cells::larger(a, b));
+}
+
+pub(crate) fn known_lesser(row: &mut [Cell], other: &[Cell])
+    requires width { length other.now ≡ length row.old }
+    ensures width { length row.new ≡ length row.old }
+    ensures each { (c : ℕ) → c < length row.old → at row.new c ≡ known_lesser (at row.old c) (at other.now c) }
+{
+    combine(row, other, |a, b| cells::known_lesser(a, b));
+}
+
+pub(crate) fn known_larger(row: &mut [Cell], other: &[Cell])
+    requires width { length other.now ≡ length row.old }
+    ensures width { length row.new ≡ length row.old }
+    ensures each { (c : ℕ) → c < length row.old → at row.new c ≡ known_greater (at row.old c) (at other.now c) }
+{
+    combine(row, other, |a, b| cells::known_larger(a, b));
+}
+
+pub(crate) fn choose_or_zero(row: &mut [Cell], other: &[Cell])
+    requires width { length other.now ≡ length row.old }
+    ensures width { length row.new ≡ length row.old }
+    ensures each { (c : ℕ) → c < length row.old → at row.new c ≡ chosen (at row.old c) (at other.now c) (Some (pos 0)) }
+{
+    combine(row, other, |a, b| cells::chosen(a, b, cells::truth(false)));
+}
+
+/// The values of an operator along a row, which holds its left operands.
+pub(crate) fn apply(operator: Operator, row: &mut [Cell], other: &[Cell])
+    requires width { length other.now ≡ length row.old }
+    ensures width { length row.new ≡ length row.old }
+    ensures each { (c : ℕ) → c < length row.old → at row.new c ≡ applied operator (at row.old c) (at other.now c) }
+{
+    match operator {
+        Operator::Times => combine(row, other, |a, b| cells::product(a, b)),
+        Operator::Divide => combine(row, other, |a, b| cells::quotient(a, b)),
+        Operator::Modulo => combine(row, other, |a, b| cells::remainder(a, b)),
+        Operator::Plus => combine(row, other, |a, b| cells::sum(a, b)),
+        Operator::Minus => combine(row, other, |a, b| cells::difference(a, b)),
+        Operator::Less => combine(row, other, |a, b| cells::less(a, b)),
+        Operator::LessEqual => combine(row, other, |a, b| cells::less_equal(a, b)),
+        Operator::Greater => combine(row, other, |a, b| cells::greater(a, b)),
+        Operator::GreaterEqual => combine(row, other, |a, b| cells::greater_equal(a, b)),
+        Operator::Equal => combine(row, other, |a, b| cells::equal(a, b)),
+        Operator::NotEqual => combine(row, other, |a, b| cells::not_equal(a, b)),
+        Operator::And => combine(row, other, |a, b| cells::and(a, b)),
+        Operator::Or => combine(row, other, |a, b| cells::or(a, b)),
+        Operator::KnownAnd => combine(row, other, |a, b| cells::known_and(a, b)),
+        Operator::KnownOr => combine(row, other, |a, b| cells::known_or(a, b)),
+    }
+}

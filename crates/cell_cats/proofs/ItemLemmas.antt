@@ -1,0 +1,64 @@
+-- Items and ranges, one more at a time.
+use Rattle.std.proofs.Common.{◌≡◌, ℕ, ◌+◌, ◌-◌, ◌<◌, ◌≤◌, length, take, drop, get_or, arith, take_all, length-drop, drop-drop, Bool, true, false, List, [], ◌∷◌, ◌++◌, map, Bor, Option, Some, None, refl, ap, sym, ◌∙◌, append_assoc, append-nil}
+use Rattle.std.specs.Prelude.{◌&&◌}
+use Rattle.std.specs.Option.{option_map}
+use Rattle.std.proofs.lemmas.List.{map-append, at_drop_more}
+use Rattle.cell_cats.specs.RuleLine.{is_end, with_item, items_of}
+
+-- what stands before, and then
+abbrev pub after : {X : Type 0} → List X → Option (List X) → Option (List X)
+after xs o = option_map (λ more. xs ++ more) o
+
+pub after-nil : {X : Type 0} (o : Option (List X)) → o ≡ after [] o
+after-nil None = refl
+after-nil (Some ys) = refl
+
+pub after-one : {X : Type 0} (xs : List X) (x : X) (o : Option (List X)) → after xs (option_map (λ more. x ∷ more) o) ≡ after (xs ++ x ∷ []) o
+after-one xs x None = refl
+after-one xs x (Some ys) = ap Some (sym (append_assoc xs (x ∷ []) ys))
+
+pub after-all : {X : Type 0} (xs : List X) → after xs (Some []) ≡ Some xs
+after-all xs = ap Some (append-nil xs)
+
+-- one more good item
+pub with_item-good : (a b : List ℕ) (o : Option (List (List ℕ × List ℕ))) → is_end a ≡ true → is_end b ≡ true → with_item a b o ≡ option_map (λ more. (a, b) ∷ more) o
+with_item-good a b o ea eb = rw (ea, eb) refl
+
+pub with_item-bad : (a b : List ℕ) (o : Option (List (List ℕ × List ℕ))) → (is_end a && is_end b) ≡ false → with_item a b o ≡ None
+with_item-bad a b o e = rw e refl
+
+abbrev pub texts : List (Bor (List ℕ)) → List (List ℕ)
+texts ws = map (λ w. w.now) ws
+
+abbrev pub pairs : List (Bor (List ℕ) × Bor (List ℕ)) → List (List ℕ × List ℕ)
+pairs items = map (λ item. (item.0.now, item.1.now)) items
+
+both-left : (a b : Bool) → (a && b) ≡ true → a ≡ true
+both-left true b e = refl
+both-left false b e = e
+
+both-right : (a b : Bool) → (a && b) ≡ true → b ≡ true
+both-right true b e = e
+both-right false b e = cc
+
+-- one more item of the words
+pub items-step : (ws : List (Bor (List ℕ))) (i n : ℕ) (d b : Bor (List ℕ)) (done new : List (Bor (List ℕ) × Bor (List ℕ)))
+    → i < length ws → n ≤ length (take (length ws - (i + 1)) (drop (i + 1) ws))
+    → items_of ((get_or ws i d).now ∷ texts (take (length ws - (i + 1)) (drop (i + 1) ws))) ≡ with_item (get_or ws i d).now b.now (items_of (texts (drop n (take (length ws - (i + 1)) (drop (i + 1) ws)))))
+    → (is_end (get_or ws i d).now && is_end b.now) ≡ true
+    → new ≡ done ++ (get_or ws i d, b) ∷ []
+    → items_of (texts ws) ≡ after (pairs done) (items_of (texts (drop i ws)))
+    → (items_of (texts ws) ≡ after (pairs new) (items_of (texts (drop (i + 1 + n) ws)))) × (i + 1 + n ≤ length ws)
+items-step ws i n d b done new h within first good pushed so_far =
+    let rest : take (length ws - (i + 1)) (drop (i + 1) ws) ≡ drop (i + 1) ws = take_all (length ws - (i + 1)) (drop (i + 1) ws) (omega (arith, length-drop (i + 1) ws)) in
+    let within-rest : n ≤ length (drop (i + 1) ws) = rw (sym rest) within in
+    let a = (get_or ws i d).now in
+    let first-rest : items_of (a ∷ texts (drop (i + 1) ws)) ≡ with_item a b.now (items_of (texts (drop n (drop (i + 1) ws))))
+    = ap (λ l. items_of (a ∷ texts l)) (sym rest) ∙ first ∙ ap (λ l. with_item a b.now (items_of (texts (drop n l)))) rest in
+    let one : items_of (texts (drop i ws)) ≡ option_map (λ more. (a, b.now) ∷ more) (items_of (texts (drop (i + 1 + n) ws)))
+    = at_drop_more (λ l. items_of (texts l)) ws i d h ∙ first-rest ∙ ap (λ l. with_item a b.now (items_of (texts l))) (drop-drop n (i + 1) ws)
+    ∙ with_item-good a b.now (items_of (texts (drop (i + 1 + n) ws))) (both-left (is_end a) (is_end b.now) good) (both-right (is_end a) (is_end b.now) good) in
+    let last : pairs new ≡ pairs done ++ (a, b.now) ∷ [] = ap pairs pushed ∙ map-append (λ item. (item.0.now, item.1.now)) done ((get_or ws i d, b) ∷ []) in (
+      so_far ∙ ap (after (pairs done)) one ∙ after-one (pairs done) (a, b.now) (items_of (texts (drop (i + 1 + n) ws))) ∙ ap (λ l. after l (items_of (texts (drop (i + 1 + n) ws)))) (sym last),
+      omega (arith, length-drop (i + 1) ws, within-rest),
+    )

@@ -1,0 +1,97 @@
+-- The labels of rules, one rule more at a time, and category by category.
+use Rattle.std.proofs.Common.{◌≡◌, ℕ, ℤ, ◌+◌, ◌<◌, Bool, true, false, cond, List, [], ◌∷◌, ◌++◌, length, take, get_or, Option, Some, None, refl, ap, sym, ◌∙◌}
+use Rattle.std.specs.Prelude.{reverse}
+use Rattle.std.specs.List.{filter_map, cons_option}
+use Rattle.std.specs.Option.{option_map, option_or}
+use Rattle.std.specs.FinMap.{FinMap, get, insert, find, from_entries, get-from_entries}
+use Rattle.std.specs.Ordering.{int_cmp, eq_by_cmp}
+use Rattle.std.specs.Cmp.{int_cmp_total}
+use Rattle.std.proofs.lemmas.List.{take_more, reverse-append}
+use Rattle.std.proofs.lemmas.List.Elements.{filter_map-append}
+use Rattle.cell_core.specs.Grid.{Grid}
+use Rattle.cell_cats.specs.Rule.{RuleValue, last_such, labelled, is_category, labels, label_of}
+use Rattle.cell_cats.specs.Reclass.{label_entry, labels_of}
+
+-- with one entry more, or none
+abbrev with_entry : Option (ℤ × List ℕ) → FinMap int_cmp (List ℕ) → FinMap int_cmp (List ℕ)
+with_entry None m = m
+with_entry (Some e) m = insert m e.0 e.1
+
+entry-first : (o : Option (ℤ × List ℕ)) (es : List (ℤ × List ℕ)) → from_entries {R = int_cmp} (cons_option o es) ≡ with_entry o (from_entries es)
+entry-first None es = refl
+entry-first (Some e) es = refl
+
+labels_of-push : (xs : List RuleValue) (x : RuleValue) → labels_of (xs ++ x ∷ []) ≡ with_entry (label_entry x) (labels_of xs)
+labels_of-push xs x =
+    ap (λ l. from_entries {R = int_cmp} (filter_map label_entry l)) (reverse-append xs (x ∷ []))
+    ∙ entry-first (label_entry x) (filter_map label_entry (reverse xs))
+
+labels_of-more : (xs : List RuleValue) (i : ℕ) (d r : RuleValue) → i < length xs → r ≡ get_or xs i d → labels_of (take (i + 1) xs) ≡ with_entry (label_entry r) (labels_of (take i xs))
+labels_of-more xs i d r h is =
+    ap labels_of (take_more xs i d h) ∙ labels_of-push (take i xs) (get_or xs i d) ∙ ap (λ rule. with_entry (label_entry rule) (labels_of (take i xs))) (sym is)
+
+-- a rule that labels a category
+labels_of-some : (xs : List RuleValue) (i : ℕ) (d r : RuleValue) (k : ℤ) → i < length xs → r ≡ get_or xs i d → Some k ≡ labelled r
+    → insert (labels_of (take i xs)) k r.label ≡ labels_of (take (i + 1) xs)
+labels_of-some xs i d r k h is e =
+    ap (λ o. with_entry (option_map (λ c. (c, r.label)) o) (labels_of (take i xs))) e ∙ sym (labels_of-more xs i d r h is)
+
+-- a rule that labels none
+labels_of-none : (xs : List RuleValue) (i : ℕ) (d r : RuleValue) → i < length xs → r ≡ get_or xs i d → None ≡ labelled r
+    → labels_of (take i xs) ≡ labels_of (take (i + 1) xs)
+labels_of-none xs i d r h is e =
+    ap (λ o. with_entry (option_map (λ c. (c, r.label)) o) (labels_of (take i xs))) e ∙ sym (labels_of-more xs i d r h is)
+
+module _ (given : Grid) (xs : List RuleValue) (i : ℕ) (d r : RuleValue) (within : i < length xs) (is : r ≡ get_or xs i d) (old : Grid) (so_far : old ≡ record given { labels = labels_of (take i xs) }) where
+  -- a map with a label more
+  pub labels-some : (k : ℤ) (text : List ℕ) (new : Grid) → Some k ≡ labelled r → text ≡ r.label → new ≡ record old { labels = insert old.labels k text }
+      → new ≡ record given { labels = labels_of (take (i + 1) xs) }
+  labels-some k text new e same set =
+      set ∙ ap (λ (m : Grid). record m { labels = insert m.labels k text }) so_far
+      ∙ ap (λ (t : List ℕ). record given { labels = insert (labels_of (take i xs)) k t }) same
+      ∙ ap (λ ls. record given { labels = ls }) (labels_of-some xs i d r k within is e)
+
+  -- the map as it is
+  pub labels-none : None ≡ labelled r → old ≡ record given { labels = labels_of (take (i + 1) xs) }
+  labels-none e = so_far ∙ ap (λ ls. record given { labels = ls }) (labels_of-none xs i d r within is e)
+
+-- the first of two lists that has the key
+find-append : (k : ℤ) (es fs : List (ℤ × List ℕ)) → find int_cmp k (es ++ fs) ≡ option_or (find int_cmp k es) (find int_cmp k fs)
+find-append k [] fs = refl
+find-append k (e ∷ es) fs = rw (find-append k es fs) (by (eq_by_cmp int_cmp k e.0))
+  where
+    by : (b : Bool) → cond b (Some e.1) (option_or (find int_cmp k es) (find int_cmp k fs)) ≡ option_or (cond b (Some e.1) (find int_cmp k es)) (find int_cmp k fs)
+    by true = refl
+    by false = refl
+
+map-or : {A B : Type 0} (f : A → B) (a b : Option A) → option_or (option_map f a) (option_map f b) ≡ option_map f (option_or a b)
+map-or f None b = refl
+map-or f (Some a) b = refl
+
+abbrev label_where : RuleValue → Bool → Option (List ℕ)
+label_where r b = option_map (λ rule. rule.label) (cond b (Some r) None)
+
+-- one rule
+find-one : (k : ℤ) (r : RuleValue) → find int_cmp k (filter_map label_entry (r ∷ [])) ≡ label_where r (labels k r)
+find-one k r = by (labelled r)
+  where
+    one : (c : ℤ) (b : Bool) → cond b (Some r.label) None ≡ label_where r b
+    one c true = refl
+    one c false = refl
+
+    by : (o : Option ℤ) → find int_cmp k (cons_option (option_map (λ c. (c, r.label)) o) []) ≡ label_where r (is_category k o)
+    by None = refl
+    by (Some c) = one c (is_category k (Some c))
+
+-- all rules: the last stands first
+find-reversed : (k : ℤ) (rules : List RuleValue) → find int_cmp k (filter_map label_entry (reverse rules)) ≡ label_of rules k
+find-reversed k [] = refl
+find-reversed k (r ∷ rules) =
+    ap (λ l. find int_cmp k (filter_map label_entry l)) (reverse-append (r ∷ []) rules)
+    ∙ ap (find int_cmp k) (filter_map-append label_entry (reverse rules) (r ∷ []))
+    ∙ find-append k (filter_map label_entry (reverse rules)) (filter_map label_entry (r ∷ []))
+    ∙ rw (find-reversed k rules, find-one k r) (map-or (λ rule. rule.label) (last_such (labels k) rules) (cond (labels k r) (Some r) None))
+
+-- category by category, the labels are those of the last rules
+pub get-labels_of : (rules : List RuleValue) (k : ℤ) → get (labels_of rules) k ≡ label_of rules k
+get-labels_of rules k = get-from_entries int_cmp_total (filter_map label_entry (reverse rules)) k ∙ find-reversed k rules

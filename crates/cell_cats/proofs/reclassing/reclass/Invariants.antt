@@ -1,0 +1,11 @@
+use Rattle.std.proofs.Common.{◌≡◌, length, take}
+use Rattle.cell_cats.specs.Reclass.{new_rows}
+use Rattle.cell_cats.proofs.reclassing.reclass.Given as goal
+
+abbrev pub invariant-loop-r : goal.invariant-loop-r
+invariant-loop-r l = record {
+  rows : l.builder.rows ≡ new_rows l.rules (take l.r l.given.rows);
+  region : l.builder.region ≡ l.given.region;
+  count : length l.builder.rows ≡ l.r;
+  width : length l.row ≡ l.given.region.cols;
+}

@@ -1,0 +1,6 @@
+-- Rules of r.reclass.
+pub mod ItemLaw
+pub mod Reclass
+pub mod Rule
+pub mod RuleLine
+pub mod RulesLaw

@@ -1,0 +1,81 @@
+-- Rules of r.reclass, the new category of a cell, the label of a category (r.reclass manual; a `*` that stands before other rules is the profile's).
+use Rattle.std.specs.Prelude.{ℕ, ℤ, int_le, Bool, true, false, ◌&&◌, ◌||◌, ◌==◌, List, [], ◌∷◌, length, Option, Some, None, if◌then◌else◌}
+use Rattle.std.specs.List.{list_any}
+use Rattle.std.specs.Option.{option_map, option_or}
+use Rattle.std.specs.Ordering.{int_eq}
+use Rattle.cell_core.specs.Grid.{CellValue}
+use Rattle.cell_cats.specs.declared.rule.Output.{Output}
+use Rattle.cell_cats.specs.declared.rule.Output.TheVariants.{Same, To}
+
+-- the ends of the ranges that it lists, or none where it is a rule of `*`; what it gives; its label, empty where it has none
+pub record RuleValue : Type 0 where
+  pub listed : Option (List (ℤ × ℤ))
+  pub output : Output
+  pub label : List ℕ
+
+-- between two ends, in either order
+abbrev pub is_between : ℤ × ℤ → ℤ → Bool
+is_between ends x = (int_le ends.0 x && int_le x ends.1) || (int_le ends.1 x && int_le x ends.0)
+
+-- a range of the list holds the category
+abbrev pub is_listed : Option (List (ℤ × ℤ)) → ℤ → Bool
+is_listed None x = false
+is_listed (Some ranges) x = list_any (λ ends. is_between ends x) ranges
+
+-- the rule lists the category
+abbrev pub lists : ℤ → RuleValue → Bool
+lists x rule = is_listed rule.listed x
+
+-- a rule of `*`
+abbrev pub is_star_rule : RuleValue → Bool
+is_star_rule rule = no_list rule.listed
+  where
+    no_list : Option (List (ℤ × ℤ)) → Bool
+    no_list None = true
+    no_list (Some ranges) = false
+
+-- the last element that passes
+abbrev pub last_such : {A : Type 0} → (A → Bool) → List A → Option A
+last_such p [] = None
+last_such p (x ∷ xs) = option_or (last_such p xs) (if p x then Some x else None)
+
+-- the output of the last rule that passes
+abbrev pub last_output : (RuleValue → Bool) → List RuleValue → Option Output
+last_output p rules = option_map (λ rule. rule.output) (last_such p rules)
+
+-- the output of the last rule that lists the category, else of the last rule of `*`
+abbrev pub output_for : List RuleValue → ℤ → Option Output
+output_for rules x = option_or (last_output (lists x) rules) (last_output is_star_rule rules)
+
+-- what an output makes of a category; null without an output
+abbrev pub outcome : ℤ → Option Output → CellValue
+outcome x None = None
+outcome x (Some Same) = Some x
+outcome x (Some (To cell)) = cell
+
+-- the new category of a cell
+abbrev pub new_category : List RuleValue → CellValue → CellValue
+new_category rules None = None
+new_category rules (Some x) = outcome x (output_for rules x)
+
+-- the category that an output always is, where it is one
+abbrev pub category_of : Output → Option ℤ
+category_of Same = None
+category_of (To cell) = cell
+
+-- the category that a rule labels: that of its output, where it has a label
+abbrev pub labelled : RuleValue → Option ℤ
+labelled rule = if length rule.label == 0 then None else category_of rule.output
+
+-- it is this category
+abbrev pub is_category : ℤ → Option ℤ → Bool
+is_category k None = false
+is_category k (Some c) = int_eq k c
+
+-- the rule labels the category
+abbrev pub labels : ℤ → RuleValue → Bool
+labels k rule = is_category k (labelled rule)
+
+-- the label of a category: that of the last rule that labels it
+abbrev pub label_of : List RuleValue → ℤ → Option (List ℕ)
+label_of rules k = option_map (λ rule. rule.label) (last_such (labels k) rules)

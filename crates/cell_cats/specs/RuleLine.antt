@@ -1,0 +1,128 @@
+-- Rule lines (r.reclass manual; comments, blank lines and commas are the profile's).
+use Rattle.std.specs.Prelude.{ℕ, ℤ, Bool, true, false, not, ◌&&◌, ◌||◌, ◌==◌, List, [], ◌∷◌, ◌++◌, Option, Some, None, Result, Ok, Err, if◌then◌else◌, bytes_eq, codes}
+use Rattle.std.specs.List.{before_first, after_first}
+use Rattle.std.specs.Option.{option_map, option_and_then}
+use Rattle.cell_text.specs.Blanks.{is_blank, trimmed}
+use Rattle.cell_text.specs.WholeNumbers.{whole_in_range}
+use Rattle.cell_text.specs.Words.{is_word, list_words_of, pair_of}
+use Rattle.cell_cats.specs.Rule.{RuleValue}
+use Rattle.cell_cats.specs.declared.rule.Output.{Output}
+use Rattle.cell_cats.specs.declared.rule.Output.TheVariants.{Same, To}
+use Rattle.cell_cats.specs.declared.rules.LineKind.{LineKind}
+use Rattle.cell_cats.specs.declared.rules.LineKind.TheVariants.{Rule, Skipped, End}
+use Rattle.cell_cats.specs.declared.rules.RuleFault.{RuleFault}
+use Rattle.cell_cats.specs.declared.rules.RuleFault.TheVariants.{BadRule, BadNumber}
+
+-- the first word of the right side
+abbrev pub output_word : List ℕ → List ℕ
+output_word right = before_first is_blank right
+
+-- what stands after its first word
+abbrev pub label_of_right : List ℕ → List ℕ
+label_of_right right = trimmed (after_first is_blank right)
+
+abbrev pub is_thru : List ℕ → Bool
+is_thru word = bytes_eq word (codes "thru")
+
+abbrev pub is_star : List ℕ → Bool
+is_star word = bytes_eq word (codes "*")
+
+abbrev pub is_null : List ℕ → Bool
+is_null word = bytes_eq word (codes "NULL") || bytes_eq word (codes "null")
+
+-- a word that stands for a number, good or bad
+abbrev pub is_end : List ℕ → Bool
+is_end word = not (is_thru word) && not (is_star word)
+
+-- one more item, where its ends stand for numbers
+abbrev pub with_item : List ℕ → List ℕ → Option (List (List ℕ × List ℕ)) → Option (List (List ℕ × List ℕ))
+with_item a b items = if is_end a && is_end b then option_map (λ more. (a, b) ∷ more) items else None
+
+-- the two ends of each item that words spell: `N thru N`, or `N`, which is both of its ends
+abbrev pub items_of : List (List ℕ) → Option (List (List ℕ × List ℕ))
+items_of [] = Some []
+items_of (a ∷ []) = with_item a a (Some [])
+items_of (a ∷ b ∷ []) = with_item a a (with_item b b (Some []))
+items_of (a ∷ b ∷ c ∷ words) = if is_thru b then with_item a c (items_of words) else with_item a a (items_of (b ∷ c ∷ words))
+
+-- which left the words spell
+abbrev pub Left : Type 0
+Left = Option (List (List ℕ × List ℕ))
+
+-- nothing but `*`
+abbrev pub is_lone_star : List (List ℕ) → Bool
+is_lone_star [] = false
+is_lone_star (w ∷ []) = is_star w
+is_lone_star (w ∷ v ∷ words) = false
+
+-- one item or more
+abbrev pub some_items : List (List ℕ) → Option (List (List ℕ × List ℕ))
+some_items [] = None
+some_items (w ∷ words) = items_of (w ∷ words)
+
+-- the items, or none where it is `*`
+abbrev pub left_of : List (List ℕ) → Option Left
+left_of words = if is_lone_star words then Some None else option_map Some (some_items words)
+
+-- a word that may stand on the right; `*` only where the left is `*`
+abbrev pub is_output : Bool → List ℕ → Bool
+is_output star word = (is_word word && not (is_thru word)) && (star || not (is_star word))
+
+abbrev pub is_star_left : Left → Bool
+is_star_left None = true
+is_star_left (Some items) = false
+
+-- the number of each of two ends
+abbrev pub range_of : List ℕ × List ℕ → Option (ℤ × ℤ)
+range_of item = option_and_then (λ a. option_map (λ b. (a, b)) (whole_in_range item.1)) (whole_in_range item.0)
+
+-- the ranges of items, where all their numbers are good
+abbrev pub ranges_of : List (List ℕ × List ℕ) → Option (List (ℤ × ℤ))
+ranges_of [] = Some []
+ranges_of (item ∷ items) = option_and_then (λ range. option_map (λ ranges. range ∷ ranges) (ranges_of items)) (range_of item)
+
+-- the same of a left
+abbrev pub listed_of : Left → Option (Option (List (ℤ × ℤ)))
+listed_of None = Some None
+listed_of (Some items) = option_map Some (ranges_of items)
+
+-- what the word of an output gives, where its number is good
+abbrev pub output_of : List ℕ → Option Output
+output_of word = if is_null word then Some (To None) else (if is_star word then Some Same else option_map (λ n. To (Some n)) (whole_in_range word))
+
+-- a rule of good numbers
+abbrev pub of_numbers : List ℕ → Option (Option (List (ℤ × ℤ))) → Option Output → Result RuleValue RuleFault
+of_numbers label None output = Err BadNumber
+of_numbers label (Some listed) None = Err BadNumber
+of_numbers label (Some listed) (Some output) = Ok (record { listed = listed; output = output; label = label })
+
+-- a rule of a good shape, or its bad number
+abbrev pub of_shape : List ℕ → Option Left → Result RuleValue RuleFault
+of_shape right None = Err BadRule
+of_shape right (Some left) =
+    if is_output (is_star_left left) (output_word right) then of_numbers (label_of_right right) (listed_of left) (output_of (output_word right)) else Err BadRule
+
+-- the rule that the two sides of an equals sign spell
+abbrev pub of_sides : Option (List ℕ × List ℕ) → Result RuleValue RuleFault
+of_sides None = Err BadRule
+of_sides (Some sides) = of_shape (trimmed sides.1) (left_of (list_words_of sides.0))
+
+-- the rule that a line spells: its shape is judged before its numbers
+abbrev pub rule_of : List ℕ → Result RuleValue RuleFault
+rule_of line = of_sides (pair_of line)
+
+-- blank, or a comment
+abbrev pub is_skipped : List ℕ → Bool
+is_skipped [] = true
+is_skipped (b ∷ bs) = b == 35
+
+-- a rule at the end
+abbrev pub with_rule : List RuleValue → Result RuleValue RuleFault → Result (LineKind × List RuleValue) RuleFault
+with_rule rules (Ok rule) = Ok (Rule, rules ++ rule ∷ [])
+with_rule rules (Err fault) = Err fault
+
+-- what kind of line it is, and the rules with it
+abbrev pub with_line : List RuleValue → List ℕ → Result (LineKind × List RuleValue) RuleFault
+with_line rules line =
+    if is_skipped (trimmed line) then Ok (Skipped, rules)
+    else (if bytes_eq (trimmed line) (codes "end") then Ok (End, rules) else with_rule rules (rule_of line))

@@ -1,0 +1,10 @@
+//! Rules of r.reclass and maps by rules; areas, as `cell_clump` numbers them.
+#![tactic(auto)]
+
+pub mod law;
+mod line;
+pub mod reclassing;
+mod rule;
+pub mod rules;
+
+pub use cell_clump::clump::{Joining, clump, clump_with};

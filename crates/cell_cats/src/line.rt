@@ -1,0 +1,203 @@
+//! The rule that a line spells.
+
+ghost use Rattle.std.specs.Prelude.{◌≡◌, ◌≢◌, ℕ, List, IfOk, IfErr, Ok, Err, Some, None, map, ◌∷◌, ◌≤◌, ◌<◌, ◌&&◌, length, drop};
+ghost use Rattle.std.specs.Option.{option_map};
+ghost use Rattle.cell_cats.specs.RuleLine.{is_skipped, is_thru, is_star, is_null, is_end, with_item, items_of, is_lone_star, left_of, is_output, ranges_of, range_of, listed_of, output_of, rule_of};
+
+use crate::rule::{Output, Rule};
+use crate::rules::RuleFault;
+use cell_core::cell::Cell;
+use cell_text::blanks::{around_blank, trimmed};
+use cell_text::numbers::whole_in_range;
+use cell_text::words::{list_words_of, pair_of};
+use std::alloc::Global;
+
+/// Whether a line without blanks at its ends is empty or a comment.
+pub fn is_skipped(text: &[u8]) -> bool
+    ensures { result ≡ is_skipped text.now }
+{
+    match text {
+        [] => true,
+        [first, ..] => *first == b'#',
+    }
+}
+
+fn is_thru(word: &[u8]) -> bool
+    ensures { result ≡ is_thru word.now }
+{
+    word == b"thru".as_slice()
+}
+
+fn is_star(word: &[u8]) -> bool
+    ensures { result ≡ is_star word.now }
+{
+    word == b"*".as_slice()
+}
+
+fn is_null(word: &[u8]) -> bool
+    ensures { result ≡ is_null word.now }
+{
+    word == b"NULL".as_slice() || word == b"null".as_slice()
+}
+
+// A word that stands for a number, good or bad.
+fn is_end(word: &[u8]) -> bool
+    ensures { result ≡ is_end word.now }
+{
+    !is_thru(word) && !is_star(word)
+}
+
+// Whether both words stand for numbers.
+fn are_ends(a: &[u8], b: &[u8]) -> bool
+    ensures { result ≡ (is_end a.now && is_end b.now) }
+{
+    is_end(a) && is_end(b)
+}
+
+// The second end of the item that begins with a word, and how many words more the item has.
+fn item_end<'a>(a: &'a [u8], others: &[&'a [u8]]) -> (&'a [u8], usize)
+    ensures items { items_of (a.now ∷ map (λ w. w.now) others.now) ≡ with_item a.now result.0.now (items_of (map (λ w. w.now) (drop result.1 others.now))) }
+    ensures within { result.1 ≤ length others.now }
+{
+    match others {
+        [thru, b, ..] if is_thru(*thru) => (*b, 2),
+        _ => (a, 0),
+    }
+}
+
+// The items that words spell.
+fn items_of<'a>(alloc: Global, words: &[&'a [u8]]) -> Result<Vec<(&'a [u8], &'a [u8])>, RuleFault>
+    ensures ok { IfOk result (λ items. items_of (map (λ w. w.now) words.now) ≡ Some (map (λ item. (item.0.now, item.1.now)) items.items)) }
+    ensures err { IfErr result (λ fault. fault ≢ RuleFault.Memory → (fault ≡ RuleFault.BadRule) × (items_of (map (λ w. w.now) words.now) ≡ None)) }
+{
+    let mut items = Vec::new(alloc);
+    let mut at = 0;
+    while at < words.len() {
+        let a = words[at];
+        let (b, more) = item_end(a, &words[at + 1..]);
+        if !are_ends(a, b) {
+            return Err(RuleFault::BadRule);
+        }
+        items.push((a, b))?;
+        at = at + 1 + more;
+    }
+    Ok(items)
+}
+
+// The two ends of an item.
+fn range_of(a: &[u8], b: &[u8]) -> Option<(i32, i32)>
+    ensures { result ≡ range_of (a.now, b.now) }
+{
+    let a = whole_in_range(a)?;
+    let b = whole_in_range(b)?;
+    Some((a, b))
+}
+
+// The ranges of items.
+fn ranges_of(alloc: Global, items: &[(&[u8], &[u8])]) -> Result<Vec<(i32, i32)>, RuleFault>
+    ensures ok { IfOk result (λ ranges. ranges_of (map (λ item. (item.0.now, item.1.now)) items.now) ≡ Some ranges.items) }
+    ensures err { IfErr result (λ fault. fault ≢ RuleFault.Memory → (fault ≡ RuleFault.BadNumber) × (ranges_of (map (λ item. (item.0.now, item.1.now)) items.now) ≡ None)) }
+{
+    let mut ranges = Vec::new(alloc);
+    for item in items {
+        let (a, b) = *item;
+        let Some(range) = range_of(a, b) else {
+            return Err(RuleFault::BadNumber);
+        };
+        ranges.push(range)?;
+    }
+    Ok(ranges)
+}
+
+// What a word gives.
+fn output_of(word: &[u8]) -> Option<Output>
+    ensures { result ≡ output_of word.now }
+{
+    if is_null(word) {
+        return Some(Output::To(Cell::null()));
+    }
+    if is_star(word) {
+        return Some(Output::Same);
+    }
+    let category = whole_in_range(word)?;
+    let cell = Cell::value(category)?;
+    Some(Output::To(cell))
+}
+
+// Whether a word may stand on the right.
+fn is_output(star: bool, word: &[u8]) -> bool
+    ensures { result ≡ is_output star word.now }
+{
+    !word.is_empty() && !is_thru(word) && (star || !is_star(word))
+}
+
+fn is_lone_star(words: &[&[u8]]) -> bool
+    ensures { result ≡ is_lone_star (map (λ w. w.now) words.now) }
+{
+    match words {
+        [word] => is_star(*word),
+        _ => false,
+    }
+}
+
+// The items, or none where the left is `*`.
+fn left_of<'a>(
+    alloc: Global,
+    words: &[&'a [u8]],
+) -> Result<Option<Vec<(&'a [u8], &'a [u8])>>, RuleFault>
+    ensures ok { IfOk result (λ left. left_of (map (λ w. w.now) words.now) ≡ Some (option_map (λ items. map (λ item. (item.0.now, item.1.now)) items.items) left)) }
+    ensures err { IfErr result (λ fault. fault ≢ RuleFault.Memory → (fault ≡ RuleFault.BadRule) × (left_of (map (λ w. w.now) words.now) ≡ None)) }
+{
+    if is_lone_star(words) {
+        return Ok(None);
+    }
+    if words.is_empty() {
+        return Err(RuleFault::BadRule);
+    }
+    let items = items_of(alloc, words)?;
+    Ok(Some(items))
+}
+
+// The ranges of a left.
+fn listed_of(
+    alloc: Global,
+    left: &Option<Vec<(&[u8], &[u8])>>,
+) -> Result<Option<Vec<(i32, i32)>>, RuleFault>
+    ensures ok { IfOk result (λ listed. listed_of (option_map (λ items. map (λ item. (item.0.now, item.1.now)) items.items) left.now) ≡ Some (option_map (λ ranges. ranges.items) listed)) }
+    ensures err { IfErr result (λ fault. fault ≢ RuleFault.Memory → (fault ≡ RuleFault.BadNumber) × (listed_of (option_map (λ items. map (λ item. (item.0.now, item.1.now)) items.items) left.now) ≡ None)) }
+{
+    match left {
+        Some(items) => {
+            let ranges = ranges_of(alloc, items)?;
+            Ok(Some(ranges))
+        }
+        None => Ok(None),
+    }
+}
+
+/// The rule that a line spells.
+///
+/// # Errors
+///
+/// [`RuleFault::BadRule`] where it has not the shape of a rule, else [`RuleFault::BadNumber`] where a number is bad;
+/// [`RuleFault::Memory`] where memory was refused.
+pub fn rule_of(alloc: Global, line: &[u8]) -> Result<Rule, RuleFault>
+    ensures ok { IfOk result (λ rule. rule_of line.now ≡ Ok rule) }
+    ensures err { IfErr result (λ fault. fault ≢ RuleFault.Memory → rule_of line.now ≡ Err fault) }
+{
+    let Some((left, right)) = pair_of(line) else {
+        return Err(RuleFault::BadRule);
+    };
+    let (word, label) = around_blank(trimmed(right));
+    let words = list_words_of(alloc, left)?;
+    let left = left_of(alloc, &words)?;
+    if !is_output(left.is_none(), word) {
+        return Err(RuleFault::BadRule);
+    }
+    let listed = listed_of(alloc, &left)?;
+    let Some(output) = output_of(word) else {
+        return Err(RuleFault::BadNumber);
+    };
+    let label = Vec::from_slice(alloc, trimmed(label))?;
+    Ok(Rule::new(listed, output, label))
+}

@@ -1,0 +1,71 @@
+//! Maps by rules.
+
+ghost use Rattle.std.specs.Prelude.{◌≡◌, ◌≤◌, ◌+◌, ◌++◌, length, take, drop, replicate, ℤ, IfOk, OnOk};
+ghost use Rattle.std.specs.FinMap.{get};
+ghost use Rattle.cell_core.specs.Grid.{no_labels};
+ghost use Rattle.cell_core.specs.Runs.{written_out};
+ghost use Rattle.cell_cats.specs.Rule.{label_of};
+ghost use Rattle.cell_cats.specs.Reclass.{new_row, labels_of, reclassed};
+
+use crate::rules::Rules;
+use cell_core::cell::Cell;
+use cell_core::map::{CellMap, MapBuilder};
+use cell_core::memory::Memory;
+use cell_core::runs::Runs;
+use std::alloc::Global;
+
+// Writes a run over the cells from a place on.
+fn fill_run(cells: &mut [Cell], at: usize, run: (Cell, u32))
+    requires { at + run.1 ≤ length cells.old }
+    ensures { cells.new ≡ take at cells.old ++ replicate run.1 run.0 ++ drop (at + run.1) cells.old }
+{
+    cells[at..at + run.1 as usize].fill(run.0);
+}
+
+// Writes the new categories of a row's runs. The slice is as long as that row.
+fn write_new(rules: &Rules, runs: Runs<'_>, row: &mut [Cell])
+    requires { length row.old ≡ length (written_out runs) }
+    ensures { row.new ≡ new_row rules.now (written_out runs.entry) }
+{
+    let mut at = 0;
+    for (cell, count) in runs {
+        fill_run(row, at, (rules.apply(cell), count));
+        at += count as usize;
+    }
+}
+
+// Gives a map without labels those of the rules: a later rule's over an earlier one's.
+fn set_labels(rules: &Rules, made: &mut CellMap) -> Result<(), Memory>
+    requires { made.old.labels ≡ no_labels }
+    ensures { OnOk result (made.new ≡ record made.old { labels = labels_of rules.now }) }
+{
+    for rule in rules.as_slice() {
+        if let Some(category) = rule.labelled() {
+            made.set_label(category, rule.label())?;
+        }
+    }
+    Ok(())
+}
+
+/// The map by rules: each cell has its new category, by one look at the rules a run; the labels are those of the rules and
+/// no others.
+///
+/// # Errors
+///
+/// [`Memory`] where memory was refused.
+pub fn reclass(alloc: Global, given: &CellMap, rules: &Rules) -> Result<CellMap, Memory>
+    ensures made { IfOk result (λ made. made ≡ reclassed rules.now given.now) }
+    ensures labels { IfOk result (λ made. (k : ℤ) → get made.labels k ≡ label_of rules.now k) }
+{
+    let region = given.region();
+    let mut buffer = vec![in alloc; Cell::null(); region.cols() as usize]?;
+    let row = buffer.as_mut_slice();
+    let mut builder = MapBuilder::new(alloc, region);
+    for r in 0..region.rows() {
+        write_new(rules, given.runs(r), row);
+        builder.push_row(row)?;
+    }
+    let mut made = builder.finish();
+    set_labels(rules, &mut made)?;
+    Ok(made)
+}

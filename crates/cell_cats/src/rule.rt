@@ -1,0 +1,118 @@
+//! One rule.
+
+ghost use Rattle.std.specs.Prelude.{◌≡◌, ◌≢◌, Some, IfSome};
+ghost use Rattle.std.specs.List.{list_any};
+ghost use Rattle.std.specs.Option.{option_map};
+ghost use Rattle.cell_cats.specs.Rule.{is_between, lists, is_star_rule, outcome, labelled};
+
+use cell_core::cell::Cell;
+use std::marker::Model;
+
+/// What a rule gives to a category.
+#[derive(Clone, Copy, Debug)]
+pub enum Output {
+    /// The category itself.
+    Same,
+    /// Null, or a category.
+    To(Cell),
+}
+
+impl Output {
+    /// What it makes of a cell that is not null.
+    pub fn of(self, cell: Cell) -> Cell
+        ensures { IfSome cell (λ x. result ≡ outcome x (Some self)) }
+    {
+        match self {
+            Output::Same => cell,
+            Output::To(other) => other,
+        }
+    }
+}
+
+/// A rule: the ends of the ranges that it lists, or none where it is a rule of `*`; its output; its label, or no bytes.
+#[derive(Debug, Drop)]
+pub struct Rule {
+    listed: Option<Vec<(i32, i32)>>,
+    output: Output,
+    label: Vec<u8>,
+}
+
+impl Model for Rule {
+    ghost use Rattle.std.specs.Option.{option_map};
+    ghost use Rattle.cell_cats.specs.Rule.{RuleValue};
+
+    ghost Value = { RuleValue };
+
+    ghost view = { λ r. record { listed = option_map (λ ranges. ranges.items) r.listed; output = r.output; label = r.label.items } };
+}
+
+// Between two ends, in either order.
+fn is_between(ends: (i32, i32), x: i32) -> bool
+    ensures { result ≡ is_between ends x }
+{
+    (ends.0 <= x && x <= ends.1) || (ends.1 <= x && x <= ends.0)
+}
+
+fn is_in_ranges(ranges: &[(i32, i32)], x: i32) -> bool
+    ensures { result ≡ list_any (λ ends. is_between ends x) ranges.now }
+{
+    ranges.iter().any(|ends| is_between(*ends, x))
+}
+
+impl Rule {
+    /// A rule of these parts.
+    pub fn new(listed: Option<Vec<(i32, i32)>>, output: Output, label: Vec<u8>) -> Rule
+        ensures { result ≡ record { listed = option_map (λ ranges. ranges.items) listed; output = output; label = label.items } }
+    {
+        Rule {
+            listed,
+            output,
+            label,
+        }
+    }
+
+    /// Whether it lists a category.
+    pub fn lists(&self, x: i32) -> bool
+        ensures { result ≡ lists x self.now }
+    {
+        match &self.listed {
+            Some(ranges) => is_in_ranges(ranges, x),
+            None => false,
+        }
+    }
+
+    /// Whether it is a rule of `*`.
+    pub fn is_star(&self) -> bool
+        ensures { result ≡ is_star_rule self.now }
+    {
+        self.listed.is_none()
+    }
+
+    /// What it gives to a category.
+    pub fn output(&self) -> Output
+        ensures { result ≡ self.now.output }
+    {
+        self.output
+    }
+
+    /// Its label, or no bytes.
+    pub fn label(&self) -> &[u8]
+        ensures { result.now ≡ self.now.label }
+    {
+        &self.label
+    }
+
+    /// The category that it labels.
+    pub fn labelled(&self) -> Option<i32>
+        ensures value { result ≡ labelled self.now }
+        ensures range { IfSome result (λ category. category ≢ i32.MIN) }
+    {
+        if self.label.is_empty() {
+            return None;
+        }
+        match self.output {
+            Output::Same => None,
+            Output::To(cell) => cell.get(),
+        }
+    }
+}

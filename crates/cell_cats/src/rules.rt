@@ -1,0 +1,157 @@
+//! Lists of rules.
+
+ghost use Rattle.std.specs.Prelude.{◌≡◌, ◌≢◌, [], Ok, Err, IfOk, IfErr, OnErr, IfSome};
+ghost use Rattle.std.specs.Option.{option_map};
+ghost use Rattle.cell_cats.specs.Rule.{new_category, output_for, outcome};
+ghost use Rattle.cell_cats.specs.RuleLine.{with_line};
+
+use crate::line::{is_skipped, rule_of};
+use crate::rule::{Output, Rule};
+use cell_core::cell::Cell;
+use cell_core::memory::Memory;
+use cell_text::blanks::trimmed;
+use std::alloc::{AllocError, AllocFailed, Global};
+use std::marker::Model;
+
+/// What a good line is.
+#[derive(Clone, Copy, Debug, PartialEq, Eq)]
+pub enum LineKind {
+    /// A rule.
+    Rule,
+    /// Blanks or a comment.
+    Skipped,
+    /// The end of the rules.
+    End,
+}
+
+/// Why a line is none.
+#[derive(Clone, Copy, Debug, PartialEq, Eq)]
+pub enum RuleFault {
+    /// It has not the shape of a rule.
+    BadRule,
+    /// One of its numbers is not whole or not in range.
+    BadNumber,
+    /// Memory was refused.
+    Memory,
+}
+
+impl From<Memory> for RuleFault {
+    ghost use Rattle.std.specs.Prelude.{◌≡◌};
+    ghost use Rattle.cell_cats.specs.declared.rules.RuleFault.TheVariants.{Memory};
+
+    ghost from_gives = { λ _ fault. fault ≡ Memory };
+
+    fn from(_e: Memory) -> RuleFault {
+        RuleFault::Memory
+    }
+}
+
+impl From<AllocError> for RuleFault {
+    ghost use Rattle.std.specs.Prelude.{◌≡◌};
+    ghost use Rattle.cell_cats.specs.declared.rules.RuleFault.TheVariants.{Memory};
+
+    ghost from_gives = { λ _ fault. fault ≡ Memory };
+
+    fn from(_e: AllocError) -> RuleFault {
+        RuleFault::Memory
+    }
+}
+
+impl<T: Drop> From<AllocFailed<T>> for RuleFault {
+    ghost use Rattle.std.specs.Prelude.{◌≡◌};
+    ghost use Rattle.cell_cats.specs.declared.rules.RuleFault.TheVariants.{Memory};
+
+    ghost from_gives = { λ _ fault. fault ≡ Memory };
+
+    fn from(_e: AllocFailed<T>) -> RuleFault {
+        RuleFault::Memory
+    }
+}
+
+/// Rules in the order in which they were given.
+#[derive(Debug, Drop)]
+pub struct Rules {
+    alloc: Global,
+    rules: Vec<Rule>,
+}
+
+impl Model for Rules {
+    ghost use Rattle.std.specs.Prelude.{List};
+    ghost use Rattle.cell_cats.specs.Rule.{RuleValue};
+
+    ghost Value = { List RuleValue };
+
+    ghost view = { λ r. r.rules.items };
+}
+
+impl Rules {
+    /// No rule: every cell becomes null. Takes no memory.
+    pub fn new(alloc: Global) -> Rules
+        ensures { result ≡ [] }
+    {
+        Rules {
+            alloc,
+            rules: Vec::new(alloc),
+        }
+    }
+
+    // The output for a category.
+    fn output_for(&self, x: i32) -> Option<Output>
+        ensures { result ≡ output_for self.now x }
+    {
+        let mut listing = None;
+        let mut starred = None;
+        for rule in &self.rules {
+            if rule.lists(x) {
+                listing = Some(rule.output());
+            }
+            if rule.is_star() {
+                starred = Some(rule.output());
+            }
+        }
+        listing.or(starred)
+    }
+
+    /// The new category of a cell.
+    pub fn apply(&self, cell: Cell) -> Cell
+        ensures { result ≡ new_category self.now cell }
+    {
+        let Some(x) = cell.get() else {
+            return Cell::null();
+        };
+        match self.output_for(x) {
+            Some(output) => output.of(cell),
+            None => Cell::null(),
+        }
+    }
+
+    /// The rules, in order.
+    pub(crate) fn as_slice(&self) -> &[Rule]
+        ensures { result.now ≡ self.now }
+    {
+        self.rules.as_slice()
+    }
+
+    /// Adds the rule that a line spells. The line has no line feed.
+    ///
+    /// # Errors
+    ///
+    /// [`RuleFault::BadRule`] where it has not the shape of a rule, else [`RuleFault::BadNumber`] where a number is bad,
+    /// [`RuleFault::Memory`] where memory was refused. The rules are unchanged, and further lines may be added.
+    pub fn add_line(&mut self, line: &[u8]) -> Result<LineKind, RuleFault>
+        ensures ok { IfOk result (λ kind. with_line self.old line.now ≡ Ok (kind, self.new)) }
+        ensures err { IfErr result (λ fault. fault ≢ RuleFault.Memory → with_line self.old line.now ≡ Err fault) }
+        ensures unchanged { OnErr result (self.new ≡ self.old) }
+    {
+        let text = trimmed(line);
+        if is_skipped(text) {
+            return Ok(LineKind::Skipped);
+        }
+        if text == b"end".as_slice() {
+            return Ok(LineKind::End);
+        }
+        let rule = rule_of(self.alloc, line)?;
+        self.rules.push(rule)?;
+        Ok(LineKind::Rule)
+    }
+}

@@ -1,0 +1,9 @@
+//! Tests of the rules of r.reclass: each form of a line, and worked maps.
+#![tactic(auto)]
+
+#[cfg(test)]
+mod lines;
+#[cfg(test)]
+mod maps;
+#[cfg(test)]
+mod worked;

@@ -1,0 +1,157 @@
+//! Worked maps.
+
+use crate::maps::{NULL, categories_of, map_of};
+use cell_cats::reclassing::reclass;
+use cell_cats::rules::Rules;
+use std::test::Fail;
+
+// Lines, the categories of a map in rows of four, its new categories, and the label of a category of it.
+struct Case {
+    lines: &'static [&'static [u8]],
+    given: &'static [i32],
+    wanted: &'static [i32],
+    category: i32,
+    label: Option<&'static [u8]>,
+}
+
+const LEGEND: [i32; 12] = [1, 1, 2, NULL, 1, 2, 2, 2, 3, 3, 1, 1];
+
+const CASES: [Case; 14] = [
+    Case {
+        lines: &[b"1 thru 3 = 7 low", b"2 = NULL", b"* = *"],
+        given: &[1, 2, 3, 9, NULL, 0, 4, -7],
+        wanted: &[7, NULL, 7, 9, NULL, 0, 4, -7],
+        category: 7,
+        label: Some(b"low"),
+    },
+    Case {
+        lines: &[b"1 thru 3 = 7 low", b"2 = NULL", b"* = *"],
+        given: &LEGEND,
+        wanted: &[7, 7, NULL, NULL, 7, NULL, NULL, NULL, 7, 7, 7, 7],
+        category: 9,
+        label: None,
+    },
+    Case {
+        lines: &[b"-2147483647 thru 2147483647 = 1"],
+        given: &LEGEND,
+        wanted: &[1, 1, 1, NULL, 1, 1, 1, 1, 1, 1, 1, 1],
+        category: 1,
+        label: None,
+    },
+    Case {
+        lines: &[b"1 = 5 a", b"2 = 5", b"3 = 5 b", b"* = 6"],
+        given: &LEGEND,
+        wanted: &[5, 5, 5, NULL, 5, 5, 5, 5, 5, 5, 5, 5],
+        category: 5,
+        label: Some(b"b"),
+    },
+    Case {
+        lines: &[b"1 = 5 a", b"2 = 5", b"3 = 5 b", b"* = 6"],
+        given: &[1, 2, 3, 4],
+        wanted: &[5, 5, 5, 6],
+        category: 6,
+        label: None,
+    },
+    Case {
+        lines: &[],
+        given: &[1, 2, 3, NULL],
+        wanted: &[NULL, NULL, NULL, NULL],
+        category: 1,
+        label: None,
+    },
+    Case {
+        lines: &[b"1 = 2", b"1 = 3"],
+        given: &[1, 2, 3, NULL],
+        wanted: &[3, NULL, NULL, NULL],
+        category: 3,
+        label: None,
+    },
+    Case {
+        lines: &[b"* = 8", b"1 = 2", b"* = 9"],
+        given: &[1, 2, 3, NULL],
+        wanted: &[2, 9, 9, NULL],
+        category: 8,
+        label: None,
+    },
+    Case {
+        lines: &[b"5 thru 3, 9 = 1"],
+        given: &[2, 3, 4, 5, 6, 8, 9, 10],
+        wanted: &[NULL, 1, 1, 1, NULL, NULL, 1, NULL],
+        category: 1,
+        label: None,
+    },
+    Case {
+        lines: &[b"1 = 5  a = b  c \r"],
+        given: &[1, 1, 5, NULL],
+        wanted: &[5, 5, NULL, NULL],
+        category: 5,
+        label: Some(b"a = b  c"),
+    },
+    Case {
+        lines: &[b"1 = 5 a", b"2 = 5 \t"],
+        given: &[1, 2, 3, NULL],
+        wanted: &[5, 5, NULL, NULL],
+        category: 5,
+        label: Some(b"a"),
+    },
+    Case {
+        lines: &[b"1 = NULL a", b"* = * b"],
+        given: &[1, 2, 3, NULL],
+        wanted: &[NULL, 2, 3, NULL],
+        category: 2,
+        label: None,
+    },
+    Case {
+        lines: &[b"1 = 2", b"* = 4 rest"],
+        given: &[1, 2, 3, NULL],
+        wanted: &[2, 4, 4, NULL],
+        category: 4,
+        label: Some(b"rest"),
+    },
+    Case {
+        lines: &[b"7 = 8 never"],
+        given: &[1, 2, 3, NULL],
+        wanted: &[NULL, NULL, NULL, NULL],
+        category: 8,
+        label: Some(b"never"),
+    },
+];
+
+#[test]
+fn worked_maps(rt: HostRuntime) -> Result<(), Fail> {
+    for case in &CASES {
+        let mut rules = Rules::new(rt.alloc());
+        for line in case.lines {
+            assert!(rt; rules.add_line(*line).is_ok(), "the line {line:?}");
+        }
+        let map = map_of(rt.alloc(), case.given, 4)?.ok_or("no map")?;
+        let made = reclass(rt.alloc(), &map, &rules)?;
+        assert!(rt; made.region() == map.region());
+        let categories = categories_of(rt.alloc(), &made)?;
+        assert_eq!(rt;
+            categories.as_slice(),
+            case.wanted,
+            "the map {:?}",
+            case.given
+        );
+        assert!(rt;
+            made.label(case.category) == case.label,
+            "the label of {}",
+            case.category
+        );
+    }
+    Ok(())
+}
+
+#[test]
+fn labels_of_the_given_map_go(rt: HostRuntime) -> Result<(), Fail> {
+    let mut rules = Rules::new(rt.alloc());
+    assert!(rt; rules.add_line(b"* = *").is_ok());
+    let mut map = map_of(rt.alloc(), &LEGEND, 4)?.ok_or("no map")?;
+    map.set_label(1, b"forest")?;
+    let made = reclass(rt.alloc(), &map, &rules)?;
+    let categories = categories_of(rt.alloc(), &made)?;
+    assert_eq!(rt; categories.as_slice(), LEGEND.as_slice());
+    assert!(rt; made.label(1).is_none());
+    Ok(())
+}

@@ -1,0 +1,13 @@
+//! The connected areas of a map, and their numbers (GRASS: r.clump).
+//!
+//! What an area is follows the r.clump manual. The order of the numbers is this project's own choice:
+//! its text says profile.
+#![tactic(auto)]
+
+pub mod clump;
+mod labels;
+pub mod law;
+mod numbers;
+mod pairs;
+mod rows;
+mod scan;

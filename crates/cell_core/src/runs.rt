@@ -1,0 +1,125 @@
+//! The runs of a row: cells that are alike and stand side by side, with their number.
+
+ghost use Rattle.std.specs.Prelude.{◌≡◌, ◌<◌, ◌≤◌, ◌+◌, ◌-◌, ◌++◌, ◌^◌, length, take, drop, replicate, All, None, IfOk, slice_index_or};
+ghost use Rattle.std.specs.Iterator.{YieldsFirst, item_count};
+ghost use Rattle.cell_core.specs.Cell.{IsCell};
+ghost use Rattle.cell_core.specs.Runs.{RunValue, AreRuns, written_out};
+
+use crate::cell::{Cell, category_of};
+use crate::memory::Memory;
+use std::alloc::Global;
+use std::marker::Model;
+
+// How many runs a row has, so that they are given just as much memory. Its cells are null or categories.
+fn count_runs(row: &[Cell]) -> usize
+    ensures { All IsCell row.now }
+{
+    let mut count: usize = 0;
+    let mut last = None;
+    for cell in row {
+        let category = category_of(*cell);
+        if last != Some(category) {
+            count = count.wrapping_add(1);
+        }
+        last = Some(category);
+    }
+    count
+}
+
+// The runs of a row. Takes memory once.
+pub(crate) fn runs_of(alloc: Global, row: &[Cell]) -> Result<Vec<(Cell, u32)>, Memory>
+    requires { length row.now < 2 ^ 32 }
+    ensures written { IfOk result (λ runs. written_out runs.items ≡ row.now) }
+    ensures runs { IfOk result (λ runs. AreRuns runs.items) }
+    ensures cells { IfOk result (λ runs. All IsCell (written_out runs.items)) }
+{
+    let mut runs = Vec::with_capacity(alloc, count_runs(row))?;
+    if let Some((first, others)) = row.split_first() {
+        let mut cell = *first;
+        let mut count = 1;
+        for next in others {
+            if *next == cell {
+                count += 1;
+            } else {
+                runs.push((cell, count))?;
+                cell = *next;
+                count = 1;
+            }
+        }
+        runs.push((cell, count))?;
+    }
+    Ok(runs)
+}
+
+// The cell at a column of the row that the runs make, or null after its end.
+pub(crate) fn cell_in(runs: &[(Cell, u32)], col: u32) -> Cell
+    ensures { result ≡ slice_index_or (written_out runs.now) col None }
+{
+    let mut left = col;
+    for run in runs {
+        if left < run.1 {
+            return run.0;
+        }
+        left -= run.1;
+    }
+    Cell::null()
+}
+
+// Writes a run over the cells from a place on.
+fn fill_run(cells: &mut [Cell], at: usize, run: (Cell, u32))
+    requires { at + run.1 ≤ length cells.old }
+    ensures { cells.new ≡ take at cells.old ++ replicate run.1 run.0 ++ drop (at + run.1) cells.old }
+{
+    cells[at..at + run.1 as usize].fill(run.0);
+}
+
+// Writes the row that the runs make. The slice is as long as that row.
+pub(crate) fn write_out(runs: &[(Cell, u32)], cells: &mut [Cell])
+    requires { length cells.old ≡ length (written_out runs.now) }
+    ensures { cells.new ≡ written_out runs.now }
+{
+    let mut at = 0;
+    for run in runs {
+        fill_run(cells, at, *run);
+        at += run.1 as usize;
+    }
+}
+
+/// The runs of a row, from left to right: a cell and how often it stands there, at least once. No two neighbours have equal
+/// cells. It is seen as the list of the runs still to come.
+#[derive(Drop)]
+pub struct Runs<'a> {
+    rest: &'a [(Cell, u32)],
+}
+
+impl<'a> Model for Runs<'a> {
+    ghost use Rattle.std.specs.Prelude.{List};
+    ghost use Rattle.cell_core.specs.Cell.{IsCell};
+    ghost use Rattle.cell_core.specs.Runs.{RunValue};
+
+    ghost Value = { List RunValue };
+
+    ghost view = { λ runs. runs.rest.now };
+}
+
+impl<'a> Runs<'a> {
+    pub(crate) fn over(rest: &'a [(Cell, u32)]) -> Runs<'a>
+        ensures { result ≡ rest.now }
+    {
+        Runs { rest }
+    }
+}
+
+impl<'a> Iterator for Runs<'a> {
+    type Item = (Cell, u32);
+
+    ghost next_gives = { YieldsFirst (λ s. s) };
+
+    ghost remaining = { item_count (λ s. s) };
+
+    fn next(&mut self) -> Option<(Cell, u32)> {
+        let (first, others) = self.rest.split_first()?;
+        self.rest = others;
+        Some(*first)
+    }
+}

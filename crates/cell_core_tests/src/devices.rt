@@ -1,0 +1,62 @@
+//! A reader and a writer that does what a list of steps says.
+
+ghost use Rattle.std.specs.Prelude.{◌≤◌, IfOk};
+
+use std::io::{self, ErrorKind, Read, Write};
+
+/// What a device does at a call.
+#[derive(Clone, Copy)]
+pub enum Step {
+    /// It fails.
+    Refuses(ErrorKind),
+    /// It moves so many bytes, or as many as there is room for.
+    Moves(usize),
+}
+
+/// A device that takes the steps in turn, and then moves all that it is given. Each byte that it gives is an `x`, and it
+/// takes no other.
+#[derive(Drop)]
+pub struct Device {
+    steps: &'static [Step],
+    at: usize,
+}
+
+impl Device {
+    pub fn new(steps: &'static [Step]) -> Device {
+        Device { steps, at: 0 }
+    }
+
+    fn step(&mut self, room: usize) -> io::Result<usize>
+        ensures { IfOk result (λ n. n ≤ room) }
+    {
+        let step = self.steps.get(self.at).copied();
+        self.at = self.at.saturating_add(1);
+        match step {
+            Some(Step::Refuses(kind)) => Err(kind.into()),
+            Some(Step::Moves(n)) => Ok(n.min(room)),
+            None => Ok(room),
+        }
+    }
+}
+
+impl Read for Device {
+    fn read(&mut self, buf: &mut [u8]) -> io::Result<usize> {
+        let n = self.step(buf.len())?;
+        buf[..n].fill(b'x');
+        Ok(n)
+    }
+}
+
+impl Write for Device {
+    fn write(&mut self, buf: &[u8]) -> io::Result<usize> {
+        if buf.iter().any(|byte| *byte != b'x') {
+            return Err(ErrorKind::InvalidData.into());
+        }
+        self.step(buf.len())
+    }
+
+    fn flush(&mut self) -> io::Result<()> {
+        self.step(0)?;
+        Ok(())
+    }
+}

@@ -1,0 +1,17 @@
+//! Worked answers of the calls of cell_core, and what no clause says of a reader's and a writer's `Err`.
+#![tactic(auto)]
+
+#[cfg(test)]
+mod devices;
+#[cfg(test)]
+mod fixture;
+#[cfg(test)]
+mod maps;
+#[cfg(test)]
+mod names;
+#[cfg(test)]
+mod regions;
+#[cfg(test)]
+mod sinks;
+#[cfg(test)]
+mod sources;

@@ -1,0 +1,85 @@
+//! Maps: their cells, their runs and their labels.
+
+use crate::fixture::{NULL, cell, cells, map_of};
+use cell_core::cell::Cell;
+use cell_core::map::CellMap;
+use std::alloc::{AllocGlobal, Global};
+use std::process::Abort;
+use std::test::Fail;
+
+const ROWS: u32 = 3;
+
+const COLS: u32 = 4;
+
+const GRID: [i32; 12] = [1, 1, 2, NULL, 1, 2, 2, 2, 3, 3, 1, 1];
+
+// The runs of a row are these, given as categories with their numbers.
+fn expect_runs<R: Abort + AllocGlobal>(
+    rt: &R,
+    map: &CellMap,
+    row: u32,
+    wanted: &[(i32, u32)],
+) -> Result<(), Fail> {
+    assert!(rt; row < map.region().rows());
+    let found: Vec<(Cell, u32)> = map.runs(row).collect(rt.alloc())?;
+    assert_eq!(rt; found.len(), wanted.len(), "row {row}");
+    for (run, wanted) in found.iter().zip(wanted) {
+        assert_eq!(rt; *run, (cell(wanted.0), wanted.1), "row {row}");
+    }
+    Ok(())
+}
+
+#[test]
+fn gives_its_runs(rt: HostRuntime) -> Result<(), Fail> {
+    let map = map_of(rt.alloc(), ROWS, COLS, &GRID)?.ok_or("a map")?;
+    expect_runs(&rt, &map, 0, &[(1, 2), (2, 1), (NULL, 1)])?;
+    expect_runs(&rt, &map, 1, &[(1, 1), (2, 3)])?;
+    expect_runs(&rt, &map, 2, &[(3, 2), (1, 2)])
+}
+
+#[test]
+fn keeps_a_long_row_as_one_run(rt: HostRuntime) -> Result<(), Fail> {
+    let row = vec![in rt.alloc(); 7; 65535]?;
+    let map = map_of(rt.alloc(), 1, 65535, &row)?.ok_or("a map")?;
+    expect_runs(&rt, &map, 0, &[(7, 65535)])
+}
+
+#[test]
+fn gives_its_cells(rt: HostRuntime) -> Result<(), Fail> {
+    let map = map_of(rt.alloc(), 1, 5, &[7, -2147483647, -2147483647, NULL, 0])?.ok_or("a map")?;
+    let region = map.region();
+    assert!(rt; region.rows() == 1);
+    assert!(rt; region.cols() == 5);
+    assert_eq!(rt; map.cell(0, 0).get(), Some(7));
+    assert_eq!(rt; map.cell(0, 2).get(), Some(-2147483647));
+    assert_eq!(rt; map.cell(0, 3).get(), None);
+    assert_eq!(rt; map.cell(0, 4).get(), Some(0));
+    let mut row = [Cell::null(); 5];
+    map.copy_row(0, &mut row);
+    let wanted = cells(rt.alloc(), &[7, -2147483647, -2147483647, NULL, 0])?;
+    assert_eq!(rt; row.as_slice(), wanted.as_slice());
+    assert!(rt; cell(-2147483647) < cell(7) && cell(7) < Cell::null());
+    Ok(())
+}
+
+#[test]
+fn keeps_labels(rt: HostRuntime) -> Result<(), Fail> {
+    let mut map = map_of(rt.alloc(), ROWS, COLS, &GRID)?.ok_or("a map")?;
+    assert_eq!(rt; map.label(3), None);
+    map.set_label(3, b"forest")?;
+    map.set_label(-2147483647, b"")?;
+    map.set_label(1, b"open water")?;
+    assert_eq!(rt; map.label(3), Some(b"forest".as_slice()));
+    map.set_label(3, b"wood")?;
+    let table = [
+        (-2147483647, Some(b"".as_slice())),
+        (1, Some(b"open water".as_slice())),
+        (2, None),
+        (3, Some(b"wood".as_slice())),
+        (i32::MIN, None),
+    ];
+    for (category, label) in table {
+        assert_eq!(rt; map.label(category), label, "category {category}");
+    }
+    expect_runs(&rt, &map, 0, &[(1, 2), (2, 1), (NULL, 1)])
+}

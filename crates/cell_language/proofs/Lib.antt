@@ -1,0 +1,12 @@
+pub mod Complete
+pub mod Law
+pub mod Sound
+pub mod Local
+pub mod Told
+pub mod Steps
+pub mod Faults
+pub mod Grammatical
+pub mod InBrackets
+pub mod Pieces
+pub mod SpellingLemmas
+pub mod OnlyLemmas

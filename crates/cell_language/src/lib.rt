@@ -1,0 +1,13 @@
+//! The language of r.mapcalc over whole-number maps.
+#![tactic(auto)]
+
+pub mod assignment;
+pub mod expr;
+pub mod fault;
+pub mod function;
+pub mod operator;
+mod parsing;
+pub mod token;
+pub mod tokens;
+pub mod tree;
+mod unknown;

@@ -1,0 +1,249 @@
+-- What is found in a table, and that there is one table.
+use Rattle.std.proofs.Common.{◌≡◌, ◌≢◌, ℕ, zero, suc, ◌+◌, ◌<◌, map, [], ◌∷◌, List, Option, Some, None, Bool, true, false, ◌↔◌, cond, IsTrue, unwrap_or, ap, sym, ◌∙◌, refl, arith, zero-add}
+use Rattle.std.specs.Prelude.{T}
+use Rattle.std.specs.Ordering.{eq_by_cmp}
+use Rattle.std.specs.declared.cmp.Ordering.TheVariants.{Less}
+use Rattle.std.proofs.lemmas.List.Sums.{sum_by-append}
+use Rattle.std.specs.List.{Contains, AllByRecursion}
+use Rattle.std.specs.List.Sorted.{IsStrictlySortedBy}
+use Rattle.std.specs.Map.{lookup}
+use Rattle.std.specs.BTreeMap.{BTreeMap, IsOrdered, is_at}
+use Rattle.std.specs.FinMap as finmap
+use Rattle.std.specs.FinMap.Entries.{find, is_sorted, below_all, same_entries}
+use Rattle.cell_stats.specs.Combinations.{Combination, combination_cmp}
+use Rattle.cell_stats.specs.Counts.{count_of}
+use Rattle.cell_stats.specs.Held.{mapped_of, HasNoZero}
+use Rattle.cell_stats.specs.declared.skip.Skip.{Skip}
+use Rattle.cell_stats.specs.Tables.{Pairs, IsTable, counts_of, kept, is_left_out, table_of}
+use Rattle.cell_stats.proofs.OrderLemmas.{combination_cmp-total, combination_cmp-exact, is_equal}
+use Rattle.cell_stats.proofs.SortedLemmas.{both_true, is_less, each_found}
+
+-- ---- the table as what is found in it
+
+pub T_from : (b : Bool) → IsTrue b → T b
+T_from true e = tt
+T_from false e = cc
+
+pub from_T : (b : Bool) → T b → IsTrue b
+from_T true t = refl
+from_T false t = absurd t
+
+abbrev keys_of : Pairs → List Combination
+keys_of es = map (λ e. e.0) es
+
+-- the table of cells of which none is left out
+pub record IsTally (cells : List Combination) (pairs : Pairs) : Type 0 where
+  pub ascending : IsStrictlySortedBy combination_cmp (map (λ pair. pair.0) pairs)
+  pub counted : (k : Combination) (n : ℕ) → Contains pairs (k, n) ↔ ((0 < n) × (n ≡ count_of k cells))
+
+below_from : (x : Combination) (es : Pairs) → IsTrue (below_all combination_cmp x es) → AllByRecursion (λ y. combination_cmp x y ≡ Less) (keys_of es)
+below_from x [] b = tt
+below_from x (e ∷ es) b = let h = both_true _ _ b in (is_less _ h.0, below_from x es h.1)
+
+below_to : (x : Combination) (es : Pairs) → AllByRecursion (λ y. combination_cmp x y ≡ Less) (keys_of es) → IsTrue (below_all combination_cmp x es)
+below_to x [] h = refl
+below_to x (e ∷ es) h = rw h.0 (below_to x es h.1)
+
+ascending_from : (es : Pairs) → IsTrue (is_sorted combination_cmp es) → IsStrictlySortedBy combination_cmp (keys_of es)
+unfolding IsStrictlySortedBy
+ascending_from [] s = tt
+ascending_from (e ∷ es) s = let h = both_true _ _ s in (below_from e.0 es h.0, ascending_from es h.1)
+
+pub ascending_to : (es : Pairs) → IsStrictlySortedBy combination_cmp (keys_of es) → IsTrue (is_sorted combination_cmp es)
+unfolding IsStrictlySortedBy
+ascending_to [] h = refl
+ascending_to (e ∷ es) h = rw (below_to e.0 es h.0) (ascending_to es h.1)
+
+-- a count of nothing is no entry
+abbrev pub found : ℕ → Option ℕ
+found zero = None
+found (suc n) = Some (suc n)
+
+-- the pairs in order, and what is found at each combination
+pub record IsFound (cells : List Combination) (es : Pairs) : Type 0 where
+  pub sorted : IsTrue (is_sorted combination_cmp es)
+  pub finds : (k : Combination) → find combination_cmp k es ≡ found (count_of k cells)
+
+-- what is found stands in the list
+stands : (k : Combination) (n : ℕ) (es : Pairs) → find combination_cmp k es ≡ Some n → Contains es (k, n)
+stands k n [] e = cc
+stands k n (x ∷ es) e =
+    elim (eq_by_cmp combination_cmp k x.0) as (λ b. eq_by_cmp combination_cmp k x.0 ≡ b → cond b (Some x.1) (find combination_cmp k es) ≡ Some n → Contains (x ∷ es) (k, n)) [
+      | true ↦ λ t is.
+          let same : k ≡ x.0 = combination_cmp-exact k x.0 (is_equal _ t) in
+          let count : x.1 ≡ n = cc in
+          (0, omega arith, λ i. (sym same i, count i))
+      | false ↦ λ t is. let rest = stands k n es is in (suc rest.0, omega (arith, rest.1), rest.2)
+    ] refl e
+
+found_some : (n v : ℕ) → Some v ≡ found n → (0 < v) × (v ≡ n)
+found_some zero v e = cc
+found_some (suc n) v e = let same : v ≡ suc n = cc in (omega arith, same)
+
+counted_from : (cells : List Combination) (es : Pairs) → IsFound cells es → (k : Combination) (n : ℕ) → Contains es (k, n) ↔ ((0 < n) × (n ≡ count_of k cells))
+counted_from cells es t k n = (
+  λ c.
+      let at = each_found combination_cmp combination_cmp-total es t.sorted c.0 (k, n) c.1 in
+      let is : find combination_cmp k es ≡ Some n = rw c.2 at at in
+      found_some (count_of k cells) n (sym is ∙ t.finds k),
+  λ h. stands k n es (t.finds k ∙ rw (← h.1) (found_positive n h.0)),
+)
+  where
+    found_positive : (n : ℕ) → 0 < n → found n ≡ Some n
+    found_positive zero p = absurd (omega arith)
+    found_positive (suc n) p = refl
+
+pub IsTally-from : (cells : List Combination) (es : Pairs) → IsFound cells es → IsTally cells es
+IsTally-from cells es t = record { ascending = ascending_from es t.sorted; counted = counted_from cells es t }
+
+finds_from : (cells : List Combination) (es : Pairs) → IsTally cells es → (k : Combination) (o : Option ℕ) → find combination_cmp k es ≡ o → o ≡ found (count_of k cells)
+finds_from cells es t k (Some v) e = let h = (t.counted k v).0 (stands k v es e) in rw (← h.1) (found_positive v h.0)
+  where
+    found_positive : (n : ℕ) → 0 < n → Some n ≡ found n
+    found_positive zero p = absurd (omega arith)
+    found_positive (suc n) p = refl
+finds_from cells es t k None e = by (count_of k cells) refl
+  where
+    by : (n : ℕ) → count_of k cells ≡ n → None ≡ found n
+    by zero z = refl
+    by (suc n) z =
+        let c = (t.counted k (suc n)).1 (omega arith, sym z) in
+        let at = each_found combination_cmp combination_cmp-total es (ascending_to es t.ascending) c.0 (k, suc n) c.1 in
+        let is : find combination_cmp k es ≡ Some (suc n) = rw c.2 at at in
+        cc
+
+pub IsFound-from : (cells : List Combination) (es : Pairs) → IsTally cells es → IsFound cells es
+IsFound-from cells es t = record { sorted = ascending_to es t.ascending; finds = λ k. finds_from cells es t k _ refl }
+
+-- ---- there is one table
+
+pub one_table : (cells : List Combination) (a b : Pairs) → IsTally cells a → IsTally cells b → a ≡ b
+one_table cells a b p q =
+    let s = IsFound-from cells a p in
+    let t = IsFound-from cells b q in
+    same_entries combination_cmp combination_cmp-total combination_cmp-exact a b (T_from _ s.sorted) (T_from _ t.sorted) (λ k. s.finds k ∙ sym (t.finds k))
+
+pub count_cons : (q k : Combination) (cells : List Combination) → count_of q (k ∷ cells) ≡ cond (eq_by_cmp combination_cmp q k) 1 0 + count_of q cells
+count_cons q k cells = sum_by-append (λ (x : Combination). cond (eq_by_cmp combination_cmp q x) 1 0) (k ∷ []) cells ∙ ap (λ n. n + count_of q cells) (zero-add _)
+
+-- a value, where the count is not of nothing
+abbrev occurring : ℕ → ℕ → Option ℕ
+occurring zero v = None
+occurring (suc n) v = Some v
+
+occurring_itself : (n : ℕ) → occurring n n ≡ found n
+occurring_itself zero = refl
+occurring_itself (suc n) = refl
+
+-- what is found among the cells, each with the value of a function
+found_among : (f : Combination → ℕ) (q : Combination) (cells : List Combination) → find combination_cmp q (map (λ k. (k, f k)) cells) ≡ occurring (count_of q cells) (f q)
+found_among f q [] = refl
+found_among f q (k ∷ cells) =
+    elim (eq_by_cmp combination_cmp q k) as (λ b. eq_by_cmp combination_cmp q k ≡ b → cond b (Some (f k)) (find combination_cmp q (map (λ x. (x, f x)) cells)) ≡ occurring (cond b 1 0 + count_of q cells) (f q)) [
+      | true ↦ λ t.
+          let same : q ≡ k = combination_cmp-exact q k (is_equal _ t) in
+          ap (λ x. Some (f x)) (sym same) ∙ ap (λ n. occurring n (f q)) (one_more (count_of q cells))
+      | false ↦ λ t. found_among f q cells ∙ ap (λ n. occurring n (f q)) (sym (zero-add (count_of q cells)))
+    ] refl ∙ ap (λ n. occurring n (f q)) (sym (count_cons q k cells))
+  where
+    one_more : (n : ℕ) → suc n ≡ 1 + n
+    one_more n = omega arith
+
+pub counts_of-IsTally : (cells : List Combination) → IsTally cells (counts_of cells)
+unfolding counts_of
+counts_of-IsTally cells =
+    let m = finmap.from_entries {R = combination_cmp} (map (λ k. (k, count_of k cells)) cells) in
+    IsTally-from cells _ (record {
+      sorted = from_T _ (finmap.entries_sorted m);
+      finds = λ k. sym (finmap.get-entries m k) ∙ finmap.get-from_entries combination_cmp-total _ k ∙ found_among (λ x. count_of x cells) k cells ∙ occurring_itself (count_of k cells);
+    })
+
+-- ---- what is left out
+
+kept_out : (skip : Skip) (x : Combination) (cells : List Combination) → is_left_out skip x ≡ true → kept skip (x ∷ cells) ≡ kept skip cells
+kept_out skip x cells l = rw l refl
+
+kept_in : (skip : Skip) (x : Combination) (cells : List Combination) → is_left_out skip x ≡ false → kept skip (x ∷ cells) ≡ x ∷ kept skip cells
+kept_in skip x cells l = rw l refl
+
+-- cells that are left out are not counted
+pub count_kept : (skip : Skip) (k : Combination) (cells : List Combination) → count_of k (kept skip cells) ≡ cond (is_left_out skip k) 0 (count_of k cells)
+count_kept skip k [] = nothing (is_left_out skip k)
+  where
+    nothing : (b : Bool) → ◌≡◌ {A = ℕ} 0 (cond b 0 0)
+    nothing true = refl
+    nothing false = refl
+count_kept skip k (x ∷ cells) = by (is_left_out skip x) (eq_by_cmp combination_cmp k x) refl refl (count_kept skip k cells)
+  where
+    by : (b e : Bool) → is_left_out skip x ≡ b → eq_by_cmp combination_cmp k x ≡ e → count_of k (kept skip cells) ≡ cond (is_left_out skip k) 0 (count_of k cells) → count_of k (kept skip (x ∷ cells)) ≡ cond (is_left_out skip k) 0 (count_of k (x ∷ cells))
+    by true true l e on =
+        let left : is_left_out skip k ≡ true = ap (is_left_out skip) (combination_cmp-exact k x (is_equal _ e)) ∙ l in
+        ap (count_of k) (kept_out skip x cells l) ∙ on ∙ ap (λ b. cond b 0 (count_of k cells)) left ∙ ap (λ b. cond b 0 (count_of k (x ∷ cells))) (sym left)
+    by true false l e on =
+        ap (count_of k) (kept_out skip x cells l) ∙ on ∙ ap (λ n. cond (is_left_out skip k) 0 n) (sym (count_cons k x cells ∙ ap (λ b. cond b 1 0 + count_of k cells) e ∙ zero-add (count_of k cells)))
+    by false true l e on =
+        let left : is_left_out skip k ≡ false = ap (is_left_out skip) (combination_cmp-exact k x (is_equal _ e)) ∙ l in
+        ap (count_of k) (kept_in skip x cells l) ∙ count_cons k x (kept skip cells) ∙ ap (λ n. cond (eq_by_cmp combination_cmp k x) 1 0 + n) (on ∙ ap (λ b. cond b 0 (count_of k cells)) left)
+        ∙ sym (count_cons k x cells) ∙ ap (λ b. cond b 0 (count_of k (x ∷ cells))) (sym left)
+    by false false l e on =
+        ap (count_of k) (kept_in skip x cells l) ∙ count_cons k x (kept skip cells) ∙ ap (λ b. cond b 1 0 + count_of k (kept skip cells)) e ∙ zero-add _ ∙ on
+        ∙ ap (λ n. cond (is_left_out skip k) 0 n) (sym (count_cons k x cells ∙ ap (λ b. cond b 1 0 + count_of k cells) e ∙ zero-add (count_of k cells)))
+
+module _ (skip : Skip) (cells : List Combination) (es : Pairs) where
+  -- what stands in the table of the cells that are kept, and what in that of all
+  stands_kept : (b : Bool) (k : Combination) (n : ℕ) → is_left_out skip k ≡ b → ((0 < n) × (n ≡ count_of k (kept skip cells))) ↔ ((is_left_out skip k ≡ false) × ((0 < n) × (n ≡ count_of k cells)))
+  stands_kept true k n left = (
+    λ h.
+        let none : count_of k (kept skip cells) ≡ 0 = count_kept skip k cells ∙ ap (λ b. cond b 0 (count_of k cells)) left in
+        absurd (omega (arith, h.0, h.1)),
+    λ h. let kept_too = h.0 in cc,
+  )
+  stands_kept false k n left =
+      let same : count_of k (kept skip cells) ≡ count_of k cells = count_kept skip k cells ∙ ap (λ b. cond b 0 (count_of k cells)) left in
+      (λ h. (left, (h.0, h.1 ∙ same)), λ h. (h.1.0, h.1.1 ∙ sym same))
+
+  pub IsTable-kept : IsTally (kept skip cells) es → IsTable skip cells es
+  IsTable-kept t = record {
+    ascending = t.ascending;
+    counted = λ k n.
+        let s = stands_kept _ k n refl in
+        let h = t.counted k n in
+        (λ c. s.0 (h.0 c), λ p. h.1 (s.1 p));
+  }
+
+  pub kept-IsTable : IsTable skip cells es → IsTally (kept skip cells) es
+  kept-IsTable t = record {
+    ascending = t.ascending;
+    counted = λ k n.
+        let s = stands_kept _ k n refl in
+        let h = t.counted k n in
+        (λ c. s.1 (h.0 c), λ p. h.1 (s.0 p));
+  }
+
+pub table_of-IsTable : (skip : Skip) (cells : List Combination) → IsTable skip cells (table_of skip cells)
+table_of-IsTable skip cells = IsTable-kept skip cells _ (counts_of-IsTally (kept skip cells))
+
+pub one_table_kept : (skip : Skip) (cells : List Combination) (a b : Pairs) → IsTable skip cells a → IsTable skip cells b → a ≡ b
+one_table_kept skip cells a b p q = one_table (kept skip cells) a b (kept-IsTable skip cells a p) (kept-IsTable skip cells b q)
+
+pub table_is : (skip : Skip) (cells : List Combination) (es : Pairs) → IsTable skip cells es → es ≡ table_of skip cells
+table_is skip cells es table = one_table_kept skip cells es (table_of skip cells) table (table_of-IsTable skip cells)
+
+-- ---- the table from the counts in an ordered map
+
+find_lookup : (k : Combination) (es : Pairs) → find combination_cmp k es ≡ lookup (is_at (combination_cmp k)) es
+find_lookup k [] = refl
+find_lookup k (e ∷ es) = ap (λ o. cond (eq_by_cmp combination_cmp k e.0) (Some e.1) o) (find_lookup k es)
+
+found_from : (o : Option ℕ) (n : ℕ) → unwrap_or o 0 ≡ n → o ≢ Some 0 → o ≡ found n
+found_from None n e ne = ap found e
+found_from (Some zero) n e ne = absurd (ne refl)
+found_from (Some (suc v)) n e ne = ap found e
+
+-- a map in order that has no count of nothing, and else the counts of cells, lists their table
+pub IsTable-mapped : (skip : Skip) (cells : List Combination) (m : BTreeMap Combination ℕ) → IsOrdered combination_cmp m → ((k : Combination) → mapped_of k m ≡ count_of k (kept skip cells)) → HasNoZero m → IsTable skip cells m.entries
+IsTable-mapped skip cells m ordered counts no_zero =
+    IsTable-kept skip cells m.entries (IsTally-from (kept skip cells) m.entries (record {
+      sorted = ascending_to m.entries ordered;
+      finds = λ k. find_lookup k m.entries ∙ found_from _ _ (counts k) (no_zero k);
+    }))

@@ -1,0 +1,23 @@
+use Rattle.std.proofs.Common.{◌≡◌, ◌+◌, ◌-◌, ◌<◌, ◌≤◌, length, map, drop, All}
+use Rattle.std.specs.List.{range_with_len}
+use Rattle.cell_core.specs.Blocks.{Gathers}
+use Rattle.cell_stats.specs.Combinations.{combination_at}
+use Rattle.cell_stats.specs.Cursors.{to_come, IsReady, row_in}
+use Rattle.cell_stats.proofs.CellsLemmas.{lines}
+use Rattle.cell_stats.proofs.cells.write_row.Given as goal
+
+abbrev pub invariant-loop-col : goal.invariant-loop-col
+invariant-loop-col g l = record {
+  gathers : Gathers (g.W.Sink.taken l.fn.out) l.fn.block (lines l.format l.shelf.maps l.picks l.skip (map (combination_at l.shelf.maps l.picks l.row) (range_with_len 0 l.col))) (g.W.Sink.taken l.out) l.block;
+  failed : g.W.Sink.failed l.out ≡ g.W.Sink.failed l.fn.out;
+  width : length l.cells ≡ length l.picks;
+  to_come : map to_come l.cursors ≡ map (λ p. drop l.col (row_in l.shelf.maps l.row p)) l.picks;
+  ready : All IsReady l.cursors;
+  cells : l.cells ≡ map (λ c. c.cell) l.cursors;
+  least : All (λ c. l.count ≤ c.left) l.cursors;
+  some : l.col < l.cols → 0 < l.count;
+  most : l.col + l.count ≤ l.cols;
+}
+
+abbrev pub decreases-loop-col : goal.decreases-loop-col
+decreases-loop-col g l = l.cols - l.col

@@ -1,0 +1,16 @@
+use Rattle.std.proofs.Common.{ℕ, [], ◌∷◌, ap}
+use Rattle.std.proofs.lemmas.Result.{err_from_is_err_and}
+use Rattle.cell_stats.specs.Preceded.{pick_text, next_text}
+use Rattle.cell_stats.proofs.PrintLemmas.{cut-first, cut-second}
+use Rattle.cell_stats.proofs.printing.write_next_pick.Goals as goal
+
+pub returns-in_err-push-clause-err : goal.returns-in_err-push-clause-err
+returns-in_err-push-clause-err g c =
+    let p = err_from_is_err_and c.from_residual.result c.from_residual.ensures.1 in
+    let pick = pick_text c.args.format.now c.args.shelf.now.maps c.args.place c.args.cell in
+    rw (p.1, p.2) (cut-first _ _ (c.separator.result ∷ []) pick (next_text c.args.format.now c.args.shelf.now.maps (c.args.place, c.args.cell)) (ap (λ (s : ℕ). s ∷ pick) c.separator.ensures) _ _ c.in_err-push.ensures.err)
+
+pub returns-clause-err : goal.returns-clause-err
+returns-clause-err g c =
+    let pick = pick_text c.args.format.now c.args.shelf.now.maps c.args.place c.args.cell in
+    cut-second _ _ (c.separator.result ∷ []) pick (next_text c.args.format.now c.args.shelf.now.maps (c.args.place, c.args.cell)) (ap (λ (s : ℕ). s ∷ pick) c.separator.ensures) c.write_pick.result _ _ _ c.in_ok-push.ensures.ok c.write_pick.ensures.err

@@ -1,0 +1,42 @@
+use Rattle.std.proofs.Common.{◌≡◌, ◌<◌, length, get_or, arith, rules, sym, take, take_all, ◌++◌, drop, ◌+◌, flat_map}
+use Rattle.std.proofs.lemmas.Result.{err_from_is_err_and}
+use Rattle.std.proofs.lemmas.Slice.Zip.{length-zip}
+use Rattle.std.specs.List.{zip}
+use Rattle.cell_core.proofs.GatherLemmas.{CutsOff-second, Gathers-then, flat_map-rest, flat_map-take}
+use Rattle.cell_stats.specs.Preceded.{next_text}
+use Rattle.cell_stats.proofs.PrintLemmas.{cut-first, zip-at, zip-within}
+use Rattle.cell_stats.proofs.printing.write_others.Goals as goal
+
+pub returns-in_err-write_next_pick-clause-err : goal.returns-in_err-write_next_pick-clause-err
+returns-in_err-write_next_pick-clause-err g c =
+    let p = err_from_is_err_and c.from_residual.result c.from_residual.ensures.1 in
+    let picks = c.args.picks.now in
+    let cells = c.args.cells.now in
+    let i = c.loop-i.i in
+    let within : i < length picks = omega (arith, c.requires.width) in
+    let at = zip-at picks cells i within c.requires.width c.index-cells-i.result c.index-cells-i.is in
+    let in_zip = zip-within picks cells i within c.requires.width in
+    let f = next_text c.args.format.now c.args.shelf.now.maps in
+    let parts = sym (flat_map-rest f (zip picks cells) i (0, c.index-cells-i.result) (get_or picks i 0, c.index-cells-i.result) in_zip at) in
+    rw (p.1, p.2) (cut-first _ _ (flat_map f (take i (zip picks cells)) ++ f (get_or picks i 0, c.index-cells-i.result)) (flat_map f (drop (i + 1) (zip picks cells))) (flat_map f (zip picks cells)) parts _ _
+    (CutsOff-second _ _ _ _ _ _ _ _ c.loop-i.invariant.gathers c.in_err-write_next_pick.ensures.err))
+
+pub loop-i-preserved : goal.loop-i-preserved
+loop-i-preserved g c =
+    let picks = c.args.picks.now in
+    let cells = c.args.cells.now in
+    let i = c.loop-i.i in
+    let within : i < length picks = omega (arith, c.requires.width) in
+    let at = zip-at picks cells i within c.requires.width c.index-cells-i.result c.index-cells-i.is in
+    let in_zip = zip-within picks cells i within c.requires.width in
+    let f = next_text c.args.format.now c.args.shelf.now.maps in
+    record {
+      gathers = rw (flat_map-take f (zip picks cells) i (0, c.index-cells-i.result) (get_or picks i 0, c.index-cells-i.result) in_zip at) (Gathers-then _ _ _ _ _ _ _ _ c.loop-i.invariant.gathers c.in_ok-write_next_pick.ensures.ok);
+      failed = search rules;
+    }
+
+pub returns-clause-ok : goal.returns-clause-ok
+returns-clause-ok g c =
+    let zs = zip c.args.picks.now c.args.cells.now in
+    let all : take c.loop-i.i zs ≡ zs = take_all c.loop-i.i zs (omega (arith, length-zip c.args.picks.now c.args.cells.now, c.requires.width)) in
+    rw all at c.loop-i.invariant.gathers

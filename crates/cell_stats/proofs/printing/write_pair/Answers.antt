@@ -1,0 +1,54 @@
+use Rattle.std.proofs.Common.{[], ◌∷◌, ◌++◌, sym, ◌∙◌, append_assoc}
+use Rattle.std.proofs.lemmas.Result.{err_from_is_err_and}
+use Rattle.std.specs.List.{join_with_byte}
+use Rattle.cell_core.proofs.GatherLemmas.{Gathers-then, CutsOff-second}
+use Rattle.cell_stats.specs.Preceded.{preceded}
+use Rattle.cell_stats.specs.TableText.{combination_fields, count_fields, pair_line}
+use Rattle.cell_stats.proofs.PrintLemmas.{cut-first, cut-second, ok-second, pair-parts}
+use Rattle.cell_stats.proofs.printing.write_pair.Goals as goal
+
+pub returns-in_err-write_combination-clause-err : goal.returns-in_err-write_combination-clause-err
+returns-in_err-write_combination-clause-err g c =
+    let p = err_from_is_err_and c.from_residual.result c.from_residual.ensures.1 in
+    let format = c.args.format.now in
+    let maps = c.args.shelf.now.maps in
+    let picks = c.args.picks.now in
+    let cells = c.args.cells.now in
+    let fields = join_with_byte format.separator (combination_fields format maps picks cells) in
+    let count = preceded format.separator (count_fields format c.args.count) in
+    let parts = sym (append_assoc fields count (10 ∷ [])) ∙ pair-parts format maps picks cells c.args.count c.requires.some c.requires.width in
+    rw (p.1, p.2) (cut-first _ _ fields (count ++ 10 ∷ []) (pair_line format maps picks (cells, c.args.count)) parts _ _ c.in_err-write_combination.ensures.err)
+
+pub returns-in_err-write_count-clause-err : goal.returns-in_err-write_count-clause-err
+returns-in_err-write_count-clause-err g c =
+    let p = err_from_is_err_and c.from_residual-in_err-write_count.result c.from_residual-in_err-write_count.ensures.1 in
+    let format = c.args.format.now in
+    let maps = c.args.shelf.now.maps in
+    let picks = c.args.picks.now in
+    let cells = c.args.cells.now in
+    let fields = join_with_byte format.separator (combination_fields format maps picks cells) in
+    let count = preceded format.separator (count_fields format c.args.count) in
+    let parts = pair-parts format maps picks cells c.args.count c.requires.some c.requires.width in
+    rw (p.1, p.2) (cut-first _ _ (fields ++ count) (10 ∷ []) (pair_line format maps picks (cells, c.args.count)) parts _ _ (CutsOff-second _ _ fields count _ _ _ _ c.in_ok-write_combination.ensures.ok c.in_err-write_count.ensures.err))
+
+pub returns-clause-ok : goal.returns-clause-ok
+returns-clause-ok g c =
+    let format = c.args.format.now in
+    let maps = c.args.shelf.now.maps in
+    let picks = c.args.picks.now in
+    let cells = c.args.cells.now in
+    let fields = join_with_byte format.separator (combination_fields format maps picks cells) in
+    let count = preceded format.separator (count_fields format c.args.count) in
+    let parts = pair-parts format maps picks cells c.args.count c.requires.some c.requires.width in
+    ok-second _ _ (fields ++ count) (10 ∷ []) (pair_line format maps picks (cells, c.args.count)) parts c.push.result _ _ _ _ (Gathers-then _ _ fields count _ _ _ _ c.in_ok-write_combination.ensures.ok c.in_ok-write_count.ensures.ok) c.push.ensures.ok
+
+pub returns-clause-err : goal.returns-clause-err
+returns-clause-err g c =
+    let format = c.args.format.now in
+    let maps = c.args.shelf.now.maps in
+    let picks = c.args.picks.now in
+    let cells = c.args.cells.now in
+    let fields = join_with_byte format.separator (combination_fields format maps picks cells) in
+    let count = preceded format.separator (count_fields format c.args.count) in
+    let parts = pair-parts format maps picks cells c.args.count c.requires.some c.requires.width in
+    cut-second _ _ (fields ++ count) (10 ∷ []) (pair_line format maps picks (cells, c.args.count)) parts c.push.result _ _ _ (Gathers-then _ _ fields count _ _ _ _ c.in_ok-write_combination.ensures.ok c.in_ok-write_count.ensures.ok) c.push.ensures.err

@@ -1,0 +1,25 @@
+use Rattle.std.proofs.Common.{◌≡◌, List, ℕ, [], ◌∷◌, ◌++◌, true, ap, ◌∙◌, if◌then◌else◌}
+use Rattle.std.proofs.lemmas.Result.{err_from_is_err_and}
+use Rattle.cell_core.specs.Text.{cell_text}
+use Rattle.cell_stats.specs.Preceded.{pick_text, preceded}
+use Rattle.cell_stats.specs.TableText.{label_in}
+use Rattle.cell_stats.proofs.PrintLemmas.{cut-first, cut-second, pick_text-label, pick_text-with}
+use Rattle.cell_stats.proofs.printing.write_pick.Goals as goal
+
+pub returns-in_err-write_cell-clause-err : goal.returns-in_err-write_cell-clause-err
+returns-in_err-write_cell-clause-err g c =
+    let p = err_from_is_err_and c.from_residual.result c.from_residual.ensures.1 in
+    let format = c.args.format.now in
+    let maps = c.args.shelf.now.maps in
+    let label = preceded format.separator (if format.labels then label_in maps c.args.place c.args.cell ∷ [] else []) in
+    let parts = ap (λ (t : List ℕ). cell_text t c.args.cell ++ label) c.null_text.ensures ∙ pick_text-label format maps c.args.place c.args.cell in
+    rw (p.1, p.2) (cut-first _ _ (cell_text c.null_text.result.now c.args.cell) label (pick_text format maps c.args.place c.args.cell) parts _ _ c.in_err-write_cell.ensures.err)
+
+pub returns-clause-err : goal.returns-clause-err
+returns-clause-err g c =
+    let format = c.args.format.now in
+    let maps = c.args.shelf.now.maps in
+    let on : format.labels ≡ true = cc in
+    let whole = pick_text-with format maps c.args.place c.args.cell on in
+    let parts : cell_text c.null_text.result.now c.args.cell ++ (c.separator.result ∷ c.label_of.result.now) ≡ pick_text format maps c.args.place c.args.cell = cc in
+    cut-second _ _ (cell_text c.null_text.result.now c.args.cell) (c.separator.result ∷ c.label_of.result.now) (pick_text format maps c.args.place c.args.cell) parts c.write_next.result _ _ _ c.in_ok-write_cell.ensures.ok c.write_next.ensures.err

@@ -1,0 +1,10 @@
+use Rattle.std.proofs.Common.{◌≡◌, take, flat_map}
+use Rattle.cell_core.specs.Blocks.{Gathers}
+use Rattle.cell_stats.specs.TableText.{pair_line}
+use Rattle.cell_stats.proofs.printing.write_table.Given as goal
+
+abbrev pub invariant-loop-combo : goal.invariant-loop-combo
+invariant-loop-combo g l = record {
+  gathers : Gathers (g.W.Sink.taken l.fn.out) l.fn.block (flat_map (pair_line l.format l.shelf.maps l.picks) (take l.combo-index l.entries)) (g.W.Sink.taken l.out) l.block;
+  failed : g.W.Sink.failed l.out ≡ g.W.Sink.failed l.fn.out;
+}

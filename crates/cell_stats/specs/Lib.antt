@@ -1,0 +1,10 @@
+-- Tables of the combinations of categories over several maps.
+pub mod Combinations
+pub mod ComboText
+pub mod Counts
+pub mod Cursors
+pub mod Held
+pub mod Preceded
+pub mod Tables
+pub mod TableLaw
+pub mod TableText

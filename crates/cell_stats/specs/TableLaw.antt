@@ -1,0 +1,24 @@
+-- What a table means: there is one, its counts add up, and a skip rule only leaves entries out of it.
+use Rattle.std.specs.Prelude.{◌≡◌, ℕ, ◌*◌, List, [], ◌∷◌, filter, sum_by, not, None}
+use Rattle.std.specs.Ordering.{eq_by_cmp}
+use Rattle.cell_core.specs.Grid.{Grid}
+use Rattle.cell_stats.specs.declared.skip.Skip.{Skip}
+use Rattle.cell_stats.specs.declared.skip.Skip.TheVariants.{Nothing, AnyNull}
+use Rattle.cell_stats.specs.Combinations.{Combination, combination_cmp, all_combinations}
+use Rattle.cell_stats.specs.Tables.{Pairs, IsTable, is_left_out, table_of}
+
+-- it makes a table of the cells, and there is no other
+abbrev pub TableAgrees : Type 0
+TableAgrees = (skip : Skip) (cells : List Combination) → IsTable skip cells (table_of skip cells) × ((pairs : Pairs) → IsTable skip cells pairs → pairs ≡ table_of skip cells)
+
+-- the counts of a table of which nothing is left out add up to the number of cells
+abbrev pub CountsAddUp : Type 0
+CountsAddUp = (maps : List Grid) (picks : List ℕ) (rows cols : ℕ) → sum_by (λ pair. pair.1) (table_of Nothing (all_combinations maps picks rows cols)) ≡ rows * cols
+
+-- what a rule leaves out is left out of the whole table, and no count changes
+abbrev pub RuleLeavesOut : Type 0
+RuleLeavesOut = (skip : Skip) (cells : List Combination) → table_of skip cells ≡ filter (λ pair. not (is_left_out skip pair.0)) (table_of Nothing cells)
+
+-- the table of one map without cells that are null is the whole table without the entry of null
+abbrev pub NullLeftOut : Type 0
+NullLeftOut = (maps : List Grid) (place rows cols : ℕ) → table_of AnyNull (all_combinations maps (place ∷ []) rows cols) ≡ filter (λ pair. not (eq_by_cmp combination_cmp (None ∷ []) pair.0)) (table_of Nothing (all_combinations maps (place ∷ []) rows cols))

@@ -1,0 +1,70 @@
+-- The printed text of a table and of cells (r.stats manual, flags -c, -l and -1; the null text, `no data` for null, and one separator byte: profile).
+use Rattle.std.specs.Prelude.{ℕ, Bool, List, [], ◌∷◌, ◌++◌, flat_map, slice_get, codes, decimal, Option, Some, None, unwrap_or, if◌then◌else◌, refl}
+use Rattle.std.specs.Coded.{Coded, code_by, coded×, coded_ℕ, coded_bool, coded_list}
+use Rattle.std.specs.FinMap as finmap
+use Rattle.std.specs.List.{zip, join_with_byte}
+use Rattle.std.specs.Option.{option_map_or}
+use Rattle.cell_core.specs.Grid.{Grid, CellValue}
+use Rattle.cell_core.specs.Text.{cell_text}
+use Rattle.cell_stats.specs.declared.skip.Skip.{Skip}
+use Rattle.cell_stats.specs.Combinations.{Combination, all_combinations}
+use Rattle.cell_stats.specs.Tables.{Pairs, kept, rest_after}
+
+-- the byte between two fields, the text of null, and whether labels and counts are printed
+pub record FormatValue : Type 0 where
+  pub separator : ℕ
+  pub null_text : List ℕ
+  pub labels : Bool
+  pub counts : Bool
+
+-- the label of a category of a map, empty where it has none; null has no data
+abbrev pub label_text : Grid → CellValue → List ℕ
+label_text map None = codes "no data"
+label_text map (Some category) = unwrap_or (finmap.get map.labels category) []
+
+-- the label of a cell of the map in a place
+abbrev pub label_in : List Grid → ℕ → CellValue → List ℕ
+label_in maps place cell = option_map_or (λ map. label_text map cell) (slice_get maps place) []
+
+-- the category in decimal or the null text; with labels, its label follows
+abbrev pub cell_fields : FormatValue → List Grid → ℕ → CellValue → List (List ℕ)
+cell_fields format maps place cell = cell_text format.null_text cell ∷ (if format.labels then label_in maps place cell ∷ [] else [])
+
+-- the fields of a combination, map by map
+abbrev pub combination_fields : FormatValue → List Grid → List ℕ → Combination → List (List ℕ)
+combination_fields format maps picks k = flat_map (λ p. cell_fields format maps p.0 p.1) (zip picks k)
+
+-- with counts, the count
+abbrev pub count_fields : FormatValue → ℕ → List (List ℕ)
+count_fields format n = if format.counts then decimal n ∷ [] else []
+
+-- the fields joined by the separator, then a line feed
+abbrev pub line_text : FormatValue → List (List ℕ) → List ℕ
+line_text format fields = join_with_byte format.separator fields ++ 10 ∷ []
+
+-- the line of a pair: its combination, then its count
+abbrev pub pair_line : FormatValue → List Grid → List ℕ → Combination × ℕ → List ℕ
+pair_line format maps picks pair = line_text format (combination_fields format maps picks pair.0 ++ count_fields format pair.1)
+
+-- the line of a cell: its combination
+abbrev pub cell_line : FormatValue → List Grid → List ℕ → Combination → List ℕ
+cell_line format maps picks k = line_text format (combination_fields format maps picks k)
+
+-- the pairs that are printed: all, or those whose combination is greater
+abbrev pub printed_pairs : Option Combination → Pairs → Pairs
+printed_pairs None pairs = pairs
+printed_pairs (Some k) pairs = rest_after k pairs
+
+-- a line for each pair of the picked maps
+abbrev pub table_text : FormatValue → List Grid → List ℕ → Pairs → List ℕ
+table_text format maps picks pairs = flat_map (pair_line format maps picks) pairs
+
+-- a line for each cell that is not left out, row by row from the top left
+abbrev pub cells_text : FormatValue → Skip → List Grid → List ℕ → ℕ → ℕ → List ℕ
+cells_text format skip maps picks rows cols = flat_map (cell_line format maps picks) (kept skip (all_combinations maps picks rows cols))
+
+-- how a format is stored
+abbrev pub format_code : Coded FormatValue
+format_code =
+    code_by (ℕ × (List ℕ × (Bool × Bool))) (coded× coded_ℕ (coded× (coded_list coded_ℕ) (coded× coded_bool coded_bool)))
+    (λ f. (f.separator, (f.null_text, (f.labels, f.counts)))) (λ p. record { separator = p.0; null_text = p.1.0; labels = p.1.1.0; counts = p.1.1.1 }) (λ _. refl)

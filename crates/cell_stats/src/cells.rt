@@ -1,0 +1,153 @@
+//! The printed form of cells, line by line.
+
+ghost use Rattle.std.specs.Prelude.{◌≡◌, ◌<◌, ◌≤◌, ◌||◌, [], All, length, flat_map, replicate, OnOk, IfOk, IfErr, is_err};
+ghost use Rattle.cell_core.specs.Blocks.{Gathers, CutsOff};
+ghost use Rattle.cell_core.specs.Region.{IsRegion};
+ghost use Rattle.cell_stats.specs.Combinations.{row_combinations};
+ghost use Rattle.cell_stats.specs.Tables.{kept};
+ghost use Rattle.cell_stats.specs.TableText.{cell_line, cells_text};
+
+use crate::cursor::{Cursor, pass_all, restart_all, start_all};
+use crate::format::Format;
+use crate::printing::write_cell_line;
+use crate::skip::{Skip, is_left_out};
+use cell_core::block::Block;
+use cell_core::cell::Cell;
+use cell_core::memory::Memory;
+use cell_core::shelf::Shelf;
+use cell_core::sink::{Sink, WriteFault};
+use std::alloc::Global;
+use std::marker::Model;
+
+/// The memory for a walk over the cells of several maps of a shelf. It is seen as their number.
+#[derive(Drop)]
+pub struct CellWalk<'a> {
+    cursors: Vec<Cursor<'a>>,
+    cells: Vec<Cell>,
+}
+
+impl<'a> Model for CellWalk<'a> {
+    ghost use Rattle.std.specs.Prelude.{ℕ, ◌≡◌, length};
+
+    ghost Value = { ℕ };
+
+    ghost view = { λ walk. length walk.cells.items };
+
+    ghost invariant = { λ walk. length walk.cursors.items ≡ length walk.cells.items };
+}
+
+impl<'a> CellWalk<'a> {
+    /// The memory for a walk over the picked maps, which are places on the shelf.
+    ///
+    /// # Errors
+    ///
+    /// `Memory`, where memory is refused.
+    pub fn new(alloc: Global, shelf: &'a Shelf, picks: &[usize]) -> Result<CellWalk<'a>, Memory>
+        requires { All (λ i. i < length shelf.now.maps) picks.now }
+        ensures { IfOk result (λ walk. walk ≡ length picks.now) }
+    {
+        let row = shelf.region().rows() - 1;
+        let cursors = start_all(alloc, shelf, picks, row)?;
+        let cells = vec![in alloc; Cell::null(); picks.len()]?;
+        Ok(CellWalk { cursors, cells })
+    }
+}
+
+// Writes the lines of cells that are alike, or none where they are left out.
+fn write_lines<W: Sink>(
+    out: &mut W,
+    block: &mut Block,
+    shelf: &Shelf,
+    picks: &[usize],
+    cells: &[Cell],
+    count: u32,
+    skip: Skip,
+    format: &Format,
+) -> Result<(), WriteFault>
+    requires picked { All (λ i. i < length shelf.now.maps) picks.now }
+    requires some { 0 < length picks.now }
+    requires width { length cells.now ≡ length picks.now }
+    ensures ok { OnOk result (Gathers (W.taken out.old) block.old (flat_map (cell_line format.now shelf.now.maps picks.now) (kept skip (replicate count cells.now))) (W.taken out.new) block.new) }
+    ensures err { IfErr result (λ fault. CutsOff (W.taken out.old) block.old (flat_map (cell_line format.now shelf.now.maps picks.now) (kept skip (replicate count cells.now))) (W.taken out.new) fault.written) }
+    ensures lost { IfErr result (λ fault. block.new ≡ record { held = []; written = fault.written }) }
+    ensures failed { W.failed out.new ≡ (W.failed out.old || is_err result) }
+{
+    if is_left_out(skip, cells) {
+        return Ok(());
+    }
+    for line in 0..count {
+        write_cell_line(out, block, shelf, picks, cells, format)?;
+    }
+    Ok(())
+}
+
+// Writes the lines of the cells of a row.
+fn write_row<'a, W: Sink>(
+    out: &mut W,
+    block: &mut Block,
+    shelf: &'a Shelf,
+    picks: &[usize],
+    skip: Skip,
+    format: &Format,
+    row: u32,
+    cursors: &mut [Cursor<'a>],
+    cells: &mut [Cell],
+) -> Result<(), WriteFault>
+    requires picked { All (λ i. i < length shelf.now.maps) picks.now }
+    requires some { 0 < length picks.now }
+    requires row_in_range { row < shelf.now.region.rows }
+    requires cursors { length cursors.old ≡ length picks.now }
+    requires cells { length cells.old ≡ length picks.now }
+    ensures ok { OnOk result (Gathers (W.taken out.old) block.old (flat_map (cell_line format.now shelf.now.maps picks.now) (kept skip (row_combinations shelf.now.maps picks.now shelf.now.region.cols row))) (W.taken out.new) block.new) }
+    ensures err { IfErr result (λ fault. CutsOff (W.taken out.old) block.old (flat_map (cell_line format.now shelf.now.maps picks.now) (kept skip (row_combinations shelf.now.maps picks.now shelf.now.region.cols row))) (W.taken out.new) fault.written) }
+    ensures lost { IfErr result (λ fault. block.new ≡ record { held = []; written = fault.written }) }
+    ensures failed { W.failed out.new ≡ (W.failed out.old || is_err result) }
+{
+    let cols = shelf.region().cols();
+    restart_all(cursors, shelf, picks, row);
+    let mut col = 0;
+    let mut count = pass_all(cursors, 0, cols, cells);
+    while col < cols {
+        write_lines(out, block, shelf, picks, cells, count, skip, format)?;
+        col += count;
+        count = pass_all(cursors, count, cols - col, cells);
+    }
+    Ok(())
+}
+
+/// Writes a line for each cell of the picked maps that is not left out, row by row from the top left. The walk has the memory
+/// for it, so that it takes none.
+///
+/// The text is gathered in the block, which goes on holding its last part.
+///
+/// # Errors
+///
+/// [`WriteFault`] with the number of bytes that the sink took of all that was gathered, where it failed.
+pub fn write_cells<'a, W: Sink>(
+    out: &mut W,
+    block: &mut Block,
+    walk: CellWalk<'a>,
+    shelf: &'a Shelf,
+    picks: &[usize],
+    skip: Skip,
+    format: &Format,
+) -> Result<(), WriteFault>
+    requires picked { All (λ i. i < length shelf.now.maps) picks.now }
+    requires some { 0 < length picks.now }
+    requires width { walk ≡ length picks.now }
+    ensures ok { OnOk result (Gathers (W.taken out.old) block.old (cells_text format.now skip shelf.now.maps picks.now shelf.now.region.rows shelf.now.region.cols) (W.taken out.new) block.new) }
+    ensures err { IfErr result (λ fault. CutsOff (W.taken out.old) block.old (cells_text format.now skip shelf.now.maps picks.now shelf.now.region.rows shelf.now.region.cols) (W.taken out.new) fault.written) }
+    ensures lost { IfErr result (λ fault. block.new ≡ record { held = []; written = fault.written }) }
+    ensures failed { W.failed out.new ≡ (W.failed out.old || is_err result) }
+{
+    let CellWalk {
+        mut cursors,
+        mut cells,
+    } = walk;
+    let cursors = cursors.as_mut_slice();
+    let cells = cells.as_mut_slice();
+    for row in 0..shelf.region().rows() {
+        write_row(out, block, shelf, picks, skip, format, row, cursors, cells)?;
+    }
+    Ok(())
+}

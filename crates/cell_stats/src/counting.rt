@@ -1,0 +1,197 @@
+//! Counts of combinations: in an ordered map, and some that are on their way to it.
+
+ghost use Rattle.std.specs.Prelude.{◌≡◌, ◌≢◌, ◌+◌, ◌-◌, ◌<◌, ◌≤◌, ◌^◌, ◌↔◌, length, take, All, Some, cond, OnOk, IfOk, IsTrue};
+ghost use Rattle.std.specs.BTreeMap as tree;
+ghost use Rattle.cell_stats.specs.Combinations.{Combination, combination_cmp};
+ghost use Rattle.cell_stats.specs.Held.{is_same, mapped_of, held_by, total_of, HasNoZero, Grows};
+
+use crate::combination::Combo;
+use cell_core::cell::Cell;
+use cell_core::memory::Memory;
+use cell_core::shelf::Shelf;
+use std::alloc::Global;
+use std::collections::BTreeMap;
+
+// The fewest and the most combinations that are held.
+const FEWEST: u32 = 64;
+
+const MOST: u32 = 262144;
+
+// How many places are looked at for a combination.
+const NEAR: usize = 12;
+
+// The most maps that are tallied together.
+pub(crate) const WIDEST: usize = 16;
+
+// A combination, behind which stand nulls, and cells of it that are not in the map yet.
+#[derive(Clone, Copy)]
+pub(crate) struct Held {
+    cells: [Cell; 16],
+    count: u64,
+}
+
+impl Held {
+    // No cells.
+    pub(crate) fn nothing() -> Held
+        ensures { result.count ≡ 0 }
+    {
+        Held {
+            cells: [Cell::null(); 16],
+            count: 0,
+        }
+    }
+}
+
+// A number of a combination. Those of neighbouring categories are close to each other.
+fn number_of(cells: &[Cell]) -> usize {
+    let mut number: u64 = 0;
+    for cell in cells {
+        let category = match cell.get() {
+            Some(category) => (i64::from(category) + 2147483648) as u64,
+            None => 0,
+        };
+        number = number.wrapping_mul(1009).wrapping_add(category);
+    }
+    number.wrapping_add((number >> 18).wrapping_mul(40503)) as usize
+}
+
+// Whether the place holds the combination.
+fn is_held(held: &Held, cells: &[Cell]) -> bool
+    requires { length cells.now ≤ 16 }
+    ensures { IsTrue result ↔ (take (length cells.now) held.now.cells ≡ cells.now) }
+{
+    for (i, cell) in cells.iter().enumerate() {
+        if held.cells[i] != *cell {
+            return false;
+        }
+    }
+    true
+}
+
+// Where a combination is held, or else a place near its own that holds nothing, or else its own.
+fn place_of(cells: &[Cell], places: &[Held]) -> usize
+    requires width { length cells.now ≤ 16 }
+    requires some { 0 < length places.now }
+    ensures { result < length places.now }
+{
+    let own = number_of(cells) % places.len();
+    let end = places.len().min(own.saturating_add(NEAR));
+    for at in own..end {
+        if places[at].count == 0 || is_held(&places[at], cells) {
+            return at;
+        }
+    }
+    own
+}
+
+// Counts cells of a combination in the map.
+fn merge(
+    alloc: Global,
+    combo: &Combo,
+    count: u64,
+    counted: &mut BTreeMap<Combo, u64>,
+) -> Result<(), Memory>
+    requires some { 0 < count }
+    requires fits { mapped_of combo.now counted.old + count < 2 ^ 64 }
+    requires no_zero { HasNoZero counted.old }
+    ensures ok { OnOk result (Grows counted.old counted.new combo.now count) }
+    ensures no_zero { OnOk result (HasNoZero counted.new) }
+{
+    if let Some(have) = counted.get_mut(combo) {
+        *have += count;
+        return Ok(());
+    }
+    let key = Combo::from_cells(alloc, combo.cells())?;
+    counted.insert(key, count)?;
+    Ok(())
+}
+
+// Brings what a place holds to the map.
+fn flush(
+    alloc: Global,
+    held: &Held,
+    width: usize,
+    spare: &mut Combo,
+    counted: &mut BTreeMap<Combo, u64>,
+) -> Result<(), Memory>
+    requires width { (width ≤ 16) × (length spare.old ≡ width) }
+    requires fits { (k : Combination) → mapped_of k counted.old + held_by width k held.now < 2 ^ 64 }
+    requires no_zero { HasNoZero counted.old }
+    ensures ok { OnOk result ((k : Combination) → mapped_of k counted.new ≡ mapped_of k counted.old + held_by width k held.now) }
+    ensures no_zero { OnOk result (HasNoZero counted.new) }
+    ensures spare { length spare.new ≡ width }
+{
+    if held.count == 0 {
+        return Ok(());
+    }
+    spare.write(&held.cells[..width]);
+    merge(alloc, spare, held.count, counted)?;
+    Ok(())
+}
+
+// Makes a place hold cells of a combination.
+fn hold(held: &mut Held, cells: &[Cell], count: u64)
+    requires { length cells.now ≤ 16 }
+    ensures cells { take (length cells.now) held.new.cells ≡ cells.now }
+    ensures count { held.new.count ≡ count }
+{
+    held.cells[..cells.len()].copy_from_slice(cells);
+    held.count = count;
+}
+
+// Counts cells of a combination at a place for it. What that held of another goes to the map.
+pub(crate) fn add(
+    alloc: Global,
+    cells: &[Cell],
+    count: u64,
+    spare: &mut Combo,
+    places: &mut [Held],
+    counted: &mut BTreeMap<Combo, u64>,
+) -> Result<(), Memory>
+    requires width { (length cells.now ≤ 16) × (length spare.old ≡ length cells.now) }
+    requires places { 0 < length places.old }
+    requires fits { (k : Combination) → total_of (length cells.now) k places.old counted.old + count < 2 ^ 64 }
+    requires no_zero { HasNoZero counted.old }
+    ensures ok { OnOk result ((k : Combination) → total_of (length cells.now) k places.new counted.new ≡ total_of (length cells.now) k places.old counted.old + cond (is_same k cells.now) count 0) }
+    ensures no_zero { OnOk result (HasNoZero counted.new) }
+    ensures spare { length spare.new ≡ length cells.now }
+{
+    let at = place_of(cells, places);
+    let place = &mut places[at];
+    if is_held(place, cells) {
+        place.count += count;
+        return Ok(());
+    }
+    flush(alloc, place, cells.len(), spare, counted)?;
+    hold(place, cells, count);
+    Ok(())
+}
+
+// How many combinations are held: the more, the more cells there are.
+pub(crate) fn places_for(shelf: &Shelf) -> usize
+    ensures { 0 < result }
+{
+    let region = shelf.region();
+    let cells = region.rows().saturating_mul(region.cols());
+    (cells / 2).clamp(FEWEST, MOST) as usize
+}
+
+// Brings all that the places hold to the map.
+pub(crate) fn flush_all(
+    alloc: Global,
+    width: usize,
+    spare: &mut Combo,
+    places: &[Held],
+    counted: &mut BTreeMap<Combo, u64>,
+) -> Result<(), Memory>
+    requires width { (width ≤ 16) × (length spare.old ≡ width) }
+    requires fits { (k : Combination) → total_of width k places.now counted.old < 2 ^ 64 }
+    requires no_zero { HasNoZero counted.old }
+    ensures ok { OnOk result ((k : Combination) → mapped_of k counted.new ≡ total_of width k places.now counted.old) }
+    ensures no_zero { OnOk result (HasNoZero counted.new) }
+{
+    for held in places {
+        flush(alloc, held, width, spare, counted)?;
+    }
+    Ok(())
+}

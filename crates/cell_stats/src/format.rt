@@ -1,0 +1,67 @@
+//! How a table is printed.
+
+ghost use Rattle.std.specs.Prelude.{◌≡◌};
+
+use std::marker::Model;
+
+/// How lines are printed: the byte between two fields, the text of null, and whether labels and counts are (r.stats manual,
+/// flags `-l` and `-c`).
+#[derive(Drop)]
+pub struct Format<'a> {
+    separator: u8,
+    null_text: &'a [u8],
+    labels: bool,
+    counts: bool,
+}
+
+impl<'a> Model for Format<'a> {
+    ghost use Rattle.cell_stats.specs.TableText.{FormatValue, format_code};
+
+    ghost Value = { FormatValue };
+
+    ghost coded = { format_code };
+
+    ghost view = { λ f. record { separator = f.separator; null_text = f.null_text.now; labels = f.labels; counts = f.counts } };
+}
+
+impl<'a> Format<'a> {
+    /// A format of these four.
+    pub fn new(separator: u8, null_text: &'a [u8], labels: bool, counts: bool) -> Format<'a>
+        ensures { result ≡ record { separator = separator; null_text = null_text.now; labels = labels; counts = counts } }
+    {
+        Format {
+            separator,
+            null_text,
+            labels,
+            counts,
+        }
+    }
+
+    /// The byte between two fields.
+    pub fn separator(&self) -> u8
+        ensures { result ≡ self.now.separator }
+    {
+        self.separator
+    }
+
+    /// The text of null.
+    pub fn null_text(&self) -> &[u8]
+        ensures { result.now ≡ self.now.null_text }
+    {
+        self.null_text
+    }
+
+    /// Whether each category is followed by its label.
+    pub fn labels(&self) -> bool
+        ensures { result ≡ self.now.labels }
+    {
+        self.labels
+    }
+
+    /// Whether the count is printed.
+    pub fn counts(&self) -> bool
+        ensures { result ≡ self.now.counts }
+    {
+        self.counts
+    }
+}

@@ -1,0 +1,232 @@
+//! The printed form of tables and of cells.
+
+ghost use Rattle.std.specs.Prelude.{◌≡◌, ◌<◌, ◌||◌, [], ◌∷◌, ◌++◌, All, length, flat_map, replicate, OnOk, IfErr, IfSome, is_err};
+ghost use Rattle.std.specs.List.{join_with_byte};
+ghost use Rattle.std.specs.Option.{option_map};
+ghost use Rattle.cell_core.specs.Blocks.{Gathers, CutsOff};
+ghost use Rattle.cell_stats.specs.TableText.{cell_line, combination_fields, count_fields, label_in, pair_line, printed_pairs, table_text};
+ghost use Rattle.cell_stats.specs.Preceded.{next_text, others_text, pick_text, preceded};
+
+use crate::combination::Combo;
+use crate::format::Format;
+use crate::table::Table;
+use cell_core::block::Block;
+use cell_core::cell::Cell;
+use cell_core::shelf::Shelf;
+use cell_core::sink::{Sink, WriteFault};
+use cell_core::text::write_cell;
+use itoa::Buffer;
+
+// The label of a cell of a map.
+fn label_of<'a>(shelf: &'a Shelf, place: usize, cell: Cell) -> &'a [u8]
+    requires { place < length shelf.now.maps }
+    ensures { result.now ≡ label_in shelf.now.maps place cell }
+{
+    match cell.get() {
+        None => b"no data",
+        Some(category) => match shelf.map(place).label(category) {
+            Some(label) => label,
+            None => b"",
+        },
+    }
+}
+
+// Writes a separator and a field.
+fn write_next<W: Sink>(
+    out: &mut W,
+    block: &mut Block,
+    separator: u8,
+    field: &[u8],
+) -> Result<(), WriteFault>
+    ensures ok { OnOk result (Gathers (W.taken out.old) block.old (separator ∷ field.now) (W.taken out.new) block.new) }
+    ensures err { IfErr result (λ fault. CutsOff (W.taken out.old) block.old (separator ∷ field.now) (W.taken out.new) fault.written) }
+    ensures lost { IfErr result (λ fault. block.new ≡ record { held = []; written = fault.written }) }
+    ensures failed { W.failed out.new ≡ (W.failed out.old || is_err result) }
+{
+    block.push(out, &[separator])?;
+    block.push(out, field)
+}
+
+// Writes a cell of a map, and its label with labels.
+fn write_pick<W: Sink>(
+    out: &mut W,
+    block: &mut Block,
+    shelf: &Shelf,
+    place: usize,
+    cell: Cell,
+    format: &Format,
+) -> Result<(), WriteFault>
+    requires { place < length shelf.now.maps }
+    ensures ok { OnOk result (Gathers (W.taken out.old) block.old (pick_text format.now shelf.now.maps place cell) (W.taken out.new) block.new) }
+    ensures err { IfErr result (λ fault. CutsOff (W.taken out.old) block.old (pick_text format.now shelf.now.maps place cell) (W.taken out.new) fault.written) }
+    ensures lost { IfErr result (λ fault. block.new ≡ record { held = []; written = fault.written }) }
+    ensures failed { W.failed out.new ≡ (W.failed out.old || is_err result) }
+{
+    write_cell(out, block, cell, format.null_text())?;
+    if !format.labels() {
+        return Ok(());
+    }
+    write_next(out, block, format.separator(), label_of(shelf, place, cell))
+}
+
+// Writes a separator and a cell of a map, and its label with labels.
+fn write_next_pick<W: Sink>(
+    out: &mut W,
+    block: &mut Block,
+    shelf: &Shelf,
+    place: usize,
+    cell: Cell,
+    format: &Format,
+) -> Result<(), WriteFault>
+    requires { place < length shelf.now.maps }
+    ensures ok { OnOk result (Gathers (W.taken out.old) block.old (next_text format.now shelf.now.maps (place, cell)) (W.taken out.new) block.new) }
+    ensures err { IfErr result (λ fault. CutsOff (W.taken out.old) block.old (next_text format.now shelf.now.maps (place, cell)) (W.taken out.new) fault.written) }
+    ensures lost { IfErr result (λ fault. block.new ≡ record { held = []; written = fault.written }) }
+    ensures failed { W.failed out.new ≡ (W.failed out.old || is_err result) }
+{
+    block.push(out, &[format.separator()])?;
+    write_pick(out, block, shelf, place, cell, format)
+}
+
+// Writes the cells of all maps but the first, each after a separator.
+fn write_others<W: Sink>(
+    out: &mut W,
+    block: &mut Block,
+    shelf: &Shelf,
+    picks: &[usize],
+    cells: &[Cell],
+    format: &Format,
+) -> Result<(), WriteFault>
+    requires picked { All (λ i. i < length shelf.now.maps) picks.now }
+    requires width { length cells.now ≡ length picks.now }
+    ensures ok { OnOk result (Gathers (W.taken out.old) block.old (others_text format.now shelf.now.maps picks.now cells.now) (W.taken out.new) block.new) }
+    ensures err { IfErr result (λ fault. CutsOff (W.taken out.old) block.old (others_text format.now shelf.now.maps picks.now cells.now) (W.taken out.new) fault.written) }
+    ensures lost { IfErr result (λ fault. block.new ≡ record { held = []; written = fault.written }) }
+    ensures failed { W.failed out.new ≡ (W.failed out.old || is_err result) }
+{
+    for i in 0..cells.len() {
+        write_next_pick(out, block, shelf, picks[i], cells[i], format)?;
+    }
+    Ok(())
+}
+
+// Writes the cells of all maps.
+fn write_combination<W: Sink>(
+    out: &mut W,
+    block: &mut Block,
+    shelf: &Shelf,
+    picks: &[usize],
+    cells: &[Cell],
+    format: &Format,
+) -> Result<(), WriteFault>
+    requires picked { All (λ i. i < length shelf.now.maps) picks.now }
+    requires some { 0 < length picks.now }
+    requires width { length cells.now ≡ length picks.now }
+    ensures ok { OnOk result (Gathers (W.taken out.old) block.old (join_with_byte format.now.separator (combination_fields format.now shelf.now.maps picks.now cells.now)) (W.taken out.new) block.new) }
+    ensures err { IfErr result (λ fault. CutsOff (W.taken out.old) block.old (join_with_byte format.now.separator (combination_fields format.now shelf.now.maps picks.now cells.now)) (W.taken out.new) fault.written) }
+    ensures lost { IfErr result (λ fault. block.new ≡ record { held = []; written = fault.written }) }
+    ensures failed { W.failed out.new ≡ (W.failed out.old || is_err result) }
+{
+    write_pick(out, block, shelf, picks[0], cells[0], format)?;
+    write_others(out, block, shelf, &picks[1..], &cells[1..], format)
+}
+
+// Writes the count after a separator, with counts.
+fn write_count<W: Sink>(
+    out: &mut W,
+    block: &mut Block,
+    count: u64,
+    format: &Format,
+) -> Result<(), WriteFault>
+    ensures ok { OnOk result (Gathers (W.taken out.old) block.old (preceded format.now.separator (count_fields format.now count)) (W.taken out.new) block.new) }
+    ensures err { IfErr result (λ fault. CutsOff (W.taken out.old) block.old (preceded format.now.separator (count_fields format.now count)) (W.taken out.new) fault.written) }
+    ensures lost { IfErr result (λ fault. block.new ≡ record { held = []; written = fault.written }) }
+    ensures failed { W.failed out.new ≡ (W.failed out.old || is_err result) }
+{
+    if !format.counts() {
+        return Ok(());
+    }
+    write_next(
+        out,
+        block,
+        format.separator(),
+        Buffer::new().format(count).as_bytes(),
+    )
+}
+
+// Writes the line of a pair.
+fn write_pair<W: Sink>(
+    out: &mut W,
+    block: &mut Block,
+    shelf: &Shelf,
+    picks: &[usize],
+    cells: &[Cell],
+    count: u64,
+    format: &Format,
+) -> Result<(), WriteFault>
+    requires picked { All (λ i. i < length shelf.now.maps) picks.now }
+    requires some { 0 < length picks.now }
+    requires width { length cells.now ≡ length picks.now }
+    ensures ok { OnOk result (Gathers (W.taken out.old) block.old (pair_line format.now shelf.now.maps picks.now (cells.now, count)) (W.taken out.new) block.new) }
+    ensures err { IfErr result (λ fault. CutsOff (W.taken out.old) block.old (pair_line format.now shelf.now.maps picks.now (cells.now, count)) (W.taken out.new) fault.written) }
+    ensures lost { IfErr result (λ fault. block.new ≡ record { held = []; written = fault.written }) }
+    ensures failed { W.failed out.new ≡ (W.failed out.old || is_err result) }
+{
+    write_combination(out, block, shelf, picks, cells, format)?;
+    write_count(out, block, count, format)?;
+    block.push(out, b"\n")
+}
+
+// Writes the line of a cell.
+pub(crate) fn write_cell_line<W: Sink>(
+    out: &mut W,
+    block: &mut Block,
+    shelf: &Shelf,
+    picks: &[usize],
+    cells: &[Cell],
+    format: &Format,
+) -> Result<(), WriteFault>
+    requires picked { All (λ i. i < length shelf.now.maps) picks.now }
+    requires some { 0 < length picks.now }
+    requires width { length cells.now ≡ length picks.now }
+    ensures ok { OnOk result (Gathers (W.taken out.old) block.old (cell_line format.now shelf.now.maps picks.now cells.now) (W.taken out.new) block.new) }
+    ensures err { IfErr result (λ fault. CutsOff (W.taken out.old) block.old (cell_line format.now shelf.now.maps picks.now cells.now) (W.taken out.new) fault.written) }
+    ensures lost { IfErr result (λ fault. block.new ≡ record { held = []; written = fault.written }) }
+    ensures failed { W.failed out.new ≡ (W.failed out.old || is_err result) }
+{
+    write_combination(out, block, shelf, picks, cells, format)?;
+    block.push(out, b"\n")
+}
+
+/// Writes a line for each entry of a table of the picked maps, or for each whose combination is greater than the one given.
+/// Takes no memory.
+///
+/// The text is gathered in the block, which goes on holding its last part.
+///
+/// # Errors
+///
+/// [`WriteFault`] with the number of bytes that the sink took of all that was gathered, where it failed.
+pub fn write_table<W: Sink>(
+    out: &mut W,
+    block: &mut Block,
+    table: &Table,
+    after: Option<&Combo>,
+    shelf: &Shelf,
+    picks: &[usize],
+    format: &Format,
+) -> Result<(), WriteFault>
+    requires picked { All (λ i. i < length shelf.now.maps) picks.now }
+    requires some { 0 < length picks.now }
+    requires width { table.now.width ≡ length picks.now }
+    requires after { IfSome after (λ k. length k.now ≡ length picks.now) }
+    ensures ok { OnOk result (Gathers (W.taken out.old) block.old (table_text format.now shelf.now.maps picks.now (printed_pairs (option_map (λ k. k.now) after.entry) table.now.pairs)) (W.taken out.new) block.new) }
+    ensures err { IfErr result (λ fault. CutsOff (W.taken out.old) block.old (table_text format.now shelf.now.maps picks.now (printed_pairs (option_map (λ k. k.now) after.entry) table.now.pairs)) (W.taken out.new) fault.written) }
+    ensures lost { IfErr result (λ fault. block.new ≡ record { held = []; written = fault.written }) }
+    ensures failed { W.failed out.new ≡ (W.failed out.old || is_err result) }
+{
+    let entries = table.printed(after);
+    for (combo, count) in entries {
+        write_pair(out, block, shelf, picks, combo.cells(), *count, format)?;
+    }
+    Ok(())
+}

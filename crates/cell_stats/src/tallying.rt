@@ -1,0 +1,96 @@
+//! How often each combination occurs.
+
+ghost use Rattle.std.specs.Prelude.{◌≡◌, ◌+◌, ◌<◌, ◌≤◌, All, OnOk, IfOk, length};
+ghost use Rattle.cell_core.specs.Region.{IsRegion};
+ghost use Rattle.cell_stats.specs.Combinations.{Combination, all_combinations};
+ghost use Rattle.cell_stats.specs.Counts.{count_of};
+ghost use Rattle.cell_stats.specs.Held.{total_of, HasNoZero};
+ghost use Rattle.cell_stats.specs.Tables.{IsTable, Pairs, kept, table_of};
+
+use crate::combination::Combo;
+use crate::counting::{Held, add, flush_all, places_for};
+use crate::cursor::{pass_all, start_all};
+use crate::skip::{Skip, is_left_out};
+use crate::table::Table;
+use cell_core::cell::Cell;
+use cell_core::memory::Memory;
+use cell_core::shelf::Shelf;
+use std::alloc::Global;
+use std::collections::BTreeMap;
+
+// Counts the cells of a row, stretch by stretch: the columns in which no map changes.
+fn count_row(
+    alloc: Global,
+    shelf: &Shelf,
+    picks: &[usize],
+    skip: Skip,
+    row: u32,
+    cells: &mut [Cell],
+    spare: &mut Combo,
+    places: &mut [Held],
+    counted: &mut BTreeMap<Combo, u64>,
+) -> Result<(), Memory>
+    requires picked { All (λ i. i < length shelf.now.maps) picks.now }
+    requires width { length picks.now ≤ 16 }
+    requires row_in_range { row < shelf.now.region.rows }
+    requires region { IsRegion shelf.now.region }
+    requires cells { length cells.old ≡ length picks.now }
+    requires spare { length spare.old ≡ length picks.now }
+    requires places { 0 < length places.old }
+    requires no_zero { HasNoZero counted.old }
+    requires counted { (k : Combination) → total_of (length picks.now) k places.old counted.old ≡ count_of k (kept skip (all_combinations shelf.now.maps picks.now row shelf.now.region.cols)) }
+    ensures ok { OnOk result ((k : Combination) → total_of (length picks.now) k places.new counted.new ≡ count_of k (kept skip (all_combinations shelf.now.maps picks.now (row + 1) shelf.now.region.cols))) }
+    ensures no_zero { OnOk result (HasNoZero counted.new) }
+    ensures spare { OnOk result (length spare.new ≡ length picks.now) }
+{
+    let cols = shelf.region().cols();
+    let mut started = start_all(alloc, shelf, picks, row)?;
+    let cursors = started.as_mut_slice();
+    let mut col = 0;
+    let mut count = pass_all(cursors, 0, cols, cells);
+    while col < cols {
+        if !is_left_out(skip, cells) {
+            add(alloc, cells, u64::from(count), spare, places, counted)?;
+        }
+        col += count;
+        count = pass_all(cursors, count, cols - col, cells);
+    }
+    Ok(())
+}
+
+/// The table of the combinations of the cells of the picked maps, which are places on the shelf. There are 1 to 16 picks,
+/// and a map may be picked twice.
+///
+/// # Errors
+///
+/// `Memory`, where memory is refused.
+pub fn tally(alloc: Global, shelf: &Shelf, picks: &[usize], skip: Skip) -> Result<Table, Memory>
+    requires width { (1 ≤ length picks.now) × (length picks.now ≤ 16) }
+    requires picked { All (λ i. i < length shelf.now.maps) picks.now }
+    ensures width { IfOk result (λ table. table.width ≡ length picks.now) }
+    ensures table { IfOk result (λ table. IsTable skip (all_combinations shelf.now.maps picks.now shelf.now.region.rows shelf.now.region.cols) table.pairs) }
+    ensures only { IfOk result (λ table. (pairs : Pairs) → IsTable skip (all_combinations shelf.now.maps picks.now shelf.now.region.rows shelf.now.region.cols) pairs → pairs ≡ table.pairs) }
+    ensures value { IfOk result (λ table. table.pairs ≡ table_of skip (all_combinations shelf.now.maps picks.now shelf.now.region.rows shelf.now.region.cols)) }
+{
+    let width = picks.len();
+    let mut cells = vec![in alloc; Cell::null(); width]?;
+    let mut spare = Combo::from_cells(alloc, &cells)?;
+    let mut places = vec![in alloc; Held::nothing(); places_for(shelf)]?;
+    let mut counted = BTreeMap::new(alloc);
+    for row in 0..shelf.region().rows() {
+        count_row(
+            alloc,
+            shelf,
+            picks,
+            skip,
+            row,
+            cells.as_mut_slice(),
+            &mut spare,
+            places.as_mut_slice(),
+            &mut counted,
+        )?;
+    }
+    flush_all(alloc, width, &mut spare, &places, &mut counted)?;
+    let entries = counted.into_iter().collect(alloc)?;
+    Ok(Table::of(width, entries))
+}

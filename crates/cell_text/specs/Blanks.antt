@@ -1,0 +1,21 @@
+-- Blanks of a line (profile).
+use Rattle.std.specs.Prelude.{ℕ, Bool, ◌||◌, ◌==◌, List, [], ◌∷◌, if◌then◌else◌}
+use Rattle.std.specs.List.{list_all}
+
+-- a space, a tab or a carriage return
+abbrev pub is_blank : ℕ → Bool
+is_blank b = (b == 32 || b == 9) || b == 13
+
+-- without the blanks at its start
+abbrev pub after_blanks : List ℕ → List ℕ
+after_blanks [] = []
+after_blanks (b ∷ bs) = if is_blank b then after_blanks bs else b ∷ bs
+
+-- without the blanks at its end
+abbrev pub before_blanks : List ℕ → List ℕ
+before_blanks [] = []
+before_blanks (b ∷ bs) = if list_all is_blank (b ∷ bs) then [] else b ∷ before_blanks bs
+
+-- without the blanks at its ends
+abbrev pub trimmed : List ℕ → List ℕ
+trimmed text = before_blanks (after_blanks text)

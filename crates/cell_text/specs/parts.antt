@@ -1,0 +1,2 @@
+-- Numbers as they are computed.
+pub mod Capped
