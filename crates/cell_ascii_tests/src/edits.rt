@@ -56,7 +56,8 @@ fn expect_map<R: Abort + AllocGlobal>(rt: &R, map: &CellMap, text: &[u8]) -> Res
     Ok(())
 }
 
-fn expect<R: Abort + AllocGlobal>(
+// The answer is the map that the definitions give, or the fault that they tell.
+pub(crate) fn expect<R: Abort + AllocGlobal>(
     rt: &R,
     answer: Result<CellMap, GridFault>,
     text: &[u8],

@@ -3,9 +3,10 @@
 use cell_ascii::fault::{GridFault, GridKind};
 use cell_ascii::reader::read_map;
 use cell_ascii::writer::write_map;
+use cell_core::device::DeviceFault;
 use cell_core::map::CellMap;
 use cell_core::region::RegionFault;
-use cell_core::sink::MemorySink;
+use cell_core::sink::{MemorySink, Sink};
 use cell_core::source::MemorySource;
 use std::alloc::AllocGlobal;
 use std::process::Abort;
@@ -13,6 +14,31 @@ use std::test::Fail;
 
 const GRID: &[u8] =
     b"north: 3\nsouth: 0\neast: 4\nwest: 0\nrows: 3\ncols: 4\n1 1 2 *\n1 2 2 2\n3 3 1 1\n";
+
+// A sink that takes all that it is given, and counts the calls.
+#[derive(Drop)]
+struct Counting {
+    puts: u32,
+    flushes: u32,
+}
+
+impl Sink for Counting {
+    ghost use Rattle.std.specs.Prelude.{None, false};
+
+    ghost taken = { λ _. None };
+
+    ghost failed = { λ _. false };
+
+    fn put(&mut self, bytes: &[u8]) -> Result<usize, DeviceFault> {
+        self.puts = self.puts.saturating_add(1);
+        Ok(bytes.len())
+    }
+
+    fn flush(&mut self) -> Result<(), DeviceFault> {
+        self.flushes = self.flushes.saturating_add(1);
+        Ok(())
+    }
+}
 
 fn read<R: AllocGlobal>(rt: &R, text: &[u8]) -> Result<Result<CellMap, GridFault>, Fail> {
     let bytes = text.to_vec(rt.alloc())?;
@@ -100,6 +126,49 @@ fn tells_faults_of_a_region(rt: HostRuntime) -> Result<(), Fail> {
     )
 }
 
+// More cells than there are categories above 0.
+#[test]
+fn tells_too_many_cells(rt: HostRuntime) -> Result<(), Fail> {
+    expect_fault(
+        &rt,
+        b"north: 1\nsouth: 0\neast: 1\nwest: 0\nrows: 65535\ncols: 65535\n7\n",
+        GridKind::Region(RegionFault::TooManyCells),
+        7,
+    )?;
+    expect_fault(
+        &rt,
+        b"north: 1\nsouth: 0\neast: 1\nwest: 0\nrows: 65536\ncols: 65535\n7\n",
+        GridKind::Region(RegionFault::BadRows),
+        7,
+    )?;
+    expect_fault(
+        &rt,
+        b"north: 1\nsouth: 0\neast: 1\nwest: 0\nrows: 65535\ncols: 32768\n7\n",
+        GridKind::TooFew,
+        8,
+    )
+}
+
+// The widest row, of equal cells: it is written as it was read.
+#[test]
+fn reads_the_widest_row(rt: HostRuntime) -> Result<(), Fail> {
+    let mut text = b"north: 1\nsouth: 0\neast: 1\nwest: 0\nrows: 1\ncols: 65535\n".to_vec(
+        rt.alloc(),
+    )?;
+    for _ in 0..65534 {
+        text.extend_from_slice(b"7 ")?;
+    }
+    text.extend_from_slice(b"7\n")?;
+    let map = read(&rt, text.as_slice())?.map_err(|_| "a fault")?;
+    assert_eq!(rt; map.cell(0, 0).get(), Some(7));
+    assert_eq!(rt; map.cell(0, 65534).get(), Some(7));
+    let mut sink = MemorySink::new(vec![in rt.alloc(); 0u8; 200000]?, 5000, false);
+    let length = write_map(&map, b"*", &mut sink).map_err(|_| "no room")?;
+    assert_eq!(rt; length, text.len() as u64);
+    assert!(rt; sink.bytes() == text.as_slice());
+    Ok(())
+}
+
 #[test]
 fn tells_faults_of_cells(rt: HostRuntime) -> Result<(), Fail> {
     let six = b"north: 3\nsouth: 0\neast: 4\nwest: 0\nrows: 3\ncols: 4\n";
@@ -156,6 +225,21 @@ fn limits_words_and_blanks(rt: HostRuntime) -> Result<(), Fail> {
     let header = b"north: 1\nsouth: 0\neast: 1\nwest: 0\nrows: 1\ncols: 1\n";
     let cell = followed_by(&rt, header, b'1', 65)?;
     expect_fault(&rt, cell.as_slice(), GridKind::LongToken, 7)
+}
+
+// A text is put in blocks, and none of it is flushed.
+#[test]
+fn writes_without_a_flush(rt: HostRuntime) -> Result<(), Fail> {
+    let map = read(&rt, GRID)?.map_err(|_| "a fault")?;
+    let mut sink = Counting {
+        puts: 0,
+        flushes: 0,
+    };
+    let length = write_map(&map, b"*", &mut sink).map_err(|_| "no room")?;
+    assert_eq!(rt; length, GRID.len() as u64);
+    assert_eq!(rt; sink.puts, 1);
+    assert_eq!(rt; sink.flushes, 0);
+    Ok(())
 }
 
 #[test]

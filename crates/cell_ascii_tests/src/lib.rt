@@ -7,4 +7,6 @@ mod edits;
 #[cfg(test)]
 mod grids;
 #[cfg(test)]
+mod pieces;
+#[cfg(test)]
 mod rows;

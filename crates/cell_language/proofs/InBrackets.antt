@@ -16,7 +16,7 @@ use Rattle.cell_language.specs.GrammarFault as grammar_fault
 use Rattle.cell_language.specs.GrammarFault.{IsOffsetSign, IsBeforeNumber, IsInBrackets}
 use Rattle.cell_language.specs.Reading as reading
 use Rattle.cell_language.specs.Reading.{Part, tail, and_then, distance_at, distance, signed, offset_at, offset, comma_at, bracket_at, to_bracket, Outcome, Got, GotAll, Stops, State, Operand, Whole, More, Expression, Choice, AfterQuestion, Called, Arguments, Onward, negate, invert, closed, close, join, choose, move, judged, call, add, Reads, nothing, whole, stopped, done, more, expression, unread, unchosen, asked, unasked, no_colon, otherwise, arguments, halted, unended}
-use Rattle.cell_language.specs.Term.{Term, Terms, count}
+use Rattle.cell_language.specs.Term.{Term, count}
 use Rattle.cell_language.specs.Token.{name_at, sign_at, head}
 use Rattle.cell_language.proofs.Sound.{IsPartOf, IsSign, AreBoth, front_is, sound_offset, sound_offsets, sound_comma, sound_bracket}
 

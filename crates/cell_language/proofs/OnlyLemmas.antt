@@ -1,15 +1,14 @@
 -- A text spells no other tokens than those of its list.
-use Rattle.std.proofs.Common.{◌≡◌, ℕ, zero, ◌+◌, ◌<◌, ◌≤◌, Bool, true, false, ◌&&◌, nat_le, List, [], ◌∷◌, ◌++◌, length, refl, ap, sym, ◌∙◌, arith, subst, Option, Some, None, Ok, cond}
+use Rattle.std.proofs.Common.{◌≡◌, ℕ, zero, ◌+◌, ◌<◌, ◌≤◌, Bool, true, false, ◌&&◌, nat_le, List, [], ◌∷◌, ◌++◌, length, refl, ap, sym, ◌∙◌, arith, subst, Some, Ok}
 use Rattle.std.proofs.lemmas.Bool.Decides.{nat_tests}
-use Rattle.std.proofs.lemmas.Slice.Eq.{bytes_eq-Decides}
 use Rattle.std.proofs.Math.Seq.{take-append_seam, drop-append_seam}
 use Rattle.std.specs.List.{list_all}
-use Rattle.std.specs.Option.{option_map}
-use Rattle.std.specs.Prelude.{find, nat_lt, not, bytes_eq}
+use Rattle.std.specs.Prelude.{nat_lt, not}
 use Rattle.cell_core.specs.Name.{is_name, is_name_byte, is_name_start, starts_name}
+use Rattle.cell_language.proofs.Longest.{both_true, not_true, sign-passes, word-longest, sign-longest}
 use Rattle.cell_language.proofs.Pieces.{pieces-blank, pieces-first, tokens_of-cons}
-use Rattle.cell_language.specs.Tokens.{is_blank, is_digit, signs, sign_of, value_of, Piece, pieces, word_of, token_of, tokens_of, next_token, token_list}
-use Rattle.cell_language.specs.Spelling.{Spells, AreSpelled}
+use Rattle.cell_language.specs.Tokens.{is_blank, is_digit, sign_of, value_of, Piece, pieces, piece_length, word_of, token_of, tokens_of, next_token, token_list}
+use Rattle.cell_language.specs.Spelling.{Spells, IsLongest, AreSpelled}
 use Rattle.cell_language.specs.Spelling as spelling
 use Rattle.cell_language.specs.declared.token.Placed.{Placed}
 use Rattle.cell_language.specs.declared.token.Sign.{Sign}
@@ -37,36 +36,8 @@ start-is_blank b h = grind (arith, nat_tests)
 abbrev is_mark : List ℕ → Bool
 is_mark bytes = begins_piece bytes && not (list_all is_name_byte bytes)
 
-both_true : (a b : Bool) → (a && b) ≡ true → (a ≡ true) × (b ≡ true)
-both_true true b h = (refl, h)
-both_true false b h = cc
-
-not_true : (a : Bool) → not a ≡ true → a ≡ false
-not_true true h = cc
-not_true false h = refl
-
--- what is found passes the test, and whatever all elements pass
-find-passes : {X : Type 0} (p q : X → Bool) (xs : List X) (x : X) → find p xs ≡ Some x → list_all q xs ≡ true → (p x ≡ true) × (q x ≡ true)
-find-passes p q [] x h all = cc
-find-passes {X} p q (y ∷ ys) x h all =
-    let each = both_true (q y) (list_all q ys) all in
-    go (p y) refl h (find-passes p q ys x)
-  where
-    go : (v : Bool) → p y ≡ v → cond v (Some y) (find p ys) ≡ Some x →
-        (find p ys ≡ Some x → list_all q ys ≡ true → (p x ≡ true) × (q x ≡ true)) → (p x ≡ true) × (q x ≡ true)
-    go true is at later = let e : y ≡ x = cc in (subst (λ z. p z ≡ true) e is, subst (λ z. q z ≡ true) e (both_true (q y) (list_all q ys) all).0)
-    go false is at later = later at (both_true (q y) (list_all q ys) all).1
-
 sign-is_mark : (bytes : List ℕ) (s : Sign) → sign_of bytes ≡ Some s → is_mark bytes ≡ true
-sign-is_mark bytes s h = go (find (λ x. bytes_eq x.0 bytes) signs) refl h
-  where
-    go : (o : Option (List ℕ × Sign)) → find (λ x. bytes_eq x.0 bytes) signs ≡ o →
-        option_map (λ x. x.1) o ≡ Some s → is_mark bytes ≡ true
-    go None is at = cc
-    go (Some x) is at =
-        let passes = find-passes (λ y. bytes_eq y.0 bytes) (λ y. is_mark y.0) signs x is refl in
-        let e : x.0 ≡ bytes = (bytes_eq-Decides x.0 bytes).0 passes.0 in
-        subst (λ bs. is_mark bs ≡ true) e passes.1
+sign-is_mark bytes s is = sign-passes is_mark bytes s refl is
 
 digits-are_name_bytes : (bytes : List ℕ) → list_all is_digit bytes ≡ true → list_all is_name_byte bytes ≡ true
 digits-are_name_bytes [] h = refl
@@ -116,6 +87,16 @@ begun : (bytes text : List ℕ) → begins_piece bytes ≡ true →
 begun [] text h = cc
 begun (b ∷ bs) text h = (b, bs ++ text, refl, not_true (is_blank b) h, omega arith)
 
+-- the bytes of a token that are longest are the first piece
+spells-longest : (bytes text : List ℕ) (t : Token) → Spells bytes t → IsLongest bytes text → piece_length (bytes ++ text) ≡ length bytes
+spells-longest bytes text (token.Number n) is longest = word-longest bytes text is.0 (digits-are_name_bytes bytes is.1) longest
+spells-longest bytes text (token.Name name) is longest =
+    let named : is_name bytes ≡ true = rw is.0 is.1 in
+    let start = both_true (starts_name bytes) (list_all is_name_byte bytes && nat_le (length bytes) 64) named in
+    let rest = both_true (list_all is_name_byte bytes) (nat_le (length bytes) 64) start.1 in
+    word-longest bytes text (begun bytes text (spells-begins bytes (token.Name name) is)).4 rest.0 longest
+spells-longest bytes text (token.Sign s) is longest = sign-longest bytes text s is longest
+
 next_token-at : (count c : ℕ) (bytes : List ℕ) (t : Token) → count < 1000 → token_of c bytes ≡ Ok t →
     next_token count (record { column = c; bytes = bytes }) ≡ Ok (record { token = t; column = c })
 next_token-at count c bytes t low is =
@@ -132,7 +113,7 @@ spelled-only (spelling.blank {column = c} {b = b} {text = text} is rest) count f
 spelled-only (spelling.token {column = c} {text = text} {tokens = ts} t bytes is long rest) count few =
     let at = begun bytes text (spells-begins bytes t is) in
     let p : Piece = record { column = c; bytes = bytes } in
-    let cut = pieces-first c at.0 (bytes ++ text) at.1 (length bytes) at.2 at.3 long at.4 in
+    let cut = pieces-first c at.0 (bytes ++ text) at.1 (length bytes) at.2 at.3 (spells-longest bytes text t is long) at.4 in
     let first : pieces zero c (bytes ++ text) ≡ p ∷ pieces zero (c + length bytes) text =
     simp (take-append_seam, drop-append_seam) at cut in
     let next = next_token-at count c bytes t (omega arith) (spells-token c bytes t is) in

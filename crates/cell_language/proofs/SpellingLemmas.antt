@@ -1,14 +1,13 @@
 -- The tokens of a text are spelled in it, and are at most 1000.
-use Rattle.std.proofs.Common.{◌≡◌, ℕ, zero, suc, ◌+◌, ◌<◌, ◌≤◌, Bool, true, false, nat_le, List, [], ◌∷◌, ◌++◌, length, take, drop, refl, ap, sym, ◌∙◌, arith, subst, Option, Some, None, Result, Ok, Err, inl, inr, cond, length-append, length-take-le, take-append-drop, ◌⊎◌}
-use Rattle.std.proofs.lemmas.List.Sums.{prefix_len-le-length}
-use Rattle.std.proofs.lemmas.Slice.Eq.{starts_is}
-use Rattle.std.specs.List.{list_all, starts_with}
-use Rattle.std.specs.Prelude.{find, nat_eq, nat_lt, if◌then◌else◌, map}
-use Rattle.std.proofs.lemmas.Bool.Decides.{Decides-eqb, nat_tests}
-use Rattle.std.specs.Option.{option_map_or, option_map, ok_or}
+use Rattle.std.proofs.Common.{◌≡◌, ℕ, zero, suc, ◌+◌, ◌<◌, ◌≤◌, Bool, true, false, nat_le, List, [], ◌∷◌, ◌++◌, length, take, drop, refl, ap, sym, ◌∙◌, arith, subst, Option, Some, None, Result, Ok, Err, inl, inr, length-take-le, take-append-drop, ◌⊎◌}
+use Rattle.std.specs.List.{list_all}
+use Rattle.std.specs.Prelude.{nat_lt, if◌then◌else◌}
+use Rattle.std.proofs.lemmas.Bool.Decides.{nat_tests}
+use Rattle.std.specs.Option.{option_map, ok_or}
 use Rattle.cell_core.specs.Name.{is_name, is_name_byte, starts_name}
+use Rattle.cell_language.proofs.Longest.{piece_length-within, piece-longest}
 use Rattle.cell_language.proofs.Pieces.{pieces-blank, pieces-opened, tokens_of-cons}
-use Rattle.cell_language.specs.Tokens.{fault, value_of, name_of, number_of, not_whole, triple_signs, double_signs, is_blank, is_digit, Piece, pieces, piece_length, mark_length, word_of, mark_of, token_of, placed, tokens_of, next_token, before, token_list, sign_of}
+use Rattle.cell_language.specs.Tokens.{fault, value_of, name_of, number_of, not_whole, is_blank, is_digit, Piece, pieces, piece_length, word_of, mark_of, token_of, placed, tokens_of, next_token, before, token_list, sign_of}
 use Rattle.cell_language.specs.Spelling.{Spells, AreSpelled}
 use Rattle.cell_language.specs.Spelling as spelling
 use Rattle.cell_language.specs.declared.fault.CalcFault.{CalcFault}
@@ -83,41 +82,6 @@ placed-ok c (Ok u) t h =
     (ap (λ (p : Placed). Ok p.token) e, sym (ap (λ (p : Placed). p.column) e))
 placed-ok c (Err f) t h = cc
 
--- a spelling that a text begins with is no longer than the text
-starts_with-length : (text s : List ℕ) → starts_with nat_eq text s ≡ true → length s ≤ length text
-starts_with-length text s h =
-    let e : text ≡ s ++ drop (length s) text = (starts_is Decides-eqb text s (starts_with nat_eq text s) refl).0 h in
-    omega (arith, simp length-append at (ap length e))
-
-found-length : (text s : List ℕ) (r : Option (List ℕ)) (b : Bool) → starts_with nat_eq text s ≡ b → 0 < length s →
-    (0 < option_map_or length r 1) × (option_map_or length r 1 ≤ length text) →
-    (0 < option_map_or length (cond b (Some s) r) 1) × (option_map_or length (cond b (Some s) r) 1 ≤ length text)
-found-length text s r true starts some others = (some, starts_with-length text s starts)
-found-length text s r false starts some others = others
-
--- none of them is empty
-abbrev AreSome : List (List ℕ) → Type 0
-AreSome [] = Unit {0}
-AreSome (s ∷ all) = (0 < length s) × AreSome all
-
-find-length : (text : List ℕ) (all : List (List ℕ)) → 0 < length text → AreSome all →
-    (0 < option_map_or length (find (starts_with nat_eq text) all) 1) × (option_map_or length (find (starts_with nat_eq text) all) 1 ≤ length text)
-find-length text [] some h = (omega arith, some)
-find-length text (s ∷ all) some h =
-    found-length text s (find (starts_with nat_eq text) all) (starts_with nat_eq text s) refl h.0 (find-length text all some h.1)
-
-mark_length-within : (text : List ℕ) → 0 < length text → (0 < mark_length text) × (mark_length text ≤ length text)
-unfolding mark_length
-mark_length-within text some = find-length text (map (λ s. s.0) (triple_signs ++ double_signs)) some
-    (omega arith, (omega arith, (omega arith, (omega arith, (omega arith, (omega arith, (omega arith, (omega arith, tt))))))))
-
-piece_length-within : (text : List ℕ) → 0 < length text → (0 < piece_length text) × (piece_length text ≤ length text)
-unfolding piece_length
-piece_length-within text some =
-    let mark = mark_length-within text some in
-    let run = prefix_len-le-length is_name_byte text in
-    grind (arith, nat_tests)
-
 -- a token is read below the limit alone, from the bytes of its piece
 next-ok : (count : ℕ) (p : Piece) (t : Placed) → next_token count p ≡ Ok t →
     (count < 1000) × (token_of p.column p.bytes ≡ Ok t.token) × (t.column ≡ p.column)
@@ -139,7 +103,8 @@ spelled-token : (c n : ℕ) (bs : List ℕ) (t : Placed) (us : List Placed) →
     AreSpelled c bs (t ∷ us)
 spelled-token c n bs t us within cut is at others =
     let size : length (take n bs) ≡ n = length-take-le n bs within in
-    let long : piece_length (take n bs ++ drop n bs) ≡ length (take n bs) = rw (take-append-drop n bs, size) cut in
+    let same : piece_length (take n bs ++ drop n bs) ≡ length (take n bs) = rw (take-append-drop n bs, size) cut in
+    let long = piece-longest (take n bs) (drop n bs) same in
     let rest : AreSpelled (c + length (take n bs)) (drop n bs) us = rw size others in
     let whole : AreSpelled c (take n bs ++ drop n bs) (record { token = t.token; column = c } ∷ us) =
     spelling.token t.token (take n bs) is long rest in

@@ -29,7 +29,7 @@ pub enum CalcKind {
     UnknownMap,
 }
 
-/// What is wrong, and the column, counted in bytes from 1; 0 for want of memory.
+/// What is wrong, and the column, counted in bytes from 1; 0 where out of memory.
 #[derive(Clone, Copy, Debug, PartialEq, Eq, Error)]
 #[error("{kind} at column {column}")]
 pub struct CalcFault {

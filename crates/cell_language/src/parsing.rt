@@ -28,7 +28,7 @@ use std::alloc::Global;
 #[derive(Clone, Copy)]
 enum Stop<'a> {
     Memory,
-    /// A fault, and the tokens from where it is told.
+    /// A fault, and the tokens from where it is reported.
     At(CalcKind, &'a [Placed]),
 }
 

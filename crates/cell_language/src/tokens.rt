@@ -21,7 +21,7 @@ const GREATEST_NUMBER: u64 = 2147483647;
 /// Above the greatest number, and small enough to take one more digit.
 const NUMBER_CAP: u64 = 4294967295;
 
-/// Want of memory, which has no column.
+/// Out of memory, which has no column.
 const NO_MEMORY: CalcFault = CalcFault {
     kind: CalcKind::Memory,
     column: 0,
@@ -296,8 +296,8 @@ fn next_token(alloc: Global, count: usize, bytes: &[u8], column: u32) -> Result<
 ///
 /// # Errors
 ///
-/// The first fault of the text, read from the left, with its column; `Memory`, with column 0, where a
-/// growth was refused. A text has at most 1000 tokens (profile).
+/// The first fault of the text, read from the left, with its column; `Memory`, with column 0, where out of
+/// memory. A text has at most 1000 tokens (profile).
 pub fn tokens(alloc: Global, text: &[u8]) -> Result<Vec<Placed>, CalcFault>
     requires { length text.now ≤ 65535 }
     ensures ok { IfOk result (λ found. token_list text.now ≡ Ok found.items) }

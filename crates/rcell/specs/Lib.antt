@@ -1,7 +1,7 @@
--- Tables, areas, scripts, runs and fault lines.
+-- Maps that statements make, output, runs, laws and fault lines.
+pub mod Making
+pub mod Output
+pub mod OutputLaw
 pub mod Reports
-pub mod clumps
-pub mod output
+pub mod parts
 pub mod runs
-pub mod script
-pub mod stats

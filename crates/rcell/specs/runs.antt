@@ -1,8 +1,7 @@
--- A run: the shelf of its grids, its output and its faults.
-pub mod Faults
+-- A run: the shelf of its grids, its faults and its outcome.
 pub mod Sources
 pub mod Loading
-pub mod Output
-pub mod Outcomes
-pub mod Execution
+pub mod Faults
 pub mod Accepted
+pub mod Execution
+pub mod Outcomes

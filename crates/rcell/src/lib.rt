@@ -1,16 +1,15 @@
-//! Scripts over grids of whole-number cells: grids and a script are read, and the tables and grid texts that the script
-//! asks for are put out (GRASS manual: r.in.ascii, r.stats, r.out.ascii).
+//! Map algebra and category tools over maps of whole numbers: grids and a script are read, and the tables and grid texts
+//! that the script asks for are written (GRASS manual: r.in.ascii, r.mapcalc, r.reclass, r.clump, r.stats, r.out.ascii).
 #![tactic(auto)]
 
-mod clumps;
-mod output;
+pub mod evaluation;
+pub mod law;
+mod making;
 pub mod report;
 pub mod runs;
-pub mod script;
-mod stats;
 
-pub use clumps::clump;
+pub use cell_script::fault::{ScriptFault, ScriptKind};
+pub use cell_script::parsing::parse_script;
+pub use evaluation::evaluate;
 pub use runs::outcome::{Outcome, RunFault};
 pub use runs::running::run;
-pub use script::parsing::parse_script;
-pub use stats::law::table_lists_what_occurs;

@@ -4,10 +4,10 @@ ghost use Rattle.std.specs.Prelude.{◌≡◌, is_some, IfSome};
 ghost use Rattle.rcell.specs.Reports.{name_at, source_of, line_of, text_of};
 
 use crate::runs::outcome::{Outcome, RunFault};
-use crate::script::fault::ScriptKind;
 use bstr::ByteSlice;
 use cell_ascii::fault::GridKind;
 use cell_core::name::Name;
+use cell_script::fault::ScriptKind;
 use std::fmt;
 use thiserror::Error;
 

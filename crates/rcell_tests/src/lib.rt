@@ -1,11 +1,7 @@
-//! Tests of whole runs over memory, and of the parts that a run is made of.
+//! Tests of whole runs over memory, and of fault lines.
 #![tactic(auto)]
 
-#[cfg(test)]
-mod clumps;
 #[cfg(test)]
 mod reports;
 #[cfg(test)]
 mod runs;
-#[cfg(test)]
-mod scripts;

@@ -1,11 +1,14 @@
 //! The line that tells each fault.
 
 use cell_ascii::fault::{GridFault, GridKind};
+use cell_calc::{CalcFault, CalcKind};
+use cell_cats::rules::RuleFault;
 use cell_core::name::Name;
 use cell_core::region::RegionFault;
+use cell_stats::reading::ComboFault;
 use rcell::report::fault_line;
 use rcell::runs::outcome::{Outcome, RunFault, status_of};
-use rcell::script::fault::{ScriptFault, ScriptKind};
+use rcell::{ScriptFault, ScriptKind};
 use std::alloc::AllocGlobal;
 use std::process::Abort;
 use std::test::Fail;
@@ -81,6 +84,15 @@ fn tells_faults_of_scripts(rt: HostRuntime) -> Result<(), Fail> {
         (ScriptKind::BadOption, "bad option"),
         (ScriptKind::MissingOption, "missing option"),
         (ScriptKind::UnknownMap, "unknown map"),
+        (ScriptKind::MapExists, "map exists"),
+        (ScriptKind::MissingEnd, "missing end"),
+        (ScriptKind::Rule(RuleFault::BadRule), "bad rule"),
+        (ScriptKind::Rule(RuleFault::BadNumber), "bad number in rule"),
+        (ScriptKind::Combo(ComboFault::BadCombo), "bad combination"),
+        (
+            ScriptKind::Combo(ComboFault::BadWidth),
+            "combination of another width",
+        ),
         (ScriptKind::LongLine, "line too long"),
         (ScriptKind::BadName, "bad name"),
         (ScriptKind::Memory, "no memory"),
@@ -88,6 +100,24 @@ fn tells_faults_of_scripts(rt: HostRuntime) -> Result<(), Fail> {
     for (kind, text) in kinds {
         let fault = ScriptFault { kind, line: 6 };
         expect_line(&rt, RunFault::Script(fault), "script:6", text)?;
+    }
+    let kinds = [
+        (CalcKind::BadByte, "bad byte"),
+        (CalcKind::BadNumber, "bad number"),
+        (CalcKind::FloatNumber, "number not whole"),
+        (CalcKind::Expected, "unexpected token"),
+        (CalcKind::UnknownFunction, "unknown function"),
+        (CalcKind::Arguments, "wrong number of arguments"),
+        (CalcKind::BadOffset, "offset out of range"),
+        (CalcKind::TooLong, "expression too long"),
+        (CalcKind::BadName, "bad name"),
+        (CalcKind::UnknownMap, "unknown map"),
+    ];
+    for (kind, text) in kinds {
+        let kind = ScriptKind::Calc(CalcFault { kind, column: 15 });
+        let fault = ScriptFault { kind, line: 6 };
+        let text = format!(in rt.alloc(); "{text} at column 15")?;
+        expect_line(&rt, RunFault::Script(fault), "script:6", text.as_str())?;
     }
     expect_line(&rt, RunFault::ScriptRead, "script:0", "read failed")?;
     expect_line(&rt, RunFault::ScriptSize, "script:0", "script too long")

@@ -4,8 +4,7 @@ use cell_ascii::fault::{GridFault, GridKind};
 use cell_core::name::Name;
 use cell_core::sink::MemorySink;
 use cell_core::source::MemorySource;
-use rcell::script::fault::{ScriptFault, ScriptKind};
-use rcell::{Outcome, RunFault, run};
+use rcell::{Outcome, RunFault, ScriptFault, ScriptKind, run};
 use std::alloc::{AllocGlobal, Global};
 use std::process::Abort;
 use std::test::Fail;
@@ -157,6 +156,38 @@ fn puts_out_grids(rt: HostRuntime) -> Result<(), Fail> {
     Ok(())
 }
 
+// Each of the five commands.
+const FIVE_COMMANDS: &[u8] = b"r.stats -c input=g\nr.clump input=g output=c\nr.mapcalc x = c[1,0] + 1\nr.reclass input=g output=r\n1 thru 3 = 7 low\nend\nr.stats -cl input=r\nr.out.ascii input=x\n";
+
+const FIVE_TEXTS: &[u8] = b"1 5\n2 4\n3 2\n* 1\n7 low 11\n* no data 1\nnorth: 3\nsouth: 0\neast: 4\nwest: 0\nrows: 3\ncols: 4\n2 3 3 3\n4 4 5 5\n* * * *\n";
+
+#[test]
+fn writes_what_each_command_asks_for(rt: HostRuntime) -> Result<(), Fail> {
+    let alloc = rt.alloc();
+    expect_text(&rt, &[(b"g", GRID)], FIVE_COMMANDS, FIVE_TEXTS)?;
+    let mut slow = MemorySink::new(vec![in alloc; 0u8; 200]?, 1, false);
+    let outcome = run_texts(alloc, &[(b"g", GRID)], FIVE_COMMANDS, &mut slow)?;
+    assert_eq!(rt; outcome.status, 0);
+    assert_eq!(rt; slow.bytes(), FIVE_TEXTS);
+    let mut unflushed = MemorySink::new(vec![in alloc; 0u8; 200]?, 3, true);
+    let outcome = run_texts(alloc, &[(b"g", GRID)], FIVE_COMMANDS, &mut unflushed)?;
+    assert_eq!(rt; (outcome.status, outcome.written), (4, 111));
+    assert_eq!(rt; outcome.fault, Some(RunFault::Write));
+    Ok(())
+}
+
+#[test]
+fn a_full_sink_has_a_prefix(rt: HostRuntime) -> Result<(), Fail> {
+    for room in 0..FIVE_TEXTS.len() {
+        let mut full = sink(rt.alloc(), room)?;
+        let outcome = run_texts(rt.alloc(), &[(b"g", GRID)], FIVE_COMMANDS, &mut full)?;
+        assert_eq!(rt; (outcome.status, outcome.written), (4, room as u64));
+        assert_eq!(rt; outcome.fault, Some(RunFault::Write));
+        assert_eq!(rt; full.bytes(), &FIVE_TEXTS[..room]);
+    }
+    Ok(())
+}
+
 #[test]
 fn refuses_grids_before_it_writes(rt: HostRuntime) -> Result<(), Fail> {
     let script = b"r.stats -c input=g\n";
@@ -185,7 +216,7 @@ fn refuses_grids_before_it_writes(rt: HostRuntime) -> Result<(), Fail> {
 #[test]
 fn refuses_scripts_before_it_writes(rt: HostRuntime) -> Result<(), Fail> {
     let lines = [
-        (b"r.stats input=g".as_slice(), ScriptKind::BadOption, 1),
+        (b"r.stats -c -1 input=g".as_slice(), ScriptKind::BadOption, 1),
         (b"r.stats -c\n", ScriptKind::MissingOption, 1),
         (b"\nr.stats -c input=1a\n", ScriptKind::BadName, 2),
         (
@@ -193,7 +224,13 @@ fn refuses_scripts_before_it_writes(rt: HostRuntime) -> Result<(), Fail> {
             ScriptKind::UnknownMap,
             3,
         ),
-        (b"r.clump input=g output=c\n", ScriptKind::UnknownCommand, 1),
+        (b"r.clump input=g output=g\n", ScriptKind::MapExists, 1),
+        (
+            b"r.reclass input=g output=r\n1 = 2\n",
+            ScriptKind::MissingEnd,
+            1,
+        ),
+        (b"r.buffer input=g output=c\n", ScriptKind::UnknownCommand, 1),
     ];
     for (text, kind, line) in lines {
         let fault = ScriptFault { kind, line };

@@ -13,12 +13,12 @@ use Rattle.cell_ascii.specs.GridText.{Denotes}
 use Rattle.cell_ascii.proofs.GridLawLemmas.{reading_agrees}
 use Rattle.rcell.proofs.runs.LoadingLemmas.{added-same}
 use Rattle.rcell.specs.runs.Accepted.{AllDenote, AreGrids, IsAccepted}
-use Rattle.rcell.specs.runs.Loading.{with_grid, with_map, shelf_of_one, shelf_from, then_grids}
-use Rattle.rcell.specs.runs.Outcomes.{outcome_of, output_after, output_on, output_if, script_text, Writes}
-use Rattle.rcell.specs.runs.Output.{output_of}
-use Rattle.rcell.specs.runs.Sources.{Named}
+use Rattle.rcell.specs.Making.{with_map}
+use Rattle.rcell.specs.runs.Loading.{with_grid, shelf_of_one, shelf_from, then_grids}
+use Rattle.rcell.specs.runs.Outcomes.{script_text, IsRead, Writes}
 use Rattle.rcell.specs.declared.runs.outcome.Outcome.{Outcome}
-use Rattle.rcell.specs.declared.script.statement.Statement.{Statement}
+use Rattle.rcell.specs.runs.Sources.{Named}
+use Rattle.cell_script.specs.declared.statement.Statement.{Statement}
 
 differs : (t : Bool) → (t ≡ true → ⊥) → t ≡ false
 differs true apart = absurd (apart refl)
@@ -79,14 +79,14 @@ all_loaded gs shelf are = by gs shelf.maps are.some are.denote are.names are.dis
         ∙ all_placed gs ms (0 + 1) (shelf_of_one g.0 m) denote.1 (rw names at distinct) (λ k d h. same (suc k) d (omega arith) ∙ sym region)
         ∙ (λ i. Ok (Some (record { region = region i; names = sym names i; maps = maps i })))
 
--- an accepted script has the output of its statements
-accepted_outcome : (grids : List Named) (script : Coming) (shelf : ShelfValue) (statements : List Statement) → IsAccepted grids script shelf statements → outcome_of grids script ≡ Ok (output_of shelf statements)
-accepted_outcome grids script shelf statements ok =
+-- an accepted script over grids is read
+accepted_read : (grids : List Named) (script : Coming) (shelf : ShelfValue) (statements : List Statement) → IsAccepted grids script shelf statements → IsRead grids script shelf statements
+accepted_read grids script shelf statements ok =
     let short : nat_lt 1048576 (length script.bytes) ≡ false = let h = ok.short in grind (arith, nat_tests) in
     let text : script_text script ≡ Ok script.bytes = rw (short, ok.ends) refl in
-    ap (output_after script) (all_loaded grids shelf ok.loaded) ∙ ap (output_on shelf) text ∙ ap (output_if shelf) ok.denoted
+    record { loaded = all_loaded grids shelf ok.loaded; reads = record { text = script.bytes; bytes = text; denoted = ok.denoted } }
 
--- what is written of any output is written of an accepted script's
-pub accepted_writes : (grids : List Named) (script : Coming) (shelf : ShelfValue) (statements : List Statement) (before now : Option (List ℕ)) (failed : Bool) (outcome : Outcome)
-    → ((text : List ℕ) → outcome_of grids script ≡ Ok text → Writes text before now failed outcome) → IsAccepted grids script shelf statements → Writes (output_of shelf statements) before now failed outcome
-accepted_writes grids script shelf statements before now failed outcome whole ok = whole (output_of shelf statements) (accepted_outcome grids script shelf statements ok)
+-- what is written of whatever is read is written of an accepted script over grids
+pub when_accepted : (grids : List Named) (script : Coming) (shelf : ShelfValue) (statements : List Statement) (before now : Option (List ℕ)) (failed : Bool) (outcome : Outcome)
+    → (IsRead grids script shelf statements → Writes shelf statements before now failed outcome) → IsAccepted grids script shelf statements → Writes shelf statements before now failed outcome
+when_accepted grids script shelf statements before now failed outcome whole ok = whole (accepted_read grids script shelf statements ok)

@@ -10,7 +10,8 @@ use Rattle.cell_core.specs.Shelf.{ShelfValue}
 use Rattle.cell_ascii.specs.Cells.{grid_of}
 use Rattle.rcell.specs.runs.Sources.{AllKnown, known_of, coming_of}
 use Rattle.rcell.specs.runs.Faults.{IsOfInput}
-use Rattle.rcell.specs.runs.Loading.{added, placed, with_map, with_grid, shelf_from, then_grids}
+use Rattle.rcell.specs.Making.{with_map}
+use Rattle.rcell.specs.runs.Loading.{added, placed, with_grid, shelf_from, then_grids}
 use Rattle.rcell.specs.declared.runs.outcome.RunFault.{RunFault}
 use Rattle.rcell.specs.declared.runs.outcome.RunFault.TheVariants.{GridRegion, GridTwice}
 

@@ -1,13 +1,13 @@
 -- An accepted script over grids of one region (r.in.ascii manual, r.stats manual, r.out.ascii manual; names, the one region and the form of a script are the profile's).
-use Rattle.std.specs.Prelude.{◌≡◌, ◌<◌, ◌≤◌, ⊤, false, List, [], ◌∷◌, length, map, All, Ok}
+use Rattle.std.specs.Prelude.{◌≡◌, ◌<◌, ◌≤◌, ⊤, false, List, [], ◌∷◌, length, map, All}
 use Rattle.cell_core.specs.Device.{Coming}
 use Rattle.cell_core.specs.Grid.{Grid}
 use Rattle.cell_core.specs.Name.{AreDistinct}
 use Rattle.cell_core.specs.Shelf.{ShelfValue}
 use Rattle.cell_ascii.specs.GridText.{Denotes}
 use Rattle.rcell.specs.runs.Sources.{Named}
-use Rattle.rcell.specs.script.Statements.{script_of}
-use Rattle.rcell.specs.declared.script.statement.Statement.{Statement}
+use Rattle.cell_script.specs.Scripts.{IsScript}
+use Rattle.cell_script.specs.declared.statement.Statement.{Statement}
 
 -- each grid's text denotes the map in its place
 abbrev pub AllDenote : List Named → List Grid → Type 0
@@ -29,4 +29,4 @@ pub record IsAccepted (grids : List Named) (script : Coming) (shelf : ShelfValue
   pub loaded : AreGrids grids shelf
   pub ends : script.fails ≡ false
   pub short : length script.bytes ≤ 1048576
-  pub denoted : script_of shelf.names script.bytes ≡ Ok statements
+  pub denoted : IsScript shelf.names script.bytes statements

@@ -1,11 +1,12 @@
 -- The shelf that grids give, in their order, or the first fault (profile).
-use Rattle.std.specs.Prelude.{ℕ, ◌+◌, List, [], ◌∷◌, ◌++◌, Option, Some, None, Result, Ok, Err, if◌then◌else◌}
+use Rattle.std.specs.Prelude.{ℕ, ◌+◌, List, [], ◌∷◌, Option, Some, None, Result, Ok, Err, if◌then◌else◌}
 use Rattle.cell_core.specs.Grid.{Grid}
 use Rattle.cell_core.specs.Name.{place_of}
 use Rattle.cell_core.specs.SameRegion.{is_same_region}
 use Rattle.cell_core.specs.Shelf.{ShelfValue}
 use Rattle.cell_ascii.specs.Cells.{grid_of}
 use Rattle.cell_ascii.specs.declared.fault.GridFault.{GridFault}
+use Rattle.rcell.specs.Making.{with_map}
 use Rattle.rcell.specs.runs.Sources.{Named}
 use Rattle.rcell.specs.declared.runs.outcome.RunFault.{RunFault}
 use Rattle.rcell.specs.declared.runs.outcome.RunFault.TheVariants as faults
@@ -13,10 +14,6 @@ use Rattle.rcell.specs.declared.runs.outcome.RunFault.TheVariants as faults
 -- the first grid's region is the region of the shelf
 abbrev pub shelf_of_one : List ℕ → Grid → ShelfValue
 shelf_of_one name map = record { region = map.region; names = name ∷ []; maps = map ∷ [] }
-
--- the shelf with one more map, as its last
-abbrev pub with_map : ShelfValue → List ℕ → Grid → ShelfValue
-with_map shelf name map = record { region = shelf.region; names = shelf.names ++ name ∷ []; maps = shelf.maps ++ map ∷ [] }
 
 -- a name that stands already is told before another region
 abbrev pub added : ℕ → ShelfValue → List ℕ → Grid → Option ℕ → Result ShelfValue RunFault

@@ -1,55 +1,88 @@
--- What a run answers: the whole output (r.stats manual, r.out.ascii manual), or the first fault of what it is given (the limit of a script and the order of the faults are the profile's).
-use Rattle.std.specs.Prelude.{ℕ, ◌≡◌, Bool, false, nat_lt, List, [], length, Option, Some, None, IfSome, Result, Ok, Err, if◌then◌else◌}
+-- What a run answers: the whole output, or the first fault of what it is given (the limit of a script and the order of the faults are the profile's).
+use Rattle.std.specs.Prelude.{ℕ, ◌≡◌, Bool, false, nat_lt, List, length, Option, Some, None, IfSome, Result, Ok, Err, if◌then◌else◌}
 use Rattle.cell_core.specs.Device.{Coming, append_known}
 use Rattle.cell_core.specs.Shelf.{ShelfValue}
-use Rattle.rcell.specs.script.Statements.{script_of}
-use Rattle.rcell.specs.declared.script.fault.ScriptFault.{ScriptFault}
-use Rattle.rcell.specs.declared.script.statement.Statement.{Statement}
-use Rattle.cell_core.specs.Blocks.{IsCut, capped}
+use Rattle.cell_core.specs.Blocks.{capped}
+use Rattle.cell_script.specs.Scripts.{IsScript, IsScriptFault}
+use Rattle.cell_script.specs.declared.fault.ScriptFault.{ScriptFault}
+use Rattle.cell_script.specs.declared.statement.Statement.{Statement}
+use Rattle.rcell.specs.Output.{IsOutput}
+use Rattle.rcell.specs.runs.Execution.{IsBefore, IsWithin}
 use Rattle.rcell.specs.runs.Faults.{IsOfMemory}
-use Rattle.rcell.specs.runs.Sources.{Named}
 use Rattle.rcell.specs.runs.Loading.{shelf_of}
-use Rattle.rcell.specs.runs.Output.{output_of}
+use Rattle.rcell.specs.runs.Sources.{Named}
 use Rattle.rcell.specs.declared.runs.outcome.Outcome.{Outcome}
 use Rattle.rcell.specs.declared.runs.outcome.RunFault.{RunFault}
-use Rattle.rcell.specs.declared.runs.outcome.RunFault.TheVariants.{ScriptRead, ScriptSize, Script}
+use Rattle.rcell.specs.declared.runs.outcome.RunFault.TheVariants.{GridTwice, GridRegion, Grid, ScriptRead, ScriptSize, Script, Memory, Write}
 
 -- a script has at most 1048576 bytes, and its reader ends
 abbrev pub script_text : Coming → Result (List ℕ) RunFault
 script_text c = if nat_lt 1048576 (length c.bytes) then Err ScriptSize else (if c.fails then Err ScriptRead else Ok c.bytes)
 
--- the output of a script's statements, or the fault of the script
-abbrev pub output_if : ShelfValue → Result (List Statement) ScriptFault → Result (List ℕ) RunFault
-output_if shelf (Ok statements) = Ok (output_of shelf statements)
-output_if shelf (Err fault) = Err (Script fault)
+-- the script denotes the statements over maps of these names
+pub record Reads (known : List (List ℕ)) (script : Coming) (statements : List Statement) : Type 0 where
+  pub text : List ℕ
+  pub bytes : script_text script ≡ Ok text
+  pub denoted : IsScript known text statements
 
--- the output of a script over a shelf, or the first fault of its bytes or lines
-abbrev pub output_on : ShelfValue → Result (List ℕ) RunFault → Result (List ℕ) RunFault
-output_on shelf (Ok text) = output_if shelf (script_of shelf.names text)
-output_on shelf (Err fault) = Err fault
+-- the fault of a script's text, if it has one
+abbrev pub IsTextRefusal : List (List ℕ) → Result (List ℕ) RunFault → RunFault → Type 0
+IsTextRefusal known (Err first) fault = fault ≡ first
+IsTextRefusal known (Ok text) fault = (inner : ScriptFault) × (IsScriptFault known text inner × (fault ≡ Script inner))
 
--- no shelf comes from no grid, and a run has one at least
-abbrev pub output_after : Coming → Result (Option ShelfValue) RunFault → Result (List ℕ) RunFault
-output_after script (Ok (Some shelf)) = output_on shelf (script_text script)
-output_after script (Ok None) = Ok []
-output_after script (Err fault) = Err fault
+-- the fault of a script: that of its bytes, else that of its lines
+abbrev pub IsScriptRefusal : List (List ℕ) → Coming → RunFault → Type 0
+IsScriptRefusal known script fault = IsTextRefusal known (script_text script) fault
 
--- the grids, then the script's text, then its statements, then what they put out
-abbrev pub outcome_of : List Named → Coming → Result (List ℕ) RunFault
-outcome_of grids script = output_after script (shelf_of grids)
+-- the fault of the grids, else that of the script over their names
+abbrev pub IsRefusalAfter : Coming → Result (Option ShelfValue) RunFault → RunFault → Type 0
+IsRefusalAfter script (Err first) fault = fault ≡ first
+IsRefusalAfter script (Ok None) fault = ⊥
+IsRefusalAfter script (Ok (Some shelf)) fault = IsScriptRefusal shelf.names script fault
 
--- the sink took exactly the output, and so many bytes are told
-abbrev pub IsDone : Result (List ℕ) RunFault → Option (List ℕ) → Option (List ℕ) → ℕ → Type 0
-IsDone (Ok text) before now written = (now ≡ append_known before text) × (written ≡ capped (length text))
-IsDone (Err fault) before now written = ⊥
+-- the first fault of the grids and the script
+abbrev pub IsRefusal : List Named → Coming → RunFault → Type 0
+IsRefusal grids script fault = IsRefusalAfter script (shelf_of grids) fault
 
--- the sink took a front of the output, and its length is told
-abbrev pub IsFront : Result (List ℕ) RunFault → Option (List ℕ) → Option (List ℕ) → ℕ → Type 0
-IsFront (Ok text) before now written = IsCut before text now written
-IsFront (Err fault) before now written = ⊥
+-- the grids give the shelf, and the script denotes the statements over it
+pub record IsRead (grids : List Named) (script : Coming) (shelf : ShelfValue) (statements : List Statement) : Type 0 where
+  pub loaded : shelf_of grids ≡ Ok (Some shelf)
+  pub reads : Reads shelf.names script statements
 
--- where memory lasts and the sink takes everything: status 0, no fault, and exactly the text is out
-abbrev pub Writes : List ℕ → Option (List ℕ) → Option (List ℕ) → Bool → Outcome → Type 0
-Writes text before now failed outcome =
+-- the sink took exactly the output of the statements, and its length is told
+pub record IsDone (shelf : ShelfValue) (statements : List Statement) (before now : Option (List ℕ)) (written : ℕ) : Type 0 where
+  pub text : List ℕ
+  pub output : IsOutput shelf statements text
+  pub taken : now ≡ append_known before text
+  pub count : written ≡ capped (length text)
+
+-- a run of a script over grids is done
+pub record IsRunDone (grids : List Named) (script : Coming) (before now : Option (List ℕ)) (written : ℕ) : Type 0 where
+  pub shelf : ShelfValue
+  pub statements : List Statement
+  pub read : IsRead grids script shelf statements
+  pub done : IsDone shelf statements before now written
+
+-- a run stopped in execution: out of memory before a statement, or at a failing sink
+abbrev pub StopsAt : ShelfValue → List Statement → Option (List ℕ) → Option (List ℕ) → ℕ → RunFault → Type 0
+StopsAt shelf statements before now written (Memory line) = IsBefore shelf statements before now written line
+StopsAt shelf statements before now written Write = IsWithin shelf statements before now written
+StopsAt shelf statements before now written (GridTwice grid) = ⊥
+StopsAt shelf statements before now written (GridRegion grid) = ⊥
+StopsAt shelf statements before now written (Grid grid fault) = ⊥
+StopsAt shelf statements before now written ScriptRead = ⊥
+StopsAt shelf statements before now written ScriptSize = ⊥
+StopsAt shelf statements before now written (Script fault) = ⊥
+
+-- a run of a script over grids stopped in execution
+pub record IsRunStopped (grids : List Named) (script : Coming) (before now : Option (List ℕ)) (written : ℕ) (fault : RunFault) : Type 0 where
+  pub shelf : ShelfValue
+  pub statements : List Statement
+  pub read : IsRead grids script shelf statements
+  pub stops : StopsAt shelf statements before now written fault
+
+-- where memory lasts and the sink takes everything: status 0, no fault, and exactly the output of the statements is written
+abbrev pub Writes : ShelfValue → List Statement → Option (List ℕ) → Option (List ℕ) → Bool → Outcome → Type 0
+Writes shelf statements before now failed outcome =
     IfSome outcome.fault (λ f. IsOfMemory f → ⊥) → failed ≡ false
-    → (outcome.status ≡ 0) × ((outcome.fault ≡ None) × ((now ≡ append_known before text) × (outcome.written ≡ capped (length text))))
+    → (outcome.status ≡ 0) × ((outcome.fault ≡ None) × IsDone shelf statements before now outcome.written)

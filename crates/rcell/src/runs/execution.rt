@@ -1,27 +1,30 @@
-//! Statements are executed in order, and each puts out its text.
+//! Statements are executed in order: those that make maps put them on the shelf, the others write their text.
 
-ghost use Rattle.std.specs.Prelude.{◌≡◌, ◌<◌, ◌||◌, All, [], length, OnOk, IfOk, IfErr};
+ghost use Rattle.std.specs.Prelude.{◌≡◌, ◌||◌, [], length, OnOk, IfOk, IfErr, true};
 ghost use Rattle.cell_ascii.specs.Writing.{grid_text, IsNullText};
 ghost use Rattle.cell_core.specs.Device.{append_known};
 ghost use Rattle.cell_core.specs.Blocks.{capped};
-ghost use Rattle.rcell.specs.runs.Execution.{Puts, PutsCut, IsStopped, Stops, stops_write};
-ghost use Rattle.rcell.specs.runs.Output.{output_of, statement_text, stats_text};
-ghost use Rattle.rcell.specs.script.Statements.{ReadsWithin};
+ghost use Rattle.cell_script.specs.Scripts.{Fits, FitsCommand, known_after};
+ghost use Rattle.rcell.specs.Making.{IsAfter};
+ghost use Rattle.rcell.specs.Output.{command_text};
+ghost use Rattle.rcell.specs.parts.Steps.{Puts, PutsCut, IsStopped, is_write, stops_write};
+ghost use Rattle.rcell.specs.runs.Execution.{Stops};
+ghost use Rattle.rcell.specs.runs.Outcomes.{IsDone};
 
-use crate::output::text::write_table;
-use crate::script::statement::{Command, Statement};
-use crate::stats::table::tally;
+use crate::making::{make_classes, make_numbers, make_values};
+use crate::runs::tables::put_stats;
 use cell_ascii::writer::write_map;
 use cell_core::block::Block;
 use cell_core::map::CellMap;
 use cell_core::shelf::Shelf;
 use cell_core::sink::{Sink, WriteFault};
+use cell_script::statement::{Command, Statement};
 use std::alloc::Global;
 
 /// What stops an execution.
 #[derive(Clone, Copy, Debug, PartialEq, Eq)]
 pub enum Stop {
-    /// A growth was refused; the line is that of the statement.
+    /// Memory was refused; the line is that of the statement.
     Memory { line: u64 },
     /// A write failed.
     Write,
@@ -34,39 +37,8 @@ pub struct Stopped {
     pub written: u64,
 }
 
-// Puts out the table of the maps at the places. All that it needs of memory it has before its first byte.
-fn put_stats<W: Sink>(
-    alloc: Global,
-    shelf: &Shelf,
-    places: &[usize],
-    line: u64,
-    block: &mut Block,
-    out: &mut W,
-) -> Result<(), Stopped>
-    requires within { All (λ place. place < length shelf.now.maps) places.now }
-    requires held { block.old.held ≡ [] }
-    ensures ok { OnOk result (Puts (W.taken out.old) block.old (stats_text shelf.now places.now) (W.taken out.new) block.new) }
-    ensures held { OnOk result (block.new.held ≡ []) }
-    ensures err { IfErr result (λ s. IsStopped line (stats_text shelf.now places.now) (W.taken out.old) block.old (W.taken out.new) s.written s.stop) }
-    ensures failed { W.failed out.new ≡ (W.failed out.old || stops_write result) }
-{
-    let Ok(table) = tally(alloc, shelf, places) else {
-        return Err(Stopped {
-            stop: Stop::Memory { line },
-            written: block.written(),
-        });
-    };
-    match write_table(out, block, &table) {
-        Ok(()) => {}
-        Err(fault) => return Err(stopped_by(fault)),
-    }
-    match block.empty(out) {
-        Ok(()) => Ok(()),
-        Err(fault) => Err(stopped_by(fault)),
-    }
-}
-
-fn stopped_by(fault: WriteFault) -> Stopped
+/// At a failing write.
+pub fn stopped_by(fault: WriteFault) -> Stopped
     ensures { result ≡ record { stop = Stop.Write; written = fault.written } }
 {
     Stopped {
@@ -75,7 +47,17 @@ fn stopped_by(fault: WriteFault) -> Stopped
     }
 }
 
-// Puts out the grid text of a map, past the block, which counts it. It takes no memory.
+/// Out of memory, after so many bytes.
+pub fn out_of_memory(line: u64, written: u64) -> Stopped
+    ensures { result ≡ record { stop = Stop.Memory line; written = written } }
+{
+    Stopped {
+        stop: Stop::Memory { line },
+        written,
+    }
+}
+
+// Writes the grid text of a map, past the block, which counts it. It takes no memory.
 fn put_grid<W: Sink>(
     map: &CellMap,
     null_text: &[u8],
@@ -103,24 +85,49 @@ fn put_grid<W: Sink>(
     }
 }
 
-// Puts out the text of a statement.
-fn put_statement<W: Sink>(
+// Executes a statement.
+fn execute_statement<W: Sink>(
     alloc: Global,
-    shelf: &Shelf,
+    shelf: &mut Shelf,
     statement: &Statement,
     block: &mut Block,
     out: &mut W,
 ) -> Result<(), Stopped>
-    requires within { ReadsWithin (length shelf.now.maps) statement.now.command }
+    requires fits { FitsCommand shelf.old.names statement.now.command }
     requires held { block.old.held ≡ [] }
-    ensures ok { OnOk result (Puts (W.taken out.old) block.old (statement_text shelf.now statement.now) (W.taken out.new) block.new) }
+    ensures after { OnOk result (IsAfter shelf.old statement.now.command shelf.new) }
+    ensures names { OnOk result (shelf.new.names ≡ known_after shelf.old.names statement.now.command) }
+    ensures ok { OnOk result (Puts (W.taken out.old) block.old (command_text shelf.old statement.now.command) (W.taken out.new) block.new) }
     ensures held { OnOk result (block.new.held ≡ []) }
-    ensures err { IfErr result (λ s. IsStopped statement.now.line (statement_text shelf.now statement.now) (W.taken out.old) block.old (W.taken out.new) s.written s.stop) }
+    ensures err { IfErr result (λ s. IsStopped statement.now.line (command_text shelf.old statement.now.command) (W.taken out.old) block.old (W.taken out.new) s.written s.stop) }
+    ensures writes { IfErr result (λ s. is_write s.stop ≡ true → IsAfter shelf.old statement.now.command shelf.old) }
     ensures failed { W.failed out.new ≡ (W.failed out.old || stops_write result) }
 {
+    let _maps = shelf.len();
+    let line = statement.line;
     match &statement.command {
-        Command::Stats(places) => {
-            put_stats(alloc, shelf, places.as_slice(), statement.line, block, out)
+        Command::Mapcalc { target, bound } => match make_values(alloc, shelf, target, bound) {
+            Ok(()) => Ok(()),
+            Err(_) => Err(out_of_memory(line, block.written())),
+        },
+        Command::Reclass {
+            place,
+            target,
+            rules,
+        } => match make_classes(alloc, shelf, *place, target, rules) {
+            Ok(()) => Ok(()),
+            Err(_) => Err(out_of_memory(line, block.written())),
+        },
+        Command::Clump {
+            place,
+            target,
+            joining,
+        } => match make_numbers(alloc, shelf, *place, target, *joining) {
+            Ok(()) => Ok(()),
+            Err(_) => Err(out_of_memory(line, block.written())),
+        },
+        Command::Stats { places, options } => {
+            put_stats(alloc, shelf, places.as_slice(), options, line, block, out)
         }
         Command::OutAscii { place, null_text } => {
             put_grid(shelf.map(*place), null_text.bytes(), block, out)
@@ -132,23 +139,22 @@ fn put_statement<W: Sink>(
 ///
 /// # Errors
 ///
-/// [`Stop::Memory`] with the line of the first statement whose memory was refused, which has put out nothing, or
+/// [`Stop::Memory`] with the line of the first statement for which memory was refused, which has written nothing, or
 /// [`Stop::Write`] where the sink failed; either with the number of bytes that the sink took.
 pub fn execute<W: Sink>(
     alloc: Global,
-    shelf: &Shelf,
+    shelf: &mut Shelf,
     statements: &[Statement],
     out: &mut W,
 ) -> Result<u64, Stopped>
-    requires { All (λ s. ReadsWithin (length shelf.now.maps) s.command) statements.now }
-    ensures ok { OnOk result (W.taken out.new ≡ append_known (W.taken out.old) (output_of shelf.now statements.now)) }
-    ensures count { IfOk result (λ written. written ≡ capped (length (output_of shelf.now statements.now))) }
-    ensures err { IfErr result (λ s. Stops shelf.now statements.now (W.taken out.old) (W.taken out.new) s.written s.stop) }
+    requires { Fits shelf.old.names statements.now }
+    ensures ok { IfOk result (λ written. IsDone shelf.old statements.now (W.taken out.old) (W.taken out.new) written) }
+    ensures err { IfErr result (λ s. Stops shelf.old statements.now (W.taken out.old) (W.taken out.new) s.written s.stop) }
     ensures failed { W.failed out.new ≡ (W.failed out.old || stops_write result) }
 {
     let mut block = Block::new();
     for statement in statements {
-        match put_statement(alloc, shelf, statement, &mut block, out) {
+        match execute_statement(alloc, shelf, statement, &mut block, out) {
             Ok(()) => {}
             Err(stopped) => return Err(stopped),
         }

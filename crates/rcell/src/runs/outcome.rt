@@ -3,8 +3,8 @@
 ghost use Rattle.std.specs.Prelude.{◌≡◌};
 ghost use Rattle.rcell.specs.runs.Faults.{grid_status, script_status, status_of};
 
-use crate::script::fault::{ScriptFault, ScriptKind};
 use cell_ascii::fault::{GridFault, GridKind};
+use cell_script::fault::{ScriptFault, ScriptKind};
 
 /// Why a run did not do its work. `grid` is a place among the grids, from 0.
 #[derive(Clone, Copy, Debug, PartialEq, Eq)]

@@ -1,27 +1,25 @@
 //! A run, from bytes to bytes.
 
 ghost use Rattle.std.specs.Prelude.{◌≡◌, ℕ, ◌<◌, List, All, length, true, IsNone, IsSome, IfSome, IfOk, IfErr, Ok, Err, Some, None, vec_len};
-ghost use Rattle.cell_core.specs.Device.{append_known};
 ghost use Rattle.cell_core.specs.Shelf.{ShelfValue};
-ghost use Rattle.cell_core.specs.Blocks.{IsCut, capped};
-ghost use Rattle.rcell.specs.runs.Faults.{IsOfInput, IsBeforeExecution, IsInExecution, IsTold, status_of, status_after};
-ghost use Rattle.rcell.specs.runs.Outcomes.{outcome_of, output_on, script_text, IsDone, IsFront, Writes};
+ghost use Rattle.cell_script.specs.Scripts.{Fits};
+ghost use Rattle.cell_script.specs.declared.statement.Statement.{Statement};
 ghost use Rattle.rcell.specs.runs.Accepted.{IsAccepted};
-ghost use Rattle.rcell.specs.runs.Output.{output_of};
+ghost use Rattle.rcell.specs.runs.Faults.{IsOfInput, IsBeforeExecution, IsInExecution, IsTold, status_of, status_after};
+ghost use Rattle.rcell.specs.runs.Outcomes.{Reads, IsScriptRefusal, IsRefusal, IsRead, IsDone, IsRunDone, StopsAt, IsRunStopped, Writes};
 ghost use Rattle.rcell.specs.runs.Sources.{AllKnown, known_of, coming_of};
-ghost use Rattle.rcell.specs.script.Statements.{ReadsWithin};
-ghost use Rattle.rcell.specs.declared.script.statement.Statement.{Statement};
 
 use crate::runs::execution::{Stop, execute};
 use crate::runs::loading::{load, names_of};
 use crate::runs::outcome::{Outcome, RunFault, status_of};
 use crate::runs::text::read_script;
-use crate::script::parsing::parse_script;
-use crate::script::statement::Script;
 use cell_core::name::Name;
 use cell_core::shelf::Shelf;
 use cell_core::sink::Sink;
 use cell_core::source::Source;
+use cell_script::law::{no_fault_of_a_script, one_script};
+use cell_script::parsing::parse_script;
+use cell_script::statement::Script;
 use std::alloc::Global;
 
 // The statements of a script over the maps on a shelf.
@@ -30,10 +28,12 @@ fn read_statements<R: Source + Drop>(
     shelf: &Shelf,
     script: R,
 ) -> Result<Script, RunFault>
-    ensures ok { IsSome (R.coming script) → IfOk result (λ s. output_on shelf.now (script_text (coming_of R.coming script)) ≡ Ok (output_of shelf.now s)) }
-    ensures within { IfOk result (λ s. All (λ t. ReadsWithin (length shelf.now.maps) t.command) s) }
+    ensures ok { IsSome (R.coming script) → IfOk result (λ s. Reads shelf.now.names (coming_of R.coming script) s) }
+    ensures only { IsSome (R.coming script) → (statements : List Statement) → Reads shelf.now.names (coming_of R.coming script) statements → IfOk result (λ s. s ≡ statements) }
+    ensures fits { IfOk result (λ s. Fits shelf.now.names s) }
     ensures numbered { IfOk result (λ s. All (λ t. 0 < t.line) s) }
-    ensures fault { IsSome (R.coming script) → IfErr result (λ f. IsOfInput f → output_on shelf.now (script_text (coming_of R.coming script)) ≡ Err f) }
+    ensures fault { IsSome (R.coming script) → IfErr result (λ f. IsOfInput f → IsScriptRefusal shelf.now.names (coming_of R.coming script) f) }
+    ensures none { IsSome (R.coming script) → (statements : List Statement) → Reads shelf.now.names (coming_of R.coming script) statements → IfErr result (λ f. IsOfInput f → ⊥) }
     ensures early { IfErr result IsBeforeExecution }
     ensures told { (grids : ℕ) → IfErr result (IsTold grids) }
 {
@@ -44,6 +44,8 @@ fn read_statements<R: Source + Drop>(
     let Ok(names) = names_of(alloc, shelf) else {
         return Err(RunFault::Memory { line: 0 });
     };
+    one_script();
+    no_fault_of_a_script();
     match parse_script(alloc, &text, &names) {
         Ok(script) => Ok(script),
         Err(fault) => Err(RunFault::Script(fault)),
@@ -51,17 +53,17 @@ fn read_statements<R: Source + Drop>(
 }
 
 // Executes the statements, and flushes the sink unless it failed.
-fn put_out<W: Sink>(alloc: Global, shelf: &Shelf, script: &Script, out: &mut W) -> Outcome
-    requires within { All (λ t. ReadsWithin (length shelf.now.maps) t.command) script.now }
+fn put_out<W: Sink>(alloc: Global, mut shelf: Shelf, script: &Script, out: &mut W) -> Outcome
+    requires fits { Fits shelf.names script.now }
     requires numbered { All (λ t. 0 < t.line) script.now }
-    ensures done { IsNone result.fault → (W.taken out.new ≡ append_known (W.taken out.old) (output_of shelf.now script.now)) × (result.written ≡ capped (length (output_of shelf.now script.now))) }
+    ensures done { IsNone result.fault → IsDone shelf script.now (W.taken out.old) (W.taken out.new) result.written }
     ensures late { IfSome result.fault IsInExecution }
-    ensures front { IfSome result.fault (λ f. IsCut (W.taken out.old) (output_of shelf.now script.now) (W.taken out.new) result.written) }
+    ensures stops { IfSome result.fault (λ f. StopsAt shelf script.now (W.taken out.old) (W.taken out.new) result.written f) }
     ensures status { result.status ≡ status_after result.fault }
     ensures sound { IsNone result.fault → W.failed out.new ≡ W.failed out.old }
     ensures write { result.fault ≡ Some RunFault.Write → W.failed out.new ≡ true }
 {
-    match execute(alloc, shelf, script.statements(), out) {
+    match execute(alloc, &mut shelf, script.statements(), out) {
         Ok(written) => match out.flush() {
             Ok(()) => Outcome {
                 status: 0,
@@ -90,10 +92,10 @@ fn refused(fault: RunFault, written: u64) -> Outcome
     }
 }
 
-/// Runs a script over grids, and puts out what it asks for.
+/// Runs a script over grids, and writes what it asks for.
 ///
 /// The grids are read whole, in their order, then the script, and only then the first statement is executed.
-/// Each statement has all that it needs of memory before its first byte goes out. Where the script was accepted and no
+/// Each statement has all that it needs of memory before its first byte is written. Where the script was accepted and no
 /// write failed, the sink is flushed once at the end.
 pub fn run<R: Source + Drop, W: Sink>(
     alloc: Global,
@@ -102,19 +104,20 @@ pub fn run<R: Source + Drop, W: Sink>(
     out: &mut W,
 ) -> Outcome
     requires { 0 < vec_len grids }
-    // With no fault the sink has taken exactly the output, and its length is told.
+    // Without a fault the sink has taken exactly the output, and its length is told.
     ensures done { AllKnown R.coming grids.items → IsSome (R.coming script) → IsNone result.fault
-        → IsDone (outcome_of (known_of R.coming grids.items) (coming_of R.coming script)) (W.taken out.old) (W.taken out.new) result.written }
-    // A fault of the grids or of the script is the one that they have.
+        → IsRunDone (known_of R.coming grids.items) (coming_of R.coming script) (W.taken out.old) (W.taken out.new) result.written }
+    // A fault of the grids or of the script is the first that they have.
     ensures refused { AllKnown R.coming grids.items → IsSome (R.coming script)
-        → IfSome result.fault (λ f. IsOfInput f → outcome_of (known_of R.coming grids.items) (coming_of R.coming script) ≡ Err f) }
+        → IfSome result.fault (λ f. IsOfInput f → IsRefusal (known_of R.coming grids.items) (coming_of R.coming script) f) }
     // A run that is refused before execution writes nothing.
     ensures nothing { IfSome result.fault (λ f. IsBeforeExecution f → (W.taken out.new ≡ W.taken out.old) × (result.written ≡ 0)) }
-    // A run that is stopped in execution has written a front of the output, and its length is told.
-    ensures front { AllKnown R.coming grids.items → IsSome (R.coming script) → IfSome result.fault (λ f. IsInExecution f
-        → IsFront (outcome_of (known_of R.coming grids.items) (coming_of R.coming script)) (W.taken out.old) (W.taken out.new) result.written) }
+    // A run that stops out of memory has written the whole output of the statements before the one that it tells; one that
+    // stops at a failing sink has written a prefix of the output, and tells its length.
+    ensures stopped { AllKnown R.coming grids.items → IsSome (R.coming script) → IfSome result.fault (λ f. IsInExecution f
+        → IsRunStopped (known_of R.coming grids.items) (coming_of R.coming script) (W.taken out.old) (W.taken out.new) result.written f) }
     ensures status { result.status ≡ status_after result.fault }
-    // A fault of a grid names one that was given, and want of memory for a grid or for the script is told at line 0.
+    // A fault of a grid names one that was given, and being out of memory for a grid or for the script is told at line 0.
     ensures told { IfSome result.fault (IsTold (length grids.items)) }
     // Of a sink that had not failed before, status 0 comes only where it did not fail, and Write only where it failed.
     ensures sound { result.status ≡ 0 → W.failed out.new ≡ W.failed out.old }
@@ -123,18 +126,18 @@ pub fn run<R: Source + Drop, W: Sink>(
     // exactly the output of its statements is written.
     ensures headline { (shelf : ShelfValue) (statements : List Statement) → AllKnown R.coming grids.items → IsSome (R.coming script)
         → IsAccepted (known_of R.coming grids.items) (coming_of R.coming script) shelf statements
-        → Writes (output_of shelf statements) (W.taken out.old) (W.taken out.new) (W.failed out.new) result }
-    // The same of whatever texts have an output.
-    ensures complete { (text : List ℕ) → AllKnown R.coming grids.items → IsSome (R.coming script)
-        → outcome_of (known_of R.coming grids.items) (coming_of R.coming script) ≡ Ok text
-        → Writes text (W.taken out.old) (W.taken out.new) (W.failed out.new) result }
+        → Writes shelf statements (W.taken out.old) (W.taken out.new) (W.failed out.new) result }
+    // The same of whatever is read as statements over a shelf.
+    ensures complete { (shelf : ShelfValue) (statements : List Statement) → AllKnown R.coming grids.items → IsSome (R.coming script)
+        → IsRead (known_of R.coming grids.items) (coming_of R.coming script) shelf statements
+        → Writes shelf statements (W.taken out.old) (W.taken out.new) (W.failed out.new) result }
 {
     let shelf = match load(alloc, grids) {
         Ok(shelf) => shelf,
         Err(fault) => return refused(fault, 0),
     };
     match read_statements(alloc, &shelf, script) {
-        Ok(statements) => put_out(alloc, &shelf, &statements, out),
+        Ok(statements) => put_out(alloc, shelf, &statements, out),
         Err(fault) => refused(fault, 0),
     }
 }

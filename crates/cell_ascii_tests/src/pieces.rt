@@ -1,0 +1,72 @@
+//! Texts whose bytes come in pieces of many sizes, so that each place of a text stands once at the end of a piece and of a
+//! block of the reader.
+
+ghost use Rattle.std.specs.Prelude.{◌<◌};
+
+use crate::definition::fault::text_fault;
+use crate::edits::expect;
+use cell_ascii::fault::GridFault;
+use cell_ascii::reader::read_map;
+use cell_core::map::CellMap;
+use cell_core::source::MemorySource;
+use std::alloc::AllocGlobal;
+use std::process::Abort;
+use std::test::Fail;
+
+const TEXTS: [&[u8]; 9] = [
+    b"north: 3\nsouth: 0\neast: 4\nwest: 0\nrows: 3\ncols: 4\n1 1 2 *\n1 2 2 2\n3 3 1 1\n",
+    b"rows: 2\r\ncols:\r4\r\n\nnull: -9999\ntype: int\nmultiplier: -3\nnorth:+1.5\nsouth:.25\neast:\t2.\nwest:-1\n-9999 -999 -99999 -1 \r\n 0 +1 \t -9999 -0\n\n",
+    b"north: 1\nsouth: 0\neast: 5\nwest: 0\nrows: 2\ncols: 5\nnull: NA\nNA 1 NA 22 333\n4444 NA 999999999 0000000007 2147483647",
+    b"north: 1\nsouth: 0\neast: 5\nwest: 0\nrows: 1\ncols: 5\nnull: 7\n7 77 07 -7 7\n",
+    b"north: 1\nsouth: 0\neast: 3\nwest: 0\nrows: 1\ncols: 3\nnull: 3456789012345678901234567890123456789012345678901234567890123456\n1 3456789012345678901234567890123456789012345678901234567890123456 0000000000000000000000000000000000000000000000000000000000000012\n",
+    b"north: 1\nsouth: 0\neast: 3\nwest: 0\nrows: 1\ncols: 3\n1 00000000000000000000000000000000000000000000000000000000000000012 5\n",
+    b"north: 1\nsouth: 0\neast: 3\nwest: 0\nrows: 1\ncols: 3\n1 -2147483648 5\n",
+    b"north: 1\nsouth: 0\neast: 3\nwest: 0\nrows: 2\ncols: 3\n1 2 3\n4 99999999999 5\n",
+    b"north: 1\nsouth: 0\neast: 3\nwest: 0\nrows: 2\ncols: 3\n1 2 3\n4 5 6 7\n",
+];
+
+// A text with so many spaces in front, in pieces of a size.
+fn read_behind<R: AllocGlobal>(
+    rt: &R,
+    spaces: usize,
+    text: &[u8],
+    piece: usize,
+) -> Result<Result<CellMap, GridFault>, Fail>
+    requires { 0 < piece }
+{
+    let mut bytes = vec![in rt.alloc(); b' '; spaces]?;
+    bytes.extend_from_slice(text)?;
+    Ok(read_map(rt.alloc(), MemorySource::new(bytes, piece, false)))
+}
+
+// Each text is read as the definitions say, where a piece ends at each of its places once.
+fn agrees_in_pieces<R: Abort + AllocGlobal>(rt: &R, piece: usize) -> Result<(), Fail>
+    requires { 0 < piece }
+{
+    for text in TEXTS {
+        let told = text_fault(rt.alloc(), text, false).map_err(|_| "no memory")?;
+        for place in 0..text.len() {
+            let answer = read_behind(rt, piece - 1 - place % piece, text, piece)?;
+            expect(rt, answer, text, told)?;
+        }
+    }
+    Ok(())
+}
+
+#[test]
+fn each_place_ends_a_piece(rt: HostRuntime) -> Result<(), Fail> {
+    agrees_in_pieces(&rt, 1)?;
+    agrees_in_pieces(&rt, 2)?;
+    agrees_in_pieces(&rt, 3)?;
+    agrees_in_pieces(&rt, 7)?;
+    agrees_in_pieces(&rt, 64)?;
+    agrees_in_pieces(&rt, 65)
+}
+
+// The reader's block, one byte less and one more.
+#[test]
+fn each_place_ends_a_block(rt: HostRuntime) -> Result<(), Fail> {
+    agrees_in_pieces(&rt, 65535)?;
+    agrees_in_pieces(&rt, 65536)?;
+    agrees_in_pieces(&rt, 65537)
+}

@@ -1,0 +1,2 @@
+-- Windows of the maps that an expression reads.
+pub mod Windows

@@ -1,0 +1,183 @@
+//! Worked values of expressions over a map of three rows.
+
+use crate::evaluation::evaluate;
+use cell_calc::{CalcFault, CalcKind, Expr, parse, resolve};
+use cell_core::cell::Cell;
+use cell_core::map::{CellMap, MapBuilder};
+use cell_core::name::{Name, Names};
+use cell_core::region::Region;
+use cell_core::shelf::Shelf;
+use std::alloc::Global;
+use std::test::Fail;
+
+const NULL: i32 = i32::MIN;
+
+// The worked map: three rows of four cells.
+const ROWS: [[i32; 4]; 3] = [[1, 1, 2, NULL], [1, 2, 2, 2], [3, 3, 1, 1]];
+
+fn cell_of(number: i32) -> Cell {
+    match Cell::value(number) {
+        Some(cell) => cell,
+        None => Cell::null(),
+    }
+}
+
+fn number_of(cell: Cell) -> i32 {
+    match cell.get() {
+        Some(number) => number,
+        None => NULL,
+    }
+}
+
+fn cells_of(alloc: Global, numbers: [i32; 4]) -> Result<Vec<Cell>, Fail> {
+    let mut cells = Vec::new(alloc);
+    for number in numbers {
+        cells.push(cell_of(number)).map_err(|_| "no memory")?;
+    }
+    Ok(cells)
+}
+
+fn worked_map(alloc: Global) -> Result<CellMap, Fail> {
+    let region = Region::new(3, 0, 4, 0, 3, 4).map_err(|_| "no region")?;
+    let mut builder = MapBuilder::new(alloc, region);
+    for row in ROWS {
+        let cells = cells_of(alloc, row)?;
+        if builder.rows_left() == 0 || cells.len() != region.cols() as usize {
+            return Err("no row".into());
+        }
+        builder.push_row(cells.as_slice()).map_err(|_| "no memory")?;
+    }
+    if builder.rows_left() != 0 {
+        return Err("rows left".into());
+    }
+    Ok(builder.finish())
+}
+
+// The worked map under the name g.
+fn worked_shelf(alloc: Global) -> Result<Shelf, Fail> {
+    let map = worked_map(alloc)?;
+    let mut shelf = Shelf::new(alloc, map.region());
+    let name = Name::read(alloc, b"g").map_err(|_| "no name")?;
+    match shelf.add(name, map) {
+        Ok(()) => Ok(shelf),
+        Err(_) => Err("not added".into()),
+    }
+}
+
+fn worked_names(alloc: Global) -> Result<Names, Fail> {
+    let mut names = Names::new(alloc);
+    let name = Name::read(alloc, b"g").map_err(|_| "no name")?;
+    if names.find(name.bytes()).is_none() {
+        names.push(name).map_err(|_| "no memory")?;
+    }
+    Ok(names)
+}
+
+fn expression(alloc: Global, text: &[u8]) -> Result<Expr, Fail> {
+    let mut assignment = b"x = ".to_vec(alloc)?;
+    assignment.extend_from_slice(text)?;
+    if assignment.len() > 65535 {
+        return Err("too long".into());
+    }
+    match parse(alloc, assignment.as_slice()) {
+        Ok(assignment) => Ok(assignment.expr),
+        Err(_) => Err("no assignment".into()),
+    }
+}
+
+// The map of an expression over the worked map.
+fn values(alloc: Global, text: &[u8]) -> Result<CellMap, Fail> {
+    let expr = expression(alloc, text)?;
+    let names = worked_names(alloc)?;
+    let shelf = worked_shelf(alloc)?;
+    let bound = resolve(alloc, &expr, &names).map_err(|_| "unknown map")?;
+    if bound.top() > shelf.len() {
+        return Err("no such map".into());
+    }
+    evaluate(alloc, &bound, &shelf).map_err(|_| "no memory".into())
+}
+
+fn at(map: &CellMap, row: u32, col: u32) -> i32 {
+    let region = map.region();
+    if row < region.rows() && col < region.cols() {
+        return number_of(map.cell(row, col));
+    }
+    NULL
+}
+
+#[test]
+fn expressions_have_one_value_everywhere(rt: HostRuntime) -> Result<(), Fail> {
+    for (text, wanted) in [
+        (b"2147483647 + 1".as_slice(), NULL),
+        (b"2147483647 + 2", NULL),
+        (b"-2147483647 - 1", NULL),
+        (b"1 + 2 * 3 - -4", 11),
+        (b"7 / -2", -3),
+        (b"-7 % 3", -1),
+        (b"5 % 0", NULL),
+        (b"2147483647 + 1 - 1", NULL),
+        (b"1073741824 * -2", NULL),
+        (b"65536 * 65536 * 0", NULL),
+        (b"abs(-2147483647)", 2147483647),
+        (b"-2147483647 / -1", 2147483647),
+        (b"- - 3", 3),
+        (b"if(0, null(), 4)", 4),
+        (b"if(null(), 1, 2)", NULL),
+        (b"if(7)", 1),
+        (b"if(0, 3)", 0),
+        (b"1 < 2 < 3", 1),
+        (b"mode(1,1,null())", NULL),
+        (b"mode(2,1,2,1)", 1),
+        (b"max(3, null())", NULL),
+        (b"nrows() * 100 + ncols()", 304),
+        (b"10 - 4 - 3", 3),
+        (b"!0 + 1", 2),
+        (b"2 < 3 == 1", 1),
+        (b"0 ? 5 : 1 ? 6 : 7", 6),
+        (b"0 &&& null()", 0),
+        (b"1 &&& null()", NULL),
+        (b"null() ||| 5", 1),
+        (b"0 ||| null()", NULL),
+        (b"1 && 0 &&& null()", 0),
+        (b"null() && 0 &&& 0", 0),
+        (b"5 ||| null() && 0", 1),
+        (b"eval(null(), 4)", 4),
+        (b"eval(1, 2, 3)", 3),
+        (b"nmin(null(), 2)", 2),
+        (b"nmin(3, null(), 2)", 2),
+        (b"nmax(null(), -4)", -4),
+        (b"nmode(null(), null())", NULL),
+        (b"nmode(2, null(), 1, 2, 1)", 1),
+        (b"g[255,-255]", NULL),
+    ] {
+        let map = values(rt.alloc(), text)?;
+        let name = text.to_vec(rt.alloc())?;
+        for row in 0..3 {
+            for col in 0..4 {
+                assert_eq!(rt; at(&map, row, col), wanted, "{name:?} {row} {col}");
+            }
+        }
+    }
+    Ok(())
+}
+
+#[test]
+fn unknown_names_are_found(rt: HostRuntime) -> Result<(), Fail> {
+    let alloc = rt.alloc();
+    let names = worked_names(alloc)?;
+    for (text, column) in [
+        (b"g + 1".as_slice(), None),
+        (b"h", Some(5)),
+        (b"g + h[1,0] * k", Some(9)),
+        (b"max(g, if(1, k, h))", Some(18)),
+    ] {
+        let expr = expression(alloc, text)?;
+        assert_eq!(rt; expr.first_unknown(&names), column);
+        let wanted = column.map(|column| CalcFault {
+            kind: CalcKind::UnknownMap,
+            column,
+        });
+        assert_eq!(rt; resolve(alloc, &expr, &names).err(), wanted);
+    }
+    Ok(())
+}

@@ -1,0 +1,13 @@
+-- What is so of all texts.
+use Rattle.std.specs.Prelude.{ℕ, ◌≡◌, List}
+use Rattle.cell_script.specs.Scripts.{IsScript, IsScriptFault}
+use Rattle.cell_script.specs.declared.fault.ScriptFault.{ScriptFault}
+use Rattle.cell_script.specs.declared.statement.Statement.{Statement}
+
+-- a text is a script of one list of statements at most
+abbrev pub OneScript : Type 0
+OneScript = (known : List (List ℕ)) (text : List ℕ) (a b : List Statement) → IsScript known text a → IsScript known text b → a ≡ b
+
+-- a script has no fault
+abbrev pub NoFaultOfAScript : Type 0
+NoFaultOfAScript = (known : List (List ℕ)) (text : List ℕ) (a : List Statement) (fault : ScriptFault) → IsScript known text a → IsScriptFault known text fault → ⊥

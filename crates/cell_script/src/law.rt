@@ -1,0 +1,19 @@
+//! Laws of scripts.
+
+ghost use Rattle.cell_script.specs.ScriptLaw.{OneScript, NoFaultOfAScript};
+
+use cell_language::assignment::one_assignment;
+
+/// A text is a script of one list of statements at most.
+pub fn one_script()
+    ensures { OneScript }
+{
+    one_assignment();
+}
+
+/// A text that is a script has no fault.
+pub fn no_fault_of_a_script()
+    ensures { NoFaultOfAScript }
+{
+    one_assignment();
+}

@@ -1,0 +1,49 @@
+//! The words of r.clump.
+
+ghost use Rattle.std.specs.Prelude.{◌≡◌, ◌≢◌, IfOk, IfErr, Ok, Err, map};
+ghost use Rattle.cell_script.specs.RClump.{joining_of, clump_of};
+ghost use Rattle.cell_script.specs.Scripts.{FitsCommand};
+
+use crate::fault::ScriptKind;
+use crate::options::{Form, Options, options_of};
+use crate::r_reclass::from_to;
+use crate::statement::Command;
+use cell_clump::clump::Joining;
+use cell_core::name::Names;
+use std::alloc::Global;
+
+fn joining_of(options: &Options) -> Joining
+    ensures { result ≡ joining_of options.now }
+{
+    if options.has_flag(b'd') {
+        Joining::EdgesAndCorners
+    } else {
+        Joining::Edges
+    }
+}
+
+/// The areas that the words after r.clump ask for, over known maps.
+///
+/// # Errors
+///
+/// The fault of the first word that has one, then [`ScriptKind::MissingOption`], [`ScriptKind::UnknownMap`] and
+/// [`ScriptKind::MapExists`]; [`ScriptKind::Memory`] where memory was refused.
+pub(crate) fn clump_of(alloc: Global, known: &Names, words: &[&[u8]]) -> Result<Command, ScriptKind>
+    ensures ok { IfOk result (λ command. clump_of known.now (map (λ w. w.now) words.now) ≡ Ok command) }
+    ensures fits { IfOk result (FitsCommand known.now) }
+    ensures err { IfErr result (λ kind. kind ≢ ScriptKind.Memory → clump_of known.now (map (λ w. w.now) words.now) ≡ Err kind) }
+{
+    let options = match options_of(alloc, Form::Clump, words) {
+        Ok(options) => options,
+        Err(kind) => return Err(kind),
+    };
+    let joining = joining_of(&options);
+    match from_to(known, options) {
+        Ok((place, target)) => Ok(Command::Clump {
+            place,
+            target,
+            joining,
+        }),
+        Err(kind) => Err(kind),
+    }
+}

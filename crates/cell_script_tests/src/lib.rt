@@ -1,0 +1,7 @@
+//! Tests of scripts.
+#![tactic(auto)]
+
+#[cfg(test)]
+mod faults;
+#[cfg(test)]
+mod statements;

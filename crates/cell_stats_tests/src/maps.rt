@@ -1,0 +1,92 @@
+//! Maps as lists of categories, row by row from the top left, and shelves of them.
+
+ghost use Rattle.std.specs.Prelude.{◌<◌, ◌≤◌, ◌↔◌, All, IsTrue, length};
+
+use cell_core::cell::Cell;
+use cell_core::map::{CellMap, MapBuilder};
+use cell_core::memory::Memory;
+use cell_core::name::Name;
+use cell_core::region::Region;
+use cell_core::shelf::Shelf;
+use std::alloc::Global;
+use std::test::Fail;
+
+/// What stands for null in a list: the number that is no category.
+pub(crate) const NULL: i32 = i32::MIN;
+
+fn cells_of(alloc: Global, categories: &[i32]) -> Result<Vec<Cell>, Memory> {
+    let mut cells = Vec::new(alloc);
+    for category in categories {
+        cells.push(Cell::value(*category).unwrap_or(Cell::null()))?;
+    }
+    Ok(cells)
+}
+
+/// The map of these categories in rows of so many columns, or None where they fill no map.
+pub(crate) fn map_of(
+    alloc: Global,
+    categories: &[i32],
+    cols: u32,
+) -> Result<Option<CellMap>, Memory>
+    requires { 0 < cols }
+{
+    let rows = u32::try_from(categories.len() / cols as usize).unwrap_or(0);
+    let Ok(region) = Region::new(1, 0, 1, 0, rows, cols) else {
+        return Ok(None);
+    };
+    let mut builder = MapBuilder::new(alloc, region);
+    for row in categories.chunks(cols as usize) {
+        let cells = cells_of(alloc, row)?;
+        if cells.len() as u64 != region.cols() as u64 || builder.rows_left() == 0 {
+            return Ok(None);
+        }
+        builder.push_row(&cells)?;
+    }
+    if builder.rows_left() != 0 {
+        return Ok(None);
+    }
+    Ok(Some(builder.finish()))
+}
+
+/// Puts a map on the shelf.
+pub(crate) fn add(alloc: Global, shelf: &mut Shelf, name: &[u8], map: CellMap) -> Result<(), Fail> {
+    let name = Name::read(alloc, name)?;
+    match shelf.add(name, map) {
+        Ok(()) => Ok(()),
+        Err(_) => Err("the shelf refused a map")?,
+    }
+}
+
+/// The shelf of maps `a`, `b` and so on, of so many columns.
+pub(crate) fn shelf_of(alloc: Global, maps: &[&[i32]], cols: u32) -> Result<Shelf, Fail>
+    requires { 0 < cols }
+{
+    let first = maps.first().ok_or("no map")?;
+    let first = map_of(alloc, *first, cols)?.ok_or("no map")?;
+    let mut shelf = Shelf::new(alloc, first.region());
+    for (name, categories) in [b"a", b"b", b"c"].iter().zip(maps) {
+        let map = map_of(alloc, *categories, cols)?.ok_or("no map")?;
+        add(alloc, &mut shelf, *name, map)?;
+    }
+    Ok(shelf)
+}
+
+// Whether all are places on the shelf.
+fn are_places(shelf: &Shelf, picks: &[usize]) -> bool
+    ensures { IsTrue result ↔ All (λ i. i < length shelf.now.maps) picks.now }
+{
+    let count = shelf.len();
+    picks.iter().all(|i| *i < count)
+}
+
+/// Whether they may be picked: 1 to 16 places on the shelf.
+pub(crate) fn are_picks(shelf: &Shelf, picks: &[usize]) -> bool
+    ensures picked { IsTrue result → All (λ i. i < length shelf.now.maps) picks.now }
+    ensures some { IsTrue result → 0 < length picks.now }
+    ensures few { IsTrue result → length picks.now ≤ 16 }
+{
+    if picks.is_empty() || picks.len() > 16 {
+        return false;
+    }
+    are_places(shelf, picks)
+}

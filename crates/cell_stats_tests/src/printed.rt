@@ -1,0 +1,290 @@
+//! The printed text of tables and cells: worked maps.
+
+use crate::maps::{NULL, add, are_picks, map_of, shelf_of};
+use cell_core::block::Block;
+use cell_core::shelf::Shelf;
+use cell_core::sink::{MemorySink, WriteFault};
+use cell_stats::cells::{CellWalk, write_cells};
+use cell_stats::combination::Combo;
+use cell_stats::format::Format;
+use cell_stats::printing::write_table;
+use cell_stats::skip::Skip;
+use cell_stats::tallying::tally;
+use std::alloc::{AllocGlobal, Global};
+use std::process::Abort;
+use std::test::Fail;
+
+// The map of the worked examples, the same one column to the right, and its areas.
+const G: [i32; 12] = [1, 1, 2, NULL, 1, 2, 2, 2, 3, 3, 1, 1];
+
+const X: [i32; 12] = [1, 2, NULL, NULL, 2, 2, 2, NULL, 3, 1, 1, NULL];
+
+const AREAS: [i32; 12] = [1, 1, 2, NULL, 1, 2, 2, 2, 3, 3, 4, 4];
+
+// What a sink of so much room takes of the table, and whether it failed.
+fn table_in_room(
+    alloc: Global,
+    shelf: &Shelf,
+    picks: &[usize],
+    skip: Skip,
+    format: &Format,
+    after: &[u8],
+    room: usize,
+) -> Result<(Vec<u8>, Result<(), WriteFault>), Fail> {
+    if !are_picks(shelf, picks) {
+        return Err(Fail::from("no picks"));
+    }
+    let table = tally(alloc, shelf, picks, skip)?;
+    let mut out = MemorySink::new(vec![in alloc; 0u8; room]?, 3, false);
+    let mut block = Block::new();
+    let written = if after.is_empty() {
+        write_table(&mut out, &mut block, &table, None, shelf, picks, format)
+    } else {
+        let combo = Combo::read(alloc, after, picks.len())?;
+        write_table(
+            &mut out,
+            &mut block,
+            &table,
+            Some(&combo),
+            shelf,
+            picks,
+            format,
+        )
+    };
+    let ended = match written {
+        Ok(()) => block.empty(&mut out),
+        Err(fault) => Err(fault),
+    };
+    let bytes = Vec::from_slice(alloc, out.bytes())?;
+    Ok((bytes, ended))
+}
+
+// The table's text is the wanted one.
+fn expect_table<R: Abort + AllocGlobal>(
+    rt: &R,
+    shelf: &Shelf,
+    picks: &[usize],
+    skip: Skip,
+    format: &Format,
+    after: &[u8],
+    wanted: &str,
+) -> Result<(), Fail> {
+    let (bytes, ended) = table_in_room(rt.alloc(), shelf, picks, skip, format, after, 4096)?;
+    assert!(rt; ended == Ok(()));
+    assert_eq!(rt; bytes.as_slice(), wanted.as_bytes(), "after {after:?}");
+    Ok(())
+}
+
+// The text of the cells is the wanted one.
+fn expect_cells<R: Abort + AllocGlobal>(
+    rt: &R,
+    shelf: &Shelf,
+    picks: &[usize],
+    skip: Skip,
+    format: &Format,
+    wanted: &str,
+) -> Result<(), Fail> {
+    if !are_picks(shelf, picks) {
+        return Err(Fail::from("no picks"));
+    }
+    let mut out = MemorySink::new(vec![in rt.alloc(); 0u8; 4096]?, 3, false);
+    let mut block = Block::new();
+    let walk = CellWalk::new(rt.alloc(), shelf, picks)?;
+    write_cells(&mut out, &mut block, walk, shelf, picks, skip, format)?;
+    block.empty(&mut out)?;
+    assert_eq!(rt; out.bytes(), wanted.as_bytes());
+    Ok(())
+}
+
+#[test]
+fn tables_of_one_map(rt: HostRuntime) -> Result<(), Fail> {
+    let counts = Format::new(b' ', b"*", false, true);
+    let plain = Format::new(b' ', b"*", false, false);
+    let shelf = shelf_of(rt.alloc(), &[&G], 4)?;
+    expect_table(
+        &rt,
+        &shelf,
+        &[0],
+        Skip::Nothing,
+        &counts,
+        b"",
+        "1 5\n2 4\n3 2\n* 1\n",
+    )?;
+    expect_table(
+        &rt,
+        &shelf,
+        &[0],
+        Skip::AnyNull,
+        &counts,
+        b"",
+        "1 5\n2 4\n3 2\n",
+    )?;
+    expect_table(
+        &rt,
+        &shelf,
+        &[0],
+        Skip::Nothing,
+        &plain,
+        b"",
+        "1\n2\n3\n*\n",
+    )?;
+    expect_table(&rt, &shelf, &[0], Skip::Nothing, &counts, b"*", "")?;
+    let null = shelf_of(rt.alloc(), &[&[NULL]], 1)?;
+    expect_table(&rt, &null, &[0], Skip::Nothing, &counts, b"", "* 1\n")?;
+    expect_table(&rt, &null, &[0], Skip::AnyNull, &counts, b"", "")?;
+    expect_table(&rt, &null, &[0], Skip::AllNull, &counts, b"", "")
+}
+
+#[test]
+fn tables_of_two_maps(rt: HostRuntime) -> Result<(), Fail> {
+    let format = Format::new(b' ', b"*", false, true);
+    let shelf = shelf_of(rt.alloc(), &[&G, &X, &AREAS], 4)?;
+    expect_table(
+        &rt,
+        &shelf,
+        &[0, 0],
+        Skip::Nothing,
+        &format,
+        b"",
+        "1 1 5\n2 2 4\n3 3 2\n* * 1\n",
+    )?;
+    expect_table(
+        &rt,
+        &shelf,
+        &[0, 2],
+        Skip::Nothing,
+        &format,
+        b"",
+        "1 1 3\n1 4 2\n2 2 4\n3 3 2\n* * 1\n",
+    )?;
+    expect_table(
+        &rt,
+        &shelf,
+        &[0, 2],
+        Skip::Nothing,
+        &format,
+        b"1,2",
+        "1 4 2\n2 2 4\n3 3 2\n* * 1\n",
+    )?;
+    expect_table(&rt, &shelf, &[0, 2], Skip::Nothing, &format, b"*,*", "")?;
+    expect_table(
+        &rt,
+        &shelf,
+        &[0, 1],
+        Skip::AnyNull,
+        &format,
+        b"",
+        "1 1 2\n1 2 2\n2 2 2\n3 1 1\n3 3 1\n",
+    )?;
+    expect_table(
+        &rt,
+        &shelf,
+        &[0, 1],
+        Skip::AllNull,
+        &format,
+        b"",
+        "1 1 2\n1 2 2\n1 * 1\n2 2 2\n2 * 2\n3 1 1\n3 3 1\n",
+    )?;
+    let rests: [(&[u8], &str); 10] = [
+        (
+            b"",
+            "1 1 2\n1 2 2\n1 * 1\n2 2 2\n2 * 2\n3 1 1\n3 3 1\n* * 1\n",
+        ),
+        (b"1,1", "1 2 2\n1 * 1\n2 2 2\n2 * 2\n3 1 1\n3 3 1\n* * 1\n"),
+        (b"1,2", "1 * 1\n2 2 2\n2 * 2\n3 1 1\n3 3 1\n* * 1\n"),
+        (b"1,*", "2 2 2\n2 * 2\n3 1 1\n3 3 1\n* * 1\n"),
+        (b"2,1", "2 2 2\n2 * 2\n3 1 1\n3 3 1\n* * 1\n"),
+        (b"2,2", "2 * 2\n3 1 1\n3 3 1\n* * 1\n"),
+        (b"2,*", "3 1 1\n3 3 1\n* * 1\n"),
+        (b"3,1", "3 3 1\n* * 1\n"),
+        (b"3,3", "* * 1\n"),
+        (b"*,*", ""),
+    ];
+    for (after, wanted) in rests {
+        expect_table(&rt, &shelf, &[0, 1], Skip::Nothing, &format, after, wanted)?;
+    }
+    Ok(())
+}
+
+#[test]
+fn labels_and_separators(rt: HostRuntime) -> Result<(), Fail> {
+    let mut shelf = shelf_of(rt.alloc(), &[&[1, 2, 3, 9, NULL]], 5)?;
+    let mut made = map_of(rt.alloc(), &[7, NULL, 7, 9, NULL], 5)?.ok_or("no map")?;
+    made.set_label(7, b"low")?;
+    add(rt.alloc(), &mut shelf, b"r", made)?;
+    let spaced = Format::new(b' ', b"*", true, true);
+    expect_table(
+        &rt,
+        &shelf,
+        &[1],
+        Skip::Nothing,
+        &spaced,
+        b"",
+        "7 low 2\n9  1\n* no data 2\n",
+    )?;
+    let piped = Format::new(b'|', b"NA", true, true);
+    expect_table(
+        &rt,
+        &shelf,
+        &[1, 0],
+        Skip::Nothing,
+        &piped,
+        b"7,1",
+        "7|low|3||1\n9||9||1\nNA|no data|2||1\nNA|no data|NA|no data|1\n",
+    )?;
+    let commas = Format::new(b',', b"NA", false, true);
+    let short = shelf_of(rt.alloc(), &[&[5, NULL, 5]], 3)?;
+    expect_table(
+        &rt,
+        &short,
+        &[0, 0],
+        Skip::Nothing,
+        &commas,
+        b"",
+        "5,5,2\nNA,NA,1\n",
+    )
+}
+
+#[test]
+fn cells_line_by_line(rt: HostRuntime) -> Result<(), Fail> {
+    let format = Format::new(b' ', b"*", false, false);
+    let short = shelf_of(rt.alloc(), &[&[5, NULL, 5]], 3)?;
+    expect_cells(&rt, &short, &[0], Skip::Nothing, &format, "5\n*\n5\n")?;
+    expect_cells(&rt, &short, &[0], Skip::AnyNull, &format, "5\n5\n")?;
+    let shelf = shelf_of(rt.alloc(), &[&[1, 1, 2, NULL], &[1, NULL, NULL, NULL]], 2)?;
+    expect_cells(
+        &rt,
+        &shelf,
+        &[0, 1],
+        Skip::Nothing,
+        &format,
+        "1 1\n1 *\n2 *\n* *\n",
+    )?;
+    expect_cells(
+        &rt,
+        &shelf,
+        &[0, 1],
+        Skip::AllNull,
+        &format,
+        "1 1\n1 *\n2 *\n",
+    )?;
+    let labels = Format::new(b'|', b"NA", true, true);
+    expect_cells(
+        &rt,
+        &shelf,
+        &[1],
+        Skip::Nothing,
+        &labels,
+        "1|\nNA|no data\nNA|no data\nNA|no data\n",
+    )
+}
+
+#[test]
+fn sink_without_room(rt: HostRuntime) -> Result<(), Fail> {
+    let format = Format::new(b' ', b"*", false, true);
+    let shelf = shelf_of(rt.alloc(), &[&G], 4)?;
+    let (bytes, ended) = table_in_room(rt.alloc(), &shelf, &[0], Skip::Nothing, &format, b"", 5)?;
+    assert_eq!(rt; bytes.as_slice(), b"1 5\n2".as_slice());
+    assert!(rt; ended == Err(WriteFault { written: 5 }));
+    Ok(())
+}

@@ -1,0 +1,85 @@
+//! What is counted: many maps, and very many combinations.
+
+use crate::maps::{NULL, are_picks, shelf_of};
+use cell_core::shelf::Shelf;
+use cell_stats::combination::Combo;
+use cell_stats::reading::ComboFault;
+use cell_stats::skip::Skip;
+use cell_stats::table::Table;
+use cell_stats::tallying::tally;
+use std::alloc::{AllocGlobal, Global};
+use std::test::Fail;
+
+fn table_of(alloc: Global, shelf: &Shelf, picks: &[usize]) -> Result<Table, Fail> {
+    if !are_picks(shelf, picks) {
+        return Err(Fail::from("no picks"));
+    }
+    Ok(tally(alloc, shelf, picks, Skip::Nothing)?)
+}
+
+// The two categories of a combination that a text spells.
+fn pair_of(alloc: Global, text: &[u8]) -> Result<[i32; 2], ComboFault> {
+    let combo = Combo::read(alloc, text, 2)?;
+    if combo.len() != 2 {
+        return Err(ComboFault::BadWidth);
+    }
+    let first = combo.get(0).get().unwrap_or(NULL);
+    let second = combo.get(1).get().unwrap_or(NULL);
+    Ok([first, second])
+}
+
+#[test]
+fn texts_of_combinations(rt: HostRuntime) -> Result<(), Fail> {
+    let cases: [(&[u8], Result<[i32; 2], ComboFault>); 12] = [
+        (b"1,*", Ok([1, NULL])),
+        (b"*,*", Ok([NULL, NULL])),
+        (b"-2147483647,+007", Ok([-2147483647, 7])),
+        (b"1,x", Err(ComboFault::BadCombo)),
+        (b"1", Err(ComboFault::BadWidth)),
+        (b"1,2,3", Err(ComboFault::BadWidth)),
+        (b"1,2,x", Err(ComboFault::BadCombo)),
+        (b"1,-2147483648", Err(ComboFault::BadCombo)),
+        (b"1,2147483648", Err(ComboFault::BadCombo)),
+        (b"", Err(ComboFault::BadCombo)),
+        (b"1,", Err(ComboFault::BadCombo)),
+        (b"1, 2", Err(ComboFault::BadCombo)),
+    ];
+    for (text, want) in cases {
+        assert_eq!(rt; pair_of(rt.alloc(), text), want, "{text:?}");
+    }
+    Ok(())
+}
+
+#[test]
+fn sixteen_picks_of_one_map(rt: HostRuntime) -> Result<(), Fail> {
+    let shelf = shelf_of(rt.alloc(), &[&[5, NULL, 5, -3]], 2)?;
+    let table = table_of(rt.alloc(), &shelf, &[0; 16])?;
+    assert!(rt; table.width() == 16);
+    let wanted: [(i32, u64); 3] = [(-3, 1), (5, 2), (NULL, 1)];
+    assert!(rt; table.len() == wanted.len());
+    for (entry, (category, count)) in table.all().zip(wanted) {
+        assert!(rt; entry.count == count && entry.combo.len() == 16);
+        for i in 0..entry.combo.len() {
+            assert_eq!(rt; entry.combo.get(i).get().unwrap_or(NULL), category);
+        }
+    }
+    Ok(())
+}
+
+#[test]
+fn each_cell_another_combination(rt: HostRuntime) -> Result<(), Fail> {
+    let mut falling = Vec::new(rt.alloc());
+    for i in 0..200000i32 {
+        falling.push(199999i32.wrapping_sub(i))?;
+    }
+    let shelf = shelf_of(rt.alloc(), &[&falling], 500)?;
+    let table = table_of(rt.alloc(), &shelf, &[0])?;
+    assert!(rt; table.len() == 200000);
+    for (entry, category) in table.all().zip(0..200000i32) {
+        assert!(rt; entry.count == 1 && entry.combo.len() == 1);
+        if entry.combo.len() == 1 {
+            assert!(rt; entry.combo.get(0).get() == Some(category));
+        }
+    }
+    Ok(())
+}

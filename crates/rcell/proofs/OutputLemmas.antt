@@ -1,0 +1,117 @@
+-- One shelf after each command, one output, and outputs that join.
+use Rattle.std.proofs.Common.{◌≡◌, ℕ, ◌<◌, [], ◌∷◌, ◌++◌, List, Option, Some, None, length, get_or, refl, ap, sym, ◌∙◌, arith, subst, append_assoc}
+use Rattle.std.specs.Prelude.{slice_get}
+use Rattle.std.specs.FinMap as finmap
+use Rattle.std.specs.Ordering.{int_cmp}
+use Rattle.std.proofs.lemmas.List.{get_or_default, same_lists}
+use Rattle.std.proofs.lemmas.List.Elements.{All-get_or}
+use Rattle.cell_calc.specs.Formula.{Formula}
+use Rattle.cell_clump.specs.ClumpLaw.{ClumpingIsOne}
+use Rattle.cell_clump.specs.declared.clump.Joining.{Joining}
+use Rattle.cell_core.specs.Grid.{Grid, CellValue, IsFilled, cell_at}
+use Rattle.cell_core.specs.Region.{RegionValue}
+use Rattle.cell_core.specs.Shelf.{ShelfValue}
+use Rattle.cell_script.specs.declared.statement.Command.{Command}
+use Rattle.cell_script.specs.declared.statement.Command.TheVariants.{Mapcalc, Reclass, Clump, Stats, OutAscii}
+use Rattle.cell_script.specs.declared.statement.Statement.{Statement}
+use Rattle.rcell.specs.Making.{AreValues, AreNumbers, IsOfMap, IsAfter, with_map}
+use Rattle.rcell.specs.Output.{Executes, command_text}
+use Rattle.rcell.specs.OutputLaw.{OneOutput, PartsJoin}
+
+-- maps of one region, of which each cell is the same, have the same rows
+same_rows : (a b : Grid) → IsFilled a.region a.rows → IsFilled b.region b.rows → a.region ≡ b.region → ((r c : ℕ) → r < a.region.rows → c < a.region.cols → cell_at a r c ≡ cell_at b r c) → a.rows ≡ b.rows
+same_rows a b a_filled b_filled region cells =
+    let a_count = a_filled.count in
+    let b_count = b_filled.count in
+    let rows : a.region.rows ≡ b.region.rows = ap (λ (r : RegionValue). r.rows) region in
+    let cols : a.region.cols ≡ b.region.cols = ap (λ (r : RegionValue). r.cols) region in
+    same_lists a.rows b.rows (omega arith)
+    (λ r d lt.
+    let r_lt : r < length b.rows = omega arith in
+    let a_wide : length (get_or a.rows r []) ≡ a.region.cols = All-get_or (λ xs. length xs ≡ a.region.cols) a.rows r [] lt a_filled.width in
+    let b_wide : length (get_or b.rows r []) ≡ b.region.cols = All-get_or (λ xs. length xs ≡ b.region.cols) b.rows r [] r_lt b_filled.width in
+    get_or_default a.rows r d [] lt
+    ∙ same_lists (get_or a.rows r []) (get_or b.rows r []) (omega arith)
+    (λ c e c_lt. get_or_default (get_or a.rows r []) c e None c_lt ∙ cells r c (omega arith) (omega arith) ∙ get_or_default (get_or b.rows r []) c None e (omega arith))
+    ∙ get_or_default b.rows r [] d r_lt)
+
+same_grid : (a b : Grid) → a.region ≡ b.region → a.rows ≡ b.rows → a.labels ≡ b.labels → a ≡ b
+same_grid a b region rows labels =
+    let first : a ≡ record a { region = b.region } = ap (λ (r : RegionValue). record a { region = r }) region in
+    let second : record a { region = b.region } ≡ record b { labels = a.labels } = ap (λ (rs : List (List CellValue)). record { region = b.region; rows = rs; labels = a.labels }) rows in
+    first ∙ second ∙ ap (λ (l : finmap.FinMap int_cmp (List ℕ)). record b { labels = l }) labels
+
+-- an expression has one map of values
+AreValues-one : (bound : Formula) (shelf : ShelfValue) (a b : Grid) → AreValues bound shelf a → AreValues bound shelf b → a ≡ b
+AreValues-one bound shelf a b one other =
+    let region : a.region ≡ b.region = one.region ∙ sym other.region in
+    let rows : a.region.rows ≡ shelf.region.rows = ap (λ (r : RegionValue). r.rows) one.region in
+    let cols : a.region.cols ≡ shelf.region.cols = ap (λ (r : RegionValue). r.cols) one.region in
+    same_grid a b region
+    (same_rows a b one.filled other.filled region (λ r c r_lt c_lt. one.cells r c (omega arith) (omega arith) ∙ sym (other.cells r c (omega arith) (omega arith))))
+    (one.labels ∙ sym other.labels)
+
+one_of_map : (f : Grid → ShelfValue) (m : Option Grid) (a b : ShelfValue) → IsOfMap (λ m. a ≡ f m) m → IsOfMap (λ m. b ≡ f m) m → a ≡ b
+one_of_map f None a b one other = absurd one
+one_of_map f (Some m) a b one other = one ∙ sym other
+
+module _ (law : ClumpingIsOne) where
+  one_numbering : (joining : Joining) (m : Option Grid) (a b : Grid) → IsOfMap (λ m. AreNumbers joining m a) m → IsOfMap (λ m. AreNumbers joining m b) m → a ≡ b
+  one_numbering joining None a b one other = absurd one
+  one_numbering joining (Some m) a b one other = law joining m a b one.filled other.filled one.clumping other.clumping
+
+  -- a command leaves one shelf
+  pub IsAfter-one : (shelf : ShelfValue) (command : Command) (a b : ShelfValue) → IsAfter shelf command a → IsAfter shelf command b → a ≡ b
+  IsAfter-one shelf (Mapcalc target bound) a b one other =
+      one.1.1 ∙ ap (λ m. with_map shelf target m) (AreValues-one bound shelf one.0 other.0 one.1.0 other.1.0) ∙ sym other.1.1
+  IsAfter-one shelf (Reclass place target rules) a b one other = one_of_map _ (slice_get shelf.maps place) a b one other
+  IsAfter-one shelf (Clump place target joining) a b one other =
+      one.1.1 ∙ ap (λ m. with_map shelf target m) (one_numbering joining (slice_get shelf.maps place) one.0 other.0 one.1.0 other.1.0) ∙ sym other.1.1
+  IsAfter-one shelf (Stats places options) a b one other = one ∙ sym other
+  IsAfter-one shelf (OutAscii place null_text) a b one other = one ∙ sym other
+
+  -- statements write one text
+  Executes-one : (statements : List Statement) (shelf : ShelfValue) (a b : List ℕ) (one_after other_after : ShelfValue) → Executes shelf statements a one_after → Executes shelf statements b other_after → a ≡ b
+  Executes-one [] shelf a b one_after other_after one other = one.0 ∙ sym other.0
+  Executes-one (s ∷ ss) shelf a b one_after other_after one other =
+      let next : one.0 ≡ other.0 = IsAfter-one shelf s.command one.0 other.0 one.1.1.0 other.1.1.0 in
+      let rest : one.1.0 ≡ other.1.0 =
+      Executes-one ss other.0 one.1.0 other.1.0 one_after other_after (subst (λ (n : ShelfValue). Executes n ss one.1.0 one_after) next one.1.1.1.0) other.1.1.1.0 in
+      one.1.1.1.1 ∙ ap (λ t. command_text shelf s.command ++ t) rest ∙ sym other.1.1.1.1
+
+  pub one_output : OneOutput
+  one_output shelf statements a b one other = Executes-one statements shelf a b one.0 other.0 one.1 other.1
+
+-- one part, and then another
+pub Executes-append : (first second : List Statement) (shelf between after : ShelfValue) (one other : List ℕ) → Executes shelf first one between → Executes between second other after
+    → Executes shelf (first ++ second) (one ++ other) after
+Executes-append [] second shelf between after one other x y =
+    subst (λ (t : List ℕ). Executes shelf second (t ++ other) after) (sym x.0) (subst (λ (s : ShelfValue). Executes s second other after) x.1 y)
+Executes-append (s ∷ ss) second shelf between after one other x y =
+    (x.0, (x.1.0 ++ other, (x.1.1.0, (Executes-append ss second x.0 between after x.1.0 other x.1.1.1.0 y, ap (λ t. t ++ other) x.1.1.1.1 ∙ append_assoc (command_text shelf s.command) x.1.0 other))))
+
+-- the same of the whole
+abbrev pub Parts : (first second : List Statement) → ShelfValue → List ℕ → ShelfValue → Type 0
+Parts first second shelf text after = (between : ShelfValue) × ((one other : List ℕ) × (Executes shelf first one between × (Executes between second other after × (text ≡ one ++ other))))
+
+Executes-split : (first second : List Statement) (shelf after : ShelfValue) (text : List ℕ) → Executes shelf (first ++ second) text after → Parts first second shelf text after
+Executes-split [] second shelf after text x = (shelf, ([], text, ((refl, refl), (x, refl))))
+Executes-split (s ∷ ss) second shelf after text x =
+    let y = Executes-split ss second x.0 after x.1.0 x.1.1.1.0 in (
+      y.0,
+      (
+        command_text shelf s.command ++ y.1.0,
+        y.1.1,
+        (
+          (x.0, (y.1.0, (x.1.1.0, (y.1.2.0, refl)))),
+          (y.1.2.1.0, x.1.1.1.1 ∙ ap (λ t. command_text shelf s.command ++ t) y.1.2.1.1 ∙ sym (append_assoc (command_text shelf s.command) y.1.0 y.1.1)),
+        ),
+      ),
+    )
+
+pub parts_join : PartsJoin
+parts_join shelf first second text after = (
+  λ x. Executes-split first second shelf after text x,
+  λ y.
+      subst (λ (t : List ℕ). Executes shelf (first ++ second) t after) (sym y.1.2.1.1) (Executes-append first second shelf y.0 after y.1.0 y.1.1 y.1.2.0 y.1.2.1.0),
+)

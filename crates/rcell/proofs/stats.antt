@@ -1,4 +1,0 @@
-pub mod OrderLemmas
-pub mod PutLemmas
-pub mod TableLemmas
-pub mod CellLemmas

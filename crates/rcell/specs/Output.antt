@@ -1,0 +1,49 @@
+-- What the statements of a script write (r.stats and r.out.ascii manuals), one after another (profile).
+use Rattle.std.specs.Prelude.{ℕ, ◌≡◌, List, [], ◌∷◌, ◌++◌, slice_get, if◌then◌else◌}
+use Rattle.std.specs.Option.{option_map_or}
+use Rattle.cell_ascii.specs.Writing.{grid_text}
+use Rattle.cell_core.specs.Shelf.{ShelfValue}
+use Rattle.cell_script.specs.declared.statement.Command.{Command}
+use Rattle.cell_script.specs.declared.statement.Command.TheVariants.{Mapcalc, Reclass, Clump, Stats, OutAscii}
+use Rattle.cell_script.specs.declared.statement.Statement.{Statement}
+use Rattle.cell_script.specs.declared.statement.StatsOptions.{StatsOptions}
+use Rattle.cell_stats.specs.Combinations.{Combination, all_combinations}
+use Rattle.cell_stats.specs.TableText.{FormatValue, table_text, printed_pairs, cells_text}
+use Rattle.cell_stats.specs.Tables.{table_of}
+use Rattle.rcell.specs.Making.{IsAfter}
+
+-- the combinations of all cells of the maps at the places
+abbrev pub combinations_of : ShelfValue → List ℕ → List Combination
+combinations_of shelf places = all_combinations shelf.maps places shelf.region.rows shelf.region.cols
+
+-- how r.stats prints
+abbrev pub format_of : StatsOptions → FormatValue
+format_of options = record { separator = options.separator; null_text = options.null_text; labels = options.labels; counts = options.counts }
+
+-- r.stats: a line for each cell, or for each entry of the table or of its rest
+abbrev pub stats_text : ShelfValue → List ℕ → StatsOptions → List ℕ
+stats_text shelf places options =
+    if options.cells then cells_text (format_of options) options.skip shelf.maps places shelf.region.rows shelf.region.cols
+    else table_text (format_of options) shelf.maps places (printed_pairs options.after (table_of options.skip (combinations_of shelf places)))
+
+-- r.out.ascii: the grid text of the map at a place, nothing where there is none
+abbrev pub out_ascii_text : ShelfValue → ℕ → List ℕ → List ℕ
+out_ascii_text shelf place null_text = option_map_or (grid_text null_text) (slice_get shelf.maps place) []
+
+-- what a command writes over a shelf; those that make maps write nothing
+abbrev pub command_text : ShelfValue → Command → List ℕ
+command_text shelf (Mapcalc target bound) = []
+command_text shelf (Reclass place target rules) = []
+command_text shelf (Clump place target joining) = []
+command_text shelf (Stats places options) = stats_text shelf places options
+command_text shelf (OutAscii place null_text) = out_ascii_text shelf place null_text
+
+-- statements over a shelf write the text and leave the other shelf: each writes over the shelf that those before it left
+abbrev pub Executes : ShelfValue → List Statement → List ℕ → ShelfValue → Type 0
+Executes shelf [] text after = (text ≡ []) × (after ≡ shelf)
+Executes shelf (s ∷ ss) text after =
+    (next : ShelfValue) × ((rest : List ℕ) × (IsAfter shelf s.command next × (Executes next ss rest after × (text ≡ command_text shelf s.command ++ rest))))
+
+-- the output of statements over a shelf
+abbrev pub IsOutput : ShelfValue → List Statement → List ℕ → Type 0
+IsOutput shelf statements text = (after : ShelfValue) × Executes shelf statements text after

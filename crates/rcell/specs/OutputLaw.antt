@@ -1,0 +1,15 @@
+-- The output of a script: there is one, and the outputs of its parts join.
+use Rattle.std.specs.Prelude.{ℕ, ◌≡◌, ◌↔◌, List, ◌++◌}
+use Rattle.cell_core.specs.Shelf.{ShelfValue}
+use Rattle.cell_script.specs.declared.statement.Statement.{Statement}
+use Rattle.rcell.specs.Output.{Executes, IsOutput}
+
+-- statements over a shelf have one output
+abbrev pub OneOutput : Type 0
+OneOutput = (shelf : ShelfValue) (statements : List Statement) (a b : List ℕ) → IsOutput shelf statements a → IsOutput shelf statements b → a ≡ b
+
+-- a script is executed where its first part is, and then its second over the shelf that the first left; the outputs join
+abbrev pub PartsJoin : Type 0
+PartsJoin = (shelf : ShelfValue) (first second : List Statement) (text : List ℕ) (after : ShelfValue)
+    → Executes shelf (first ++ second) text after
+    ↔ ((between : ShelfValue) × ((one other : List ℕ) × (Executes shelf first one between × (Executes between second other after × (text ≡ one ++ other)))))

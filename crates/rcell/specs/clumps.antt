@@ -1,3 +1,0 @@
--- The numbering of a map's areas.
-pub mod Clumping
-pub mod Numbers

@@ -1,3 +1,0 @@
-//! The text that a run puts out.
-
-pub mod text;
