@@ -2,3 +2,4 @@ pub mod AcceptedLemmas
 pub mod ExecutionLemmas
 pub mod LoadingLemmas
 pub mod TextLemmas
+pub mod WrittenLemmas

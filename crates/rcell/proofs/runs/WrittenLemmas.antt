@@ -1,0 +1,67 @@
+-- What is read is written, where memory lasts and the sink takes everything.
+use Rattle.std.proofs.Common.{◌≡◌, ℕ, Bool, true, false, List, Option, Some, None, Result, Ok, Err, refl, ap, sym, ◌∙◌, subst}
+use Rattle.std.specs.Prelude.{IsNone, IfSome}
+use Rattle.std.proofs.lemmas.Bool.{true≢false}
+use Rattle.cell_core.specs.Device.{Coming}
+use Rattle.cell_core.specs.Shelf.{ShelfValue}
+use Rattle.cell_script.specs.declared.statement.Statement.{Statement}
+use Rattle.rcell.specs.runs.Faults.{IsOfInput, IsOfMemory, IsBeforeExecution, IsInExecution, status_after}
+use Rattle.rcell.specs.runs.Loading.{shelf_of}
+use Rattle.rcell.specs.runs.Outcomes.{Reads, IsRead, IsDone, Writes}
+use Rattle.rcell.specs.runs.Sources.{Named}
+use Rattle.rcell.specs.declared.runs.outcome.Outcome.{Outcome}
+use Rattle.rcell.specs.declared.runs.outcome.RunFault.{RunFault}
+use Rattle.rcell.specs.declared.runs.outcome.RunFault.TheVariants.{GridTwice, GridRegion, Grid, ScriptRead, ScriptSize, Script, Memory, Write}
+
+-- a fault before execution that is not of memory is of the input
+input_unless_memory : (f : RunFault) → IsBeforeExecution f → (IsOfMemory f → ⊥) → IsOfInput f
+input_unless_memory (GridTwice grid) early bad = tt
+input_unless_memory (GridRegion grid) early bad = tt
+input_unless_memory (Grid grid fault) early bad = bad
+input_unless_memory ScriptRead early bad = tt
+input_unless_memory ScriptSize early bad = tt
+input_unless_memory (Script fault) early bad = bad
+input_unless_memory (Memory line) early bad = absurd (bad tt)
+input_unless_memory Write early bad = absurd early
+
+-- what was written in execution, where memory lasted and the sink took everything
+written : (shelf : ShelfValue) (statements : List Statement) (before now : Option (List ℕ)) (failed : Bool) (outcome : Outcome)
+    → (IsNone outcome.fault → IsDone shelf statements before now outcome.written) → IfSome outcome.fault IsInExecution → outcome.status ≡ status_after outcome.fault
+    → (outcome.fault ≡ Some Write → failed ≡ true) → Writes shelf statements before now failed outcome
+written shelf statements before now failed outcome done late status write = by outcome.fault refl
+  where
+    by : (f : Option RunFault) → outcome.fault ≡ f → Writes shelf statements before now failed outcome
+    by None e = λ memory good. (rw e at status, (e, done (rw e refl)))
+    by (Some (Memory line)) e = λ memory good. absurd (let bad : IfSome (Some (Memory line)) (λ f. IsOfMemory f → ⊥) = rw e at memory in bad tt)
+    by (Some Write) e = λ memory good. absurd (true≢false (sym (write e) ∙ good))
+    by (Some (GridTwice grid)) e = absurd (let bad : IfSome (Some (GridTwice grid)) IsInExecution = rw e at late in bad)
+    by (Some (GridRegion grid)) e = absurd (let bad : IfSome (Some (GridRegion grid)) IsInExecution = rw e at late in bad)
+    by (Some (Grid grid fault)) e = absurd (let bad : IfSome (Some (Grid grid fault)) IsInExecution = rw e at late in bad)
+    by (Some ScriptRead) e = absurd (let bad : IfSome (Some ScriptRead) IsInExecution = rw e at late in bad)
+    by (Some ScriptSize) e = absurd (let bad : IfSome (Some ScriptSize) IsInExecution = rw e at late in bad)
+    by (Some (Script fault)) e = absurd (let bad : IfSome (Some (Script fault)) IsInExecution = rw e at late in bad)
+
+abbrev loaded_or : ShelfValue → Result (Option ShelfValue) RunFault → ShelfValue
+loaded_or other (Ok (Some shelf)) = shelf
+loaded_or other (Ok None) = other
+loaded_or other (Err fault) = other
+
+module _ (grids : List Named) (script : Coming) (loaded : ShelfValue) (is_loaded : shelf_of grids ≡ Ok (Some loaded)) (shelf : ShelfValue) (statements : List Statement) (read : IsRead grids script shelf statements)
+    (before now : Option (List ℕ)) (failed : Bool) (outcome : Outcome) where
+  one_shelf : loaded ≡ shelf
+  one_shelf = ap (loaded_or loaded) (sym is_loaded ∙ read.loaded)
+
+  reads : Reads loaded.names script statements
+  reads = subst (λ (s : ShelfValue). Reads s.names script statements) (sym one_shelf) read.reads
+
+  -- what was read was executed
+  pub read_written : (found : List Statement) → ((ss : List Statement) → Reads loaded.names script ss → found ≡ ss) → (IsNone outcome.fault → IsDone loaded found before now outcome.written)
+      → IfSome outcome.fault IsInExecution → outcome.status ≡ status_after outcome.fault → (outcome.fault ≡ Some Write → failed ≡ true) → Writes shelf statements before now failed outcome
+  read_written found only done late status write =
+      subst (λ (s : ShelfValue). Writes s statements before now failed outcome) one_shelf
+      (subst (λ (ss : List Statement). Writes loaded ss before now failed outcome) (only statements reads) (written loaded found before now failed outcome done late status write))
+
+  -- what can be read is refused only for want of memory
+  pub read_refused : (f : RunFault) → outcome.fault ≡ Some f → IsBeforeExecution f → ((ss : List Statement) → Reads loaded.names script ss → IsOfInput f → ⊥) → Writes shelf statements before now failed outcome
+  read_refused f is early none = λ memory good.
+      absurd (none statements reads (input_unless_memory f early (let bad : IfSome (Some f) (λ f. IsOfMemory f → ⊥) = rw is at memory in bad)))
