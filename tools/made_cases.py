@@ -5,20 +5,41 @@ import random
 from dataclasses import dataclass
 
 NAMES = [b"a", b"b", b"g", b"_x.1", b"script", b"N" * 64]
-MADE_NAMES = [b"c", b"d", b"e1", b"if", b"r", b"x", b"y", b"_", b"thru"]
-WRONG_NAMES = [b"", b"1a", b"a-b", b"h", b"unknown", b"A" * 65, b"a,b", b"*", b"a=b", b"\xff", b"a@b"]
+MADE_NAMES = b"c d e1 if r x y _ thru m0 m1 m2 m3 m4 m5 m6 m7 m8 m9".split()
+WRONG_NAMES = [b"", b"A" * 65, *b"1a a-b h unknown a,b * a=b \xff a@b".split()]
 CATEGORIES = [1, 1, 1, 2, 2, 3, 0, -1, 5, 10, 65536, 2147483647, -2147483647]
 NUMBERS = [0, 1, 1, 2, 2, 3, 4, 7, 10, 46341, 65536, 1073741824, 2147483646, 2147483647]
-WRONG_NUMBERS = [b"2147483648", b"-2147483648", b"1.5", b"x", b"1x", b"-", b"+", b"1e3", b"", b"*", b"99999999999999999999"]
+WRONG_NUMBERS = [b"", *b"2147483648 -2147483648 1.5 x 1x - + 1e3 * 99999999999999999999".split()]
 LABELS = [b"low", b"b", b"two words", b"=", b"# no", b"a\tb", b"no data", b"l\xc3\xa4nge", b"\xff|", b"5", b"end"]
-ODD_BYTES = [b" ", b"\t", b"\r", b"\n", b"\r\n", b":", b"*", b"-", b"+", b"=", b",", b".", b"#", b"0", b"9", b"a", b"\x00", b"\x0b",
-             b"\xff", b"&", b"|", b"[", b")", b"(", b"?", b"end\n", b" thru ", b"1", b"65536", b"\n\n"]
-OPERATORS = [b"+", b"-", b"*", b"/", b"%", b"<", b"<=", b">", b">=", b"==", b"!=", b"&&", b"||", b"&&&", b"|||"]
+
+# What is put into texts to spoil them.
+ODD_BYTES = b": * - + = , . # 0 9 a \x00 \xff & | [ ) ( ? 1 65536".split() + [b" ", b"\t", b"\r", b"\n", b"\r\n", b"\n\n", b"\x0b"]
+ODD_BYTES += [b"end\n", b" thru "]
+ODD_COORDINATES = [b"", b"1 2", *b"1e5 . 12345678901 1.123456789 - 3N 0:0:1 00000000000".split()]
+ODD_HEADER_LINES = [(b"rows", b"2"), (b"colour", b"1"), (b"", b"3"), (b"North", b"3")]
+ODD_CELLS = WRONG_NUMBERS + [b"9" * 64, b"0" * 63 + b"1", b"1" * 65, *b"a:b 2147483647 null -0 1,2".split()]
+ODD_GRIDS = [b"", b"\n", b" ", b"1 2 3", b"north: 3", b"\r\n\r\n"]
+ODD_OFFSETS = [offset.split() for offset in (b"256", b"- 256", b"- - 1", b"a", b"2147483648", b"+ 300", b"( 1 )")]
+ODD_OPTIONS = b"""- -x --c -c=1 colour=1 input = =3 input=a -cc after=1 -d output=new null_value=: separator= INPUT=a -1 #
+    null_value=\x7f""".split()
+ODD_SEPARATORS = [b"", b"newline", b"ab", b"\x80", b"Comma"]
+ODD_NULL_VALUES = [b"", b"x" * 65, b"\xff", b"a:b", b":"]
+ODD_ITEMS = [b"", b"thru", b"1 thru", b"thru 1", b"*", b"1 thru thru", b"1 thru 2 thru 3", b"NULL", b"x", b"1-3"]
+ODD_ITEMS += [b"2147483648", b"* thru 2"]
+ODD_RULES = [b"end,", b"end = 5", b"1", b"=", b"1 =", b"= 5", b"1 = thru", b"1 = *", b",# x", b"1 = x y", b"x = thru"]
+ODD_RULES += [b"1 = 2=3", b",=1", b"1 = 5,6", b"END", b"r.stats -c input=a", b"1 = 2147483648", b"* * = 1", b"x = 1"]
+ODD_RULES += [b"1 = -2147483648", b"1 thru x =", b"* = NULL x"]
+ODD_STATEMENTS = [b"r.what input=a", b"R.STATS input=a", b"r.mapcalc", b"r.stats", b"end", b"-c", b"r.clump", b"=", b"\x00"]
+ODD_STATEMENTS += [b"r.mapcalcx=1", b"r.mapcalc x", b"r.out.ascii", b"r.reclass", b"r.stats,input=a", b"1 = 2"]
+ODD_STATEMENTS += [b"r.mapcalc x == 1", b"r.mapcalc foo(1) = 2"]
+
+OPERATORS = b"+ - * / % < <= > >= == != && || &&& |||".split()
 ARGUMENTS = {b"if": (1, 3), b"isnull": (1, 1), b"null": (0, 0), b"abs": (1, 1), b"min": (2, 4), b"max": (2, 4),
              b"mode": (2, 6), b"row": (0, 0), b"col": (0, 0), b"nrows": (0, 0), b"ncols": (0, 0), b"eval": (1, 3),
              b"nmin": (2, 4), b"nmax": (2, 4), b"nmode": (2, 6)}
-ODD_TOKENS = OPERATORS + [b"=", b"?", b":", b"(", b")", b"[", b"]", b",", b"1", b"a", b"&", b"|", b"&&&&", b"!", b"1.5", b".", b"2a",
-                          b"1e2", b"^", b"@", b"null(", b"min(1)", b"foo(", b"a[256,0]", b"a[0,-256]", b"2147483648", b"\xff", b"n" * 65]
+WRONG_FUNCTIONS = b"foo a median xor IF nmedian".split()
+ODD_TOKENS = OPERATORS + b"""= ? : ( ) [ ] , 1 a & | &&&& ! 1.5 . 2a 1e2 ^ @ null( min(1) foo( a[256,0] a[0,-256] 2147483648
+    \xff""".split() + [b"n" * 65]
 
 
 @dataclass
@@ -38,6 +59,8 @@ class Maker:
         self.random = random_source
         self.badness = 0.0
         self.rows, self.cols = self.number(1, 6), self.number(1, 6)
+        if self.chance(0.02):
+            self.rows, self.cols = self.one([(1, self.number(7, 300)), (self.number(7, 40), self.number(1, 6)), (9, 9)])
         self.categories = self.random.sample(CATEGORIES, self.number(1, 5))
 
     def number(self, least: int, most: int) -> int:
@@ -88,13 +111,14 @@ class GridMaker(Maker):
 
     def coordinate(self, whole: int, fraction: bytes) -> bytes:
         if self.slips():
-            return self.one([b"1e5", b".", b"12345678901", b"1.123456789", b"-", b"3N", b"0:0:1", b"", b"1 2", b"00000000000"])
+            return self.one(ODD_COORDINATES)
         digits = b"%d" % abs(whole)
         digits = self.one([digits, digits, b"0" * (10 - len(digits)) + digits])
         sign = b"-" if whole < 0 else self.one([b"", b"", b"+"] + ([b"-"] if whole == 0 and not fraction else []))
         if not fraction:
             return sign + digits + self.one([b"", b"", b".", b".0", b".00000000"])
-        return sign + (b"" if whole == 0 and self.chance(0.5) else digits) + b"." + fraction + b"0" * self.number(0, 8 - len(fraction))
+        before_point = b"" if whole == 0 and self.chance(0.5) else digits
+        return sign + before_point + b"." + fraction + b"0" * self.number(0, 8 - len(fraction))
 
     def header_lines(self, null_text: bytes, multiplier: int) -> list[bytes]:
         rows, cols = self.rows, self.cols
@@ -102,7 +126,8 @@ class GridMaker(Maker):
         if self.chance(0.01):
             edges[self.number(0, 3)] += self.one([1, -1, 5, -20])
         if self.chance(0.01):
-            rows, cols = self.one([(rows + 1, cols), (0, cols), (-1, cols), (65536, 1), (1, 65536), (65535, 65535), (cols, rows)])
+            sizes = [(rows + 1, cols), (0, cols), (-1, cols), (65536, 1), (1, 65536), (65535, 65535), (cols, rows)]
+            rows, cols = self.one(sizes)
         lines = [(key, self.coordinate(edge, fraction))
                  for key, edge, fraction in zip((b"north", b"south", b"east", b"west"), edges, self.fractions)]
         lines += [(b"rows", self.whole(rows)), (b"cols", self.whole(cols))]
@@ -115,7 +140,7 @@ class GridMaker(Maker):
         if self.chance(0.5):
             self.random.shuffle(lines)
         if self.slips():
-            lines.insert(self.number(0, len(lines)), self.one(lines + [(b"rows", b"2"), (b"colour", b"1"), (b"", b"3"), (b"North", b"3")]))
+            lines.insert(self.number(0, len(lines)), self.one(lines + ODD_HEADER_LINES))
         if self.slips():
             lines.pop(self.number(0, len(lines) - 1))
         return [self.header_line(key, value) for key, value in lines]
@@ -131,7 +156,7 @@ class GridMaker(Maker):
 
     def cell(self, null_text: bytes, multiplier: int) -> bytes:
         if self.slips():
-            return self.one(WRONG_NUMBERS + [b"9" * 64, b"0" * 63 + b"1", b"1" * 65, b"a:b", b"2147483647", b"null", b"-0", b"1,2"])
+            return self.one(ODD_CELLS)
         if self.chance(0.15):
             return null_text
         category = self.one(self.categories)
@@ -141,8 +166,8 @@ class GridMaker(Maker):
 
     def grid(self) -> bytes:
         if self.chance(0.003):
-            return self.one([b"", b"\n", b" ", b"1 2 3", b"north: 3", b"\r\n\r\n"])
-        null_text = self.one([b"*", b"*", b"*", b"*", b"-9", b"1", b"NA", b"0", b"x" * 64, b"rows"]) if self.chance(0.2) else b"*"
+            return self.one(ODD_GRIDS)
+        null_text = self.one([b"-9", b"1", b"NA", b"0", b"x" * 64, b"rows"]) if self.chance(0.12) else b"*"
         if self.slips():
             null_text = self.one([b"a:b", b":", b"x" * 65, b"1 2"])
         multiplier = self.one([1, 2, 3, -1, 0, 2147483647]) if self.chance(0.1) else 1
@@ -197,7 +222,7 @@ class ExpressionMaker(Maker):
 
     def offset(self) -> list[bytes]:
         if self.slips():
-            return self.one([[b"256"], [b"-", b"256"], [b"-", b"-", b"1"], [b"a"], [b"2147483648"], [b"+", b"300"], [b"(", b"1", b")"]])
+            return self.one(ODD_OFFSETS)
         number = b"%d" % self.one([0, 0, 1, 1, 1, 2, 3, 5, 255])
         return self.one([[number], [b"-", number], [b"+", number]])
 
@@ -206,7 +231,7 @@ class ExpressionMaker(Maker):
         least, most = ARGUMENTS[name]
         count = self.number(0, 4) if self.slips() else self.number(least, most)
         if self.slips():
-            name = self.one([b"foo", b"a", b"median", b"xor", b"IF", b"nmedian"])
+            name = self.one(WRONG_FUNCTIONS)
         arguments: list[bytes] = []
         for at in range(count):
             arguments += ([b","] if at else []) + self.expression(depth - 1, known)
@@ -214,14 +239,18 @@ class ExpressionMaker(Maker):
 
     def damaged_tokens(self, tokens: list[bytes]) -> list[bytes]:
         at = self.number(0, len(tokens) - 1)
-        return self.one([tokens[:at] + tokens[at + 1 :], tokens[:at] + [self.one(ODD_TOKENS)] + tokens[at:], tokens[:at],
-                         tokens[:at] + [self.one(ODD_TOKENS)] + tokens[at + 1 :], tokens[: at + 1] + tokens[at:]])
+        before, token, behind = tokens[:at], tokens[at], tokens[at + 1 :]
+        odd = self.one(ODD_TOKENS)
+        return self.one([before, before + behind, before + [odd] + behind, before + [odd, token] + behind,
+                         before + [token, token] + behind])
 
     def long_expression(self, known: list[bytes]) -> list[bytes]:
         leaf = self.one(known)
         count = self.one([10, 100, 498, 499, 500])
-        return self.one([[leaf] + [b"+", b"1"] * count, [b"-"] * (2 * count) + [leaf], [b"("] * (count - 1) + [leaf] + [b")"] * (count - 1),
-                         [leaf, b"?"] * (count // 4) + [b"1"] + [b":", leaf] * (count // 4)])
+        inside, part = count - 1, count // 4
+        return self.one([[leaf] + [b"+", b"1"] * count, [b"-"] * (2 * count) + [leaf],
+                         [b"("] * inside + [leaf] + [b")"] * inside,
+                         [leaf, b"?"] * part + [b"1"] + [b":", leaf] * part])
 
     def assignment(self, target: bytes, known: list[bytes]) -> bytes:
         body = self.long_expression(known) if self.chance(0.004) else self.expression(self.number(0, 4), known)
@@ -242,13 +271,12 @@ class ScriptMaker(GridMaker, ExpressionMaker):
     def target(self, known: list[bytes]) -> bytes:
         if self.slips():
             return self.one(WRONG_NAMES + known)
-        return self.one([name for name in MADE_NAMES + [b"m%d" % at for at in range(9)] if name not in known])
+        return self.one([name for name in MADE_NAMES if name not in known])
 
     def joined(self, command: bytes, words: list[bytes]) -> bytes:
         """A command with its flags and options in some order."""
         if self.slips():
-            words = words + [self.one([b"-", b"-x", b"--c", b"-c=1", b"colour=1", b"input", b"=", b"=3", b"input=a", b"-cc", b"after=1",
-                                       b"-d", b"output=new", b"null_value=:", b"separator=", b"INPUT=a", b"-1", b"#", b"null_value=\x7f"])]
+            words = words + [self.one(ODD_OPTIONS)]
         if words and self.slips():
             words.pop(self.number(0, len(words) - 1))
         if self.chance(0.5):
@@ -264,13 +292,14 @@ class ScriptMaker(GridMaker, ExpressionMaker):
 
     def null_value(self, part: float) -> list[bytes]:
         if self.slips():
-            return [b"null_value=" + self.one([b"", b"x" * 65, b"\xff", b"a:b", b":"])]
+            return [b"null_value=" + self.one(ODD_NULL_VALUES)]
         return [b"null_value=" + self.one([b"-9", b"NA", b"*", b"1", b"x" * 64, b"=", b"!~", b"0"])] if self.chance(part) else []
 
     def combination(self, width: int) -> bytes:
         if self.slips():
             width = self.number(0, 3)
-        parts = [self.one([b"*", self.spelled(self.one(self.categories)), self.spelled(self.one(CATEGORIES))]) for _ in range(width)]
+        numbers = self.categories * 2 + CATEGORIES
+        parts = [b"*" if self.chance(0.3) else self.spelled(self.one(numbers)) for _ in range(width)]
         if parts and self.slips():
             parts[self.number(0, width - 1)] = self.one(WRONG_NUMBERS)
         return b",".join(parts)
@@ -286,28 +315,28 @@ class ScriptMaker(GridMaker, ExpressionMaker):
         elif self.chance(0.7):
             words += [b"-c"]
         if self.chance(0.3):
-            words += [b"separator=" + (self.one([b"", b"newline", b"ab", b"\x80", b"Comma"]) if self.slips() else
-                                       self.one([b"pipe", b"comma", b"space", b"tab", b";", b"=", b"*", b"-", b"0"]))]
+            words += [b"separator=" + self.one(ODD_SEPARATORS if self.slips() else b"pipe comma space tab ; = * - 0".split())]
         words += self.null_value(0.2)
         if self.slips() if by_cell else self.chance(0.3):
             words += [b"after=" + self.combination(width)]
         return [self.joined(b"r.stats", words)]
 
     def rule_item(self) -> bytes:
-        number = lambda: self.spelled(self.one(self.categories + [0, 2, 9, 2147483647, -2147483647]), 0.9)
         if self.slips():
-            return self.one([b"thru", b"1 thru", b"thru 1", b"*", b"1 thru thru", b"1 thru 2 thru 3", b"NULL", b"x", b"1-3", b"2147483648", b"", b"* thru 2"])
-        return number() if self.chance(0.5) else number() + self.one([b" thru ", b"\tthru ", b", thru ,"]) + number()
+            return self.one(ODD_ITEMS)
+        low, high = (self.spelled(self.one(self.categories + [0, 2, 9, 2147483647, -2147483647]), 0.9) for _ in range(2))
+        return low if self.chance(0.5) else low + self.one([b" thru ", b"\tthru ", b", thru ,"]) + high
 
     def rule(self) -> bytes:
         if self.chance(0.08):
             return self.one([b"", b"  ", b"# note", b" #= 3", b"\r", b"#"])
         if self.slips():
-            return self.one([b"end,", b"end = 5", b"1", b"=", b"1 =", b"= 5", b"1 = thru", b"1 = *", b",# x", b"1 = x y", b"x = thru", b"1 = 2=3",
-                             b",=1", b"1 = 5,6", b"END", b"r.stats -c input=a", b"1 = 2147483648", b"* * = 1", b"x = 1", b"1 = -2147483648"])
+            return self.one(ODD_RULES)
         is_star = self.chance(0.2)
-        left = self.one([b"*", b" * ", b",*,"]) if is_star else self.one([b" ", b",", b", "]).join(self.rule_item() for _ in range(self.one([1, 1, 2, 3])))
-        outputs = [self.spelled(self.one(self.categories + [1, 2, 7])) for _ in range(5)] + [b"NULL", b"null"] + ([b"*", b"*"] if is_star else [])
+        items = [self.rule_item() for _ in range(self.one([1, 1, 2, 3]))]
+        left = self.one([b"*", b" * ", b",*,"]) if is_star else self.one([b" ", b",", b", "]).join(items)
+        outputs = [self.spelled(self.one(self.categories + [1, 2, 7])) for _ in range(5)] + [b"NULL", b"null"]
+        outputs += [b"*", b"*"] if is_star else []
         label = self.one([b" ", b"\t", b"  "]) + self.one(LABELS) if self.chance(0.5) else b""
         return left + self.one([b"=", b" = ", b"\t= "]) + self.one(outputs) + label + self.one([b"", b"", b" ", b" \r"])
 
@@ -320,7 +349,8 @@ class ScriptMaker(GridMaker, ExpressionMaker):
 
     def clump(self, known: list[bytes]) -> list[bytes]:
         target = self.target(known)
-        line = self.joined(b"r.clump", [b"input=" + self.known_name(known), b"output=" + target] + self.flags(b"d", 0.5))
+        words = [b"input=" + self.known_name(known), b"output=" + target] + self.flags(b"d", 0.5)
+        line = self.joined(b"r.clump", words)
         known.append(target)
         return [line]
 
@@ -335,11 +365,10 @@ class ScriptMaker(GridMaker, ExpressionMaker):
 
     def statement(self, known: list[bytes]) -> list[bytes]:
         if self.slips():
-            return [self.one([b"r.what input=a", b"R.STATS input=a", b"r.mapcalc", b"r.stats", b"end", b"-c", b"r.clump", b"r.mapcalcx=1", b"\x00", b"r.mapcalc x",
-                              b"r.out.ascii", b"r.reclass", b"r.stats,input=a", b"r.mapcalc x == 1", b"r.mapcalc foo(1) = 2", b"=", b"1 = 2"])]
+            return [self.one(ODD_STATEMENTS)]
         if self.chance(0.1):
             return [self.one([b"", b" ", b"# note", b"\t# r.stats", b"\r", b"#" * 100])]
-        makers = [self.stats, self.stats, self.out_ascii, self.out_ascii, self.mapcalc, self.mapcalc, self.mapcalc, self.reclass, self.clump]
+        makers = [self.stats] * 2 + [self.out_ascii] * 2 + [self.mapcalc] * 3 + [self.reclass, self.clump]
         return self.one(makers)(known)
 
     def damaged_statement(self, known: list[bytes]) -> list[bytes]:

@@ -338,7 +338,9 @@ class ScriptReader:
             raise script_refused(self.at, "bad option")
         return {bytes([letter]) for letter in letters}
 
-    def with_options(self, command: bytes, inputs: list[bytes], flags: frozenset[bytes], options: dict[bytes, bytes]) -> Statement:
+    def with_options(
+        self, command: bytes, inputs: list[bytes], flags: frozenset[bytes], options: dict[bytes, bytes]
+    ) -> Statement:
         null_text = options.get(b"null_value", b"*")
         if command == b"r.clump":
             return Clump(inputs[0], options[b"output"], b"d" in flags)
