@@ -13,8 +13,8 @@ WRONG_NUMBERS = [b"", *b"2147483648 -2147483648 1.5 x 1x - + 1e3 * 9999999999999
 LABELS = [b"low", b"b", b"two words", b"=", b"# no", b"a\tb", b"no data", b"l\xc3\xa4nge", b"\xff|", b"5", b"end"]
 
 # What is put into texts to spoil them.
-ODD_BYTES = b": * - + = , . # 0 9 a \x00 \xff & | [ ) ( ? 1 65536".split() + [b" ", b"\t", b"\r", b"\n", b"\r\n", b"\n\n", b"\x0b"]
-ODD_BYTES += [b"end\n", b" thru "]
+ODD_BYTES = b": * - + = , . # 0 9 a \x00 \xff & | [ ) ( ? 1 65536".split()
+ODD_BYTES += [b" ", b"\t", b"\r", b"\n", b"\r\n", b"\n\n", b"\x0b", b"end\n", b" thru "]
 ODD_COORDINATES = [b"", b"1 2", *b"1e5 . 12345678901 1.123456789 - 3N 0:0:1 00000000000".split()]
 ODD_HEADER_LINES = [(b"rows", b"2"), (b"colour", b"1"), (b"", b"3"), (b"North", b"3")]
 ODD_CELLS = WRONG_NUMBERS + [b"9" * 64, b"0" * 63 + b"1", b"1" * 65, *b"a:b 2147483647 null -0 1,2".split()]
@@ -282,7 +282,8 @@ class ScriptMaker(GridMaker, ExpressionMaker):
         if self.chance(0.5):
             self.random.shuffle(words)
         blank = self.one([b" ", b" ", b" ", b"  ", b"\t", b" \r "])
-        return self.one([b"", b"", b"", b" ", b"\t"]) + blank.join([command] + words) + self.one([b"", b"", b"", b" ", b"\r"])
+        before, behind = self.one([b"", b"", b"", b" ", b"\t"]), self.one([b"", b"", b"", b" ", b"\r"])
+        return before + blank.join([command] + words) + behind
 
     def flags(self, letters: bytes, part: float) -> list[bytes]:
         chosen = [bytes([letter]) for letter in letters if self.chance(part)]
@@ -293,7 +294,8 @@ class ScriptMaker(GridMaker, ExpressionMaker):
     def null_value(self, part: float) -> list[bytes]:
         if self.slips():
             return [b"null_value=" + self.one(ODD_NULL_VALUES)]
-        return [b"null_value=" + self.one([b"-9", b"NA", b"*", b"1", b"x" * 64, b"=", b"!~", b"0"])] if self.chance(part) else []
+        good = [b"-9", b"NA", b"*", b"1", b"x" * 64, b"=", b"!~", b"0"]
+        return [b"null_value=" + self.one(good)] if self.chance(part) else []
 
     def combination(self, width: int) -> bytes:
         if self.slips():
@@ -315,7 +317,8 @@ class ScriptMaker(GridMaker, ExpressionMaker):
         elif self.chance(0.7):
             words += [b"-c"]
         if self.chance(0.3):
-            words += [b"separator=" + self.one(ODD_SEPARATORS if self.slips() else b"pipe comma space tab ; = * - 0".split())]
+            good = b"pipe comma space tab ; = * - 0".split()
+            words += [b"separator=" + self.one(ODD_SEPARATORS if self.slips() else good)]
         words += self.null_value(0.2)
         if self.slips() if by_cell else self.chance(0.3):
             words += [b"after=" + self.combination(width)]
