@@ -2,23 +2,26 @@
 """Compares the model of tools/model.py with the cases that stand in the repository, or with the built program.
 
     compare.py --cases
-    compare.py --runs N --seed S --program PATH [--first F] [--keep FOLDER]
+    compare.py --runs N --seed S --program PATH [--first F] [--keep FOLDER] [--refuse CLANG]
 
 With --cases the model answers each folder of cases/ and examples/ (as tools/cases.py describes them), apart from those
 whose standard output goes elsewhere. With --runs random grids and scripts go to both, and output, standard error and
-exit status must agree byte for byte. Run F of seed S is the same wherever it is made. Each difference is written to
-FOLDER as a case whose expected files are the model's, with the program's answer beside it. The last line is
-'N runs, M differences'.
+exit status must agree byte for byte. Run F of seed S is the same wherever it is made. With --refuse each run is made
+again with one of its growths refused: it must tell that, and have written just what the statements before that line
+write. Each difference is written to FOLDER as a case whose expected files are the model's, with the program's answer
+beside it. The last line is 'N runs, M differences'.
 """
 import argparse
 import collections
 import glob
 import os
 import random
+import re
 import shutil
 import sys
 import tempfile
 
+import cases
 import model
 from made_cases import Made, make
 
@@ -75,12 +78,35 @@ class Program:
                         (os.POSIX_SPAWN_OPEN, 1, "out", opening, 0o600), (os.POSIX_SPAWN_OPEN, 2, "err", opening, 0o600)]
         os.chdir(room)
 
-    def answer(self, made: Made) -> model.Answer:
+    def put(self, made: Made):
         for name, content in made.files.items():
             write(name, content)
-        child = os.posix_spawn(self.path, [self.path, *made.words], {"PATH": "/usr/bin:/bin"}, file_actions=self.actions)
+
+    def answer(self, made: Made, **more) -> model.Answer:
+        environment = {"PATH": "/usr/bin:/bin", **more}
+        child = os.posix_spawn(self.path, [self.path, *made.words], environment, file_actions=self.actions)
         status = os.waitstatus_to_exitcode(os.waitpid(child, 0)[1])
         return model.Answer(status, read("out"), read("err"))
+
+    def answer_refused(self, made: Made, shim: str, at: int) -> tuple[model.Answer, int]:
+        """The answer with growth number `at` refused (0: none), and how many were asked for."""
+        got = self.answer(made, LD_PRELOAD=shim, REFUSE_AT=str(at), REFUSE_COUNT="count")
+        return got, int(read("count", b"0"))
+
+
+NO_MEMORY = re.compile(rb"rcell: ([^:]+):([0-9]+): no memory\n")
+
+
+def is_told_refusal(expected, got):
+    """Whether the answer tells that memory was refused, with what was written by the statements before that line."""
+    told = NO_MEMORY.fullmatch(got.told)
+    if got.status != 3 or not told:
+        return False
+    source, line = told[1], int(told[2])
+    if line == 0:
+        return got.output == b""
+    before = b"".join(output for at, output in expected.parts if at < line)
+    return source == b"script" and line in dict(expected.parts) and got.output == before
 
 
 def answer_of_model(made: Made) -> model.Answer:
@@ -107,18 +133,36 @@ def kind_of(answer):
     return f"{source}: {words[2].split(' at column')[0]}"
 
 
+def wrong_answer(program, made, expected, shim, choice):
+    """An answer of the program that is not as it must be, or None."""
+    program.put(made)
+    got = program.answer(made)
+    if got != expected or not shim:
+        return None if got == expected else got
+    _, growths = program.answer_refused(made, shim, 0)
+    at = choice.randint(1, max(1, growths))
+    got, asked = program.answer_refused(made, shim, at)
+    goes_on = got == expected and asked > at  # the standard library asked once more
+    return None if goes_on or is_told_refusal(expected, got) else got
+
+
 def compare_runs(settings):
     differences, kinds = 0, collections.Counter()
     kept = os.path.abspath(settings.keep)
     with tempfile.TemporaryDirectory(prefix="rcell-runs-", dir="/dev/shm") as room:
+        shim = f"{room}/refuse.so" if settings.refuse else ""
+        if shim:
+            cases.build_shim(settings.refuse, shim)
         program = Program(settings.program, room)
         for number in range(settings.first, settings.first + settings.runs):
-            made = make(random.Random(f"{settings.seed}:{number}"))
-            expected, got = answer_of_model(made), program.answer(made)
+            choice = random.Random(f"{settings.seed}:{number}")
+            made = make(choice)
+            expected = answer_of_model(made)
             kinds[kind_of(expected)] += 1
-            if expected != got:
+            wrong = wrong_answer(program, made, expected, shim, choice)
+            if wrong:
                 differences += 1
-                keep(f"{kept}/{settings.seed}-{number}", made, expected, got)
+                keep(f"{kept}/{settings.seed}-{number}", made, expected, wrong)
                 print(f"run {number} of seed {settings.seed} differs: {kept}/{settings.seed}-{number}", flush=True)
         os.chdir(ROOT)
     for kind, count in kinds.most_common():
@@ -135,6 +179,7 @@ def main():
     words.add_argument("--first", type=int, default=0)
     words.add_argument("--program", default=f"{ROOT}/bin/rcell")
     words.add_argument("--keep", default="/tmp/rcell-differences")
+    words.add_argument("--refuse", metavar="CLANG")
     settings = words.parse_args()
     if settings.cases == (settings.runs is not None):
         words.error("either --cases or --runs N")

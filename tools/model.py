@@ -272,12 +272,13 @@ class ScriptReader:
             raise script_refused(self.at, "line too long")
         return line
 
-    def read(self) -> list[Statement]:
+    def read(self) -> list[tuple[int, Statement]]:
+        """The statements with their lines."""
         statements = []
         while self.at < len(self.lines):
             line = self.next_line()
             if not is_skipped(line):
-                statements.append(self.statement(line))
+                statements.append((self.at, self.statement(line)))
         return statements
 
     def statement(self, line: bytes) -> Statement:
@@ -400,7 +401,8 @@ def run(grids: list[tuple[bytes, Optional[bytes]]], script: Optional[bytes]) -> 
         statements = ScriptReader(script, list(maps)).read()
     except Refused as fault:
         return fault.answer()
-    return Answer(0, b"".join(statement.run(maps, region) for statement in statements), b"")
+    parts = tuple((line, statement.run(maps, region)) for line, statement in statements)
+    return Answer(0, b"".join(output for _, output in parts), b"", parts)
 
 
 def is_utf8(word: bytes) -> bool:

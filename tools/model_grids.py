@@ -27,6 +27,7 @@ class Answer:
     status: int
     output: bytes
     told: bytes
+    parts: tuple[tuple[int, bytes], ...] = field(default=(), compare=False)  # the output of each statement, by its line
 
 
 class Refused(Exception):
