@@ -89,12 +89,16 @@ def judge(case, room, shim):
     return wrong, grown
 
 
+def build_shim(clang, path):
+    subprocess.run([clang, "--target=x86_64-unknown-linux-gnu", "-O1", "-fPIC", "-shared", "-nostdlib", "-fuse-ld=lld",
+                    "-o", path, f"{ROOT}/tools/refuse.c"], check=True)
+
+
 def main():
     passed = failed = 0
     with tempfile.TemporaryDirectory(prefix="rcell-cases-") as room:
         shim = f"{room}/refuse.so"
-        subprocess.run([sys.argv[1], "--target=x86_64-unknown-linux-gnu", "-O1", "-fPIC", "-shared", "-nostdlib",
-                        "-fuse-ld=lld", "-o", shim, f"{ROOT}/tools/refuse.c"], check=True)
+        build_shim(sys.argv[1], shim)
         for case in sorted(glob.glob(f"{ROOT}/cases/*") + glob.glob(f"{ROOT}/examples/*")):
             wrong, grown = judge(case, room, shim)
             refusals = f", {grown} growths refused in turn" if grown else ""

@@ -1,0 +1,190 @@
+#!/usr/bin/env python3
+"""Compares the model of tools/model.py with the cases that stand in the repository, or with the built program.
+
+    compare.py --cases
+    compare.py --runs N --seed S --program PATH [--first F] [--keep FOLDER] [--refuse CLANG]
+
+With --cases the model answers each folder of cases/ and examples/ (as tools/cases.py describes them), apart from those
+whose standard output goes elsewhere. With --runs random grids and scripts go to both, and output, standard error and
+exit status must agree byte for byte. Run F of seed S is the same wherever it is made. With --refuse each run is made
+again with one of its growths refused: it must tell that, and have written just what the statements before that line
+write. Each difference is written to FOLDER as a case whose expected files are the model's, with the program's answer
+beside it. The last line is 'N runs, M differences'.
+"""
+import argparse
+import collections
+import glob
+import os
+import random
+import re
+import shutil
+import sys
+import tempfile
+
+import cases
+import model
+from made_cases import Made, make
+
+ROOT = os.path.dirname(os.path.dirname(os.path.abspath(__file__)))
+
+
+def read(path, otherwise=b""):
+    if not os.path.isfile(path):
+        return otherwise
+    with open(path, "rb") as file:
+        return file.read()
+
+
+def write(path, content):
+    with open(path, "wb") as file:
+        file.write(content)
+
+
+def expected_of_case(case):
+    return model.Answer(int(read(f"{case}/status", b"0")), read(f"{case}/stdout"), read(f"{case}/stderr"))
+
+
+def answer_to_case(case, room):
+    folder = f"{room}/{os.path.basename(case)}"
+    shutil.copytree(case, folder, ignore=shutil.ignore_patterns("args", "stdout", "stderr", "status", "output", "spaces"))
+    for name, count in (line.split() for line in read(f"{case}/spaces").decode().splitlines()):
+        with open(f"{folder}/{name}", "ab") as file:
+            file.write(b" " * int(count))
+    return model.program(read(f"{case}/args").splitlines(), os.fsencode(folder))
+
+
+def compare_cases():
+    runs = differences = 0
+    with tempfile.TemporaryDirectory(prefix="rcell-model-") as room:
+        for case in sorted(glob.glob(f"{ROOT}/cases/*") + glob.glob(f"{ROOT}/examples/*")):
+            if os.path.exists(f"{case}/output"):
+                continue
+            runs += 1
+            expected, answer = expected_of_case(case), answer_to_case(case, room)
+            if expected != answer:
+                differences += 1
+                print(f"{case[len(ROOT) + 1 :]}: stands {expected}, model {answer}")
+    print(f"{runs} runs, {differences} differences")
+    return differences
+
+
+class Program:
+    """The built program, run in a folder of its own."""
+
+    def __init__(self, path, room):
+        self.path, self.room = os.path.abspath(path), room
+        opening = os.O_WRONLY | os.O_CREAT | os.O_TRUNC
+        self.actions = [(os.POSIX_SPAWN_OPEN, 0, "/dev/null", os.O_RDONLY, 0),
+                        (os.POSIX_SPAWN_OPEN, 1, "out", opening, 0o600), (os.POSIX_SPAWN_OPEN, 2, "err", opening, 0o600)]
+        os.chdir(room)
+
+    def put(self, made: Made):
+        for name, content in made.files.items():
+            write(name, content)
+
+    def answer(self, made: Made, **more) -> model.Answer:
+        environment = {"PATH": "/usr/bin:/bin", **more}
+        child = os.posix_spawn(self.path, [self.path, *made.words], environment, file_actions=self.actions)
+        status = os.waitstatus_to_exitcode(os.waitpid(child, 0)[1])
+        return model.Answer(status, read("out"), read("err"))
+
+    def answer_refused(self, made: Made, shim: str, at: int) -> tuple[model.Answer, int]:
+        """The answer with growth number `at` refused (0: none), and how many were asked for."""
+        got = self.answer(made, LD_PRELOAD=shim, REFUSE_AT=str(at), REFUSE_COUNT="count")
+        return got, int(read("count", b"0"))
+
+
+NO_MEMORY = re.compile(rb"rcell: ([^:]+):([0-9]+): no memory\n")
+
+
+def is_told_refusal(expected, got):
+    """Whether the answer tells that memory was refused, with what was written by the statements before that line."""
+    told = NO_MEMORY.fullmatch(got.told)
+    if got.status != 3 or not told:
+        return False
+    source, line = told[1], int(told[2])
+    if line == 0:
+        return got.output == b""
+    before = b"".join(output for at, output in expected.parts if at < line)
+    return source == b"script" and line in dict(expected.parts) and got.output == before
+
+
+def answer_of_model(made: Made) -> model.Answer:
+    return model.run([(name, made.files[path]) for name, path in made.grids], made.files["script"])
+
+
+def keep(folder, made: Made, expected, got):
+    os.makedirs(folder, exist_ok=True)
+    for name, content in made.files.items():
+        write(f"{folder}/{name}", content)
+    write(f"{folder}/args", b"".join(word + b"\n" for word in made.words))
+    for prefix, answer in (("", expected), ("got.", got)):
+        write(f"{folder}/{prefix}stdout", answer.output)
+        write(f"{folder}/{prefix}stderr", answer.told)
+        write(f"{folder}/{prefix}status", b"%d\n" % answer.status)
+
+
+def kind_of(answer):
+    """How a run ended, without its numbers: good runs, and each fault by its words."""
+    if not answer.told:
+        return "done, with output" if answer.output else "done, without output"
+    words = answer.told.decode(errors="replace").rstrip("\n").split(": ", 2)
+    source = "script" if words[1].startswith("script:") else "grid"
+    return f"{source}: {words[2].split(' at column')[0]}"
+
+
+def wrong_answer(program, made, expected, shim, choice):
+    """An answer of the program that is not as it must be, or None."""
+    program.put(made)
+    got = program.answer(made)
+    if got != expected or not shim:
+        return None if got == expected else got
+    _, growths = program.answer_refused(made, shim, 0)
+    at = choice.randint(1, max(1, growths))
+    got, asked = program.answer_refused(made, shim, at)
+    goes_on = got == expected and asked > at  # the standard library asked once more
+    return None if goes_on or is_told_refusal(expected, got) else got
+
+
+def compare_runs(settings):
+    differences, kinds = 0, collections.Counter()
+    kept = os.path.abspath(settings.keep)
+    with tempfile.TemporaryDirectory(prefix="rcell-runs-", dir="/dev/shm") as room:
+        shim = f"{room}/refuse.so" if settings.refuse else ""
+        if shim:
+            cases.build_shim(settings.refuse, shim)
+        program = Program(settings.program, room)
+        for number in range(settings.first, settings.first + settings.runs):
+            choice = random.Random(f"{settings.seed}:{number}")
+            made = make(choice)
+            expected = answer_of_model(made)
+            kinds[kind_of(expected)] += 1
+            wrong = wrong_answer(program, made, expected, shim, choice)
+            if wrong:
+                differences += 1
+                keep(f"{kept}/{settings.seed}-{number}", made, expected, wrong)
+                print(f"run {number} of seed {settings.seed} differs: {kept}/{settings.seed}-{number}", flush=True)
+        os.chdir(ROOT)
+    for kind, count in kinds.most_common():
+        print(f"{count:8} {kind}")
+    print(f"{settings.runs} runs, {differences} differences")
+    return differences
+
+
+def main():
+    words = argparse.ArgumentParser(description=__doc__, formatter_class=argparse.RawDescriptionHelpFormatter)
+    words.add_argument("--cases", action="store_true")
+    words.add_argument("--runs", type=int)
+    words.add_argument("--seed", type=int, default=1)
+    words.add_argument("--first", type=int, default=0)
+    words.add_argument("--program", default=f"{ROOT}/bin/rcell")
+    words.add_argument("--keep", default="/tmp/rcell-differences")
+    words.add_argument("--refuse", metavar="CLANG")
+    settings = words.parse_args()
+    if settings.cases == (settings.runs is not None):
+        words.error("either --cases or --runs N")
+    return 1 if (compare_cases() if settings.cases else compare_runs(settings)) else 0
+
+
+if __name__ == "__main__":
+    sys.exit(main())
