@@ -19,6 +19,9 @@ kit=$(dirname "$(rt doc)")
 python3 tools/cases.py "$kit/toolchain/bin/clang" > "$room/cases" 2>&1
 status=$?
 cat "$room/cases"
+
+# The program beside the plain model of the definitions: each case, and runs made at random.
+{ python3 tools/compare.py --cases && python3 tools/compare.py --runs 3000 --seed 1 --program bin/rcell; } || status=1
 tail -qn 1 "$room/proofs" "$room/cases" |
     awk '/^[0-9]+ passed, [0-9]+ failed$/ { passed += $1; failed += $3; counted++ }
          END { print passed + 0 " passed, " failed + 2 - counted " failed" }'

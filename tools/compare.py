@@ -178,7 +178,7 @@ def main():
     words.add_argument("--seed", type=int, default=1)
     words.add_argument("--first", type=int, default=0)
     words.add_argument("--program", default=f"{ROOT}/bin/rcell")
-    words.add_argument("--keep", default="/tmp/rcell-differences")
+    words.add_argument("--keep", default=os.path.join(tempfile.gettempdir(), "rcell-differences"))
     words.add_argument("--refuse", metavar="CLANG")
     settings = words.parse_args()
     if settings.cases == (settings.runs is not None):

@@ -86,7 +86,9 @@ fn words_and_numbers(rt: HostRuntime) -> Result<(), Fail> {
         assert_eq!(rt; placed.column, column);
         match &placed.token {
             Token::Number(n) => assert_eq!(rt; Some(*n), number),
-            Token::Name(name) => assert!(rt; number.is_none() && name.bytes() == b"a.b_1".as_slice()),
+            Token::Name(name) => assert!(rt;
+                number.is_none() && name.bytes() == b"a.b_1".as_slice()
+            ),
             Token::Sign(_) => return Err("a sign".into()),
         }
     }

@@ -157,9 +157,11 @@ fn puts_out_grids(rt: HostRuntime) -> Result<(), Fail> {
 }
 
 // Each of the five commands.
-const FIVE_COMMANDS: &[u8] = b"r.stats -c input=g\nr.clump input=g output=c\nr.mapcalc x = c[1,0] + 1\nr.reclass input=g output=r\n1 thru 3 = 7 low\nend\nr.stats -cl input=r\nr.out.ascii input=x\n";
+const FIVE_COMMANDS: &[u8] =
+    b"r.stats -c input=g\nr.clump input=g output=c\nr.mapcalc x = c[1,0] + 1\nr.reclass input=g output=r\n1 thru 3 = 7 low\nend\nr.stats -cl input=r\nr.out.ascii input=x\n";
 
-const FIVE_TEXTS: &[u8] = b"1 5\n2 4\n3 2\n* 1\n7 low 11\n* no data 1\nnorth: 3\nsouth: 0\neast: 4\nwest: 0\nrows: 3\ncols: 4\n2 3 3 3\n4 4 5 5\n* * * *\n";
+const FIVE_TEXTS: &[u8] =
+    b"1 5\n2 4\n3 2\n* 1\n7 low 11\n* no data 1\nnorth: 3\nsouth: 0\neast: 4\nwest: 0\nrows: 3\ncols: 4\n2 3 3 3\n4 4 5 5\n* * * *\n";
 
 #[test]
 fn writes_what_each_command_asks_for(rt: HostRuntime) -> Result<(), Fail> {
@@ -216,7 +218,11 @@ fn refuses_grids_before_it_writes(rt: HostRuntime) -> Result<(), Fail> {
 #[test]
 fn refuses_scripts_before_it_writes(rt: HostRuntime) -> Result<(), Fail> {
     let lines = [
-        (b"r.stats -c -1 input=g".as_slice(), ScriptKind::BadOption, 1),
+        (
+            b"r.stats -c -1 input=g".as_slice(),
+            ScriptKind::BadOption,
+            1,
+        ),
         (b"r.stats -c\n", ScriptKind::MissingOption, 1),
         (b"\nr.stats -c input=1a\n", ScriptKind::BadName, 2),
         (
@@ -230,7 +236,11 @@ fn refuses_scripts_before_it_writes(rt: HostRuntime) -> Result<(), Fail> {
             ScriptKind::MissingEnd,
             1,
         ),
-        (b"r.buffer input=g output=c\n", ScriptKind::UnknownCommand, 1),
+        (
+            b"r.buffer input=g output=c\n",
+            ScriptKind::UnknownCommand,
+            1,
+        ),
     ];
     for (text, kind, line) in lines {
         let fault = ScriptFault { kind, line };
