@@ -149,7 +149,7 @@ def wrong_answer(program, made, expected, shim, choice):
 def compare_runs(settings):
     differences, kinds = 0, collections.Counter()
     kept = os.path.abspath(settings.keep)
-    with tempfile.TemporaryDirectory(prefix="rcell-runs-", dir="/dev/shm") as room:
+    with tempfile.TemporaryDirectory(prefix="rcell-runs-", dir="/dev/shm" if os.path.isdir("/dev/shm") else None) as room:
         shim = f"{room}/refuse.so" if settings.refuse else ""
         if shim:
             cases.build_shim(settings.refuse, shim)
