@@ -109,7 +109,10 @@ fn functions_and_their_numbers_of_arguments(rt: HostRuntime) -> Result<(), Fail>
 fn the_first_unknown_name(rt: HostRuntime) -> Result<(), Fail> {
     let mut names = Names::new(rt.alloc());
     for name in [b"g".as_slice(), b"if"] {
-        names.push(Name::read(rt.alloc(), name).map_err(|_| "a name")?)?;
+        let name = Name::read(rt.alloc(), name).map_err(|_| "a name")?;
+        if names.find(name.bytes()).is_none() {
+            names.push(name)?;
+        }
     }
     for (text, column) in [
         (b"x = h".as_slice(), Some(5)),
