@@ -1,24 +1,44 @@
-# make          proves and builds the program, bin/rcell
-# make example  builds it, and runs it on the land cover of examples/land-cover
-# make check    the gate: every proof from nothing, then the program on each folder of cases/ and examples/
-# make edits    tries the edits of crates/NAME/edits/, which the gate leaves alone: each must be refused
-# make bench    times it against a plain program by hand on a grid of 100 MB
-# make exchange has GRASS, where it is installed, read what it writes and the other way round
+# make           proves and builds the program, bin/rcell; JOBS=1 where memory is short
+# make install   puts bin/rcell and its manual page below PREFIX (/usr/local; DESTDIR goes before it)
+# make uninstall takes both away again
+# make example   builds the program, and runs it on the land cover of examples/land-cover
+# make documents runs each example of the documents on bin/rcell, and compares
+# make check     the gate: every proof from nothing, then the program on each case, example and document
+# make edits     tries the edits of crates/NAME/edits/, which the gate leaves alone: each must be refused
+# make bench     times the program against a plain program by hand on a grid of 100 MB
+# make exchange  holds the program and the documents against GRASS and GDAL, where they are installed
+# make clean     takes away all that was built
+# make help      prints this
 
-PROGRAM = crates/rcell_program
-SOURCES = crates.txt $(shell find crates \( -name out -o -name edits -o -name must-fail -o -name '*_tests' \) -prune -o -type f -print)
+PREFIX ?= /usr/local
+DESTDIR ?=
+JOBS ?=
 
-.PHONY: all example check edits bench exchange clean
+# What the program is built from: neither tests nor the edits that must fail.
+CRATES = $(filter-out %_tests,$(wildcard crates/*))
+SOURCES = crates.txt $(shell find $(wildcard $(CRATES:%=%/src) $(CRATES:%=%/specs) $(CRATES:%=%/proofs)) -type f ! -name tests.rt)
+
+.PHONY: all install uninstall example documents check edits bench exchange clean help
 
 all: bin/rcell
 
 bin/rcell: $(SOURCES)
-	mkdir -p bin $(PROGRAM)/out
-	cd $(PROGRAM) && rt run -- data/script g=data/g.txt > out/example 2> out/build.log || { cat out/build.log; exit 1; }
-	cp $(PROGRAM)/out/rcell_program bin/rcell
+	@sh tools/needs.sh
+	@python3 tools/build.py $(if $(JOBS),--jobs $(JOBS))
+
+install: bin/rcell
+	install -d "$(DESTDIR)$(PREFIX)/bin" "$(DESTDIR)$(PREFIX)/share/man/man1"
+	install -m 755 bin/rcell "$(DESTDIR)$(PREFIX)/bin/rcell"
+	install -m 644 docs/rcell.1 "$(DESTDIR)$(PREFIX)/share/man/man1/rcell.1"
+
+uninstall:
+	rm -f "$(DESTDIR)$(PREFIX)/bin/rcell" "$(DESTDIR)$(PREFIX)/share/man/man1/rcell.1"
 
 example: bin/rcell
 	cd examples/land-cover && ../../bin/rcell script landuse=landuse.txt
+
+documents: bin/rcell
+	python3 tools/documents.py
 
 check:
 	@sh tools/check.sh
@@ -34,3 +54,6 @@ exchange: bin/rcell
 
 clean:
 	rm -rf bin bench/out crates/*/out
+
+help:
+	@sed -n 's/^# make/make/p' Makefile

@@ -5,6 +5,8 @@ cd "$(dirname "$0")/.." || exit 1
 room=$(mktemp -d) || exit 1
 trap 'rm -rf "$room"' EXIT
 
+sh tools/needs.sh || { echo '0 passed, 1 failed'; exit 1; }
+
 # No edit outside the gate may go stale.
 python3 tools/stale_edits.py || { echo '0 passed, 1 failed'; exit 1; }
 
