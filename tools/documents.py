@@ -1,0 +1,206 @@
+#!/usr/bin/env python3
+"""Runs the examples of the documents on the built program, and compares what they show byte for byte.
+
+    documents.py [--program PATH] [--write] [DOCUMENT..]
+
+A document is run in a folder of its own that has bin/rcell, examples/ and tools/ as a fresh clone has them. Its fenced
+blocks are taken from the top:
+    console          lines that begin with `$ ` are given to sh, those with `> ` go on with the command above; the lines
+                     after a command are what it must print, standard output and standard error together
+    text file=PATH   a file (also python file=PATH); the commands of later blocks find it
+    text, sh         shown and not run: such a block has no command with its output
+The folder that a block goes to by `cd` is that of the next. With --write what is printed takes the place of what is shown.
+Of docs/DIFFERENCES.md the program's side of each table is run, too (tools/differences.py), and docs/COMMANDS.md must
+name each message that the program has. The last line is 'N passed, M failed'.
+"""
+import argparse
+import difflib
+import glob
+import os
+import re
+import shutil
+import subprocess
+import sys
+import tempfile
+from dataclasses import dataclass, field
+
+import differences
+
+ROOT = os.path.dirname(os.path.dirname(os.path.abspath(__file__)))
+DOCUMENTS = ["README.md", "docs/GUIDE.md", "docs/COMMANDS.md", "docs/DIFFERENCES.md", "docs/PROOFS.md"]
+FENCE = re.compile(r"```(\S*)(?: file=(\S+))?\n(.*?)^```$", re.MULTILINE | re.DOTALL)
+LANGUAGES = {"console", "text", "python", "sh"}
+SECONDS = 60
+END_OF_COMMAND = "==== a command of a document has ended ===="
+# Kinds of a fault that no run of the program reports.
+UNREPORTED = {"reader failed"}
+
+
+@dataclass
+class Block:
+    """A fenced block: the line of its document that it begins at, and from where to where its text goes."""
+
+    line: int
+    span: tuple[int, int]
+    language: str
+    file: str
+    text: str
+
+
+@dataclass
+class Command:
+    """A command with the lines that it must print."""
+
+    text: str
+    output: list[str] = field(default_factory=list)
+
+
+def blocks_of(document):
+    for found in FENCE.finditer(document):
+        yield Block(document.count("\n", 0, found.start()) + 1, found.span(3), found[1], found[2] or "", found[3])
+
+
+def commands_of(block):
+    """The commands of a console block; a ValueError where it does not begin with one."""
+    commands = []
+    for line in block.text.splitlines():
+        if line.startswith("$ "):
+            commands.append(Command(line[2:]))
+        elif not commands:
+            raise ValueError("no command at the top of the block")
+        elif line.startswith("> ") and not commands[-1].output:
+            commands[-1].text += "\n" + line[2:]
+        else:
+            commands[-1].output.append(line)
+    return commands
+
+
+def script_of(commands):
+    """The commands as one script of sh that prints a line after each, and keeps its status for the next."""
+    return "".join(f"{command.text}\nended=$?; echo '{END_OF_COMMAND}'; (exit $ended)\n" for command in commands)
+
+
+class Room:
+    """The folder that the blocks of a document are run in, and where in it they are."""
+
+    def __init__(self, path, program):
+        self.top = self.here = os.path.realpath(path)
+        os.mkdir(f"{path}/bin")
+        shutil.copy(program, f"{path}/bin/rcell")
+        for name in ("examples", "tools"):
+            shutil.copytree(f"{ROOT}/{name}", f"{path}/{name}", ignore=shutil.ignore_patterns("__pycache__"))
+
+    def put(self, block):
+        path = f"{self.here}/{block.file}"
+        os.makedirs(os.path.dirname(path), exist_ok=True)
+        with open(path, "w", encoding="utf-8") as file:
+            file.write(block.text)
+
+    def printed(self, commands):
+        """What the commands print, one text a command; a ValueError where they do not all end."""
+        environment = {"PATH": f"{self.top}/bin:/usr/bin:/bin", "HOME": self.top, "LC_ALL": "C.UTF-8"}
+        script = f"exec 2>&1\n{script_of(commands)}pwd\n"
+        ran = subprocess.run(["sh", "-c", script], cwd=self.here, env=environment, timeout=SECONDS,
+                             stdin=subprocess.DEVNULL, stdout=subprocess.PIPE)
+        *texts, here = ran.stdout.decode(errors="replace").split(f"{END_OF_COMMAND}\n")
+        if len(texts) != len(commands):
+            raise ValueError(f"only {len(texts)} of {len(commands)} commands ended")
+        self.here = here.rstrip("\n")
+        return texts
+
+
+def shown_text(commands, texts):
+    """A console block of the commands, each with its text."""
+    spelled = ["$ " + command.text.replace("\n", "\n> ") + "\n" for command in commands]
+    return "".join(command + text for command, text in zip(spelled, texts))
+
+
+def judge(block, room):
+    """What is wrong with a block, or '', and its text as it must be; None in place of a fault where nothing is run."""
+    if block.language not in LANGUAGES:
+        return f"a block of an unknown kind: {block.language!r}", block.text
+    if block.file:
+        room.put(block)
+        return None, block.text
+    if block.language != "console":
+        has_command = re.search(r"^\$ ", block.text, re.MULTILINE)
+        return "a command with its output in a block that is not run" if has_command else None, block.text
+    try:
+        commands = commands_of(block)
+        right = shown_text(commands, room.printed(commands))
+    except (ValueError, subprocess.TimeoutExpired) as fault:
+        return str(fault), block.text
+    differs = difflib.unified_diff(block.text.splitlines(), right.splitlines(), "shown", "printed", lineterm="", n=1)
+    return "\n    ".join(differs), right
+
+
+def run_document(name, program, write):
+    """How many blocks of a document are as they say, and what is wrong with the others."""
+    with open(f"{ROOT}/{name}", encoding="utf-8") as file:
+        document = file.read()
+    passed, faults, right, at = 0, [], "", 0
+    with tempfile.TemporaryDirectory(prefix="rcell-documents-") as path:
+        room = Room(path, program)
+        for block in blocks_of(document):
+            fault, text = judge(block, room)
+            right, at = right + document[at : block.span[0]] + text, block.span[1]
+            passed += fault == ""
+            if fault:
+                faults.append(f"{name}:{block.line}: {fault}")
+    if write:
+        with open(f"{ROOT}/{name}", "w", encoding="utf-8") as file:
+            file.write(right + document[at:])
+    return passed, faults
+
+
+def check_differences(program):
+    """The program's side of the tables of docs/DIFFERENCES.md."""
+    passed, faults = 0, []
+    with tempfile.TemporaryDirectory(prefix="rcell-differences-") as room:
+        for row in differences.rows():
+            answer = differences.by_rcell(row, program, room)
+            passed += answer == row.rcell
+            if answer != row.rcell:
+                faults.append(f"{differences.DOCUMENT}:{row.line}: rcell answers {answer!r}, and not {row.rcell!r}")
+    return passed, faults
+
+
+def messages_of_the_code():
+    """The texts of faults in the sources, with N for a number; those that only hand on another text are left out."""
+    found = set()
+    for path in glob.glob(f"{ROOT}/crates/*/src/**/*.rt", recursive=True):
+        with open(path, encoding="utf-8") as file:
+            texts = re.findall(r'#\[error\("([^"]*)"', file.read())
+        found |= {re.sub(r"\{written\}", "N", text) for text in texts if not re.search(r"\{(0|text|kind|line)\}", text)}
+    return found - UNREPORTED
+
+
+def check_messages():
+    """Whether docs/COMMANDS.md names each message."""
+    with open(f"{ROOT}/docs/COMMANDS.md", encoding="utf-8") as file:
+        document = file.read()
+    missing = sorted(text for text in messages_of_the_code() if f"`{text}`" not in document)
+    return len(messages_of_the_code()) - len(missing), [f"docs/COMMANDS.md: no row for the message '{text}'" for text in missing]
+
+
+def main():
+    words = argparse.ArgumentParser(description=__doc__, formatter_class=argparse.RawDescriptionHelpFormatter)
+    words.add_argument("--program", default=f"{ROOT}/bin/rcell")
+    words.add_argument("--write", action="store_true")
+    words.add_argument("documents", nargs="*")
+    settings = words.parse_args()
+    program = os.path.abspath(settings.program)
+    checks = [(name, lambda name=name: run_document(name, program, settings.write)) for name in settings.documents or DOCUMENTS]
+    if not settings.documents:
+        checks += [("the tables of differences", lambda: check_differences(program)), ("the messages", check_messages)]
+    passed = failed = 0
+    for name, check in checks:
+        good, faults = check()
+        print(f"{name}: {good} as shown" + "".join(f"\n  {fault}" for fault in faults), flush=True)
+        passed, failed = passed + good, failed + len(faults)
+    print(f"{passed} passed, {failed} failed")
+    return 1 if failed else 0
+
+
+if __name__ == "__main__":
+    sys.exit(main())
