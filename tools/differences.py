@@ -1,10 +1,10 @@
 #!/usr/bin/env python3
 """Reads the tables of docs/DIFFERENCES.md, and asks the program and GRASS for their answers.
 
-A row with at least three cells `Input | GRASS | rcell` that are code is run; other rows are prose. The form of the
-cells is said at the head of the document: lines of a script are joined by ` ; `, lines of output by ` / `. Where a
-script ends with a statement that makes a map, the answer is the rows of that map.
+A row whose first three cells are code has an input and the answers of GRASS and of rcell; the other rows are prose. The
+form of the cells is said at the head of the document.
 """
+import itertools
 import os
 import re
 import signal
@@ -14,55 +14,60 @@ from dataclasses import dataclass
 ROOT = os.path.dirname(os.path.dirname(os.path.abspath(__file__)))
 DOCUMENT = "docs/DIFFERENCES.md"
 SECONDS = 10
-ROW = re.compile(r"^\| (.*?) \|$")
-CODE = re.compile(r"`([^`]+)`(?: with `([^`]+)`)?")
+CODE = re.compile(r"\s*`([^`]+)`\s*")
+HEADER_LINE = re.compile(r"\s*[a-z]+:")
 MAKERS = ("r.mapcalc", "r.reclass", "r.clump")
+GRID_TITLE = "## Grids"
 
 
 @dataclass
 class Row:
-    """A row of a table: a script or a grid's text, and both answers."""
+    """A row of a table: a script, the lines of the grid `m` where the row is about a grid, and both answers."""
 
     line: int
     script: list[str]
-    grid: list[str]  # the lines of a grid's text after its six header lines, or none: the grids of the document's head
+    grid: list[str]
     grass: str
     rcell: str
 
 
-def code(cell):
-    """The texts of a cell in which all is code, and `with` between two; or None."""
-    found = CODE.fullmatch(cell.strip())
-    return [text.replace("\\|", "|") for text in found.groups() if text is not None] if found else None
+def cells_of(line):
+    """The cells of a row of a table that are code, up to the first that is not."""
+    cells = re.split(r"(?<!\\)\|", line)[1:-1]
+    found = itertools.takewhile(bool, map(CODE.fullmatch, cells))
+    return [cell[1].replace("\\|", "|") for cell in found]
 
 
 def rows():
-    """The rows that can be run."""
+    """The rows that have an input and two answers."""
     with open(f"{ROOT}/{DOCUMENT}", encoding="utf-8") as file:
         lines = file.read().splitlines()
+    title = ""
     for at, line in enumerate(lines, 1):
-        found = ROW.match(line)
-        cells = [code(cell) for cell in re.split(r"(?<!\\)\|", found[1])] if found else []
-        if len(cells) < 3 or None in cells[:3]:
+        title = line if line.startswith("## ") else title
+        cells = cells_of(line) if line.startswith("| ") else []
+        if len(cells) < 3:
             continue
-        script, *grid = cells[0]
-        yield Row(at, script.split(" ; "), grid[0].split(" ; ") if grid else [], cells[1][0], cells[2][0])
+        texts = cells[0].split(" ; ")
+        if title == GRID_TITLE:
+            yield Row(at, ["r.out.ascii input=m"], texts, cells[1], cells[2])
+        else:
+            yield Row(at, texts, [], cells[1], cells[2])
 
 
 def grid_text(lines):
-    """A grid's text: rows of cells under the six header lines that fit them; header lines may be among them."""
-    header = [line for line in lines if re.match(r"\s*[a-z]+:", line) or not line.strip()]
-    data = [line for line in lines if line not in header]
-    cols = max(len(line.split()) for line in data)
-    if any(line.strip().startswith("cols:") for line in header):
-        return "\n".join(lines) + "\n"
-    keys = [("north", len(data)), ("south", 0), ("east", cols), ("west", 0), ("rows", len(data)), ("cols", cols)]
-    return "".join(f"{key}: {value}\n" for key, value in keys) + "\n".join(header + data) + "\n"
+    """A grid's text: the header lines that are shown, then those that fit the cells, then the rows."""
+    shown = [line for line in lines if HEADER_LINE.match(line) or not line.strip()]
+    data = [line for line in lines if line not in shown]
+    rows, cols = len(data), len(data[0].split())
+    fitting = {"north": rows, "south": 0, "east": cols, "west": 0, "rows": rows, "cols": cols}
+    keys = {line.split(":")[0].strip() for line in shown}
+    return "\n".join([*shown, *(f"{key}: {value}" for key, value in fitting.items() if key not in keys), *data]) + "\n"
 
 
 # The grids that the head of the document names.
-GRIDS = {"g": ["1 2"], "s": ["1 2 3 9 * 0 -5 100"], "k": ["5 * 5"], "u": ["1 2 1", "1 2 1", "1 1 1", "3 3 3"],
-         "w": ["1 2 1 2 1", "1 2 1 2 1", "1 1 1 1 1"], "t": ["2147483647 -5 *"]}
+GRIDS = {"g": ["1 2"], "k": ["5 * 5"], "s": ["1 2 3 9 * 0 -5 100"], "t": ["2147483647 -5 *"],
+         "u": ["1 2 1", "1 2 1", "1 1 1", "3 3 3"], "w": ["1 2 1 2 1", "1 2 1 2 1", "1 1 1 1 1"]}
 
 
 def grids_of(row):
@@ -70,7 +75,7 @@ def grids_of(row):
     if row.grid:
         return {"m": grid_text(row.grid)}
     words = set(re.findall(r"[A-Za-z_][A-Za-z0-9_.]*", " ".join(row.script)))
-    return {name: grid_text(GRIDS[name]) for name in [name for name in GRIDS if name in words] or ["g"]}
+    return {name: grid_text(GRIDS[name]) for name in GRIDS if name in words} or {"one": grid_text(["1"])}
 
 
 def made_map(script):
@@ -88,12 +93,12 @@ def asked(script):
     return script + [f"r.out.ascii input={target}"] if target else script
 
 
-def joined(text, script):
-    """Lines of output as the document writes them: of a map only its rows, and nothing at the end of a line."""
-    lines = text.splitlines()
-    if made_map(script):
-        lines = [line for line in lines if not re.match(r"[a-z]+:", line)]
-    return " / ".join(line.rstrip(" ") if made_map(script) else line.replace(" ", "_") if line.endswith(" ") else line for line in lines)
+def joined(text, row):
+    """Lines of output as the document writes them: of a map only its rows; a space at the end of a line is shown as _."""
+    lines, is_map = text.splitlines(), row.grid or made_map(row.script)
+    if is_map:
+        return " / ".join(line.rstrip(" ") for line in lines if not HEADER_LINE.match(line))
+    return " / ".join(line.rstrip(" ") + "_" * (len(line) - len(line.rstrip(" "))) for line in lines)
 
 
 def by_rcell(row, program, room):
@@ -102,7 +107,7 @@ def by_rcell(row, program, room):
         with open(f"{room}/{name}", "w", encoding="ascii") as file:
             file.write(text)
     ran = subprocess.run([program, "script", *(f"{name}={name}" for name in grids_of(row))], cwd=room, capture_output=True, text=True)
-    return ran.stderr.strip().removeprefix("rcell: ") if ran.returncode else joined(ran.stdout, row.script)
+    return ran.stderr.strip().removeprefix("rcell: ") if ran.returncode else joined(ran.stdout, row)
 
 
 def commands_of_grass(script, room):
@@ -147,4 +152,4 @@ def by_grass(row, room):
         os.killpg(ran.pid, signal.SIGKILL)
         ran.communicate()
         return "no end"
-    return "refused" if ran.returncode or "ERROR" in errors else joined(output, row.script)
+    return "refused" if ran.returncode else joined(output, row)

@@ -170,17 +170,18 @@ def messages_of_the_code():
     found = set()
     for path in glob.glob(f"{ROOT}/crates/*/src/**/*.rt", recursive=True):
         with open(path, encoding="utf-8") as file:
-            texts = re.findall(r'#\[error\("([^"]*)"', file.read())
+            texts = re.findall(r'(?:#\[error\(|Fault::\w+ => )"([^"]*)"', file.read())
         found |= {re.sub(r"\{written\}", "N", text) for text in texts if not re.search(r"\{(0|text|kind|line)\}", text)}
     return found - UNREPORTED
 
 
 def check_messages():
-    """Whether docs/COMMANDS.md names each message."""
+    """Whether the tables of docs/COMMANDS.md have a row for each message that there is, and for no other."""
     with open(f"{ROOT}/docs/COMMANDS.md", encoding="utf-8") as file:
-        document = file.read()
-    missing = sorted(text for text in messages_of_the_code() if f"`{text}`" not in document)
-    return len(messages_of_the_code()) - len(missing), [f"docs/COMMANDS.md: no row for the message '{text}'" for text in missing]
+        section = re.search(r"^## Messages$(.*?)^## ", file.read(), re.MULTILINE | re.DOTALL)[1]
+    rows, messages = set(re.findall(r"^\| `([^`]*)` \|", section, re.MULTILINE)), messages_of_the_code()
+    faults = [f"docs/COMMANDS.md: no row for the message '{text}'" for text in sorted(messages - rows)]
+    return len(messages & rows), faults + [f"docs/COMMANDS.md: no such message: '{text}'" for text in sorted(rows - messages)]
 
 
 def main():
