@@ -1,7 +1,7 @@
 #!/usr/bin/env python3
 """Runs the examples of the documents on the built program, and compares what they show byte for byte.
 
-    documents.py [--program PATH] [--write] [DOCUMENT..]
+    documents.py [--program PATH] [--write] [--texts | DOCUMENT..]
 
 A document is run in a folder of its own that has bin/rcell, examples/ and tools/ as a fresh clone has them. Its fenced
 blocks are taken from the top:
@@ -10,8 +10,10 @@ blocks are taken from the top:
     text file=PATH   a file (also python file=PATH); the commands of later blocks find it
     text, sh         shown and not run: such a block has no command with its output
 The folder that a block goes to by `cd` is that of the next. With --write what is printed takes the place of what is shown.
-Of docs/DIFFERENCES.md the program's side of each table is run, too (tools/differences.py), and docs/COMMANDS.md must
-name each message that the program has. The last line is 'N passed, M failed'.
+Of docs/DIFFERENCES.md the program's side of each table is run, too (tools/differences.py). What needs no program is tried
+first, and with --texts alone: docs/COMMANDS.md has a row for each message of the program, docs/PROOFS.md the numbers of lines
+of the files that it lists, and docs/rcell.1 passes the warnings of man where it is installed. The last line is
+'N passed, M failed'.
 """
 import argparse
 import difflib
@@ -184,16 +186,60 @@ def check_messages():
     return len(messages & rows), faults + [f"docs/COMMANDS.md: no such message: '{text}'" for text in sorted(rows - messages)]
 
 
+COUNTED = re.compile(r"^\| (crates/\S+|all) \| (\d+) \|", re.MULTILINE)
+
+
+def check_counts(write):
+    """Whether docs/PROOFS.md has the numbers of lines of the files that it lists, and of each table; `write` mends them."""
+    path, total, counted, faults = f"{ROOT}/docs/PROOFS.md", 0, 0, []
+    with open(path, encoding="utf-8") as file:
+        document = file.read()
+
+    def with_count(found):
+        nonlocal total, counted
+        if found[1] == "all":
+            lines, total = total, 0
+        else:
+            with open(f"{ROOT}/{found[1]}", "rb") as listed:
+                lines = listed.read().count(b"\n")
+            total += lines
+        counted += lines == int(found[2])
+        if lines != int(found[2]):
+            faults.append(f"docs/PROOFS.md: {found[1]} has {lines} lines, and not {found[2]} (--write mends it)")
+        return f"| {found[1]} | {lines} |"
+
+    right = COUNTED.sub(with_count, document)
+    if write:
+        with open(path, "w", encoding="utf-8") as file:
+            file.write(right)
+    return counted, faults
+
+
+def check_page():
+    """Whether man has nothing to warn of on the manual page, where it is installed."""
+    if not shutil.which("man") or not shutil.which("groff"):
+        print("man or groff: not installed, the manual page is not tried")
+        return 0, []
+    environment = {**os.environ, "LC_ALL": "C.UTF-8", "MANROFFSEQ": "", "MANWIDTH": "80"}
+    ran = subprocess.run(["man", "--warnings", "-E", "UTF-8", "-l", "-Tutf8", "-Z", f"{ROOT}/docs/rcell.1"], env=environment,
+                         stdout=subprocess.DEVNULL, stderr=subprocess.PIPE, text=True)
+    warnings = ran.stderr.splitlines() or ["man fails"] * bool(ran.returncode)
+    return int(not warnings), [f"docs/rcell.1: {warning}" for warning in warnings]
+
+
 def main():
     words = argparse.ArgumentParser(description=__doc__, formatter_class=argparse.RawDescriptionHelpFormatter)
     words.add_argument("--program", default=f"{ROOT}/bin/rcell")
     words.add_argument("--write", action="store_true")
+    words.add_argument("--texts", action="store_true")
     words.add_argument("documents", nargs="*")
     settings = words.parse_args()
     program = os.path.abspath(settings.program)
-    checks = [(name, lambda name=name: run_document(name, program, settings.write)) for name in settings.documents or DOCUMENTS]
-    if not settings.documents:
-        checks += [("the tables of differences", lambda: check_differences(program)), ("the messages", check_messages)]
+    texts = [("the messages", check_messages), ("the manual page", check_page),
+             ("the numbers of lines", lambda: check_counts(settings.write))]
+    runs = [(name, lambda name=name: run_document(name, program, settings.write)) for name in settings.documents or DOCUMENTS]
+    runs += [] if settings.documents else [("the tables of differences", lambda: check_differences(program))]
+    checks = texts if settings.texts else runs if settings.documents else texts + runs
     passed = failed = 0
     for name, check in checks:
         good, faults = check()

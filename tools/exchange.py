@@ -1,14 +1,19 @@
 #!/usr/bin/env python3
-"""Exchanges grids with GRASS: it reads what bin/rcell writes, and bin/rcell reads what its r.out.ascii writes.
+"""Holds the program and the documents against GRASS and GDAL, each where it is installed (Debian: grass-core, gdal-bin).
 
-GRASS writes no line for another null text than `*`, so that line is put into what it wrote.
-Skips with a message where GRASS is not installed (Debian: grass-core). The last line is 'N passed, M failed'.
+GRASS reads what bin/rcell writes, and bin/rcell reads what its r.out.ascii writes; GRASS writes no line for another
+null text than `*`, so that line is put into what it wrote. Each answer of GRASS in docs/DIFFERENCES.md is asked again.
+GDAL reads what bin/rcell writes, and what it writes as AAIGrid comes back by tools/aaigrid.py. What is not installed is
+skipped with a message. The last line is 'N passed, M failed'.
 """
+import itertools
 import os
 import shutil
 import subprocess
 import sys
 import tempfile
+
+import differences
 
 ROOT = os.path.dirname(os.path.dirname(os.path.abspath(__file__)))
 HEADER = "north: {n}\nsouth: {s}\neast: {e}\nwest: {w}\nrows: {r}\ncols: {c}\n"
@@ -56,20 +61,48 @@ def exchange(room, text, null_value):
     return [f"{wanted!r}, by GRASS {other!r}" for wanted, other in ((table, found), (written, again)) if wanted != other]
 
 
-def main():
-    if not shutil.which("grass"):
-        print("grass: not installed, skipped")
-        print("0 passed, 0 failed")
-        return
-    passed = failed = 0
+def grids_by_grass():
+    """What differs where grids go to GRASS and back, one list a grid and null text."""
     with tempfile.TemporaryDirectory() as room:
         subprocess.run(["grass", "-e", "-c", "XY", f"{room}/here"], check=True, capture_output=True)
         for name, text in GRIDS.items():
             for null_value in (b"*", b"-9999"):
-                differences = exchange(room, text.encode(), null_value)
-                passed, failed = passed + (not differences), failed + bool(differences)
-                for difference in differences:
-                    print(f"{name}, null {null_value.decode()}: {difference}")
+                yield [f"{name}, null {null_value.decode()}: {it}" for it in exchange(room, text.encode(), null_value)]
+
+
+def differences_by_grass():
+    """Which answers of GRASS are not as docs/DIFFERENCES.md says, one list a row."""
+    for row in differences.rows():
+        with tempfile.TemporaryDirectory() as room:
+            answer = differences.by_grass(row, room)
+        yield [f"{differences.DOCUMENT}:{row.line}: GRASS answers {answer!r}, and not {row.grass!r}"] * (answer != row.grass)
+
+
+def grids_by_gdal():
+    """What differs where grids go to GDAL and back, one list a grid."""
+    writes, writes_number = b"r.out.ascii input=g\n", b"r.out.ascii input=g null_value=-9999\n"
+    for name, text in GRIDS.items():
+        with tempfile.TemporaryDirectory() as room:
+            written = by_rcell(room, text.encode(), writes)
+            with open(f"{room}/written", "wb") as file:
+                file.write(by_rcell(room, text.encode(), writes_number))
+            ran(["gdal_translate", "-q", "-of", "AAIGrid", "-ot", "Int32", "written", "back.asc"], room)
+            again = by_rcell(room, ran([sys.executable, f"{ROOT}/tools/aaigrid.py", "back.asc"], room), writes)
+        yield [f"{name}: {written!r}, by GDAL {again!r}"] * (again != written)
+
+
+CHECKS = {"grass": (grids_by_grass, differences_by_grass), "gdal_translate": (grids_by_gdal,)}
+
+
+def main():
+    passed = failed = 0
+    for program, checks in CHECKS.items():
+        if not shutil.which(program):
+            print(f"{program}: not installed, skipped")
+            continue
+        for found in itertools.chain.from_iterable(check() for check in checks):
+            passed, failed = passed + (not found), failed + bool(found)
+            print("".join(f"{it}\n" for it in found), end="", flush=True)
     print(f"{passed} passed, {failed} failed")
     sys.exit(failed > 0)
 
