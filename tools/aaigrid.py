@@ -88,7 +88,10 @@ def null_texts(found):
     text = found.get("nodata_value")
     if text is None:
         return set()
-    value = decimal(found, "nodata_value")
+    try:
+        value = decimal(found, "nodata_value")
+    except Refused:  # such as nan
+        return {text}
     return {text, str(int(value))} if value == value.to_integral_value() else {text}
 
 
@@ -102,7 +105,6 @@ def cells_of(first, line, lines, nulls):
                 yield word
             else:
                 raise Refused(f"line {number}: the cell {word} is no whole number (gdal_translate -ot Int32 writes whole numbers)")
-
 
 
 def convert(lines, write):
