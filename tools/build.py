@@ -61,13 +61,17 @@ class News:
             self.say(at, "proving")
 
 
+def log_of(name):
+    return f"{ROOT}/crates/{name}/out/build.log"
+
+
 def proved(name, jobs):
     """Proves a crate with its log beside it, and returns whether it is proved. The program is built and run once, too."""
     folder = f"{ROOT}/crates/{name}"
     os.makedirs(f"{folder}/out", exist_ok=True)
     words = ["rt", "run" if name == PROGRAM else "lib", *jobs]
     words += ["--", "data/script", "g=data/g.txt"] if name == PROGRAM else []
-    with open(f"{folder}/out/build.log", "wb") as log:
+    with open(log_of(name), "wb") as log:
         return subprocess.run(words, cwd=folder, stdin=subprocess.DEVNULL, stdout=log, stderr=log).returncode == 0
 
 
@@ -81,7 +85,9 @@ def build(news, at, jobs):
         over.set()
         thread.join()
     took = spelled(time.monotonic() - before)
-    news.say(at, f"proved in {took}" if is_proved else f"NOT proved, after {took}", ended=True)
+    # Of a library that has not changed rt says nothing.
+    is_old = is_proved and os.path.getsize(log_of(name)) == 0
+    news.say(at, "proved before" if is_old else f"proved in {took}" if is_proved else f"NOT proved, after {took}", ended=True)
     return is_proved
 
 
@@ -90,9 +96,8 @@ def main():
     print(f"Proving {len(news.crates)} crates, then building bin/rcell.", flush=True)
     for at, name in enumerate(news.crates, 1):
         if not build(news, at, jobs):
-            log = f"{ROOT}/crates/{name}/out/build.log"
-            with open(log, encoding="utf-8", errors="replace") as file:
-                print(*file.read().splitlines()[-LINES_OF_A_LOG:], f"The whole log: {log}", sep="\n")
+            with open(log_of(name), encoding="utf-8", errors="replace") as file:
+                print(*file.read().splitlines()[-LINES_OF_A_LOG:], f"The whole log: {log_of(name)}", sep="\n")
             print("Where that says nothing of a fault, memory may have run out: try make JOBS=1.")
             return 1
     os.makedirs(f"{ROOT}/bin", exist_ok=True)
