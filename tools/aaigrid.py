@@ -5,7 +5,7 @@
 
 The header is that of gdal_translate -of AAIGrid: ncols, nrows, xllcorner and yllcorner (or xllcenter and yllcenter),
 cellsize (or dx and dy), and NODATA_value where there is one. Cells of that value become *. Edges are computed exactly
-and written with at most 8 decimals. A cell that is no whole number is refused with its line.
+and written with at most 8 decimals. A cell that is not a whole number is refused with its line.
 """
 import itertools
 import sys
@@ -44,14 +44,14 @@ def decimal(found, *keys):
     except InvalidOperation:
         value = Decimal("NaN")
     if not value.is_finite():
-        raise Refused(f"{key} is no number: {found[key]}")
+        raise Refused(f"{key} is not a number: {found[key]}")
     return value
 
 
 def size(found, key):
     text = found.get(key, "")
     if not text.isdecimal() or int(text) == 0:
-        raise Refused(f"{key} is no number of cells: {text or 'missing'}")
+        raise Refused(f"{key} is not a number of cells: {text or 'missing'}")
     return int(text)
 
 
@@ -104,7 +104,7 @@ def cells_of(first, line, lines, nulls):
             elif is_whole(word):
                 yield word
             else:
-                raise Refused(f"line {number}: the cell {word} is no whole number (gdal_translate -ot Int32 writes whole numbers)")
+                raise Refused(f"line {number}: the cell {word} is not a whole number (gdal_translate -ot Int32 rounds)")
 
 
 def convert(lines, write):
