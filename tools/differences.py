@@ -66,16 +66,26 @@ def grid_text(lines):
 
 
 # The grids that the head of the document names.
-GRIDS = {"g": ["1 2"], "k": ["5 * 5"], "s": ["1 2 3 9 * 0 -5 100"], "t": ["2147483647 -5 *"],
+GRIDS = {"b": ["1 2 3 * 1 2 3 *"], "d": ["north: 8101594278.32", "1"], "g": ["1 2"], "k": ["5 * 5"],
+         "p": ["2147483647 100 * 4 5 -2147483647 * 100"], "s": ["1 2 3 9 * 0 -5 100"], "t": ["2147483647 -5 *"],
          "u": ["1 2 1", "1 2 1", "1 1 1", "3 3 3"], "w": ["1 2 1 2 1", "1 2 1 2 1", "1 1 1 1 1"]}
+
+
+def inputs_of(line):
+    """The words of a line that may name a map which it reads."""
+    name, _, rest = line.partition(" ")
+    if name == "r.mapcalc":
+        return re.findall(r"[A-Za-z_]\w*", rest.partition("=")[2])
+    named = [word.rpartition("=")[2] for word in rest.split() if re.match(r"(in(put)?=|[^-=]+$)", word)]
+    return re.split("[,@]", ",".join(named))
 
 
 def grids_of(row):
     """The grids that a row reads, by their names."""
     if row.grid:
         return {"m": grid_text(row.grid)}
-    words = set(re.findall(r"[A-Za-z_][A-Za-z0-9_.]*", " ".join(row.script)))
-    return {name: grid_text(GRIDS[name]) for name in GRIDS if name in words} or {"one": grid_text(["1"])}
+    named = {name for line in row.script if line.startswith("r.") for name in inputs_of(line)}
+    return {name: grid_text(GRIDS[name]) for name in GRIDS if name in named} or {"one": grid_text(["1"])}
 
 
 def made_map(script):
