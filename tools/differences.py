@@ -116,7 +116,8 @@ def by_rcell(row, program, room):
     for name, text in {"script": "\n".join(asked(row.script)) + "\n", **grids_of(row)}.items():
         with open(f"{room}/{name}", "w", encoding="ascii") as file:
             file.write(text)
-    ran = subprocess.run([program, "script", *(f"{name}={name}" for name in grids_of(row))], cwd=room, capture_output=True, text=True)
+    words = [program, "script", *(f"{name}={name}" for name in grids_of(row))]
+    ran = subprocess.run(words, cwd=room, capture_output=True, text=True)
     return ran.stderr.strip().removeprefix("rcell: ") if ran.returncode else joined(ran.stdout, row)
 
 

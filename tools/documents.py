@@ -12,7 +12,8 @@ blocks are taken from the top:
 The folder that a block goes to by `cd` is that of the next. With --write what is printed takes the place of what is shown.
 Of docs/DIFFERENCES.md the program's side of each table is run, too (tools/differences.py). What needs no program is tried
 first, and with --texts alone: docs/COMMANDS.md has a row for each message of the program, docs/PROOFS.md the numbers of lines
-of the files that it lists, and docs/rcell.1 passes the warnings of man where it is installed. The last line is
+of the files that it lists, README.md the figures of docs/SPEED.md, and docs/rcell.1 passes the warnings of man where it is
+installed. The last line is
 'N passed, M failed'.
 """
 import argparse
@@ -32,6 +33,7 @@ ROOT = os.path.dirname(os.path.dirname(os.path.abspath(__file__)))
 DOCUMENTS = ["README.md", "docs/GUIDE.md", "docs/COMMANDS.md", "docs/DIFFERENCES.md", "docs/PROOFS.md"]
 FENCE = re.compile(r"```(\S*)(?: file=(\S+))?\n(.*?)^```$", re.MULTILINE | re.DOTALL)
 COUNTED = re.compile(r"^\| (crates/\S+|all) \| (\d+) \|", re.MULTILINE)
+SPEED_ROW = re.compile(r"^\| ([^|]+) \| ([^|]+ cells) \| (.*?) \|$", re.MULTILINE)
 LANGUAGES = {"console", "text", "python", "sh"}
 SECONDS = 60
 END_OF_COMMAND = "==== a command of a document has ended ===="
@@ -215,6 +217,42 @@ def check_counts(write):
     return counted, faults
 
 
+def tables_of_speed():
+    """The rows of docs/SPEED.md by their task and the title of their table, each as its cells; the first of a name counts."""
+    found, title = {}, ""
+    with open(f"{ROOT}/docs/SPEED.md", encoding="utf-8") as file:
+        for line in file.read().splitlines():
+            cells = [cell.strip() for cell in line.strip("|").split("|")]
+            if len(cells) == 1 and line:
+                title = line
+            elif len(cells) > 1:
+                found.setdefault((cells[0], title), cells)
+    return found
+
+
+def check_speed(write):
+    """Whether the README has the figures of docs/SPEED.md, where that is; `write` mends them."""
+    if not os.path.exists(f"{ROOT}/docs/SPEED.md"):
+        return 0, []
+    with open(f"{ROOT}/README.md", encoding="utf-8") as file:
+        document = file.read()
+    tables, faults = tables_of_speed(), []
+
+    def with_figures(found):
+        cells = tables.get((found[1], found[2]))
+        figures = " | ".join([cells[1], cells[2], cells[-2], cells[-1]]) if cells else ""
+        if figures != found[3]:
+            faults.append(f"README.md: {found[1]}, {found[2]}: {figures} in docs/SPEED.md, and not {found[3]} (--write mends it)")
+        return f"| {found[1]} | {found[2]} | {figures} |"
+
+    right = SPEED_ROW.sub(with_figures, document)
+    counted = len(SPEED_ROW.findall(document)) - len(faults)
+    if write:
+        with open(f"{ROOT}/README.md", "w", encoding="utf-8") as file:
+            file.write(right)
+    return counted, faults
+
+
 def check_page():
     """Whether man has nothing to warn of on the manual page, where it is installed."""
     if not shutil.which("man") or not shutil.which("groff"):
@@ -236,7 +274,7 @@ def main():
     settings = words.parse_args()
     program = os.path.abspath(settings.program)
     texts = [("the messages", check_messages), ("the manual page", check_page),
-             ("the numbers of lines", lambda: check_counts(settings.write))]
+             ("the numbers of lines", lambda: check_counts(settings.write)), ("the figures", lambda: check_speed(settings.write))]
     runs = [(name, lambda name=name: run_document(name, program, settings.write)) for name in settings.documents or DOCUMENTS]
     runs += [] if settings.documents else [("the tables of differences", lambda: check_differences(program))]
     checks = texts if settings.texts else runs if settings.documents else texts + runs
