@@ -1,0 +1,109 @@
+// r.stats -c: combinations and their counts.
+#pragma once
+
+#include "grid.h"
+
+#include <algorithm>
+#include <unordered_map>
+#include <utility>
+
+// A cell as a number that orders as tables do, null last.
+inline uint32_t rank_of(int32_t cell) { return uint32_t(cell - 1u) ^ 0x80000000u; }
+inline int32_t cell_of(uint32_t rank) { return int32_t((rank ^ 0x80000000u) + 1u); }
+
+// The combinations of one, two and three maps.
+struct One {
+    using Key = uint32_t;
+    static constexpr size_t WIDTH = 1;
+    static Key key(const std::array<uint32_t, 3> &ranks) { return ranks[0]; }
+    static uint32_t rank(Key key, size_t) { return key; }
+    static uint64_t mixed(Key key) { return key * 0x9E3779B97F4A7C15u; }
+};
+
+struct Two {
+    using Key = uint64_t;
+    static constexpr size_t WIDTH = 2;
+    static Key key(const std::array<uint32_t, 3> &ranks) { return uint64_t(ranks[0]) << 32 | ranks[1]; }
+    static uint32_t rank(Key key, size_t at) { return uint32_t(at == 0 ? key >> 32 : key); }
+    static uint64_t mixed(Key key) { return (key ^ key >> 32) * 0x9E3779B97F4A7C15u; }
+};
+
+struct Three {
+    using Key = std::array<uint32_t, 3>;
+    static constexpr size_t WIDTH = 3;
+    static Key key(const std::array<uint32_t, 3> &ranks) { return ranks; }
+    static uint32_t rank(const Key &key, size_t at) { return key[at]; }
+    static uint64_t mixed(const Key &key) {
+        return ((key[0] * 0x9E3779B97F4A7C15u + key[1]) * 0x9E3779B97F4A7C15u + key[2]) * 0x9E3779B97F4A7C15u;
+    }
+};
+
+// Counts in a hashed table of std, found through the last combination that was counted at each of some thousand places.
+template <typename Form> class Counts {
+public:
+    using Key = typename Form::Key;
+
+    Counts() : recent(size_t(1) << PLACES_LOG) {}
+
+    void add(const Key &key, uint64_t cells) {
+        Recent &place = recent[Form::mixed(key) >> (64 - PLACES_LOG)];
+        if (place.count == nullptr || place.key != key) place = {key, &counts[key]};
+        *place.count += cells;
+    }
+
+    std::vector<std::pair<Key, uint64_t>> sorted() const {
+        std::vector<std::pair<Key, uint64_t>> entries(counts.begin(), counts.end());
+        std::sort(entries.begin(), entries.end());
+        return entries;
+    }
+
+private:
+    static constexpr int PLACES_LOG = 12;
+    struct Recent {
+        Key key{};
+        uint64_t *count = nullptr;
+    };
+    struct Hash {
+        size_t operator()(const Key &key) const { return Form::mixed(key) >> 20; }
+    };
+
+    std::vector<Recent> recent;
+    std::unordered_map<Key, uint64_t, Hash> counts;
+};
+
+template <typename Form> inline void write_table_of(const std::vector<Map> &maps, Output &output) {
+    Counts<Form> counts;
+    std::array<const int32_t *, Form::WIDTH> cells;
+    for (size_t m = 0; m < Form::WIDTH; m++) cells[m] = maps[m].cells.get();
+    const size_t size = maps[0].size();
+    // Cells that have the combination of the cell before are counted together.
+    for (size_t from = 0, to = 0; from < size; from = to) {
+        std::array<uint32_t, 3> ranks{};
+        for (size_t m = 0; m < Form::WIDTH; m++) ranks[m] = rank_of(cells[m][from]);
+        bool is_same = true;
+        while (is_same && ++to < size) {
+            for (size_t m = 0; m < Form::WIDTH; m++) is_same &= cells[m][to] == cells[m][from];
+        }
+        counts.add(Form::key(ranks), to - from);
+    }
+    for (const auto &[key, count] : counts.sorted()) {
+        for (size_t m = 0; m < Form::WIDTH; m++) {
+            char *end = put_cell(output.room(), cell_of(Form::rank(key, m)));
+            *end++ = ' ';
+            output.wrote_to(end);
+        }
+        char *end = put_number(output.room(), count);
+        *end++ = '\n';
+        output.wrote_to(end);
+    }
+}
+
+inline void write_table(const std::vector<Map> &maps, Output &output) {
+    for (const Map &map : maps) {
+        if (map.edges != maps[0].edges || map.rows != maps[0].rows || map.cols != maps[0].cols) fail("other region");
+    }
+    if (maps.size() == 1) write_table_of<One>(maps, output);
+    else if (maps.size() == 2) write_table_of<Two>(maps, output);
+    else if (maps.size() == 3) write_table_of<Three>(maps, output);
+    else fail("more than three maps");
+}
