@@ -107,26 +107,31 @@ inline int32_t any_cell(std::string_view token, std::string_view null_text) {
 // a minus sign; all others are left to `any_cell`.
 inline void read_cells(Input &input, std::string_view null_text, int32_t *cell, const int32_t *last) {
     const bool null_has_one_byte = null_text.size() == 1;
-    const bool null_is_negative = null_text[0] == '-';
-    const bool null_is_number = null_text[0] >= '0' && null_text[0] <= '9';
+    const char null_byte = null_text[0];
+    const bool null_is_number = null_byte >= '0' && null_byte <= '9';
     char *at = input.at;
     while (cell < last) {
         while (is_blank(*at)) at++;
         char *const begin = at;
-        if (*at == null_text[0] && null_has_one_byte && is_blank(at[1])) {
+        uint32_t number = uint32_t(*at) - '0', digit;
+        if (number < 10) {
+            while ((digit = uint32_t(*++at) - '0') < 10) number = number * 10 + digit;
+            if (is_blank(*at) && at - begin < 10 && !null_is_number) {
+                *cell++ = int32_t(number);
+                at++;
+                continue;
+            }
+        } else if (*at == null_byte && null_has_one_byte && is_blank(at[1])) {
             *cell++ = NULL_CELL;
-            at++;
+            at += 2;
             continue;
-        }
-        const bool minus = *at == '-';
-        at += minus;
-        char *const digits = at;
-        uint32_t number = 0;
-        for (uint32_t digit; (digit = uint32_t(*at) - '0') < 10; at++) number = number * 10 + digit;
-        if (is_blank(*at) && at > digits && at - digits < 10 && !null_is_number &&
-            !(minus && null_is_negative && std::string_view(begin, size_t(at - begin)) == null_text)) {
-            *cell++ = minus ? -int32_t(number) : int32_t(number);
-            continue;
+        } else if (*at == '-' && (number = uint32_t(*++at) - '0') < 10) {
+            while ((digit = uint32_t(*++at) - '0') < 10) number = number * 10 + digit;
+            if (is_blank(*at) && at - begin < 11) {
+                *cell++ = null_byte == '-' && std::string_view(begin, size_t(at - begin)) == null_text ? NULL_CELL : -int32_t(number);
+                at++;
+                continue;
+            }
         }
         input.at = begin;
         *cell++ = any_cell(input.token(), null_text);
@@ -162,60 +167,61 @@ inline Map read_map(const char *path) {
     return map;
 }
 
-// Standard output through a block.
+// Standard output through a block. Who writes holds the place where the next byte goes, and so may the compiler.
 class Output {
 public:
-    Output() : bytes(new char[BLOCK]), at(bytes.get()) {}
+    Output() : bytes(new char[BLOCK]), written(bytes.get()), limit(bytes.get() + BLOCK - LONGEST_TOKEN - 1) {}
 
-    // Where the next bytes go; there is room for a token and a byte after it.
-    char *room() {
-        if (at > bytes.get() + BLOCK - LONGEST_TOKEN - 1) flush();
-        return at;
+    char *start() const { return written; }
+
+    // Where to go on writing after `at`: there is room for a token and a byte.
+    char *room(char *at) {
+        if (at <= limit) return at;
+        wrote_to(at);
+        flush();
+        return written;
     }
 
-    void wrote_to(char *end) { at = end; }
-
-    // Turns the byte that was written last into a line feed.
-    void end_line() { at[-1] = '\n'; }
+    void wrote_to(char *at) { written = at; }
 
     void text(std::string_view text) {
-        for (const char byte : text) {
-            *room() = byte;
-            at++;
-        }
+        char *at = room(written);
+        if (text.size() > LONGEST_TOKEN) fail("token too long");
+        std::memcpy(at, text.data(), text.size());
+        written = at + text.size();
     }
 
     void flush() {
-        for (const char *from = bytes.get(); from < at;) {
-            const ssize_t put = write(STDOUT_FILENO, from, size_t(at - from));
+        for (const char *from = bytes.get(); from < written;) {
+            const ssize_t put = write(STDOUT_FILENO, from, size_t(written - from));
             if (put < 0) fail("write failed");
             from += put;
         }
-        at = bytes.get();
+        written = bytes.get();
     }
 
 private:
     std::unique_ptr<char[]> bytes;
-    char *at;
+    char *written, *limit;
 };
+
+// 00 to 99, and a byte more, so that two bytes can be copied from each place.
+constexpr std::array<char, 201> PAIRS = [] {
+    std::array<char, 201> pairs{};
+    for (size_t n = 0; n < 100; n++) {
+        pairs[2 * n] = char('0' + n / 10);
+        pairs[2 * n + 1] = char('0' + n % 10);
+    }
+    return pairs;
+}();
 
 // The decimal text of a number, written from the right by pairs of digits; the end of it.
 inline char *put_number(char *at, uint64_t number) {
-    static const std::array<char, 200> PAIRS = [] {
-        std::array<char, 200> pairs{};
-        for (int n = 0; n < 100; n++) {
-            pairs[size_t(2 * n)] = char('0' + n / 10);
-            pairs[size_t(2 * n + 1)] = char('0' + n % 10);
-        }
-        return pairs;
-    }();
-    if (number < 10) {
-        *at = char('0' + number);
-        return at + 1;
-    }
     if (number < 100) {
-        std::memcpy(at, &PAIRS[2 * number], 2);
-        return at + 2;
+        // No branch on one digit or two: nobody foretells it where categories stand at random.
+        const bool two = number >= 10;
+        std::memcpy(at, &PAIRS[2 * number + (two ? 0 : 1)], 2);
+        return at + (two ? 2 : 1);
     }
     size_t length = 2;
     for (uint64_t rest = number / 100; rest > 0; rest /= 10) length++;
@@ -235,25 +241,39 @@ inline char *put_cell(char *at, int32_t cell) {
     return put_number(at, uint32_t(cell < 0 ? -int64_t(cell) : cell));
 }
 
-// r.out.ascii: the text of a cell is copied where the cell on the left has the same.
+// The cell's text and a space `times` times, from `at` on. Where the cell is alone its digits go straight into the block;
+// else they are made once and copied.
+inline char *put_run(char *at, int32_t cell, size_t times, Output &output) {
+    at = output.room(at);
+    char *end = put_cell(at, cell);
+    *end++ = ' ';
+    if (times == 1) return end;
+    std::array<char, 16> text;
+    const size_t length = size_t(end - at);
+    std::memcpy(text.data(), at, text.size());
+    for (at = end; times > 1; times--) {
+        at = output.room(at);
+        std::memcpy(at, text.data(), text.size());
+        at += length;
+    }
+    return at;
+}
+
+// r.out.ascii.
 inline void write_map(const Map &map, Output &output) {
     static const std::array<std::string, 4> KEYS = {"north: ", "south: ", "east: ", "west: "};
     for (size_t key = 0; key < 4; key++) output.text(KEYS[key] + map.edges[key] + "\n");
     output.text("rows: " + std::to_string(map.rows) + "\ncols: " + std::to_string(map.cols) + "\n");
-    std::array<char, 16> text;
-    const int32_t *cell = map.cells.get();
+    char *at = output.start();
     for (size_t r = 0; r < map.rows; r++) {
-        size_t length = 0;
-        for (size_t c = 0; c < map.cols; c++, cell++) {
-            if (c == 0 || cell[0] != cell[-1]) {
-                char *end = put_cell(text.data(), *cell);
-                *end++ = ' ';
-                length = size_t(end - text.data());
-            }
-            char *at = output.room();
-            std::memcpy(at, text.data(), text.size());
-            output.wrote_to(at + length);
+        const int32_t *cell = &map.cells[r * map.cols], *const last = cell + map.cols;
+        while (cell < last) {
+            const int32_t *end = cell + 1;
+            while (end < last && *end == *cell) end++;
+            at = put_run(at, *cell, size_t(end - cell), output);
+            cell = end;
         }
-        output.end_line();
+        at[-1] = '\n';
     }
+    output.wrote_to(at);
 }

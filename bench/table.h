@@ -4,6 +4,7 @@
 #include "grid.h"
 
 #include <algorithm>
+#include <numeric>
 #include <unordered_map>
 #include <utility>
 
@@ -71,7 +72,34 @@ private:
     std::unordered_map<Key, uint64_t, Hash> counts;
 };
 
-template <typename Form> inline void write_table_of(const std::vector<Map> &maps, Output &output) {
+// The entries of one map whose categories lie close together, counted in an array; empty for another map. Neighbours are
+// counted in different columns, so that no addition waits for the one before.
+inline std::vector<std::pair<uint32_t, uint64_t>> entries_by_array(const Map &map) {
+    constexpr int64_t LONGEST = 4096;
+    constexpr size_t COLUMNS = 4;
+    int32_t least = INT32_MAX, greatest = -INT32_MAX;
+    for (size_t i = 0; i < map.size(); i++) {
+        const int32_t cell = map.cells[i];
+        least = std::min(least, cell == NULL_CELL ? INT32_MAX : cell);
+        greatest = std::max(greatest, cell);
+    }
+    const int64_t length = int64_t(greatest) - least + 1;
+    if (length < 1 || length > LONGEST) return {};
+    std::vector<std::array<uint32_t, COLUMNS>> counts(size_t(length) + 1);
+    for (size_t i = 0; i < map.size(); i++) {
+        const uint32_t place = std::min(rank_of(map.cells[i]) - rank_of(least), uint32_t(length));
+        counts[place][i % COLUMNS]++;
+    }
+    std::vector<std::pair<uint32_t, uint64_t>> entries;
+    for (size_t place = 0; place < counts.size(); place++) {
+        const uint64_t count = std::accumulate(counts[place].begin(), counts[place].end(), uint64_t(0));
+        const uint32_t rank = place == size_t(length) ? rank_of(NULL_CELL) : rank_of(least) + uint32_t(place);
+        if (count > 0) entries.push_back({rank, count});
+    }
+    return entries;
+}
+
+template <typename Form> inline std::vector<std::pair<typename Form::Key, uint64_t>> entries_by_hash(const std::vector<Map> &maps) {
     Counts<Form> counts;
     std::array<const int32_t *, Form::WIDTH> cells;
     for (size_t m = 0; m < Form::WIDTH; m++) cells[m] = maps[m].cells.get();
@@ -86,16 +114,23 @@ template <typename Form> inline void write_table_of(const std::vector<Map> &maps
         }
         counts.add(Form::key(ranks), to - from);
     }
-    for (const auto &[key, count] : counts.sorted()) {
+    return counts.sorted();
+}
+
+template <typename Form> inline void write_table_of(const std::vector<Map> &maps, Output &output) {
+    std::vector<std::pair<typename Form::Key, uint64_t>> entries;
+    if constexpr (Form::WIDTH == 1) entries = entries_by_array(maps[0]);
+    if (entries.empty()) entries = entries_by_hash<Form>(maps);
+    char *at = output.start();
+    for (const auto &[key, count] : entries) {
         for (size_t m = 0; m < Form::WIDTH; m++) {
-            char *end = put_cell(output.room(), cell_of(Form::rank(key, m)));
-            *end++ = ' ';
-            output.wrote_to(end);
+            at = put_cell(output.room(at), cell_of(Form::rank(key, m)));
+            *at++ = ' ';
         }
-        char *end = put_number(output.room(), count);
-        *end++ = '\n';
-        output.wrote_to(end);
+        at = put_number(output.room(at), count);
+        *at++ = '\n';
     }
+    output.wrote_to(at);
 }
 
 inline void write_table(const std::vector<Map> &maps, Output &output) {
