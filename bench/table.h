@@ -39,12 +39,14 @@ struct Three {
     }
 };
 
-// Counts in a hashed table of std, found through the last combination that was counted at each of some thousand places.
-template <typename Form> class Counts {
+template <typename Form> using Entries = std::vector<std::pair<typename Form::Key, uint64_t>>;
+
+// Counts in a hashed map of std, found through the last combination that was counted at each of some thousand places.
+template <typename Form> class StdCounts {
 public:
     using Key = typename Form::Key;
 
-    Counts() : recent(size_t(1) << PLACES_LOG) {}
+    StdCounts() : recent(size_t(1) << PLACES_LOG) {}
 
     void add(const Key &key, uint64_t cells) {
         Recent &place = recent[Form::mixed(key) >> (64 - PLACES_LOG)];
@@ -52,11 +54,7 @@ public:
         *place.count += cells;
     }
 
-    std::vector<std::pair<Key, uint64_t>> sorted() const {
-        std::vector<std::pair<Key, uint64_t>> entries(counts.begin(), counts.end());
-        std::sort(entries.begin(), entries.end());
-        return entries;
-    }
+    Entries<Form> entries() const { return {counts.begin(), counts.end()}; }
 
 private:
     static constexpr int PLACES_LOG = 12;
@@ -72,9 +70,65 @@ private:
     std::unordered_map<Key, uint64_t, Hash> counts;
 };
 
+// Counts in one array of places, at most half of them taken: a combination stands at the first free one from where its
+// hash says.
+template <typename Form> class OwnCounts {
+public:
+    using Key = typename Form::Key;
+
+    OwnCounts() : places(size_t(1) << length_log) {}
+
+    void add(const Key &key, uint64_t cells) {
+        Place &place = find(key);
+        if (place.count == 0) {
+            if (++taken * 2 > places.size()) {
+                grow();
+                return add_new(find(key), key, cells);
+            }
+            return add_new(place, key, cells);
+        }
+        place.count += cells;
+    }
+
+    Entries<Form> entries() const {
+        Entries<Form> found;
+        found.reserve(taken);
+        for (const Place &place : places) {
+            if (place.count > 0) found.push_back({place.key, place.count});
+        }
+        return found;
+    }
+
+private:
+    struct Place {
+        Key key{};
+        uint64_t count = 0;
+    };
+
+    static void add_new(Place &place, const Key &key, uint64_t cells) { place = {key, cells}; }
+
+    Place &find(const Key &key) {
+        size_t at = Form::mixed(key) >> (64 - length_log);
+        while (places[at].count > 0 && places[at].key != key) at = (at + 1) & (places.size() - 1);
+        return places[at];
+    }
+
+    void grow() {
+        std::vector<Place> old(size_t(1) << (length_log += 2));
+        old.swap(places);
+        for (const Place &place : old) {
+            if (place.count > 0) find(place.key) = place;
+        }
+    }
+
+    int length_log = 12;
+    std::vector<Place> places;
+    size_t taken = 0;
+};
+
 // The entries of one map whose categories lie close together, counted in an array; empty for another map. Neighbours are
 // counted in different columns, so that no addition waits for the one before.
-inline std::vector<std::pair<uint32_t, uint64_t>> entries_by_array(const Map &map) {
+inline Entries<One> entries_by_array(const Map &map) {
     constexpr int64_t LONGEST = 4096;
     constexpr size_t COLUMNS = 4;
     int32_t least = INT32_MAX, greatest = -INT32_MAX;
@@ -90,7 +144,7 @@ inline std::vector<std::pair<uint32_t, uint64_t>> entries_by_array(const Map &ma
         const uint32_t place = std::min(rank_of(map.cells[i]) - rank_of(least), uint32_t(length));
         counts[place][i % COLUMNS]++;
     }
-    std::vector<std::pair<uint32_t, uint64_t>> entries;
+    Entries<One> entries;
     for (size_t place = 0; place < counts.size(); place++) {
         const uint64_t count = std::accumulate(counts[place].begin(), counts[place].end(), uint64_t(0));
         const uint32_t rank = place == size_t(length) ? rank_of(NULL_CELL) : rank_of(least) + uint32_t(place);
@@ -99,8 +153,8 @@ inline std::vector<std::pair<uint32_t, uint64_t>> entries_by_array(const Map &ma
     return entries;
 }
 
-template <typename Form> inline std::vector<std::pair<typename Form::Key, uint64_t>> entries_by_hash(const std::vector<Map> &maps) {
-    Counts<Form> counts;
+template <typename Form, typename Counts> inline Entries<Form> entries_by_hash(const std::vector<Map> &maps) {
+    Counts counts;
     std::array<const int32_t *, Form::WIDTH> cells;
     for (size_t m = 0; m < Form::WIDTH; m++) cells[m] = maps[m].cells.get();
     const size_t size = maps[0].size();
@@ -114,13 +168,15 @@ template <typename Form> inline std::vector<std::pair<typename Form::Key, uint64
         }
         counts.add(Form::key(ranks), to - from);
     }
-    return counts.sorted();
+    Entries<Form> entries = counts.entries();
+    std::sort(entries.begin(), entries.end());
+    return entries;
 }
 
-template <typename Form> inline void write_table_of(const std::vector<Map> &maps, Output &output) {
-    std::vector<std::pair<typename Form::Key, uint64_t>> entries;
+template <typename Form> inline void write_table_of(const std::vector<Map> &maps, bool by_std, Output &output) {
+    Entries<Form> entries;
     if constexpr (Form::WIDTH == 1) entries = entries_by_array(maps[0]);
-    if (entries.empty()) entries = entries_by_hash<Form>(maps);
+    if (entries.empty()) entries = by_std ? entries_by_hash<Form, StdCounts<Form>>(maps) : entries_by_hash<Form, OwnCounts<Form>>(maps);
     char *at = output.start();
     for (const auto &[key, count] : entries) {
         for (size_t m = 0; m < Form::WIDTH; m++) {
@@ -133,12 +189,12 @@ template <typename Form> inline void write_table_of(const std::vector<Map> &maps
     output.wrote_to(at);
 }
 
-inline void write_table(const std::vector<Map> &maps, Output &output) {
+inline void write_table(const std::vector<Map> &maps, bool by_std, Output &output) {
     for (const Map &map : maps) {
         if (map.edges != maps[0].edges || map.rows != maps[0].rows || map.cols != maps[0].cols) fail("other region");
     }
-    if (maps.size() == 1) write_table_of<One>(maps, output);
-    else if (maps.size() == 2) write_table_of<Two>(maps, output);
-    else if (maps.size() == 3) write_table_of<Three>(maps, output);
+    if (maps.size() == 1) write_table_of<One>(maps, by_std, output);
+    else if (maps.size() == 2) write_table_of<Two>(maps, by_std, output);
+    else if (maps.size() == 3) write_table_of<Three>(maps, by_std, output);
     else fail("more than three maps");
 }
