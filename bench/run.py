@@ -4,7 +4,8 @@
 run.py [--short] [--rounds N] [--only WORD] [--program PATH]
 
 First each task is done once by both, and their outputs are compared byte for byte. Then they take turns, and the least
-processor time (user and system) of all rounds counts, so that other work on the machine disturbs little. All times are
+processor time (user and system) of all rounds counts, so that other work on the machine disturbs little; grids of up to 4
+million cells have three times N rounds. All times are
 milliseconds for a million cells of one map, from the start of a program to its end, output to /dev/null. What a task costs
 beyond reading is its time without that of reading the same grids by the same program. Memory is the peak of the process,
 in bytes a cell of one map.
@@ -26,6 +27,9 @@ ROOT = os.path.dirname(HERE)
 OUT = f"{HERE}/out"
 NAMES = "ghi"
 SHORT_SIDE = 1000
+# Grids of few cells are timed in more rounds, since what disturbs a short run is a greater part of it.
+FEW_SIDE = 2000
+ROUNDS_FOR_FEW = 3
 MILLION = 1e6
 
 
@@ -71,6 +75,10 @@ WRITE = Task("r.out.ascii", "r.out.ascii input=g\n", ("none", "ascii"))
 STATS = Task("r.stats -c", "r.stats -c input=g\n", ("none", "stats"))
 STATS_TWO = Task("r.stats -c of two maps", "r.stats -c input=g,h\n", ("none", "stats"), 2)
 STATS_THREE = Task("r.stats -c of three maps", "r.stats -c input=g,h,i\n", ("none", "stats"), 3)
+BY_STD = ("none", "stats-std")
+STD = Task("r.stats -c, by std", STATS.script, BY_STD)
+STD_TWO = Task("r.stats -c of two maps, by std", STATS_TWO.script, BY_STD, 2)
+STD_THREE = Task("r.stats -c of three maps, by std", STATS_THREE.script, BY_STD, 3)
 CLUMP = Task("r.clump", "r.clump input=g output=m\n", ("clump", "nothing"))
 CLUMP_CORNERS = Task("r.clump -d", "r.clump -d input=g output=m\n", ("clump-d", "nothing"))
 CLUMP_WRITE = Task("r.clump, r.out.ascii", CLUMP.script + "r.out.ascii input=m\n", ("clump", "ascii"))
@@ -98,15 +106,15 @@ PARTS = {
         Bench("another category at each cell, 25 million cells", (("apart", 1),), 5000, (READ, STATS, WRITE)),
     ),
     "Tables": (
-        Bench("20,000 categories at random, 1 million cells", (("random:20000", 1),), 1000, (STATS.aiming(beyond=2),)),
-        Bench("200,000 categories at random, 1 million cells", (("random:200000", 1),), 1000, (STATS.aiming(beyond=2),)),
-        Bench("10,000 categories in blocks of 60 by 60, 36 million cells", (("blocks:60", 1),), 6000, (STATS.aiming(beyond=2),)),
-        Bench("three land covers, 4 million cells", (("cover", 1), ("cover", 2), ("cover", 3)), 2000, (STATS_THREE.aiming(beyond=2),)),
-        Bench("patchy land cover, 25 million cells", (("patchy", 1),), 5000, (STATS.aiming(beyond=2),)),
-        Bench("two patchy land covers, 4 million cells", (("patchy", 1), ("patchy", 2)), 2000, (STATS_TWO,)),
-        Bench("two maps of noise, 4 million cells", (("noise", 1), ("noise", 2)), 2000, (STATS_TWO,)),
-        Bench("two maps of 40 values at random, 4 million cells", (("random:40", 1), ("random:40", 2)), 2000, (STATS_TWO,)),
-        Bench("two maps of 100 values at random, 4 million cells", (("random:100", 1), ("random:100", 2)), 2000, (STATS_TWO,)),
+        Bench("20,000 categories at random, 1 million cells", (("random:20000", 1),), 1000, (STATS, STD.aiming(beyond=2))),
+        Bench("200,000 categories at random, 1 million cells", (("random:200000", 1),), 1000, (STATS, STD.aiming(beyond=2))),
+        Bench("10,000 categories in blocks of 60 by 60, 36 million cells", (("blocks:60", 1),), 6000, (STATS, STD.aiming(beyond=2))),
+        Bench("three land covers, 4 million cells", (("cover", 1), ("cover", 2), ("cover", 3)), 2000, (STATS_THREE, STD_THREE.aiming(beyond=2))),
+        Bench("patchy land cover, 25 million cells", (("patchy", 1),), 5000, (STATS, STD.aiming(beyond=2))),
+        Bench("two patchy land covers, 4 million cells", (("patchy", 1), ("patchy", 2)), 2000, (STATS_TWO, STD_TWO)),
+        Bench("two maps of noise, 4 million cells", (("noise", 1), ("noise", 2)), 2000, (STATS_TWO, STD_TWO)),
+        Bench("two maps of 40 values at random, 4 million cells", (("random:40", 1), ("random:40", 2)), 2000, (STATS_TWO, STD_TWO)),
+        Bench("two maps of 100 values at random, 4 million cells", (("random:100", 1), ("random:100", 2)), 2000, (STATS_TWO, STD_TWO)),
     ),
     "Areas": tuple(
         Bench(f"{title}, 4 million cells", ((kind, 1),), 2000, AREAS)
@@ -214,20 +222,29 @@ def run(bench, program, rounds, side):
     contests = [Contest(task, paths, program, number) for number, task in enumerate(tasks)]
     for contest in contests:
         contest.check()
+    rounds *= ROUNDS_FOR_FEW if side <= FEW_SIDE else 1
     for number in range(rounds):
-        say(f"  round {number + 1} of {rounds}")
+        print(f"\r  round {number + 1} of {rounds}", end="\n" if number + 1 == rounds else "", file=sys.stderr, flush=True)
         for contest in contests:
             contest.turn()
     return [row(contest, contests[0], side * side) for contest in contests]
 
 
-def grass(grid):
-    """Seconds of the processor that r.in.ascii and r.stats -c take in a new location of GRASS."""
+def grass(grid, program):
+    """Seconds of the processor that r.in.ascii and r.stats -c take in a new location of GRASS; its table is rcell's."""
+    contest = Contest(STATS, [grid], program, 0)
+    outputs = [f"{OUT}/output-of-{by}" for by in ("grass", "rcell")]
     with tempfile.TemporaryDirectory() as room:
         subprocess.run(["grass", "-e", "-c", "XY", f"{room}/here"], check=True, capture_output=True)
         words = [shutil.which("grass"), f"{room}/here/PERMANENT", "--exec", "sh", "-c",
                  f"r.in.ascii input={grid} output=g type=CELL --quiet && g.region raster=g && r.stats -c input=g --quiet"]
-        return measure(words)[0]
+        seconds = measure(words, outputs[0])[0]
+    measure(contest.words()[0], outputs[1])
+    if not filecmp.cmp(*outputs, shallow=False):
+        sys.exit("GRASS wrote another table")
+    for output in outputs:
+        os.remove(output)
+    return seconds
 
 
 def main():
@@ -237,6 +254,7 @@ def main():
     parser.add_argument("--only", default="")
     parser.add_argument("--program", default=f"{ROOT}/bin/rcell")
     wanted = parser.parse_args()
+    program = os.path.abspath(wanted.program)
     build()
     for part, benches in PARTS.items():
         if wanted.only.lower() not in part.lower():
@@ -245,14 +263,14 @@ def main():
         for bench in benches:
             side = SHORT_SIDE if wanted.short else bench.side
             say(f"{part}: {bench.title}")
-            rows = run(bench, os.path.abspath(wanted.program), wanted.rounds, side)
+            rows = run(bench, program, wanted.rounds, side)
             print(f"{bench.title}" + (" (here 1 million)" if wanted.short and bench.side != SHORT_SIDE else "") + "\n")
             for words in (HEAD, ["---"] * len(HEAD), *rows):
                 print("| " + " | ".join(words) + " |")
             print(flush=True)
     if shutil.which("grass") and not wanted.only:
         side = SHORT_SIDE if wanted.short else 5000
-        seconds = grass(grid_file("patchy", 1, side))
+        seconds = grass(grid_file("patchy", 1, side), program)
         print(f"GRASS, patchy land cover, r.in.ascii and r.stats -c: {seconds * 1000 * MILLION / side / side:.1f} ms a million cells")
 
 

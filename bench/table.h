@@ -175,7 +175,9 @@ template <typename Form, typename Counts> inline Entries<Form> entries_by_hash(c
 
 template <typename Form> inline void write_table_of(const std::vector<Map> &maps, bool by_std, Output &output) {
     Entries<Form> entries;
-    if constexpr (Form::WIDTH == 1) entries = entries_by_array(maps[0]);
+    if constexpr (Form::WIDTH == 1) {
+        if (!by_std) entries = entries_by_array(maps[0]);
+    }
     if (entries.empty()) entries = by_std ? entries_by_hash<Form, StdCounts<Form>>(maps) : entries_by_hash<Form, OwnCounts<Form>>(maps);
     char *at = output.start();
     for (const auto &[key, count] : entries) {
