@@ -46,7 +46,7 @@ template <typename Form> class StdCounts {
 public:
     using Key = typename Form::Key;
 
-    StdCounts() : recent(size_t(1) << PLACES_LOG) {}
+    StdCounts() : recent(size_t(1) << PLACES_LOG) { counts.reserve(EXPECTED); }
 
     void add(const Key &key, uint64_t cells) {
         Recent &place = recent[Form::mixed(key) >> (64 - PLACES_LOG)];
@@ -58,12 +58,14 @@ public:
 
 private:
     static constexpr int PLACES_LOG = 12;
+    static constexpr size_t EXPECTED = 65536;
     struct Recent {
         Key key{};
         uint64_t *count = nullptr;
     };
     struct Hash {
-        size_t operator()(const Key &key) const { return Form::mixed(key) >> 20; }
+        size_t operator()(const Key &key) const { if constexpr (Form::WIDTH <= 2) return key;
+            else return Form::mixed(key) >> 20; }
     };
 
     std::vector<Recent> recent;
