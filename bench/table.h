@@ -64,8 +64,10 @@ private:
         uint64_t *count = nullptr;
     };
     struct Hash {
-        size_t operator()(const Key &key) const { if constexpr (Form::WIDTH <= 2) return key;
-            else return Form::mixed(key) >> 20; }
+        size_t operator()(const Key &key) const {
+            if constexpr (Form::WIDTH <= 2) return key;
+            else return Form::mixed(key) >> 20;
+        }
     };
 
     std::vector<Recent> recent;
