@@ -2,7 +2,7 @@
 # make example  builds it, and runs it on the land cover of examples/land-cover
 # make check    the gate: every proof from nothing, then the program on each folder of cases/ and examples/
 # make edits    tries the edits of crates/NAME/edits/, which the gate leaves alone: each must be refused
-# make bench    times it beside a yardstick by hand in C++ and prints the tables of docs/SPEED.md; BENCH=--short takes a minute or two
+# make bench    times it against a plain program by hand on a grid of 100 MB
 # make exchange has GRASS, where it is installed, read what it writes and the other way round
 
 PROGRAM = crates/rcell_program
@@ -27,7 +27,7 @@ edits:
 	sh tools/edits.sh
 
 bench: bin/rcell
-	python3 bench/run.py $(BENCH)
+	python3 bench/run.py
 
 exchange: bin/rcell
 	python3 tools/exchange.py
