@@ -5,7 +5,7 @@ use Rattle.cell_core.specs.Grid.{Grid, CellValue}
 use Rattle.cell_clump.specs.declared.clump.Joining.{Joining}
 use Rattle.cell_clump.specs.Areas.{at, AreAdjacent, AreJoined}
 use Rattle.cell_clump.specs.parts.Labels.{TellsOpen, closed, after_join}
-use Rattle.cell_clump.specs.parts.Pairs.{cell_of, AreSound, ArePairs, ArePairsJoined}
+use Rattle.cell_clump.specs.parts.Pairs.{cell_of, AreSound, ArePairs, ArePairsJoined, AreJoinedAlong}
 use Rattle.cell_clump.proofs.PathLemmas.{AreJoined-refl, AreJoined-adjacent, AreJoined-trans, AreJoined-sym}
 
 closed_high : (f : ℕ → ℕ) (high low k : ℕ) → f k ≡ high → closed f high low k ≡ low
@@ -104,3 +104,32 @@ ArePairsJoined-more j m w table new open_of ones one_at others other_at i pairs 
 ArePairsJoined-more j m w table new open_of ones one_at others other_at i pairs h long lt ones_inside others_inside (inr t) =
     subst (λ (l : List ℕ). ArePairsJoined j m w l open_of ones one_at others other_at (i + 1)) (sym t.1)
     (ArePairsJoined-skip j m w table open_of ones one_at others other_at i h (λ v e d. t.0 (rw e refl, e ∙ sym d)))
+
+-- both cells of the pair before one have a category
+abbrev pub Follows : List CellValue → List CellValue → ℕ → ℤ → Type 0
+Follows ones others i v = (k : ℕ) × (k + 1 ≡ i) × (get_or ones k None ≡ Some v) × (get_or others k None ≡ Some v)
+
+-- a pair of the category of the one before, in two runs whose neighbours were joined
+ArePairsJoined-follows : (j : Joining) (m : Grid) (w : ℕ) (table : List ℕ) (open_of : ℕ → ℕ) (ones : List CellValue) (one_at : ℕ) (others : List CellValue) (other_at : ℕ) (i : ℕ) → AreJoinedAlong open_of ones one_at → AreJoinedAlong open_of others other_at → ArePairsJoined j m w table open_of ones one_at others other_at i → ((v : ℤ) → get_or ones i None ≡ Some v → get_or others i None ≡ Some v → Follows ones others i v) → ArePairsJoined j m w table open_of ones one_at others other_at (i + 1)
+ArePairsJoined-follows j m w table open_of ones one_at others other_at i ones_along others_along h before = record {
+  after = h.after;
+  sound = h.sound;
+  keeps = h.keeps;
+  joins = below_more (λ (k : ℕ). (v : ℤ) → get_or ones k None ≡ Some v → get_or others k None ≡ Some v → h.after (one_at + k) ≡ h.after (other_at + k)) i h.joins
+      (λ v e d.
+      let t = before v e d in
+      let k : ℕ = t.0 in
+      let next : k + 1 ≡ i = t.1 in
+      let lt : k < i = omega arith in
+      let one : h.after (one_at + k) ≡ h.after (one_at + (k + 1)) = h.keeps _ _ (ones_along.beside k v t.2 (ap (λ (n : ℕ). get_or ones n None) next ∙ e)) in
+      let other : h.after (other_at + k) ≡ h.after (other_at + (k + 1)) = h.keeps _ _ (others_along.beside k v t.3 (ap (λ (n : ℕ). get_or others n None) next ∙ d)) in
+      ap (λ (n : ℕ). h.after (one_at + n)) (sym next) ∙ sym one ∙ h.joins k lt v t.2 t.3 ∙ other ∙ ap (λ (n : ℕ). h.after (other_at + n)) next);
+}
+
+-- a pair that was looked at, by what was done where it begins a stretch
+pub ArePairsJoined-next : (j : Joining) (m : Grid) (w : ℕ) (table new : List ℕ) (open_of : ℕ → ℕ) (ones : List CellValue) (one_at : ℕ) (others : List CellValue) (other_at : ℕ) (i : ℕ) → ArePairs j m w ones one_at others other_at → AreJoinedAlong open_of ones one_at → AreJoinedAlong open_of others other_at → (h : ArePairsJoined j m w table open_of ones one_at others other_at i) → length new ≡ length table → i < length ones → one_at + length ones ≤ length table → other_at + length ones ≤ length table → ((v : ℤ) × (get_or ones i None ≡ Some v) × (get_or others i None ≡ Some v) × TellsOpen new (after_join h.after (one_at + i) (other_at + i))) ⊎ (((v : ℤ) → get_or ones i None ≡ Some v → get_or others i None ≡ Some v → Follows ones others i v) × (new ≡ table)) → ArePairsJoined j m w new open_of ones one_at others other_at (i + 1)
+ArePairsJoined-next j m w table new open_of ones one_at others other_at i pairs ones_along others_along h long lt ones_inside others_inside (inl t) =
+    ArePairsJoined-pair j m w table new open_of ones one_at others other_at i t.0 pairs h long t.3 lt ones_inside others_inside t.1 t.2
+ArePairsJoined-next j m w table new open_of ones one_at others other_at i pairs ones_along others_along h long lt ones_inside others_inside (inr t) =
+    subst (λ (l : List ℕ). ArePairsJoined j m w l open_of ones one_at others other_at (i + 1)) (sym t.1)
+    (ArePairsJoined-follows j m w table open_of ones one_at others other_at i ones_along others_along h t.0)
