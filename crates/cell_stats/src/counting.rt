@@ -3,7 +3,7 @@
 ghost use Rattle.std.specs.Prelude.{◌≡◌, ◌≢◌, ◌+◌, ◌-◌, ◌<◌, ◌≤◌, ◌^◌, ◌↔◌, length, take, All, Some, cond, OnOk, IfOk, IsTrue};
 ghost use Rattle.std.specs.BTreeMap as tree;
 ghost use Rattle.cell_stats.specs.Combinations.{Combination, combination_cmp};
-ghost use Rattle.cell_stats.specs.Held.{is_same, mapped_of, held_by, total_of, HasNoZero, Grows};
+ghost use Rattle.cell_stats.specs.parts.Held.{is_same, mapped_of, held_by, total_of, HasNoZero, Grows};
 
 use crate::combination::Combo;
 use cell_core::cell::Cell;
@@ -23,11 +23,11 @@ const NEAR: usize = 12;
 // The most maps that are tallied together.
 pub(crate) const WIDEST: usize = 16;
 
-// A combination, behind which stand nulls, and cells of it that are not in the map yet.
+// How many cells of a combination are not in the map yet, and the combination, followed by nulls.
 #[derive(Clone, Copy)]
 pub(crate) struct Held {
-    cells: [Cell; 16],
     count: u64,
+    cells: [Cell; 16],
 }
 
 impl Held {
@@ -36,8 +36,8 @@ impl Held {
         ensures { result.count ≡ 0 }
     {
         Held {
-            cells: [Cell::null(); 16],
             count: 0,
+            cells: [Cell::null(); 16],
         }
     }
 }

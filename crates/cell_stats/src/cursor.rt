@@ -3,7 +3,7 @@
 ghost use Rattle.std.specs.Prelude.{◌≡◌, ◌<◌, ◌≤◌, length, map, drop, All, OnOk, IfOk};
 ghost use Rattle.cell_core.specs.Grid.{row_at};
 ghost use Rattle.cell_core.specs.Runs.{written_out};
-ghost use Rattle.cell_stats.specs.Cursors.{to_come, IsReady, row_in};
+ghost use Rattle.cell_stats.specs.parts.Cursors.{to_come, IsReady, row_in};
 
 use cell_core::cell::Cell;
 use cell_core::map::CellMap;

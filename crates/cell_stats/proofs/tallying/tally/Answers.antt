@@ -6,7 +6,7 @@ use Rattle.std.specs.Map.{lookup}
 use Rattle.cell_core.specs.Region.{RegionValue, IsRegion}
 use Rattle.cell_stats.specs.Combinations.{Combination, combination_cmp, all_combinations}
 use Rattle.cell_stats.specs.Counts.{count_of}
-use Rattle.cell_stats.specs.Held.{total_of, held_of, mapped_of}
+use Rattle.cell_stats.specs.parts.Held.{total_of, held_of, mapped_of}
 use Rattle.cell_stats.specs.Tables.{Pairs, kept}
 use Rattle.cell_stats.specs.declared.counting.Held.{Held}
 use Rattle.std.proofs.lemmas.List.{length-replicate}
