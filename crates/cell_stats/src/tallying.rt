@@ -8,7 +8,7 @@ ghost use Rattle.cell_stats.specs.parts.Held.{total_of, HasNoZero};
 ghost use Rattle.cell_stats.specs.Tables.{IsTable, Pairs, kept, table_of};
 
 use crate::combination::Combo;
-use crate::counting::{Held, add, flush_all, places_for};
+use crate::counting::{Held, add, first_places, flush_all, make_room};
 use crate::cursor::{pass_all, start_all};
 use crate::selection::Selection;
 use crate::skip::{Skip, is_left_out};
@@ -74,10 +74,12 @@ pub fn tally(alloc: Global, shelf: &Shelf, picks: &[usize], skip: Skip) -> Resul
     let width = picks.len();
     let mut cells = vec![in alloc; Cell::null(); width]?;
     let mut spare = Combo::from_cells(alloc, &cells)?;
-    let mut places = vec![in alloc; Held::nothing(); places_for(shelf)]?;
+    let mut places = first_places(alloc, shelf)?;
     let mut counted = BTreeMap::new(alloc);
     let selection = Selection { shelf, picks, skip };
+    let mut before = 0;
     for row in 0..shelf.region().rows() {
+        before = make_room(alloc, width, before, &mut spare, &mut places, &mut counted)?;
         count_row(
             alloc,
             selection,
