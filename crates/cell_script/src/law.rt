@@ -1,6 +1,6 @@
 //! Laws of scripts.
 
-ghost use Rattle.cell_script.specs.ScriptLaw.{OneScript, NoFaultOfAScript};
+ghost use Rattle.cell_script.specs.ScriptLaw.{OneScript, NoFaultOfAScript, ScriptsAreGrouped};
 
 use cell_language::assignment::one_assignment;
 
@@ -17,3 +17,9 @@ pub fn no_fault_of_a_script()
 {
     one_assignment();
 }
+
+/// A text is a script of statements exactly where its lines group into them: a command is a line, and an r.reclass its
+/// line, those of its rules and `end`; blank lines and comments say nothing.
+pub fn scripts_are_grouped()
+    ensures { ScriptsAreGrouped }
+{}
