@@ -1,6 +1,6 @@
 -- A text is read as the statements into which its lines group.
 use Rattle.std.proofs.Common.{◌≡◌, ℕ, ◌+◌, ◌≤◌, suc, ◌<◌, Bool, true, false, cond, List, [], ◌∷◌, ◌++◌, length, get_or, All, Option, Some, None, Result, Ok, Err, inl, inr, codes, refl, ap, sym, ◌∙◌, subst, append_assoc, arith}
-use Rattle.std.specs.Prelude.{nat_lt, bytes_eq, MatchResult}
+use Rattle.std.specs.Prelude.{◌↔◌, nat_lt, bytes_eq}
 use Rattle.std.specs.Cmp.Lexicographic.{bytes_decides}
 use Rattle.std.proofs.lemmas.Bool.{ltb-false, le-ltb}
 use Rattle.std.proofs.lemmas.List.{append-nil}
@@ -12,13 +12,11 @@ use Rattle.cell_cats.specs.declared.rules.LineKind.TheVariants as line_kind
 use Rattle.cell_cats.specs.declared.rules.RuleFault.{RuleFault}
 use Rattle.cell_text.specs.Blanks.{trimmed}
 use Rattle.cell_script.specs.Commands.{IsHead}
-use Rattle.cell_script.specs.Grouping.{Line, numbered, IsSkipped, IsEnd, SpellsRule, SpellRules, Group, IsGrouped}
+use Rattle.cell_script.specs.Grouping.{Line, numbered, IsSkipped, IsEnd, SpellsRule, AreRules, Group, IsGrouped}
 use Rattle.cell_script.specs.Grouping as grouping
 use Rattle.cell_script.specs.Known.{known_after}
 use Rattle.cell_script.specs.Lines.{script_lines}
 use Rattle.cell_script.specs.Reading.{start, after_head, after_rule, as_rule, rule_line, with_statement, IsReading}
-use Rattle.cell_script.specs.ScriptLaw.{ScriptsAreGrouped}
-use Rattle.cell_script.specs.Scripts.{IsScript}
 use Rattle.cell_script.specs.Spelling.{Spells, SpellsReclass}
 use Rattle.cell_script.specs.declared.fault.ScriptFault.{ScriptFault}
 use Rattle.cell_script.specs.declared.fault.ScriptKind.{ScriptKind}
@@ -107,7 +105,7 @@ record Inside (known : List (List ℕ)) (block : Block) (lines : List Line) (sta
   others : List Line
   more : List Statement
   lines_are : inner ++ last ∷ others ≡ lines
-  spell : SpellRules inner rules
+  spell : AreRules inner rules
   is_last : IsEnd last.bytes
   statements_are : statements ≡ record { line = block.line; command = Reclass block.place block.target (block.rules ++ rules) } ∷ more
   group : Group (known ++ block.target ∷ []) others more
@@ -187,7 +185,7 @@ rule-rest line known before block l ls statements (Ok (line_kind.End, rules)) mo
       statements_are = sym (append_assoc before (s ∷ []) r.more) ∙ r.statements_are;
       rest = record {
         rules = []; inner = []; last = record { number = line; bytes = l }; others = numbered (line + 1) ls; more = r.more; lines_are = refl;
-        spell = grouping.SpellRules.none; is_last = says.1;
+        spell = grouping.AreRules.none; is_last = says.1;
         statements_are = ap (λ rs. record { line = block.line; command = Reclass block.place block.target rs } ∷ r.more) (sym (append-nil block.rules));
         group = r.rest;
       };
@@ -202,7 +200,7 @@ rule-rest line known before block l ls statements (Ok (line_kind.Skipped, rules)
       rest = record {
         rules = inside.rules; inner = record { number = line; bytes = l } ∷ inside.inner; last = inside.last; others = inside.others; more = inside.more;
         lines_are = ap (λ ls. record { number = line; bytes = l } ∷ ls) inside.lines_are;
-        spell = grouping.SpellRules.skipped {line = record { number = line; bytes = l }} says.1.0 inside.spell; is_last = inside.is_last;
+        spell = grouping.AreRules.skipped {line = record { number = line; bytes = l }} says.1.0 inside.spell; is_last = inside.is_last;
         statements_are = inside.statements_are ∙ ap (λ rs. record { line = block.line; command = Reclass block.place block.target (rs ++ inside.rules) } ∷ inside.more) says.1.1;
         group = inside.group;
       };
@@ -218,7 +216,7 @@ rule-rest line known before block l ls statements (Ok (line_kind.Rule, rules)) m
       rest = record {
         rules = rule ∷ inside.rules; inner = record { number = line; bytes = l } ∷ inside.inner; last = inside.last; others = inside.others; more = inside.more;
         lines_are = ap (λ ls. record { number = line; bytes = l } ∷ ls) inside.lines_are;
-        spell = grouping.SpellRules.rule {line = record { number = line; bytes = l }} says.1.1.0 inside.spell; is_last = inside.is_last;
+        spell = grouping.AreRules.rule {line = record { number = line; bytes = l }} says.1.1.0 inside.spell; is_last = inside.is_last;
         statements_are = inside.statements_are
         ∙ ap (λ rs. record { line = block.line; command = Reclass block.place block.target rs } ∷ inside.more)
         (ap (λ rs. rs ++ inside.rules) says.1.1.1 ∙ append_assoc block.rules (rule ∷ []) inside.rules);
@@ -256,26 +254,26 @@ short-tail : (l : List ℕ) (ls : List (List ℕ)) → All (λ l. length l ≤ 6
 short-tail l ls all = λ i d within. all (suc i) d (omega (arith, within))
 
 -- the rules of an r.reclass, and what comes after its end
-inside-read : {inner : List Line} {rules : List RuleValue} → SpellRules inner rules → (known : List (List ℕ)) (before : List Statement) (block : Block) (last : Line) (others : List Line) (statements : List Statement)
+inside-read : {inner : List Line} {rules : List RuleValue} → AreRules inner rules → (known : List (List ℕ)) (before : List Statement) (block : Block) (last : Line) (others : List Line) (statements : List Statement)
     → IsEnd last.bytes
     → Reads (known ++ block.target ∷ []) (before ++ record { line = block.line; command = Reclass block.place block.target (block.rules ++ rules) } ∷ []) others statements
     → (line : ℕ) (ls : List (List ℕ)) → inner ++ last ∷ others ≡ numbered line ls → All (λ l. length l ≤ 65535) ls → IsReading line (progress known before (Some block)) ls (Ok statements)
-inside-read grouping.SpellRules.none known before block last others statements is_last reads line [] e short = cc
-inside-read grouping.SpellRules.none known before block last others statements is_last reads line (l ∷ ls) e short =
+inside-read grouping.AreRules.none known before block last others statements is_last reads line [] e short = cc
+inside-read grouping.AreRules.none known before block last others statements is_last reads line (l ∷ ls) e short =
     let same : last ≡ record { number = line; bytes = l } = cc in
     let rest : others ≡ numbered (line + 1) ls = cc in
     let is = end-read block.rules l (short-head l ls short) (subst (λ (x : Line). IsEnd x.bytes) same is_last) in
     let more : Progress = progress (known ++ block.target ∷ []) (before ++ record { line = block.line; command = Reclass block.place block.target block.rules } ∷ []) None in
     let reading = reads (line + 1) ls rest (short-tail l ls short) in
     (Ok more, rw is refl, subst (λ rs. IsReading (line + 1) (progress (known ++ block.target ∷ []) (before ++ record { line = block.line; command = Reclass block.place block.target rs } ∷ []) None) ls (Ok statements)) (append-nil block.rules) reading)
-inside-read (grouping.SpellRules.skipped says spells) known before block last others statements is_last reads line [] e short = cc
-inside-read (grouping.SpellRules.skipped {line = first} {lines = inner} says spells) known before block last others statements is_last reads line (l ∷ ls) e short =
+inside-read (grouping.AreRules.skipped says spells) known before block last others statements is_last reads line [] e short = cc
+inside-read (grouping.AreRules.skipped {line = first} {lines = inner} says spells) known before block last others statements is_last reads line (l ∷ ls) e short =
     let same : first ≡ record { number = line; bytes = l } = cc in
     let rest : inner ++ last ∷ others ≡ numbered (line + 1) ls = cc in
     let is = skipped-read block.rules l (short-head l ls short) (subst (λ (x : Line). IsSkipped x.bytes) same says) in
     (Ok (progress known before (Some block)), rw is refl, inside-read spells known before block last others statements is_last reads (line + 1) ls rest (short-tail l ls short))
-inside-read (grouping.SpellRules.rule says spells) known before block last others statements is_last reads line [] e short = cc
-inside-read (grouping.SpellRules.rule {line = first} {lines = inner} {first = rule} {rules = rules} says spells) known before block last others statements is_last reads line (l ∷ ls) e short =
+inside-read (grouping.AreRules.rule says spells) known before block last others statements is_last reads line [] e short = cc
+inside-read (grouping.AreRules.rule {line = first} {lines = inner} {first = rule} {rules = rules} says spells) known before block last others statements is_last reads line (l ∷ ls) e short =
     let same : first ≡ record { number = line; bytes = l } = cc in
     let rest : inner ++ last ∷ others ≡ numbered (line + 1) ls = cc in
     let is = rule-read block.rules l rule (short-head l ls short) (subst (λ (x : Line). SpellsRule x.bytes rule) same says) in
@@ -321,10 +319,9 @@ group-read (grouping.Group.reclass {known = known} {line = first} {inner = inner
     inside-read spells known before block last lines (before ++ record { line = first.number; command = Reclass place target rules } ∷ statements) is_last after
     (line + 1) ls rest (short-tail l ls short))
 
--- a text is a script of statements exactly where its lines group into them
-pub scripts-grouped : ScriptsAreGrouped
-unfolding IsScript
-scripts-grouped known text statements = (to, from)
+-- a text is read as statements exactly where its lines group into them
+pub read-grouped : (known : List (List ℕ)) (text : List ℕ) (statements : List Statement) → IsReading 1 (start known) (script_lines text) (Ok statements) ↔ IsGrouped known text statements
+read-grouped known text statements = (to, from)
   where
     to : IsReading 1 (start known) (script_lines text) (Ok statements) → IsGrouped known text statements
     to reading =

@@ -188,7 +188,7 @@ Says known line (Opened place target) = SpellsReclass known line place target
 
 assigned-sound : (known : List (List ℕ)) (line : List ℕ) (words : List (List ℕ)) (a : Assignment) (head : Head) → words_of line ≡ codes "r.mapcalc" ∷ words
     → IsAssignmentText (assignment_text line) a → mapcalc_of known a ≡ Ok head → Says known line head
-assigned-sound known line words a head is stands e = by (first_unknown known a.expr) (place_of a.target known) refl refl
+assigned-sound known line words a head is assigned e = by (first_unknown known a.expr) (place_of a.target known) refl refl
   where
     by : (unknown place : Option ℕ) → first_unknown known a.expr ≡ unknown → place_of a.target known ≡ place → Says known line head
     by (Some column) place u p = let f : Err _ ≡ Ok head = rw u at e in cc
@@ -197,7 +197,7 @@ assigned-sound known line words a head is stands e = by (first_unknown known a.e
         let f : Ok (Whole (Mapcalc a.target (placed known a.expr))) ≡ Ok head = rw (u, p) at e in
         let same : Whole (Mapcalc a.target (placed known a.expr)) ≡ head = cc in
         subst (λ h. Says known line h) same
-        (record { words = words; named = is; assignment = a; stands = stands; read = u; made = p; target_is = refl; bound_is = refl })
+        (record { words = words; named = is; assignment = a; says = assigned; read = u; made = p; target_is = refl; bound_is = refl })
 
 whole-sound : (known : List (List ℕ)) (line : List ℕ) (head : Head) (read : Result Command ScriptKind) → as_whole read ≡ Ok head
     → ((command : Command) → read ≡ Ok command → Spells known line command) → Says known line head
@@ -247,8 +247,8 @@ words-sound known line head (w ∷ ws) is e = by (either {A = Result Head Script
 mapcalc-sound : (known : List (List ℕ)) (line : List ℕ) (head : Head) (ws : List (List ℕ)) → words_of line ≡ ws → is_mapcalc ws ≡ true → IsMapcalc known line (Ok head) → Says known line head
 mapcalc-sound known line head [] is m h = cc
 mapcalc-sound known line head (w ∷ ws) is m (inr (fault, told, other, e)) = cc
-mapcalc-sound known line head (w ∷ ws) is m (inl (a, stands, e)) =
-    assigned-sound known line ws a head (renamed line w (codes "r.mapcalc") ws is m) stands e
+mapcalc-sound known line head (w ∷ ws) is m (inl (a, assigned, e)) =
+    assigned-sound known line ws a head (renamed line w (codes "r.mapcalc") ws is m) assigned e
 
 -- what is read of a line without a fault is what it says
 pub head-says : (known : List (List ℕ)) (line : List ℕ) (head : Head) → IsHead known line (Ok head) → (length line ≤ 65535) × Says known line head
@@ -291,7 +291,7 @@ says-head known line Skipped s says =
 says-head known line (Whole (Mapcalc target bound)) s says =
     short-head known line (Ok (Whole (Mapcalc target bound))) s
     (subst (λ mapcalc. IsShortHead mapcalc known line (Ok (Whole (Mapcalc target bound)))) (sym (ap is_mapcalc says.named))
-    (inl (says.assignment, says.stands, rw (says.read, says.made) (rw (says.target_is, says.bound_is) refl))))
+    (inl (says.assignment, says.says, rw (says.read, says.made) (rw (says.target_is, says.bound_is) refl))))
 says-head known line (Whole (Reclass place target rules)) s says = absurd says
 says-head known line (Whole (Clump place target joining)) s says =
     other-head known line (Ok (Whole (Clump place target joining))) (codes "r.clump" ∷ says.words) s says.named refl (ap as_whole (clump-complete known line place target joining says))

@@ -35,11 +35,11 @@ pub record SpellsRule (bytes : List ℕ) (rule : RuleValue) : Type 0 where
   pub rule_is : rule_of bytes ≡ Ok rule
 
 -- lines that spell rules, one each, but those that say nothing
-pub data SpellRules : List Line → List RuleValue → Type 0 where
-  none : SpellRules [] []
-  skipped : {line : Line} {lines : List Line} {rules : List RuleValue} → IsSkipped line.bytes → SpellRules lines rules → SpellRules (line ∷ lines) rules
+pub data AreRules : List Line → List RuleValue → Type 0 where
+  none : AreRules [] []
+  skipped : {line : Line} {lines : List Line} {rules : List RuleValue} → IsSkipped line.bytes → AreRules lines rules → AreRules (line ∷ lines) rules
   rule : {line : Line} {lines : List Line} {first : RuleValue} {rules : List RuleValue}
-      → SpellsRule line.bytes first → SpellRules lines rules → SpellRules (line ∷ lines) (first ∷ rules)
+      → SpellsRule line.bytes first → AreRules lines rules → AreRules (line ∷ lines) (first ∷ rules)
 
 -- lines group into statements over known maps: a command is a line, and an r.reclass its line, those of its rules and `end`; each map made is known after its statement
 pub data Group : List (List ℕ) → List Line → List Statement → Type 0 where
@@ -50,7 +50,7 @@ pub data Group : List (List ℕ) → List Line → List Statement → Type 0 whe
       → Spells known line.bytes command → Group (known_after known command) lines statements
       → Group known (line ∷ lines) (record { line = line.number; command = command } ∷ statements)
   reclass : {known : List (List ℕ)} {line : Line} {inner lines : List Line} {place : ℕ} {target : List ℕ} {rules : List RuleValue} {statements : List Statement} (last : Line)
-      → SpellsReclass known line.bytes place target → SpellRules inner rules → IsEnd last.bytes → Group (known ++ target ∷ []) lines statements
+      → SpellsReclass known line.bytes place target → AreRules inner rules → IsEnd last.bytes → Group (known ++ target ∷ []) lines statements
       → Group known (line ∷ (inner ++ last ∷ lines)) (record { line = line.number; command = Reclass place target rules } ∷ statements)
 
 -- no line has more than 65535 bytes, and the lines group into the statements

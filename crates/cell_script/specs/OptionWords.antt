@@ -1,4 +1,4 @@
--- Which options the words after a command spell, in whatever order they stand (GRASS manual: r.reclass, r.clump, r.stats, r.out.ascii).
+-- Which options the words after a command spell, in any order (GRASS manual: r.reclass, r.clump, r.stats, r.out.ascii).
 use Rattle.std.specs.Prelude.{ℕ, ◌≡◌, ◌⊎◌, ⊤, Bool, true, false, ◌==◌, List, [], ◌∷◌, All, Option, Some, None, IsSome, Result, Ok, if◌then◌else◌}
 use Rattle.std.specs.List.{flat_map, filter_map}
 use Rattle.std.specs.Option.{option_map, option_and_then}

@@ -26,7 +26,7 @@ pub record SpellsMapcalc (known : List (List ℕ)) (line target : List ℕ) (bou
   pub words : List (List ℕ)
   pub named : words_of line ≡ codes "r.mapcalc" ∷ words
   pub assignment : Assignment
-  pub stands : IsAssignmentText (assignment_text line) assignment
+  pub says : IsAssignmentText (assignment_text line) assignment
   pub read : first_unknown known assignment.expr ≡ None
   pub made : place_of assignment.target known ≡ None
   pub target_is : assignment.target ≡ target

@@ -1,6 +1,6 @@
 //! Laws of scripts.
 
-ghost use Rattle.cell_script.specs.ScriptLaw.{OneScript, NoFaultOfAScript, ScriptsAreGrouped};
+ghost use Rattle.cell_script.specs.ScriptLaw.{NoFaultOfAScript, OneScript, ReadingDenotes};
 
 use cell_language::assignment::one_assignment;
 
@@ -18,8 +18,8 @@ pub fn no_fault_of_a_script()
     one_assignment();
 }
 
-/// A text is a script of statements exactly where its lines group into them: a command is a line, and an r.reclass its
-/// line, those of its rules and `end`; blank lines and comments say nothing.
-pub fn scripts_are_grouped()
-    ensures { ScriptsAreGrouped }
+/// The reading of a text line by line gives statements exactly where the text is a script of them: its lines group into
+/// them.
+pub fn reading_denotes()
+    ensures { ReadingDenotes }
 {}
