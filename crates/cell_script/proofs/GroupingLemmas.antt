@@ -1,5 +1,5 @@
 -- A text is read as the statements into which its lines group.
-use Rattle.std.proofs.Common.{◌≡◌, ℕ, ◌+◌, ◌≤◌, suc, ◌<◌, Bool, true, false, cond, List, [], ◌∷◌, ◌++◌, length, get_or, All, Option, Some, None, Result, Ok, Err, inl, inr, codes, refl, ap, sym, ◌∙◌, subst, append_assoc, arith}
+use Rattle.std.proofs.Common.{◌≡◌, ℕ, ◌+◌, ◌≤◌, suc, Bool, true, false, cond, List, [], ◌∷◌, ◌++◌, length, All, Option, Some, None, Result, Ok, Err, codes, refl, ap, sym, ◌∙◌, subst, append_assoc, arith}
 use Rattle.std.specs.Prelude.{◌↔◌, nat_lt, bytes_eq}
 use Rattle.std.specs.Cmp.Lexicographic.{bytes_decides}
 use Rattle.std.proofs.lemmas.Bool.{ltb-false, le-ltb}
@@ -16,19 +16,17 @@ use Rattle.cell_script.specs.Grouping.{Line, numbered, IsSkipped, IsEnd, SpellsR
 use Rattle.cell_script.specs.Grouping as grouping
 use Rattle.cell_script.specs.Known.{known_after}
 use Rattle.cell_script.specs.Lines.{script_lines}
-use Rattle.cell_script.specs.Reading.{start, after_head, after_rule, as_rule, rule_line, with_statement, IsReading}
+use Rattle.cell_script.specs.Reading.{start, after_head, after_rule, as_rule, rule_line, IsReading}
 use Rattle.cell_script.specs.Spelling.{Spells, SpellsReclass}
-use Rattle.cell_script.specs.declared.fault.ScriptFault.{ScriptFault}
 use Rattle.cell_script.specs.declared.fault.ScriptKind.{ScriptKind}
 use Rattle.cell_script.specs.declared.fault.ScriptKind.TheVariants.{LongLine}
 use Rattle.cell_script.specs.declared.heads.Head.{Head}
 use Rattle.cell_script.specs.declared.heads.Head.TheVariants.{Skipped, Whole, Opened}
 use Rattle.cell_script.specs.declared.reading.Block.{Block}
 use Rattle.cell_script.specs.declared.reading.Progress.{Progress}
-use Rattle.cell_script.specs.declared.statement.Command.{Command}
 use Rattle.cell_script.specs.declared.statement.Command.TheVariants.{Reclass}
 use Rattle.cell_script.specs.declared.statement.Statement.{Statement}
-use Rattle.cell_script.proofs.SpellingLemmas.{Says, head-says, says-head}
+use Rattle.cell_script.proofs.SpellingLemmas.{head-says, says-head}
 
 -- ---- a line among rules
 
@@ -156,7 +154,8 @@ head-rest line known before l ls statements (Whole command) more e is read =
     let same : more ≡ progress (known_after known command) (before ++ s ∷ []) None = cc in
     let r = read (known_after known command) (before ++ s ∷ []) None same in
     record {
-      short = short-cons l ls says.0 r.short; more = s ∷ r.more;
+      short = short-cons l ls says.0 r.short;
+      more = s ∷ r.more;
       statements_are = sym (append_assoc before (s ∷ []) r.more) ∙ r.statements_are;
       rest = grouping.Group.command {line = record { number = line; bytes = l }} says.1 r.rest;
     }
@@ -166,7 +165,9 @@ head-rest line known before l ls statements (Opened place target) more e is read
     let same : more ≡ progress known before (Some block) = cc in
     let r = read known before (Some block) same in
     record {
-      short = short-cons l ls says.0 r.short; more = r.more; statements_are = r.statements_are;
+      short = short-cons l ls says.0 r.short;
+      more = r.more;
+      statements_are = r.statements_are;
       rest = opened-rest line known l place target (numbered (line + 1) ls) r.more says.1 r.rest;
     }
 
@@ -181,11 +182,18 @@ rule-rest line known before block l ls statements (Ok (line_kind.End, rules)) mo
     let same : more ≡ progress (known ++ block.target ∷ []) (before ++ s ∷ []) None = cc in
     let r = read (known ++ block.target ∷ []) (before ++ s ∷ []) None same in
     record {
-      short = short-cons l ls says.0 r.short; more = s ∷ r.more;
+      short = short-cons l ls says.0 r.short;
+      more = s ∷ r.more;
       statements_are = sym (append_assoc before (s ∷ []) r.more) ∙ r.statements_are;
       rest = record {
-        rules = []; inner = []; last = record { number = line; bytes = l }; others = numbered (line + 1) ls; more = r.more; lines_are = refl;
-        spell = grouping.AreRules.none; is_last = says.1;
+        rules = [];
+        inner = [];
+        last = record { number = line; bytes = l };
+        others = numbered (line + 1) ls;
+        more = r.more;
+        lines_are = refl;
+        spell = grouping.AreRules.none;
+        is_last = says.1;
         statements_are = ap (λ rs. record { line = block.line; command = Reclass block.place block.target rs } ∷ r.more) (sym (append-nil block.rules));
         group = r.rest;
       };
@@ -196,11 +204,18 @@ rule-rest line known before block l ls statements (Ok (line_kind.Skipped, rules)
     let r = read known before (Some (record block { rules = rules })) same in
     let inside = r.rest in
     record {
-      short = short-cons l ls says.0 r.short; more = r.more; statements_are = r.statements_are;
+      short = short-cons l ls says.0 r.short;
+      more = r.more;
+      statements_are = r.statements_are;
       rest = record {
-        rules = inside.rules; inner = record { number = line; bytes = l } ∷ inside.inner; last = inside.last; others = inside.others; more = inside.more;
+        rules = inside.rules;
+        inner = record { number = line; bytes = l } ∷ inside.inner;
+        last = inside.last;
+        others = inside.others;
+        more = inside.more;
         lines_are = ap (λ ls. record { number = line; bytes = l } ∷ ls) inside.lines_are;
-        spell = grouping.AreRules.skipped {line = record { number = line; bytes = l }} says.1.0 inside.spell; is_last = inside.is_last;
+        spell = grouping.AreRules.skipped {line = record { number = line; bytes = l }} says.1.0 inside.spell;
+        is_last = inside.is_last;
         statements_are = inside.statements_are ∙ ap (λ rs. record { line = block.line; command = Reclass block.place block.target (rs ++ inside.rules) } ∷ inside.more) says.1.1;
         group = inside.group;
       };
@@ -212,14 +227,21 @@ rule-rest line known before block l ls statements (Ok (line_kind.Rule, rules)) m
     let r = read known before (Some (record block { rules = rules })) same in
     let inside = r.rest in
     record {
-      short = short-cons l ls says.0 r.short; more = r.more; statements_are = r.statements_are;
+      short = short-cons l ls says.0 r.short;
+      more = r.more;
+      statements_are = r.statements_are;
       rest = record {
-        rules = rule ∷ inside.rules; inner = record { number = line; bytes = l } ∷ inside.inner; last = inside.last; others = inside.others; more = inside.more;
+        rules = rule ∷ inside.rules;
+        inner = record { number = line; bytes = l } ∷ inside.inner;
+        last = inside.last;
+        others = inside.others;
+        more = inside.more;
         lines_are = ap (λ ls. record { number = line; bytes = l } ∷ ls) inside.lines_are;
-        spell = grouping.AreRules.rule {line = record { number = line; bytes = l }} says.1.1.0 inside.spell; is_last = inside.is_last;
+        spell = grouping.AreRules.rule {line = record { number = line; bytes = l }} says.1.1.0 inside.spell;
+        is_last = inside.is_last;
         statements_are = inside.statements_are
-        ∙ ap (λ rs. record { line = block.line; command = Reclass block.place block.target rs } ∷ inside.more)
-        (ap (λ rs. rs ++ inside.rules) says.1.1.1 ∙ append_assoc block.rules (rule ∷ []) inside.rules);
+            ∙ ap (λ rs. record { line = block.line; command = Reclass block.place block.target rs } ∷ inside.more)
+            (ap (λ rs. rs ++ inside.rules) says.1.1.1 ∙ append_assoc block.rules (rule ∷ []) inside.rules);
         group = inside.group;
       };
     }
@@ -278,11 +300,13 @@ inside-read (grouping.AreRules.rule {line = first} {lines = inner} {first = rule
     let rest : inner ++ last ∷ others ≡ numbered (line + 1) ls = cc in
     let is = rule-read block.rules l rule (short-head l ls short) (subst (λ (x : Line). SpellsRule x.bytes rule) same says) in
     let next : Block = record block { rules = block.rules ++ rule ∷ [] } in
-    let joined : block.rules ++ rule ∷ rules ≡ (block.rules ++ rule ∷ []) ++ rules = sym (append_assoc block.rules (rule ∷ []) rules) in
-    (Ok (progress known before (Some next)), rw is refl,
-    inside-read spells known before next last others statements is_last
-    (subst (λ rs. Reads (known ++ block.target ∷ []) (before ++ record { line = block.line; command = Reclass block.place block.target rs } ∷ []) others statements) joined reads)
-    (line + 1) ls rest (short-tail l ls short))
+    let joined : block.rules ++ rule ∷ rules ≡ (block.rules ++ rule ∷ []) ++ rules = sym (append_assoc block.rules (rule ∷ []) rules) in (
+      Ok (progress known before (Some next)),
+      rw is refl,
+      inside-read spells known before next last others statements is_last
+          (subst (λ rs. Reads (known ++ block.target ∷ []) (before ++ record { line = block.line; command = Reclass block.place block.target rs } ∷ []) others statements) joined reads)
+          (line + 1) ls rest (short-tail l ls short),
+    )
 
 group-read : {known : List (List ℕ)} {lines : List Line} {statements : List Statement} → Group known lines statements → (before : List Statement) → Reads known before lines (before ++ statements)
 group-read grouping.Group.none before line [] e short = ap Ok (sym (append-nil before))
@@ -290,9 +314,11 @@ group-read grouping.Group.none before line (l ∷ ls) e short = cc
 group-read (grouping.Group.skipped says group) before line [] e short = cc
 group-read (grouping.Group.skipped {known = known} {line = first} {lines = lines} says group) before line (l ∷ ls) e short =
     let same : first ≡ record { number = line; bytes = l } = cc in
-    let rest : lines ≡ numbered (line + 1) ls = cc in
-    (Ok (progress known before None), (Ok Skipped, says-head known l Skipped (short-head l ls short) (subst (λ (x : Line). IsSkipped x.bytes) same says), refl),
-    group-read group before (line + 1) ls rest (short-tail l ls short))
+    let rest : lines ≡ numbered (line + 1) ls = cc in (
+      Ok (progress known before None),
+      (Ok Skipped, says-head known l Skipped (short-head l ls short) (subst (λ (x : Line). IsSkipped x.bytes) same says), refl),
+      group-read group before (line + 1) ls rest (short-tail l ls short),
+    )
 group-read (grouping.Group.command says group) before line [] e short = cc
 group-read (grouping.Group.command {known = known} {line = first} {lines = lines} {command = command} {statements = statements} says group) before line (l ∷ ls) e short =
     let same : first ≡ record { number = line; bytes = l } = cc in
@@ -301,9 +327,11 @@ group-read (grouping.Group.command {known = known} {line = first} {lines = lines
     let is = says-head known l (Whole command) (short-head l ls short) (subst (λ (x : Line). Spells known x.bytes command) same says) in
     let reading = group-read group (before ++ s ∷ []) (line + 1) ls rest (short-tail l ls short) in
     let whole : (before ++ s ∷ []) ++ statements ≡ before ++ record { line = first.number; command = command } ∷ statements =
-        append_assoc before (s ∷ []) statements ∙ ap (λ (x : Line). before ++ record { line = x.number; command = command } ∷ statements) (sym same) in
-    (Ok (progress (known_after known command) (before ++ s ∷ []) None), (Ok (Whole command), is, refl),
-    subst (λ ss. IsReading (line + 1) (progress (known_after known command) (before ++ s ∷ []) None) ls (Ok ss)) whole reading)
+    append_assoc before (s ∷ []) statements ∙ ap (λ (x : Line). before ++ record { line = x.number; command = command } ∷ statements) (sym same) in (
+      Ok (progress (known_after known command) (before ++ s ∷ []) None),
+      (Ok (Whole command), is, refl),
+      subst (λ ss. IsReading (line + 1) (progress (known_after known command) (before ++ s ∷ []) None) ls (Ok ss)) whole reading,
+    )
 group-read (grouping.Group.reclass last says spells is_last group) before line [] e short = cc
 group-read (grouping.Group.reclass {known = known} {line = first} {inner = inner} {lines = lines} {place = place} {target = target} {rules = rules} {statements = statements} last says spells is_last group) before line (l ∷ ls) e short =
     let same : first ≡ record { number = line; bytes = l } = cc in
@@ -312,12 +340,14 @@ group-read (grouping.Group.reclass {known = known} {line = first} {inner = inner
     let block : Block = record { line = line; place = place; target = target; rules = [] } in
     let is = says-head known l (Opened place target) (short-head l ls short) (subst (λ (x : Line). SpellsReclass known x.bytes place target) same says) in
     let whole : (before ++ s ∷ []) ++ statements ≡ before ++ record { line = first.number; command = Reclass place target rules } ∷ statements =
-        append_assoc before (s ∷ []) statements ∙ ap (λ (x : Line). before ++ record { line = x.number; command = Reclass place target rules } ∷ statements) (sym same) in
+    append_assoc before (s ∷ []) statements ∙ ap (λ (x : Line). before ++ record { line = x.number; command = Reclass place target rules } ∷ statements) (sym same) in
     let after : Reads (known ++ target ∷ []) (before ++ s ∷ []) lines (before ++ record { line = first.number; command = Reclass place target rules } ∷ statements) =
-        subst (λ ss. Reads (known ++ target ∷ []) (before ++ s ∷ []) lines ss) whole (group-read group (before ++ s ∷ [])) in
-    (Ok (progress known before (Some block)), (Ok (Opened place target), is, refl),
-    inside-read spells known before block last lines (before ++ record { line = first.number; command = Reclass place target rules } ∷ statements) is_last after
-    (line + 1) ls rest (short-tail l ls short))
+    subst (λ ss. Reads (known ++ target ∷ []) (before ++ s ∷ []) lines ss) whole (group-read group (before ++ s ∷ [])) in (
+      Ok (progress known before (Some block)),
+      (Ok (Opened place target), is, refl),
+      inside-read spells known before block last lines (before ++ record { line = first.number; command = Reclass place target rules } ∷ statements) is_last after
+          (line + 1) ls rest (short-tail l ls short),
+    )
 
 -- a text is read as statements exactly where its lines group into them
 pub read-grouped : (known : List (List ℕ)) (text : List ℕ) (statements : List Statement) → IsReading 1 (start known) (script_lines text) (Ok statements) ↔ IsGrouped known text statements

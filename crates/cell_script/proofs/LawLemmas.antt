@@ -1,9 +1,9 @@
 -- A text that is a script has no other reading.
-use Rattle.std.proofs.Common.{◌≡◌, ℕ, ◌+◌, List, [], ◌∷◌, Option, Some, None, Result, Ok, Err, MatchResult, refl, ap, sym, ◌∙◌, subst}
+use Rattle.std.proofs.Common.{◌≡◌, ℕ, ◌+◌, List, [], ◌∷◌, Option, Some, None, Result, Ok, Err, MatchResult, ap, sym, ◌∙◌, subst}
 use Rattle.std.specs.Prelude.{nat_lt, length, Bool, true, false}
 use Rattle.cell_text.specs.Words.{words_of}
 use Rattle.cell_script.specs.Commands.{is_mapcalc, IsShortHead, IsHeadOf, IsHead}
-use Rattle.cell_script.specs.Reading.{IsNextTo, IsNext, IsReading, after_head, after_rule, rule_line, at_end, start}
+use Rattle.cell_script.specs.Reading.{IsNextTo, IsReading, after_head, start}
 use Rattle.cell_script.specs.Lines.{script_lines}
 use Rattle.cell_script.specs.Scripts.{IsScript, IsReadAs, IsScriptFault}
 use Rattle.cell_script.specs.ScriptLaw.{OneScript, NoFaultOfAScript, ReadingDenotes}

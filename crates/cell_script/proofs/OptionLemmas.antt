@@ -1,6 +1,6 @@
 -- The words after a command, one after another and all together.
-use Rattle.std.proofs.Common.{◌≡◌, ℕ, suc, ◌<◌, Bool, true, false, cond, List, [], ◌∷◌, ◌++◌, length, All, Option, Some, None, Result, Ok, Err, inl, inr, refl, ap, sym, ◌∙◌, subst, append_assoc, arith}
-use Rattle.std.specs.Prelude.{◌⊎◌, ◌↔◌, ⊤, ◌==◌, IsSome}
+use Rattle.std.proofs.Common.{◌≡◌, ℕ, suc, Bool, true, false, cond, List, [], ◌∷◌, ◌++◌, All, Option, Some, None, Result, Ok, Err, inl, inr, refl, ap, sym, ◌∙◌, subst, append_assoc, arith}
+use Rattle.std.specs.Prelude.{◌⊎◌, ◌==◌, IsSome}
 use Rattle.std.specs.List.{flat_map, cons_option}
 use Rattle.std.specs.Option.{option_map, option_and_then}
 use Rattle.std.proofs.lemmas.List.{append-nil}
@@ -252,6 +252,7 @@ record Whole (letters : List ℕ) (values : Key → List (List ℕ)) (old new : 
   null_text : Extends null_text_of (values NullText) old.null_text new.null_text
   table_null_text : Extends table_null_text_of (values TableNullText) old.table_null_text new.table_null_text
   after : Extends kept (values After) old.after new.after
+
 -- what words make of options
 abbrev More : Form → List (List ℕ) → Given → Given → Type 0
 More form words old new = Whole (flat_map letters_in words) (λ key. values_of form key words) old new
@@ -286,33 +287,47 @@ words-sound form (word ∷ words) old new e = by (λ mid f. words-sound form wor
 value-complete : (letters : List ℕ) (values : Key → List (List ℕ)) (old new : Given) (key : Key) (value : List ℕ)
     → Whole letters (λ other. cons_option (value_for other (Some (key, value))) (values other)) old new → (mid : Given) × (with_value old key value ≡ Ok mid) × Whole letters values mid new
 value-complete letters values old new Input value whole =
-    let v = first name_of value (values Input) old.input new.input whole.input in
-    (record old { input = Some v.given }, take-value name_of value old.input (λ x. record old { input = Some x }) v.given v.none v.is,
-    record { flags = whole.flags; input = v.rest; inputs = whole.inputs; output = whole.output; separator = whole.separator; null_text = whole.null_text; table_null_text = whole.table_null_text; after = whole.after })
+    let v = first name_of value (values Input) old.input new.input whole.input in (
+      record old { input = Some v.given },
+      take-value name_of value old.input (λ x. record old { input = Some x }) v.given v.none v.is,
+      record { flags = whole.flags; input = v.rest; inputs = whole.inputs; output = whole.output; separator = whole.separator; null_text = whole.null_text; table_null_text = whole.table_null_text; after = whole.after },
+    )
 value-complete letters values old new Inputs value whole =
-    let v = first listed value (values Inputs) old.inputs new.inputs whole.inputs in
-    (record old { inputs = Some v.given }, take-value listed value old.inputs (λ x. record old { inputs = Some x }) v.given v.none v.is,
-    record { flags = whole.flags; input = whole.input; inputs = v.rest; output = whole.output; separator = whole.separator; null_text = whole.null_text; table_null_text = whole.table_null_text; after = whole.after })
+    let v = first listed value (values Inputs) old.inputs new.inputs whole.inputs in (
+      record old { inputs = Some v.given },
+      take-value listed value old.inputs (λ x. record old { inputs = Some x }) v.given v.none v.is,
+      record { flags = whole.flags; input = whole.input; inputs = v.rest; output = whole.output; separator = whole.separator; null_text = whole.null_text; table_null_text = whole.table_null_text; after = whole.after },
+    )
 value-complete letters values old new Output value whole =
-    let v = first name_of value (values Output) old.output new.output whole.output in
-    (record old { output = Some v.given }, take-value name_of value old.output (λ x. record old { output = Some x }) v.given v.none v.is,
-    record { flags = whole.flags; input = whole.input; inputs = whole.inputs; output = v.rest; separator = whole.separator; null_text = whole.null_text; table_null_text = whole.table_null_text; after = whole.after })
+    let v = first name_of value (values Output) old.output new.output whole.output in (
+      record old { output = Some v.given },
+      take-value name_of value old.output (λ x. record old { output = Some x }) v.given v.none v.is,
+      record { flags = whole.flags; input = whole.input; inputs = whole.inputs; output = v.rest; separator = whole.separator; null_text = whole.null_text; table_null_text = whole.table_null_text; after = whole.after },
+    )
 value-complete letters values old new Separator value whole =
-    let v = first separated value (values Separator) old.separator new.separator whole.separator in
-    (record old { separator = Some v.given }, take-value separated value old.separator (λ x. record old { separator = Some x }) v.given v.none v.is,
-    record { flags = whole.flags; input = whole.input; inputs = whole.inputs; output = whole.output; separator = v.rest; null_text = whole.null_text; table_null_text = whole.table_null_text; after = whole.after })
+    let v = first separated value (values Separator) old.separator new.separator whole.separator in (
+      record old { separator = Some v.given },
+      take-value separated value old.separator (λ x. record old { separator = Some x }) v.given v.none v.is,
+      record { flags = whole.flags; input = whole.input; inputs = whole.inputs; output = whole.output; separator = v.rest; null_text = whole.null_text; table_null_text = whole.table_null_text; after = whole.after },
+    )
 value-complete letters values old new NullText value whole =
-    let v = first null_text_of value (values NullText) old.null_text new.null_text whole.null_text in
-    (record old { null_text = Some v.given }, take-value null_text_of value old.null_text (λ x. record old { null_text = Some x }) v.given v.none v.is,
-    record { flags = whole.flags; input = whole.input; inputs = whole.inputs; output = whole.output; separator = whole.separator; null_text = v.rest; table_null_text = whole.table_null_text; after = whole.after })
+    let v = first null_text_of value (values NullText) old.null_text new.null_text whole.null_text in (
+      record old { null_text = Some v.given },
+      take-value null_text_of value old.null_text (λ x. record old { null_text = Some x }) v.given v.none v.is,
+      record { flags = whole.flags; input = whole.input; inputs = whole.inputs; output = whole.output; separator = whole.separator; null_text = v.rest; table_null_text = whole.table_null_text; after = whole.after },
+    )
 value-complete letters values old new TableNullText value whole =
-    let v = first table_null_text_of value (values TableNullText) old.table_null_text new.table_null_text whole.table_null_text in
-    (record old { table_null_text = Some v.given }, take-value table_null_text_of value old.table_null_text (λ x. record old { table_null_text = Some x }) v.given v.none v.is,
-    record { flags = whole.flags; input = whole.input; inputs = whole.inputs; output = whole.output; separator = whole.separator; null_text = whole.null_text; table_null_text = v.rest; after = whole.after })
+    let v = first table_null_text_of value (values TableNullText) old.table_null_text new.table_null_text whole.table_null_text in (
+      record old { table_null_text = Some v.given },
+      take-value table_null_text_of value old.table_null_text (λ x. record old { table_null_text = Some x }) v.given v.none v.is,
+      record { flags = whole.flags; input = whole.input; inputs = whole.inputs; output = whole.output; separator = whole.separator; null_text = whole.null_text; table_null_text = v.rest; after = whole.after },
+    )
 value-complete letters values old new After value whole =
-    let v = first kept value (values After) old.after new.after whole.after in
-    (record old { after = Some v.given }, take-value kept value old.after (λ x. record old { after = Some x }) v.given v.none v.is,
-    record { flags = whole.flags; input = whole.input; inputs = whole.inputs; output = whole.output; separator = whole.separator; null_text = whole.null_text; table_null_text = whole.table_null_text; after = v.rest })
+    let v = first kept value (values After) old.after new.after whole.after in (
+      record old { after = Some v.given },
+      take-value kept value old.after (λ x. record old { after = Some x }) v.given v.none v.is,
+      record { flags = whole.flags; input = whole.input; inputs = whole.inputs; output = whole.output; separator = whole.separator; null_text = whole.null_text; table_null_text = whole.table_null_text; after = v.rest },
+    )
 
 abbrev setting_with : Option Key → List ℕ → Option (Key × List ℕ)
 setting_with key value = option_map (λ key. (key, value)) key

@@ -1,9 +1,8 @@
 -- A line that says nothing, by its words and by its bytes.
-use Rattle.std.proofs.Common.{◌≡◌, ℕ, Bool, true, false, cond, List, [], ◌∷◌, refl, ap, sym, ◌∙◌}
-use Rattle.std.specs.Prelude.{◌&&◌}
-use Rattle.std.specs.List.{filter, slice_split, onto_first, list_all}
+use Rattle.std.proofs.Common.{◌≡◌, ℕ, Bool, true, false, List, [], ◌∷◌, refl, sym, ◌∙◌}
+use Rattle.std.specs.List.{filter, slice_split, onto_first}
 use Rattle.cell_cats.specs.RuleLine.{is_skipped}
-use Rattle.cell_text.specs.Blanks.{is_blank, after_blanks, before_blanks, trimmed}
+use Rattle.cell_text.specs.Blanks.{is_blank, before_blanks, trimmed}
 use Rattle.cell_text.specs.Words.{is_word, words_of}
 use Rattle.cell_script.specs.Lines.{is_comment}
 

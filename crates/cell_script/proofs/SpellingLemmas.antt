@@ -12,18 +12,16 @@ use Rattle.cell_language.specs.declared.assignment.Assignment.{Assignment}
 use Rattle.cell_stats.specs.Combinations.{Combination}
 use Rattle.cell_stats.specs.ComboText.{combo_of}
 use Rattle.cell_stats.specs.declared.reading.ComboFault.{ComboFault}
-use Rattle.cell_text.specs.Blanks.{trimmed}
 use Rattle.cell_text.specs.Words.{words_of}
-use Rattle.cell_cats.specs.RuleLine.{is_skipped}
 use Rattle.cell_script.specs.Commands.{as_whole, as_opened, head_named, head_of_words, is_mapcalc, IsShortHead, IsHeadOf, IsHead}
 use Rattle.cell_script.specs.Lines.{is_comment}
-use Rattle.cell_script.specs.Options.{Given, and_then, needed, known_place, new_target, options_of, from_to}
+use Rattle.cell_script.specs.Options.{Given, and_then, known_place, options_of, from_to}
 use Rattle.cell_script.specs.RClump.{clump_of, clump_with, joining_of}
 use Rattle.cell_script.specs.RMapcalc.{mapcalc_of, IsMapcalc, assignment_text}
 use Rattle.cell_script.specs.ROutAscii.{out_ascii_of, out_ascii_with}
 use Rattle.cell_script.specs.RReclass.{reclass_of}
 use Rattle.cell_script.specs.RStats.{places_of, is_torn, printed_with, after_of, stats_at, stats_with, stats_of}
-use Rattle.cell_script.specs.Spelling.{SpellsMapcalc, AreFromTo, SpellsReclass, SpellsClump, SpellsAfter, SpellsStats, SpellsOutAscii, Spells}
+use Rattle.cell_script.specs.Spelling.{AreFromTo, SpellsReclass, SpellsClump, SpellsAfter, SpellsStats, SpellsOutAscii, Spells}
 use Rattle.cell_script.specs.declared.fault.ScriptKind.{ScriptKind}
 use Rattle.cell_script.specs.declared.fault.ScriptKind.TheVariants.{BadOption, UnknownCommand}
 use Rattle.cell_script.specs.declared.heads.Head.{Head}
@@ -135,8 +133,16 @@ stats-sound known line words command is e =
         let v = went (λ after. Ok (Stats places (printed_with given after))) (after_of (length places) given.after) command f in
         let same : Stats places (printed_with given v.value) ≡ command = let g = v.goes in cc in
         subst (λ c. Spells known line c) same (record {
-          words = words; named = is; given = given; options_are = options-sound form.Stats words given options; inputs = inputs; inputs_are = i; read = p; together = together;
-          after = after-sound (length places) given.after v.value v.is; printed = refl;
+          words = words;
+          named = is;
+          given = given;
+          options_are = options-sound form.Stats words given options;
+          inputs = inputs;
+          inputs_are = i;
+          read = p;
+          together = together;
+          after = after-sound (length places) given.after v.value v.is;
+          printed = refl;
         })
 
     torn : (given : Given) → options_of form.Stats words ≡ Ok given → (inputs : List (List ℕ)) → given.inputs ≡ Some inputs

@@ -1,5 +1,5 @@
 -- Which texts are scripts, and of which statements; how a text is read as them, and its first fault where it is no script (profile).
-use Rattle.std.specs.Prelude.{ℕ, ◌≡◌, ◌≤◌, ◌<◌, List, [], ◌∷◌, ◌++◌, length, All, IfSome, None, Result, Ok, Err}
+use Rattle.std.specs.Prelude.{ℕ, ◌≡◌, ◌≤◌, ◌<◌, List, [], ◌∷◌, length, All, IfSome, None, Ok, Err}
 use Rattle.cell_calc.specs.Reach.{top_of}
 use Rattle.cell_core.specs.Name.{place_of}
 use Rattle.cell_script.specs.Grouping.{IsGrouped}
