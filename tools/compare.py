@@ -46,10 +46,7 @@ def expected_of_case(case):
 
 def answer_to_case(case, room):
     folder = f"{room}/{os.path.basename(case)}"
-    shutil.copytree(case, folder, ignore=shutil.ignore_patterns("args", "stdout", "stderr", "status", "output", "spaces"))
-    for name, count in (line.split() for line in read(f"{case}/spaces").decode().splitlines()):
-        with open(f"{folder}/{name}", "ab") as file:
-            file.write(b" " * int(count))
+    cases.lay_out(case, folder)
     return model.program(read(f"{case}/args").splitlines(), os.fsencode(folder))
 
 
