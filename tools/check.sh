@@ -1,6 +1,6 @@
 #!/bin/sh
 # The gate: every proof from nothing, and then the program that was proved on each case.
-# The last line counts both: 'N passed, M failed'.
+# The last line counts all: 'N passed, M failed'.
 cd "$(dirname "$0")/.." || exit 1
 room=$(mktemp -d) || exit 1
 trap 'rm -rf "$room"' EXIT
@@ -20,9 +20,13 @@ python3 tools/cases.py "$kit/toolchain/bin/clang" > "$room/cases" 2>&1
 status=$?
 cat "$room/cases"
 
+# The program used as an enemy would, in short: some of each part of `make hostile`.
+python3 tools/hostile.py --short --clang "$kit/toolchain/bin/clang" > "$room/hostile" 2>&1 || status=1
+cat "$room/hostile"
+
 # The program beside the plain model of the definitions: each case, and runs made at random.
 { python3 tools/compare.py --cases && python3 tools/compare.py --runs 3000 --seed 1 --program bin/rcell; } || status=1
-tail -qn 1 "$room/proofs" "$room/cases" |
+tail -qn 1 "$room/proofs" "$room/cases" "$room/hostile" |
     awk '/^[0-9]+ passed, [0-9]+ failed$/ { passed += $1; failed += $3; counted++ }
-         END { print passed + 0 " passed, " failed + 2 - counted " failed" }'
+         END { print passed + 0 " passed, " failed + 3 - counted " failed" }'
 exit $status

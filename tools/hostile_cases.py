@@ -4,9 +4,10 @@ from __future__ import annotations
 import glob
 import os
 from dataclasses import replace
+from typing import Iterator
 
 import model
-from compare import ROOT, answer_of_model, keep, read
+from compare import ROOT, answer_of_model, answer_to_case, keep, read
 from made_cases import Made
 from model_grids import Failing, is_name
 
@@ -24,7 +25,7 @@ def made_of(case) -> Made | None:
     named = [word.partition("=") for word in words[1:]]
     paths = [*words[:1], *(path for _, _, path in named)]
     is_plain = named and all(is_name(os.fsencode(name)) and path for name, _, path in named)
-    if not is_plain or os.path.exists(f"{case}/output") or not all(os.path.isfile(f"{case}/{path}") for path in paths):
+    if not is_plain or not all(os.path.isfile(f"{case}/{path}") for path in paths):
         return None
     spaces = [line.split() for line in read(f"{case}/spaces").decode().splitlines()]
     grids = [(os.fsencode(name), f"grid{at}") for at, (name, _, _) in enumerate(named)]
@@ -32,10 +33,27 @@ def made_of(case) -> Made | None:
     return Made(dict(zip(["script", *(path for _, path in grids)], texts)), grids)
 
 
+def folders() -> list[str]:
+    """The cases and examples whose output is read."""
+    found = sorted(glob.glob(f"{ROOT}/cases/*") + glob.glob(f"{ROOT}/examples/*"))
+    return [case for case in found if not os.path.exists(f"{case}/output")]
+
+
 def cases_made() -> dict[str, Made]:
-    """The cases and examples by their names."""
-    made = {case[len(ROOT) + 1 :]: made_of(case) for case in sorted(glob.glob(f"{ROOT}/cases/*") + glob.glob(f"{ROOT}/examples/*"))}
+    """The cases and examples by their names, those apart whose words or files are the point."""
+    made = {case[len(ROOT) + 1 :]: made_of(case) for case in folders()}
     return {name: case for name, case in made.items() if case}
+
+
+def other_cases(room: str) -> Iterator[tuple[str, Made, model.Answer]]:
+    """The cases whose words or files are the point, each in a folder that is the current one, and what the model answers."""
+    here = os.getcwd()
+    for case in folders():
+        if not made_of(case):
+            expected = answer_to_case(case, room)
+            os.chdir(f"{room}/{os.path.basename(case)}")
+            yield case[len(ROOT) + 1 :], Made({}, [], read(f"{case}/args").splitlines()), expected
+            os.chdir(here)
 
 
 def with_text(made: Made, path: str, text: bytes) -> Made:
@@ -79,4 +97,5 @@ class Report:
         return got == expected
 
 
-__all__ = ["LONGEST_WHOLE", "Made", "Report", "answer_of_failing", "answer_of_model", "cases_made", "with_text"]
+__all__ = ["LONGEST_WHOLE", "Made", "Report", "answer_of_failing", "answer_of_model", "cases_made", "other_cases",
+           "with_text"]

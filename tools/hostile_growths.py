@@ -10,7 +10,7 @@ from typing import Iterator
 
 import model
 from compare import ROOT, Program, is_told_refusal, read
-from hostile_cases import Made, Report, answer_of_model
+from hostile_cases import Made, Report, answer_of_model, other_cases
 
 SECONDS = 120  # the most that a test may take
 MOST_GROWTHS = 2000  # of a test that grows more often, so many are chosen
@@ -50,15 +50,20 @@ def wrong_growth(program: Program, made: Made, expected: model.Answer, shim: str
     return "", refused
 
 
-def growths(report: Report, program: Program, shim: str, cases: dict[str, Made], settings) -> None:
-    refused = 0
+def put_in_turn(program: Program, cases: dict[str, Made]) -> Iterator[tuple[str, Made, model.Answer]]:
     for name, made in cases.items():
         program.put(made)
-        wrong, count = wrong_growth(program, made, answer_of_model(made), shim, settings)
-        refused += count
+        yield name, made, answer_of_model(made)
+
+
+def growths(report: Report, program: Program, shim: str, cases: dict[str, Made], settings) -> None:
+    refused = number = 0
+    for name, made, expected in itertools.chain(put_in_turn(program, cases), other_cases(program.room)):
+        wrong, count = wrong_growth(program, made, expected, shim, settings)
+        refused, number = refused + count, number + 1
         report.check(f"growths of {name}", wrong)
     report.runs += refused
-    print(f"growths: {len(cases)} cases, {refused} growths refused in turn")
+    print(f"growths: {number} cases, {refused} growths refused in turn")
 
 
 # The tests of the crates
