@@ -22,7 +22,7 @@ from typing import Callable, Sequence
 
 import model
 from compare import ROOT, Program, answer_of_model, keep, kind_of
-from hostile_cases import LONGEST_WHOLE, cases_made
+from hostile_cases import LONGEST_WHOLE, cases_of
 from made_cases import ODD_BYTES, Made, ScriptMaker, make
 
 COMMANDS = (b"r.mapcalc", b"r.reclass", b"r.clump", b"r.stats", b"r.out.ascii")
@@ -203,7 +203,8 @@ class Counts:
 
 
 def fuzz(settings, program: Program) -> int:
-    cases = [made for made in cases_made().values() if all(len(text) <= LONGEST_WHOLE for text in made.files.values())]
+    whole = cases_of(f"{program.room}/cases").made.values()
+    cases = [made for made in whole if all(len(text) <= LONGEST_WHOLE for text in made.files.values())]
     counts, differences, number = Counts(), 0, settings.first
     begun = time.monotonic()
     while time.monotonic() - begun < settings.seconds:

@@ -28,7 +28,7 @@ import hostile_devices
 import hostile_growths
 import hostile_sizes
 from compare import ROOT, Program
-from hostile_cases import Report, cases_made
+from hostile_cases import Report, cases_of
 
 ALL = 10**9
 
@@ -38,7 +38,7 @@ WHOLE = {"places": ALL, "places_of_long": 60, "changes": None, "growths": ALL}
 
 
 def of_devices(part):
-    return lambda report, program, shims, cases, settings: part(report, hostile_devices.Devices(program, shims["devices"]), cases, settings)
+    return lambda report, program, shims, cases, settings: part(report, hostile_devices.Devices(program, shims["devices"]), cases.made, settings)
 
 
 PARTS = {
@@ -48,8 +48,8 @@ PARTS = {
     "writes": of_devices(hostile_devices.writes),
     "outputs": of_devices(hostile_devices.outputs),
     "inputs": of_devices(hostile_devices.inputs),
-    "bytes": lambda report, program, shims, cases, settings: hostile_bytes.spoiled(report, program, cases, settings),
-    "stack": lambda report, program, shims, cases, settings: hostile_sizes.stack(report, program, cases),
+    "bytes": lambda report, program, shims, cases, settings: hostile_bytes.spoiled(report, program, cases.made, settings),
+    "stack": lambda report, program, shims, cases, settings: hostile_sizes.stack(report, program, cases.made),
     "sizes": lambda report, program, shims, cases, settings: hostile_sizes.sizes(report, program),
 }
 NOT_SHORT = ("tests", "inputs", "sizes")
@@ -81,7 +81,7 @@ def main():
         for name, shim in shims.items():
             hostile_growths.build_shim(settings.clang, shim, f"{ROOT}/tools/{name}.c")
         program = Program(settings.program, room)
-        cases = cases_made()
+        cases = cases_of(f"{room}/cases")
         for part in settings.parts:
             begun = time.monotonic()
             PARTS[part](report, program, shims, cases, settings)

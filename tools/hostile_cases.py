@@ -3,8 +3,7 @@ from __future__ import annotations
 
 import glob
 import os
-from dataclasses import replace
-from typing import Iterator
+from dataclasses import dataclass, replace
 
 import model
 from compare import ROOT, answer_of_model, answer_to_case, keep, read
@@ -14,46 +13,41 @@ from model_grids import Failing, is_name
 LONGEST_WHOLE = 5000  # a longer text is tried at places chosen at random, and not at each
 
 
-def text_of(path, spaces):
-    text = read(path)
-    return text + b" " * int(dict(spaces).get(os.path.basename(path), 0))
-
-
-def made_of(case) -> Made | None:
-    """A case as it is compared with the model; None where its words, its files or its output are the point."""
+def made_of(case, folder) -> Made | None:
+    """A case, laid out in a folder, as it is compared with the model; None where its words or its files are the point."""
     words = read(f"{case}/args").decode(errors="surrogateescape").splitlines()
     named = [word.partition("=") for word in words[1:]]
     paths = [*words[:1], *(path for _, _, path in named)]
     is_plain = named and all(is_name(os.fsencode(name)) and path for name, _, path in named)
-    if not is_plain or not all(os.path.isfile(f"{case}/{path}") for path in paths):
+    if not is_plain or not all(os.path.isfile(f"{folder}/{path}") for path in paths):
         return None
-    spaces = [line.split() for line in read(f"{case}/spaces").decode().splitlines()]
     grids = [(os.fsencode(name), f"grid{at}") for at, (name, _, _) in enumerate(named)]
-    texts = [text_of(f"{case}/{path}", spaces) for path in paths]
+    texts = [read(f"{folder}/{path}") for path in paths]
     return Made(dict(zip(["script", *(path for _, path in grids)], texts)), grids)
 
 
-def folders() -> list[str]:
-    """The cases and examples whose output is read."""
-    found = sorted(glob.glob(f"{ROOT}/cases/*") + glob.glob(f"{ROOT}/examples/*"))
-    return [case for case in found if not os.path.exists(f"{case}/output")]
+@dataclass
+class Cases:
+    """The cases and examples whose output is read, by their names: those that are made at will, and those whose words or files are
+    the point, each laid out in a folder."""
+
+    made: dict[str, Made]
+    others: dict[str, tuple[str, list[bytes], model.Answer]]
 
 
-def cases_made() -> dict[str, Made]:
-    """The cases and examples by their names, those apart whose words or files are the point."""
-    made = {case[len(ROOT) + 1 :]: made_of(case) for case in folders()}
-    return {name: case for name, case in made.items() if case}
-
-
-def other_cases(room: str) -> Iterator[tuple[str, Made, model.Answer]]:
-    """The cases whose words or files are the point, each in a folder that is the current one, and what the model answers."""
-    here = os.getcwd()
-    for case in folders():
-        if not made_of(case):
-            expected = answer_to_case(case, room)
-            os.chdir(f"{room}/{os.path.basename(case)}")
-            yield case[len(ROOT) + 1 :], Made({}, [], read(f"{case}/args").splitlines()), expected
-            os.chdir(here)
+def cases_of(room: str) -> Cases:
+    cases = Cases({}, {})
+    os.makedirs(room)
+    for case in sorted(glob.glob(f"{ROOT}/cases/*") + glob.glob(f"{ROOT}/examples/*")):
+        if os.path.exists(f"{case}/output"):
+            continue
+        expected, folder, name = answer_to_case(case, room), f"{room}/{os.path.basename(case)}", case[len(ROOT) + 1 :]
+        made = made_of(case, folder)
+        if made:
+            cases.made[name] = made
+        else:
+            cases.others[name] = folder, read(f"{case}/args").splitlines(), expected
+    return cases
 
 
 def with_text(made: Made, path: str, text: bytes) -> Made:
@@ -97,5 +91,5 @@ class Report:
         return got == expected
 
 
-__all__ = ["LONGEST_WHOLE", "Made", "Report", "answer_of_failing", "answer_of_model", "cases_made", "other_cases",
+__all__ = ["LONGEST_WHOLE", "Made", "Report", "answer_of_failing", "answer_of_model", "Cases", "cases_of",
            "with_text"]

@@ -10,7 +10,7 @@ from typing import Iterator
 
 import model
 from compare import ROOT, Program, is_told_refusal, read
-from hostile_cases import Made, Report, answer_of_model, other_cases
+from hostile_cases import Cases, Made, Report, answer_of_model
 
 SECONDS = 120  # the most that a test may take
 MOST_GROWTHS = 2000  # of a test that grows more often, so many are chosen
@@ -50,15 +50,20 @@ def wrong_growth(program: Program, made: Made, expected: model.Answer, shim: str
     return "", refused
 
 
-def put_in_turn(program: Program, cases: dict[str, Made]) -> Iterator[tuple[str, Made, model.Answer]]:
-    for name, made in cases.items():
+def in_turn(program: Program, cases: Cases) -> Iterator[tuple[str, Made, model.Answer]]:
+    """Each case, with its files in the current folder, and what the model answers."""
+    for name, made in cases.made.items():
         program.put(made)
         yield name, made, answer_of_model(made)
+    for name, (folder, words, expected) in cases.others.items():
+        os.chdir(folder)
+        yield name, Made({}, [], words), expected
+    os.chdir(program.room)
 
 
-def growths(report: Report, program: Program, shim: str, cases: dict[str, Made], settings) -> None:
+def growths(report: Report, program: Program, shim: str, cases: Cases, settings) -> None:
     refused = number = 0
-    for name, made, expected in itertools.chain(put_in_turn(program, cases), other_cases(program.room)):
+    for name, made, expected in in_turn(program, cases):
         wrong, count = wrong_growth(program, made, expected, shim, settings)
         refused, number = refused + count, number + 1
         report.check(f"growths of {name}", wrong)
