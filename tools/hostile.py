@@ -4,7 +4,7 @@
     hostile.py [--short] [--program PATH] [--seed S] [--keep FOLDER] --clang CLANG [PART..]
 
     growths   each growth of memory refused in turn, over each case: status 3, and what is written is whole statements
-    tests     the same over the built test programs of the crates: none is stopped by a signal
+    tests     the same over the built test programs of the crates: each ends by what it returns or asserts
     reads     each read fails in turn, and reads move pieces of each size from 1 to 70 and a block more or less one
     writes    the same of writes, and standard error that takes nothing
     outputs   full, closed and waiting outputs, files limited to each size, a disk that fills

@@ -5,7 +5,9 @@ import glob
 import itertools
 import os
 import re
+import signal
 import subprocess
+import time
 from typing import Iterator
 
 import model
@@ -13,8 +15,10 @@ from compare import ROOT, Program, is_told_refusal, read
 from hostile_cases import Cases, Made, Report, answer_of_model
 
 SECONDS = 120  # the most that a test may take
-MOST_GROWTHS = 2000  # of a test that grows more often, so many are chosen
-PASSED, FAILED = 0, 101  # how a test ends
+MOST_GROWTHS = 2000  # of a test that grows more often, some are chosen
+SECONDS_OF_CHOICE = 60  # and as many as so much time allows
+PASSED, FAILED = 0, 101  # how a test ends that returned
+ASSERTED = -signal.SIGABRT  # how one ends in which an assertion did not hold, and says so
 TEST = re.compile(r"^(\S+): test$", re.M)
 
 
@@ -85,21 +89,24 @@ def run_test(path: str, test: str, room: str, shim: str, at: int) -> tuple[int, 
 def wrong_test(path: str, test: str, room: str, shim: str, settings) -> tuple[str, dict[str, int]]:
     """What is wrong with a test of which each growth is refused in turn, and how its runs ended."""
     status, told, asked = run_test(path, test, room, shim, 0)
-    ends = {"growths": asked, "refused": 0, "passed": 0, "told memory": 0, "failed": 0}
+    ends = {"growths": asked, "refused": 0, "passed": 0, "named memory": 0, "failed": 0}
     if status != PASSED:
         return f"status {status}, told {told!r}", ends
-    chosen = range(1, asked + 1) if asked <= MOST_GROWTHS else sorted(settings.random.sample(range(1, asked + 1), MOST_GROWTHS))
+    chosen = range(1, asked + 1) if asked <= MOST_GROWTHS else settings.random.sample(range(1, asked + 1), MOST_GROWTHS)
+    begun = time.monotonic()
     for at in chosen:
+        if asked > MOST_GROWTHS and time.monotonic() - begun > SECONDS_OF_CHOICE:
+            break
         status, told, _ = run_test(path, test, room, shim, at)
         ends["refused"] += 1
-        if status not in (PASSED, FAILED):
+        if status not in (PASSED, FAILED) and not (status == ASSERTED and b"assert" in told):
             return f"with growth {at} refused: status {status}, told {told!r}", ends
-        ends["passed" if status == PASSED else "told memory" if re.search(rb"Alloc|[Mm]emory", told) else "failed"] += 1
+        ends["passed" if status == PASSED else "named memory" if re.search(rb"Alloc|[Mm]emory", told) else "failed"] += 1
     return "", ends
 
 
 def tests(report: Report, room: str, shim: str, settings) -> None:
-    """The test programs that the gate built: a refused growth ends a test by its own answer, and by no signal."""
+    """The test programs that the gate built: a refused growth ends a test by what it returns or asserts, and in no other way."""
     programs = sorted(glob.glob(f"{ROOT}/crates/*/out/*_tests"))
     for path in programs:
         listed = subprocess.run([path, "--list"], capture_output=True, text=True, check=True).stdout
