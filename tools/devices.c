@@ -5,6 +5,7 @@
    TELL_FAILS                  the same of writes to standard error
    DEVICE_COUNTS               a file for the numbers: reads, bytes read before the first that failed and its descriptor, writes, the
                                longest read and the longest write asked for
+   DEVICE_STATUS               a file for what the system says of the process at its end
 
    Only standard output counts as written, and each file that is read but no library. */
 extern long syscall(long, ...);
@@ -14,7 +15,7 @@ extern int dprintf(int, const char *, ...);
 extern int open(const char *, int, ...);
 extern int *__errno_location(void);
 
-enum { SYS_READ = 0, SYS_WRITE = 1, IO_ERROR = 5, MOST_FILES = 4096, PLACES = 6 };
+enum { SYS_READ = 0, SYS_WRITE = 1, IO_ERROR = 5, MOST_FILES = 4096, MOST_STATUS = 8192 };
 
 static long reads, writes, tells, failed_file = -1, longest_read, longest_write;
 static long moved[MOST_FILES];
@@ -75,9 +76,24 @@ long __write(int file, const void *from, unsigned long size) {
     return write(file, from, size);
 }
 
+static int opened(const char *name) {
+    char *to = getenv(name);
+    return to ? open(to, 01 | 0100 | 01000, 0600) : -1;
+}
+
+static void tell_status(void) {
+    static char status[MOST_STATUS];
+    int to = opened("DEVICE_STATUS");
+    int from = to >= 0 ? open("/proc/self/status", 0) : -1;
+    long size = from >= 0 ? syscall(SYS_READ, from, status, sizeof status) : 0;
+    if (size > 0) {
+        syscall(SYS_WRITE, to, status, size);
+    }
+}
+
 __attribute__((destructor)) static void tell(void) {
-    char *to = getenv("DEVICE_COUNTS");
-    int file = to ? open(to, 01 | 0100 | 01000, 0600) : -1;
+    tell_status();
+    int file = opened("DEVICE_COUNTS");
     if (file >= 0) {
         long before = failed_file >= 0 && failed_file < MOST_FILES ? moved[failed_file] : 0;
         dprintf(file, "%ld %ld %ld %ld %ld %ld\n", reads, before, failed_file, writes, longest_read, longest_write);

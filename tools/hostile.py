@@ -10,7 +10,7 @@
     outputs   full, closed and waiting outputs, files limited to each size, a disk that fills
     inputs    pipes with names, standard input as script and as grid, readers that stop in the middle of a token
     bytes     each proper prefix of each grid, script, rule block and expression; each byte turned to each of nine others
-    stack     each case and the deepest expressions on a stack of 64 KiB
+    stack     each case on a stack of 64 KiB, the deepest expressions on one of 2 MiB
     sizes     the greatest inputs; memory a cell; times at 1,000, 10,000 and 100,000 of each kind
 
 Without names all parts run. With --short each makes a choice of its runs, within a minute. What differs is written to
@@ -49,10 +49,14 @@ PARTS = {
     "outputs": of_devices(hostile_devices.outputs),
     "inputs": of_devices(hostile_devices.inputs),
     "bytes": lambda report, program, shims, cases, settings: hostile_bytes.spoiled(report, program, cases.made, settings),
-    "stack": lambda report, program, shims, cases, settings: hostile_sizes.stack(report, program, cases.made),
-    "sizes": lambda report, program, shims, cases, settings: hostile_sizes.sizes(report, program),
+    "stack": lambda report, program, shims, cases, settings: hostile_sizes.stack(report, program, cases.made, settings),
+    "sizes": lambda report, program, shims, cases, settings: hostile_sizes.sizes(report, program, shims["devices"]),
 }
 NOT_SHORT = ("tests", "inputs", "sizes")
+
+
+def processor_seconds():
+    return sum(os.times()[:4])
 
 
 def settings_of(words):
@@ -83,9 +87,9 @@ def main():
         program = Program(settings.program, room)
         cases = cases_of(f"{room}/cases")
         for part in settings.parts:
-            begun = time.monotonic()
+            begun, spent = time.monotonic(), processor_seconds()
             PARTS[part](report, program, shims, cases, settings)
-            print(f"{part}: {time.monotonic() - begun:.0f} s", flush=True)
+            print(f"{part}: {time.monotonic() - begun:.0f} s, {processor_seconds() - spent:.0f} of a processor", flush=True)
         os.chdir(ROOT)
     print(f"{report.runs} runs")
     print(f"{report.passed} passed, {report.failed} failed")

@@ -1,10 +1,11 @@
 """The greatest inputs, a stack of 64 KiB, memory a cell, and times as each kind of thing grows."""
 from __future__ import annotations
 
+import math
 import os
 import random
+import re
 import resource
-import time
 from dataclasses import dataclass
 from typing import Callable
 
@@ -13,12 +14,14 @@ from compare import Program, read
 from hostile_cases import Made, Report, answer_of_model
 
 STACK_KIB = 64
+DEEP_STACK_KIB = 2048  # for expressions that nest hundreds deep, each level of which takes stack
+LEAST_STACK_KIB, STACK_STEP_KIB = 16, 8
 MOST_FILES = min(resource.getrlimit(resource.RLIMIT_NOFILE)[1], 200000)
 SPARE_FILES = 16
-MOST_SECONDS = 300
+MOST_SECONDS = 100  # of a processor
 MOST_WORDS_KIB = 65536  # the kernel gives a quarter of the stack to the words
 SIZES = (1000, 10000, 100000)
-STEEPEST = 3.0  # ten times as much may take thirty times as long and no more, once it takes longer than this
+STEEPEST = 1.5  # the greatest power of the number of things that a time may grow by, once it is longer than this
 SLOW = 0.5
 
 HEADER = b"north: %d\nsouth: 0\neast: %d\nwest: 0\nrows: %d\ncols: %d\n"
@@ -39,21 +42,25 @@ def over(text: bytes, script: bytes) -> Made:
 @dataclass(frozen=True)
 class Spent:
     status: int
-    seconds: float
+    seconds: float  # of a processor
     kib: int  # the most memory that was held at one time
     told: bytes
     output: bytes
 
 
-def spent(program: Program, words: list[bytes], stack_kib: int = 0) -> Spent:
-    """A run with its time and its memory; under a stack of so many KiB where that is asked for."""
-    limits = f"ulimit -n {MOST_FILES}; ulimit -t {MOST_SECONDS}; ulimit -s {stack_kib or MOST_WORDS_KIB}; exec \"$@\""
+HELD = re.compile(rb"VmHWM:\s*([0-9]+) kB")
+
+
+def spent(program: Program, words: list[bytes], stack_kib: int = 0, shim: str = "") -> Spent:
+    """A run with its time, under a stack of so many KiB where that is asked for, and with its memory where a shim tells it."""
+    limits = f"ulimit -c 0; ulimit -n {MOST_FILES}; ulimit -t {MOST_SECONDS}; ulimit -s {stack_kib or MOST_WORDS_KIB}; exec \"$@\""
     whole = ["sh", "-c", limits, "sh", program.path, *words]
-    begun = time.monotonic()
-    child = os.posix_spawn("/bin/sh", whole, {"PATH": "/usr/bin:/bin"}, file_actions=program.actions)
+    more = {"LD_PRELOAD": shim, "DEVICE_STATUS": program.count} if shim else {}
+    child = os.posix_spawn("/bin/sh", whole, {"PATH": "/usr/bin:/bin", **more}, file_actions=program.actions)
     _, status, used = os.wait4(child, 0)
-    seconds = time.monotonic() - begun
-    return Spent(os.waitstatus_to_exitcode(status), seconds, used.ru_maxrss, read(program.told), read(program.output))
+    seconds = used.ru_utime + used.ru_stime
+    held = HELD.search(read(program.count)) if shim else None
+    return Spent(os.waitstatus_to_exitcode(status), seconds, int(held[1]) if held else 0, read(program.told), read(program.output))
 
 
 # A small stack, and the greatest inputs
@@ -73,22 +80,42 @@ def deep() -> dict[str, bytes]:
         "499 sums": b"g" + b"+1" * 498,
         "sums to the right": b"1+(" * 249 + b"g" + b")" * 249,
         "498 arguments": b"nmin(" + b",".join([b"g"] * 497) + b")",
-        "249 ifs in each other": b"if(g," * 199 + b"g" + b",1)" * 199,
+        "199 ifs in each other": b"if(" * 199 + b"g" + b",1)" * 199,
         "offsets in each other": b"g[1,1]+(" * 99 + b"g" + b")" * 99,
     }
 
 
-def stack(report: Report, program: Program, cases: dict[str, Made]) -> None:
-    """Each case, and each deep expression over a few cells, on the small stack."""
+DEEP_CASES = ("cases/longest-expressions",)
+
+
+def on_stack(program: Program, made: Made, kib: int) -> model.Answer:
+    got = spent(program, made.words, kib)
+    return model.Answer(got.status, got.output, got.told)
+
+
+def stack_needed(program: Program, made: Made, expected: model.Answer) -> int:
+    """The smallest stack, to the step, on which a run ends as it must."""
+    few, enough = LEAST_STACK_KIB, DEEP_STACK_KIB
+    while enough - few > STACK_STEP_KIB:
+        middle = (few + enough) // 2
+        few, enough = (few, middle) if on_stack(program, made, middle) == expected else (middle, enough)
+    return enough
+
+
+def stack(report: Report, program: Program, cases: dict[str, Made], settings) -> None:
+    """Each case on the small stack, and each deep expression over a few cells on the larger one."""
     text = grid(3, 4, lambda row, col: row * col)
     made_deep = {f"a script of {name}": over(text, b"r.mapcalc x = %s\nr.out.ascii input=x\n" % body) for name, body in deep().items()}
     for name, made in {**cases, **made_deep}.items():
         program.put(made)
-        expected, got = answer_of_model(made), spent(program, made.words, STACK_KIB)
-        answer = model.Answer(got.status, got.output, got.told)
-        if report.compare(f"stack of {STACK_KIB} KiB of {name}", made, expected, answer):
+        kib = STACK_KIB if name in cases and name not in DEEP_CASES else DEEP_STACK_KIB
+        expected = answer_of_model(made)
+        if report.compare(f"stack of {kib} KiB of {name}", made, expected, on_stack(program, made, kib)):
             report.check("")
-    print(f"stack: {len(cases)} cases and {len(made_deep)} deep expressions on a stack of {STACK_KIB} KiB")
+        if kib == DEEP_STACK_KIB and not settings.short:
+            print(f"stack: {name} needs {stack_needed(program, made, expected)} KiB", flush=True)
+    print(f"stack: {len(cases)} cases on a stack of {STACK_KIB} KiB, those that nest deep and {len(made_deep)} deep expressions "
+          f"on {DEEP_STACK_KIB}")
 
 
 def name_at(number: int) -> bytes:
@@ -193,23 +220,23 @@ KINDS: dict[str, Kind] = {kind.__name__.replace("_", " "): kind for kind in (
     combinations)}
 
 
-def time_of(program: Program, kind: Kind, size: int) -> tuple[int, Spent]:
+def time_of(program: Program, shim: str, kind: Kind, size: int) -> tuple[int, Spent]:
     made, words, count = kind(size)
     program.put(made)
-    return count, spent(program, words)
+    return count, spent(program, words, shim=shim)
 
 
 def is_steep(times: list[tuple[int, Spent]]) -> bool:
     """Whether a time grows much faster than what it is spent on, from one size to the next."""
-    return any(late.seconds > SLOW and late.seconds / early.seconds > STEEPEST * more / less
+    return any(late.seconds > SLOW and math.log(late.seconds / max(early.seconds, 0.001)) > STEEPEST * math.log(more / less)
                for (less, early), (more, late) in zip(times, times[1:]) if more > less)
 
 
-def growing(report: Report, program: Program) -> None:
+def growing(report: Report, program: Program, shim: str) -> None:
     print(f"{'seconds and MB at':24} {SIZES[0]:>18,} {SIZES[1]:>18,} {SIZES[2]:>18,}, or as many as a script holds")
     for name, kind in KINDS.items():
-        times = [time_of(program, kind, size) for size in SIZES]
-        cells = [f"{one.seconds:.2f} {one.kib // 1024}" + ("" if count == size else f" ({count:,})")
+        times = [time_of(program, shim, kind, size) for size in SIZES]
+        cells = [f"{one.seconds:.2f} {one.kib / 1024:.0f}" + ("" if count == size else f" ({count:,})")
                  for size, (count, one) in zip(SIZES, times)]
         print(f"{name:24} {cells[0]:>18} {cells[1]:>18} {cells[2]:>18}", flush=True)
         bad = [f"status {one.status}, {one.told!r}" for _, one in times if one.status]
@@ -220,7 +247,7 @@ def growing(report: Report, program: Program) -> None:
 # The greatest inputs
 
 
-def greatest(report: Report, program: Program) -> None:
+def greatest(report: Report, program: Program, shim: str) -> None:
     wide = b"north: 1\nsouth: 0\neast: 65535\nwest: 0\nrows: 1\ncols: 65535\n" + b"1 2 3 4 5\n" * 13107
     most = {
         "16 maps": (over(ONE_CELL, b"r.stats -c input=%s\n" % b",".join([b"g"] * 16)), b"1 " * 16 + b"1\n"),
@@ -234,7 +261,7 @@ def greatest(report: Report, program: Program) -> None:
         if made is None:
             made, words, _ = grids(2000)
         program.put(made)
-        one = spent(program, words)
+        one = spent(program, words, shim=shim)
         report.runs += 1
         good = (one.status, one.output, one.told) == (0, output, b"")
         report.check(f"sizes: {name}", "" if good else f"status {one.status}, told {one.told!r}, {one.output[:60]!r}")
@@ -259,28 +286,28 @@ WORK = {
 }
 
 
-def memory(report: Report, program: Program) -> None:
+def memory(report: Report, program: Program, shim: str) -> None:
     """Bytes a cell of each command, over patches of one category and over noise."""
     choice = random.Random(1)
     patches = [[choice.randint(1, 8) for _ in range(SIDE // PATCH + 1)] for _ in range(SIDE // PATCH + 1)]
     texts = {"patchy": grid(SIDE, SIDE, lambda row, col: patches[row // PATCH][col // PATCH]),
              "noise": grid(SIDE, SIDE, lambda row, col: choice.randint(1, 8))}
     program.put(over(ONE_CELL, WORK["reading alone"]))
-    least = spent(program, [b"script", b"g=grid0"])
+    least = spent(program, [b"script", b"g=grid0"], shim=shim)
     print(f"bytes a cell beyond the {least.kib} KiB of one cell; {'patchy':>10} {'noise':>10}, and seconds, of {SIDE * SIDE:,} cells")
     for name, script in WORK.items():
         cells = []
         for text in texts.values():
             made = over(text, script)
             program.put(made)
-            one = spent(program, made.words)
+            one = spent(program, made.words, shim=shim)
             report.runs += 1
             report.check(f"memory of {name}", "" if one.status == 0 else f"status {one.status}, {one.told!r}")
             cells.append(f"{(one.kib - least.kib) * 1024 / SIDE**2:.1f} {one.seconds:.2f}")
         print(f"{name:30} {cells[0]:>12} {cells[1]:>12}", flush=True)
 
 
-def sizes(report: Report, program: Program) -> None:
-    greatest(report, program)
-    memory(report, program)
-    growing(report, program)
+def sizes(report: Report, program: Program, shim: str) -> None:
+    greatest(report, program, shim)
+    memory(report, program, shim)
+    growing(report, program, shim)
