@@ -72,7 +72,8 @@ fn more_digits(bytes: &[u8]) -> Option<(u32, usize)>
     None
 }
 
-// One to nine digits and a byte that ends them, and how many digits there are.
+// One to nine digits and a byte that ends them, and how many digits there are. It is inlined, as each cell calls it.
+#[inline(always)]
 fn numeral_in(bytes: &[u8]) -> Option<(u32, usize)>
     ensures { IfSome result (λ r. IsNumeral bytes.now r.0 r.1) }
 {
