@@ -94,8 +94,3 @@ TellsOpen-joined table a b first second high low open_of a_inside b_inside tells
 -- an open label leads to itself
 pub TellsOpen-twice : (table : List ℕ) (open_of : ℕ → ℕ) (k : ℕ) → TellsOpen table open_of → k < length table → open_of (open_of k) ≡ open_of k
 TellsOpen-twice table open_of k tells inside = tells.itself (open_of k) (let low = tells.low k inside in omega arith) (tells.is_open k inside)
-
--- an open label takes a smaller open one
-pub TellsOpen-taken : (table : List ℕ) (label next : ℕ) (open_of : ℕ → ℕ) → label < next → next < length table → get_or table label 0 ≡ label → get_or table next 0 ≡ next → TellsOpen table open_of → TellsOpen (set table next label) (after_join open_of label next)
-TellsOpen-taken table label next open_of less inside label_open next_open tells =
-    TellsOpen-joined table label next label next next label open_of (omega arith) inside tells (sym (tells.itself label (omega arith) label_open)) (sym (tells.itself next inside next_open)) (omega arith) (omega arith)
