@@ -8,7 +8,7 @@ ghost use Rattle.cell_clump.specs.parts.Pairs.{AreSound, AreJoinedAlong};
 ghost use Rattle.cell_clump.specs.parts.Rows.{AreAllJoined, AreSideBySide, AreAcross, HaveRows};
 
 use crate::clump::Joining;
-use crate::pairs::{join_alike, join_stretches};
+use crate::pairs::{join_neighbours, join_stretches};
 use cell_core::cell::Cell;
 
 // Joins the cells of a row with one another.
@@ -23,7 +23,7 @@ fn join_within(table: &mut [u32], row: &[Cell], place: u32)
         AreAllJoined j m (length row.now) table.new open_of (AreSideBySide r) }
 {
     let last = row.len() - 1;
-    join_alike(table, &row[..last], place, &row[1..], place + 1);
+    join_neighbours(table, &row[..last], place, &row[1..]);
 }
 
 // Joins the cells of a row with those of the row above. In each of the two rows neighbours were joined before.
