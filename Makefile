@@ -7,7 +7,7 @@
 # make edits     tries the edits of crates/NAME/edits/, which the gate leaves alone: each must be refused
 # make hostile   uses the program as an enemy would: each growth, read, write and byte in turn, and the greatest inputs (an hour)
 # make fuzz      runs it on random input beside a plain model, SECONDS=60 of them, from SEED=
-# make bench     times the program against a plain program by hand on a grid of 100 MB
+# make bench     times it beside a yardstick by hand in C++ and prints the tables of docs/SPEED.md; BENCH=--short takes a minute or two
 # make exchange  holds the program and the documents against GRASS and GDAL, where they are installed
 # make clean     takes away all that was built
 # make help      prints this
@@ -56,7 +56,7 @@ fuzz: bin/rcell
 	python3 tools/fuzz.py --seconds $(SECONDS) $(if $(SEED),--seed $(SEED))
 
 bench: bin/rcell
-	python3 bench/run.py
+	python3 bench/run.py $(BENCH)
 
 exchange: bin/rcell
 	python3 tools/exchange.py
