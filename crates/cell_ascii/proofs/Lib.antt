@@ -38,3 +38,4 @@ pub mod WriterLemmas
 pub mod RunWritingLemmas
 pub mod ShortNumberLemmas
 pub mod ShortLemmas
+pub mod HeldRowLemmas

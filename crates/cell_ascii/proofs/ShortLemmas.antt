@@ -1,5 +1,5 @@
 -- Where a sink fails, it took less than the whole text.
-use Rattle.std.proofs.Common.{◌≡◌, ℕ, ◌+◌, ◌<◌, ◌≤◌, List, [], ◌∷◌, ◌++◌, length, flat_map, Option, ap, arith, append_assoc, length-append}
+use Rattle.std.proofs.Common.{ℕ, ◌+◌, ◌<◌, ◌≤◌, List, [], ◌∷◌, ◌++◌, length, flat_map, Option, ap, arith, append_assoc, length-append}
 use Rattle.cell_core.specs.Blocks.{BlockValue, CutsOff, Gathered, Gathers, IsCut, counted}
 use Rattle.cell_core.specs.Grid.{CellValue}
 use Rattle.cell_ascii.specs.Writing.{row_text}
