@@ -18,9 +18,10 @@ printed agrees shelf places options pairs cells is =
     rw (cells, same) refl
 
 pub tables-printed : TableAgrees → TablesArePrinted
-tables-printed agrees shelf places options cells =
-    ((table_of options.skip (combinations_of shelf places), (agrees options.skip (combinations_of shelf places)).0),
-    λ pairs is. printed agrees shelf places options pairs cells is)
+tables-printed agrees shelf places options cells = (
+  (table_of options.skip (combinations_of shelf places), (agrees options.skip (combinations_of shelf places)).0),
+  λ pairs is. printed agrees shelf places options pairs cells is,
+)
 
 -- with counts, a line ends with the count
 counted : (format : FormatValue) (shelf : ShelfValue) (places : List ℕ) (pairs : Pairs) → format.counts ≡ true
@@ -31,8 +32,9 @@ counted format shelf places (pair ∷ pairs) e = rw (e, counted format shelf pla
 pub counts-cover : TableAgrees → CountsAddUp → CountsCoverTheRegion
 counts-cover agrees sums shelf places options cells counts skip after pairs is =
     let text : stats_text shelf places options ≡ table_text (format_of options) shelf.maps places pairs =
-        printed agrees shelf places options pairs cells is ∙ ap (λ a. table_text (format_of options) shelf.maps places (printed_pairs a pairs)) after in
+    printed agrees shelf places options pairs cells is ∙ ap (λ a. table_text (format_of options) shelf.maps places (printed_pairs a pairs)) after in
     let same : pairs ≡ table_of Nothing (combinations_of shelf places) =
-        (agrees options.skip (combinations_of shelf places)).1 pairs is ∙ ap (λ s. table_of s (combinations_of shelf places)) skip in
-    (text ∙ counted (format_of options) shelf places pairs counts,
-    ap (λ (ps : Pairs). sum_by (λ pair. pair.1) ps) same ∙ sums shelf.maps places shelf.region.rows shelf.region.cols)
+    (agrees options.skip (combinations_of shelf places)).1 pairs is ∙ ap (λ s. table_of s (combinations_of shelf places)) skip in (
+      text ∙ counted (format_of options) shelf places pairs counts,
+      ap (λ (ps : Pairs). sum_by (λ pair. pair.1) ps) same ∙ sums shelf.maps places shelf.region.rows shelf.region.cols,
+    )
