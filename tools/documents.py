@@ -31,6 +31,7 @@ import differences
 ROOT = os.path.dirname(os.path.dirname(os.path.abspath(__file__)))
 DOCUMENTS = ["README.md", "docs/GUIDE.md", "docs/COMMANDS.md", "docs/DIFFERENCES.md", "docs/PROOFS.md"]
 FENCE = re.compile(r"```(\S*)(?: file=(\S+))?\n(.*?)^```$", re.MULTILINE | re.DOTALL)
+COUNTED = re.compile(r"^\| (crates/\S+|all) \| (\d+) \|", re.MULTILINE)
 LANGUAGES = {"console", "text", "python", "sh"}
 SECONDS = 60
 END_OF_COMMAND = "==== a command of a document has ended ===="
@@ -132,8 +133,10 @@ def judge(block, room):
         right = shown_text(commands, room.printed(commands))
     except (ValueError, subprocess.TimeoutExpired) as fault:
         return str(fault), block.text
+    if block.text == right:
+        return "", right
     differs = difflib.unified_diff(block.text.splitlines(), right.splitlines(), "shown", "printed", lineterm="", n=1)
-    return "\n    ".join(differs), right
+    return "\n    ".join(differs) or "the last line has no end", right
 
 
 def run_document(name, program, write):
@@ -184,9 +187,6 @@ def check_messages():
     rows, messages = set(re.findall(r"^\| `([^`]*)` \|", section, re.MULTILINE)), messages_of_the_code()
     faults = [f"docs/COMMANDS.md: no row for the message '{text}'" for text in sorted(messages - rows)]
     return len(messages & rows), faults + [f"docs/COMMANDS.md: no such message: '{text}'" for text in sorted(rows - messages)]
-
-
-COUNTED = re.compile(r"^\| (crates/\S+|all) \| (\d+) \|", re.MULTILINE)
 
 
 def check_counts(write):
