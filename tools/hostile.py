@@ -11,7 +11,9 @@
     inputs    pipes with names, standard input as script and as grid, readers that stop in the middle of a token
     bytes     each proper prefix of each grid, script, rule block and expression; each byte turned to each of nine others
     stack     each case on a stack of 64 KiB, the deepest expressions on one of 2 MiB
-    sizes     the greatest inputs; memory a cell; times at 1,000, 10,000 and 100,000 of each kind
+    sizes     the greatest inputs
+    memory    the bytes a cell of each command, over patches and over noise
+    times     times at 1,000, 10,000 and 100,000 of each kind of thing: none grows by more than its number
 
 Without names all parts run. With --short each makes a choice of its runs, within a minute. What differs is written to
 FOLDER as a case that can be put under cases/. The last line is 'N passed, M failed'.
@@ -33,12 +35,23 @@ from hostile_cases import Report, cases_of
 ALL = 10**9
 
 # What a short run makes of each part.
-SHORT = {"places": 4, "places_of_long": 2, "changes": 4000, "growths": 3}
-WHOLE = {"places": ALL, "places_of_long": 60, "changes": None, "growths": ALL}
+SHORT = {"cases": 30, "places": 3, "places_of_long": 2, "changes": 1500, "growths": 2}
+WHOLE = {"cases": ALL, "places": ALL, "places_of_long": 60, "changes": None, "growths": ALL}
+
+
+def some(cases, settings):
+    """All cases, or a choice of them in a short run."""
+    names = settings.random.sample(list(cases.made), min(settings.cases, len(cases.made)))
+    return {name: cases.made[name] for name in sorted(names)}
 
 
 def of_devices(part):
-    return lambda report, program, shims, cases, settings: part(report, hostile_devices.Devices(program, shims["devices"]), cases.made, settings)
+    return lambda report, program, shims, cases, settings: part(
+        report, hostile_devices.Devices(program, shims["devices"]), some(cases, settings), settings)
+
+
+def of_sizes(part):
+    return lambda report, program, shims, cases, settings: part(report, program, shims["devices"])
 
 
 PARTS = {
@@ -50,9 +63,11 @@ PARTS = {
     "inputs": of_devices(hostile_devices.inputs),
     "bytes": lambda report, program, shims, cases, settings: hostile_bytes.spoiled(report, program, cases.made, settings),
     "stack": lambda report, program, shims, cases, settings: hostile_sizes.stack(report, program, cases.made, settings),
-    "sizes": lambda report, program, shims, cases, settings: hostile_sizes.sizes(report, program, shims["devices"]),
+    "sizes": of_sizes(hostile_sizes.greatest),
+    "memory": of_sizes(hostile_sizes.memory),
+    "times": of_sizes(hostile_sizes.growing),
 }
-NOT_SHORT = ("tests", "inputs", "sizes")
+NOT_SHORT = ("tests", "inputs", "sizes", "memory", "times")
 
 
 def processor_seconds():

@@ -215,6 +215,9 @@ def combinations(count: int):
     return of_grid(in_rows(count, lambda at: at * 7919 % 1000003), script, count)
 
 
+# A product of two kinds, whose times are shown and not judged.
+PRODUCTS = ("rules and categories",)
+
 KINDS: dict[str, Kind] = {kind.__name__.replace("_", " "): kind for kind in (
     grids, statements, names, names_in_a_chain, rules, rules_and_categories, ranges_of_a_rule, labels, categories, areas,
     combinations)}
@@ -241,7 +244,8 @@ def growing(report: Report, program: Program, shim: str) -> None:
         print(f"{name:24} {cells[0]:>18} {cells[1]:>18} {cells[2]:>18}", flush=True)
         bad = [f"status {one.status}, {one.told!r}" for _, one in times if one.status]
         report.runs += len(times)
-        report.check(f"times of {name}", bad[0] if bad else "more than linear" if is_steep(times) else "")
+        if name not in PRODUCTS:
+            report.check(f"times of {name}", bad[0] if bad else "more than linear" if is_steep(times) else "")
 
 
 # The greatest inputs
@@ -270,7 +274,7 @@ def greatest(report: Report, program: Program, shim: str) -> None:
 
 # Memory a cell
 
-SIDE = 1000
+SIDES = 1000, 2000
 PATCH = 16
 WORK = {
     "reading alone": b"# nothing\n",
@@ -286,28 +290,30 @@ WORK = {
 }
 
 
-def memory(report: Report, program: Program, shim: str) -> None:
-    """Bytes a cell of each command, over patches of one category and over noise."""
+def patches_and_noise(side: int) -> dict[str, bytes]:
+    """Two square grids of eight categories: in patches, and each cell by chance."""
     choice = random.Random(1)
-    patches = [[choice.randint(1, 8) for _ in range(SIDE // PATCH + 1)] for _ in range(SIDE // PATCH + 1)]
-    texts = {"patchy": grid(SIDE, SIDE, lambda row, col: patches[row // PATCH][col // PATCH]),
-             "noise": grid(SIDE, SIDE, lambda row, col: choice.randint(1, 8))}
-    program.put(over(ONE_CELL, WORK["reading alone"]))
-    least = spent(program, [b"script", b"g=grid0"], shim=shim)
-    print(f"bytes a cell beyond the {least.kib} KiB of one cell; {'patchy':>10} {'noise':>10}, and seconds, of {SIDE * SIDE:,} cells")
+    patches = [[choice.randint(1, 8) for _ in range(side // PATCH + 1)] for _ in range(side // PATCH + 1)]
+    return {"patchy": grid(side, side, lambda row, col: patches[row // PATCH][col // PATCH]),
+            "noise": grid(side, side, lambda row, col: choice.randint(1, 8))}
+
+
+def memory(report: Report, program: Program, shim: str) -> None:
+    """Bytes a cell of each command, by what a larger grid takes beyond a smaller one."""
+    texts = {side: patches_and_noise(side) for side in SIDES}
+    less, more = SIDES
+    print(f"bytes a cell, {more}x{more} cells beyond {less}x{less}, MB of the larger, and its seconds")
+    print(f"{'':30} {'patchy':>20} {'noise':>20}")
     for name, script in WORK.items():
         cells = []
-        for text in texts.values():
-            made = over(text, script)
-            program.put(made)
-            one = spent(program, made.words, shim=shim)
-            report.runs += 1
-            report.check(f"memory of {name}", "" if one.status == 0 else f"status {one.status}, {one.told!r}")
-            cells.append(f"{(one.kib - least.kib) * 1024 / SIDE**2:.1f} {one.seconds:.2f}")
-        print(f"{name:30} {cells[0]:>12} {cells[1]:>12}", flush=True)
-
-
-def sizes(report: Report, program: Program, shim: str) -> None:
-    greatest(report, program, shim)
-    memory(report, program, shim)
-    growing(report, program, shim)
+        for kind in ("patchy", "noise"):
+            held = {}
+            for side in SIDES:
+                made = over(texts[side][kind], script)
+                program.put(made)
+                held[side] = spent(program, made.words, shim=shim)
+                report.runs += 1
+                report.check(f"memory of {name}", "" if held[side].status == 0 else f"status {held[side].status}, {held[side].told!r}")
+            a_cell = (held[more].kib - held[less].kib) * 1024 / (more**2 - less**2)
+            cells.append(f"{a_cell:.1f} {held[more].kib / 1024:.0f} {held[more].seconds:.2f}")
+        print(f"{name:30} {cells[0]:>20} {cells[1]:>20}", flush=True)
