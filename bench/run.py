@@ -300,4 +300,5 @@ def main():
             file.write(before + MARKS[0] + "\n" + "".join(lines) + MARKS[1] + rest.partition(MARKS[1])[2])
 
 
-main()
+if __name__ == "__main__":
+    main()
