@@ -1,5 +1,5 @@
 #!/usr/bin/env python3
-"""Prints which functions of rcell take how much of a task's time, by perf, which has to be installed.
+"""Prints a table of which functions of rcell take how much of a task's time, by perf, which has to be installed.
 
 shares.py [--program PATH]; grids of 4 million cells, 4000 looks a second, three runs of each task. Functions that the
 compiler put into others count with these. Shares below 3 percent are left out.
@@ -29,10 +29,10 @@ MEMORY = re.compile("alloc|free|consolidate|chunk")
 def place(library, symbol):
     """The name under which a sample counts."""
     if "kernel" in library:
-        return "the kernel (page faults, reading)"
+        return "the kernel"
     if "libc" in library:
         return "malloc and free" if MEMORY.search(symbol) else "memmove" if "mem" in symbol else symbol
-    return re.sub(r"::<#?[0-9a-f]+>|\$.*", "", symbol)
+    return "::".join(re.sub(r"::<#?[0-9a-f]+>|\$.*", "", symbol).split("::")[-2:])
 
 
 def samples(words):
@@ -52,12 +52,14 @@ def main():
     parser.add_argument("--program", default=f"{ROOT}/bin/rcell")
     program = os.path.abspath(parser.parse_args().program)
     build()
+    print("| Grid, task | Shares in percent |\n| --- | --- |")
     for kind, tasks in TASKS.items():
         for task in tasks:
             words, _ = Contest(task, [grid_file(kind, 1, SIDE)], program, 0).words()
             found = sum((samples(words) for _ in range(RUNS)), collections.Counter())
-            shares = [f"{name} {100 * count / found.total():.0f}" for name, count in found.most_common() if count >= LEAST * found.total()]
-            print(f"{kind}, {task.title}: {', '.join(shares)}", flush=True)
+            total = found.total()
+            shares = [f"{name} {100 * count / total:.0f}" for name, count in found.most_common() if count >= LEAST * total]
+            print(f"| {kind}, {task.title} | {', '.join(shares)} |", flush=True)
 
 
 main()
