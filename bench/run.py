@@ -1,7 +1,7 @@
 #!/usr/bin/env python3
 """Times rcell beside a yardstick by hand in C++ (bench/yardstick.cpp), task by task, and prints tables of the figures.
 
-run.py [--short] [--rounds N] [--only WORD] [--program PATH]
+run.py [--short] [--rounds N] [--only WORD] [--program PATH] [--write]
 
 First each task is done once by both, and their outputs are compared byte for byte. Then they take turns, and the least
 processor time (user and system) of all rounds counts, so that other work on the machine disturbs little; grids of up to 4
@@ -11,10 +11,11 @@ beyond reading is its time without that of reading the same grids by the same pr
 in bytes a cell of one map.
 
 --short takes grids of a million cells; otherwise they are those that the tables name, written once under bench/out.
---only takes the parts whose title has the word.
+--only takes the parts whose title has the word. --write puts the tables into docs/SPEED.md as well.
 """
 import argparse
 import filecmp
+import itertools
 import os
 import shutil
 import subprocess
@@ -25,6 +26,9 @@ from dataclasses import dataclass, field
 HERE = os.path.dirname(os.path.abspath(__file__))
 ROOT = os.path.dirname(HERE)
 OUT = f"{HERE}/out"
+DOCUMENT = f"{ROOT}/docs/SPEED.md"
+# What stands before and after the tables there.
+MARKS = ("<!-- The tables of bench/run.py -->\n", "<!-- End of the tables -->\n")
 NAMES = "ghi"
 SHORT_SIDE = 1000
 # Grids of few cells are timed in more rounds, since what disturbs a short run is a greater part of it.
@@ -92,6 +96,9 @@ RECLASS_STATS = Task("r.reclass, r.stats -c", RECLASS.script + "r.stats -c input
 
 READING = (READ.aiming(1.1), STATS.aiming(1.2), WRITE.aiming(1.3))
 NEGATIVE = (READ.aiming(1.3), STATS, WRITE)
+TABLES = (STATS, STD.aiming(beyond=2))
+TABLES_OF_TWO = (STATS_TWO, STD_TWO)
+TABLES_OF_THREE = (STATS_THREE, STD_THREE.aiming(beyond=2))
 AREAS = (CLUMP.aiming(beyond=2), CLUMP_CORNERS.aiming(beyond=2), CLUMP_WRITE, CLUMP_CORNERS_WRITE)
 CELLS = (SUM.aiming(beyond=2), SUM_WRITE, LONG_IF.aiming(beyond=3), LONG_IF_STATS, RECLASS, RECLASS_STATS)
 
@@ -106,15 +113,15 @@ PARTS = {
         Bench("another category at each cell, 25 million cells", (("apart", 1),), 5000, (READ, STATS, WRITE)),
     ),
     "Tables": (
-        Bench("20,000 categories at random, 1 million cells", (("random:20000", 1),), 1000, (STATS, STD.aiming(beyond=2))),
-        Bench("200,000 categories at random, 1 million cells", (("random:200000", 1),), 1000, (STATS, STD.aiming(beyond=2))),
-        Bench("10,000 categories in blocks of 60 by 60, 36 million cells", (("blocks:60", 1),), 6000, (STATS, STD.aiming(beyond=2))),
-        Bench("three land covers, 4 million cells", (("cover", 1), ("cover", 2), ("cover", 3)), 2000, (STATS_THREE, STD_THREE.aiming(beyond=2))),
-        Bench("patchy land cover, 25 million cells", (("patchy", 1),), 5000, (STATS, STD.aiming(beyond=2))),
-        Bench("two patchy land covers, 4 million cells", (("patchy", 1), ("patchy", 2)), 2000, (STATS_TWO, STD_TWO)),
-        Bench("two maps of noise, 4 million cells", (("noise", 1), ("noise", 2)), 2000, (STATS_TWO, STD_TWO)),
-        Bench("two maps of 40 values at random, 4 million cells", (("random:40", 1), ("random:40", 2)), 2000, (STATS_TWO, STD_TWO)),
-        Bench("two maps of 100 values at random, 4 million cells", (("random:100", 1), ("random:100", 2)), 2000, (STATS_TWO, STD_TWO)),
+        Bench("20,000 categories at random, 1 million cells", (("random:20000", 1),), 1000, TABLES),
+        Bench("200,000 categories at random, 1 million cells", (("random:200000", 1),), 1000, TABLES),
+        Bench("10,000 categories in blocks of 60 by 60, 36 million cells", (("blocks:60", 1),), 6000, TABLES),
+        Bench("three land covers, 4 million cells", (("cover", 1), ("cover", 2), ("cover", 3)), 2000, TABLES_OF_THREE),
+        Bench("patchy land cover, 25 million cells", (("patchy", 1),), 5000, TABLES),
+        Bench("two patchy land covers, 4 million cells", (("patchy", 1), ("patchy", 2)), 2000, TABLES_OF_TWO),
+        Bench("two maps of noise, 4 million cells", (("noise", 1), ("noise", 2)), 2000, TABLES_OF_TWO),
+        Bench("two maps of 40 values at random, 4 million cells", (("random:40", 1), ("random:40", 2)), 2000, TABLES_OF_TWO),
+        Bench("two maps of 100 values at random, 4 million cells", (("random:100", 1), ("random:100", 2)), 2000, TABLES_OF_TWO),
     ),
     "Areas": tuple(
         Bench(f"{title}, 4 million cells", ((kind, 1),), 2000, AREAS)
@@ -201,7 +208,8 @@ def row(contest, reading, cells):
     """A line of the table of a part."""
     ours, theirs = contest.rcell, contest.yardstick
     per_million = [least.seconds * 1000 * MILLION / cells for least in (ours, theirs)]
-    found = [contest.task.title, *(f"{time:.1f}" for time in per_million), ratio_cell(per_million[0] / per_million[1], contest.task.most)]
+    ratio = ratio_cell(per_million[0] / per_million[1], contest.task.most)
+    found = [contest.task.title, *(f"{time:.1f}" for time in per_million), ratio]
     if contest is reading:
         found += ["", "", ""]
     else:
@@ -247,31 +255,50 @@ def grass(grid, program):
     return seconds
 
 
+def part_lines(title, benches, wanted):
+    """The lines of a part of the figures, a table for each bench."""
+    yield f"## {title}"
+    for bench in benches:
+        side = SHORT_SIDE if wanted.short else bench.side
+        say(f"{title}: {bench.title}")
+        rows = run(bench, os.path.abspath(wanted.program), wanted.rounds, side)
+        yield ""
+        yield bench.title + (" (here 1 million)" if wanted.short and bench.side != SHORT_SIDE else "")
+        yield ""
+        yield from ("| " + " | ".join(words) + " |" for words in (HEAD, ["---"] * len(HEAD), *rows))
+    yield ""
+
+
+def grass_lines(wanted):
+    """What GRASS takes for one of the tasks, where it is installed."""
+    if shutil.which("grass") and not wanted.only:
+        side = SHORT_SIDE if wanted.short else 5000
+        seconds = grass(grid_file("patchy", 1, side), os.path.abspath(wanted.program))
+        time = seconds * 1000 * MILLION / side / side
+        yield f"GRASS, r.in.ascii and r.stats -c, patchy land cover of {side * side // 1000000} million cells: {time:.0f} ms."
+        yield ""
+
+
 def main():
     parser = argparse.ArgumentParser()
     parser.add_argument("--short", action="store_true")
     parser.add_argument("--rounds", type=int, default=5)
     parser.add_argument("--only", default="")
     parser.add_argument("--program", default=f"{ROOT}/bin/rcell")
+    parser.add_argument("--write", action="store_true")
     wanted = parser.parse_args()
-    program = os.path.abspath(wanted.program)
     build()
-    for part, benches in PARTS.items():
-        if wanted.only.lower() not in part.lower():
-            continue
-        print(f"## {part}\n")
-        for bench in benches:
-            side = SHORT_SIDE if wanted.short else bench.side
-            say(f"{part}: {bench.title}")
-            rows = run(bench, program, wanted.rounds, side)
-            print(f"{bench.title}" + (" (here 1 million)" if wanted.short and bench.side != SHORT_SIDE else "") + "\n")
-            for words in (HEAD, ["---"] * len(HEAD), *rows):
-                print("| " + " | ".join(words) + " |")
-            print(flush=True)
-    if shutil.which("grass") and not wanted.only:
-        side = SHORT_SIDE if wanted.short else 5000
-        seconds = grass(grid_file("patchy", 1, side), program)
-        print(f"GRASS, patchy land cover, r.in.ascii and r.stats -c: {seconds * 1000 * MILLION / side / side:.1f} ms a million cells")
+    lines = []
+    parts = [part_lines(*part, wanted) for part in PARTS.items() if wanted.only.lower() in part[0].lower()]
+    for line in itertools.chain(*parts, grass_lines(wanted)):
+        print(line, flush=True)
+        lines.append(line + "\n")
+    if wanted.write:
+        with open(DOCUMENT, encoding="utf-8") as file:
+            before, _, rest = file.read().partition(MARKS[0])
+        with open(DOCUMENT, "w", encoding="utf-8") as file:
+            file.write(before + MARKS[0] + "\n" + "".join(lines) + MARKS[1] + rest.partition(MARKS[1])[2])
 
 
-main()
+if __name__ == "__main__":
+    main()
