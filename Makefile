@@ -5,7 +5,9 @@
 # make documents runs each example of the documents on bin/rcell, and compares
 # make check     the gate: every proof from nothing, then the program on each case, example and document
 # make edits     tries the edits of crates/NAME/edits/, which the gate leaves alone: each must be refused
-# make bench     times the program against a plain program by hand on a grid of 100 MB
+# make hostile   uses the program as an enemy would: each growth, read, write and byte in turn, and the greatest inputs (an hour)
+# make fuzz      runs it on random input beside a plain model, SECONDS=60 of them, from SEED=
+# make bench     times it beside a yardstick by hand in C++ and prints the tables of docs/SPEED.md; BENCH=--short takes a minute or two
 # make exchange  holds the program and the documents against GRASS and GDAL, where they are installed
 # make clean     takes away all that was built
 # make help      prints this
@@ -18,7 +20,7 @@ JOBS ?=
 CRATES = $(filter-out %_tests,$(wildcard crates/*))
 SOURCES = crates.txt $(shell find $(wildcard $(CRATES:%=%/src) $(CRATES:%=%/specs) $(CRATES:%=%/proofs)) -type f ! -name tests.rt)
 
-.PHONY: all install uninstall example documents check edits bench exchange clean help
+.PHONY: all install uninstall example documents check edits hostile fuzz bench exchange clean help
 
 all: bin/rcell
 
@@ -46,8 +48,15 @@ check:
 edits:
 	sh tools/edits.sh
 
+hostile: bin/rcell
+	python3 tools/hostile.py --clang "$$(dirname "$$(rt doc)")/toolchain/bin/clang"
+
+SECONDS = 60
+fuzz: bin/rcell
+	python3 tools/fuzz.py --seconds $(SECONDS) $(if $(SEED),--seed $(SEED))
+
 bench: bin/rcell
-	python3 bench/run.py
+	python3 bench/run.py $(BENCH)
 
 exchange: bin/rcell
 	python3 tools/exchange.py

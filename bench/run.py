@@ -1,99 +1,304 @@
 #!/usr/bin/env python3
-"""Times bin/rcell against bench/plain.rs, and GRASS where it is installed, on one grid in one run.
+"""Times rcell beside a yardstick by hand in C++ (bench/yardstick.cpp), task by task, and prints tables of the figures.
 
-Our programs take turns, and the best of 3 is told; GRASS runs once.
+run.py [--short] [--rounds N] [--only WORD] [--program PATH] [--write]
 
-run.py [ROWS COLS]; without a size the grid has 6000 rows and columns, about 100 MB. A program's user and system
-seconds are added, so that other work on the machine disturbs little; the seconds on the wall stand beside them.
+First each task is done once by both, and their outputs are compared byte for byte. Then they take turns, and the least
+processor time (user and system) of all rounds counts, so that other work on the machine disturbs little; grids of up to 4
+million cells have three times N rounds. All times are
+milliseconds for a million cells of one map, from the start of a program to its end, output to /dev/null. What a task costs
+beyond reading is its time without that of reading the same grids by the same program. Memory is the peak of the process,
+in bytes a cell of one map.
+
+--short takes grids of a million cells; otherwise they are those that the tables name, written once under bench/out.
+--only takes the parts whose title has the word. --write puts the tables into docs/SPEED.md as well.
 """
+import argparse
+import filecmp
+import itertools
 import os
 import shutil
 import subprocess
 import sys
 import tempfile
-import time
+from dataclasses import dataclass, field
 
 HERE = os.path.dirname(os.path.abspath(__file__))
 ROOT = os.path.dirname(HERE)
 OUT = f"{HERE}/out"
-TURNS = 3
+DOCUMENT = f"{ROOT}/docs/SPEED.md"
+# What stands before and after the tables there.
+MARKS = ("<!-- The tables of bench/run.py -->\n", "<!-- End of the tables -->\n")
+NAMES = "ghi"
+SHORT_SIDE = 1000
+# Grids of few cells are timed in more rounds, since what disturbs a short run is a greater part of it.
+FEW_SIDE = 2000
+ROUNDS_FOR_FEW = 3
+MILLION = 1e6
 
 
-def measure(words):
-    """Seconds of the processor, seconds on the wall, the peak of memory in bytes, and the output."""
-    with tempfile.TemporaryFile() as output:
-        start = time.perf_counter()
-        started = subprocess.Popen(words, stdout=output, stdin=subprocess.DEVNULL)
-        _, status, used = os.wait4(started.pid, 0)
-        wall = time.perf_counter() - start
-        started.returncode = os.waitstatus_to_exitcode(status)
-        if started.returncode:
-            sys.exit(f"{words[0]} ended with status {started.returncode}")
-        output.seek(0)
-        return used.ru_utime + used.ru_stime, wall, used.ru_maxrss * 1024, output.read()
+@dataclass(frozen=True)
+class Task:
+    """What is done: the lines of the script, and the words of the yardstick. `most` is the ratio aimed at."""
+    title: str
+    script: str
+    words: tuple[str, str]
+    maps: int = 1
+    most: float | None = None
+    most_beyond: float | None = None
+
+    def aiming(self, most=None, beyond=None):
+        return Task(self.title, self.script, self.words, self.maps, most, beyond)
 
 
-def best(programs):
-    """The best of TURNS turns of each program, turn by turn."""
-    turns = [[measure(words) for words in programs.values()] for _ in range(TURNS)]
-    return {name: (*(min(turn[at][part] for turn in turns) for part in range(3)), turns[0][at][3])
-            for at, name in enumerate(programs)}
+@dataclass(frozen=True)
+class Bench:
+    """Tasks over grids of one region, each grid a kind of make_grid.cpp and a seed."""
+    title: str
+    grids: tuple[tuple[str, int], ...]
+    side: int
+    tasks: tuple[Task, ...]
 
 
-def grass(grid):
-    """What `measure` tells of r.in.ascii and r.stats -c in a new location, or None."""
-    if not shutil.which("grass"):
-        return None
+@dataclass
+class Least:
+    """The least processor time, in seconds, and the greatest peak of memory, in bytes."""
+    seconds: float = float("inf")
+    peak: int = 0
+
+    def add(self, seconds, peak):
+        self.seconds, self.peak = min(self.seconds, seconds), max(self.peak, peak)
+
+
+NINE = " + ".join(f"g[{row},{col}]" for row in (-1, 0, 1) for col in (-1, 0, 1))
+CHOICE = "if(isnull(g), 40, if(g == 1, 10, if(g == 2 || g == 3, 20, if(g > 6 && g < 10, 30, g + 100))))"
+RULES = "1 thru 3 = 1\n4 6 = 2\n11 thru 24 = 3\n31 41 thru 43 = 4\n52 thru 71 = 5\n90 thru 95 = NULL\n* = 6\nend\n"
+
+READ = Task("reading", "", ("none", "nothing"))
+WRITE = Task("r.out.ascii", "r.out.ascii input=g\n", ("none", "ascii"))
+STATS = Task("r.stats -c", "r.stats -c input=g\n", ("none", "stats"))
+STATS_TWO = Task("r.stats -c of two maps", "r.stats -c input=g,h\n", ("none", "stats"), 2)
+STATS_THREE = Task("r.stats -c of three maps", "r.stats -c input=g,h,i\n", ("none", "stats"), 3)
+BY_STD = ("none", "stats-std")
+STD = Task("r.stats -c, by std", STATS.script, BY_STD)
+STD_TWO = Task("r.stats -c of two maps, by std", STATS_TWO.script, BY_STD, 2)
+STD_THREE = Task("r.stats -c of three maps, by std", STATS_THREE.script, BY_STD, 3)
+CLUMP = Task("r.clump", "r.clump input=g output=m\n", ("clump", "nothing"))
+CLUMP_CORNERS = Task("r.clump -d", "r.clump -d input=g output=m\n", ("clump-d", "nothing"))
+CLUMP_WRITE = Task("r.clump, r.out.ascii", CLUMP.script + "r.out.ascii input=m\n", ("clump", "ascii"))
+CLUMP_CORNERS_WRITE = Task("r.clump -d, r.out.ascii", CLUMP_CORNERS.script + "r.out.ascii input=m\n", ("clump-d", "ascii"))
+SUM = Task("sum of nine offsets", f"r.mapcalc m = {NINE}\n", ("sum", "nothing"))
+SUM_WRITE = Task("the sum, r.out.ascii", SUM.script + "r.out.ascii input=m\n", ("sum", "ascii"))
+LONG_IF = Task("long `if`", f"r.mapcalc m = {CHOICE}\n", ("choice", "nothing"))
+LONG_IF_STATS = Task("long `if`, r.stats -c", LONG_IF.script + "r.stats -c input=m\n", ("choice", "stats"))
+RECLASS = Task("r.reclass", f"r.reclass input=g output=m\n{RULES}", ("reclass", "nothing"))
+RECLASS_STATS = Task("r.reclass, r.stats -c", RECLASS.script + "r.stats -c input=m\n", ("reclass", "stats"))
+
+READING = (READ.aiming(1.1), STATS.aiming(1.2), WRITE.aiming(1.3))
+NEGATIVE = (READ.aiming(1.3), STATS, WRITE)
+TABLES = (STATS, STD.aiming(beyond=2))
+TABLES_OF_TWO = (STATS_TWO, STD_TWO)
+TABLES_OF_THREE = (STATS_THREE, STD_THREE.aiming(beyond=2))
+AREAS = (CLUMP.aiming(beyond=2), CLUMP_CORNERS.aiming(beyond=2), CLUMP_WRITE, CLUMP_CORNERS_WRITE)
+CELLS = (SUM.aiming(beyond=2), SUM_WRITE, LONG_IF.aiming(beyond=3), LONG_IF_STATS, RECLASS, RECLASS_STATS)
+
+PARTS = {
+    "Reading, counting and writing": (
+        Bench("patchy land cover, 25 million cells", (("patchy", 1),), 5000, READING),
+        Bench("noise, 25 million cells", (("noise", 1),), 5000, READING),
+        Bench("patchy land cover, 4 million cells", (("patchy", 1),), 2000, READING),
+        Bench("noise, 4 million cells", (("noise", 1),), 2000, READING),
+        Bench("negative numbers at random, `null: -9999`, 25 million cells", (("negative", 1),), 5000, NEGATIVE),
+        Bench("negative patches, `null: -9999`, 25 million cells", (("cold", 1),), 5000, NEGATIVE),
+        Bench("another category at each cell, 25 million cells", (("apart", 1),), 5000, (READ, STATS, WRITE)),
+    ),
+    "Tables": (
+        Bench("20,000 categories at random, 1 million cells", (("random:20000", 1),), 1000, TABLES),
+        Bench("200,000 categories at random, 1 million cells", (("random:200000", 1),), 1000, TABLES),
+        Bench("10,000 categories in blocks of 60 by 60, 36 million cells", (("blocks:60", 1),), 6000, TABLES),
+        Bench("three land covers, 4 million cells", (("cover", 1), ("cover", 2), ("cover", 3)), 2000, TABLES_OF_THREE),
+        Bench("patchy land cover, 25 million cells", (("patchy", 1),), 5000, TABLES),
+        Bench("two patchy land covers, 4 million cells", (("patchy", 1), ("patchy", 2)), 2000, TABLES_OF_TWO),
+        Bench("two maps of noise, 4 million cells", (("noise", 1), ("noise", 2)), 2000, TABLES_OF_TWO),
+        Bench("two maps of 40 values at random, 4 million cells", (("random:40", 1), ("random:40", 2)), 2000, TABLES_OF_TWO),
+        Bench("two maps of 100 values at random, 4 million cells", (("random:100", 1), ("random:100", 2)), 2000, TABLES_OF_TWO),
+    ),
+    "Areas": tuple(
+        Bench(f"{title}, 4 million cells", ((kind, 1),), 2000, AREAS)
+        for title, kind in (("patchy land cover", "patchy"), ("noise", "noise"), ("one comb of width 2000", "comb"),
+                            ("one spiral", "spiral"), ("checkerboard", "checkerboard"))
+    ),
+    "Expressions and rules": (
+        Bench("patchy land cover, 4 million cells", (("patchy", 1),), 2000, CELLS),
+        Bench("noise, 4 million cells", (("noise", 1),), 2000, CELLS),
+    ),
+}
+
+
+def say(text):
+    print(text, file=sys.stderr, flush=True)
+
+
+def build():
+    """The programs in C++, for this machine: by clang, which makes the faster yardstick, where it is installed."""
+    os.makedirs(OUT, exist_ok=True)
+    compiler = "clang++" if shutil.which("clang++") else "g++"
+    for name in ("make_grid", "measure", "yardstick"):
+        subprocess.run([compiler, "-std=c++20", "-O3", "-march=native", "-o", f"{OUT}/{name}", f"{HERE}/{name}.cpp"], check=True)
+
+
+def grid_file(kind, seed, side):
+    """The path of a grid, which is written where it is not there yet."""
+    path = f"{OUT}/{kind.replace(':', '-')}-{seed}-{side}.txt"
+    if not os.path.exists(path):
+        say(f"  writing {os.path.basename(path)}")
+        with open(f"{path}.part", "wb") as file:
+            subprocess.run([f"{OUT}/make_grid", kind, str(side), str(side), str(seed)], stdout=file, check=True)
+        os.rename(f"{path}.part", path)
+    return path
+
+
+def measure(words, output="/dev/null"):
+    """Seconds of the processor and the peak of memory in bytes."""
+    answer = subprocess.run([f"{OUT}/measure", output, *words], check=True, capture_output=True, text=True).stdout.split()
+    micros, peak, status = (int(word) for word in answer)
+    if status != 0:
+        sys.exit(f"{' '.join(words)} ended with status {status}")
+    return micros / 1e6, peak
+
+
+@dataclass
+class Contest:
+    """One task by both programs over given grids."""
+    task: Task
+    paths: list[str]
+    program: str
+    number: int
+    rcell: Least = field(default_factory=Least)
+    yardstick: Least = field(default_factory=Least)
+
+    def words(self):
+        script = f"{OUT}/script-{self.number}"
+        with open(script, "w", encoding="ascii") as file:
+            file.write(self.task.script)
+        named = [f"{name}={path}" for name, path in zip(NAMES, self.paths)]
+        return [self.program, script, *named], [f"{OUT}/yardstick", *self.task.words, *self.paths]
+
+    def check(self):
+        """Both write the same bytes."""
+        outputs = [f"{OUT}/output-of-{by}" for by in ("rcell", "yardstick")]
+        for words, output in zip(self.words(), outputs):
+            measure(words, output)
+        if not filecmp.cmp(*outputs, shallow=False):
+            sys.exit(f"the two programs wrote different texts: {self.task.title}")
+        for output in outputs:
+            os.remove(output)
+
+    def turn(self):
+        for words, least in zip(self.words(), (self.rcell, self.yardstick)):
+            least.add(*measure(words))
+
+
+def ratio_cell(ratio, most):
+    """A ratio, and beside it what it is to be at most where it is more."""
+    return f"{ratio:.2f}" + (f" (missed: {most:g})" if most is not None and ratio > most else "")
+
+
+def row(contest, reading, cells):
+    """A line of the table of a part."""
+    ours, theirs = contest.rcell, contest.yardstick
+    per_million = [least.seconds * 1000 * MILLION / cells for least in (ours, theirs)]
+    ratio = ratio_cell(per_million[0] / per_million[1], contest.task.most)
+    found = [contest.task.title, *(f"{time:.1f}" for time in per_million), ratio]
+    if contest is reading:
+        found += ["", "", ""]
+    else:
+        base = [least.seconds * 1000 * MILLION / cells for least in (reading.rcell, reading.yardstick)]
+        beyond = [whole - part for whole, part in zip(per_million, base)]
+        ratio = ratio_cell(beyond[0] / beyond[1], contest.task.most_beyond) if beyond[1] > 0 else ""
+        found += [*(f"{time:.2f}" for time in beyond), ratio]
+    return found + [f"{least.peak / cells:.2f}" for least in (ours, theirs)]
+
+
+HEAD = ("Task", "rcell ms", "yardstick ms", "ratio", "beyond reading: rcell", "yardstick", "ratio", "memory: rcell", "yardstick")
+
+
+def run(bench, program, rounds, side):
+    """The lines of a table. Reading the same grids is measured too, as what the tasks stand on."""
+    paths = [grid_file(kind, seed, side) for kind, seed in bench.grids]
+    tasks = bench.tasks if bench.tasks[0].title == READ.title else (READ, *bench.tasks)
+    contests = [Contest(task, paths, program, number) for number, task in enumerate(tasks)]
+    for contest in contests:
+        contest.check()
+    rounds *= ROUNDS_FOR_FEW if side <= FEW_SIDE else 1
+    for number in range(rounds):
+        print(f"\r  round {number + 1} of {rounds}", end="\n" if number + 1 == rounds else "", file=sys.stderr, flush=True)
+        for contest in contests:
+            contest.turn()
+    return [row(contest, contests[0], side * side) for contest in contests]
+
+
+def grass(grid, program):
+    """Seconds of the processor that r.in.ascii and r.stats -c take in a new location of GRASS; its table is rcell's."""
+    contest = Contest(STATS, [grid], program, 0)
+    outputs = [f"{OUT}/output-of-{by}" for by in ("grass", "rcell")]
     with tempfile.TemporaryDirectory() as room:
         subprocess.run(["grass", "-e", "-c", "XY", f"{room}/here"], check=True, capture_output=True)
-        words = ["grass", f"{room}/here/PERMANENT", "--exec", "sh", "-c",
+        words = [shutil.which("grass"), f"{room}/here/PERMANENT", "--exec", "sh", "-c",
                  f"r.in.ascii input={grid} output=g type=CELL --quiet && g.region raster=g && r.stats -c input=g --quiet"]
-        return measure(words)
+        seconds = measure(words, outputs[0])[0]
+    measure(contest.words()[0], outputs[1])
+    if not filecmp.cmp(*outputs, shallow=False):
+        sys.exit("GRASS wrote another table")
+    for output in outputs:
+        os.remove(output)
+    return seconds
 
 
-# What a run does, and the script that asks for it.
-TASKS = {"read": "", "count": "r.stats -c input=g\n", "write": "r.out.ascii input=g\n"}
+def part_lines(title, benches, wanted):
+    """The lines of a part of the figures, a table for each bench."""
+    yield f"## {title}"
+    for bench in benches:
+        side = SHORT_SIDE if wanted.short else bench.side
+        say(f"{title}: {bench.title}")
+        rows = run(bench, os.path.abspath(wanted.program), wanted.rounds, side)
+        yield ""
+        yield bench.title + (" (here 1 million)" if wanted.short and bench.side != SHORT_SIDE else "")
+        yield ""
+        yield from ("| " + " | ".join(words) + " |" for words in (HEAD, ["---"] * len(HEAD), *rows))
+    yield ""
 
 
-def programs(grid, plain):
-    """Each task by both programs."""
-    for task, script in TASKS.items():
-        with open(f"{OUT}/{task}", "w", encoding="ascii") as file:
-            file.write(script)
-        yield f"rcell {task}", [f"{ROOT}/bin/rcell", f"{OUT}/{task}", f"g={grid}"]
-        yield f"plain {task}", [plain, task, grid]
-
-
-def ratio(found, task, without=None):
-    """How many times the plain program's seconds of the processor a task takes, those of another task left out."""
-    rcell, plain = (found[f"{by} {task}"][0] - (found[f"{by} {without}"][0] if without else 0) for by in ("rcell", "plain"))
-    print(f"{task}: {rcell:.3f} s, plain {plain:.3f} s, ratio {rcell / plain:.2f}" + (f" ({without} left out)" if without else ""))
+def grass_lines(wanted):
+    """What GRASS takes for one of the tasks, where it is installed."""
+    if shutil.which("grass") and not wanted.only:
+        side = SHORT_SIDE if wanted.short else 5000
+        seconds = grass(grid_file("patchy", 1, side), os.path.abspath(wanted.program))
+        time = seconds * 1000 * MILLION / side / side
+        yield f"GRASS, r.in.ascii and r.stats -c, patchy land cover of {side * side // 1000000} million cells: {time:.0f} ms."
+        yield ""
 
 
 def main():
-    size = sys.argv[1:3] or ["6000", "6000"]
-    os.makedirs(OUT, exist_ok=True)
-    grid, plain = f"{OUT}/grid-{'x'.join(size)}.txt", f"{OUT}/plain"
-    if not os.path.exists(grid):
-        subprocess.run([sys.executable, f"{HERE}/make_grid.py", grid, *size], check=True)
-    subprocess.run(["rustc", "--edition", "2021", "-O", "-o", plain, f"{HERE}/plain.rs"], check=True)
-    cells, length = int(size[0]) * int(size[1]), os.path.getsize(grid)
-    print(f"grid: {length / 1e6:.1f} MB, {cells} cells")
-    found = best(dict(programs(grid, plain)))
-    for name, (seconds, wall, peak, _) in found.items():
-        print(f"{name}: {seconds:.3f} s of processor, {wall:.3f} s on the wall, peak {peak / 1e6:.1f} MB, {peak / cells:.2f} bytes a cell")
-    for task in TASKS:
-        if found[f"rcell {task}"][3] != found[f"plain {task}"][3]:
-            sys.exit(f"the two programs wrote different texts: {task}")
-        ratio(found, task)
-    ratio(found, "write", "read")
-    by_grass = grass(grid)
-    if by_grass is None:
-        print("grass: not installed, skipped")
-    else:
-        print(f"grass (import and r.stats): {by_grass[0]:.3f} s of processor, {by_grass[1]:.3f} s on the wall")
-        if by_grass[3] != found["rcell count"][3]:
-            sys.exit("GRASS wrote another table")
+    parser = argparse.ArgumentParser()
+    parser.add_argument("--short", action="store_true")
+    parser.add_argument("--rounds", type=int, default=5)
+    parser.add_argument("--only", default="")
+    parser.add_argument("--program", default=f"{ROOT}/bin/rcell")
+    parser.add_argument("--write", action="store_true")
+    wanted = parser.parse_args()
+    build()
+    lines = []
+    parts = [part_lines(*part, wanted) for part in PARTS.items() if wanted.only.lower() in part[0].lower()]
+    for line in itertools.chain(*parts, grass_lines(wanted)):
+        print(line, flush=True)
+        lines.append(line + "\n")
+    if wanted.write:
+        with open(DOCUMENT, encoding="utf-8") as file:
+            before, _, rest = file.read().partition(MARKS[0])
+        with open(DOCUMENT, "w", encoding="utf-8") as file:
+            file.write(before + MARKS[0] + "\n" + "".join(lines) + MARKS[1] + rest.partition(MARKS[1])[2])
 
 
-main()
+if __name__ == "__main__":
+    main()

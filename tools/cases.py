@@ -1,5 +1,5 @@
 #!/usr/bin/env python3
-"""Runs the proved program on each folder of cases/ and examples/, and again with each growth refused in turn.
+r"""Runs the proved program on each folder of cases/ and examples/, and again with each growth refused in turn.
 
 A case is a folder with the files that the program reads and
     args     its words, one a line
@@ -7,7 +7,7 @@ A case is a folder with the files that the program reads and
     stderr   what it must tell; no file: nothing
     status   its exit status; no file: 0
     output   where its standard output goes in place of a pipe that is read: a path, or `closed` for a closed pipe
-    spaces   lines FILE COUNT: so many spaces go behind what the file has
+    more     lines FILE COUNT TEXT: so many times the text, in which \n, \r and \x20 are bytes, follows what the file has
 The last line is 'N passed, M failed'.
 """
 import glob
@@ -19,7 +19,7 @@ import tempfile
 
 ROOT = os.path.dirname(os.path.dirname(os.path.abspath(__file__)))
 PROGRAM = f"{ROOT}/bin/rcell"
-OUR_OWN = ("args", "stdout", "stderr", "status", "output", "spaces")
+OUR_OWN = ("args", "stdout", "stderr", "status", "output", "more")
 
 
 def read(path, otherwise=b""):
@@ -27,6 +27,20 @@ def read(path, otherwise=b""):
         return otherwise
     with open(path, "rb") as file:
         return file.read()
+
+
+def more_of(case):
+    """What follows the contents of files of the case: names of files, each with bytes."""
+    for name, count, text in (line.split() for line in read(f"{case}/more").decode().splitlines()):
+        yield name, text.encode().decode("unicode_escape").encode("latin-1") * int(count)
+
+
+def lay_out(case, folder):
+    """Puts the files of the case into a new folder."""
+    shutil.copytree(case, folder, ignore=shutil.ignore_patterns(*OUR_OWN))
+    for name, text in more_of(case):
+        with open(f"{folder}/{name}", "ab") as file:
+            file.write(text)
 
 
 def output_to(place):
@@ -74,10 +88,7 @@ def judge(case, room, shim):
     """What is wrong with a case, or '', and how many growths were refused in turn."""
     folder = f"{room}/folder"
     shutil.rmtree(folder, ignore_errors=True)
-    shutil.copytree(case, folder, ignore=shutil.ignore_patterns(*OUR_OWN))
-    for name, count in (line.split() for line in read(f"{case}/spaces").decode().splitlines()):
-        with open(f"{folder}/{name}", "ab") as file:
-            file.write(b" " * int(count))
+    lay_out(case, folder)
     wanted = int(read(f"{case}/status", b"0")), read(f"{case}/stdout"), read(f"{case}/stderr")
     got = run(case, folder)
     for what, is_so, must_be in zip(("status", "output", "told"), got, wanted):

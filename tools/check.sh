@@ -29,9 +29,13 @@ cat "$room/cases"
 python3 tools/documents.py > "$room/documents" 2>&1 || status=1
 cat "$room/documents"
 
+# The program used as an enemy would, in short: some of each part of `make hostile`.
+python3 tools/hostile.py --short --clang "$kit/toolchain/bin/clang" > "$room/hostile" 2>&1 || status=1
+cat "$room/hostile"
+
 # The program beside the plain model of the definitions: each case, and runs made at random.
 { python3 tools/compare.py --cases && python3 tools/compare.py --runs 3000 --seed 1 --program bin/rcell; } || status=1
-tail -qn 1 "$room/proofs" "$room/cases" "$room/documents" |
+tail -qn 1 "$room/proofs" "$room/cases" "$room/documents" "$room/hostile" |
     awk '/^[0-9]+ passed, [0-9]+ failed$/ { passed += $1; failed += $3; counted++ }
-         END { print passed + 0 " passed, " failed + 3 - counted " failed" }'
+         END { print passed + 0 " passed, " failed + 4 - counted " failed" }'
 exit $status

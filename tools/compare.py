@@ -8,8 +8,8 @@ With --cases the model answers each folder of cases/ and examples/ (as tools/cas
 whose standard output goes elsewhere. With --runs random grids and scripts go to both, and output, standard error and
 exit status must agree byte for byte. Run F of seed S is the same wherever it is made. With --refuse each run is made
 again with one of its growths refused: it must tell that, and have written just what the statements before that line
-write. Each difference is written to FOLDER as a case whose expected files are the model's, with the program's answer
-beside it. The last line is 'N runs, M differences'.
+write. Each difference is written to FOLDER as a case whose expected files are the model's, with the program's answer in
+a folder beside it. The last line is 'N runs, M differences'.
 """
 import argparse
 import collections
@@ -46,10 +46,7 @@ def expected_of_case(case):
 
 def answer_to_case(case, room):
     folder = f"{room}/{os.path.basename(case)}"
-    shutil.copytree(case, folder, ignore=shutil.ignore_patterns("args", "stdout", "stderr", "status", "output", "spaces"))
-    for name, count in (line.split() for line in read(f"{case}/spaces").decode().splitlines()):
-        with open(f"{folder}/{name}", "ab") as file:
-            file.write(b" " * int(count))
+    cases.lay_out(case, folder)
     return model.program(read(f"{case}/args").splitlines(), os.fsencode(folder))
 
 
@@ -69,29 +66,34 @@ def compare_cases():
 
 
 class Program:
-    """The built program, run in a folder of its own."""
+    """The built program, run in the folder that is the current one; `room` is where its output goes."""
 
     def __init__(self, path, room):
         self.path, self.room = os.path.abspath(path), room
+        self.output, self.told, self.count = (f"{room}/{name}" for name in ("out", "err", "count"))
         opening = os.O_WRONLY | os.O_CREAT | os.O_TRUNC
         self.actions = [(os.POSIX_SPAWN_OPEN, 0, "/dev/null", os.O_RDONLY, 0),
-                        (os.POSIX_SPAWN_OPEN, 1, "out", opening, 0o600), (os.POSIX_SPAWN_OPEN, 2, "err", opening, 0o600)]
+                        (os.POSIX_SPAWN_OPEN, 1, self.output, opening, 0o600),
+                        (os.POSIX_SPAWN_OPEN, 2, self.told, opening, 0o600)]
         os.chdir(room)
 
     def put(self, made: Made):
         for name, content in made.files.items():
             write(name, content)
 
-    def answer(self, made: Made, **more) -> model.Answer:
-        environment = {"PATH": "/usr/bin:/bin", **more}
-        child = os.posix_spawn(self.path, [self.path, *made.words], environment, file_actions=self.actions)
-        status = os.waitstatus_to_exitcode(os.waitpid(child, 0)[1])
-        return model.Answer(status, read("out"), read("err"))
+    def put_one(self, name: str, content: bytes):
+        write(name, content)
 
-    def answer_refused(self, made: Made, shim: str, at: int) -> tuple[model.Answer, int]:
+    def answer(self, words, **more) -> model.Answer:
+        environment = {"PATH": "/usr/bin:/bin", **more}
+        child = os.posix_spawn(self.path, [self.path, *words], environment, file_actions=self.actions)
+        status = os.waitstatus_to_exitcode(os.waitpid(child, 0)[1])
+        return model.Answer(status, read(self.output), read(self.told))
+
+    def answer_refused(self, words, shim: str, at: int) -> tuple[model.Answer, int]:
         """The answer with growth number `at` refused (0: none), and how many were asked for."""
-        got = self.answer(made, LD_PRELOAD=shim, REFUSE_AT=str(at), REFUSE_COUNT="count")
-        return got, int(read("count", b"0"))
+        got = self.answer(words, LD_PRELOAD=shim, REFUSE_AT=str(at), REFUSE_COUNT=self.count)
+        return got, int(read(self.count, b"0"))
 
 
 NO_MEMORY = re.compile(rb"rcell: ([^:]+):([0-9]+): no memory\n")
@@ -114,14 +116,16 @@ def answer_of_model(made: Made) -> model.Answer:
 
 
 def keep(folder, made: Made, expected, got):
-    os.makedirs(folder, exist_ok=True)
+    """Writes a run as a case, and beside it, in FOLDER.got, what the program answered."""
+    for place in (folder, f"{folder}.got"):
+        os.makedirs(place, exist_ok=True)
     for name, content in made.files.items():
         write(f"{folder}/{name}", content)
     write(f"{folder}/args", b"".join(word + b"\n" for word in made.words))
-    for prefix, answer in (("", expected), ("got.", got)):
-        write(f"{folder}/{prefix}stdout", answer.output)
-        write(f"{folder}/{prefix}stderr", answer.told)
-        write(f"{folder}/{prefix}status", b"%d\n" % answer.status)
+    for place, answer in ((folder, expected), (f"{folder}.got", got)):
+        write(f"{place}/stdout", answer.output)
+        write(f"{place}/stderr", answer.told)
+        write(f"{place}/status", b"%d\n" % answer.status)
 
 
 def kind_of(answer):
@@ -129,19 +133,19 @@ def kind_of(answer):
     if not answer.told:
         return "done, with output" if answer.output else "done, without output"
     words = answer.told.decode(errors="replace").rstrip("\n").split(": ", 2)
-    source = "script" if words[1].startswith("script:") else "grid"
-    return f"{source}: {words[2].split(' at column')[0]}"
+    source = words[1].partition(":")[0]
+    return f"{source if source in ('script', 'arguments', 'output') else 'grid'}: {words[2].split(' at column')[0]}"
 
 
 def wrong_answer(program, made, expected, shim, choice):
     """An answer of the program that is not as it must be, or None."""
     program.put(made)
-    got = program.answer(made)
+    got = program.answer(made.words)
     if got != expected or not shim:
         return None if got == expected else got
-    _, growths = program.answer_refused(made, shim, 0)
+    _, growths = program.answer_refused(made.words, shim, 0)
     at = choice.randint(1, max(1, growths))
-    got, asked = program.answer_refused(made, shim, at)
+    got, asked = program.answer_refused(made.words, shim, at)
     goes_on = got == expected and asked > at  # the standard library asked once more
     return None if goes_on or is_told_refusal(expected, got) else got
 

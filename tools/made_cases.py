@@ -46,9 +46,12 @@ ODD_TOKENS = OPERATORS + b"""= ? : ( ) [ ] , 1 a & | &&&& ! 1.5 . 2a 1e2 ^ @ nul
 class Made:
     files: dict[str, bytes]
     grids: list[tuple[bytes, str]]  # names with their files
+    other_words: list[bytes] | None = None  # in place of those that the files ask for
 
     @property
     def words(self) -> list[bytes]:
+        if self.other_words is not None:
+            return self.other_words
         return [b"script"] + [name + b"=" + path.encode() for name, path in self.grids]
 
 
@@ -254,6 +257,9 @@ class ExpressionMaker(Maker):
 
     def assignment(self, target: bytes, known: list[bytes]) -> bytes:
         body = self.long_expression(known) if self.chance(0.004) else self.expression(self.number(0, 4), known)
+        return self.assignment_of(target, body)
+
+    def assignment_of(self, target: bytes, body: list[bytes]) -> bytes:
         tokens = [target, b"=", *body]
         for _ in range(2):
             if self.slips():

@@ -13,8 +13,8 @@ from dataclasses import dataclass
 from typing import Optional
 
 from model_expressions import CalcRefused, Expression, Parser, Place
-from model_grids import (BLANKS, TOKEN, Answer, Cell, CellMap, Refused, Region, cell_text, grid_text, is_name, map_of,
-                         order, read_map, whole_number)
+from model_grids import (BLANKS, TOKEN, Answer, Cell, CellMap, Failing, Refused, Region, cell_text, grid_text, is_name,
+                         map_of, order, read_map, whole_number)
 
 MOST_INPUTS = 16
 LONGEST_LINE = 65535
@@ -379,14 +379,25 @@ class ScriptReader:
 # Runs and the program
 
 
-def run(grids: list[tuple[bytes, Optional[bytes]]], script: Optional[bytes]) -> Answer:
-    """A run over named grid texts and a script; None is a file that opens and cannot be read."""
+Given = bytes | Failing  # what a file gives
+
+
+def read_script(given: Given) -> bytes:
+    """The text of a script; of one that cannot be read on, its size is judged by what it gave."""
+    text = given.text if isinstance(given, Failing) else given
+    if len(text) > LONGEST_SCRIPT:
+        raise Refused(b"script", 0, "script too long")
+    if isinstance(given, Failing):
+        raise Refused(b"script", 0, "read failed", 4)
+    return text
+
+
+def run(grids: list[tuple[bytes, Given]], script: Given) -> Answer:
+    """A run over named grid texts and a script."""
     maps: Maps = {}
     region = None
     try:
         for name, text in grids:
-            if text is None:
-                raise Refused(name, 1, "read failed", 4)
             grid = read_map(name, text)
             if name in maps:
                 raise Refused(name, 0, "name used twice")
@@ -394,11 +405,7 @@ def run(grids: list[tuple[bytes, Optional[bytes]]], script: Optional[bytes]) -> 
             if grid.region != region:
                 raise Refused(name, 0, "other region")
             maps[name] = grid
-        if script is None:
-            raise Refused(b"script", 0, "read failed", 4)
-        if len(script) > LONGEST_SCRIPT:
-            raise Refused(b"script", 0, "script too long")
-        statements = ScriptReader(script, list(maps)).read()
+        statements = ScriptReader(read_script(script), list(maps)).read()
     except Refused as fault:
         return fault.answer()
     parts = tuple((line, statement.run(maps, region)) for line, statement in statements)
@@ -413,12 +420,12 @@ def is_utf8(word: bytes) -> bool:
     return True
 
 
-def contents(folder: bytes, path: bytes, source: bytes) -> Optional[bytes]:
+def contents(folder: bytes, path: bytes, source: bytes) -> Given:
     try:
         with open(os.path.join(folder, path) if path else path, "rb") as file:
             return file.read()
     except IsADirectoryError:
-        return None
+        return Failing(b"")
     except OSError:
         raise Refused(source, 0, "cannot open", 4) from None
 

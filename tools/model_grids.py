@@ -101,7 +101,8 @@ def order(cell: Cell) -> tuple[bool, int]:
 # Grid texts
 
 # What a place of a grid text is judged by, in this order where several meet at one place.
-LONG_TOKEN, STUCK, SECOND_VALUE, LINE_END, HEADER_END, CELL_END, INPUT_END, TOKEN_TOO_MANY = range(8)
+LONG_TOKEN, STUCK, SECOND_VALUE, LINE_END, HEADER_END, CELL_END, INPUT_END, TOKEN_TOO_MANY, READ_FAILS = range(9)
+TOLD_AT_AN_END = (LINE_END, HEADER_END, CELL_END, INPUT_END)
 
 EDGES = (b"north", b"south", b"east", b"west")
 SIDES = (b"rows", b"cols")
@@ -145,11 +146,20 @@ def coordinate(text: bytes) -> Optional[int]:
     return -size if found[1] == b"-" else size
 
 
+@dataclass(frozen=True)
+class Failing:
+    """A file that opens, gives these bytes, and then cannot be read on."""
+
+    text: bytes
+
+
 class GridText:
     """A grid text with all that its places tell; `read` answers its map or its first fault."""
 
-    def __init__(self, text: bytes):
-        self.text = text
+    def __init__(self, given: bytes | Failing):
+        self.ends = not isinstance(given, Failing)
+        self.text = given if self.ends else given.text
+        text = self.text
         self.tokens = grid_tokens(text)
         begins_data = (at for at, token in enumerate(self.tokens) if token.is_first_of_line and b":" not in token.text)
         data_at = next(begins_data, len(self.tokens))
@@ -162,7 +172,15 @@ class GridText:
         self.judge_header()
         if self.judge_region():
             self.judge_cells()
+        if not self.ends:
+            self.judge_failure()
         return min(self.faults) if self.faults else self.map()
+
+    def judge_failure(self) -> None:
+        """A text that fails has no end, so nothing that an end tells is told there."""
+        end = len(self.text)
+        self.faults = [told for told in self.faults if told.place < end or told.rank not in TOLD_AT_AN_END]
+        self.tell(end, READ_FAILS, self.line_at(end), "read failed")
 
     def tell(self, place: int, rank: int, line: int, text: str) -> None:
         self.faults.append(Told(place, rank, line, text))
@@ -256,10 +274,10 @@ class GridText:
         return map_of(self.region, lambda row, col: cells[row * self.region.cols + col])
 
 
-def read_map(name: bytes, text: bytes) -> CellMap:
-    answer = GridText(text).read()
+def read_map(name: bytes, given: bytes | Failing) -> CellMap:
+    answer = GridText(given).read()
     if isinstance(answer, Told):
-        raise Refused(name, answer.line, answer.text)
+        raise Refused(name, answer.line, answer.text, 4 if answer.rank == READ_FAILS else 1)
     return answer
 
 

@@ -36,3 +36,6 @@ pub mod DataLemmas
 pub mod KindLemmas
 pub mod WriterLemmas
 pub mod RunWritingLemmas
+pub mod ShortNumberLemmas
+pub mod ShortLemmas
+pub mod HeldRowLemmas

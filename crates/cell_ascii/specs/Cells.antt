@@ -1,4 +1,5 @@
 -- The data of a grid text, from the bytes to come: one word after another, and the end (r.in.ascii manual).
+pub use Rattle.cell_ascii.specs.GridWords.{cell_of_number, cell_of_word}
 use Rattle.std.specs.Prelude.{ℕ, ℤ, ◌*ℤ◌, zero, suc, List, [], ◌∷◌, Option, Some, None, Result, Ok, Err, if◌then◌else◌, bytes_eq}
 use Rattle.cell_core.specs.Device.{Coming}
 use Rattle.cell_core.specs.Grid.{CellValue, Grid, no_labels}
@@ -8,16 +9,6 @@ use Rattle.cell_ascii.specs.Header.{At, Header, header_of_text, ◌>>=◌}
 use Rattle.cell_ascii.specs.declared.fault.GridKind.{GridKind}
 use Rattle.cell_ascii.specs.declared.fault.GridKind.TheVariants.{BadCell, CellRange, TooFew, TooMany}
 use Rattle.cell_ascii.specs.declared.fault.GridFault.{GridFault}
-
--- a number and its product with the multiplier, both in range
-abbrev pub cell_of_number : ℤ → Option ℤ → Result CellValue GridKind
-cell_of_number multiplier None = Err BadCell
-cell_of_number multiplier (Some n) =
-    if is_in_range n then (if is_in_range (n *ℤ multiplier) then Ok (Some (n *ℤ multiplier)) else Err CellRange) else Err CellRange
-
--- the cell that a word denotes: null where it is the null text, else a number
-abbrev pub cell_of_word : Header → List ℕ → Result CellValue GridKind
-cell_of_word h word = if bytes_eq word h.null_text then Ok None else cell_of_number h.multiplier (whole_number word)
 
 -- what was read, and where that left the text; or the first fault
 abbrev pub Reading : Type 0 → Type 0

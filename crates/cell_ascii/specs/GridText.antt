@@ -5,11 +5,9 @@ use Rattle.std.specs.Option.{option_and_then, option_map}
 use Rattle.cell_core.specs.Device.{Coming}
 use Rattle.cell_core.specs.Region.{region_fault}
 use Rattle.cell_core.specs.Grid.{Grid, IsFilled, cell_at, no_labels}
-use Rattle.cell_ascii.specs.Words.{is_space}
 use Rattle.cell_ascii.specs.Numbers.{coordinate, side, whole_in_range}
 use Rattle.cell_ascii.specs.KeyNames.{key_of}
-use Rattle.cell_ascii.specs.Header.{Header, is_colon, has_colon, is_int, usual_null, usual_multiplier}
-use Rattle.cell_ascii.specs.Cells.{cell_of_word}
+use Rattle.cell_ascii.specs.GridWords.{Header, is_space, is_colon, has_colon, is_int, usual_null, usual_multiplier, cell_of_word}
 
 -- the lines of a text, parted by line feeds
 abbrev pub lines_of : List ℕ → List (List ℕ)

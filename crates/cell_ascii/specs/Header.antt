@@ -1,4 +1,5 @@
 -- The header of a grid text, from the bytes to come: key lines, up to the end of the first word of the data (r.in.ascii manual; the limits are the profile's).
+pub use Rattle.cell_ascii.specs.GridWords.{Header, is_colon, has_colon, is_int, usual_null, usual_multiplier}
 use Rattle.std.specs.Prelude.{ℕ, ℤ, pos, zero, suc, ◌+◌, Bool, true, false, ◌&&◌, ◌==◌, not, nat_lt, List, [], ◌∷◌, drop, Option, Some, None, Result, Ok, Err, if◌then◌else◌, bytes_eq, codes, unwrap_or}
 use Rattle.std.specs.List.{prefix_len, list_any, before_first, after_first}
 use Rattle.cell_core.specs.Device.{Coming}
@@ -18,10 +19,6 @@ infixl 10 ◌>>=◌
 abbrev pub ◌>>=◌ : {A B : Type 0} → Result A GridFault → (A → Result B GridFault) → Result B GridFault
 (Ok x) >>= f = f x
 (Err e) >>= f = Err e
-
--- a colon
-abbrev pub is_colon : ℕ → Bool
-is_colon b = b == 58
 
 -- the keys that stood so far, each with its value; of the type only that it stood
 pub record Keys : Type 0 where
@@ -45,14 +42,6 @@ given (Some old) value keep = Err TwiceKey
 given None None keep = Err BadNumber
 given None (Some x) keep = Ok (keep x)
 
--- the only type is that of whole numbers
-abbrev pub is_int : List ℕ → Bool
-is_int value = bytes_eq value (codes "int")
-
--- a null text has no colon
-abbrev pub has_colon : List ℕ → Bool
-has_colon text = list_any is_colon text
-
 -- the keys with one more
 abbrev pub with_key : Keys → Option Key → List ℕ → Result Keys GridKind
 with_key keys None value = Err BadHeader
@@ -65,20 +54,6 @@ with_key keys (Some Cols) value = given keys.cols (side value) (λ x. record key
 with_key keys (Some Null) value = if has_colon value then Err BadHeader else given keys.null (Some value) (λ x. record keys { null = Some x })
 with_key keys (Some CellType) value = if keys.kind then Err TwiceKey else (if is_int value then Ok (record keys { kind = true }) else Err BadType)
 with_key keys (Some Multiplier) value = given keys.multiplier (whole_in_range value) (λ x. record keys { multiplier = Some x })
-
--- what the header says of the cells
-pub record Header : Type 0 where
-  pub region : RegionValue
-  pub null_text : List ℕ
-  pub multiplier : ℤ
-
--- an asterisk is null where no text is given
-abbrev pub usual_null : List ℕ
-usual_null = codes "*"
-
--- cells stand for themselves where no multiplier is given
-abbrev pub usual_multiplier : ℤ
-usual_multiplier = pos 1
 
 -- the header of the keys over their region, or why the six numbers are no region
 abbrev pub judged : Keys → Result RegionValue RegionFault → Result Header GridKind

@@ -1,5 +1,5 @@
 -- A cell whose bytes are held: a space, a word and a byte that ends it.
-use Rattle.std.specs.Prelude.{ℕ, ◌-◌, ◌≡◌, ◌<◌, ◌≤◌, true, List, drop, take, length, slice_index_or, Ok}
+use Rattle.std.specs.Prelude.{ℕ, zero, suc, ◌-◌, ◌≡◌, ◌<◌, ◌≤◌, true, List, drop, take, length, slice_index_or, Ok}
 use Rattle.std.specs.List.{list_all}
 use Rattle.cell_core.specs.Device.{Coming}
 use Rattle.cell_core.specs.Grid.{CellValue}
@@ -7,12 +7,22 @@ use Rattle.cell_ascii.specs.Ahead.{before_coming}
 use Rattle.cell_ascii.specs.Words.{is_space}
 use Rattle.cell_ascii.specs.Numbers.{is_digit, value_of_digits}
 use Rattle.cell_ascii.specs.Header.{Header}
-use Rattle.cell_ascii.specs.Cells.{cell_from, cell_of_word, at_of}
+use Rattle.cell_ascii.specs.Cells.{cell_from, cell_of_word, at_of, many}
 
 -- whatever comes behind these bytes, the next cell is this one and takes the first n of them
 abbrev pub HoldsCell : Header → List ℕ → CellValue → ℕ → Type 0
 HoldsCell h bs v n = (line run : ℕ) → run < 1048576 → (c : Coming)
     → cell_from h (at_of line run (before_coming bs c)) ≡ Ok (v, at_of line 0 (before_coming (drop n bs) c))
+
+-- the length of the run of blanks and line feeds after so many cells
+abbrev pub run_after : ℕ → ℕ → ℕ
+run_after run zero = run
+run_after run (suc count) = 0
+
+-- whatever comes behind these bytes, the next cells are these, so many of them, and take the first n bytes
+abbrev pub HoldsCells : Header → List ℕ → List CellValue → ℕ → ℕ → Type 0
+HoldsCells h bs cells count n = (line run : ℕ) → run < 1048576 → (c : Coming)
+    → many (cell_from h) count (at_of line run (before_coming bs c)) ≡ Ok (cells, at_of line (run_after run count) (before_coming (drop n bs) c))
 
 -- the first n bytes, without the first of all
 abbrev pub held_word : List ℕ → ℕ → List ℕ

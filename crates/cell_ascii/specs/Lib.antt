@@ -6,6 +6,7 @@ pub mod Numbers
 pub mod KeyNames
 pub mod Header
 pub mod Cells
+pub mod GridWords
 pub mod GridText
 pub mod GridLaw
 pub mod Places

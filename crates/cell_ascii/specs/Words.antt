@@ -1,14 +1,11 @@
 -- Words of a grid text: what stands before the next word, and the word (profile: blanks, line feeds and their limits).
+pub use Rattle.cell_ascii.specs.GridWords.{is_space}
 use Rattle.std.specs.Prelude.{ℕ, ◌+◌, ◌-◌, Bool, true, false, ◌||◌, ◌==◌, not, nat_lt, List, [], ◌∷◌, ◌++◌, length, take, drop, count_by, Result, Ok, Err, if◌then◌else◌}
 use Rattle.std.specs.List.{prefix_len}
 use Rattle.cell_core.specs.Device.{Coming}
 use Rattle.cell_ascii.specs.declared.fault.GridKind.{GridKind}
 use Rattle.cell_ascii.specs.declared.fault.GridKind.TheVariants.{Read, ReaderStuck, LongToken}
 use Rattle.cell_ascii.specs.declared.fault.GridFault.{GridFault}
-
--- a space, a tab, a carriage return or a line feed
-abbrev pub is_space : ℕ → Bool
-is_space b = (b == 32 || b == 9) || (b == 13 || b == 10)
 
 -- a byte that is neither a blank nor a line feed
 abbrev pub is_word : ℕ → Bool

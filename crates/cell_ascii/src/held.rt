@@ -1,7 +1,7 @@
 //! A cell whose bytes are held.
 
-ghost use Rattle.std.specs.Prelude.{◌≡◌, ◌<◌, ◌≤◌, pos, neg_ℤ, length, Some, IfSome};
-ghost use Rattle.cell_ascii.specs.Held.{HoldsCell, HoldsWord, IsNumeral, held_word};
+ghost use Rattle.std.specs.Prelude.{◌≡◌, ◌<◌, ◌≤◌, pos, neg_ℤ, length, take, drop, Some, IfSome};
+ghost use Rattle.cell_ascii.specs.Held.{HoldsCell, HoldsCells, HoldsWord, IsNumeral, held_word};
 ghost use Rattle.cell_ascii.specs.Numbers.{whole_number};
 
 use crate::header::Header;
@@ -72,7 +72,8 @@ fn more_digits(bytes: &[u8]) -> Option<(u32, usize)>
     None
 }
 
-// One to nine digits and a byte that ends them, and how many digits there are.
+// One to nine digits and a byte that ends them, and how many digits there are. It is inlined, as each cell calls it.
+#[inline(always)]
 fn numeral_in(bytes: &[u8]) -> Option<(u32, usize)>
     ensures { IfSome result (λ r. IsNumeral bytes.now r.0 r.1) }
 {
@@ -128,9 +129,9 @@ fn word_in(held: &[u8]) -> Option<usize>
     None
 }
 
-/// The cell of a space and a word that ends among the bytes held, and how many of them it takes.
-/// None where another form stands, or a word that is no cell.
-pub fn cell_in(held: &[u8], header: &Header) -> Option<(Cell, usize)>
+// The cell of a space and a word that ends among the bytes held, and how many of them it takes.
+// None where another form stands, or a word that is no cell.
+fn cell_in(held: &[u8], header: &Header) -> Option<(Cell, usize)>
     ensures cell { IfSome result (λ r. HoldsCell header.now held.now r.0 r.1) }
     ensures within { IfSome result (λ r. r.1 ≤ length held.now) }
 {
@@ -145,4 +146,23 @@ pub fn cell_in(held: &[u8], header: &Header) -> Option<(Cell, usize)>
         return None;
     };
     Some((cell, n))
+}
+
+/// The cells that are held one after another, each a space and a word that ends, up to the length of a row: they fill the
+/// front of the row. Returns how many they are, and how many bytes they take.
+pub fn cells_in(held: &[u8], header: &Header, row: &mut [Cell]) -> (usize, usize)
+    ensures cells { HoldsCells header.now held.now (take result.0 row.new) result.0 result.1 }
+    ensures count { result.0 ≤ length row.old }
+    ensures within { result.1 ≤ length held.now }
+    ensures rest { drop result.0 row.new ≡ drop result.0 row.old }
+{
+    let mut passed = 0;
+    for i in 0..row.len() {
+        let Some(found) = cell_in(&held[passed..], header) else {
+            return (i, passed);
+        };
+        row[i] = found.0;
+        passed += found.1;
+    }
+    (row.len(), passed)
 }

@@ -1,6 +1,6 @@
 //! Whole grids, read row by row.
 
-ghost use Rattle.std.specs.Prelude.{◌≡◌, ◌≢◌, ◌+◌, ◌*◌, ◌^◌, ◌<◌, ◌≤◌, ◌||◌, true, false, length, Some, Ok, Err, OnOk, OnErr, IfOk, IfErr, IfSome};
+ghost use Rattle.std.specs.Prelude.{◌≡◌, ◌≢◌, ◌+◌, ◌*◌, ◌^◌, ◌<◌, ◌≤◌, ◌||◌, true, false, length, take, drop, Some, Ok, Err, OnOk, OnErr, IfOk, IfErr, IfSome};
 ghost use Rattle.std.specs.Option.{option_map};
 ghost use Rattle.std.specs.Result.{is_err};
 ghost use Rattle.cell_core.specs.Grid.{no_labels};
@@ -17,7 +17,7 @@ ghost use Rattle.cell_ascii.specs.GridReaders.{place_in, opened_in, fault_of, ha
 
 use crate::fault::{GridFault, GridKind};
 use crate::header::Header;
-use crate::held::cell_in;
+use crate::held::cells_in;
 use crate::keys::Keys;
 use crate::opening;
 use crate::scanner::{Next, Scanner};
@@ -125,7 +125,26 @@ impl<R: Source> CellReader<R> {
         self.header.region()
     }
 
-    // Reads the next cell.
+    // Reads the cells whose bytes are held into the front of a row, and returns how many they are.
+    fn held_cells(&mut self, row: &mut [Cell]) -> usize
+        ensures cells { option_map (λ c. many (cell_from self.old.header) result (at_place self.old c)) (to_come self.old.ahead)
+            ≡ option_map (λ d. Ok (take result row.new, at_place self.new d)) (to_come self.new.ahead) }
+        ensures count { result ≤ length row.old }
+        ensures rest { drop result row.new ≡ drop result row.old }
+        ensures header { self.new.header ≡ self.old.header }
+        ensures line { self.new.line ≡ self.old.line }
+    {
+        if self.waiting || !self.scanner.has_room() {
+            return 0;
+        }
+        let (count, n) = cells_in(self.scanner.held(), &self.header, row);
+        if count > 0 {
+            self.scanner.pass(n);
+        }
+        count
+    }
+
+    // Reads the next cell, byte by byte.
     fn next_cell(&mut self) -> Result<Cell, GridFault>
         requires room { self.old.line + 1048576 < 2 ^ 64 }
         ensures cell { option_map (λ c. cell_from self.old.header (at_place self.old c)) (to_come self.old.ahead)
@@ -138,12 +157,6 @@ impl<R: Source> CellReader<R> {
             self.waiting = false;
             self.scanner.end_run();
             return cell_here(&self.header, &self.scanner);
-        }
-        if self.scanner.has_room() {
-            if let Some((cell, n)) = cell_in(self.scanner.held(), &self.header) {
-                self.scanner.pass(n);
-                return Ok(cell);
-            }
         }
         read_token(&mut self.scanner)?;
         cell_here(&self.header, &self.scanner)
@@ -177,11 +190,16 @@ fn read_row<R: Source>(cells: &mut CellReader<R>, row: &mut [Cell]) -> Result<()
     ensures lines { cells.new.line ≤ cells.old.line + length row.old * 1048577 }
     ensures kind { IfErr result (λ f. IsOfText f.kind) }
 {
-    for i in 0..row.len() {
+    let mut i = 0;
+    'cells: loop {
+        i += cells.held_cells(&mut row[i..]);
+        if i == row.len() {
+            return Ok(());
+        }
         let cell = cells.next_cell()?;
         row[i] = cell;
+        i += 1;
     }
-    Ok(())
 }
 
 /// A grid text whose header was read, and whose cells are read row by row from the north.

@@ -6,7 +6,7 @@ ghost use Rattle.cell_core.specs.Blocks.{Gathers, CutsOff, counted};
 ghost use Rattle.cell_core.specs.Device.{append_known};
 ghost use Rattle.cell_core.specs.Grid.{row_at};
 ghost use Rattle.cell_core.specs.Runs.{AreRuns, written_out};
-ghost use Rattle.cell_ascii.specs.WrittenRuns.{cells_text, joined_cells, times};
+ghost use Rattle.cell_ascii.specs.WrittenRuns.{FallsShort, cells_text, joined_cells, times};
 ghost use Rattle.cell_ascii.specs.Writing.{IsNullText, coordinate_text, fraction_text, grid_text, line_of_key, null_line, region_text, row_text, units_text, without_zeros};
 
 use cell_core::block::Block;
@@ -20,6 +20,9 @@ use itoa::Buffer;
 
 // The bytes of a space and of the longest text of a cell.
 const FIELD: usize = 65;
+
+// The least number of four digits.
+const LEAST_LONG: i32 = 1000;
 
 // How many units a coordinate of 1 has.
 const UNIT: u64 = 100000000;
@@ -197,7 +200,7 @@ fn write_null_line<W: Sink>(
     write_line(out, block, b"null", null_text)
 }
 
-// A space and a text, with spaces behind them.
+// A space and a text, with spaces after them.
 fn spaced(text: &[u8]) -> [u8; FIELD]
     requires { length text.now ≤ 64 }
     ensures { take (length text.now + 1) result ≡ 32 ∷ text.now }
@@ -205,6 +208,27 @@ fn spaced(text: &[u8]) -> [u8; FIELD]
     let mut field = [b' '; FIELD];
     field[1..=text.len()].copy_from_slice(text);
     field
+}
+
+// Writes a field, so many times. It is inlined, so that a field of a known length is copied without a call.
+#[inline(always)]
+fn write_copies<W: Sink>(
+    out: &mut W,
+    block: &mut Block,
+    field: &[u8],
+    count: u32,
+) -> Result<(), WriteFault>
+    requires { length field.now ≤ 65 }
+    ensures ok { OnOk result (Gathers (W.taken out.old) block.old (times count field.now) (W.taken out.new) block.new) }
+    ensures err { IfErr result (λ fault. CutsOff (W.taken out.old) block.old (times count field.now) (W.taken out.new) fault.written) }
+    ensures lost { IfErr result (λ fault. block.new ≡ record { held = []; written = fault.written }) }
+    ensures counted { counted block.new ≤ counted block.old + 65 * count }
+    ensures failed { W.failed out.new ≡ (W.failed out.old || is_err result) }
+{
+    for _ in 0..count {
+        block.push(out, field)?;
+    }
+    Ok(())
 }
 
 // Writes a space and a text, so many times.
@@ -222,11 +246,70 @@ fn write_times<W: Sink>(
     ensures failed { W.failed out.new ≡ (W.failed out.old || is_err result) }
 {
     let bytes = spaced(text);
-    let field = &bytes[..text.len() + 1];
-    for _ in 0..count {
-        block.push(out, field)?;
+    write_copies(out, block, &bytes[..text.len() + 1], count)
+}
+
+// The digit of a number.
+fn digit(number: u32) -> u8
+    requires { number < 10 }
+    ensures { result ≡ 48 + number }
+{
+    b'0' + number as u8
+}
+
+// A space and a number of one digit.
+#[tactic(auto, using(std::proofs::lemmas::Fmt::decimal_digit))]
+fn one_digit(number: u32) -> [u8; 2]
+    requires { number < 10 }
+    ensures { result ≡ 32 ∷ decimal number }
+{
+    [b' ', digit(number)]
+}
+
+// A space and a number of two digits.
+#[tactic(auto, using(crate::proofs::ShortNumberLemmas::decimal_two))]
+fn two_digits(number: u32) -> [u8; 3]
+    requires { (10 ≤ number) × (number < 100) }
+    ensures { result ≡ 32 ∷ decimal number }
+{
+    [b' ', digit(number / 10), digit(number % 10)]
+}
+
+// A space and a number of three digits.
+#[tactic(auto, using(crate::proofs::ShortNumberLemmas::decimal_three))]
+fn three_digits(number: u32) -> [u8; 4]
+    requires { (100 ≤ number) × (number < 1000) }
+    ensures { result ≡ 32 ∷ decimal number }
+{
+    [
+        b' ',
+        digit(number / 100),
+        digit(number / 10 % 10),
+        digit(number % 10),
+    ]
+}
+
+// Writes a space and a number of up to three digits, so many times: straight into the block.
+fn write_short<W: Sink>(
+    out: &mut W,
+    block: &mut Block,
+    number: u32,
+    count: u32,
+) -> Result<(), WriteFault>
+    requires { number < 1000 }
+    ensures ok { OnOk result (Gathers (W.taken out.old) block.old (times count (32 ∷ decimal number)) (W.taken out.new) block.new) }
+    ensures err { IfErr result (λ fault. CutsOff (W.taken out.old) block.old (times count (32 ∷ decimal number)) (W.taken out.new) fault.written) }
+    ensures lost { IfErr result (λ fault. block.new ≡ record { held = []; written = fault.written }) }
+    ensures counted { counted block.new ≤ counted block.old + 65 * count }
+    ensures failed { W.failed out.new ≡ (W.failed out.old || is_err result) }
+{
+    if number < 10 {
+        write_copies(out, block, &one_digit(number), count)
+    } else if number < 100 {
+        write_copies(out, block, &two_digits(number), count)
+    } else {
+        write_copies(out, block, &three_digits(number), count)
     }
-    Ok(())
 }
 
 // Writes a space and the cell of a run, as often as it stands there. Its text is made once.
@@ -246,6 +329,9 @@ fn write_run<W: Sink>(
 {
     match cell.get() {
         None => write_times(out, block, null_text, count),
+        Some(category) if category >= 0 && category < LEAST_LONG => {
+            write_short(out, block, category as u32, count)
+        }
         Some(category) => write_times(out, block, Buffer::new().format(category).as_bytes(), count),
     }
 }
@@ -307,6 +393,7 @@ fn write_row<W: Sink>(
     requires cols { map.now.region.cols ≤ 65535 }
     ensures ok { OnOk result (Gathers (W.taken out.old) block.old (row_text null_text.now (row_at map.now row)) (W.taken out.new) block.new) }
     ensures err { IfErr result (λ fault. CutsOff (W.taken out.old) block.old (row_text null_text.now (row_at map.now row)) (W.taken out.new) fault.written) }
+    ensures short { IfErr result (λ fault. FallsShort (W.taken out.old) block.old (row_text null_text.now (row_at map.now row)) fault.written) }
     ensures lost { IfErr result (λ fault. block.new ≡ record { held = []; written = fault.written }) }
     ensures counted { counted block.new ≤ counted block.old + 76 * 65535 }
     ensures failed { W.failed out.new ≡ (W.failed out.old || is_err result) }
@@ -325,6 +412,7 @@ fn write_rows<W: Sink>(
     requires { length null_text.now ≤ 64 }
     ensures ok { OnOk result (Gathers (W.taken out.old) block.old (flat_map (row_text null_text.now) map.now.rows) (W.taken out.new) block.new) }
     ensures err { IfErr result (λ fault. CutsOff (W.taken out.old) block.old (flat_map (row_text null_text.now) map.now.rows) (W.taken out.new) fault.written) }
+    ensures short { IfErr result (λ fault. FallsShort (W.taken out.old) block.old (flat_map (row_text null_text.now) map.now.rows) fault.written) }
     ensures lost { IfErr result (λ fault. block.new ≡ record { held = []; written = fault.written }) }
     ensures counted { counted block.new ≤ counted block.old + 76 * 65535 * 65535 }
     ensures failed { W.failed out.new ≡ (W.failed out.old || is_err result) }
@@ -344,16 +432,19 @@ fn write_rows<W: Sink>(
 ///
 /// # Errors
 ///
-/// [`WriteFault`] where the sink fails: exactly the first `written` bytes of the text went out.
+/// [`WriteFault`] where the sink fails: exactly the first `written` bytes of the text went out, and not all of it.
 pub fn write_map<W: Sink>(map: &CellMap, null_text: &[u8], out: &mut W) -> Result<u64, WriteFault>
     requires null { IsNullText null_text.now }
     ensures ok { OnOk result (W.taken out.new ≡ append_known (W.taken out.old) (grid_text null_text.now map.now)) }
     ensures length { IfOk result (λ n. n ≡ length (grid_text null_text.now map.now)) }
     ensures err { IfErr result (λ fault. W.taken out.new ≡ append_known (W.taken out.old) (take fault.written (grid_text null_text.now map.now))) }
     ensures within { IfErr result (λ fault. fault.written ≤ length (grid_text null_text.now map.now)) }
+    ensures short { IfErr result (λ fault. fault.written < length (grid_text null_text.now map.now)) }
     ensures failed { W.failed out.new ≡ (W.failed out.old || is_err result) }
 {
     let mut block = Block::new();
+    // The proof looks at the number of rows: the text goes on after its header.
+    let _ = map.region().rows();
     write_region(out, &mut block, map.region())?;
     write_null_line(out, &mut block, null_text)?;
     write_rows(out, &mut block, map, null_text)?;

@@ -1,8 +1,8 @@
 //! Values along strips.
 
-ghost use Rattle.std.specs.Prelude.{◌≡◌, ◌≤◌, ◌<◌, ◌+◌, length, OnOk, IfOk, map, All};
+ghost use Rattle.std.specs.Prelude.{◌≡◌, ◌≤◌, ◌<◌, ◌+◌, length, OnOk, IfOk, map, All, true, false};
 ghost use Rattle.cell_calc.specs.Reach.{IsProper, AreProper};
-ghost use Rattle.cell_calc.specs.parts.Along.{AreReady, AreAllReady, AreValues, AreColumns};
+ghost use Rattle.cell_calc.specs.parts.Along.{AreReady, AreAllReady, AreValues, AreJoined, AreColumns};
 ghost use Rattle.cell_calc.specs.parts.Tree.{formula_of, formulas_of};
 
 use crate::calls::call;
@@ -12,6 +12,7 @@ use crate::{cells, rows};
 use cell_core::cell::Cell;
 use cell_core::memory::Memory;
 use cell_core::region::Region;
+use cell_language::operator::Operator;
 use std::alloc::Global;
 
 /// The values of an expression along a strip, from windows that stand at its row.
@@ -53,6 +54,9 @@ pub(crate) fn along(
         }
         Node::Binary(operator, a, b) => {
             along(alloc, a, region, row, from, windows, cells)?;
+            if joined(*operator, b, region, row, from, windows, cells) {
+                return Ok(());
+            }
             let mut others = Vec::from_slice(alloc, cells)?;
             along(alloc, b, region, row, from, windows, others.as_mut_slice())?;
             rows::apply(*operator, cells, others.as_slice());
@@ -63,6 +67,43 @@ pub(crate) fn along(
             call(*function, region, row, from, arguments.as_slice(), cells);
             Ok(())
         }
+    }
+}
+
+// Joins a second operand that needs no row of its own: a number, or a map's row where it lies. Whether it was one.
+fn joined(
+    operator: Operator,
+    node: &Node,
+    region: Region,
+    row: u32,
+    from: usize,
+    windows: &[RowWindow],
+    cells: &mut [Cell],
+) -> bool
+    requires proper { IsProper (formula_of node.now) }
+    requires ready { AreReady (formula_of node.now) row windows.now }
+    requires row { row < region.rows }
+    requires width { from + length cells.old ≤ region.cols }
+    ensures width { length cells.new ≡ length cells.old }
+    ensures yes { result ≡ true → AreJoined operator (formula_of node.now) windows.now region row from cells.old cells.new }
+    ensures no { result ≡ false → cells.new ≡ cells.old }
+{
+    match node {
+        Node::Number(n) => {
+            rows::apply_one(operator, cells, cells::number(*n));
+            true
+        }
+        Node::Map { place, down, right } => {
+            let source = windows[*place].row(*down);
+            match rows::inside(source, from, *right, cells.len()) {
+                Some(part) => {
+                    rows::apply(operator, cells, part);
+                    true
+                }
+                None => false,
+            }
+        }
+        _ => false,
     }
 }
 

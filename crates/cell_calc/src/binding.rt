@@ -1,6 +1,6 @@
 //! From names of maps to places.
 
-ghost use Rattle.std.specs.Prelude.{◌≡◌, ◌+◌, ◌<◌, ◌^◌, None, IfOk, IfErr, OnOk};
+ghost use Rattle.std.specs.Prelude.{◌≡◌, ◌+◌, ◌<◌, ◌^◌, None, IfOk, IfErr, IfSome, IsErrOf, OnOk};
 ghost use Rattle.std.specs.Option.{unwrap_or};
 ghost use Rattle.cell_core.specs.Name.{place_of};
 ghost use Rattle.cell_calc.specs.Binding.{placed, placed_all, IsBindingFault};
@@ -100,6 +100,7 @@ fn placed_all(alloc: Global, arguments: &Arguments, names: &Names) -> Result<Nod
 pub fn resolve(alloc: Global, expr: &Expr, names: &Names) -> Result<Bound, CalcFault>
     ensures ok { IfOk result (λ bound. bound ≡ placed names.now expr.now) }
     ensures known { OnOk result (first_unknown names.now expr.now ≡ None) }
+    ensures unknown { IfSome (first_unknown names.now expr.now) (λ column. IsErrOf result (record { kind = CalcKind.UnknownMap; column = column })) }
     ensures err { IfErr result (λ fault. IsBindingFault names.now expr.now fault) }
 {
     if let Some(column) = expr.first_unknown(names) {

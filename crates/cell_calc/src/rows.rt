@@ -1,6 +1,6 @@
 //! Rows of cells.
 
-ghost use Rattle.std.specs.Prelude.{◌≡◌, ◌≤◌, ◌<◌, ℕ, pos, length, None, Some, ◌+ℤ◌, ◌+◌};
+ghost use Rattle.std.specs.Prelude.{◌≡◌, ◌≤◌, ◌<◌, ℕ, pos, length, None, Some, IfSome, ◌+ℤ◌, ◌+◌};
 ghost use Rattle.cell_calc.specs.Cells.{chosen, truth, is_null, lesser, greater};
 ghost use Rattle.cell_calc.specs.Value.{applied, item_at, size_of, negated, inverted};
 ghost use Rattle.cell_calc.specs.parts.Joins.{known_lesser, known_greater};
@@ -95,8 +95,42 @@ fn from_left(source: &[Cell], skip: usize, row: &mut [Cell])
     }
 }
 
+/// The part of a row that lies so many columns to the right of a strip, if all of it lies inside.
+pub(crate) fn inside<'a>(
+    source: &'a [Cell],
+    from: usize,
+    right: i32,
+    width: usize,
+) -> Option<&'a [Cell]>
+    requires { from ≤ 65535 }
+    ensures width { IfSome result (λ part. length part.now ≡ width) }
+    ensures each { IfSome result (λ part. (c : ℕ) → c < width → at part.now c ≡ item_at None source.now (pos (from + c) +ℤ right)) }
+{
+    let skip = from as i64 + right as i64;
+    if skip < 0 {
+        return None;
+    }
+    let first = skip as usize;
+    if source.len() < first || source.len() - first < width {
+        return None;
+    }
+    Some(&source[first..first + width])
+}
+
 /// The cells of a row so many columns to the right, null outside, of a strip that begins at a column.
 pub(crate) fn shift(source: &[Cell], from: usize, right: i32, row: &mut [Cell])
+    requires { from ≤ 65535 }
+    ensures width { length row.new ≡ length row.old }
+    ensures each { (c : ℕ) → c < length row.old → at row.new c ≡ item_at None source.now (pos (from + c) +ℤ right) }
+{
+    match inside(source, from, right, row.len()) {
+        Some(part) => row.copy_from_slice(part),
+        None => shift_over_the_edge(source, from, right, row),
+    }
+}
+
+// The same where some of them are outside.
+fn shift_over_the_edge(source: &[Cell], from: usize, right: i32, row: &mut [Cell])
     requires { from ≤ 65535 }
     ensures width { length row.new ≡ length row.old }
     ensures each { (c : ℕ) → c < length row.old → at row.new c ≡ item_at None source.now (pos (from + c) +ℤ right) }
@@ -210,5 +244,29 @@ pub(crate) fn apply(operator: Operator, row: &mut [Cell], other: &[Cell])
         Operator::Or => combine(row, other, |a, b| cells::or(a, b)),
         Operator::KnownAnd => combine(row, other, |a, b| cells::known_and(a, b)),
         Operator::KnownOr => combine(row, other, |a, b| cells::known_or(a, b)),
+    }
+}
+
+/// The values of an operator along a row, which holds its left operands; the right one is the same cell everywhere.
+pub(crate) fn apply_one(operator: Operator, row: &mut [Cell], b: Cell)
+    ensures width { length row.new ≡ length row.old }
+    ensures each { (c : ℕ) → c < length row.old → at row.new c ≡ applied operator (at row.old c) b }
+{
+    match operator {
+        Operator::Times => each(row, |a| cells::product(a, b)),
+        Operator::Divide => each(row, |a| cells::quotient(a, b)),
+        Operator::Modulo => each(row, |a| cells::remainder(a, b)),
+        Operator::Plus => each(row, |a| cells::sum(a, b)),
+        Operator::Minus => each(row, |a| cells::difference(a, b)),
+        Operator::Less => each(row, |a| cells::less(a, b)),
+        Operator::LessEqual => each(row, |a| cells::less_equal(a, b)),
+        Operator::Greater => each(row, |a| cells::greater(a, b)),
+        Operator::GreaterEqual => each(row, |a| cells::greater_equal(a, b)),
+        Operator::Equal => each(row, |a| cells::equal(a, b)),
+        Operator::NotEqual => each(row, |a| cells::not_equal(a, b)),
+        Operator::And => each(row, |a| cells::and(a, b)),
+        Operator::Or => each(row, |a| cells::or(a, b)),
+        Operator::KnownAnd => each(row, |a| cells::known_and(a, b)),
+        Operator::KnownOr => each(row, |a| cells::known_or(a, b)),
     }
 }

@@ -1,2 +1,4 @@
 -- What several proofs share.
+pub mod Fit
+pub mod Lists
 pub mod Sets

@@ -1,6 +1,12 @@
-//! Maps of values, as a plain program over windows, and tests of expressions and windows over it.
+//! Maps of values, as a plain program over windows, the value at a cell as the definition says it, and tests of
+//! expressions and windows beside both.
 #![tactic(auto)]
 
+mod definition;
 mod evaluation;
 #[cfg(test)]
+mod random;
+#[cfg(test)]
 mod tests;
+#[cfg(test)]
+mod windows;

@@ -10,7 +10,7 @@ use cell_core::shelf::Shelf;
 use std::alloc::Global;
 use std::test::Fail;
 
-const NULL: i32 = i32::MIN;
+pub(crate) const NULL: i32 = i32::MIN;
 
 // The worked map: three rows of four cells.
 const ROWS: [[i32; 4]; 3] = [[1, 1, 2, NULL], [1, 2, 2, 2], [3, 3, 1, 1]];
@@ -22,7 +22,7 @@ fn cell_of(number: i32) -> Cell {
     }
 }
 
-fn number_of(cell: Cell) -> i32 {
+pub(crate) fn number_of(cell: Cell) -> i32 {
     match cell.get() {
         Some(number) => number,
         None => NULL,
@@ -37,7 +37,7 @@ fn cells_of(alloc: Global, numbers: [i32; 4]) -> Result<Vec<Cell>, Fail> {
     Ok(cells)
 }
 
-fn worked_map(alloc: Global) -> Result<CellMap, Fail> {
+pub(crate) fn worked_map(alloc: Global) -> Result<CellMap, Fail> {
     let region = Region::new(3, 0, 4, 0, 3, 4).map_err(|_| "no region")?;
     let mut builder = MapBuilder::new(alloc, region);
     for row in ROWS {
@@ -54,7 +54,7 @@ fn worked_map(alloc: Global) -> Result<CellMap, Fail> {
 }
 
 // The worked map under the name g.
-fn worked_shelf(alloc: Global) -> Result<Shelf, Fail> {
+pub(crate) fn worked_shelf(alloc: Global) -> Result<Shelf, Fail> {
     let map = worked_map(alloc)?;
     let mut shelf = Shelf::new(alloc, map.region());
     let name = Name::read(alloc, b"g").map_err(|_| "no name")?;
@@ -64,7 +64,7 @@ fn worked_shelf(alloc: Global) -> Result<Shelf, Fail> {
     }
 }
 
-fn worked_names(alloc: Global) -> Result<Names, Fail> {
+pub(crate) fn worked_names(alloc: Global) -> Result<Names, Fail> {
     let mut names = Names::new(alloc);
     let name = Name::read(alloc, b"g").map_err(|_| "no name")?;
     if names.find(name.bytes()).is_none() {
@@ -73,7 +73,7 @@ fn worked_names(alloc: Global) -> Result<Names, Fail> {
     Ok(names)
 }
 
-fn expression(alloc: Global, text: &[u8]) -> Result<Expr, Fail> {
+pub(crate) fn expression(alloc: Global, text: &[u8]) -> Result<Expr, Fail> {
     let mut assignment = b"x = ".to_vec(alloc)?;
     assignment.extend_from_slice(text)?;
     if assignment.len() > 65535 {
@@ -86,7 +86,7 @@ fn expression(alloc: Global, text: &[u8]) -> Result<Expr, Fail> {
 }
 
 // The map of an expression over the worked map.
-fn values(alloc: Global, text: &[u8]) -> Result<CellMap, Fail> {
+pub(crate) fn values(alloc: Global, text: &[u8]) -> Result<CellMap, Fail> {
     let expr = expression(alloc, text)?;
     let names = worked_names(alloc)?;
     let shelf = worked_shelf(alloc)?;
@@ -97,7 +97,7 @@ fn values(alloc: Global, text: &[u8]) -> Result<CellMap, Fail> {
     evaluate(alloc, &bound, &shelf).map_err(|_| "no memory".into())
 }
 
-fn at(map: &CellMap, row: u32, col: u32) -> i32 {
+pub(crate) fn at(map: &CellMap, row: u32, col: u32) -> i32 {
     let region = map.region();
     if row < region.rows() && col < region.cols() {
         return number_of(map.cell(row, col));

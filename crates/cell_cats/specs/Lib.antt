@@ -4,3 +4,4 @@ pub mod Reclass
 pub mod Rule
 pub mod RuleLine
 pub mod RulesLaw
+pub mod parts

@@ -1,6 +1,7 @@
 //! Rules of r.reclass and maps by rules; areas, as `cell_clump` numbers them.
 #![tactic(auto)]
 
+mod known;
 pub mod law;
 mod line;
 pub mod reclassing;

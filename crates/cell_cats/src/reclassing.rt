@@ -1,12 +1,14 @@
 //! Maps by rules.
 
-ghost use Rattle.std.specs.Prelude.{◌≡◌, ◌≤◌, ◌+◌, ◌++◌, length, take, drop, replicate, ℤ, IfOk, OnOk};
+ghost use Rattle.std.specs.Prelude.{◌≡◌, ◌<◌, ◌≤◌, ◌+◌, ◌++◌, length, take, drop, replicate, ℤ, IfOk, OnOk};
 ghost use Rattle.std.specs.FinMap.{get};
 ghost use Rattle.cell_core.specs.Grid.{no_labels};
 ghost use Rattle.cell_core.specs.Runs.{written_out};
 ghost use Rattle.cell_cats.specs.Rule.{label_of};
 ghost use Rattle.cell_cats.specs.Reclass.{new_row, labels_of, reclassed};
+ghost use Rattle.cell_cats.specs.parts.Known.{AreRight};
 
+use crate::known::{Known, look_up, only_null};
 use crate::rules::Rules;
 use cell_core::cell::Cell;
 use cell_core::map::{CellMap, MapBuilder};
@@ -23,13 +25,16 @@ fn fill_run(cells: &mut [Cell], at: usize, run: (Cell, u32))
 }
 
 // Writes the new categories of a row's runs. The slice is as long as that row.
-fn write_new(rules: &Rules, runs: Runs<'_>, row: &mut [Cell])
-    requires { length row.old ≡ length (written_out runs) }
-    ensures { row.new ≡ new_row rules.now (written_out runs.entry) }
+fn write_new(rules: &Rules, known: &mut [Known], runs: Runs<'_>, row: &mut [Cell])
+    requires width { length row.old ≡ length (written_out runs) }
+    requires some { 0 < length known.old }
+    requires right { AreRight rules.now known.old }
+    ensures row { row.new ≡ new_row rules.now (written_out runs.entry) }
+    ensures right { AreRight rules.now known.new }
 {
     let mut at = 0;
     for (cell, count) in runs {
-        fill_run(row, at, (rules.apply(cell), count));
+        fill_run(row, at, (look_up(rules, known, cell), count));
         at += count as usize;
     }
 }
@@ -47,8 +52,8 @@ fn set_labels(rules: &Rules, made: &mut CellMap) -> Result<(), Memory>
     Ok(())
 }
 
-/// The map by rules: each cell has its new category, by one look at the rules a run; the labels are those of the rules and
-/// no others.
+/// The map by rules: each cell has its new category, by one look at the rules a run at most; the labels are those of the
+/// rules and no others.
 ///
 /// # Errors
 ///
@@ -60,9 +65,11 @@ pub fn reclass(alloc: Global, given: &CellMap, rules: &Rules) -> Result<CellMap,
     let region = given.region();
     let mut buffer = vec![in alloc; Cell::null(); region.cols() as usize]?;
     let row = buffer.as_mut_slice();
+    let mut places = only_null(alloc)?;
+    let known = places.as_mut_slice();
     let mut builder = MapBuilder::new(alloc, region);
     for r in 0..region.rows() {
-        write_new(rules, given.runs(r), row);
+        write_new(rules, known, given.runs(r), row);
         builder.push_row(row)?;
     }
     let mut made = builder.finish();

@@ -8,7 +8,7 @@ use Rattle.cell_core.specs.Grid.{Grid, CellValue, row_at}
 use Rattle.cell_clump.specs.declared.clump.Joining.{Joining}
 use Rattle.cell_clump.specs.declared.clump.Joining.TheVariants.{Edges, EdgesAndCorners}
 use Rattle.cell_clump.specs.Areas.{Position, at, AreNeighbours, ShareEdge, AreAdjacent}
-use Rattle.cell_clump.specs.parts.Pairs.{cell_of, place_of, AreSound, ArePairs, ArePairsJoined}
+use Rattle.cell_clump.specs.parts.Pairs.{cell_of, place_of, AreSound, ArePairs, ArePairsJoined, AreJoinedAlong}
 use Rattle.cell_clump.specs.parts.Rows.{AreAllJoined, AreSideBySide, AreAcross, HaveRows}
 use Rattle.cell_clump.specs.parts.Tables.{AreFresh}
 use Rattle.cell_clump.specs.parts.Labels.{PointDown}
@@ -303,25 +303,75 @@ abbrev pub AreAbove : Joining → ℕ → Position → Position → Type 0
 AreAbove j r p q = (p.row + 1 ≡ r) × (q.row ≡ r) × AreAdjacent j p q
 
 -- the cells of row r were joined with those of the row above, if there is one
-pub joined_above : (j : Joining) (m : Grid) (w r : ℕ) (t0 t1 : List ℕ) → (h : HaveRows j m w t0 r) → ((r ≡ 0) × (t1 ≡ t0)) ⊎ ((s : ℕ) × (s + 1 ≡ r) × AreAllJoined j m w t1 h.open_of (AreAcross j s)) → AreAllJoined j m w t1 h.open_of (AreAbove j r)
-joined_above j m w r t0 t1 h (inl first) =
-    subst (λ (t : List ℕ). AreAllJoined j m w t h.open_of (AreAbove j r)) (sym first.1)
+pub joined_above : (j : Joining) (m : Grid) (w r : ℕ) (t0 t1 : List ℕ) (before : ℕ → ℕ) → AreSound j m w t0 before → ((r ≡ 0) × (t1 ≡ t0)) ⊎ ((s : ℕ) × (s + 1 ≡ r) × AreAllJoined j m w t1 before (AreAcross j s)) → AreAllJoined j m w t1 before (AreAbove j r)
+joined_above j m w r t0 t1 before sound (inl first) =
+    subst (λ (t : List ℕ). AreAllJoined j m w t before (AreAbove j r)) (sym first.1)
     (record {
-      after = h.open_of;
-      sound = h.sound;
+      after = before;
+      sound = sound;
       keeps = λ a b e. e;
       joins = λ p q v pair p_is q_is. absurd (let none = first.0 in let up = pair.0 in omega arith);
     })
-joined_above j m w r t0 t1 h (inr next) =
-    AreAllJoined-fewer j m w t1 h.open_of (AreAcross j next.0) (AreAbove j r) next.2
+joined_above j m w r t0 t1 before sound (inr next) =
+    AreAllJoined-fewer j m w t1 before (AreAcross j next.0) (AreAbove j r) next.2
     (λ p q v p_is q_is pair. let is = next.1 in let up = pair.0 in let here = pair.1 in (omega arith, omega arith, pair.2))
 
--- and then with one another
-pub HaveRows-read : (j : Joining) (m : Grid) (w r : ℕ) (t0 t1 t2 : List ℕ) → (h : HaveRows j m w t0 r) → (g : AreAllJoined j m w t1 h.open_of (AreAbove j r)) → AreAllJoined j m w t2 g.after (AreSideBySide r) → HaveRows j m w t2 (r + 1)
+-- the cells of row r were joined with one another, and then with those of the row above
+pub HaveRows-read : (j : Joining) (m : Grid) (w r : ℕ) (t0 t1 t2 : List ℕ) → (h : HaveRows j m w t0 r) → (g : AreAllJoined j m w t1 h.open_of (AreSideBySide r)) → AreAllJoined j m w t2 g.after (AreAbove j r) → HaveRows j m w t2 (r + 1)
 HaveRows-read j m w r t0 t1 t2 h g next =
     HaveRows-more j m w r t0 t2 h next.after next.sound (λ a b e. next.keeps a b (g.keeps a b e))
-    (λ p q v pair p_is q_is. next.joins p q v pair p_is q_is)
-    (λ p q v up here near p_is q_is. next.keeps _ _ (g.joins p q v (up, here, near) p_is q_is))
+    (λ p q v pair p_is q_is. next.keeps _ _ (g.joins p q v pair p_is q_is))
+    (λ p q v up here near p_is q_is. next.joins p q v (up, here, near) p_is q_is)
+
+-- ---- runs in which neighbours of one category were joined
+
+pub along_kept : (f g : ℕ → ℕ) (cells : List CellValue) (place : ℕ) → AreJoinedAlong f cells place → ((a b : ℕ) → f a ≡ f b → g a ≡ g b) → AreJoinedAlong g cells place
+along_kept f g cells place along keeps = record { beside = λ k v e d. keeps _ _ (along.beside k v e d) }
+
+pub along_at : (f : ℕ → ℕ) (cells : List CellValue) (place other : ℕ) → place ≡ other → AreJoinedAlong f cells place → AreJoinedAlong f cells other
+along_at f cells place other is along = subst (λ (n : ℕ). AreJoinedAlong f cells n) is along
+
+-- a cell of the front of a row that is not null
+front_cell : (n : ℕ) (row : List CellValue) (k : ℕ) (v : ℤ) → n ≤ length row → get_or (take n row) k None ≡ Some v → get_or row k None ≡ Some v
+front_cell n row k v inside e =
+    ⊎_elim (λ lt. sym (get_or-take n row k None lt) ∙ e)
+    (λ le. let long = length-take-le n row inside in
+    let past : get_or (take n row) k None ≡ None = get_or_past (take n row) k None (omega arith) in
+    absurd (let none : None ≡ Some v = sym past ∙ e in cc))
+    (cases_lt k n)
+
+-- a cell of the slice of a row from its second cell on
+rest_cell : (row : List CellValue) (k : ℕ) → get_or (rest_of row) k None ≡ get_or row (1 + k) None
+rest_cell row k = ap (λ (cells : List CellValue). get_or cells k None) (rest_whole row) ∙ get_or_after_one row k None
+
+pub along_front : (f : ℕ → ℕ) (n : ℕ) (row : List CellValue) (place : ℕ) → n ≤ length row → AreJoinedAlong f row place → AreJoinedAlong f (take n row) place
+along_front f n row place inside along = record { beside = λ k v e d. along.beside k v (front_cell n row k v inside e) (front_cell n row (k + 1) v inside d) }
+
+pub along_rest : (f : ℕ → ℕ) (row : List CellValue) (place : ℕ) → AreJoinedAlong f row place → AreJoinedAlong f (rest_of row) (place + 1)
+along_rest f row place along = record {
+  beside = λ k v e d.
+      let here : (place + 1) + k ≡ place + (1 + k) = omega arith in
+      let there : place + ((1 + k) + 1) ≡ (place + 1) + (k + 1) = omega arith in
+      let next : (1 + k) + 1 ≡ 1 + (k + 1) = omega arith in
+      ap f here ∙ along.beside (1 + k) v (sym (rest_cell row k) ∙ e) (ap (λ (n : ℕ). get_or row n None) next ∙ sym (rest_cell row (k + 1)) ∙ d) ∙ ap f there;
+}
+
+-- a row whose cells were joined with one another
+pub along_row : (j : Joining) (m : Grid) (w r : ℕ) (table : List ℕ) (before : ℕ → ℕ) (row : List CellValue) (place : ℕ) → place ≡ r * w → row ≡ row_at m r → (g : AreAllJoined j m w table before (AreSideBySide r)) → AreJoinedAlong g.after row place
+along_row j m w r table before row place place_is is g =
+    let cell : (k : ℕ) (v : ℤ) → get_or row k None ≡ Some v → at m (position r k) ≡ Some v = λ k v e. ap (λ (cells : List CellValue). get_or cells k None) (sym is) ∙ e in
+    let place_at : (k : ℕ) → place + k ≡ place_of w (position r k) = λ k. omega arith in
+    record {
+      beside = λ k v e d. ap g.after (place_at k) ∙ g.joins (position r k) (position r (k + 1)) v (refl, refl, refl) (cell k v e) (cell (k + 1) v d) ∙ ap g.after (sym (place_at (k + 1)));
+    }
+
+-- a row among those that were read
+pub along_read : (j : Joining) (m : Grid) (w r s : ℕ) (table : List ℕ) (above : List CellValue) → s + 1 ≡ r → above ≡ row_at m s → (h : HaveRows j m w table r) → AreJoinedAlong h.open_of above (s * w)
+along_read j m w r s table above next is h =
+    let cell : (k : ℕ) (v : ℤ) → get_or above k None ≡ Some v → at m (position s k) ≡ Some v = λ k v e. ap (λ (cells : List CellValue). get_or cells k None) (sym is) ∙ e in
+    record {
+      beside = λ k v e d. h.joins (position s k) (position s (k + 1)) v (AreAdjacent-beside j (position s k) (position s (k + 1)) refl refl) (cell k v e) (cell (k + 1) v d) (omega arith) (omega arith);
+    }
 
 -- fresh labels point down
 pub PointDown-fresh : (count : ℕ) (table : List ℕ) → AreFresh count table → PointDown table

@@ -14,9 +14,10 @@ use std::alloc::Global;
 fn fresh_labels(alloc: Global, count: u32) -> Result<Vec<u32>, Memory>
     ensures { IfOk result (λ table. AreFresh count table.items) }
 {
-    let mut table = Vec::with_capacity(alloc, count as usize)?;
+    let mut table = vec![in alloc; 0; count as usize]?;
+    let labels = table.as_mut_slice();
     for label in 0..count {
-        table.push(label)?;
+        labels[label as usize] = label;
     }
     Ok(table)
 }

@@ -3,4 +3,5 @@ pub mod DeviceLemmas
 pub mod GatherLemmas
 pub mod LabelLemmas
 pub mod NameLemmas
+pub mod PlaceLemmas
 pub mod RunLemmas

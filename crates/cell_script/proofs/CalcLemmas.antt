@@ -1,12 +1,11 @@
 -- An assignment of a text has no other reading.
-use Rattle.std.proofs.Common.{◌≡◌, ◌≢◌, ℕ, List, Result, Ok, Err, MatchResult, inl, inr, refl, ap, sym, ◌∙◌, subst}
+use Rattle.std.proofs.Common.{◌≡◌, ℕ, List, Result, Ok, Err, MatchResult, inl, inr, ap, sym, ◌∙◌}
 use Rattle.std.specs.Prelude.{IsOkAnd}
-use Rattle.cell_language.specs.Assignment.{IsAssignment, IsAssignmentText}
-use Rattle.cell_language.specs.GrammarFault.{IsGrammarFault, IsTextFault}
-use Rattle.cell_language.specs.Tokens.{no_memory, token_list}
+use Rattle.cell_language.specs.Assignment.{IsAssignment}
+use Rattle.cell_language.specs.GrammarFault.{IsGrammarFault}
+use Rattle.cell_language.specs.Tokens.{token_list}
 use Rattle.cell_language.specs.declared.assignment.Assignment.{Assignment}
 use Rattle.cell_language.specs.declared.fault.CalcFault.{CalcFault}
-use Rattle.cell_language.specs.declared.fault.CalcKind.TheVariants as calc
 use Rattle.cell_language.specs.declared.token.Placed.{Placed}
 use Rattle.cell_script.specs.RMapcalc.{mapcalc_of, IsMapcalc, assignment_text}
 use Rattle.cell_script.specs.declared.fault.ScriptKind.{ScriptKind}

@@ -1,13 +1,14 @@
 -- A text that is a script has no other reading.
-use Rattle.std.proofs.Common.{◌≡◌, ℕ, ◌+◌, List, [], ◌∷◌, Option, Some, None, Result, Ok, Err, MatchResult, refl, ap, sym, ◌∙◌, subst}
+use Rattle.std.proofs.Common.{◌≡◌, ℕ, ◌+◌, List, [], ◌∷◌, Option, Some, None, Result, Ok, Err, MatchResult, ap, sym, ◌∙◌, subst}
 use Rattle.std.specs.Prelude.{nat_lt, length, Bool, true, false}
 use Rattle.cell_text.specs.Words.{words_of}
 use Rattle.cell_script.specs.Commands.{is_mapcalc, IsShortHead, IsHeadOf, IsHead}
-use Rattle.cell_script.specs.Reading.{IsNextTo, IsNext, IsReading, after_head, after_rule, rule_line, at_end, start}
+use Rattle.cell_script.specs.Reading.{IsNextTo, IsReading, after_head, start}
 use Rattle.cell_script.specs.Lines.{script_lines}
-use Rattle.cell_script.specs.Scripts.{IsScript, IsScriptFault}
-use Rattle.cell_script.specs.ScriptLaw.{OneScript, NoFaultOfAScript}
+use Rattle.cell_script.specs.Scripts.{IsScript, IsReadAs, IsScriptFault}
+use Rattle.cell_script.specs.ScriptLaw.{OneScript, NoFaultOfAScript, ReadingDenotes}
 use Rattle.cell_script.proofs.CalcLemmas.{OneAssignment, one_mapcalc}
+use Rattle.cell_script.proofs.GroupingLemmas.{read-grouped}
 use Rattle.cell_script.specs.declared.fault.ScriptFault.{ScriptFault}
 use Rattle.cell_script.specs.declared.fault.ScriptKind.{ScriptKind}
 use Rattle.cell_script.specs.declared.heads.Head.{Head}
@@ -42,11 +43,15 @@ one_reading one line read (l ∷ ls) statements r (Ok more, is, rest) (other, is
 pub one_script : OneAssignment → OneScript
 unfolding IsScript
 one_script one known text a b h o =
-    let same = one_reading one 1 (start known) (script_lines text) b (Ok a) o h in
+    let same = one_reading one 1 (start known) (script_lines text) b (Ok a) ((read-grouped known text b).1 o) ((read-grouped known text a).1 h) in
     cc
 
 pub no_fault_of_a_script : OneAssignment → NoFaultOfAScript
 unfolding IsScript IsScriptFault
 no_fault_of_a_script one known text a fault h o =
-    let same = one_reading one 1 (start known) (script_lines text) a (Err fault) h o in
+    let same = one_reading one 1 (start known) (script_lines text) a (Err fault) ((read-grouped known text a).1 h) o in
     cc
+
+pub reading-denotes : ReadingDenotes
+unfolding IsScript IsReadAs
+reading-denotes known text statements = read-grouped known text statements

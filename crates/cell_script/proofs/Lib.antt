@@ -6,3 +6,7 @@ pub mod NameLemmas
 pub mod PlaceLemmas
 pub mod ReadingLemmas
 pub mod SoundLemmas
+pub mod OptionLemmas
+pub mod SkippedLemmas
+pub mod SpellingLemmas
+pub mod GroupingLemmas

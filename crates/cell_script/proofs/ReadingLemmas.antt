@@ -1,5 +1,5 @@
 -- The lines of a script, one after another.
-use Rattle.std.proofs.Common.{◌≡◌, ◌≢◌, ℕ, ◌+◌, ◌<◌, List, [], ◌∷◌, length, get_or, Result, Ok, Err, IfOk, IfErr, Bor, map, drop, add-one, ◌≤◌, refl, ap, sym, subst, arith}
+use Rattle.std.proofs.Common.{◌≡◌, ◌≢◌, ℕ, ◌+◌, ◌<◌, List, [], ◌∷◌, length, get_or, Result, Ok, Err, IfOk, IfErr, Bor, map, drop, add-one, ◌≤◌, refl, ap, sym, subst}
 use Rattle.std.proofs.Math.Seq.{drop-cons}
 use Rattle.std.proofs.lemmas.List.{drop_all}
 use Rattle.cell_script.specs.Lines.{script_lines}
@@ -9,6 +9,7 @@ use Rattle.cell_script.specs.declared.fault.ScriptFault.{ScriptFault}
 use Rattle.cell_script.specs.declared.fault.ScriptKind.TheVariants.{Memory}
 use Rattle.cell_script.specs.declared.reading.Progress.{Progress}
 use Rattle.cell_script.specs.declared.statement.Statement.{Statement}
+use Rattle.cell_script.proofs.GroupingLemmas.{read-grouped}
 
 abbrev pub texts : List (Bor (List ℕ)) → List (List ℕ)
 texts xs = map (λ w. w.now) xs
@@ -57,7 +58,7 @@ pub script_at_end : (known : List (List ℕ)) (text : List ℕ) (read : Progress
     → Stands (IsReading 1 (start known) (script_lines text)) read lines i → r ≡ at_end read → IfOk r (λ statements. IsScript known text statements)
 unfolding IsScript
 script_at_end known text read lines i (Ok statements) h stands e =
-    subst (IsReading 1 (start known) (script_lines text)) (sym e) (at_end-all (IsReading 1 (start known) (script_lines text)) read lines i h stands)
+    (read-grouped known text statements).0 (subst (IsReading 1 (start known) (script_lines text)) (sym e) (at_end-all (IsReading 1 (start known) (script_lines text)) read lines i h stands))
 script_at_end known text read lines i (Err fault) h stands e = record {}
 
 -- a fault at the end is that of the text

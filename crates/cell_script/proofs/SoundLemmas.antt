@@ -1,10 +1,9 @@
 -- What is kept by each line that is read.
-use Rattle.std.proofs.Common.{◌≡◌, ℕ, zero, suc, ◌<◌, IfOk, List, [], ◌∷◌, ◌++◌, length, All, Option, Some, None, Result, Ok, Err, get_or, refl, ap, sym, ◌∙◌, subst, arith}
+use Rattle.std.proofs.Common.{◌≡◌, ℕ, zero, suc, ◌<◌, IfOk, List, [], ◌∷◌, ◌++◌, All, Some, None, Result, Ok, Err, refl, ap, sym, ◌∙◌, subst, arith}
 use Rattle.std.proofs.lemmas.List.Elements.{All-append}
 use Rattle.cell_cats.specs.Rule.{RuleValue}
 use Rattle.cell_cats.specs.declared.rules.LineKind.{LineKind}
 use Rattle.cell_cats.specs.declared.rules.LineKind.TheVariants as line_kind
-use Rattle.cell_core.specs.Name.{place_of}
 use Rattle.cell_script.specs.Known.{known_after}
 use Rattle.cell_script.specs.Reading.{start, with_statement, after_head, after_rule}
 use Rattle.cell_script.specs.Scripts.{FitsCommand, Fits}

@@ -7,8 +7,11 @@ pub mod RMapcalc
 pub mod ROutAscii
 pub mod RReclass
 pub mod RStats
+pub mod OptionWords
+pub mod Spelling
 pub mod Commands
 pub mod Known
+pub mod Grouping
 pub mod Reading
 pub mod ScriptLaw
 pub mod Scripts

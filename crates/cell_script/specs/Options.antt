@@ -1,5 +1,5 @@
 -- The words after a command: flags, and keys with their values, one word after another (r.stats, r.clump, r.reclass and r.out.ascii manuals; the limits and the order of the faults are the profile's).
-use Rattle.std.specs.Prelude.{ℕ, Bool, true, false, not, ◌&&◌, ◌||◌, ◌==◌, nat_le, nat_lt, List, [], ◌∷◌, ◌++◌, length, Option, Some, None, Result, Ok, Err, if◌then◌else◌, bytes_eq, codes}
+use Rattle.std.specs.Prelude.{ℕ, Bool, false, not, ◌&&◌, ◌||◌, ◌==◌, nat_lt, List, [], ◌∷◌, ◌++◌, length, Option, Some, None, Result, Ok, Err, if◌then◌else◌, bytes_eq, codes}
 use Rattle.std.specs.List.{list_all, list_any}
 use Rattle.cell_core.specs.Name.{is_between, is_name, place_of}
 use Rattle.cell_text.specs.Words.{parts_of, pair_of}

@@ -1,8 +1,8 @@
 -- r.stats: the table that its options ask for (r.stats manual; `after` and the order of the faults are the profile's).
-use Rattle.std.specs.Prelude.{ℕ, Bool, false, ◌&&◌, ◌||◌, List, [], ◌∷◌, length, Option, Some, None, is_some, Result, Ok, Err, if◌then◌else◌, unwrap_or}
+use Rattle.std.specs.Prelude.{ℕ, Bool, ◌&&◌, ◌||◌, List, [], ◌∷◌, length, Option, Some, None, is_some, Result, Ok, Err, if◌then◌else◌, unwrap_or}
 use Rattle.std.specs.Option.{option_map, option_and_then}
 use Rattle.cell_core.specs.Name.{place_of}
-use Rattle.cell_ascii.specs.Header.{usual_null}
+use Rattle.cell_ascii.specs.GridWords.{usual_null}
 use Rattle.cell_stats.specs.Combinations.{Combination}
 use Rattle.cell_stats.specs.ComboText.{combo_of}
 use Rattle.cell_stats.specs.declared.reading.ComboFault.{ComboFault}

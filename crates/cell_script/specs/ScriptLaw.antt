@@ -1,6 +1,6 @@
 -- What is so of all texts.
-use Rattle.std.specs.Prelude.{ℕ, ◌≡◌, List}
-use Rattle.cell_script.specs.Scripts.{IsScript, IsScriptFault}
+use Rattle.std.specs.Prelude.{ℕ, ◌≡◌, ◌↔◌, List}
+use Rattle.cell_script.specs.Scripts.{IsScript, IsReadAs, IsScriptFault}
 use Rattle.cell_script.specs.declared.fault.ScriptFault.{ScriptFault}
 use Rattle.cell_script.specs.declared.statement.Statement.{Statement}
 
@@ -11,3 +11,7 @@ OneScript = (known : List (List ℕ)) (text : List ℕ) (a b : List Statement) �
 -- a script has no fault
 abbrev pub NoFaultOfAScript : Type 0
 NoFaultOfAScript = (known : List (List ℕ)) (text : List ℕ) (a : List Statement) (fault : ScriptFault) → IsScript known text a → IsScriptFault known text fault → ⊥
+
+-- a text is read as statements exactly where it is a script of them
+abbrev pub ReadingDenotes : Type 0
+ReadingDenotes = (known : List (List ℕ)) (text : List ℕ) (statements : List Statement) → IsReadAs known text statements ↔ IsScript known text statements

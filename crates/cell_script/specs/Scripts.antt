@@ -1,7 +1,8 @@
--- Which texts are scripts, and of which statements (profile).
-use Rattle.std.specs.Prelude.{ℕ, ◌≡◌, ◌≤◌, ◌<◌, List, [], ◌∷◌, ◌++◌, length, All, IfSome, None, Result, Ok, Err}
+-- Which texts are scripts, and of which statements; how a text is read as them, and its first fault where it is no script (profile).
+use Rattle.std.specs.Prelude.{ℕ, ◌≡◌, ◌≤◌, ◌<◌, List, [], ◌∷◌, length, All, IfSome, None, Ok, Err}
 use Rattle.cell_calc.specs.Reach.{top_of}
 use Rattle.cell_core.specs.Name.{place_of}
+use Rattle.cell_script.specs.Grouping.{IsGrouped}
 use Rattle.cell_script.specs.Lines.{script_lines}
 use Rattle.cell_script.specs.Reading.{IsReading, start}
 use Rattle.cell_script.specs.Known.{known_after}
@@ -10,9 +11,13 @@ use Rattle.cell_script.specs.declared.statement.Command.{Command}
 use Rattle.cell_script.specs.declared.statement.Command.TheVariants.{Mapcalc, Reclass, Clump, Stats, OutAscii}
 use Rattle.cell_script.specs.declared.statement.Statement.{Statement}
 
--- the text is a script of these statements, over known maps
+-- the text is a script of these statements, over known maps: its lines group into them
 unfoldable pub IsScript : List (List ℕ) → List ℕ → List Statement → Type 0
-IsScript known text statements = IsReading 1 (start known) (script_lines text) (Ok statements)
+IsScript known text statements = IsGrouped known text statements
+
+-- the text is read as these statements, line by line from the top
+unfoldable pub IsReadAs : List (List ℕ) → List ℕ → List Statement → Type 0
+IsReadAs known text statements = IsReading 1 (start known) (script_lines text) (Ok statements)
 
 -- the text is no script, and this is its first fault, line by line from the top
 unfoldable pub IsScriptFault : List (List ℕ) → List ℕ → ScriptFault → Type 0

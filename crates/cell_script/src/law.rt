@@ -1,6 +1,6 @@
 //! Laws of scripts.
 
-ghost use Rattle.cell_script.specs.ScriptLaw.{OneScript, NoFaultOfAScript};
+ghost use Rattle.cell_script.specs.ScriptLaw.{NoFaultOfAScript, OneScript, ReadingDenotes};
 
 use cell_language::assignment::one_assignment;
 
@@ -17,3 +17,9 @@ pub fn no_fault_of_a_script()
 {
     one_assignment();
 }
+
+/// The reading of a text line by line gives statements exactly where the text is a script of them: its lines group into
+/// them.
+pub fn reading_denotes()
+    ensures { ReadingDenotes }
+{}

@@ -5,7 +5,7 @@ use Rattle.std.proofs.lemmas.List.Elements.{All-push}
 use Rattle.std.proofs.lemmas.List.{take_more, take_more_set, map-append, get_or-drop, length-replicate, drop-append-le, drop-replicate, get_or_append_left}
 use Rattle.cell_core.specs.Grid.{CellValue}
 use Rattle.cell_core.specs.Runs.{RunValue}
-use Rattle.cell_stats.specs.Cursors.{IsReady}
+use Rattle.cell_stats.specs.parts.Cursors.{IsReady}
 
 -- some columns of the first run are passed
 pub drop-run : (n left : ℕ) (x : CellValue) (rest : List CellValue) → n ≤ left → drop n (replicate left x ++ rest) ≡ replicate (left - n) x ++ rest

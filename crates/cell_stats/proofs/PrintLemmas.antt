@@ -12,7 +12,7 @@ use Rattle.cell_core.proofs.GatherLemmas.{CutsOff-first, CutsOff-second, Gathers
 use Rattle.cell_core.specs.Grid.{Grid, CellValue}
 use Rattle.cell_core.specs.Text.{cell_text}
 use Rattle.cell_stats.specs.Combinations.{Combination}
-use Rattle.cell_stats.specs.Preceded.{preceded, pick_text, next_text, others_text}
+use Rattle.cell_stats.specs.parts.Preceded.{preceded, pick_text, next_text, others_text}
 use Rattle.cell_stats.specs.TableText.{FormatValue, cell_fields, combination_fields, count_fields, label_in, pair_line}
 
 -- the first text, and each other one after the byte

@@ -12,7 +12,7 @@ use Rattle.std.specs.FinMap as finmap
 use Rattle.std.specs.FinMap.Entries.{find, is_sorted, below_all, same_entries}
 use Rattle.cell_stats.specs.Combinations.{Combination, combination_cmp}
 use Rattle.cell_stats.specs.Counts.{count_of}
-use Rattle.cell_stats.specs.Held.{mapped_of, HasNoZero}
+use Rattle.cell_stats.specs.parts.Held.{mapped_of, HasNoZero}
 use Rattle.cell_stats.specs.declared.skip.Skip.{Skip}
 use Rattle.cell_stats.specs.Tables.{Pairs, IsTable, counts_of, kept, is_left_out, table_of}
 use Rattle.cell_stats.proofs.OrderLemmas.{combination_cmp-total, combination_cmp-exact, is_equal}

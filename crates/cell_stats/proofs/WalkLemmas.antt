@@ -15,8 +15,8 @@ use Rattle.cell_stats.specs.declared.cursor.Cursor.{Cursor}
 use Rattle.cell_stats.specs.declared.skip.Skip.{Skip}
 use Rattle.cell_stats.specs.Combinations.{Combination, combination_cmp, cell_in, combination_at, all_combinations, row_combinations}
 use Rattle.cell_stats.specs.Counts.{count_of}
-use Rattle.cell_stats.specs.Cursors.{to_come, IsReady, row_in}
-use Rattle.cell_stats.specs.Held.{is_same}
+use Rattle.cell_stats.specs.parts.Cursors.{to_come, IsReady, row_in}
+use Rattle.cell_stats.specs.parts.Held.{is_same}
 use Rattle.cell_stats.specs.Tables.{kept, is_left_out}
 
 -- ---- the cells of a stretch

@@ -2,9 +2,7 @@
 pub mod Combinations
 pub mod ComboText
 pub mod Counts
-pub mod Cursors
-pub mod Held
-pub mod Preceded
 pub mod Tables
 pub mod TableLaw
 pub mod TableText
+pub mod parts

@@ -10,6 +10,7 @@ ghost use Rattle.cell_stats.specs.TableText.{cell_line, cells_text};
 use crate::cursor::{Cursor, pass_all, restart_all, start_all};
 use crate::format::Format;
 use crate::printing::write_cell_line;
+use crate::selection::Selection;
 use crate::skip::{Skip, is_left_out};
 use cell_core::block::Block;
 use cell_core::cell::Cell;
@@ -57,26 +58,24 @@ impl<'a> CellWalk<'a> {
 fn write_lines<W: Sink>(
     out: &mut W,
     block: &mut Block,
-    shelf: &Shelf,
-    picks: &[usize],
+    selection: Selection<'_, '_>,
     cells: &[Cell],
     count: u32,
-    skip: Skip,
     format: &Format,
 ) -> Result<(), WriteFault>
-    requires picked { All (λ i. i < length shelf.now.maps) picks.now }
-    requires some { 0 < length picks.now }
-    requires width { length cells.now ≡ length picks.now }
-    ensures ok { OnOk result (Gathers (W.taken out.old) block.old (flat_map (cell_line format.now shelf.now.maps picks.now) (kept skip (replicate count cells.now))) (W.taken out.new) block.new) }
-    ensures err { IfErr result (λ fault. CutsOff (W.taken out.old) block.old (flat_map (cell_line format.now shelf.now.maps picks.now) (kept skip (replicate count cells.now))) (W.taken out.new) fault.written) }
+    requires picked { All (λ i. i < length selection.shelf.now.maps) selection.picks.now }
+    requires some { 0 < length selection.picks.now }
+    requires width { length cells.now ≡ length selection.picks.now }
+    ensures ok { OnOk result (Gathers (W.taken out.old) block.old (flat_map (cell_line format.now selection.entry.shelf.now.maps selection.entry.picks.now) (kept selection.entry.skip (replicate count cells.now))) (W.taken out.new) block.new) }
+    ensures err { IfErr result (λ fault. CutsOff (W.taken out.old) block.old (flat_map (cell_line format.now selection.entry.shelf.now.maps selection.entry.picks.now) (kept selection.entry.skip (replicate count cells.now))) (W.taken out.new) fault.written) }
     ensures lost { IfErr result (λ fault. block.new ≡ record { held = []; written = fault.written }) }
     ensures failed { W.failed out.new ≡ (W.failed out.old || is_err result) }
 {
-    if is_left_out(skip, cells) {
+    if is_left_out(selection.skip, cells) {
         return Ok(());
     }
     for line in 0..count {
-        write_cell_line(out, block, shelf, picks, cells, format)?;
+        write_cell_line(out, block, selection.shelf, selection.picks, cells, format)?;
     }
     Ok(())
 }
@@ -85,30 +84,28 @@ fn write_lines<W: Sink>(
 fn write_row<'a, W: Sink>(
     out: &mut W,
     block: &mut Block,
-    shelf: &'a Shelf,
-    picks: &[usize],
-    skip: Skip,
+    selection: Selection<'a, '_>,
     format: &Format,
     row: u32,
     cursors: &mut [Cursor<'a>],
     cells: &mut [Cell],
 ) -> Result<(), WriteFault>
-    requires picked { All (λ i. i < length shelf.now.maps) picks.now }
-    requires some { 0 < length picks.now }
-    requires row_in_range { row < shelf.now.region.rows }
-    requires cursors { length cursors.old ≡ length picks.now }
-    requires cells { length cells.old ≡ length picks.now }
-    ensures ok { OnOk result (Gathers (W.taken out.old) block.old (flat_map (cell_line format.now shelf.now.maps picks.now) (kept skip (row_combinations shelf.now.maps picks.now shelf.now.region.cols row))) (W.taken out.new) block.new) }
-    ensures err { IfErr result (λ fault. CutsOff (W.taken out.old) block.old (flat_map (cell_line format.now shelf.now.maps picks.now) (kept skip (row_combinations shelf.now.maps picks.now shelf.now.region.cols row))) (W.taken out.new) fault.written) }
+    requires picked { All (λ i. i < length selection.shelf.now.maps) selection.picks.now }
+    requires some { 0 < length selection.picks.now }
+    requires row_in_range { row < selection.shelf.now.region.rows }
+    requires cursors { length cursors.old ≡ length selection.picks.now }
+    requires cells { length cells.old ≡ length selection.picks.now }
+    ensures ok { OnOk result (Gathers (W.taken out.old) block.old (flat_map (cell_line format.now selection.entry.shelf.now.maps selection.entry.picks.now) (kept selection.entry.skip (row_combinations selection.entry.shelf.now.maps selection.entry.picks.now selection.entry.shelf.now.region.cols row))) (W.taken out.new) block.new) }
+    ensures err { IfErr result (λ fault. CutsOff (W.taken out.old) block.old (flat_map (cell_line format.now selection.entry.shelf.now.maps selection.entry.picks.now) (kept selection.entry.skip (row_combinations selection.entry.shelf.now.maps selection.entry.picks.now selection.entry.shelf.now.region.cols row))) (W.taken out.new) fault.written) }
     ensures lost { IfErr result (λ fault. block.new ≡ record { held = []; written = fault.written }) }
     ensures failed { W.failed out.new ≡ (W.failed out.old || is_err result) }
 {
-    let cols = shelf.region().cols();
-    restart_all(cursors, shelf, picks, row);
+    let cols = selection.shelf.region().cols();
+    restart_all(cursors, selection.shelf, selection.picks, row);
     let mut col = 0;
     let mut count = pass_all(cursors, 0, cols, cells);
     while col < cols {
-        write_lines(out, block, shelf, picks, cells, count, skip, format)?;
+        write_lines(out, block, selection, cells, count, format)?;
         col += count;
         count = pass_all(cursors, count, cols - col, cells);
     }
@@ -146,8 +143,9 @@ pub fn write_cells<'a, W: Sink>(
     } = walk;
     let cursors = cursors.as_mut_slice();
     let cells = cells.as_mut_slice();
+    let selection = Selection { shelf, picks, skip };
     for row in 0..shelf.region().rows() {
-        write_row(out, block, shelf, picks, skip, format, row, cursors, cells)?;
+        write_row(out, block, selection, format, row, cursors, cells)?;
     }
     Ok(())
 }

@@ -1,9 +1,9 @@
 //! Counts of combinations: in an ordered map, and some that are on their way to it.
 
-ghost use Rattle.std.specs.Prelude.{◌≡◌, ◌≢◌, ◌+◌, ◌-◌, ◌<◌, ◌≤◌, ◌^◌, ◌↔◌, length, take, All, Some, cond, OnOk, IfOk, IsTrue};
+ghost use Rattle.std.specs.Prelude.{ℕ, ◌≡◌, ◌≢◌, ◌+◌, ◌-◌, ◌<◌, ◌≤◌, ◌^◌, ◌↔◌, length, take, All, Some, cond, OnOk, IfOk, IsTrue};
 ghost use Rattle.std.specs.BTreeMap as tree;
 ghost use Rattle.cell_stats.specs.Combinations.{Combination, combination_cmp};
-ghost use Rattle.cell_stats.specs.Held.{is_same, mapped_of, held_by, total_of, HasNoZero, Grows};
+ghost use Rattle.cell_stats.specs.parts.Held.{is_same, mapped_of, held_by, held_of, total_of, HasNoZero, Grows};
 
 use crate::combination::Combo;
 use cell_core::cell::Cell;
@@ -12,34 +12,31 @@ use cell_core::shelf::Shelf;
 use std::alloc::Global;
 use std::collections::BTreeMap;
 
-// The fewest and the most combinations that are held.
+// How many combinations are held at first: at least, and at most.
 const FEWEST: u32 = 64;
 
-const MOST: u32 = 262144;
+const FIRST: u32 = 4096;
+
+// The most combinations that are ever held.
+const MOST: usize = 262144;
+
+// How many times as many are held where there were too few places.
+const GROWTH: usize = 8;
+
+// There are too few places where one in so many has sent a new combination to the map.
+const CROWD: usize = 64;
 
 // How many places are looked at for a combination.
 const NEAR: usize = 12;
 
 // The most maps that are tallied together.
-pub(crate) const WIDEST: usize = 16;
+const WIDEST: usize = 16;
 
-// A combination, behind which stand nulls, and cells of it that are not in the map yet.
+// How many cells of a combination are not in the map yet, and the combination, followed by nulls.
 #[derive(Clone, Copy)]
 pub(crate) struct Held {
-    cells: [Cell; 16],
     count: u64,
-}
-
-impl Held {
-    // No cells.
-    pub(crate) fn nothing() -> Held
-        ensures { result.count ≡ 0 }
-    {
-        Held {
-            cells: [Cell::null(); 16],
-            count: 0,
-        }
-    }
+    cells: [Cell; WIDEST],
 }
 
 // A number of a combination. Those of neighbouring categories are close to each other.
@@ -167,13 +164,35 @@ pub(crate) fn add(
     Ok(())
 }
 
-// How many combinations are held: the more, the more cells there are.
-pub(crate) fn places_for(shelf: &Shelf) -> usize
+// How many combinations are held at first: fewer where there are few cells.
+fn places_for(shelf: &Shelf) -> usize
     ensures { 0 < result }
 {
     let region = shelf.region();
     let cells = region.rows().saturating_mul(region.cols());
-    (cells / 2).clamp(FEWEST, MOST) as usize
+    (cells / 2).clamp(FEWEST, FIRST) as usize
+}
+
+// Places that hold nothing.
+fn places_of(alloc: Global, many: usize) -> Result<Vec<Held>, Memory>
+    requires { 0 < many }
+    ensures some { IfOk result (λ places. 0 < length places.items) }
+    ensures nothing { IfOk result (λ places. (width : ℕ) (k : Combination) → held_of width k places.items ≡ 0) }
+{
+    let nothing = Held {
+        count: 0,
+        cells: [Cell::null(); WIDEST],
+    };
+    let places = vec![in alloc; nothing; many]?;
+    Ok(places)
+}
+
+// The places to begin with. They hold nothing.
+pub(crate) fn first_places(alloc: Global, shelf: &Shelf) -> Result<Vec<Held>, Memory>
+    ensures some { IfOk result (λ places. 0 < length places.items) }
+    ensures nothing { IfOk result (λ places. (width : ℕ) (k : Combination) → held_of width k places.items ≡ 0) }
+{
+    places_of(alloc, places_for(shelf))
 }
 
 // Brings all that the places hold to the map.
@@ -189,9 +208,43 @@ pub(crate) fn flush_all(
     requires no_zero { HasNoZero counted.old }
     ensures ok { OnOk result ((k : Combination) → mapped_of k counted.new ≡ total_of width k places.now counted.old) }
     ensures no_zero { OnOk result (HasNoZero counted.new) }
+    ensures spare { OnOk result (length spare.new ≡ width) }
 {
     for held in places {
         flush(alloc, held, width, spare, counted)?;
     }
     Ok(())
+}
+
+// Whether the places are too few for the combinations, by how many of these are new in the map.
+fn are_crowded(places: usize, new: usize) -> bool {
+    places < MOST && new > places / CROWD
+}
+
+// Makes more places where there are too few. `before` is how many combinations the map had when the places were made;
+// returns the same number for the places that there are now.
+pub(crate) fn make_room(
+    alloc: Global,
+    width: usize,
+    before: usize,
+    spare: &mut Combo,
+    places: &mut Vec<Held>,
+    counted: &mut BTreeMap<Combo, u64>,
+) -> Result<usize, Memory>
+    requires width { (width ≤ 16) × (length spare.old ≡ width) }
+    requires places { 0 < length places.old.items }
+    requires fits { (k : Combination) → total_of width k places.old.items counted.old < 2 ^ 64 }
+    requires no_zero { HasNoZero counted.old }
+    ensures ok { OnOk result ((k : Combination) → total_of width k places.new.items counted.new ≡ total_of width k places.old.items counted.old) }
+    ensures no_zero { OnOk result (HasNoZero counted.new) }
+    ensures places { OnOk result (0 < length places.new.items) }
+    ensures spare { OnOk result (length spare.new ≡ width) }
+{
+    if !are_crowded(places.len(), counted.len().saturating_sub(before)) {
+        return Ok(before);
+    }
+    flush_all(alloc, width, spare, places.as_slice(), counted)?;
+    let more = places_of(alloc, places.len().saturating_mul(GROWTH).min(MOST))?;
+    *places = more;
+    Ok(counted.len())
 }

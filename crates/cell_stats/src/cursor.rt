@@ -3,7 +3,7 @@
 ghost use Rattle.std.specs.Prelude.{◌≡◌, ◌<◌, ◌≤◌, length, map, drop, All, OnOk, IfOk};
 ghost use Rattle.cell_core.specs.Grid.{row_at};
 ghost use Rattle.cell_core.specs.Runs.{written_out};
-ghost use Rattle.cell_stats.specs.Cursors.{to_come, IsReady, row_in};
+ghost use Rattle.cell_stats.specs.parts.Cursors.{to_come, IsReady, row_in};
 
 use cell_core::cell::Cell;
 use cell_core::map::CellMap;
@@ -12,7 +12,7 @@ use cell_core::runs::Runs;
 use cell_core::shelf::Shelf;
 use std::alloc::Global;
 
-// A place in a row: the cell there, in how many columns from there on it stands, and the runs behind these.
+// A place in a row: the cell there, in how many columns from there on it is the same, and the runs after these.
 #[derive(Drop)]
 pub(crate) struct Cursor<'a> {
     runs: Runs<'a>,
@@ -112,8 +112,8 @@ fn lesser(a: u32, b: u32) -> u32
     a.min(b)
 }
 
-// Moves all on by some columns of their present runs, and writes the cells that stand there. Answers in how many columns
-// from there on they stand, at most so many as are left.
+// Moves all on by some columns of their present runs, and writes the cells there. Returns in how many columns from there on
+// they are the same, at most so many as are left.
 pub(crate) fn pass_all(cursors: &mut [Cursor], count: u32, left: u32, cells: &mut [Cell]) -> u32
     requires within { All (λ c. count ≤ c.left) cursors.old }
     requires ready { All IsReady cursors.old }

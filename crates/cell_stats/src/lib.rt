@@ -9,6 +9,7 @@ pub mod format;
 pub mod law;
 pub mod printing;
 pub mod reading;
+mod selection;
 pub mod skip;
 pub mod table;
 pub mod tallying;

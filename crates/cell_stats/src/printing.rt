@@ -5,7 +5,7 @@ ghost use Rattle.std.specs.List.{join_with_byte};
 ghost use Rattle.std.specs.Option.{option_map};
 ghost use Rattle.cell_core.specs.Blocks.{Gathers, CutsOff};
 ghost use Rattle.cell_stats.specs.TableText.{cell_line, combination_fields, count_fields, label_in, pair_line, printed_pairs, table_text};
-ghost use Rattle.cell_stats.specs.Preceded.{next_text, others_text, pick_text, preceded};
+ghost use Rattle.cell_stats.specs.parts.Preceded.{next_text, others_text, pick_text, preceded};
 
 use crate::combination::Combo;
 use crate::format::Format;

@@ -4,12 +4,13 @@ ghost use Rattle.std.specs.Prelude.{◌≡◌, ◌+◌, ◌<◌, ◌≤◌, All,
 ghost use Rattle.cell_core.specs.Region.{IsRegion};
 ghost use Rattle.cell_stats.specs.Combinations.{Combination, all_combinations};
 ghost use Rattle.cell_stats.specs.Counts.{count_of};
-ghost use Rattle.cell_stats.specs.Held.{total_of, HasNoZero};
+ghost use Rattle.cell_stats.specs.parts.Held.{total_of, HasNoZero};
 ghost use Rattle.cell_stats.specs.Tables.{IsTable, Pairs, kept, table_of};
 
 use crate::combination::Combo;
-use crate::counting::{Held, add, flush_all, places_for};
+use crate::counting::{Held, add, first_places, flush_all, make_room};
 use crate::cursor::{pass_all, start_all};
+use crate::selection::Selection;
 use crate::skip::{Skip, is_left_out};
 use crate::table::Table;
 use cell_core::cell::Cell;
@@ -21,35 +22,33 @@ use std::collections::BTreeMap;
 // Counts the cells of a row, stretch by stretch: the columns in which no map changes.
 fn count_row(
     alloc: Global,
-    shelf: &Shelf,
-    picks: &[usize],
-    skip: Skip,
+    selection: Selection<'_, '_>,
     row: u32,
     cells: &mut [Cell],
     spare: &mut Combo,
     places: &mut [Held],
     counted: &mut BTreeMap<Combo, u64>,
 ) -> Result<(), Memory>
-    requires picked { All (λ i. i < length shelf.now.maps) picks.now }
-    requires width { length picks.now ≤ 16 }
-    requires row_in_range { row < shelf.now.region.rows }
-    requires region { IsRegion shelf.now.region }
-    requires cells { length cells.old ≡ length picks.now }
-    requires spare { length spare.old ≡ length picks.now }
+    requires picked { All (λ i. i < length selection.shelf.now.maps) selection.picks.now }
+    requires width { length selection.picks.now ≤ 16 }
+    requires row_in_range { row < selection.shelf.now.region.rows }
+    requires region { IsRegion selection.shelf.now.region }
+    requires cells { length cells.old ≡ length selection.picks.now }
+    requires spare { length spare.old ≡ length selection.picks.now }
     requires places { 0 < length places.old }
     requires no_zero { HasNoZero counted.old }
-    requires counted { (k : Combination) → total_of (length picks.now) k places.old counted.old ≡ count_of k (kept skip (all_combinations shelf.now.maps picks.now row shelf.now.region.cols)) }
-    ensures ok { OnOk result ((k : Combination) → total_of (length picks.now) k places.new counted.new ≡ count_of k (kept skip (all_combinations shelf.now.maps picks.now (row + 1) shelf.now.region.cols))) }
+    requires counted { (k : Combination) → total_of (length selection.picks.now) k places.old counted.old ≡ count_of k (kept selection.skip (all_combinations selection.shelf.now.maps selection.picks.now row selection.shelf.now.region.cols)) }
+    ensures ok { OnOk result ((k : Combination) → total_of (length selection.entry.picks.now) k places.new counted.new ≡ count_of k (kept selection.entry.skip (all_combinations selection.entry.shelf.now.maps selection.entry.picks.now (row + 1) selection.entry.shelf.now.region.cols))) }
     ensures no_zero { OnOk result (HasNoZero counted.new) }
-    ensures spare { OnOk result (length spare.new ≡ length picks.now) }
+    ensures spare { OnOk result (length spare.new ≡ length selection.entry.picks.now) }
 {
-    let cols = shelf.region().cols();
-    let mut started = start_all(alloc, shelf, picks, row)?;
+    let cols = selection.shelf.region().cols();
+    let mut started = start_all(alloc, selection.shelf, selection.picks, row)?;
     let cursors = started.as_mut_slice();
     let mut col = 0;
     let mut count = pass_all(cursors, 0, cols, cells);
     while col < cols {
-        if !is_left_out(skip, cells) {
+        if !is_left_out(selection.skip, cells) {
             add(alloc, cells, u64::from(count), spare, places, counted)?;
         }
         col += count;
@@ -75,14 +74,15 @@ pub fn tally(alloc: Global, shelf: &Shelf, picks: &[usize], skip: Skip) -> Resul
     let width = picks.len();
     let mut cells = vec![in alloc; Cell::null(); width]?;
     let mut spare = Combo::from_cells(alloc, &cells)?;
-    let mut places = vec![in alloc; Held::nothing(); places_for(shelf)]?;
+    let mut places = first_places(alloc, shelf)?;
     let mut counted = BTreeMap::new(alloc);
+    let selection = Selection { shelf, picks, skip };
+    let mut before = 0;
     for row in 0..shelf.region().rows() {
+        before = make_room(alloc, width, before, &mut spare, &mut places, &mut counted)?;
         count_row(
             alloc,
-            shelf,
-            picks,
-            skip,
+            selection,
             row,
             cells.as_mut_slice(),
             &mut spare,

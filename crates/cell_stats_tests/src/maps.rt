@@ -14,6 +14,12 @@ use std::test::Fail;
 /// What stands for null in a list: the number that is no category.
 pub(crate) const NULL: i32 = i32::MIN;
 
+/// A worked map of four columns.
+pub(crate) const G: [i32; 12] = [1, 1, 2, NULL, 1, 2, 2, 2, 3, 3, 1, 1];
+
+/// In each cell what is one column to its right in `G`.
+pub(crate) const X: [i32; 12] = [1, 2, NULL, NULL, 2, 2, 2, NULL, 3, 1, 1, NULL];
+
 fn cells_of(alloc: Global, categories: &[i32]) -> Result<Vec<Cell>, Memory> {
     let mut cells = Vec::new(alloc);
     for category in categories {

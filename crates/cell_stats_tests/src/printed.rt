@@ -1,6 +1,6 @@
 //! The printed text of tables and cells: worked maps.
 
-use crate::maps::{NULL, add, are_picks, map_of, shelf_of};
+use crate::maps::{G, NULL, X, add, are_picks, map_of, shelf_of};
 use cell_core::block::Block;
 use cell_core::shelf::Shelf;
 use cell_core::sink::{MemorySink, WriteFault};
@@ -14,11 +14,7 @@ use std::alloc::{AllocGlobal, Global};
 use std::process::Abort;
 use std::test::Fail;
 
-// The map of the worked examples, the same one column to the right, and its areas.
-const G: [i32; 12] = [1, 1, 2, NULL, 1, 2, 2, 2, 3, 3, 1, 1];
-
-const X: [i32; 12] = [1, 2, NULL, NULL, 2, 2, 2, NULL, 3, 1, 1, NULL];
-
+// The areas of the first worked map.
 const AREAS: [i32; 12] = [1, 1, 2, NULL, 1, 2, 2, 2, 3, 3, 4, 4];
 
 // What a sink of so much room takes of the table, and whether it failed.

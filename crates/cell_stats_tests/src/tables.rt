@@ -1,6 +1,6 @@
 //! What is counted: many maps, and very many combinations.
 
-use crate::maps::{NULL, are_picks, shelf_of};
+use crate::maps::{G, NULL, X, are_picks, shelf_of};
 use cell_core::shelf::Shelf;
 use cell_stats::combination::Combo;
 use cell_stats::reading::ComboFault;
@@ -46,6 +46,47 @@ fn texts_of_combinations(rt: HostRuntime) -> Result<(), Fail> {
     ];
     for (text, want) in cases {
         assert_eq!(rt; pair_of(rt.alloc(), text), want, "{text:?}");
+    }
+    Ok(())
+}
+
+// The count of the first entry after the combination that a text spells, and how many entries there are after it.
+fn after(alloc: Global, table: &Table, text: &[u8]) -> Result<(Option<u64>, usize), Fail> {
+    let combo = Combo::read(alloc, text, 2)?;
+    if combo.len() != table.width() {
+        return Err(Fail::from("another width"));
+    }
+    let mut first = None;
+    let mut many: usize = 0;
+    for entry in table.after(&combo) {
+        if many == 0 {
+            first = Some(entry.count);
+        }
+        many = many.wrapping_add(1);
+    }
+    Ok((first, many))
+}
+
+#[test]
+fn entries_after_a_combination(rt: HostRuntime) -> Result<(), Fail> {
+    let shelf = shelf_of(rt.alloc(), &[&G, &X], 4)?;
+    let table = table_of(rt.alloc(), &shelf, &[0, 1])?;
+    assert!(rt; table.len() == 8);
+    let cases: [(&[u8], Option<u64>, usize); 10] = [
+        (b"0,9", Some(2), 8),
+        (b"1,1", Some(2), 7),
+        (b"1,2", Some(1), 6),
+        (b"1,*", Some(2), 5),
+        (b"2,1", Some(2), 5),
+        (b"2,2", Some(2), 4),
+        (b"2,*", Some(1), 3),
+        (b"3,1", Some(1), 2),
+        (b"3,3", Some(1), 1),
+        (b"*,*", None, 0),
+    ];
+    for (text, first, many) in cases {
+        let found = after(rt.alloc(), &table, text)?;
+        assert_eq!(rt; found, (first, many), "after {text:?}");
     }
     Ok(())
 }

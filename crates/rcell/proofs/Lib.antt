@@ -2,3 +2,4 @@
 pub mod OutputLemmas
 pub mod WindowLemmas
 pub mod TableLemmas
+pub mod StatsLemmas

@@ -2,6 +2,7 @@
 pub mod Making
 pub mod Output
 pub mod OutputLaw
+pub mod StatsLaw
 pub mod Reports
 pub mod parts
 pub mod runs

@@ -1,8 +1,10 @@
 //! Laws of output, in the words of the subject.
 
 ghost use Rattle.rcell.specs.OutputLaw.{OneOutput, PartsJoin};
+ghost use Rattle.rcell.specs.StatsLaw.{CountsCoverTheRegion, TablesArePrinted};
 
 use cell_clump::law::clumping_is_one;
+use cell_stats::law::{counts_add_up, table_lists_what_occurs};
 
 /// Statements over a shelf have one output.
 pub fn one_output()
@@ -16,3 +18,20 @@ pub fn one_output()
 pub fn parts_join()
     ensures { PartsJoin }
 {}
+
+/// What r.stats writes, but for `-1`, is the printed form of every list that is a table of its maps, or of its rest after
+/// a combination; and there is such a list.
+pub fn tables_are_printed()
+    ensures { TablesArePrinted }
+{
+    table_lists_what_occurs();
+}
+
+/// With `-c`, and without `-n`, `-N`, `-1` and `after`, r.stats writes a line for each entry of the table of its maps,
+/// with its count at the end, and the counts add up to the cells of the region.
+pub fn counts_cover_the_region()
+    ensures { CountsCoverTheRegion }
+{
+    table_lists_what_occurs();
+    counts_add_up();
+}

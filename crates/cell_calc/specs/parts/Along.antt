@@ -2,9 +2,10 @@
 use Rattle.std.specs.Prelude.{◌≡◌, ◌<◌, ◌+◌, ℕ, ℤ, List, Option, Some, None, length, slice_get}
 use Rattle.cell_core.specs.Grid.{Grid, CellValue}
 use Rattle.cell_calc.specs.Formula.{Formula, Number, Map, Negated, Not, Binary, Call, Formulas, NoFormulas, Then}
-use Rattle.cell_calc.specs.Value.{value, values, spot}
+use Rattle.cell_calc.specs.Value.{applied, value, values, spot}
 use Rattle.cell_calc.specs.Window.{Window, IsOver, Reaches}
 use Rattle.cell_core.specs.Region.{RegionValue}
+use Rattle.cell_language.specs.declared.operator.Operator.{Operator}
 use Rattle.cell_calc.specs.parts.Rows.{at, column}
 
 -- there is a window that stands at the row and reaches the offset
@@ -44,6 +45,11 @@ abbrev mutual
 abbrev pub AreValues : Formula → List Window → RegionValue → (row from : ℕ) → List CellValue → Type 0
 AreValues f windows region row from cells =
     (maps : List Grid) → AreOver f windows maps → (c : ℕ) → c < length cells → at cells c ≡ value f maps (spot region row (from + c))
+
+-- the new cells are the values of an operator, of the old ones and those of an expression
+abbrev pub AreJoined : Operator → Formula → List Window → RegionValue → (row from : ℕ) → (old new : List CellValue) → Type 0
+AreJoined op f windows region row from old new =
+    (maps : List Grid) → AreOver f windows maps → (c : ℕ) → c < length old → at new c ≡ applied op (at old c) (value f maps (spot region row (from + c)))
 
 -- the rows have the values of the arguments, column by column
 abbrev pub AreColumns : Formulas → List Window → RegionValue → (row from width : ℕ) → List (List CellValue) → Type 0

@@ -30,3 +30,7 @@ pub record ArePairsJoined (j : Joining) (m : Grid) (w : ℕ) (table : List ℕ) 
   pub sound : AreSound j m w table after
   pub keeps : (a b : ℕ) → before a ≡ before b → after a ≡ after b
   pub joins : (k : ℕ) → k < count → (v : ℤ) → slice_index_or ones k None ≡ Some v → slice_index_or others k None ≡ Some v → after (one_at + k) ≡ after (other_at + k)
+
+-- a run of cells from a place on, in which the labels of two neighbours of one category lead to one open label
+pub record AreJoinedAlong (open_of : ℕ → ℕ) (cells : List CellValue) (place : ℕ) : Type 0 where
+  pub beside : (k : ℕ) (v : ℤ) → slice_index_or cells k None ≡ Some v → slice_index_or cells (k + 1) None ≡ Some v → open_of (place + k) ≡ open_of (place + (k + 1))

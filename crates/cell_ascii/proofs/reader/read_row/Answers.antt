@@ -1,39 +1,100 @@
 use Rattle.std.proofs.lemmas.Result.{err_from_is_err_and}
-use Rattle.std.proofs.Common.{◌≡◌, ◌+◌, ◌<◌, ◌∙◌, arith, take, set, ◌++◌, ◌∷◌, []}
+use Rattle.std.proofs.Common.{◌≡◌, ◌+◌, ◌-◌, ◌<◌, ◌≤◌, ◌∙◌, sym, arith, length, take, drop, set, ◌++◌, ◌∷◌, [], length-drop, length-set, length-take, take_all}
 use Rattle.std.proofs.lemmas.List.{take_more_set, drop-set-lt}
 use Rattle.std.proofs.lemmas.Grind.{drop_more_same}
 use Rattle.cell_ascii.specs.Ahead.{to_come}
 use Rattle.cell_ascii.specs.Cells.{cell_from}
 use Rattle.cell_ascii.specs.Reader.{at_place}
-use Rattle.cell_ascii.proofs.RowReadLemmas.{row_more, row_cut}
+use Rattle.cell_ascii.proofs.HeldRowLemmas.{filled, filled-length, part-front, part-rest}
+use Rattle.cell_ascii.proofs.RowReadLemmas.{row_more, row_some, row_cut}
 use Rattle.cell_ascii.proofs.reader.read_row.Goals as goal
 
-pub loop-i-preserved : goal.loop-i-preserved
-loop-i-preserved g c =
+pub returns-then-i-row-clause-row : goal.returns-then-i-row-clause-row
+returns-then-i-row-clause-row g c =
     let s = c.args.cells.now in
-    let t = c.loop-i.cells in
-    let u = c.next_cell.new.self in
-    let i = c.loop-i.i in
-    let longer : take (i + 1) (set c.loop-i.row i c.in_ok-cell.cell) ≡ take i c.loop-i.row ++ c.in_ok-cell.cell ∷ [] = take_more_set c.loop-i.row i c.in_ok-cell.cell (omega arith) in
-    let here : i < i + 1 = omega arith in
-    record {
-      row = rw longer (row_more (cell_from s.header) (at_place s) (at_place t) (at_place u) (to_come s.ahead) (to_come t.ahead) (to_come u.ahead)
-          i (take i c.loop-i.row) c.in_ok-cell.cell c.loop-i.invariant.row (rw c.loop-i.invariant.header at c.in_ok-cell.ensures.cell));
-      rest = drop-set-lt (i + 1) c.loop-i.row i c.in_ok-cell.cell here ∙ drop_more_same c.loop-i.row c.args.row.now i c.loop-i.invariant.rest;
-      header = c.next_cell.ensures.header ∙ c.loop-i.invariant.header;
-      lines = omega arith;
-    }
+    let t = c.cells.cells in
+    let u = c.held_cells-i.new.self in
+    let i = c.cells.i in
+    let k = c.held_cells-i.result in
+    let row = c.cells.row in
+    let part = c.held_cells-i.new.row in
+    let within : i ≤ length row = c.cells.invariant.within in
+    let size : length part ≡ length row - i = omega (arith, c.held_cells-i.auto.row, length-drop i row, length-take (length row - i) (drop i row)) in
+    let few : k ≤ length row - i = omega (arith, c.held_cells-i.ensures.count, length-drop i row, length-take (length row - i) (drop i row)) in
+    let front = part-front i k row part c.args.row.now within size few in
+    let more = row_some (cell_from s.header) (at_place s) (at_place t) (at_place u) (to_come s.ahead) (to_come t.ahead) (to_come u.ahead)
+    i k (take i row) (take k part) c.cells.invariant.row (rw c.cells.invariant.header at c.held_cells-i.ensures.cells) in
+    let whole : length (filled i row part) ≡ length row = filled-length i k row part c.args.row.now within size few in
+    let count : i + k ≡ length c.args.row.now = c.if-i-row.true ∙ whole ∙ c.cells.auto.row in
+    let all : filled i row part ≡ take i row ++ take k part = sym (take_all (i + k) (filled i row part) (omega (arith, c.if-i-row.true))) ∙ front in
+    rw (← count, all) more
 
 pub returns-in_err-cell-clause-cut : goal.returns-in_err-cell-clause-cut
 returns-in_err-cell-clause-cut g c =
     let s = c.args.cells.now in
-    let t = c.loop-i.cells in
+    let t = c.cells.cells in
+    let u = c.held_cells-i.new.self in
+    let i = c.cells.i in
+    let k = c.held_cells-i.result in
+    let row = c.cells.row in
+    let part = c.held_cells-i.new.row in
+    let within : i ≤ length row = c.cells.invariant.within in
+    let size : length part ≡ length row - i = omega (arith, c.held_cells-i.auto.row, length-drop i row, length-take (length row - i) (drop i row)) in
+    let few : k ≤ length row - i = omega (arith, c.held_cells-i.ensures.count, length-drop i row, length-take (length row - i) (drop i row)) in
+    let front = part-front i k row part c.args.row.now within size few in
+    let more = row_some (cell_from s.header) (at_place s) (at_place t) (at_place u) (to_come s.ahead) (to_come t.ahead) (to_come u.ahead)
+    i k (take i row) (take k part) c.cells.invariant.row (rw c.cells.invariant.header at c.held_cells-i.ensures.cells) in
+    let whole : length (filled i row part) ≡ length row = filled-length i k row part c.args.row.now within size few in
     let p = err_from_is_err_and c.from_residual.result c.from_residual.ensures.1 in
+    let lower : i + k < length c.args.row.now = omega (arith, few, within, c.if-i-row.false, whole, c.cells.auto.row) in
+    let header = c.held_cells-i.ensures.header ∙ c.cells.invariant.header in
     rw (p.1, p.2)
-    (row_cut s.header (at_place s) (at_place t) (to_come s.ahead) (to_come t.ahead) (to_come c.next_cell.new.self.ahead) c.loop-i.i c.in_err-cell.field-0.0 c.args.row.now c.loop-i.row
-    c.loop-i-test.true c.loop-i.invariant.rest c.loop-i.invariant.row (rw c.loop-i.invariant.header at c.in_err-cell.ensures.cell))
+    (row_cut s.header (at_place s) (at_place u) (to_come s.ahead) (to_come u.ahead) (to_come c.next_cell.new.self.ahead) (i + k) c.in_err-cell.field-0.0 c.args.row.now (filled i row part)
+    lower (part-rest i k row part c.args.row.now within size few c.held_cells-i.ensures.rest c.cells.invariant.rest) (rw (← front) at more) (rw header at c.in_err-cell.ensures.cell))
 
 pub returns-in_err-cell-clause-kept : goal.returns-in_err-cell-clause-kept
 returns-in_err-cell-clause-kept g c =
+    let i = c.cells.i in
+    let k = c.held_cells-i.result in
+    let row = c.cells.row in
+    let part = c.held_cells-i.new.row in
+    let within : i ≤ length row = c.cells.invariant.within in
+    let size : length part ≡ length row - i = omega (arith, c.held_cells-i.auto.row, length-drop i row, length-take (length row - i) (drop i row)) in
+    let few : k ≤ length row - i = omega (arith, c.held_cells-i.ensures.count, length-drop i row, length-take (length row - i) (drop i row)) in
+    let whole : length (filled i row part) ≡ length row = filled-length i k row part c.args.row.now within size few in
     let p = err_from_is_err_and c.from_residual.result c.from_residual.ensures.1 in
-    rw p.1 (record { count = c.loop-i.i; fewer = c.loop-i-test.true; kept = c.loop-i.invariant.rest })
+    let lower : i + k < length c.args.row.now = omega (arith, few, within, c.if-i-row.false, whole, c.cells.auto.row) in
+    rw p.1 (record { count = i + k; fewer = lower; kept = part-rest i k row part c.args.row.now within size few c.held_cells-i.ensures.rest c.cells.invariant.rest })
+
+pub cells-preserved : goal.cells-preserved
+cells-preserved g c =
+    let s = c.args.cells.now in
+    let t = c.cells.cells in
+    let u = c.held_cells-i.new.self in
+    let v = c.next_cell.new.self in
+    let i = c.cells.i in
+    let k = c.held_cells-i.result in
+    let row = c.cells.row in
+    let part = c.held_cells-i.new.row in
+    let within : i ≤ length row = c.cells.invariant.within in
+    let size : length part ≡ length row - i = omega (arith, c.held_cells-i.auto.row, length-drop i row, length-take (length row - i) (drop i row)) in
+    let few : k ≤ length row - i = omega (arith, c.held_cells-i.ensures.count, length-drop i row, length-take (length row - i) (drop i row)) in
+    let front = part-front i k row part c.args.row.now within size few in
+    let more = row_some (cell_from s.header) (at_place s) (at_place t) (at_place u) (to_come s.ahead) (to_come t.ahead) (to_come u.ahead)
+    i k (take i row) (take k part) c.cells.invariant.row (rw c.cells.invariant.header at c.held_cells-i.ensures.cells) in
+    let whole : length (filled i row part) ≡ length row = filled-length i k row part c.args.row.now within size few in
+    let cell = c.in_ok-cell.cell in
+    let now = filled i row part in
+    let lower : i + k < length now = omega (arith, few, within, c.if-i-row.false, whole) in
+    let rest = part-rest i k row part c.args.row.now within size few c.held_cells-i.ensures.rest c.cells.invariant.rest in
+    let header = c.held_cells-i.ensures.header ∙ c.cells.invariant.header in
+    let longer : take (i + k + 1) (set now (i + k) cell) ≡ take (i + k) now ++ cell ∷ [] = take_more_set now (i + k) cell lower in
+    let here : i + k < i + k + 1 = omega arith in
+    record {
+      within = omega (arith, lower, length-set now (i + k) cell);
+      row = rw longer (row_more (cell_from s.header) (at_place s) (at_place u) (at_place v) (to_come s.ahead) (to_come u.ahead) (to_come v.ahead)
+          (i + k) (take (i + k) now) cell (rw (← front) at more) (rw header at c.in_ok-cell.ensures.cell));
+      rest = drop-set-lt (i + k + 1) now (i + k) cell here ∙ drop_more_same now c.args.row.now (i + k) rest;
+      header = c.next_cell.ensures.header ∙ header;
+      lines = omega (arith, c.cells.invariant.lines, c.held_cells-i.ensures.line, c.next_cell.ensures.lines);
+    }

@@ -1,16 +1,20 @@
-use Rattle.std.proofs.Common.{◌≡◌, ◌+◌, ◌*◌, ◌≤◌, Ok, take, drop}
+use Rattle.std.proofs.Common.{◌≡◌, ◌+◌, ◌-◌, ◌*◌, ◌≤◌, Ok, length, take, drop}
 use Rattle.std.specs.Option.{option_map}
 use Rattle.cell_ascii.specs.Ahead.{to_come}
 use Rattle.cell_ascii.specs.Cells.{cell_from, many}
 use Rattle.cell_ascii.specs.Reader.{at_place}
 use Rattle.cell_ascii.proofs.reader.read_row.Given as goal
 
-abbrev pub invariant-loop-i : goal.invariant-loop-i
-invariant-loop-i g l =
+abbrev pub invariant-cells : goal.invariant-cells
+invariant-cells g l =
     let s = l.fn.cells in
     record {
+      within : l.i ≤ length l.row;
       row : option_map (λ c. many (cell_from s.header) l.i (at_place s c)) (to_come s.ahead) ≡ option_map (λ d. Ok (take l.i l.row, at_place l.cells d)) (to_come l.cells.ahead);
       rest : drop l.i l.row ≡ drop l.i l.fn.row;
       header : l.cells.header ≡ s.header;
       lines : l.cells.line ≤ s.line + l.i * 1048577;
     }
+
+abbrev pub decreases-cells : goal.decreases-cells
+decreases-cells g l = length l.row - l.i

@@ -2,6 +2,7 @@ use Rattle.std.proofs.Common.{◌≡◌, ◌∙◌, ap, sym, rules, None, Some, 
 use Rattle.std.specs.Fmt.{signed_decimal}
 use Rattle.cell_core.specs.Text.{cell_text}
 use Rattle.cell_ascii.proofs.RunWritingLemmas.{times_cells}
+use Rattle.cell_ascii.proofs.ShortNumberLemmas.{signed_positive}
 use Rattle.cell_ascii.proofs.writer.write_run.Goals as goal
 
 pub returns-in-None-clause-ok : goal.returns-in-None-clause-ok
@@ -19,13 +20,29 @@ returns-in-Some-clause-ok g c =
     let null = c.args.null_text.now in
     let cell : c.args.cell ≡ Some c.in-Some.category = sym c.get.ensures.value ∙ c.in-Some.is in
     let same : to_z w32 (of_z w32 c.in-Some.category) ≡ c.in-Some.category = search rules in
-    let text : c.as_bytes.result.now ≡ cell_text null (Some c.in-Some.category) = c.as_bytes.ensures.value ∙ c.format.ensures.text ∙ ap signed_decimal same in
-    rw (cell, ← times_cells null c.args.count (Some c.in-Some.category), ← text) c.write_times-in-Some.ensures.ok
+    let text = ap signed_decimal (sym same) ∙ signed_positive (to_z w32 (of_z w32 c.in-Some.category)) c.if-category-ge0.true in
+    rw (cell, ← times_cells null c.args.count (Some c.in-Some.category), text) c.write_short.ensures.ok
 
 pub returns-in-Some-clause-err : goal.returns-in-Some-clause-err
 returns-in-Some-clause-err g c =
     let null = c.args.null_text.now in
     let cell : c.args.cell ≡ Some c.in-Some.category = sym c.get.ensures.value ∙ c.in-Some.is in
     let same : to_z w32 (of_z w32 c.in-Some.category) ≡ c.in-Some.category = search rules in
+    let text = ap signed_decimal (sym same) ∙ signed_positive (to_z w32 (of_z w32 c.in-Some.category)) c.if-category-ge0.true in
+    rw (cell, ← times_cells null c.args.count (Some c.in-Some.category), text) c.write_short.ensures.err
+
+pub returns-in-Some-2-clause-ok : goal.returns-in-Some-2-clause-ok
+returns-in-Some-2-clause-ok g c =
+    let null = c.args.null_text.now in
+    let cell : c.args.cell ≡ Some c.in-Some.category = sym c.get.ensures.value ∙ c.in-Some.is in
+    let same : to_z w32 (of_z w32 c.in-Some.category) ≡ c.in-Some.category = search rules in
     let text : c.as_bytes.result.now ≡ cell_text null (Some c.in-Some.category) = c.as_bytes.ensures.value ∙ c.format.ensures.text ∙ ap signed_decimal same in
-    rw (cell, ← times_cells null c.args.count (Some c.in-Some.category), ← text) c.write_times-in-Some.ensures.err
+    rw (cell, ← times_cells null c.args.count (Some c.in-Some.category), ← text) c.write_times-in-Some-2.ensures.ok
+
+pub returns-in-Some-2-clause-err : goal.returns-in-Some-2-clause-err
+returns-in-Some-2-clause-err g c =
+    let null = c.args.null_text.now in
+    let cell : c.args.cell ≡ Some c.in-Some.category = sym c.get.ensures.value ∙ c.in-Some.is in
+    let same : to_z w32 (of_z w32 c.in-Some.category) ≡ c.in-Some.category = search rules in
+    let text : c.as_bytes.result.now ≡ cell_text null (Some c.in-Some.category) = c.as_bytes.ensures.value ∙ c.format.ensures.text ∙ ap signed_decimal same in
+    rw (cell, ← times_cells null c.args.count (Some c.in-Some.category), ← text) c.write_times-in-Some-2.ensures.err

@@ -27,15 +27,17 @@ along-returns-in-Map-clause-each t c =
 pub along-returns-in_ok-along-in-Binary-2-clause-each : goal.along-returns-in_ok-along-in-Binary-2-clause-each
 along-returns-in_ok-along-in-Binary-2-clause-each t c =
     let left = rw c.deref-in-Binary.ensures at c.in_ok-along-in-Binary.ensures.each in
-    let right = rw c.deref-in-Binary-2.ensures at c.in_ok-along-in-Binary-2.ensures.each in
+    let right = rw c.deref-in-Binary-3.ensures at c.in_ok-along-in-Binary-2.ensures.each in
+    let kept = c.joined.ensures.no c.if-joined.false in
     let others = c.in_ok-others-in-Binary.others in
     let all : others.len ≡ length others.items = search rules in
     let width = c.along-in-Binary-2.ensures.width ∙ ap (λ l. length l) c.as_mut_slice.ensures.value in
     let same = c.as_slice.ensures.value ∙ written others.len c.along-in-Binary-2.new.cells others.items all width in
-    let wide : length c.as_slice.result.now ≡ length c.along-in-Binary.new.cells = search rules in
+    let wide : length c.as_slice.result.now ≡ length c.joined.new.cells = search rules in
     rw c.in-Binary.is (λ maps over k h.
-    let here : k < length c.along-in-Binary.new.cells = rw (← c.apply.ensures.width) h in
+    let here : k < length c.joined.new.cells = rw (← c.apply.ensures.width) h in
+    let first : k < length c.along-in-Binary.new.cells = rw (← ap (λ l. length l) kept) here in
     let there : k < length c.along-in-Binary-2.new.cells = rw (← ap (λ l. length l) same, wide) here in
-    both_values c.in-Binary.operator (at c.apply.new.row k) (at c.along-in-Binary.new.cells k) (at c.as_slice.result.now k)
+    both_values c.in-Binary.operator (at c.apply.new.row k) (at c.joined.new.cells k) (at c.as_slice.result.now k)
     (formula_of c.in-Binary.a.value) (formula_of c.in-Binary.b.value) maps (spot c.args.region c.args.row (c.args.from + k))
-    (c.apply.ensures.each k here) (left maps over.0 k here) (ap (λ l. at l k) same ∙ right maps over.1 k there))
+    (c.apply.ensures.each k here) (ap (λ l. at l k) kept ∙ left maps over.0 k first) (ap (λ l. at l k) same ∙ right maps over.1 k there))

@@ -1,5 +1,6 @@
-use Rattle.std.proofs.Common.{◌≡◌, length, take}
+use Rattle.std.proofs.Common.{◌≡◌, ◌<◌, length, take}
 use Rattle.cell_cats.specs.Reclass.{new_rows}
+use Rattle.cell_cats.specs.parts.Known.{AreRight}
 use Rattle.cell_cats.proofs.reclassing.reclass.Given as goal
 
 abbrev pub invariant-loop-r : goal.invariant-loop-r
@@ -8,4 +9,6 @@ invariant-loop-r l = record {
   region : l.builder.region ≡ l.given.region;
   count : length l.builder.rows ≡ l.r;
   width : length l.row ≡ l.given.region.cols;
+  some : 0 < length l.known;
+  right : AreRight l.rules l.known;
 }

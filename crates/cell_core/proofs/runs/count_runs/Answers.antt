@@ -10,7 +10,7 @@ loop-cell-preserved c =
     let i = c.loop-cell.cell-index in
     let cell = c.cell-item.result in
     let within : i < length row = omega arith in
-    All-same IsCell _ _ (take_more row i cell within ∙ ap (λ y. take i row ++ y ∷ []) (sym c.cell-item.is)) (All-push IsCell (take i row) cell c.loop-cell.invariant c.category_of-category.ensures.cell)
+    All-same IsCell _ _ (take_more row i cell within ∙ ap (λ y. take i row ++ y ∷ []) (sym c.cell-item.is)) (All-push IsCell (take i row) cell c.loop-cell.invariant c.category_of.ensures.cell)
 
 pub returns : goal.returns
 returns c =

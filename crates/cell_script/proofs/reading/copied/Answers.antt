@@ -1,4 +1,4 @@
-use Rattle.std.proofs.Common.{ap, sym, ◌∙◌, ◌++◌, [], ◌∷◌}
+use Rattle.std.proofs.Common.{sym}
 use Rattle.cell_script.proofs.PlaceLemmas.{place_of-before, take-slice_get}
 use Rattle.cell_script.proofs.reading.copied.Goals as goal
 

@@ -9,25 +9,25 @@ use Rattle.cell_stats.proofs.cells.write_lines.Goals as goal
 
 pub returns-then-is_left_out-clause-ok : goal.returns-then-is_left_out-clause-ok
 returns-then-is_left_out-clause-ok g c =
-    let left : is_left_out c.args.skip c.args.cells.now ≡ true = sym c.is_left_out.ensures ∙ c.if-is_left_out.true in
-    rw (lines-left c.args.format.now c.args.shelf.now.maps c.args.picks.now c.args.skip c.args.cells.now c.args.count left) (Gathers-none _ _)
+    let left : is_left_out c.args.selection.skip c.args.cells.now ≡ true = sym c.is_left_out.ensures ∙ c.if-is_left_out.true in
+    rw (lines-left c.args.format.now c.args.selection.shelf.now.maps c.args.selection.picks.now c.args.selection.skip c.args.cells.now c.args.count left) (Gathers-none _ _)
 
 pub returns-in_err-write_cell_line-clause-err : goal.returns-in_err-write_cell_line-clause-err
 returns-in_err-write_cell_line-clause-err g c =
     let p = err_from_is_err_and c.from_residual.result c.from_residual.ensures.1 in
     let cells = c.args.cells.now in
-    let f = cell_line c.args.format.now c.args.shelf.now.maps c.args.picks.now in
+    let f = cell_line c.args.format.now c.args.selection.shelf.now.maps c.args.selection.picks.now in
     let line = c.loop-line.line in
     let count = c.args.count in
     let within : line < count = omega arith in
-    let kept_in : is_left_out c.args.skip cells ≡ false = sym c.is_left_out.ensures ∙ c.if-is_left_out.false in
-    let parts = flat_map-replicate-rest f line count cells within ∙ sym (lines-kept c.args.format.now c.args.shelf.now.maps c.args.picks.now c.args.skip cells count kept_in) in
-    rw (p.1, p.2) (cut-first _ _ (flat_map f (replicate line cells) ++ f cells) (flat_map f (replicate (count - (line + 1)) cells)) (flat_map f (kept c.args.skip (replicate count cells))) parts _ _
+    let kept_in : is_left_out c.args.selection.skip cells ≡ false = sym c.is_left_out.ensures ∙ c.if-is_left_out.false in
+    let parts = flat_map-replicate-rest f line count cells within ∙ sym (lines-kept c.args.format.now c.args.selection.shelf.now.maps c.args.selection.picks.now c.args.selection.skip cells count kept_in) in
+    rw (p.1, p.2) (cut-first _ _ (flat_map f (replicate line cells) ++ f cells) (flat_map f (replicate (count - (line + 1)) cells)) (flat_map f (kept c.args.selection.skip (replicate count cells))) parts _ _
     (CutsOff-second _ _ _ _ _ _ _ _ c.loop-line.invariant.gathers c.in_err-write_cell_line.ensures.err))
 
 pub loop-line-preserved : goal.loop-line-preserved
 loop-line-preserved g c =
-    let f = cell_line c.args.format.now c.args.shelf.now.maps c.args.picks.now in
+    let f = cell_line c.args.format.now c.args.selection.shelf.now.maps c.args.selection.picks.now in
     record {
       gathers = rw (flat_map-replicate-more f c.loop-line.line c.args.cells.now) (Gathers-then _ _ _ _ _ _ _ _ c.loop-line.invariant.gathers c.in_ok-write_cell_line.ensures.ok);
       failed = search rules;
@@ -37,8 +37,8 @@ pub returns-clause-ok : goal.returns-clause-ok
 returns-clause-ok g c =
     let cells = c.args.cells.now in
     let count = c.args.count in
-    let kept_in : is_left_out c.args.skip cells ≡ false = sym c.is_left_out.ensures ∙ c.if-is_left_out.false in
-    let f = cell_line c.args.format.now c.args.shelf.now.maps c.args.picks.now in
+    let kept_in : is_left_out c.args.selection.skip cells ≡ false = sym c.is_left_out.ensures ∙ c.if-is_left_out.false in
+    let f = cell_line c.args.format.now c.args.selection.shelf.now.maps c.args.selection.picks.now in
     let last : c.loop-line.line ≡ count = omega arith in
-    let whole = ap (λ (n : ℕ). flat_map f (replicate n cells)) last ∙ sym (lines-kept c.args.format.now c.args.shelf.now.maps c.args.picks.now c.args.skip cells count kept_in) in
+    let whole = ap (λ (n : ℕ). flat_map f (replicate n cells)) last ∙ sym (lines-kept c.args.format.now c.args.selection.shelf.now.maps c.args.selection.picks.now c.args.selection.skip cells count kept_in) in
     rw whole at c.loop-line.invariant.gathers

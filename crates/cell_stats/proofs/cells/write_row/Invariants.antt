@@ -2,16 +2,16 @@ use Rattle.std.proofs.Common.{◌≡◌, ◌+◌, ◌-◌, ◌<◌, ◌≤◌, l
 use Rattle.std.specs.List.{range_with_len}
 use Rattle.cell_core.specs.Blocks.{Gathers}
 use Rattle.cell_stats.specs.Combinations.{combination_at}
-use Rattle.cell_stats.specs.Cursors.{to_come, IsReady, row_in}
+use Rattle.cell_stats.specs.parts.Cursors.{to_come, IsReady, row_in}
 use Rattle.cell_stats.proofs.CellsLemmas.{lines}
 use Rattle.cell_stats.proofs.cells.write_row.Given as goal
 
 abbrev pub invariant-loop-col : goal.invariant-loop-col
 invariant-loop-col g l = record {
-  gathers : Gathers (g.W.Sink.taken l.fn.out) l.fn.block (lines l.format l.shelf.maps l.picks l.skip (map (combination_at l.shelf.maps l.picks l.row) (range_with_len 0 l.col))) (g.W.Sink.taken l.out) l.block;
+  gathers : Gathers (g.W.Sink.taken l.fn.out) l.fn.block (lines l.format l.selection.shelf.now.maps l.selection.picks.now l.selection.skip (map (combination_at l.selection.shelf.now.maps l.selection.picks.now l.row) (range_with_len 0 l.col))) (g.W.Sink.taken l.out) l.block;
   failed : g.W.Sink.failed l.out ≡ g.W.Sink.failed l.fn.out;
-  width : length l.cells ≡ length l.picks;
-  to_come : map to_come l.cursors ≡ map (λ p. drop l.col (row_in l.shelf.maps l.row p)) l.picks;
+  width : length l.cells ≡ length l.selection.picks.now;
+  to_come : map to_come l.cursors ≡ map (λ p. drop l.col (row_in l.selection.shelf.now.maps l.row p)) l.selection.picks.now;
   ready : All IsReady l.cursors;
   cells : l.cells ≡ map (λ c. c.cell) l.cursors;
   least : All (λ c. l.count ≤ c.left) l.cursors;

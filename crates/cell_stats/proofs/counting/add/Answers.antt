@@ -1,6 +1,6 @@
 use Rattle.std.proofs.Common.{◌<◌, length, arith, sym, get_or}
 use Rattle.std.proofs.lemmas.List.Sums.{get_or-le-sum_by}
-use Rattle.cell_stats.specs.Held.{held_by}
+use Rattle.cell_stats.specs.parts.Held.{held_by}
 use Rattle.cell_stats.proofs.HeldLemmas.{held_by-own}
 use Rattle.cell_stats.proofs.counting.add.Goals as goal
 

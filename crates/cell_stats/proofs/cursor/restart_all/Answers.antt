@@ -3,7 +3,7 @@ use Rattle.std.proofs.lemmas.List.{take_more}
 use Rattle.std.proofs.lemmas.List.Elements.{All-push}
 use Rattle.cell_core.specs.Region.{RegionValue}
 use Rattle.cell_core.specs.Grid.{row_at}
-use Rattle.cell_stats.specs.Cursors.{to_come, IsReady, row_in}
+use Rattle.cell_stats.specs.parts.Cursors.{to_come, IsReady, row_in}
 use Rattle.cell_stats.proofs.CursorLemmas.{map-take-more, map-take-set, All-take-set}
 use Rattle.cell_stats.proofs.WalkLemmas.{row-of}
 use Rattle.cell_stats.proofs.cursor.restart_all.Goals as goal

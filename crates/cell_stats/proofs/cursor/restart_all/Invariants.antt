@@ -1,5 +1,5 @@
 use Rattle.std.proofs.Common.{◌≡◌, length, map, take, All}
-use Rattle.cell_stats.specs.Cursors.{to_come, IsReady, row_in}
+use Rattle.cell_stats.specs.parts.Cursors.{to_come, IsReady, row_in}
 use Rattle.cell_stats.proofs.cursor.restart_all.Given as goal
 
 abbrev pub invariant-loop-i : goal.invariant-loop-i

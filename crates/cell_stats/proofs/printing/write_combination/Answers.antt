@@ -1,7 +1,7 @@
 use Rattle.std.proofs.Common.{ℕ, ◌-◌, ◌<◌, length, get_or, take, drop}
 use Rattle.std.proofs.lemmas.Result.{err_from_is_err_and}
 use Rattle.std.specs.List.{join_with_byte}
-use Rattle.cell_stats.specs.Preceded.{pick_text, others_text}
+use Rattle.cell_stats.specs.parts.Preceded.{pick_text, others_text}
 use Rattle.cell_stats.specs.TableText.{combination_fields}
 use Rattle.cell_stats.proofs.PrintLemmas.{All-others, combination-parts, cut-first, cut-second, ok-second}
 use Rattle.cell_stats.proofs.printing.write_combination.Goals as goal

@@ -1,6 +1,6 @@
 use Rattle.std.proofs.Common.{ℕ, [], ◌∷◌, ap}
 use Rattle.std.proofs.lemmas.Result.{err_from_is_err_and}
-use Rattle.cell_stats.specs.Preceded.{pick_text, next_text}
+use Rattle.cell_stats.specs.parts.Preceded.{pick_text, next_text}
 use Rattle.cell_stats.proofs.PrintLemmas.{cut-first, cut-second}
 use Rattle.cell_stats.proofs.printing.write_next_pick.Goals as goal
 

@@ -1,7 +1,7 @@
 use Rattle.std.proofs.Common.{◌≡◌, take, flat_map}
 use Rattle.std.specs.List.{zip}
 use Rattle.cell_core.specs.Blocks.{Gathers}
-use Rattle.cell_stats.specs.Preceded.{next_text}
+use Rattle.cell_stats.specs.parts.Preceded.{next_text}
 use Rattle.cell_stats.proofs.printing.write_others.Given as goal
 
 abbrev pub invariant-loop-i : goal.invariant-loop-i

@@ -1,7 +1,7 @@
 use Rattle.std.proofs.Common.{◌≡◌, List, ℕ, [], ◌∷◌, ◌++◌, true, ap, ◌∙◌, if◌then◌else◌}
 use Rattle.std.proofs.lemmas.Result.{err_from_is_err_and}
 use Rattle.cell_core.specs.Text.{cell_text}
-use Rattle.cell_stats.specs.Preceded.{pick_text, preceded}
+use Rattle.cell_stats.specs.parts.Preceded.{pick_text, preceded}
 use Rattle.cell_stats.specs.TableText.{label_in}
 use Rattle.cell_stats.proofs.PrintLemmas.{cut-first, cut-second, pick_text-label, pick_text-with}
 use Rattle.cell_stats.proofs.printing.write_pick.Goals as goal

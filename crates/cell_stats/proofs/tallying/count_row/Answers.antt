@@ -4,8 +4,8 @@ use Rattle.std.specs.List.{range_with_len}
 use Rattle.cell_core.specs.Region.{RegionValue}
 use Rattle.cell_stats.specs.Combinations.{Combination, all_combinations, combination_at}
 use Rattle.cell_stats.specs.Counts.{count_of}
-use Rattle.cell_stats.specs.Cursors.{to_come}
-use Rattle.cell_stats.specs.Held.{total_of, HasNoZero, is_same}
+use Rattle.cell_stats.specs.parts.Cursors.{to_come}
+use Rattle.cell_stats.specs.parts.Held.{total_of, HasNoZero, is_same}
 use Rattle.cell_stats.specs.Tables.{kept, is_left_out}
 use Rattle.cell_stats.specs.declared.counting.Held.{Held}
 use Rattle.cell_stats.proofs.WalkLemmas.{alike, alive, passed-on, stretch, count-left, count-more, count_small, all_combinations_more}
@@ -14,15 +14,15 @@ use Rattle.cell_stats.proofs.tallying.count_row.Goals.{then-not-is_left_out+in_o
 
 pub loop-col-init : goal.loop-col-init
 loop-col-init c =
-    let maps = c.args.shelf.now.maps in
-    let picks = c.args.picks.now in
+    let maps = c.args.selection.shelf.now.maps in
+    let picks = c.args.selection.picks.now in
     let row = c.args.row in
     let first = c.pass_all-count in
-    let same_cols : c.cols-cols.result ≡ c.args.shelf.now.region.cols = c.cols-cols.ensures.value ∙ ap (λ (r : RegionValue). r.cols) c.region.ensures.value in
+    let same_cols : c.cols-cols.result ≡ c.args.selection.shelf.now.region.cols = c.cols-cols.ensures.value ∙ ap (λ (r : RegionValue). r.cols) c.region.ensures.value in
     let begun = ap (map to_come) c.as_mut_slice-cursors.ensures.value ∙ c.in_ok-started.ensures.cells in
     let here = passed-on maps row 0 0 c.as_mut_slice-cursors.result.now first.new.cursors picks first.ensures.passed begun in
     record {
-      counted = λ k. c.requires.counted k ∙ ap (λ (l : List Combination). count_of k (kept c.args.skip l)) (sym (append-nil (all_combinations maps picks row c.args.shelf.now.region.cols)));
+      counted = λ k. c.requires.counted k ∙ ap (λ (l : List Combination). count_of k (kept c.args.selection.skip l)) (sym (append-nil (all_combinations maps picks row c.args.selection.shelf.now.region.cols)));
       no_zero = c.requires.no_zero;
       spare = c.requires.spare;
       places = c.requires.places;
@@ -31,15 +31,15 @@ loop-col-init c =
       cells = first.ensures.cells;
       least = first.ensures.least;
       some = λ h.
-          let within : 0 < c.args.shelf.now.region.cols = omega (arith, h, same_cols) in
-          first.ensures.some (alive maps row 0 first.new.cursors picks c.args.shelf.now.region.cols here c.in_ok-started.ensures.width within first.ensures.ready) h;
+          let within : 0 < c.args.selection.shelf.now.region.cols = omega (arith, h, same_cols) in
+          first.ensures.some (alive maps row 0 first.new.cursors picks c.args.selection.shelf.now.region.cols here c.in_ok-started.ensures.width within first.ensures.ready) h;
       most = omega (arith, first.ensures.most);
     }
 
 pub add-requires-clause-fits : goal.add-requires-clause-fits
 add-requires-clause-fits c = λ k.
-    let picks = c.args.picks.now in
-    let cols = c.args.shelf.now.region.cols in
+    let picks = c.args.selection.picks.now in
+    let cols = c.args.selection.shelf.now.region.cols in
     let same_cols : c.cols-cols.result ≡ cols = c.cols-cols.ensures.value ∙ ap (λ (r : RegionValue). r.cols) c.region.ensures.value in
     let width : length c.loop-col.cells ≡ length picks = c.loop-col.auto.cells ∙ c.pass_all-count.auto.cells ∙ c.requires.cells in
     let inv = c.loop-col.invariant in
@@ -47,16 +47,16 @@ add-requires-clause-fits c = λ k.
     let region = c.requires.region in
     let few_rows : c.args.row ≤ 65535 = omega (arith, region.rows_most, c.requires.row_in_range) in
     let few : c.loop-col.col ≤ 65535 = omega (arith, region.cols_most, same_cols, inv.most) in
-    let small = count_small c.args.shelf.now.maps picks cols c.args.skip k c.args.row c.loop-col.col few_rows few region.cols_most in
+    let small = count_small c.args.selection.shelf.now.maps picks cols c.args.selection.skip k c.args.row c.loop-col.col few_rows few region.cols_most in
     omega (arith, total, small, c.from.ensures, inv.most, same_cols, region.cols_most)
 
 pub loop-col-preserved : goal.loop-col-preserved
 loop-col-preserved c =
-    let maps = c.args.shelf.now.maps in
-    let picks = c.args.picks.now in
+    let maps = c.args.selection.shelf.now.maps in
+    let picks = c.args.selection.picks.now in
     let row = c.args.row in
-    let skip = c.args.skip in
-    let cols = c.args.shelf.now.region.cols in
+    let skip = c.args.selection.skip in
+    let cols = c.args.selection.shelf.now.region.cols in
     let inv = c.loop-col.invariant in
     let col = c.loop-col.col in
     let count = c.loop-col.count in
@@ -113,12 +113,12 @@ loop-col-preserved c =
 
 pub returns-clause-ok : goal.returns-clause-ok
 returns-clause-ok c = λ k.
-    let maps = c.args.shelf.now.maps in
-    let picks = c.args.picks.now in
+    let maps = c.args.selection.shelf.now.maps in
+    let picks = c.args.selection.picks.now in
     let row = c.args.row in
-    let cols = c.args.shelf.now.region.cols in
+    let cols = c.args.selection.shelf.now.region.cols in
     let same_cols : c.cols-cols.result ≡ cols = c.cols-cols.ensures.value ∙ ap (λ (r : RegionValue). r.cols) c.region.ensures.value in
     let inv = c.loop-col.invariant in
     let last : c.loop-col.col ≡ cols = omega (arith, inv.most, c.loop-col-test.false, same_cols) in
-    inv.counted k ∙ ap (λ n. count_of k (kept c.args.skip (all_combinations maps picks row cols ++ map (combination_at maps picks row) (range_with_len 0 n)))) last
-    ∙ ap (λ (l : List Combination). count_of k (kept c.args.skip l)) (sym (all_combinations_more maps picks cols row)) ∙ ap (λ r. count_of k (kept c.args.skip (all_combinations maps picks r cols))) (sym (add-one row))
+    inv.counted k ∙ ap (λ n. count_of k (kept c.args.selection.skip (all_combinations maps picks row cols ++ map (combination_at maps picks row) (range_with_len 0 n)))) last
+    ∙ ap (λ (l : List Combination). count_of k (kept c.args.selection.skip l)) (sym (all_combinations_more maps picks cols row)) ∙ ap (λ r. count_of k (kept c.args.selection.skip (all_combinations maps picks r cols))) (sym (add-one row))

@@ -6,7 +6,7 @@ use Rattle.std.specs.Map.{lookup}
 use Rattle.cell_core.specs.Region.{RegionValue, IsRegion}
 use Rattle.cell_stats.specs.Combinations.{Combination, combination_cmp, all_combinations}
 use Rattle.cell_stats.specs.Counts.{count_of}
-use Rattle.cell_stats.specs.Held.{total_of, held_of, mapped_of}
+use Rattle.cell_stats.specs.parts.Held.{total_of, held_of, mapped_of}
 use Rattle.cell_stats.specs.Tables.{Pairs, kept}
 use Rattle.cell_stats.specs.declared.counting.Held.{Held}
 use Rattle.std.proofs.lemmas.List.{length-replicate}
@@ -20,18 +20,30 @@ pub loop-row-init : goal.loop-row-init
 loop-row-init c =
     let empty = c.new-counted.ensures.empty in
     let wide : length c.in_ok-cells.cells.items ≡ length c.args.picks.now = grind (arith, common_steps) in
-    let many = c.places_for.result in
-    let all_nothing : c.in_ok-places.places.items ≡ replicate many c.nothing.result = c.in_ok-places.ensures.items_if_clones_equal (λ y h. h) in
     record {
       counted = λ k.
-          ap (λ (p : List Held). held_of (length c.args.picks.now) k p + mapped_of k c.new-counted.result) all_nothing
-          ∙ ap (λ n. n + mapped_of k c.new-counted.result) (held-nothing (length c.args.picks.now) k c.nothing.result many c.nothing.ensures)
+          ap (λ n. n + mapped_of k c.new-counted.result) (c.in_ok-places.ensures.nothing (length c.args.picks.now) k)
           ∙ ap (λ (es : Pairs). 0 + unwrap_or (lookup (is_at (combination_cmp k)) es) 0) empty;
       no_zero = λ k e. let none : tree.get combination_cmp c.new-counted.result k ≡ None = ap (lookup (is_at (combination_cmp k))) empty in cc;
       spare = ap length (c.in_ok-spare.ensures ∙ c.deref.ensures.value) ∙ wide;
-      places = omega (arith, ap length all_nothing, length-replicate many c.nothing.result, c.places_for.ensures);
+      places = c.in_ok-places.ensures.some;
       cells = wide;
     }
+
+pub make_room-requires-clause-fits : goal.make_room-requires-clause-fits
+make_room-requires-clause-fits c = λ k.
+    let maps = c.args.shelf.now.maps in
+    let picks = c.args.picks.now in
+    let skip = c.args.skip in
+    let value = c.args.shelf.now.region in
+    let region : IsRegion value = rw (← c.region.ensures.value) c.rows-row-end.ensures.region in
+    let row = c.loop-row.row in
+    let base = all_combinations maps picks row value.cols in
+    let rows : row ≤ 65535 = omega (arith, region.rows_most, c.loop-row.auto.row-end, c.rows-row-end.ensures.value, ap (λ (r : RegionValue). r.rows) c.region.ensures.value) in
+    let small = count_small maps picks value.cols skip k row 0 rows (omega arith) region.cols_most in
+    let same : count_of k (kept skip (base ++ [])) ≡ count_of k (kept skip base) = ap (λ (l : List Combination). count_of k (kept skip l)) (append-nil base) in
+    let total = c.loop-row.invariant.counted k in
+    omega (arith, total, small, same)
 
 pub flush_all-requires-clause-fits : goal.flush_all-requires-clause-fits
 flush_all-requires-clause-fits c = λ k.

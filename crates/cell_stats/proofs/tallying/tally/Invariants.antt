@@ -1,13 +1,13 @@
 use Rattle.std.proofs.Common.{◌≡◌, ◌<◌, length}
 use Rattle.cell_stats.specs.Combinations.{Combination, all_combinations}
 use Rattle.cell_stats.specs.Counts.{count_of}
-use Rattle.cell_stats.specs.Held.{total_of, HasNoZero}
+use Rattle.cell_stats.specs.parts.Held.{total_of, HasNoZero}
 use Rattle.cell_stats.specs.Tables.{kept}
 use Rattle.cell_stats.proofs.tallying.tally.Given as goal
 
 abbrev pub invariant-loop-row : goal.invariant-loop-row
 invariant-loop-row l = record {
-  counted : (k : Combination) → total_of (length l.picks) k l.places.items l.counted ≡ count_of k (kept l.skip (all_combinations l.shelf.maps l.picks l.row l.shelf.region.cols));
+  counted : (k : Combination) → total_of (length l.picks) k l.places.items l.counted ≡ count_of k (kept l.fn.skip (all_combinations l.shelf.maps l.picks l.row l.shelf.region.cols));
   no_zero : HasNoZero l.counted;
   spare : length l.spare ≡ length l.picks;
   places : 0 < length l.places.items;

@@ -1,0 +1,206 @@
+// r.stats -c: combinations and their counts.
+#pragma once
+
+#include "grid.h"
+
+#include <algorithm>
+#include <numeric>
+#include <unordered_map>
+#include <utility>
+
+// A cell as a number that orders as tables do, null last.
+inline uint32_t rank_of(int32_t cell) { return uint32_t(cell - 1u) ^ 0x80000000u; }
+inline int32_t cell_of(uint32_t rank) { return int32_t((rank ^ 0x80000000u) + 1u); }
+
+// The combinations of one, two and three maps.
+struct One {
+    using Key = uint32_t;
+    static constexpr size_t WIDTH = 1;
+    static Key key(const std::array<uint32_t, 3> &ranks) { return ranks[0]; }
+    static uint32_t rank(Key key, size_t) { return key; }
+    static uint64_t mixed(Key key) { return key * 0x9E3779B97F4A7C15u; }
+};
+
+struct Two {
+    using Key = uint64_t;
+    static constexpr size_t WIDTH = 2;
+    static Key key(const std::array<uint32_t, 3> &ranks) { return uint64_t(ranks[0]) << 32 | ranks[1]; }
+    static uint32_t rank(Key key, size_t at) { return uint32_t(at == 0 ? key >> 32 : key); }
+    static uint64_t mixed(Key key) { return (key ^ key >> 32) * 0x9E3779B97F4A7C15u; }
+};
+
+struct Three {
+    using Key = std::array<uint32_t, 3>;
+    static constexpr size_t WIDTH = 3;
+    static Key key(const std::array<uint32_t, 3> &ranks) { return ranks; }
+    static uint32_t rank(const Key &key, size_t at) { return key[at]; }
+    static uint64_t mixed(const Key &key) {
+        return ((key[0] * 0x9E3779B97F4A7C15u + key[1]) * 0x9E3779B97F4A7C15u + key[2]) * 0x9E3779B97F4A7C15u;
+    }
+};
+
+template <typename Form> using Entries = std::vector<std::pair<typename Form::Key, uint64_t>>;
+
+// Counts in a hashed map of std, found through the last combination that was counted at each of some thousand places.
+template <typename Form> class StdCounts {
+public:
+    using Key = typename Form::Key;
+
+    StdCounts() : recent(size_t(1) << PLACES_LOG) { counts.reserve(EXPECTED); }
+
+    void add(const Key &key, uint64_t cells) {
+        Recent &place = recent[Form::mixed(key) >> (64 - PLACES_LOG)];
+        if (place.count == nullptr || place.key != key) place = {key, &counts[key]};
+        *place.count += cells;
+    }
+
+    Entries<Form> entries() const { return {counts.begin(), counts.end()}; }
+
+private:
+    static constexpr int PLACES_LOG = 12;
+    static constexpr size_t EXPECTED = 65536;
+    struct Recent {
+        Key key{};
+        uint64_t *count = nullptr;
+    };
+    struct Hash {
+        size_t operator()(const Key &key) const {
+            if constexpr (Form::WIDTH <= 2) return key;
+            else return Form::mixed(key) >> 20;
+        }
+    };
+
+    std::vector<Recent> recent;
+    std::unordered_map<Key, uint64_t, Hash> counts;
+};
+
+// Counts in one array of places, at most half of them taken: a combination stands at the first free one from where its
+// hash says.
+template <typename Form> class OwnCounts {
+public:
+    using Key = typename Form::Key;
+
+    OwnCounts() : places(size_t(1) << length_log) {}
+
+    void add(const Key &key, uint64_t cells) {
+        Place &place = find(key);
+        if (place.count == 0) {
+            if (++taken * 2 > places.size()) {
+                grow();
+                return add_new(find(key), key, cells);
+            }
+            return add_new(place, key, cells);
+        }
+        place.count += cells;
+    }
+
+    Entries<Form> entries() const {
+        Entries<Form> found;
+        found.reserve(taken);
+        for (const Place &place : places) {
+            if (place.count > 0) found.push_back({place.key, place.count});
+        }
+        return found;
+    }
+
+private:
+    struct Place {
+        Key key{};
+        uint64_t count = 0;
+    };
+
+    static void add_new(Place &place, const Key &key, uint64_t cells) { place = {key, cells}; }
+
+    Place &find(const Key &key) {
+        size_t at = Form::mixed(key) >> (64 - length_log);
+        while (places[at].count > 0 && places[at].key != key) at = (at + 1) & (places.size() - 1);
+        return places[at];
+    }
+
+    void grow() {
+        std::vector<Place> old(size_t(1) << (length_log += 2));
+        old.swap(places);
+        for (const Place &place : old) {
+            if (place.count > 0) find(place.key) = place;
+        }
+    }
+
+    int length_log = 12;
+    std::vector<Place> places;
+    size_t taken = 0;
+};
+
+// The entries of one map whose categories lie close together, counted in an array; empty for another map. Neighbours are
+// counted in different columns, so that no addition waits for the one before.
+inline Entries<One> entries_by_array(const Map &map) {
+    constexpr int64_t LONGEST = 4096;
+    constexpr size_t COLUMNS = 4;
+    int32_t least = INT32_MAX, greatest = -INT32_MAX;
+    for (size_t i = 0; i < map.size(); i++) {
+        const int32_t cell = map.cells[i];
+        least = std::min(least, cell == NULL_CELL ? INT32_MAX : cell);
+        greatest = std::max(greatest, cell);
+    }
+    const int64_t length = int64_t(greatest) - least + 1;
+    if (length < 1 || length > LONGEST) return {};
+    std::vector<std::array<uint32_t, COLUMNS>> counts(size_t(length) + 1);
+    for (size_t i = 0; i < map.size(); i++) {
+        const uint32_t place = std::min(rank_of(map.cells[i]) - rank_of(least), uint32_t(length));
+        counts[place][i % COLUMNS]++;
+    }
+    Entries<One> entries;
+    for (size_t place = 0; place < counts.size(); place++) {
+        const uint64_t count = std::accumulate(counts[place].begin(), counts[place].end(), uint64_t(0));
+        const uint32_t rank = place == size_t(length) ? rank_of(NULL_CELL) : rank_of(least) + uint32_t(place);
+        if (count > 0) entries.push_back({rank, count});
+    }
+    return entries;
+}
+
+template <typename Form, typename Counts> inline Entries<Form> entries_by_hash(const std::vector<Map> &maps) {
+    Counts counts;
+    std::array<const int32_t *, Form::WIDTH> cells;
+    for (size_t m = 0; m < Form::WIDTH; m++) cells[m] = maps[m].cells.get();
+    const size_t size = maps[0].size();
+    // Cells that have the combination of the cell before are counted together.
+    for (size_t from = 0, to = 0; from < size; from = to) {
+        std::array<uint32_t, 3> ranks{};
+        for (size_t m = 0; m < Form::WIDTH; m++) ranks[m] = rank_of(cells[m][from]);
+        bool is_same = true;
+        while (is_same && ++to < size) {
+            for (size_t m = 0; m < Form::WIDTH; m++) is_same &= cells[m][to] == cells[m][from];
+        }
+        counts.add(Form::key(ranks), to - from);
+    }
+    Entries<Form> entries = counts.entries();
+    std::sort(entries.begin(), entries.end());
+    return entries;
+}
+
+template <typename Form> inline void write_table_of(const std::vector<Map> &maps, bool by_std, Output &output) {
+    Entries<Form> entries;
+    if constexpr (Form::WIDTH == 1) {
+        if (!by_std) entries = entries_by_array(maps[0]);
+    }
+    if (entries.empty()) entries = by_std ? entries_by_hash<Form, StdCounts<Form>>(maps) : entries_by_hash<Form, OwnCounts<Form>>(maps);
+    char *at = output.start();
+    for (const auto &[key, count] : entries) {
+        for (size_t m = 0; m < Form::WIDTH; m++) {
+            at = put_cell(output.room(at), cell_of(Form::rank(key, m)));
+            *at++ = ' ';
+        }
+        at = put_number(output.room(at), count);
+        *at++ = '\n';
+    }
+    output.wrote_to(at);
+}
+
+inline void write_table(const std::vector<Map> &maps, bool by_std, Output &output) {
+    for (const Map &map : maps) {
+        if (map.edges != maps[0].edges || map.rows != maps[0].rows || map.cols != maps[0].cols) fail("other region");
+    }
+    if (maps.size() == 1) write_table_of<One>(maps, by_std, output);
+    else if (maps.size() == 2) write_table_of<Two>(maps, by_std, output);
+    else if (maps.size() == 3) write_table_of<Three>(maps, by_std, output);
+    else fail("more than three maps");
+}

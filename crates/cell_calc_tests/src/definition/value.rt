@@ -1,0 +1,196 @@
+//! The value of an expression at a cell.
+
+ghost use Rattle.std.specs.Prelude.{◌≡◌, ◌<◌, None, length, slice_get, IfOk};
+ghost use Rattle.std.specs.Option.{unwrap_or};
+ghost use Rattle.cell_core.specs.Grid.{row_at};
+ghost use Rattle.cell_core.specs.Name.{place_of};
+ghost use Rattle.cell_calc.specs.Binding.{placed, placed_all};
+ghost use Rattle.cell_calc.specs.Value.{item_at, row_of, cell_in, spot, called, value, values};
+ghost use Rattle.cell_language.specs.Grammatical.{IsGrammatical, AreGrammatical};
+ghost use Rattle.cell_language.specs.Tree.{term_of, terms_of};
+
+use crate::definition::{cells, lists};
+use cell_core::cell::Cell;
+use cell_core::map::CellMap;
+use cell_core::memory::Memory;
+use cell_core::name::{Name, Names};
+use cell_core::region::Region;
+use cell_core::shelf::Shelf;
+use cell_language::function::Function;
+use cell_language::tree::{Arguments, Tree};
+use std::alloc::Global;
+
+fn item_at(cells: &[Cell], i: i64) -> Cell
+    ensures { result ≡ item_at None cells.now i }
+{
+    if i < 0 {
+        return Cell::null();
+    }
+    match cells.get(i as usize) {
+        Some(cell) => *cell,
+        None => Cell::null(),
+    }
+}
+
+fn copied(map: &CellMap, row: u32, mut cells: Vec<Cell>) -> Vec<Cell>
+    requires row_in_range { row < map.now.region.rows }
+    requires width { length cells.items ≡ map.now.region.cols }
+    ensures { result.items ≡ row_at map.now row }
+{
+    map.copy_row(row, cells.as_mut_slice());
+    cells
+}
+
+// The cells of a map's row, none outside.
+fn row_of(alloc: Global, map: &CellMap, row: i64) -> Result<Vec<Cell>, Memory>
+    ensures { IfOk result (λ cells. cells.items ≡ row_of map.now row) }
+{
+    let region = map.region();
+    if row < 0 || row >= region.rows() as i64 {
+        return Ok(Vec::new(alloc));
+    }
+    let blank = Vec::from_elem(alloc, Cell::null(), region.cols() as usize)?;
+    Ok(copied(map, row as u32, blank))
+}
+
+// The cell of a shelf's map at any row and column, null outside.
+fn cell_in(alloc: Global, shelf: &Shelf, place: usize, row: i64, col: i64) -> Result<Cell, Memory>
+    ensures { IfOk result (λ v. v ≡ cell_in (slice_get shelf.now.maps place) row col) }
+{
+    if place >= shelf.len() {
+        return Ok(Cell::null());
+    }
+    let cells = row_of(alloc, shelf.map(place), row)?;
+    Ok(item_at(cells.as_slice(), col))
+}
+
+fn place_of(name: &Name, names: &Names) -> usize
+    ensures { result ≡ unwrap_or (place_of name.now names.now) 0 }
+{
+    match names.find(name.bytes()) {
+        Some(i) => i,
+        None => 0,
+    }
+}
+
+// The value of a function, of those of its arguments.
+fn called(
+    alloc: Global,
+    function: Function,
+    region: Region,
+    row: u32,
+    col: u32,
+    arguments: &[Cell],
+) -> Result<Cell, Memory>
+    requires row { row < region.rows }
+    requires col { col < region.cols }
+    ensures { IfOk result (λ v. v ≡ called function (spot region row col) arguments.now) }
+{
+    let (rows, cols) = (region.rows(), region.cols());
+    match function {
+        Function::If => Ok(lists::choose(arguments)),
+        Function::IsNull => Ok(cells::truth(cells::is_null(lists::first(arguments)))),
+        Function::Null => Ok(Cell::null()),
+        Function::Abs => Ok(cells::size(lists::first(arguments))),
+        Function::Min => Ok(lists::least(arguments)),
+        Function::Max => Ok(lists::greatest(arguments)),
+        Function::Mode => lists::mode(alloc, arguments),
+        Function::Row => Ok(cells::number(row + 1)),
+        Function::Column => Ok(cells::number(col + 1)),
+        Function::RowCount => Ok(cells::number(rows)),
+        Function::ColumnCount => Ok(cells::number(cols)),
+        Function::Eval => Ok(lists::last(arguments)),
+        Function::KnownMin => {
+            let known = lists::known(alloc, arguments)?;
+            Ok(lists::least(known.as_slice()))
+        }
+        Function::KnownMax => {
+            let known = lists::known(alloc, arguments)?;
+            Ok(lists::greatest(known.as_slice()))
+        }
+        Function::KnownMode => {
+            let known = lists::known(alloc, arguments)?;
+            lists::most_frequent(alloc, known.as_slice())
+        }
+    }
+}
+
+/// The value of an expression over a shelf's maps, which have these names, at a row and a column from 0.
+///
+/// # Errors
+///
+/// [`Memory`] where memory was refused.
+#[cycle(value)]
+pub(crate) fn value(
+    alloc: Global,
+    tree: &Tree,
+    names: &Names,
+    shelf: &Shelf,
+    row: u32,
+    col: u32,
+) -> Result<Cell, Memory>
+    requires grammatical { IsGrammatical (term_of tree.now) }
+    requires row { row < shelf.now.region.rows }
+    requires col { col < shelf.now.region.cols }
+    ensures { IfOk result (λ v. v ≡ value (placed names.now (term_of tree.now)) shelf.now.maps (spot shelf.now.region row col)) }
+{
+    match tree {
+        Tree::Number(n) => Ok(cells::number(*n)),
+        Tree::Map {
+            name,
+            down,
+            right,
+            ..
+        } => cell_in(
+            alloc,
+            shelf,
+            place_of(name, names),
+            row as i64 + *down as i64,
+            col as i64 + *right as i64,
+        ),
+        Tree::Negated(a) => Ok(cells::negated(value(alloc, a, names, shelf, row, col)?)),
+        Tree::Not(a) => Ok(cells::inverted(value(alloc, a, names, shelf, row, col)?)),
+        Tree::Binary(operator, a, b) => {
+            let a = value(alloc, a, names, shelf, row, col)?;
+            let b = value(alloc, b, names, shelf, row, col)?;
+            Ok(cells::applied(*operator, a, b))
+        }
+        Tree::Call(function, xs) => {
+            let arguments = values(alloc, xs, names, shelf, row, col)?;
+            called(
+                alloc,
+                *function,
+                shelf.region(),
+                row,
+                col,
+                arguments.as_slice(),
+            )
+        }
+    }
+}
+
+// Those of arguments, in order.
+#[cycle(value)]
+fn values(
+    alloc: Global,
+    arguments: &Arguments,
+    names: &Names,
+    shelf: &Shelf,
+    row: u32,
+    col: u32,
+) -> Result<Vec<Cell>, Memory>
+    requires grammatical { AreGrammatical (terms_of arguments.now) }
+    requires row { row < shelf.now.region.rows }
+    requires col { col < shelf.now.region.cols }
+    ensures { IfOk result (λ found. found.items ≡ values (placed_all names.now (terms_of arguments.now)) shelf.now.maps (spot shelf.now.region row col)) }
+{
+    match arguments {
+        Arguments::Empty => Ok(Vec::new(alloc)),
+        Arguments::Then(a, others) => {
+            let first = value(alloc, a, names, shelf, row, col)?;
+            let mut found = values(alloc, others, names, shelf, row, col)?;
+            found.insert(0, first)?;
+            Ok(found)
+        }
+    }
+}

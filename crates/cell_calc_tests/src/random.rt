@@ -1,0 +1,131 @@
+//! Values of random expressions, beside those that the definition gives cell by cell.
+
+use crate::definition::value::value;
+use crate::evaluation::evaluate;
+use crate::tests::{at, expression, number_of, worked_names, worked_shelf};
+use cell_calc::resolve;
+use cell_core::cell::Cell;
+use std::alloc::{AllocGlobal, Global};
+use std::process::Abort;
+use std::test::Fail;
+
+// The operands that an expression ends in, and the least numbers of arguments of functions.
+const OPERANDS: [&str; 13] = [
+    "g",
+    "g[0,1]",
+    "g[-1,-1]",
+    "g[2,0]",
+    "g[1,-3]",
+    "0",
+    "1",
+    "3",
+    "46341",
+    "2147483647",
+    "null()",
+    "row()",
+    "col() * nrows() + ncols()",
+];
+
+const OPERATORS: [&str; 15] = [
+    "*", "/", "%", "+", "-", "<", "<=", ">", ">=", "==", "!=", "&&", "||", "&&&", "|||",
+];
+
+const FUNCTIONS: [(&str, u64); 13] = [
+    ("if", 1),
+    ("if", 2),
+    ("if", 3),
+    ("isnull", 1),
+    ("abs", 1),
+    ("min", 2),
+    ("max", 3),
+    ("mode", 4),
+    ("eval", 2),
+    ("nmin", 3),
+    ("nmax", 2),
+    ("nmode", 5),
+    ("mode", 6),
+];
+
+// The next number of a sequence that looks like chance (Knuth's multiplier).
+fn next_random(seed: &mut u64, count: usize) -> usize {
+    *seed = seed
+        .wrapping_mul(6364136223846793005)
+        .wrapping_add(1442695040888963407);
+    (*seed >> 33) as usize % count.max(1)
+}
+
+fn one_of<'a>(seed: &mut u64, texts: &[&'a str]) -> &'a str {
+    match texts.get(next_random(seed, texts.len())) {
+        Some(text) => *text,
+        None => "1",
+    }
+}
+
+// Writes an expression of at most so many levels; arguments have half of them, so that three keep to 1000 tokens.
+fn write(seed: &mut u64, levels: u32, text: &mut String) -> Result<(), Fail> {
+    if levels == 0 {
+        text.push_str(one_of(seed, &OPERANDS))?;
+        return Ok(());
+    }
+    match next_random(seed, 8) {
+        0 => text.push_str(one_of(seed, &OPERANDS))?,
+        1 => {
+            text.push_str(one_of(seed, &["-", "!"]))?;
+            write(seed, 0, text)?;
+        }
+        2 | 3 | 4 => {
+            text.push('(')?;
+            write(seed, levels - 1, text)?;
+            text.push_str(one_of(seed, &OPERATORS))?;
+            write(seed, levels - 1, text)?;
+            text.push(')')?;
+        }
+        _ => {
+            let (name, count) = match FUNCTIONS.get(next_random(seed, FUNCTIONS.len())) {
+                Some((name, count)) => (*name, *count),
+                None => ("abs", 1),
+            };
+            text.push_str(name)?;
+            text.push('(')?;
+            for i in 0..count {
+                text.push_str(if i == 0 { "" } else { "," })?;
+                write(seed, levels / 2, text)?;
+            }
+            text.push(')')?;
+        }
+    }
+    Ok(())
+}
+
+// The values of an expression by rows are those by the definition.
+fn expect_as_defined<R: Abort + AllocGlobal>(rt: &R, text: &str) -> Result<(), Fail> {
+    let alloc = rt.alloc();
+    let expr = expression(alloc, text.as_bytes())?;
+    let names = worked_names(alloc)?;
+    let shelf = worked_shelf(alloc)?;
+    let bound = resolve(alloc, &expr, &names).map_err(|_| "unknown map")?;
+    if bound.top() > shelf.len() {
+        return Err("no such map".into());
+    }
+    let map = evaluate(alloc, &bound, &shelf).map_err(|_| "no memory")?;
+    let region = shelf.region();
+    for row in 0..region.rows() {
+        for col in 0..region.cols() {
+            let wanted = value(alloc, expr.tree(), &names, &shelf, row, col);
+            let wanted = wanted.map_err(|_| "no memory")?;
+            assert_eq!(rt; at(&map, row, col), number_of(wanted), "{text} {row} {col}");
+        }
+    }
+    Ok(())
+}
+
+#[test]
+fn random_expressions(rt: HostRuntime) -> Result<(), Fail> {
+    let mut seed = 2026u64;
+    for round in 0..400u32 {
+        let mut text = String::new(rt.alloc());
+        write(&mut seed, 1 + round % 3, &mut text)?;
+        expect_as_defined(&rt, text.as_str())?;
+    }
+    Ok(())
+}

@@ -1,0 +1,2 @@
+-- Cells that are reclassed by what is known of them.
+pub mod Known

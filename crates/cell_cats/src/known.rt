@@ -1,0 +1,72 @@
+//! Cells whose new category is known: most runs of a map are of few categories, and need no look at the rules.
+
+ghost use Rattle.std.specs.Prelude.{◌≡◌, ◌<◌, List, IfOk, length};
+ghost use Rattle.cell_cats.specs.Rule.{RuleValue, new_category};
+ghost use Rattle.cell_cats.specs.parts.Known.{AreRight};
+
+use crate::rules::Rules;
+use cell_core::cell::Cell;
+use cell_core::memory::Memory;
+use std::alloc::Global;
+
+// How many cells are known at a time.
+const PLACES: usize = 1024;
+
+// A cell, and what the rules make of it.
+#[derive(Clone, Copy)]
+pub(crate) struct Known {
+    cell: Cell,
+    reclassed: Cell,
+}
+
+// The place of a cell among so many.
+fn place_of(cell: Cell, places: usize) -> usize
+    requires { 0 < places }
+    ensures { result < places }
+{
+    let number = match cell.get() {
+        Some(category) => (i64::from(category) + 2147483648) as usize,
+        None => 0,
+    };
+    number % places
+}
+
+// So many places, in which only null is known: every list of rules keeps it.
+fn places_of(alloc: Global, many: usize) -> Result<Vec<Known>, Memory>
+    requires { 0 < many }
+    ensures some { IfOk result (λ known. 0 < length known.items) }
+    ensures right { IfOk result (λ known. (rules : List RuleValue) → AreRight rules known.items) }
+{
+    let cell = Cell::null();
+    let null = Known {
+        cell,
+        reclassed: cell,
+    };
+    let known = vec![in alloc; null; many]?;
+    Ok(known)
+}
+
+// Places in which only null is known.
+pub(crate) fn only_null(alloc: Global) -> Result<Vec<Known>, Memory>
+    ensures some { IfOk result (λ known. 0 < length known.items) }
+    ensures right { IfOk result (λ known. (rules : List RuleValue) → AreRight rules known.items) }
+{
+    places_of(alloc, PLACES)
+}
+
+// The new category of a cell, which is known from then on.
+pub(crate) fn look_up(rules: &Rules, known: &mut [Known], cell: Cell) -> Cell
+    requires some { 0 < length known.old }
+    requires right { AreRight rules.now known.old }
+    ensures value { result ≡ new_category rules.now cell }
+    ensures right { AreRight rules.now known.new }
+{
+    let at = place_of(cell, known.len());
+    let found = known[at];
+    if found.cell == cell {
+        return found.reclassed;
+    }
+    let reclassed = rules.apply(cell);
+    known[at] = Known { cell, reclassed };
+    reclassed
+}

@@ -1,0 +1,29 @@
+-- What r.stats writes, by the tables of its maps (r.stats manual).
+use Rattle.std.specs.Prelude.{ℕ, ◌≡◌, ◌*◌, true, false, List, [], ◌∷◌, ◌++◌, None, sum_by, decimal}
+use Rattle.std.specs.List.{flat_map}
+use Rattle.cell_core.specs.Shelf.{ShelfValue}
+use Rattle.cell_script.specs.declared.statement.Command.TheVariants.{Stats}
+use Rattle.cell_script.specs.declared.statement.StatsOptions.{StatsOptions}
+use Rattle.cell_stats.specs.Tables.{Pairs, IsTable}
+use Rattle.cell_stats.specs.TableText.{table_text, printed_pairs, line_text, combination_fields}
+use Rattle.cell_stats.specs.declared.skip.Skip.TheVariants.{Nothing}
+use Rattle.rcell.specs.Output.{combinations_of, format_of, command_text}
+
+-- the pairs are a table of the maps at the places
+abbrev pub IsTableOf : ShelfValue → List ℕ → StatsOptions → Pairs → Type 0
+IsTableOf shelf places options pairs = IsTable options.skip (combinations_of shelf places) pairs
+
+-- without `-1`, r.stats writes the printed form of every list that is a table of its maps, or of its rest after a combination; and there is such a list
+abbrev pub TablesArePrinted : Type 0
+TablesArePrinted = (shelf : ShelfValue) (places : List ℕ) (options : StatsOptions) → options.cells ≡ false
+    → ((pairs : Pairs) × IsTableOf shelf places options pairs)
+    × ((pairs : Pairs) → IsTableOf shelf places options pairs
+    → command_text shelf (Stats places options) ≡ table_text (format_of options) shelf.maps places (printed_pairs options.after pairs))
+
+-- with `-c`, and without `-n`, `-N`, `-1` and `after`, r.stats writes a line for each pair of the table, in which its count is the last field, and the counts add up to the cells of the region
+abbrev pub CountsCoverTheRegion : Type 0
+CountsCoverTheRegion = (shelf : ShelfValue) (places : List ℕ) (options : StatsOptions)
+    → options.cells ≡ false → options.counts ≡ true → options.skip ≡ Nothing → options.after ≡ None → (pairs : Pairs) → IsTableOf shelf places options pairs
+    → (command_text shelf (Stats places options)
+    ≡ flat_map (λ pair. line_text (format_of options) (combination_fields (format_of options) shelf.maps places pair.0 ++ decimal pair.1 ∷ [])) pairs)
+    × (sum_by (λ pair. pair.1) pairs ≡ shelf.region.rows * shelf.region.cols)

@@ -1,0 +1,115 @@
+#!/usr/bin/env python3
+"""Uses the program as an enemy would, beside the plain model of tools/model.py: whatever happens, it ends as the model says.
+
+    hostile.py [--short] [--program PATH] [--seed S] [--keep FOLDER] --clang CLANG [PART..]
+
+    growths   each growth of memory refused in turn, over each case: status 3, and what is written is whole statements
+    tests     the same over the built test programs of the crates: each ends by what it returns or asserts
+    reads     each read fails in turn, and reads move pieces of each size from 1 to 70 and a block more or less one
+    writes    the same of writes, and standard error that takes nothing
+    outputs   full, closed and waiting outputs, files limited to each size, a disk that fills
+    inputs    pipes with names, standard input as script and as grid, readers that stop in the middle of a token
+    bytes     each proper prefix of each grid, script, rule block and expression; each byte turned to each of nine others
+    stack     each case on a stack of 64 KiB, the deepest expressions on one of 2 MiB
+    sizes     the greatest inputs
+    memory    the bytes a cell of each command, over patches and over noise
+    times     times at 1,000, 10,000 and 100,000 of each kind of thing: none grows by more than its number
+
+Without names all parts run. With --short each makes a choice of its runs, within a minute. What differs is written to
+FOLDER as a case that can be put under cases/. The last line is 'N passed, M failed'.
+"""
+import argparse
+import os
+import random
+import sys
+import tempfile
+import time
+
+import hostile_bytes
+import hostile_devices
+import hostile_growths
+import hostile_sizes
+from compare import ROOT, Program
+from hostile_cases import Report, cases_of
+
+ALL = 10**9
+
+# What a short run makes of each part.
+SHORT = {"cases": 30, "places": 3, "places_of_long": 2, "changes": 1500, "growths": 2}
+WHOLE = {"cases": ALL, "places": ALL, "places_of_long": 60, "changes": None, "growths": ALL}
+
+
+def some(cases, settings):
+    """All cases, or a choice of them in a short run."""
+    names = settings.random.sample(list(cases.made), min(settings.cases, len(cases.made)))
+    return {name: cases.made[name] for name in sorted(names)}
+
+
+def of_devices(part):
+    return lambda report, program, shims, cases, settings: part(
+        report, hostile_devices.Devices(program, shims["devices"]), some(cases, settings), settings)
+
+
+def of_sizes(part):
+    return lambda report, program, shims, cases, settings: part(report, program, shims["devices"])
+
+
+PARTS = {
+    "growths": lambda report, program, shims, cases, settings: hostile_growths.growths(report, program, shims["refuse"], cases, settings),
+    "tests": lambda report, program, shims, cases, settings: hostile_growths.tests(report, program.room, shims["refuse"], settings),
+    "reads": of_devices(hostile_devices.reads),
+    "writes": of_devices(hostile_devices.writes),
+    "outputs": of_devices(hostile_devices.outputs),
+    "inputs": of_devices(hostile_devices.inputs),
+    "bytes": lambda report, program, shims, cases, settings: hostile_bytes.spoiled(report, program, cases.made, settings),
+    "stack": lambda report, program, shims, cases, settings: hostile_sizes.stack(report, program, cases.made, settings),
+    "sizes": of_sizes(hostile_sizes.greatest),
+    "memory": of_sizes(hostile_sizes.memory),
+    "times": of_sizes(hostile_sizes.growing),
+}
+NOT_SHORT = ("tests", "inputs", "sizes", "memory", "times")
+
+
+def processor_seconds():
+    return sum(os.times()[:4])
+
+
+def settings_of(words):
+    parser = argparse.ArgumentParser(description=__doc__, formatter_class=argparse.RawDescriptionHelpFormatter)
+    parser.add_argument("--short", action="store_true")
+    parser.add_argument("--program", default=f"{ROOT}/bin/rcell")
+    parser.add_argument("--seed", type=int, default=1)
+    parser.add_argument("--keep", default=os.path.join(tempfile.gettempdir(), "rcell-hostile"))
+    parser.add_argument("--clang", required=True)
+    parser.add_argument("parts", nargs="*", metavar="PART")
+    settings = parser.parse_args(words)
+    if set(settings.parts) - set(PARTS):
+        parser.error(f"the parts are {', '.join(PARTS)}")
+    for name, value in (SHORT if settings.short else WHOLE).items():
+        setattr(settings, name, value)
+    settings.random = random.Random(settings.seed)
+    settings.parts = settings.parts or [part for part in PARTS if not settings.short or part not in NOT_SHORT]
+    return settings
+
+
+def main():
+    settings = settings_of(sys.argv[1:])
+    report = Report(os.path.abspath(settings.keep))
+    with tempfile.TemporaryDirectory(prefix="rcell-hostile-", dir="/dev/shm" if os.path.isdir("/dev/shm") else None) as room:
+        shims = {name: f"{room}/{name}.so" for name in ("refuse", "devices")}
+        for name, shim in shims.items():
+            hostile_growths.build_shim(settings.clang, shim, f"{ROOT}/tools/{name}.c")
+        program = Program(settings.program, room)
+        cases = cases_of(f"{room}/cases")
+        for part in settings.parts:
+            begun, spent = time.monotonic(), processor_seconds()
+            PARTS[part](report, program, shims, cases, settings)
+            print(f"{part}: {time.monotonic() - begun:.0f} s, {processor_seconds() - spent:.0f} of a processor", flush=True)
+        os.chdir(ROOT)
+    print(f"{report.runs} runs")
+    print(f"{report.passed} passed, {report.failed} failed")
+    return 1 if report.failed else 0
+
+
+if __name__ == "__main__":
+    sys.exit(main())
