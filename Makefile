@@ -7,7 +7,7 @@
 # make edits     tries the edits of crates/NAME/edits/, which the gate leaves alone: each must be refused
 # make hostile   uses the program as an enemy would: each growth, read, write and byte in turn, and the greatest inputs (an hour)
 # make fuzz      runs it on random input beside a plain model, SECONDS=60 of them, from SEED=
-# make bench     times it beside a yardstick by hand in C++ and prints the tables of docs/SPEED.md; BENCH=--short takes a minute or two
+# make bench     times each task beside a yardstick in C++; BENCH=--short takes two minutes
 # make exchange  holds the program and the documents against GRASS and GDAL, where they are installed
 # make clean     takes away all that was built
 # make help      prints this
