@@ -11,11 +11,10 @@ beyond reading is its time without that of reading the same grids by the same pr
 in bytes a cell of one map.
 
 --short takes grids of a million cells; otherwise they are those that the tables name, written once under bench/out.
---only takes the parts whose title has the word. --write puts the tables into docs/SPEED.md as well.
+--only takes the parts whose title has the word. --write puts what was measured into docs/SPEED.md as well.
 """
 import argparse
 import filecmp
-import itertools
 import os
 import shutil
 import subprocess
@@ -133,6 +132,8 @@ PARTS = {
         Bench("noise, 4 million cells", (("noise", 1),), 2000, CELLS),
     ),
 }
+
+TITLES = (*PARTS, "GRASS")
 
 
 def say(text):
@@ -255,28 +256,42 @@ def grass(grid, program):
     return seconds
 
 
-def part_lines(title, benches, wanted):
+def tables(benches, wanted):
     """The lines of a part of the figures, a table for each bench."""
-    yield f"## {title}"
     for bench in benches:
         side = SHORT_SIDE if wanted.short else bench.side
-        say(f"{title}: {bench.title}")
+        say(f"{bench.title}")
         rows = run(bench, os.path.abspath(wanted.program), wanted.rounds, side)
-        yield ""
         yield bench.title + (" (here 1 million)" if wanted.short and bench.side != SHORT_SIDE else "")
         yield ""
         yield from ("| " + " | ".join(words) + " |" for words in (HEAD, ["---"] * len(HEAD), *rows))
-    yield ""
-
-
-def grass_lines(wanted):
-    """What GRASS takes for one of the tasks, where it is installed."""
-    if shutil.which("grass") and not wanted.only:
-        side = SHORT_SIDE if wanted.short else 5000
-        seconds = grass(grid_file("patchy", 1, side), os.path.abspath(wanted.program))
-        time = seconds * 1000 * MILLION / side / side
-        yield f"GRASS, r.in.ascii and r.stats -c, patchy land cover of {side * side // 1000000} million cells: {time:.0f} ms."
         yield ""
+
+
+def grass_line(wanted):
+    """What GRASS takes for one of the tasks, where it is installed."""
+    if not shutil.which("grass"):
+        return ["Not installed.", ""]
+    side = SHORT_SIDE if wanted.short else 5000
+    seconds = grass(grid_file("patchy", 1, side), os.path.abspath(wanted.program))
+    cells = side * side / MILLION
+    return [f"r.in.ascii and r.stats -c, patchy land cover, {cells:g} million cells: {seconds * 1000 / cells:.0f} ms.", ""]
+
+
+def parts_of(text):
+    """The parts of the figures in the document, by their titles."""
+    return {title: rest for title, _, rest in (part.partition("\n") for part in text.split("\n## ")[1:])}
+
+
+def write(found):
+    """Puts the parts that were measured into the document, in place of the same parts there."""
+    with open(DOCUMENT, encoding="utf-8") as file:
+        before, _, rest = file.read().partition(MARKS[0])
+    old, _, after = rest.partition(MARKS[1])
+    parts = parts_of(old) | found
+    with open(DOCUMENT, "w", encoding="utf-8") as file:
+        figures = "".join(f"\n## {title}\n{parts[title].rstrip()}\n" for title in TITLES if title in parts)
+        file.write(before + MARKS[0] + figures + "\n" + MARKS[1] + after)
 
 
 def main():
@@ -288,16 +303,17 @@ def main():
     parser.add_argument("--write", action="store_true")
     wanted = parser.parse_args()
     build()
-    lines = []
-    parts = [part_lines(*part, wanted) for part in PARTS.items() if wanted.only.lower() in part[0].lower()]
-    for line in itertools.chain(*parts, grass_lines(wanted)):
-        print(line, flush=True)
-        lines.append(line + "\n")
+    found = {}
+    for title in TITLES:
+        if wanted.only.lower() not in title.lower():
+            continue
+        print(f"## {title}\n", flush=True)
+        found[title] = "\n"
+        for line in tables(PARTS[title], wanted) if title in PARTS else grass_line(wanted):
+            print(line, flush=True)
+            found[title] += line + "\n"
     if wanted.write:
-        with open(DOCUMENT, encoding="utf-8") as file:
-            before, _, rest = file.read().partition(MARKS[0])
-        with open(DOCUMENT, "w", encoding="utf-8") as file:
-            file.write(before + MARKS[0] + "\n" + "".join(lines) + MARKS[1] + rest.partition(MARKS[1])[2])
+        write(found)
 
 
 if __name__ == "__main__":
