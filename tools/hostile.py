@@ -1,7 +1,7 @@
 #!/usr/bin/env python3
 """Uses the program as an enemy would, beside the plain model of tools/model.py: whatever happens, it ends as the model says.
 
-    hostile.py [--short] [--program PATH] [--seed S] [--keep FOLDER] --clang CLANG [PART..]
+    hostile.py [--short] [--slice K/N] [--program PATH] [--seed S] [--keep FOLDER] --clang CLANG [PART..]
 
     growths   each growth of memory refused in turn, over each case: status 3, and what is written is whole statements
     tests     the same over the built test programs of the crates: each ends by what it returns or asserts
@@ -81,6 +81,8 @@ def settings_of(words):
     parser.add_argument("--seed", type=int, default=1)
     parser.add_argument("--keep", default=os.path.join(tempfile.gettempdir(), "rcell-hostile"))
     parser.add_argument("--clang", required=True)
+    parser.add_argument("--slice", type=lambda text: tuple(int(number) for number in text.split("/")), default=(1, 1), metavar="K/N",
+                        help="of the part bytes only one in N, beginning with number K")
     parser.add_argument("parts", nargs="*", metavar="PART")
     settings = parser.parse_args(words)
     if set(settings.parts) - set(PARTS):

@@ -8,6 +8,7 @@ from typing import Iterator
 from compare import Program
 from hostile_cases import LONGEST_WHOLE, Made, Report, answer_of_model, with_text
 
+SAID_AT = 10000
 TURNED_TO = [b"\0", b"\n", b"\r", b" ", b"#", b":", b"-", b"9", b"\xff"]
 RULES = re.compile(rb"(?<=\n)(?:[^\n]*\n)*?[ \t\r]*end[ \t\r]*(?:\n|\Z)")
 RECLASS = re.compile(rb"(?:\A|\n)[ \t\r]*r\.reclass[^\n]*(?=\n)")
@@ -73,9 +74,14 @@ def all_changes(cases: dict[str, Made], settings) -> list[Change]:
 def spoiled(report: Report, program: Program, cases: dict[str, Made], settings) -> None:
     """Runs the program and the model over each change, or some of them."""
     changes = all_changes(cases, settings)
-    chosen = changes if settings.changes is None else settings.random.sample(changes, min(settings.changes, len(changes)))
+    place, slices = settings.slice
+    chosen = changes[place - 1 :: slices]
+    if settings.changes is not None:
+        chosen = settings.random.sample(chosen, min(settings.changes, len(chosen)))
     wrong_cases, in_place = set(), ""
-    for change in chosen:
+    for number, change in enumerate(chosen):
+        if number and number % SAID_AT == 0:
+            print(f"bytes: {number} changed texts so far", flush=True)
         made = change.made(cases)
         if change.case != in_place:
             program.put(made)

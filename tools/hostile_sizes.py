@@ -6,6 +6,7 @@ import os
 import random
 import re
 import resource
+import signal
 from dataclasses import dataclass
 from typing import Callable
 
@@ -18,7 +19,8 @@ DEEP_STACK_KIB = 2048  # for expressions that nest hundreds deep, each level of 
 LEAST_STACK_KIB, STACK_STEP_KIB = 16, 8
 MOST_FILES = min(resource.getrlimit(resource.RLIMIT_NOFILE)[1], 200000)
 SPARE_FILES = 16
-MOST_SECONDS = 100  # of a processor
+OUT_OF_TIME = -signal.SIGKILL
+MOST_SECONDS = 30  # of a processor
 MOST_WORDS_KIB = 65536  # the kernel gives a quarter of the stack to the words
 SIZES = (1000, 10000, 100000)
 STEEPEST = 1.5  # the greatest power of the number of things that a time may grow by, once it is longer than this
@@ -231,7 +233,7 @@ def time_of(program: Program, shim: str, kind: Kind, size: int) -> tuple[int, Sp
 
 def is_steep(times: list[tuple[int, Spent]]) -> bool:
     """Whether a time grows much faster than what it is spent on, from one size to the next."""
-    return any(late.seconds > SLOW and math.log(late.seconds / max(early.seconds, 0.001)) > STEEPEST * math.log(more / less)
+    return any(late.status == OUT_OF_TIME or late.seconds > SLOW and math.log(late.seconds / max(early.seconds, 0.001)) > STEEPEST * math.log(more / less)
                for (less, early), (more, late) in zip(times, times[1:]) if more > less)
 
 
@@ -239,10 +241,10 @@ def growing(report: Report, program: Program, shim: str) -> None:
     print(f"{'seconds and MB at':24} {SIZES[0]:>18,} {SIZES[1]:>18,} {SIZES[2]:>18,}, or as many as a script holds")
     for name, kind in KINDS.items():
         times = [time_of(program, shim, kind, size) for size in SIZES]
-        cells = [f"{one.seconds:.2f} {one.kib / 1024:.0f}" + ("" if count == size else f" ({count:,})")
+        cells = [(f"over {MOST_SECONDS} s" if one.status == OUT_OF_TIME else f"{one.seconds:.2f} {one.kib / 1024:.0f}") + ("" if count == size else f" ({count:,})")
                  for size, (count, one) in zip(SIZES, times)]
         print(f"{name:24} {cells[0]:>18} {cells[1]:>18} {cells[2]:>18}", flush=True)
-        bad = [f"status {one.status}, {one.told!r}" for _, one in times if one.status]
+        bad = [f"status {one.status}, {one.told!r}" for _, one in times if one.status not in (0, OUT_OF_TIME)]
         report.runs += len(times)
         if name not in PRODUCTS:
             report.check(f"times of {name}", bad[0] if bad else "more than linear" if is_steep(times) else "")
