@@ -60,7 +60,7 @@ fn digits_of(text: &[u8]) -> Option<u64>
     Some(value_of_digits(text))
 }
 
-// An optional sign and digits. A number out of range is answered by another that is out of range too.
+// An optional sign and digits. A number out of range may come as another that is out of range too.
 fn whole_number(text: &[u8]) -> Option<i64>
     ensures { result ≡ capped_number text.now }
 {

@@ -1,4 +1,4 @@
--- Numbers as they are computed: those above 10^18 are answered by 10^18. Only private functions speak of it.
+-- Numbers as they are computed: those above 10^18 count as 10^18. Only private functions speak of it.
 use Rattle.std.specs.Prelude.{ℕ, ℤ, pos, neg_ℤ, min, ◌==◌, List, [], ◌∷◌, Option, None, if◌then◌else◌}
 use Rattle.std.specs.Option.{option_map}
 use Rattle.cell_text.specs.Digits.{digits_of}
