@@ -35,8 +35,8 @@ from hostile_cases import Report, cases_of
 ALL = 10**9
 
 # What a short run makes of each part.
-SHORT = {"cases": 30, "places": 3, "places_of_long": 2, "changes": 1500, "growths": 2}
-WHOLE = {"cases": ALL, "places": ALL, "places_of_long": 60, "changes": None, "growths": ALL}
+SHORT = {"cases": 30, "longest": 1000, "places": 3, "places_of_long": 2, "changes": 1500, "growths": 2}
+WHOLE = {"cases": ALL, "longest": ALL, "places": ALL, "places_of_long": 60, "changes": None, "growths": ALL}
 
 
 def some(cases, settings):

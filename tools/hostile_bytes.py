@@ -73,6 +73,7 @@ def all_changes(cases: dict[str, Made], settings) -> list[Change]:
 
 def spoiled(report: Report, program: Program, cases: dict[str, Made], settings) -> None:
     """Runs the program and the model over each change, or some of them."""
+    cases = {name: made for name, made in cases.items() if sum(map(len, made.files.values())) <= settings.longest}
     changes = all_changes(cases, settings)
     place, slices = settings.slice
     chosen = changes[place - 1 :: slices]
