@@ -92,29 +92,30 @@ fn expect_cells<R: Abort + AllocGlobal>(
     Ok(())
 }
 
+// The text of each table is the wanted one: by picks, skip, combination that it comes after, and text.
+fn expect_tables<R: Abort + AllocGlobal>(
+    rt: &R,
+    shelf: &Shelf,
+    format: &Format,
+    cases: &[(&[usize], Skip, &[u8], &str)],
+) -> Result<(), Fail> {
+    for (picks, skip, after, wanted) in cases {
+        expect_table(rt, shelf, *picks, *skip, format, *after, *wanted)?;
+    }
+    Ok(())
+}
+
 #[test]
 fn tables_of_one_map(rt: HostRuntime) -> Result<(), Fail> {
     let counts = Format::new(b' ', b"*", false, true);
-    let plain = Format::new(b' ', b"*", false, false);
     let shelf = shelf_of(rt.alloc(), &[&G], 4)?;
-    expect_table(
-        &rt,
-        &shelf,
-        &[0],
-        Skip::Nothing,
-        &counts,
-        b"",
-        "1 5\n2 4\n3 2\n* 1\n",
-    )?;
-    expect_table(
-        &rt,
-        &shelf,
-        &[0],
-        Skip::AnyNull,
-        &counts,
-        b"",
-        "1 5\n2 4\n3 2\n",
-    )?;
+    let cases: [(&[usize], Skip, &[u8], &str); 3] = [
+        (&[0], Skip::Nothing, b"", "1 5\n2 4\n3 2\n* 1\n"),
+        (&[0], Skip::AnyNull, b"", "1 5\n2 4\n3 2\n"),
+        (&[0], Skip::Nothing, b"*", ""),
+    ];
+    expect_tables(&rt, &shelf, &counts, &cases)?;
+    let plain = Format::new(b' ', b"*", false, false);
     expect_table(
         &rt,
         &shelf,
@@ -123,83 +124,94 @@ fn tables_of_one_map(rt: HostRuntime) -> Result<(), Fail> {
         &plain,
         b"",
         "1\n2\n3\n*\n",
-    )?;
-    expect_table(&rt, &shelf, &[0], Skip::Nothing, &counts, b"*", "")?;
+    )
+}
+
+#[test]
+fn tables_of_null(rt: HostRuntime) -> Result<(), Fail> {
+    let counts = Format::new(b' ', b"*", false, true);
     let null = shelf_of(rt.alloc(), &[&[NULL]], 1)?;
-    expect_table(&rt, &null, &[0], Skip::Nothing, &counts, b"", "* 1\n")?;
-    expect_table(&rt, &null, &[0], Skip::AnyNull, &counts, b"", "")?;
-    expect_table(&rt, &null, &[0], Skip::AllNull, &counts, b"", "")
+    let cases: [(&[usize], Skip, &[u8], &str); 3] = [
+        (&[0], Skip::Nothing, b"", "* 1\n"),
+        (&[0], Skip::AnyNull, b"", ""),
+        (&[0], Skip::AllNull, b"", ""),
+    ];
+    expect_tables(&rt, &null, &counts, &cases)
 }
 
 #[test]
 fn tables_of_two_maps(rt: HostRuntime) -> Result<(), Fail> {
     let format = Format::new(b' ', b"*", false, true);
     let shelf = shelf_of(rt.alloc(), &[&G, &X, &AREAS], 4)?;
-    expect_table(
-        &rt,
-        &shelf,
-        &[0, 0],
-        Skip::Nothing,
-        &format,
-        b"",
-        "1 1 5\n2 2 4\n3 3 2\n* * 1\n",
-    )?;
-    expect_table(
-        &rt,
-        &shelf,
-        &[0, 2],
-        Skip::Nothing,
-        &format,
-        b"",
-        "1 1 3\n1 4 2\n2 2 4\n3 3 2\n* * 1\n",
-    )?;
-    expect_table(
-        &rt,
-        &shelf,
-        &[0, 2],
-        Skip::Nothing,
-        &format,
-        b"1,2",
-        "1 4 2\n2 2 4\n3 3 2\n* * 1\n",
-    )?;
-    expect_table(&rt, &shelf, &[0, 2], Skip::Nothing, &format, b"*,*", "")?;
-    expect_table(
-        &rt,
-        &shelf,
-        &[0, 1],
-        Skip::AnyNull,
-        &format,
-        b"",
-        "1 1 2\n1 2 2\n2 2 2\n3 1 1\n3 3 1\n",
-    )?;
-    expect_table(
-        &rt,
-        &shelf,
-        &[0, 1],
-        Skip::AllNull,
-        &format,
-        b"",
-        "1 1 2\n1 2 2\n1 * 1\n2 2 2\n2 * 2\n3 1 1\n3 3 1\n",
-    )?;
-    let rests: [(&[u8], &str); 10] = [
+    let cases: [(&[usize], Skip, &[u8], &str); 16] = [
+        (&[0, 0], Skip::Nothing, b"", "1 1 5\n2 2 4\n3 3 2\n* * 1\n"),
         (
+            &[0, 2],
+            Skip::Nothing,
+            b"",
+            "1 1 3\n1 4 2\n2 2 4\n3 3 2\n* * 1\n",
+        ),
+        (
+            &[0, 2],
+            Skip::Nothing,
+            b"1,2",
+            "1 4 2\n2 2 4\n3 3 2\n* * 1\n",
+        ),
+        (&[0, 2], Skip::Nothing, b"*,*", ""),
+        (
+            &[0, 1],
+            Skip::AnyNull,
+            b"",
+            "1 1 2\n1 2 2\n2 2 2\n3 1 1\n3 3 1\n",
+        ),
+        (
+            &[0, 1],
+            Skip::AllNull,
+            b"",
+            "1 1 2\n1 2 2\n1 * 1\n2 2 2\n2 * 2\n3 1 1\n3 3 1\n",
+        ),
+        (
+            &[0, 1],
+            Skip::Nothing,
             b"",
             "1 1 2\n1 2 2\n1 * 1\n2 2 2\n2 * 2\n3 1 1\n3 3 1\n* * 1\n",
         ),
-        (b"1,1", "1 2 2\n1 * 1\n2 2 2\n2 * 2\n3 1 1\n3 3 1\n* * 1\n"),
-        (b"1,2", "1 * 1\n2 2 2\n2 * 2\n3 1 1\n3 3 1\n* * 1\n"),
-        (b"1,*", "2 2 2\n2 * 2\n3 1 1\n3 3 1\n* * 1\n"),
-        (b"2,1", "2 2 2\n2 * 2\n3 1 1\n3 3 1\n* * 1\n"),
-        (b"2,2", "2 * 2\n3 1 1\n3 3 1\n* * 1\n"),
-        (b"2,*", "3 1 1\n3 3 1\n* * 1\n"),
-        (b"3,1", "3 3 1\n* * 1\n"),
-        (b"3,3", "* * 1\n"),
-        (b"*,*", ""),
+        (
+            &[0, 1],
+            Skip::Nothing,
+            b"1,1",
+            "1 2 2\n1 * 1\n2 2 2\n2 * 2\n3 1 1\n3 3 1\n* * 1\n",
+        ),
+        (
+            &[0, 1],
+            Skip::Nothing,
+            b"1,2",
+            "1 * 1\n2 2 2\n2 * 2\n3 1 1\n3 3 1\n* * 1\n",
+        ),
+        (
+            &[0, 1],
+            Skip::Nothing,
+            b"1,*",
+            "2 2 2\n2 * 2\n3 1 1\n3 3 1\n* * 1\n",
+        ),
+        (
+            &[0, 1],
+            Skip::Nothing,
+            b"2,1",
+            "2 2 2\n2 * 2\n3 1 1\n3 3 1\n* * 1\n",
+        ),
+        (
+            &[0, 1],
+            Skip::Nothing,
+            b"2,2",
+            "2 * 2\n3 1 1\n3 3 1\n* * 1\n",
+        ),
+        (&[0, 1], Skip::Nothing, b"2,*", "3 1 1\n3 3 1\n* * 1\n"),
+        (&[0, 1], Skip::Nothing, b"3,1", "3 3 1\n* * 1\n"),
+        (&[0, 1], Skip::Nothing, b"3,3", "* * 1\n"),
+        (&[0, 1], Skip::Nothing, b"*,*", ""),
     ];
-    for (after, wanted) in rests {
-        expect_table(&rt, &shelf, &[0, 1], Skip::Nothing, &format, after, wanted)?;
-    }
-    Ok(())
+    expect_tables(&rt, &shelf, &format, &cases)
 }
 
 #[test]
@@ -244,35 +256,32 @@ fn labels_and_separators(rt: HostRuntime) -> Result<(), Fail> {
 #[test]
 fn cells_line_by_line(rt: HostRuntime) -> Result<(), Fail> {
     let format = Format::new(b' ', b"*", false, false);
-    let short = shelf_of(rt.alloc(), &[&[5, NULL, 5]], 3)?;
-    expect_cells(&rt, &short, &[0], Skip::Nothing, &format, "5\n*\n5\n")?;
-    expect_cells(&rt, &short, &[0], Skip::AnyNull, &format, "5\n5\n")?;
-    let shelf = shelf_of(rt.alloc(), &[&[1, 1, 2, NULL], &[1, NULL, NULL, NULL]], 2)?;
-    expect_cells(
-        &rt,
-        &shelf,
-        &[0, 1],
-        Skip::Nothing,
-        &format,
-        "1 1\n1 *\n2 *\n* *\n",
-    )?;
-    expect_cells(
-        &rt,
-        &shelf,
-        &[0, 1],
-        Skip::AllNull,
-        &format,
-        "1 1\n1 *\n2 *\n",
-    )?;
     let labels = Format::new(b'|', b"NA", true, true);
-    expect_cells(
-        &rt,
-        &shelf,
-        &[1],
-        Skip::Nothing,
-        &labels,
-        "1|\nNA|no data\nNA|no data\nNA|no data\n",
-    )
+    let one = shelf_of(rt.alloc(), &[&[5, NULL, 5]], 3)?;
+    let two = shelf_of(rt.alloc(), &[&[1, 1, 2, NULL], &[1, NULL, NULL, NULL]], 2)?;
+    let cases: [(&Shelf, &[usize], Skip, &Format, &str); 5] = [
+        (&one, &[0], Skip::Nothing, &format, "5\n*\n5\n"),
+        (&one, &[0], Skip::AnyNull, &format, "5\n5\n"),
+        (
+            &two,
+            &[0, 1],
+            Skip::Nothing,
+            &format,
+            "1 1\n1 *\n2 *\n* *\n",
+        ),
+        (&two, &[0, 1], Skip::AllNull, &format, "1 1\n1 *\n2 *\n"),
+        (
+            &two,
+            &[1],
+            Skip::Nothing,
+            &labels,
+            "1|\nNA|no data\nNA|no data\nNA|no data\n",
+        ),
+    ];
+    for (shelf, picks, skip, format, wanted) in cases {
+        expect_cells(&rt, shelf, picks, skip, format, wanted)?;
+    }
+    Ok(())
 }
 
 #[test]
