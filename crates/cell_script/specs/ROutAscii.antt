@@ -1,7 +1,7 @@
 -- r.out.ascii: the grid text that its options ask for (r.out.ascii manual).
 use Rattle.std.specs.Prelude.{ℕ, List, Result, Ok, unwrap_or}
 use Rattle.cell_core.specs.Name.{place_of}
-use Rattle.cell_ascii.specs.GridWords.{usual_null}
+use Rattle.cell_ascii_text.specs.GridWords.{usual_null}
 use Rattle.cell_script.specs.Options.{Given, and_then, options_of, needed, known_place}
 use Rattle.cell_script.specs.declared.fault.ScriptKind.{ScriptKind}
 use Rattle.cell_script.specs.declared.options.Form.TheVariants as form

@@ -2,7 +2,7 @@
 use Rattle.std.specs.Prelude.{ℕ, Bool, ◌&&◌, ◌||◌, List, [], ◌∷◌, length, Option, Some, None, is_some, Result, Ok, Err, if◌then◌else◌, unwrap_or}
 use Rattle.std.specs.Option.{option_map, option_and_then}
 use Rattle.cell_core.specs.Name.{place_of}
-use Rattle.cell_ascii.specs.GridWords.{usual_null}
+use Rattle.cell_ascii_text.specs.GridWords.{usual_null}
 use Rattle.cell_stats.specs.Combinations.{Combination}
 use Rattle.cell_stats.specs.ComboText.{combo_of}
 use Rattle.cell_stats.specs.declared.reading.ComboFault.{ComboFault}

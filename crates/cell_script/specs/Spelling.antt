@@ -1,6 +1,6 @@
 -- Which lines spell which commands over known maps (GRASS manual: r.mapcalc, r.reclass, r.clump, r.stats, r.out.ascii; that each map read is known and each map made is new is the profile's).
 use Rattle.std.specs.Prelude.{ℕ, ◌≡◌, ⊤, false, List, ◌∷◌, length, Option, Some, None, Ok, codes, unwrap_or}
-use Rattle.cell_ascii.specs.GridWords.{usual_null}
+use Rattle.cell_ascii_text.specs.GridWords.{usual_null}
 use Rattle.cell_calc.specs.Binding.{placed}
 use Rattle.cell_calc.specs.Formula.{Formula}
 use Rattle.cell_clump.specs.declared.clump.Joining.{Joining}

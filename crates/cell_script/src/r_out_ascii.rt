@@ -1,7 +1,7 @@
 //! The words of r.out.ascii.
 
 ghost use Rattle.std.specs.Prelude.{◌≡◌, ◌≢◌, IfOk, IfErr, Ok, Err, map, unwrap_or};
-ghost use Rattle.cell_ascii.specs.Header.{usual_null};
+ghost use Rattle.cell_ascii_text.specs.Header.{usual_null};
 ghost use Rattle.cell_script.specs.ROutAscii.{out_ascii_of};
 ghost use Rattle.cell_script.specs.Scripts.{FitsCommand};
 

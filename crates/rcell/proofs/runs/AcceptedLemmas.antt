@@ -8,9 +8,9 @@ use Rattle.cell_core.specs.Device.{Coming}
 use Rattle.cell_core.specs.Grid.{Grid}
 use Rattle.cell_core.specs.Name.{place_of, AreDistinct}
 use Rattle.cell_core.specs.Shelf.{ShelfValue}
-use Rattle.cell_ascii.specs.Cells.{grid_of}
-use Rattle.cell_ascii.specs.GridText.{Denotes}
-use Rattle.cell_ascii.proofs.GridLawLemmas.{reading_agrees}
+use Rattle.cell_ascii_text.specs.Cells.{grid_of}
+use Rattle.cell_ascii_text.specs.GridText.{Denotes}
+use Rattle.cell_ascii_law.proofs.GridLawLemmas.{reading_agrees}
 use Rattle.rcell.proofs.runs.LoadingLemmas.{added-same}
 use Rattle.rcell.specs.runs.Accepted.{AllDenote, AreGrids, IsAccepted}
 use Rattle.rcell.specs.Making.{with_map}

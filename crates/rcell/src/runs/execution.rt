@@ -1,7 +1,7 @@
 //! Statements are executed in order: those that make maps put them on the shelf, the others write their text.
 
 ghost use Rattle.std.specs.Prelude.{◌≡◌, ◌||◌, [], length, OnOk, IfOk, IfErr, true};
-ghost use Rattle.cell_ascii.specs.Writing.{grid_text, IsNullText};
+ghost use Rattle.cell_ascii_text.specs.Writing.{grid_text, IsNullText};
 ghost use Rattle.cell_core.specs.Device.{append_known};
 ghost use Rattle.cell_core.specs.Blocks.{capped};
 ghost use Rattle.cell_script.specs.Known.{known_after};
