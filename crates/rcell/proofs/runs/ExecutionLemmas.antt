@@ -9,7 +9,7 @@ use Rattle.cell_core.specs.Grid.{Grid}
 use Rattle.cell_core.specs.Shelf.{ShelfValue}
 use Rattle.cell_core.specs.Blocks.{BlockValue, Gathered, IsPut, Gathers, PutsAll, CutsOff, capped}
 use Rattle.cell_script.specs.Known.{known_after}
-use Rattle.cell_script.specs.Scripts.{Fits, FitsCommand}
+use Rattle.cell_script.specs.Fitting.{Fits, FitsCommand}
 use Rattle.cell_script.specs.declared.statement.Command.{Command}
 use Rattle.cell_script.specs.declared.statement.Command.TheVariants.{Stats, OutAscii}
 use Rattle.cell_script.specs.declared.statement.Statement.{Statement}
