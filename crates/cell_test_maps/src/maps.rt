@@ -9,7 +9,7 @@ use cell_core::region::Region;
 use std::alloc::Global;
 
 /// What stands for null in a list: the number that is no category.
-pub(crate) const NULL: i32 = i32::MIN;
+pub const NULL: i32 = i32::MIN;
 
 fn cells_of(alloc: Global, categories: &[i32]) -> Result<Vec<Cell>, Memory> {
     let mut cells = Vec::new(alloc);
@@ -20,11 +20,7 @@ fn cells_of(alloc: Global, categories: &[i32]) -> Result<Vec<Cell>, Memory> {
 }
 
 /// The map of these categories in rows of so many columns, or None where they fill no map.
-pub(crate) fn map_of(
-    alloc: Global,
-    categories: &[i32],
-    cols: u32,
-) -> Result<Option<CellMap>, Memory>
+pub fn map_of(alloc: Global, categories: &[i32], cols: u32) -> Result<Option<CellMap>, Memory>
     requires { 0 < cols }
 {
     let rows = u32::try_from(categories.len() / cols as usize).unwrap_or(0);
@@ -46,7 +42,7 @@ pub(crate) fn map_of(
 }
 
 /// The categories of a map.
-pub(crate) fn categories_of(alloc: Global, map: &CellMap) -> Result<Vec<i32>, Memory> {
+pub fn categories_of(alloc: Global, map: &CellMap) -> Result<Vec<i32>, Memory> {
     let region = map.region();
     let mut buffer = vec![in alloc; Cell::null(); region.cols() as usize]?;
     let row = buffer.as_mut_slice();

@@ -1,5 +1,5 @@
 use Rattle.std.proofs.Common.{◌≡◌}
-use Rattle.cell_clump_tests.proofs.maps.map_of.Given as goal
+use Rattle.cell_test_maps.proofs.maps.map_of.Given as goal
 
 abbrev pub invariant-loop-row : goal.invariant-loop-row
 invariant-loop-row l =
