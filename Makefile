@@ -17,8 +17,8 @@ DESTDIR ?=
 JOBS ?=
 
 # What the program is built from: neither tests nor the edits that must fail.
-CRATES = $(filter-out %_tests,$(wildcard crates/*))
-SOURCES = crates.txt $(shell find $(wildcard $(CRATES:%=%/src) $(CRATES:%=%/specs) $(CRATES:%=%/proofs)) -type f ! -name tests.rt)
+CRATES = $(filter-out %_tests %/cell_test_maps,$(wildcard crates/*))
+SOURCES = crates.txt $(shell find $(wildcard $(CRATES:%=%/src) $(CRATES:%=%/specs) $(CRATES:%=%/proofs)) -type f)
 
 .PHONY: all install uninstall example documents check edits hostile fuzz bench exchange clean help
 

@@ -19,6 +19,7 @@ MOST_GROWTHS = 2000  # of a test that grows more often, some are chosen
 SECONDS_OF_CHOICE = 60  # and as many as so much time allows
 PASSED, FAILED = 0, 101  # how a test ends that returned
 ASSERTED = -signal.SIGABRT  # how one ends in which an assertion did not hold, and says so
+FIRST_REFUSED = b"rcell: arguments:0: no memory\n"  # the first growth is that of the words
 TEST = re.compile(r"^(\S+): test$", re.M)
 
 
@@ -42,6 +43,9 @@ def wrong_growth(program: Program, made: Made, expected: model.Answer, shim: str
     plain, asked = program.answer_refused(made.words, shim, 0)
     if plain != expected:
         return f"{plain}, and not {expected}", 0
+    first, _ = program.answer_refused(made.words, shim, 1)
+    if (first.status, first.output, first.told) != (3, b"", FIRST_REFUSED):
+        return f"with the first growth refused: {first}", 0
     refused = 0
     for at in numbers(settings, asked):
         got, asked = program.answer_refused(made.words, shim, at)

@@ -3,14 +3,14 @@ use Rattle.std.proofs.Common.{◌≡◌, ℕ, suc, [], ◌∷◌, ◌++◌, appe
 use Rattle.std.specs.Option.{option_map}
 use Rattle.cell_core.specs.Device.{Coming}
 use Rattle.cell_core.specs.Grid.{CellValue}
-use Rattle.cell_ascii.specs.Ahead.{Ahead}
-use Rattle.cell_ascii.specs.Words.{Start, Begins, Ends, Stops, start_of, word_from}
-use Rattle.cell_ascii.specs.Header.{◌>>=◌, At, Header, at_line}
-use Rattle.cell_ascii.specs.Cells.{Reading, after_start, after_word, after_cell, cell_from, cell_of_word, at_of, many}
+use Rattle.cell_ascii_header.specs.Ahead.{Ahead}
+use Rattle.cell_ascii_text.specs.Words.{Start, Begins, Ends, Stops, start_of, word_from}
+use Rattle.cell_ascii_text.specs.Header.{◌>>=◌, At, Header, at_line}
+use Rattle.cell_ascii_text.specs.Cells.{Reading, after_start, after_word, after_cell, cell_from, cell_of_word, at_of, many}
 use Rattle.cell_ascii.specs.Reader.{Place, token_of, token_seen, reading_seen}
-use Rattle.cell_ascii.specs.declared.fault.GridFault.{GridFault}
-use Rattle.cell_ascii.specs.declared.fault.GridKind.{GridKind}
-use Rattle.cell_ascii.proofs.MapLemmas.{then_map, map_same}
+use Rattle.cell_ascii_text.specs.declared.fault.GridFault.{GridFault}
+use Rattle.cell_ascii_text.specs.declared.fault.GridKind.{GridKind}
+use Rattle.cell_ascii_header.proofs.MapLemmas.{then_map, map_same}
 
 -- where a cell leaves a reader
 abbrev pub place_after : Header → ℕ → Ahead → Place

@@ -3,19 +3,19 @@ use Rattle.std.proofs.Common.{◌≡◌, ℕ, ◌-◌, ◌<◌, [], List, Option
 use Rattle.std.specs.Option.{option_map, IfSome}
 use Rattle.cell_core.specs.Device.{Coming}
 use Rattle.cell_core.specs.Grid.{CellValue, Grid, no_labels}
-use Rattle.cell_ascii.specs.Words.{start_of}
-use Rattle.cell_ascii.specs.Header.{◌>>=◌, At, at_line, Header, Keys, no_keys, header_of, header_from, header_of_text}
-use Rattle.cell_ascii.specs.Cells.{Reading, cell_from, many, end_of, data_from, grid_of}
+use Rattle.cell_ascii_text.specs.Words.{start_of}
+use Rattle.cell_ascii_text.specs.Header.{◌>>=◌, At, at_line, Header, Keys, no_keys, header_of, header_from, header_of_text}
+use Rattle.cell_ascii_text.specs.Cells.{Reading, cell_from, many, end_of, data_from, grid_of}
 use Rattle.cell_ascii.specs.Reader.{rows_from}
-use Rattle.cell_ascii.specs.Places.{opening_fault}
-use Rattle.cell_ascii.specs.RowPlaces.{IsPlaceOf, end_fault}
+use Rattle.cell_ascii_text.specs.Places.{opening_fault}
+use Rattle.cell_ascii_text.specs.RowPlaces.{IsPlaceOf, end_fault}
 use Rattle.cell_ascii.specs.GridReaders.{ReaderValue, place_in, opened_in, fault_of}
-use Rattle.cell_ascii.specs.Opening.{header_seen}
-use Rattle.cell_ascii.specs.Ahead.{to_come}
-use Rattle.cell_ascii.specs.declared.fault.GridFault.{GridFault}
-use Rattle.cell_ascii.proofs.MapLemmas.{known}
+use Rattle.cell_ascii_header.specs.Opening.{header_seen}
+use Rattle.cell_ascii_header.specs.Ahead.{to_come}
+use Rattle.cell_ascii_text.specs.declared.fault.GridFault.{GridFault}
+use Rattle.cell_ascii_header.proofs.MapLemmas.{known}
 use Rattle.cell_ascii.proofs.CellLemmas.{with_front, more_fails}
-use Rattle.cell_ascii.proofs.GridFaultLemmas.{opening_agrees, opening_keeps_places}
+use Rattle.cell_ascii_faults.proofs.GridFaultLemmas.{opening_agrees, opening_keeps_places}
 use Rattle.cell_ascii.proofs.RowReadLemmas.{implied, rows_kept, end_is}
 
 abbrev then_end : Reading (List (List CellValue)) → Result (List (List CellValue)) GridFault

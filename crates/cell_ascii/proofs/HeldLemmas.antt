@@ -4,16 +4,16 @@ use Rattle.std.specs.Prelude.{◌==◌, ◌&&◌, neg_ℤ, slice_index_or}
 use Rattle.std.specs.List.{list_all}
 use Rattle.std.proofs.lemmas.Bool.Decides.{nat_tests}
 use Rattle.cell_core.specs.Grid.{CellValue}
-use Rattle.cell_ascii.specs.Words.{is_space, is_word, word_from}
-use Rattle.cell_ascii.specs.Numbers.{is_digit, value_of_digits, digits_of, whole_number}
-use Rattle.cell_ascii.specs.Header.{Header}
-use Rattle.cell_ascii.specs.Cells.{cell_from, cell_of_word, after_start, after_word, after_cell, at_of}
+use Rattle.cell_ascii_text.specs.Words.{is_space, is_word, word_from}
+use Rattle.cell_ascii_text.specs.Numbers.{is_digit, value_of_digits, digits_of, whole_number}
+use Rattle.cell_ascii_text.specs.Header.{Header}
+use Rattle.cell_ascii_text.specs.Cells.{cell_from, cell_of_word, after_start, after_word, after_cell, at_of}
 use Rattle.cell_ascii.specs.Held.{HoldsWord, IsNumeral, held_word}
 use Rattle.std.proofs.lemmas.List.{take-append-drop}
 use Rattle.std.proofs.Math.Nat.{pow-le-pow_right}
 use Rattle.std.proofs.Math.Seq.{take-length}
-use Rattle.cell_ascii.proofs.DigitLemmas.{value_below}
-use Rattle.cell_ascii.proofs.StartLemmas.{start-next, start-begins, word-stops, word-more}
+use Rattle.cell_ascii_header.proofs.DigitLemmas.{value_below}
+use Rattle.cell_ascii_header.proofs.StartLemmas.{start-next, start-begins, word-stops, word-more}
 
 both : (a b : Bool) → (a && b) ≡ true → (a ≡ true) × (b ≡ true)
 both true b e = (refl, e)

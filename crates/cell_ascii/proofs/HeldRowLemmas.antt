@@ -5,9 +5,9 @@ use Rattle.std.proofs.Math.Seq.{take-append-add, drop-append-add}
 use Rattle.std.proofs.lemmas.List.{drop_all, drop-drop, take-append-le}
 use Rattle.cell_core.specs.Device.{Coming}
 use Rattle.cell_core.specs.Grid.{CellValue}
-use Rattle.cell_ascii.specs.Ahead.{before_coming}
-use Rattle.cell_ascii.specs.Header.{◌>>=◌, Header}
-use Rattle.cell_ascii.specs.Cells.{Reading, cell_from, at_of, many}
+use Rattle.cell_ascii_header.specs.Ahead.{before_coming}
+use Rattle.cell_ascii_text.specs.Header.{◌>>=◌, Header}
+use Rattle.cell_ascii_text.specs.Cells.{Reading, cell_from, at_of, many}
 use Rattle.cell_ascii.specs.Held.{HoldsCell, HoldsCells, run_after}
 use Rattle.cell_ascii.proofs.RowReadLemmas.{many_more, snoc, with_last}
 

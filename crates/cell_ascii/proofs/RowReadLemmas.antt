@@ -3,18 +3,18 @@ use Rattle.std.proofs.Common.{◌≡◌, ℕ, zero, suc, ◌+◌, ◌-◌, ◌*�
 use Rattle.std.specs.Option.{option_map, IfSome}
 use Rattle.cell_core.specs.Device.{Coming}
 use Rattle.cell_core.specs.Grid.{CellValue}
-use Rattle.cell_ascii.specs.Words.{start_of}
-use Rattle.cell_ascii.specs.Header.{◌>>=◌, At, Header, header_of_text}
-use Rattle.cell_ascii.specs.Cells.{Reading, cell_from, many, end_of}
-use Rattle.cell_ascii.specs.RowPlaces.{IsPlaceOf, cells_fault, end_fault}
+use Rattle.cell_ascii_text.specs.Words.{start_of}
+use Rattle.cell_ascii_text.specs.Header.{◌>>=◌, At, Header, header_of_text}
+use Rattle.cell_ascii_text.specs.Cells.{Reading, cell_from, many, end_of}
+use Rattle.cell_ascii_text.specs.RowPlaces.{IsPlaceOf, cells_fault, end_fault}
 use Rattle.cell_ascii.specs.Reader.{always}
 use Rattle.cell_ascii.specs.GridReaders.{fault_of, IsCutRow}
-use Rattle.cell_ascii.specs.declared.fault.GridFault.{GridFault}
-use Rattle.cell_ascii.proofs.PlaceDataLemmas.{fault_in}
-use Rattle.cell_ascii.proofs.RowPlaceLemmas.{cells_told, end_told}
-use Rattle.cell_ascii.proofs.PlaceKeptLemmas.{cells_kept}
-use Rattle.cell_ascii.proofs.GridFaultLemmas.{opening_keeps_places}
-use Rattle.cell_ascii.proofs.MapLemmas.{then_map, map_same}
+use Rattle.cell_ascii_text.specs.declared.fault.GridFault.{GridFault}
+use Rattle.cell_ascii_faults.proofs.PlaceDataLemmas.{fault_in}
+use Rattle.cell_ascii_faults.proofs.RowPlaceLemmas.{cells_told, end_told}
+use Rattle.cell_ascii_faults.proofs.PlaceKeptLemmas.{cells_kept}
+use Rattle.cell_ascii_faults.proofs.GridFaultLemmas.{opening_keeps_places}
+use Rattle.cell_ascii_header.proofs.MapLemmas.{then_map, map_same}
 
 -- what a known source gives, gives more
 pub implied : {A : Type 0} (P Q : A → Type 0) (a : Option A) → ((c : A) → P c → Q c) → IfSome a P → IfSome a Q

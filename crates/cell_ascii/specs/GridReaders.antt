@@ -2,11 +2,11 @@
 use Rattle.std.specs.Prelude.{ℕ, ◌≡◌, ◌<◌, Bool, List, length, take, drop, Option, Some, None, Result, Ok, Err}
 use Rattle.cell_core.specs.Device.{Coming}
 use Rattle.cell_core.specs.Grid.{CellValue}
-use Rattle.cell_ascii.specs.Header.{At, Header, Opened}
-use Rattle.cell_ascii.specs.Cells.{cell_from, many}
-use Rattle.cell_ascii.specs.Words.{fault}
-use Rattle.cell_ascii.specs.declared.fault.GridKind.TheVariants.{Failed}
-use Rattle.cell_ascii.specs.declared.fault.GridFault.{GridFault}
+use Rattle.cell_ascii_text.specs.Header.{At, Header, Opened}
+use Rattle.cell_ascii_text.specs.Cells.{cell_from, many}
+use Rattle.cell_ascii_text.specs.Words.{fault}
+use Rattle.cell_ascii_text.specs.declared.fault.GridKind.TheVariants.{Failed}
+use Rattle.cell_ascii_text.specs.declared.fault.GridFault.{GridFault}
 
 -- what the header says, how many rows are still to come, a first token of the data that is not yet judged, the line,
 -- the length of the run of blanks and line feeds, whether it has failed, and the bytes to come where they are known

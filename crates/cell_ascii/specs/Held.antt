@@ -3,11 +3,11 @@ use Rattle.std.specs.Prelude.{ℕ, zero, suc, ◌-◌, ◌≡◌, ◌<◌, ◌�
 use Rattle.std.specs.List.{list_all}
 use Rattle.cell_core.specs.Device.{Coming}
 use Rattle.cell_core.specs.Grid.{CellValue}
-use Rattle.cell_ascii.specs.Ahead.{before_coming}
-use Rattle.cell_ascii.specs.Words.{is_space}
-use Rattle.cell_ascii.specs.Numbers.{is_digit, value_of_digits}
-use Rattle.cell_ascii.specs.Header.{Header}
-use Rattle.cell_ascii.specs.Cells.{cell_from, cell_of_word, at_of, many}
+use Rattle.cell_ascii_header.specs.Ahead.{before_coming}
+use Rattle.cell_ascii_text.specs.Words.{is_space}
+use Rattle.cell_ascii_text.specs.Numbers.{is_digit, value_of_digits}
+use Rattle.cell_ascii_text.specs.Header.{Header}
+use Rattle.cell_ascii_text.specs.Cells.{cell_from, cell_of_word, at_of, many}
 
 -- whatever comes behind these bytes, the next cell is this one and takes the first n of them
 abbrev pub HoldsCell : Header → List ℕ → CellValue → ℕ → Type 0

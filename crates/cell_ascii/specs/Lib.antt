@@ -1,23 +1,4 @@
--- Grid texts: what they mean, which fault they tell, how they are read and written.
-pub mod Words
-pub mod Writing
-pub mod WrittenRuns
-pub mod Numbers
-pub mod KeyNames
-pub mod Header
-pub mod Cells
-pub mod GridWords
-pub mod GridText
-pub mod GridLaw
-pub mod Places
-pub mod RowPlaces
-pub mod Capped
-pub mod Given
-pub mod Kinds
-pub mod Ahead
-pub mod Scan
-pub mod Steps
-pub mod Opening
-pub mod Reader
+-- Open readers of grid texts, and cells whose bytes are held.
 pub mod GridReaders
+pub mod Reader
 pub mod Held

@@ -2,14 +2,14 @@
 use Rattle.std.specs.Prelude.{ℕ, ◌≡◌, ◌+◌, ◌*◌, ◌^◌, ◌<◌, Bool, false, List, [], Option, None, Result, Ok, Err, IfSome}
 use Rattle.cell_core.specs.Device.{Coming}
 use Rattle.cell_core.specs.Grid.{CellValue}
-use Rattle.cell_ascii.specs.Ahead.{Ahead, to_come}
-use Rattle.cell_ascii.specs.Words.{Start, Begins, Ends, Stops, word_from, fault}
-use Rattle.cell_ascii.specs.Header.{◌>>=◌, At, Header, Opened}
-use Rattle.cell_ascii.specs.Cells.{Reading, cell_from, many}
-use Rattle.cell_ascii.specs.RowPlaces.{IsPlaceOf}
+use Rattle.cell_ascii_header.specs.Ahead.{Ahead, to_come}
+use Rattle.cell_ascii_text.specs.Words.{Start, Begins, Ends, Stops, word_from, fault}
+use Rattle.cell_ascii_text.specs.Header.{◌>>=◌, At, Header, Opened}
+use Rattle.cell_ascii_text.specs.Cells.{Reading, cell_from, many}
+use Rattle.cell_ascii_text.specs.RowPlaces.{IsPlaceOf}
 use Rattle.cell_ascii.specs.GridReaders.{ReaderValue, place_in}
-use Rattle.cell_ascii.specs.declared.fault.GridKind.TheVariants.{TooFew}
-use Rattle.cell_ascii.specs.declared.fault.GridFault.{GridFault}
+use Rattle.cell_ascii_text.specs.declared.fault.GridKind.TheVariants.{TooFew}
+use Rattle.cell_ascii_text.specs.declared.fault.GridFault.{GridFault}
 
 -- the header, a first word that is not yet judged, the line, the length of the run of blanks and line feeds, and the bytes ahead
 pub record Place : Type 0 where

@@ -2,11 +2,11 @@
 
 ghost use Rattle.std.specs.Prelude.{◌≡◌, ◌<◌, ◌≤◌, pos, neg_ℤ, length, take, drop, Some, IfSome};
 ghost use Rattle.cell_ascii.specs.Held.{HoldsCell, HoldsCells, HoldsWord, IsNumeral, held_word};
-ghost use Rattle.cell_ascii.specs.Numbers.{whole_number};
+ghost use Rattle.cell_ascii_text.specs.Numbers.{whole_number};
 
-use crate::header::Header;
-use crate::number::is_digit;
-use crate::scanner::is_space;
+use cell_ascii_header::header::Header;
+use cell_ascii_header::number::is_digit;
+use cell_ascii_header::scanner::is_space;
 use cell_core::cell::Cell;
 
 // So many digits fit 32 bits, whatever they are.

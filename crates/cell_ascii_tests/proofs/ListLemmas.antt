@@ -2,8 +2,8 @@
 use Rattle.std.proofs.Common.{◌≡◌, ℕ, suc, ◌-◌, not, List, [], ◌∷◌, ◌++◌, length, map, take, drop, refl, ap, sym, ◌∙◌, arith, Bor}
 use Rattle.std.specs.List.{filter, flat_map, prefix_len}
 use Rattle.std.proofs.lemmas.List.{take-map, drop-map, map-append}
-use Rattle.cell_ascii.specs.GridText.{words_of, lines_of, line_words, is_data_line, is_header_line, header_lines, data_words}
-use Rattle.cell_ascii.specs.Places.{last_of, front_of}
+use Rattle.cell_ascii_text.specs.GridText.{words_of, lines_of, line_words, is_data_line, is_header_line, header_lines, data_words}
+use Rattle.cell_ascii_text.specs.Places.{last_of, front_of}
 use Rattle.cell_ascii_tests.specs.Seen.{texts, words_of_each}
 
 last_of-end : {X : Type 0} (ps : List (List X)) (p : List X) → last_of (ps ++ p ∷ []) ≡ p

@@ -1,11 +1,11 @@
 -- What a place tells, from what is known of the bytes before it.
 use Rattle.std.proofs.Common.{◌≡◌, ℕ, Bool, List, ap, ◌∙◌, Bor, Option, Result}
 use Rattle.std.specs.Option.{option_map}
-use Rattle.cell_ascii.specs.Words.{fault}
-use Rattle.cell_ascii.specs.Header.{Header}
-use Rattle.cell_ascii.specs.GridText.{words_of, lines_of, line_words, data_words}
-use Rattle.cell_ascii.specs.Places.{Place, Table, last_of, front_of, line_of, gap_of, token_of, in_header_line, header_in, told}
-use Rattle.cell_ascii.specs.declared.fault.GridKind.{GridKind}
+use Rattle.cell_ascii_text.specs.Words.{fault}
+use Rattle.cell_ascii_text.specs.Header.{Header}
+use Rattle.cell_ascii_text.specs.GridText.{words_of, lines_of, line_words, data_words}
+use Rattle.cell_ascii_text.specs.Places.{Place, Table, last_of, front_of, line_of, gap_of, token_of, in_header_line, header_in, told}
+use Rattle.cell_ascii_text.specs.declared.fault.GridKind.{GridKind}
 use Rattle.cell_ascii_tests.specs.Seen.{texts, words_of_each}
 use Rattle.cell_ascii_tests.proofs.ListLemmas.{text_lines, last_words}
 

@@ -1,8 +1,8 @@
 -- What the program holds, as the definitions speak of it.
 use Rattle.std.specs.Prelude.{ℕ, List, map}
 use denote.Ref.{Bor}
-use Rattle.cell_ascii.specs.GridText.{words_of}
-use Rattle.cell_ascii.specs.Places as places
+use Rattle.cell_ascii_text.specs.GridText.{words_of}
+use Rattle.cell_ascii_text.specs.Places as places
 use Rattle.cell_ascii_tests.specs.declared.definition.place.Place.{Place}
 use Rattle.cell_ascii_tests.specs.declared.definition.place.Place.TheVariants.{Byte, End, Fails}
 

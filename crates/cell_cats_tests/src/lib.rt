@@ -4,6 +4,4 @@
 #[cfg(test)]
 mod lines;
 #[cfg(test)]
-mod maps;
-#[cfg(test)]
 mod worked;

@@ -3,8 +3,9 @@
 ghost use Rattle.std.specs.Prelude.{◌<◌};
 
 use crate::flood::numbers_by_flood;
-use crate::maps::{NULL, expect_numbers};
+use crate::maps::expect_numbers;
 use cell_clump::clump::Joining;
+use cell_test_maps::maps::NULL;
 use std::alloc::AllocGlobal;
 use std::process::Abort;
 use std::test::Fail;

@@ -2,8 +2,8 @@
 
 ghost use Rattle.std.specs.Prelude.{◌<◌};
 
-use crate::maps::NULL;
 use cell_core::memory::Memory;
+use cell_test_maps::maps::NULL;
 use std::alloc::Global;
 
 // Whether two places of a map of so many columns are adjacent, by edges, or also by corners.

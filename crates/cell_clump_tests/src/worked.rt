@@ -2,11 +2,12 @@
 
 ghost use Rattle.std.specs.Prelude.{◌<◌, IfOk};
 
-use crate::maps::{NULL, expect_numbers};
+use crate::maps::expect_numbers;
 use cell_clump::clump::{Joining, clump};
 use cell_core::cell::Cell;
 use cell_core::map::MapBuilder;
 use cell_core::region::Region;
+use cell_test_maps::maps::NULL;
 use std::alloc::Global;
 use std::test::Fail;
 

@@ -7,7 +7,8 @@ use Rattle.cell_language.specs.Tokens.{token_list}
 use Rattle.cell_language.specs.declared.assignment.Assignment.{Assignment}
 use Rattle.cell_language.specs.declared.fault.CalcFault.{CalcFault}
 use Rattle.cell_language.specs.declared.token.Placed.{Placed}
-use Rattle.cell_script.specs.RMapcalc.{mapcalc_of, IsMapcalc, assignment_text}
+use Rattle.cell_script.specs.Commands.{mapcalc_of, IsMapcalc}
+use Rattle.cell_script.specs.RMapcalc.{assignment_text}
 use Rattle.cell_script.specs.declared.fault.ScriptKind.{ScriptKind}
 use Rattle.cell_script.specs.declared.heads.Head.{Head}
 

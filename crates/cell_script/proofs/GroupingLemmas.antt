@@ -12,12 +12,13 @@ use Rattle.cell_cats.specs.declared.rules.LineKind.TheVariants as line_kind
 use Rattle.cell_cats.specs.declared.rules.RuleFault.{RuleFault}
 use Rattle.cell_text.specs.Blanks.{trimmed}
 use Rattle.cell_script.specs.Commands.{IsHead}
-use Rattle.cell_script.specs.Grouping.{Line, numbered, IsSkipped, IsEnd, SpellsRule, AreRules, Group, IsGrouped}
-use Rattle.cell_script.specs.Grouping as grouping
+use Rattle.cell_script.specs.Lines.{Line, numbered, IsSkipped, script_lines}
+use Rattle.cell_script.specs.RReclass.{IsEnd, SpellsRule, AreRules, SpellsReclass}
+use Rattle.cell_script.specs.Scripts.{Group, IsGrouped, Spells}
+use Rattle.cell_script.specs.RReclass as reclass_rules
+use Rattle.cell_script.specs.Scripts as grouping
 use Rattle.cell_script.specs.Known.{known_after}
-use Rattle.cell_script.specs.Lines.{script_lines}
 use Rattle.cell_script.specs.Reading.{start, after_head, after_rule, as_rule, rule_line, IsReading}
-use Rattle.cell_script.specs.Spelling.{Spells, SpellsReclass}
 use Rattle.cell_script.specs.declared.fault.ScriptKind.{ScriptKind}
 use Rattle.cell_script.specs.declared.fault.ScriptKind.TheVariants.{LongLine}
 use Rattle.cell_script.specs.declared.heads.Head.{Head}
@@ -192,7 +193,7 @@ rule-rest line known before block l ls statements (Ok (line_kind.End, rules)) mo
         others = numbered (line + 1) ls;
         more = r.more;
         lines_are = refl;
-        spell = grouping.AreRules.none;
+        spell = reclass_rules.AreRules.none;
         is_last = says.1;
         statements_are = ap (λ rs. record { line = block.line; command = Reclass block.place block.target rs } ∷ r.more) (sym (append-nil block.rules));
         group = r.rest;
@@ -214,7 +215,7 @@ rule-rest line known before block l ls statements (Ok (line_kind.Skipped, rules)
         others = inside.others;
         more = inside.more;
         lines_are = ap (λ ls. record { number = line; bytes = l } ∷ ls) inside.lines_are;
-        spell = grouping.AreRules.skipped {line = record { number = line; bytes = l }} says.1.0 inside.spell;
+        spell = reclass_rules.AreRules.skipped {line = record { number = line; bytes = l }} says.1.0 inside.spell;
         is_last = inside.is_last;
         statements_are = inside.statements_are ∙ ap (λ rs. record { line = block.line; command = Reclass block.place block.target (rs ++ inside.rules) } ∷ inside.more) says.1.1;
         group = inside.group;
@@ -237,7 +238,7 @@ rule-rest line known before block l ls statements (Ok (line_kind.Rule, rules)) m
         others = inside.others;
         more = inside.more;
         lines_are = ap (λ ls. record { number = line; bytes = l } ∷ ls) inside.lines_are;
-        spell = grouping.AreRules.rule {line = record { number = line; bytes = l }} says.1.1.0 inside.spell;
+        spell = reclass_rules.AreRules.rule {line = record { number = line; bytes = l }} says.1.1.0 inside.spell;
         is_last = inside.is_last;
         statements_are = inside.statements_are
             ∙ ap (λ rs. record { line = block.line; command = Reclass block.place block.target rs } ∷ inside.more)
@@ -280,22 +281,22 @@ inside-read : {inner : List Line} {rules : List RuleValue} → AreRules inner ru
     → IsEnd last.bytes
     → Reads (known ++ block.target ∷ []) (before ++ record { line = block.line; command = Reclass block.place block.target (block.rules ++ rules) } ∷ []) others statements
     → (line : ℕ) (ls : List (List ℕ)) → inner ++ last ∷ others ≡ numbered line ls → All (λ l. length l ≤ 65535) ls → IsReading line (progress known before (Some block)) ls (Ok statements)
-inside-read grouping.AreRules.none known before block last others statements is_last reads line [] e short = cc
-inside-read grouping.AreRules.none known before block last others statements is_last reads line (l ∷ ls) e short =
+inside-read reclass_rules.AreRules.none known before block last others statements is_last reads line [] e short = cc
+inside-read reclass_rules.AreRules.none known before block last others statements is_last reads line (l ∷ ls) e short =
     let same : last ≡ record { number = line; bytes = l } = cc in
     let rest : others ≡ numbered (line + 1) ls = cc in
     let is = end-read block.rules l (short-head l ls short) (subst (λ (x : Line). IsEnd x.bytes) same is_last) in
     let more : Progress = progress (known ++ block.target ∷ []) (before ++ record { line = block.line; command = Reclass block.place block.target block.rules } ∷ []) None in
     let reading = reads (line + 1) ls rest (short-tail l ls short) in
     (Ok more, rw is refl, subst (λ rs. IsReading (line + 1) (progress (known ++ block.target ∷ []) (before ++ record { line = block.line; command = Reclass block.place block.target rs } ∷ []) None) ls (Ok statements)) (append-nil block.rules) reading)
-inside-read (grouping.AreRules.skipped says spells) known before block last others statements is_last reads line [] e short = cc
-inside-read (grouping.AreRules.skipped {line = first} {lines = inner} says spells) known before block last others statements is_last reads line (l ∷ ls) e short =
+inside-read (reclass_rules.AreRules.skipped says spells) known before block last others statements is_last reads line [] e short = cc
+inside-read (reclass_rules.AreRules.skipped {line = first} {lines = inner} says spells) known before block last others statements is_last reads line (l ∷ ls) e short =
     let same : first ≡ record { number = line; bytes = l } = cc in
     let rest : inner ++ last ∷ others ≡ numbered (line + 1) ls = cc in
     let is = skipped-read block.rules l (short-head l ls short) (subst (λ (x : Line). IsSkipped x.bytes) same says) in
     (Ok (progress known before (Some block)), rw is refl, inside-read spells known before block last others statements is_last reads (line + 1) ls rest (short-tail l ls short))
-inside-read (grouping.AreRules.rule says spells) known before block last others statements is_last reads line [] e short = cc
-inside-read (grouping.AreRules.rule {line = first} {lines = inner} {first = rule} {rules = rules} says spells) known before block last others statements is_last reads line (l ∷ ls) e short =
+inside-read (reclass_rules.AreRules.rule says spells) known before block last others statements is_last reads line [] e short = cc
+inside-read (reclass_rules.AreRules.rule {line = first} {lines = inner} {first = rule} {rules = rules} says spells) known before block last others statements is_last reads line (l ∷ ls) e short =
     let same : first ≡ record { number = line; bytes = l } = cc in
     let rest : inner ++ last ∷ others ≡ numbered (line + 1) ls = cc in
     let is = rule-read block.rules l rule (short-head l ls short) (subst (λ (x : Line). SpellsRule x.bytes rule) same says) in

@@ -5,7 +5,8 @@ use Rattle.cell_text.specs.Words.{words_of}
 use Rattle.cell_script.specs.Commands.{is_mapcalc, IsShortHead, IsHeadOf, IsHead}
 use Rattle.cell_script.specs.Reading.{IsNextTo, IsReading, after_head, start}
 use Rattle.cell_script.specs.Lines.{script_lines}
-use Rattle.cell_script.specs.Scripts.{IsScript, IsReadAs, IsScriptFault}
+use Rattle.cell_script.specs.Scripts.{IsScript}
+use Rattle.cell_script.specs.ReadScripts.{IsReadAs, IsScriptFault}
 use Rattle.cell_script.specs.ScriptLaw.{OneScript, NoFaultOfAScript, ReadingDenotes}
 use Rattle.cell_script.proofs.CalcLemmas.{OneAssignment, one_mapcalc}
 use Rattle.cell_script.proofs.GroupingLemmas.{read-grouped}

@@ -3,9 +3,9 @@ use Rattle.std.proofs.Common.{◌≡◌, ℕ, Bool, true, false, List, [], ◌�
 use Rattle.std.specs.Prelude.{◌&&◌, nat_le}
 use Rattle.std.specs.List.{list_all}
 use Rattle.std.proofs.lemmas.Bool.Decides.{nat_tests}
-use Rattle.cell_ascii.specs.Words.{is_word}
-use Rattle.cell_ascii.specs.Header.{is_colon, has_colon}
-use Rattle.cell_ascii.specs.Writing.{IsNullText}
+use Rattle.cell_ascii_text.specs.Words.{is_word}
+use Rattle.cell_ascii_text.specs.Header.{is_colon, has_colon}
+use Rattle.cell_ascii_text.specs.Writing.{IsNullText}
 use Rattle.cell_script.specs.NullText.{is_null_byte, is_null_text}
 
 -- a character of a null text ends no word

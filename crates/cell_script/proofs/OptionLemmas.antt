@@ -8,7 +8,8 @@ use Rattle.std.proofs.lemmas.List.Elements.{All-nil, All-cons}
 use Rattle.cell_text.specs.Words.{parts_of, pair_of}
 use Rattle.cell_script.specs.NullText.{null_text_of, table_null_text_of}
 use Rattle.cell_script.specs.OptionWords.{letters_in, setting_in, IsOption, value_for, values_of, IsOnce, AreOptions}
-use Rattle.cell_script.specs.Options.{Given, and_then, no_options, are_flags, with_flags, given_once, key_of, name_of, names_of, separator_in, or_bad_option, with_value, with_key, with_pair, with_word, with_words, options_of}
+use Rattle.cell_script.specs.Options.{Given, are_flags, key_of, name_of, names_of, separator_in, or_bad_option}
+use Rattle.cell_script.specs.OptionReading.{and_then, no_options, with_flags, given_once, with_value, with_key, with_pair, with_word, with_words, options_of}
 use Rattle.cell_script.specs.declared.fault.ScriptKind.{ScriptKind}
 use Rattle.cell_script.specs.declared.fault.ScriptKind.TheVariants.{BadOption}
 use Rattle.cell_script.specs.declared.options.Form.{Form}

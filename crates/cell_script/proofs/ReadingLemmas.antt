@@ -4,7 +4,8 @@ use Rattle.std.proofs.Math.Seq.{drop-cons}
 use Rattle.std.proofs.lemmas.List.{drop_all}
 use Rattle.cell_script.specs.Lines.{script_lines}
 use Rattle.cell_script.specs.Reading.{start, at_end, IsNext, IsReading}
-use Rattle.cell_script.specs.Scripts.{IsScript, IsScriptFault}
+use Rattle.cell_script.specs.Scripts.{IsScript}
+use Rattle.cell_script.specs.ReadScripts.{IsScriptFault}
 use Rattle.cell_script.specs.declared.fault.ScriptFault.{ScriptFault}
 use Rattle.cell_script.specs.declared.fault.ScriptKind.TheVariants.{Memory}
 use Rattle.cell_script.specs.declared.reading.Progress.{Progress}

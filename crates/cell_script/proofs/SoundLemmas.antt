@@ -6,7 +6,7 @@ use Rattle.cell_cats.specs.declared.rules.LineKind.{LineKind}
 use Rattle.cell_cats.specs.declared.rules.LineKind.TheVariants as line_kind
 use Rattle.cell_script.specs.Known.{known_after}
 use Rattle.cell_script.specs.Reading.{start, with_statement, after_head, after_rule}
-use Rattle.cell_script.specs.Scripts.{FitsCommand, Fits}
+use Rattle.cell_script.specs.Fitting.{FitsCommand, Fits}
 use Rattle.cell_script.specs.declared.fault.ScriptFault.{ScriptFault}
 use Rattle.cell_script.specs.declared.fault.ScriptKind.{ScriptKind}
 use Rattle.cell_script.specs.declared.heads.Head.{Head}

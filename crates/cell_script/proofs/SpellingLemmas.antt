@@ -3,7 +3,7 @@ use Rattle.std.proofs.Common.{◌≡◌, ℕ, ◌≤◌, Bool, true, false, cond
 use Rattle.std.specs.Prelude.{◌⊎◌, nat_lt, bytes_eq, unwrap_or}
 use Rattle.std.specs.Cmp.Lexicographic.{bytes_decides}
 use Rattle.std.proofs.lemmas.Bool.{ltb-false, le-ltb}
-use Rattle.cell_ascii.specs.Header.{usual_null}
+use Rattle.cell_ascii_text.specs.Header.{usual_null}
 use Rattle.cell_calc.specs.Binding.{placed}
 use Rattle.cell_core.specs.Name.{place_of}
 use Rattle.cell_language.specs.Assignment.{IsAssignmentText}
@@ -13,15 +13,16 @@ use Rattle.cell_stats.specs.Combinations.{Combination}
 use Rattle.cell_stats.specs.ComboText.{combo_of}
 use Rattle.cell_stats.specs.declared.reading.ComboFault.{ComboFault}
 use Rattle.cell_text.specs.Words.{words_of}
-use Rattle.cell_script.specs.Commands.{as_whole, as_opened, head_named, head_of_words, is_mapcalc, IsShortHead, IsHeadOf, IsHead}
-use Rattle.cell_script.specs.Lines.{is_comment}
-use Rattle.cell_script.specs.Options.{Given, and_then, known_place, options_of, from_to}
-use Rattle.cell_script.specs.RClump.{clump_of, clump_with, joining_of}
-use Rattle.cell_script.specs.RMapcalc.{mapcalc_of, IsMapcalc, assignment_text}
-use Rattle.cell_script.specs.ROutAscii.{out_ascii_of, out_ascii_with}
-use Rattle.cell_script.specs.RReclass.{reclass_of}
-use Rattle.cell_script.specs.RStats.{places_of, is_torn, printed_with, after_of, stats_at, stats_with, stats_of}
-use Rattle.cell_script.specs.Spelling.{AreFromTo, SpellsReclass, SpellsClump, SpellsAfter, SpellsStats, SpellsOutAscii, Spells}
+use Rattle.cell_script.specs.Commands.{as_whole, as_opened, head_named, head_of_words, is_mapcalc, IsShortHead, IsHeadOf, IsHead, clump_of, clump_with, mapcalc_of, IsMapcalc, out_ascii_of, out_ascii_with, reclass_of, after_of, stats_at, stats_with, stats_of}
+use Rattle.cell_script.specs.Lines.{is_comment, IsSkipped}
+use Rattle.cell_script.specs.Options.{Given}
+use Rattle.cell_script.specs.OptionReading.{and_then, known_place, options_of, from_to}
+use Rattle.cell_script.specs.RClump.{joining_of, SpellsClump}
+use Rattle.cell_script.specs.RMapcalc.{assignment_text}
+use Rattle.cell_script.specs.RStats.{places_of, is_torn, printed_with, SpellsAfter, SpellsStats}
+use Rattle.cell_script.specs.RReclass.{AreFromTo, SpellsReclass}
+use Rattle.cell_script.specs.ROutAscii.{SpellsOutAscii}
+use Rattle.cell_script.specs.Scripts.{Spells}
 use Rattle.cell_script.specs.declared.fault.ScriptKind.{ScriptKind}
 use Rattle.cell_script.specs.declared.fault.ScriptKind.TheVariants.{BadOption, UnknownCommand}
 use Rattle.cell_script.specs.declared.heads.Head.{Head}
@@ -30,7 +31,6 @@ use Rattle.cell_script.specs.declared.options.Form.TheVariants as form
 use Rattle.cell_script.specs.declared.statement.Command.{Command}
 use Rattle.cell_script.specs.declared.statement.Command.TheVariants.{Mapcalc, Reclass, Clump, Stats, OutAscii}
 use Rattle.cell_script.specs.declared.statement.StatsOptions.{StatsOptions}
-use Rattle.cell_script.specs.Grouping.{IsSkipped}
 use Rattle.cell_script.proofs.OptionLemmas.{options-sound, options-complete}
 use Rattle.cell_script.proofs.SkippedLemmas.{say_nothing, say_nothing-trimmed}
 

@@ -1,17 +1,94 @@
--- The command of a line (profile; the commands are those of the r.reclass, r.clump, r.stats and r.out.ascii manuals).
-use Rattle.std.specs.Prelude.{ℕ, Bool, true, false, ◌≡◌, List, [], ◌∷◌, nat_lt, length, Result, Ok, Err, if◌then◌else◌, bytes_eq, codes}
+-- What a line is: skipped, a command that its options ask for, the beginning of an r.reclass, or a fault (the order of the faults is the profile's).
+use Rattle.std.specs.Prelude.{ℕ, ◌≡◌, ◌≢◌, ◌⊎◌, List, Option, Some, None, Result, Ok, Err, length, if◌then◌else◌, unwrap_or, Bool, true, false, [], ◌∷◌, nat_lt, bytes_eq, codes}
+use Rattle.cell_ascii_text.specs.GridWords.{usual_null}
+use Rattle.cell_calc.specs.Binding.{placed}
+use Rattle.cell_core.specs.Name.{place_of}
+use Rattle.cell_language.specs.Assignment.{IsAssignmentText}
+use Rattle.cell_language.specs.GrammarFault.{IsTextFault}
+use Rattle.cell_language.specs.Unknown.{first_unknown}
+use Rattle.cell_stats.specs.Combinations.{Combination}
+use Rattle.cell_stats.specs.ComboText.{combo_of}
 use Rattle.cell_text.specs.Words.{words_of}
+use Rattle.cell_language.specs.declared.assignment.Assignment.{Assignment}
+use Rattle.cell_language.specs.declared.fault.CalcFault.{CalcFault}
+use Rattle.cell_language.specs.declared.fault.CalcKind.TheVariants as calc
+use Rattle.cell_stats.specs.declared.reading.ComboFault.{ComboFault}
 use Rattle.cell_script.specs.Lines.{is_comment}
-use Rattle.cell_script.specs.RClump.{clump_of}
-use Rattle.cell_script.specs.RMapcalc.{IsMapcalc}
-use Rattle.cell_script.specs.ROutAscii.{out_ascii_of}
-use Rattle.cell_script.specs.RReclass.{reclass_of}
-use Rattle.cell_script.specs.RStats.{stats_of}
+use Rattle.cell_script.specs.OptionReading.{new_target, and_then, options_of, from_to, needed, known_place}
+use Rattle.cell_script.specs.Options.{Given}
+use Rattle.cell_script.specs.RClump.{joining_of}
+use Rattle.cell_script.specs.RMapcalc.{assignment_text}
+use Rattle.cell_script.specs.RStats.{places_of, is_torn, printed_with}
 use Rattle.cell_script.specs.declared.fault.ScriptKind.{ScriptKind}
-use Rattle.cell_script.specs.declared.fault.ScriptKind.TheVariants.{UnknownCommand, LongLine}
+use Rattle.cell_script.specs.declared.fault.ScriptKind.TheVariants.{Calc, BadOption, UnknownMap, Combo, UnknownCommand, LongLine}
 use Rattle.cell_script.specs.declared.heads.Head.{Head}
-use Rattle.cell_script.specs.declared.heads.Head.TheVariants.{Skipped, Whole, Opened}
+use Rattle.cell_script.specs.declared.heads.Head.TheVariants.{Whole, Skipped, Opened}
+use Rattle.cell_script.specs.declared.options.Form.TheVariants as form
 use Rattle.cell_script.specs.declared.statement.Command.{Command}
+use Rattle.cell_script.specs.declared.statement.Command.TheVariants.{Mapcalc, Clump, Stats, OutAscii}
+
+-- the map that an assignment makes: each map that it reads is known, and the target is new
+abbrev pub mapcalc_of : List (List ℕ) → Assignment → Result Head ScriptKind
+mapcalc_of known a = by (first_unknown known a.expr)
+  where
+    by : Option ℕ → Result Head ScriptKind
+    by (Some column) = Err (Calc (record { kind = calc.UnknownMap; column = column }))
+    by None = new_target (place_of a.target known) (Ok (Whole (Mapcalc a.target (placed known a.expr))))
+
+-- the text is an assignment, and this is what comes of it
+abbrev pub IsAssigned : List (List ℕ) → List ℕ → Result Head ScriptKind → Type 0
+IsAssigned known text head = (a : Assignment) × IsAssignmentText text a × (mapcalc_of known a ≡ head)
+
+-- the text is no assignment, for this reason
+abbrev pub IsUnassigned : List ℕ → Result Head ScriptKind → Type 0
+IsUnassigned text head = (fault : CalcFault) × IsTextFault text fault × (fault.kind ≢ calc.Memory) × (Err (Calc fault) ≡ head)
+
+-- what the line of an r.mapcalc is, over known maps
+abbrev pub IsMapcalc : List (List ℕ) → List ℕ → Result Head ScriptKind → Type 0
+IsMapcalc known line head = IsAssigned known (assignment_text line) head ⊎ IsUnassigned (assignment_text line) head
+
+-- the place of the map that is read, and the name of the one that is made
+abbrev pub reclass_of : List (List ℕ) → List (List ℕ) → Result (ℕ × List ℕ) ScriptKind
+reclass_of known words = and_then (from_to known) (options_of form.Reclass words)
+
+-- a map that is known, and one that is new
+abbrev pub clump_with : List (List ℕ) → Given → Result Command ScriptKind
+clump_with known given = and_then (λ maps. Ok (Clump maps.0 maps.1 (joining_of given))) (from_to known given)
+
+-- the areas that words ask for
+abbrev pub clump_of : List (List ℕ) → List (List ℕ) → Result Command ScriptKind
+clump_of known words = and_then (clump_with known) (options_of form.Clump words)
+
+-- the combination after which a table goes on, where one is given
+abbrev pub after_of : ℕ → Option (List ℕ) → Result (Option Combination) ScriptKind
+after_of width None = Ok None
+after_of width (Some text) = combined (combo_of width text)
+  where
+    combined : Result Combination ComboFault → Result (Option Combination) ScriptKind
+    combined (Ok combo) = Ok (Some combo)
+    combined (Err fault) = Err (Combo fault)
+
+-- the table of the maps at these places, where all maps are known
+abbrev pub stats_at : Given → Option (List ℕ) → Result Command ScriptKind
+stats_at given None = Err UnknownMap
+stats_at given (Some places) = and_then (λ after. Ok (Stats places (printed_with given after))) (after_of (length places) given.after)
+
+-- inputs, then flags that go together, then known maps, then a combination of their number
+abbrev pub stats_with : List (List ℕ) → Given → Result Command ScriptKind
+stats_with known given = needed given.inputs (λ names. if is_torn given then Err BadOption else stats_at given (places_of known names))
+
+-- the table that words ask for
+abbrev pub stats_of : List (List ℕ) → List (List ℕ) → Result Command ScriptKind
+stats_of known words = and_then (stats_with known) (options_of form.Stats words)
+
+-- an input that is known; null is an asterisk where no text is given
+abbrev pub out_ascii_with : List (List ℕ) → Given → Result Command ScriptKind
+out_ascii_with known given =
+    needed given.input (λ input. known_place (place_of input known) (λ place. Ok (OutAscii place (unwrap_or given.null_text usual_null))))
+
+-- the grid text that words ask for
+abbrev pub out_ascii_of : List (List ℕ) → List (List ℕ) → Result Command ScriptKind
+out_ascii_of known words = and_then (out_ascii_with known) (options_of form.OutAscii words)
 
 -- a command that is whole with its line
 abbrev pub as_whole : Result Command ScriptKind → Result Head ScriptKind

@@ -1,18 +1,19 @@
--- Scripts: their lines, the options of a command, the commands of lines, and which texts are scripts.
+-- Scripts: their lines, the options of a command, which texts are scripts; how they are read, and which faults they have.
 pub mod Lines
 pub mod NullText
 pub mod Options
-pub mod RClump
-pub mod RMapcalc
-pub mod ROutAscii
-pub mod RReclass
-pub mod RStats
 pub mod OptionWords
-pub mod Spelling
-pub mod Commands
+pub mod RMapcalc
+pub mod RReclass
+pub mod RClump
+pub mod RStats
+pub mod ROutAscii
 pub mod Known
-pub mod Grouping
-pub mod Reading
-pub mod ScriptLaw
 pub mod Scripts
+pub mod Fitting
+pub mod OptionReading
+pub mod Commands
+pub mod Reading
+pub mod ReadScripts
+pub mod ScriptLaw
 pub mod parts

@@ -1,21 +1,23 @@
 -- r.clump: the areas that its options ask for (r.clump manual).
-use Rattle.std.specs.Prelude.{ℕ, List, Result, Ok, if◌then◌else◌}
+use Rattle.std.specs.Prelude.{if◌then◌else◌, ℕ, ◌≡◌, List, ◌∷◌, codes}
+use Rattle.cell_text.specs.Words.{words_of}
 use Rattle.cell_clump.specs.declared.clump.Joining.{Joining}
 use Rattle.cell_clump.specs.declared.clump.Joining.TheVariants.{Edges, EdgesAndCorners}
-use Rattle.cell_script.specs.Options.{Given, and_then, has_flag, options_of, from_to}
-use Rattle.cell_script.specs.declared.fault.ScriptKind.{ScriptKind}
+use Rattle.cell_script.specs.OptionWords.{AreOptions}
+use Rattle.cell_script.specs.Options.{Given, has_flag}
+use Rattle.cell_script.specs.RReclass.{AreFromTo}
 use Rattle.cell_script.specs.declared.options.Form.TheVariants as form
-use Rattle.cell_script.specs.declared.statement.Command.{Command}
 use Rattle.cell_script.specs.declared.statement.Command.TheVariants.{Clump}
 
 -- with the flag `d` cells that touch at a corner are joined too
 abbrev pub joining_of : Given → Joining
 joining_of given = if has_flag 100 given then EdgesAndCorners else Edges
 
--- a map that is known, and one that is new
-abbrev pub clump_with : List (List ℕ) → Given → Result Command ScriptKind
-clump_with known given = and_then (λ maps. Ok (Clump maps.0 maps.1 (joining_of given))) (from_to known given)
-
--- the areas that words ask for
-abbrev pub clump_of : List (List ℕ) → List (List ℕ) → Result Command ScriptKind
-clump_of known words = and_then (clump_with known) (options_of form.Clump words)
+-- r.clump
+pub record SpellsClump (known : List (List ℕ)) (line : List ℕ) (place : ℕ) (target : List ℕ) (joining : Joining) : Type 0 where
+  pub words : List (List ℕ)
+  pub named : words_of line ≡ codes "r.clump" ∷ words
+  pub given : Given
+  pub options : AreOptions form.Clump words given
+  pub maps : AreFromTo known given place target
+  pub joining_is : joining_of given ≡ joining

@@ -1,20 +1,13 @@
--- r.mapcalc: the assignment of a line, and the map that it makes (r.mapcalc manual; the order of the faults is the profile's).
-use Rattle.std.specs.Prelude.{ℕ, ◌≡◌, ◌≢◌, ◌-◌, ◌⊎◌, List, [], ◌∷◌, ◌++◌, length, replicate, Option, Some, None, Result, Ok, Err, if◌then◌else◌}
-use Rattle.cell_core.specs.Name.{place_of}
+-- r.mapcalc: the assignment of a line (r.mapcalc manual).
+use Rattle.std.specs.Prelude.{ℕ, ◌-◌, List, [], ◌∷◌, ◌++◌, length, replicate, if◌then◌else◌, ◌≡◌, None, codes}
 use Rattle.cell_calc.specs.Binding.{placed}
+use Rattle.cell_calc.specs.Formula.{Formula}
+use Rattle.cell_core.specs.Name.{place_of}
 use Rattle.cell_language.specs.Assignment.{IsAssignmentText}
-use Rattle.cell_language.specs.GrammarFault.{IsTextFault}
 use Rattle.cell_language.specs.Unknown.{first_unknown}
-use Rattle.cell_language.specs.declared.assignment.Assignment.{Assignment}
-use Rattle.cell_language.specs.declared.fault.CalcFault.{CalcFault}
-use Rattle.cell_language.specs.declared.fault.CalcKind.TheVariants as calc
 use Rattle.cell_text.specs.Blanks.{is_blank, after_blanks}
-use Rattle.cell_script.specs.Options.{new_target}
-use Rattle.cell_script.specs.declared.fault.ScriptKind.{ScriptKind}
-use Rattle.cell_script.specs.declared.fault.ScriptKind.TheVariants.{Calc}
-use Rattle.cell_script.specs.declared.heads.Head.{Head}
-use Rattle.cell_script.specs.declared.heads.Head.TheVariants.{Whole}
-use Rattle.cell_script.specs.declared.statement.Command.TheVariants.{Mapcalc}
+use Rattle.cell_text.specs.Words.{words_of}
+use Rattle.cell_language.specs.declared.assignment.Assignment.{Assignment}
 
 -- what stands after the first word of a text that begins with it
 abbrev pub after_word : List ℕ → List ℕ
@@ -29,22 +22,13 @@ after_command line = after_word (after_blanks line)
 abbrev pub assignment_text : List ℕ → List ℕ
 assignment_text line = replicate (length line - length (after_command line)) 32 ++ after_command line
 
--- the map that an assignment makes: each map that it reads is known, and the target is new
-abbrev pub mapcalc_of : List (List ℕ) → Assignment → Result Head ScriptKind
-mapcalc_of known a = by (first_unknown known a.expr)
-  where
-    by : Option ℕ → Result Head ScriptKind
-    by (Some column) = Err (Calc (record { kind = calc.UnknownMap; column = column }))
-    by None = new_target (place_of a.target known) (Ok (Whole (Mapcalc a.target (placed known a.expr))))
-
--- the text is an assignment, and this is what comes of it
-abbrev pub IsAssigned : List (List ℕ) → List ℕ → Result Head ScriptKind → Type 0
-IsAssigned known text head = (a : Assignment) × IsAssignmentText text a × (mapcalc_of known a ≡ head)
-
--- the text is no assignment, for this reason
-abbrev pub IsUnassigned : List ℕ → Result Head ScriptKind → Type 0
-IsUnassigned text head = (fault : CalcFault) × IsTextFault text fault × (fault.kind ≢ calc.Memory) × (Err (Calc fault) ≡ head)
-
--- what the line of an r.mapcalc is, over known maps
-abbrev pub IsMapcalc : List (List ℕ) → List ℕ → Result Head ScriptKind → Type 0
-IsMapcalc known line head = IsAssigned known (assignment_text line) head ⊎ IsUnassigned (assignment_text line) head
+-- r.mapcalc: what follows the name is an assignment, whose maps are known and whose target is new
+pub record SpellsMapcalc (known : List (List ℕ)) (line target : List ℕ) (bound : Formula) : Type 0 where
+  pub words : List (List ℕ)
+  pub named : words_of line ≡ codes "r.mapcalc" ∷ words
+  pub assignment : Assignment
+  pub says : IsAssignmentText (assignment_text line) assignment
+  pub read : first_unknown known assignment.expr ≡ None
+  pub made : place_of assignment.target known ≡ None
+  pub target_is : assignment.target ≡ target
+  pub bound_is : placed known assignment.expr ≡ bound

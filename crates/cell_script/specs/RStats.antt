@@ -1,18 +1,16 @@
--- r.stats: the table that its options ask for (r.stats manual; `after` and the order of the faults are the profile's).
-use Rattle.std.specs.Prelude.{ℕ, Bool, ◌&&◌, ◌||◌, List, [], ◌∷◌, length, Option, Some, None, is_some, Result, Ok, Err, if◌then◌else◌, unwrap_or}
+-- r.stats: the table that its options ask for (r.stats manual; `after` is the profile's).
+use Rattle.std.specs.Prelude.{ℕ, Bool, ◌&&◌, ◌||◌, List, [], ◌∷◌, Option, Some, is_some, if◌then◌else◌, unwrap_or, ◌≡◌, ⊤, false, length, None, Ok, codes}
 use Rattle.std.specs.Option.{option_map, option_and_then}
+use Rattle.cell_ascii_text.specs.GridWords.{usual_null}
 use Rattle.cell_core.specs.Name.{place_of}
-use Rattle.cell_ascii.specs.GridWords.{usual_null}
 use Rattle.cell_stats.specs.Combinations.{Combination}
 use Rattle.cell_stats.specs.ComboText.{combo_of}
-use Rattle.cell_stats.specs.declared.reading.ComboFault.{ComboFault}
+use Rattle.cell_text.specs.Words.{words_of}
 use Rattle.cell_stats.specs.declared.skip.Skip.{Skip}
 use Rattle.cell_stats.specs.declared.skip.Skip.TheVariants.{Nothing, AnyNull, AllNull}
-use Rattle.cell_script.specs.Options.{Given, and_then, has_flag, options_of, needed}
-use Rattle.cell_script.specs.declared.fault.ScriptKind.{ScriptKind}
-use Rattle.cell_script.specs.declared.fault.ScriptKind.TheVariants.{BadOption, UnknownMap, Combo}
+use Rattle.cell_script.specs.OptionWords.{AreOptions}
+use Rattle.cell_script.specs.Options.{Given, has_flag}
 use Rattle.cell_script.specs.declared.options.Form.TheVariants as form
-use Rattle.cell_script.specs.declared.statement.Command.{Command}
 use Rattle.cell_script.specs.declared.statement.Command.TheVariants.{Stats}
 use Rattle.cell_script.specs.declared.statement.StatsOptions.{StatsOptions}
 
@@ -29,15 +27,6 @@ skip_of given = if has_flag 110 given then AnyNull else (if has_flag 78 given th
 abbrev pub is_torn : Given → Bool
 is_torn given = has_flag 49 given && (has_flag 99 given || is_some given.after)
 
--- the combination after which a table goes on, where one is given
-abbrev pub after_of : ℕ → Option (List ℕ) → Result (Option Combination) ScriptKind
-after_of width None = Ok None
-after_of width (Some text) = combined (combo_of width text)
-  where
-    combined : Result Combination ComboFault → Result (Option Combination) ScriptKind
-    combined (Ok combo) = Ok (Some combo)
-    combined (Err fault) = Err (Combo fault)
-
 -- how a table is printed, and what of it: fields are separated by a space and null is an asterisk where nothing else is given
 abbrev pub printed_with : Given → Option Combination → StatsOptions
 printed_with given after =
@@ -51,15 +40,22 @@ printed_with given after =
       after = after;
     }
 
--- the table of the maps at these places, where all maps are known
-abbrev pub stats_at : Given → Option (List ℕ) → Result Command ScriptKind
-stats_at given None = Err UnknownMap
-stats_at given (Some places) = and_then (λ after. Ok (Stats places (printed_with given after))) (after_of (length places) given.after)
+-- the value of `after`, where it is given, spells a combination of so many cells
+abbrev pub SpellsAfter : ℕ → Option (List ℕ) → Option Combination → Type 0
+SpellsAfter width None None = ⊤
+SpellsAfter width None (Some combination) = ⊥
+SpellsAfter width (Some text) None = ⊥
+SpellsAfter width (Some text) (Some combination) = combo_of width text ≡ Ok combination
 
--- inputs, then flags that go together, then known maps, then a combination of their number
-abbrev pub stats_with : List (List ℕ) → Given → Result Command ScriptKind
-stats_with known given = needed given.inputs (λ names. if is_torn given then Err BadOption else stats_at given (places_of known names))
-
--- the table that words ask for
-abbrev pub stats_of : List (List ℕ) → List (List ℕ) → Result Command ScriptKind
-stats_of known words = and_then (stats_with known) (options_of form.Stats words)
+-- r.stats: `inputs` are known maps, `after` is a combination of as many cells, and flags go together
+pub record SpellsStats (known : List (List ℕ)) (line : List ℕ) (places : List ℕ) (options : StatsOptions) : Type 0 where
+  pub words : List (List ℕ)
+  pub named : words_of line ≡ codes "r.stats" ∷ words
+  pub given : Given
+  pub options_are : AreOptions form.Stats words given
+  pub inputs : List (List ℕ)
+  pub inputs_are : given.inputs ≡ Some inputs
+  pub read : places_of known inputs ≡ Some places
+  pub together : is_torn given ≡ false
+  pub after : SpellsAfter (length places) given.after options.after
+  pub printed : printed_with given options.after ≡ options

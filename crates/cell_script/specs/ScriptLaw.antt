@@ -1,6 +1,7 @@
 -- What is so of all texts.
 use Rattle.std.specs.Prelude.{ℕ, ◌≡◌, ◌↔◌, List}
-use Rattle.cell_script.specs.Scripts.{IsScript, IsReadAs, IsScriptFault}
+use Rattle.cell_script.specs.Scripts.{IsScript}
+use Rattle.cell_script.specs.ReadScripts.{IsReadAs, IsScriptFault}
 use Rattle.cell_script.specs.declared.fault.ScriptFault.{ScriptFault}
 use Rattle.cell_script.specs.declared.statement.Statement.{Statement}
 

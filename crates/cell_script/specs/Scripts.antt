@@ -1,38 +1,42 @@
--- Which texts are scripts, and of which statements; how a text is read as them, and its first fault where it is no script (profile).
-use Rattle.std.specs.Prelude.{ℕ, ◌≡◌, ◌≤◌, ◌<◌, List, [], ◌∷◌, length, All, IfSome, None, Ok, Err}
-use Rattle.cell_calc.specs.Reach.{top_of}
-use Rattle.cell_core.specs.Name.{place_of}
-use Rattle.cell_script.specs.Grouping.{IsGrouped}
-use Rattle.cell_script.specs.Lines.{script_lines}
-use Rattle.cell_script.specs.Reading.{IsReading, start}
+-- Which texts are scripts, and of which statements, by lines that group into statements (profile; the commands are those of the GRASS manual).
+use Rattle.std.specs.Prelude.{ℕ, List, ◌≤◌, ◌+◌, [], ◌∷◌, ◌++◌, length, All}
+use Rattle.cell_cats.specs.Rule.{RuleValue}
 use Rattle.cell_script.specs.Known.{known_after}
-use Rattle.cell_script.specs.declared.fault.ScriptFault.{ScriptFault}
+use Rattle.cell_script.specs.Lines.{script_lines, Line, numbered, IsSkipped}
+use Rattle.cell_script.specs.RClump.{SpellsClump}
+use Rattle.cell_script.specs.RMapcalc.{SpellsMapcalc}
+use Rattle.cell_script.specs.ROutAscii.{SpellsOutAscii}
+use Rattle.cell_script.specs.RReclass.{SpellsReclass, IsEnd, AreRules}
+use Rattle.cell_script.specs.RStats.{SpellsStats}
 use Rattle.cell_script.specs.declared.statement.Command.{Command}
 use Rattle.cell_script.specs.declared.statement.Command.TheVariants.{Mapcalc, Reclass, Clump, Stats, OutAscii}
 use Rattle.cell_script.specs.declared.statement.Statement.{Statement}
 
+-- a line spells a command that is whole with it
+abbrev pub Spells : List (List ℕ) → List ℕ → Command → Type 0
+Spells known line (Mapcalc target bound) = SpellsMapcalc known line target bound
+Spells known line (Reclass place target rules) = ⊥
+Spells known line (Clump place target joining) = SpellsClump known line place target joining
+Spells known line (Stats places options) = SpellsStats known line places options
+Spells known line (OutAscii place null_text) = SpellsOutAscii known line place null_text
+
+-- lines group into statements over known maps: a command is a line, and an r.reclass its line, those of its rules and `end`; each map made is known after its statement
+pub data Group : List (List ℕ) → List Line → List Statement → Type 0 where
+  none : {known : List (List ℕ)} → Group known [] []
+  skipped : {known : List (List ℕ)} {line : Line} {lines : List Line} {statements : List Statement}
+      → IsSkipped line.bytes → Group known lines statements → Group known (line ∷ lines) statements
+  command : {known : List (List ℕ)} {line : Line} {lines : List Line} {command : Command} {statements : List Statement}
+      → Spells known line.bytes command → Group (known_after known command) lines statements
+      → Group known (line ∷ lines) (record { line = line.number; command = command } ∷ statements)
+  reclass : {known : List (List ℕ)} {line : Line} {inner lines : List Line} {place : ℕ} {target : List ℕ} {rules : List RuleValue} {statements : List Statement} (last : Line)
+      → SpellsReclass known line.bytes place target → AreRules inner rules → IsEnd last.bytes → Group (known ++ target ∷ []) lines statements
+      → Group known (line ∷ (inner ++ last ∷ lines)) (record { line = line.number; command = Reclass place target rules } ∷ statements)
+
+-- no line has more than 65535 bytes, and the lines group into the statements
+pub record IsGrouped (known : List (List ℕ)) (text : List ℕ) (statements : List Statement) : Type 0 where
+  pub short : All (λ l. length l ≤ 65535) (script_lines text)
+  pub grouped : Group known (numbered 1 (script_lines text)) statements
+
 -- the text is a script of these statements, over known maps: its lines group into them
 unfoldable pub IsScript : List (List ℕ) → List ℕ → List Statement → Type 0
 IsScript known text statements = IsGrouped known text statements
-
--- the text is read as these statements, line by line from the top
-unfoldable pub IsReadAs : List (List ℕ) → List ℕ → List Statement → Type 0
-IsReadAs known text statements = IsReading 1 (start known) (script_lines text) (Ok statements)
-
--- the text is no script, and this is its first fault, line by line from the top
-unfoldable pub IsScriptFault : List (List ℕ) → List ℕ → ScriptFault → Type 0
-IsScriptFault known text fault = IsReading 1 (start known) (script_lines text) (Err fault)
-
--- the maps that a command reads are known, and the map that it makes is new
-abbrev pub FitsCommand : List (List ℕ) → Command → Type 0
-FitsCommand known (Mapcalc target bound) = (top_of bound ≤ length known) × (place_of target known ≡ None)
-FitsCommand known (Reclass place target rules) = (place < length known) × (place_of target known ≡ None)
-FitsCommand known (Clump place target joining) = (place < length known) × (place_of target known ≡ None)
-FitsCommand known (Stats places options) =
-    All (λ place. place < length known) places × ((1 ≤ length places) × ((length places ≤ 16) × IfSome options.after (λ combo. length combo ≡ length places)))
-FitsCommand known (OutAscii place null_text) = place < length known
-
--- each command fits the maps that are known before it
-abbrev pub Fits : List (List ℕ) → List Statement → Type 0
-Fits known [] = Unit {0}
-Fits known (s ∷ ss) = FitsCommand known s.command × Fits (known_after known s.command) ss

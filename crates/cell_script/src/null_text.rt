@@ -2,8 +2,8 @@
 
 ghost use Rattle.std.specs.Prelude.{◌≡◌, ◌≢◌, IfOk, IfErr, Ok, Err, true};
 ghost use Rattle.std.specs.List.{list_all};
-ghost use Rattle.cell_ascii.specs.Header.{usual_null};
-ghost use Rattle.cell_ascii.specs.Writing.{IsNullText};
+ghost use Rattle.cell_ascii_text.specs.Header.{usual_null};
+ghost use Rattle.cell_ascii_text.specs.Writing.{IsNullText};
 ghost use Rattle.cell_script.specs.NullText.{is_printed, is_null_byte, is_null_text, is_table_null_text, null_text_of, table_null_text_of};
 
 use crate::fault::ScriptKind;

@@ -3,7 +3,8 @@
 ghost use Rattle.std.specs.Prelude.{◌≡◌, ◌≢◌, ◌≤◌, IfOk, IfErr, Ok, Err, length, map};
 ghost use Rattle.std.specs.List.{list_all};
 ghost use Rattle.cell_text.specs.Words.{parts_of};
-ghost use Rattle.cell_script.specs.Options.{no_options, is_flag, are_flags, has_flag, maker_key, stats_key, out_ascii_key, key_of, name_of, names_from, names_of, printed_byte, separator_in, with_flags, with_value, with_pair, with_word, with_words, options_of};
+ghost use Rattle.cell_script.specs.OptionReading.{no_options, with_flags, with_value, with_pair, with_word, with_words, options_of};
+ghost use Rattle.cell_script.specs.Options.{is_flag, are_flags, has_flag, maker_key, stats_key, out_ascii_key, key_of, name_of, names_from, names_of, printed_byte, separator_in};
 
 use crate::fault::ScriptKind;
 use crate::null_text::{NullText, TableNullText};

@@ -1,7 +1,9 @@
 //! From the text of a script to its statements.
 
 ghost use Rattle.std.specs.Prelude.{◌≡◌, ◌≢◌, ◌<◌, All, IfOk, IfErr};
-ghost use Rattle.cell_script.specs.Scripts.{IsScript, IsScriptFault, Fits};
+ghost use Rattle.cell_script.specs.Scripts.{IsScript};
+ghost use Rattle.cell_script.specs.ReadScripts.{IsScriptFault};
+ghost use Rattle.cell_script.specs.Fitting.{Fits};
 
 use crate::fault::{ScriptFault, ScriptKind};
 use crate::reading::{NO_MEMORY, Progress};

@@ -1,8 +1,9 @@
 //! The words of r.clump.
 
 ghost use Rattle.std.specs.Prelude.{◌≡◌, ◌≢◌, IfOk, IfErr, Ok, Err, map};
-ghost use Rattle.cell_script.specs.RClump.{joining_of, clump_of};
-ghost use Rattle.cell_script.specs.Scripts.{FitsCommand};
+ghost use Rattle.cell_script.specs.RClump.{joining_of};
+ghost use Rattle.cell_script.specs.Commands.{clump_of};
+ghost use Rattle.cell_script.specs.Fitting.{FitsCommand};
 
 use crate::fault::ScriptKind;
 use crate::options::{Form, Options, options_of};

@@ -2,7 +2,8 @@
 
 ghost use Rattle.std.specs.Prelude.{◌≡◌, ◌≢◌, ◌≤◌, IfOk, IfErr, Ok, Err, length};
 ghost use Rattle.cell_text.specs.Blanks.{after_blanks};
-ghost use Rattle.cell_script.specs.RMapcalc.{after_word, after_command, assignment_text, mapcalc_of, IsMapcalc};
+ghost use Rattle.cell_script.specs.RMapcalc.{after_word, after_command, assignment_text};
+ghost use Rattle.cell_script.specs.Commands.{mapcalc_of, IsMapcalc};
 ghost use Rattle.cell_script.specs.parts.Sound.{FitsHead};
 
 use crate::fault::ScriptKind;

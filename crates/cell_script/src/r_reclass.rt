@@ -2,8 +2,8 @@
 
 ghost use Rattle.std.specs.Prelude.{◌≡◌, ◌≢◌, ◌<◌, IfOk, IfErr, Ok, Err, None, length, map};
 ghost use Rattle.cell_core.specs.Name.{place_of};
-ghost use Rattle.cell_script.specs.Options.{from_to};
-ghost use Rattle.cell_script.specs.RReclass.{reclass_of};
+ghost use Rattle.cell_script.specs.OptionReading.{from_to};
+ghost use Rattle.cell_script.specs.Commands.{reclass_of};
 
 use crate::fault::ScriptKind;
 use crate::options::{Form, Options, options_of};

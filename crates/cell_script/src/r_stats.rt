@@ -2,9 +2,10 @@
 
 ghost use Rattle.std.specs.Prelude.{◌≡◌, ◌≢◌, ◌<◌, ◌≤◌, IfOk, IfErr, IfSome, Ok, Err, Some, None, All, length, map, unwrap_or};
 ghost use Rattle.std.specs.Option.{option_map};
-ghost use Rattle.cell_ascii.specs.Header.{usual_null};
-ghost use Rattle.cell_script.specs.RStats.{places_of, skip_of, is_torn, after_of, stats_of};
-ghost use Rattle.cell_script.specs.Scripts.{FitsCommand};
+ghost use Rattle.cell_ascii_text.specs.Header.{usual_null};
+ghost use Rattle.cell_script.specs.RStats.{places_of, skip_of, is_torn};
+ghost use Rattle.cell_script.specs.Commands.{after_of, stats_of};
+ghost use Rattle.cell_script.specs.Fitting.{FitsCommand};
 
 use crate::fault::ScriptKind;
 use crate::null_text::TableNullText;

@@ -4,7 +4,7 @@ ghost use Rattle.std.specs.Prelude.{◌≡◌, ◌≢◌, ◌<◌, ℕ, List, If
 ghost use Rattle.std.specs.Option.{option_map};
 ghost use Rattle.cell_script.specs.Known.{made_by};
 ghost use Rattle.cell_script.specs.Reading.{start, with_statement, after_head, after_rule, rule_line, IsNext, at_end};
-ghost use Rattle.cell_script.specs.Scripts.{FitsCommand};
+ghost use Rattle.cell_script.specs.Fitting.{FitsCommand};
 ghost use Rattle.cell_script.specs.parts.Sound.{IsSound, FitsHead, FitsBlock};
 
 use crate::fault::{ScriptFault, ScriptKind};

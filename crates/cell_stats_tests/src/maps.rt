@@ -1,58 +1,19 @@
-//! Maps as lists of categories, row by row from the top left, and shelves of them.
+//! Worked maps, and shelves of maps.
 
 ghost use Rattle.std.specs.Prelude.{◌<◌, ◌≤◌, ◌↔◌, All, IsTrue, length};
 
-use cell_core::cell::Cell;
-use cell_core::map::{CellMap, MapBuilder};
-use cell_core::memory::Memory;
+use cell_core::map::CellMap;
 use cell_core::name::Name;
-use cell_core::region::Region;
 use cell_core::shelf::Shelf;
+use cell_test_maps::maps::{NULL, map_of};
 use std::alloc::Global;
 use std::test::Fail;
-
-/// What stands for null in a list: the number that is no category.
-pub(crate) const NULL: i32 = i32::MIN;
 
 /// A worked map of four columns.
 pub(crate) const G: [i32; 12] = [1, 1, 2, NULL, 1, 2, 2, 2, 3, 3, 1, 1];
 
 /// In each cell what is one column to its right in `G`.
 pub(crate) const X: [i32; 12] = [1, 2, NULL, NULL, 2, 2, 2, NULL, 3, 1, 1, NULL];
-
-fn cells_of(alloc: Global, categories: &[i32]) -> Result<Vec<Cell>, Memory> {
-    let mut cells = Vec::new(alloc);
-    for category in categories {
-        cells.push(Cell::value(*category).unwrap_or(Cell::null()))?;
-    }
-    Ok(cells)
-}
-
-/// The map of these categories in rows of so many columns, or None where they fill no map.
-pub(crate) fn map_of(
-    alloc: Global,
-    categories: &[i32],
-    cols: u32,
-) -> Result<Option<CellMap>, Memory>
-    requires { 0 < cols }
-{
-    let rows = u32::try_from(categories.len() / cols as usize).unwrap_or(0);
-    let Ok(region) = Region::new(1, 0, 1, 0, rows, cols) else {
-        return Ok(None);
-    };
-    let mut builder = MapBuilder::new(alloc, region);
-    for row in categories.chunks(cols as usize) {
-        let cells = cells_of(alloc, row)?;
-        if cells.len() as u64 != region.cols() as u64 || builder.rows_left() == 0 {
-            return Ok(None);
-        }
-        builder.push_row(&cells)?;
-    }
-    if builder.rows_left() != 0 {
-        return Ok(None);
-    }
-    Ok(Some(builder.finish()))
-}
 
 /// Puts a map on the shelf.
 pub(crate) fn add(alloc: Global, shelf: &mut Shelf, name: &[u8], map: CellMap) -> Result<(), Fail> {

@@ -1,6 +1,6 @@
 //! The printed text of tables and cells: worked maps.
 
-use crate::maps::{G, NULL, X, add, are_picks, map_of, shelf_of};
+use crate::maps::{G, X, add, are_picks, shelf_of};
 use cell_core::block::Block;
 use cell_core::shelf::Shelf;
 use cell_core::sink::{MemorySink, WriteFault};
@@ -10,6 +10,7 @@ use cell_stats::format::Format;
 use cell_stats::printing::write_table;
 use cell_stats::skip::Skip;
 use cell_stats::tallying::tally;
+use cell_test_maps::maps::{NULL, map_of};
 use std::alloc::{AllocGlobal, Global};
 use std::process::Abort;
 use std::test::Fail;

@@ -1,7 +1,7 @@
 -- What the statements of a script write (r.stats and r.out.ascii manuals), one after another (profile).
 use Rattle.std.specs.Prelude.{ℕ, ◌≡◌, List, [], ◌∷◌, ◌++◌, slice_get, if◌then◌else◌}
 use Rattle.std.specs.Option.{option_map_or}
-use Rattle.cell_ascii.specs.Writing.{grid_text}
+use Rattle.cell_ascii_text.specs.Writing.{grid_text}
 use Rattle.cell_core.specs.Shelf.{ShelfValue}
 use Rattle.cell_script.specs.declared.statement.Command.{Command}
 use Rattle.cell_script.specs.declared.statement.Command.TheVariants.{Mapcalc, Reclass, Clump, Stats, OutAscii}

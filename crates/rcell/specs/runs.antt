@@ -5,3 +5,4 @@ pub mod Faults
 pub mod Accepted
 pub mod Execution
 pub mod Outcomes
+pub mod Endings

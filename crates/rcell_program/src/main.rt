@@ -3,8 +3,6 @@
 
 mod opening;
 mod refusal;
-#[cfg(test)]
-mod tests;
 mod words;
 
 use crate::opening::open;

@@ -1,9 +1,9 @@
 //! The cells that the words of a text denote.
 
 ghost use Rattle.std.specs.Prelude.{◌≡◌, map, IfOk};
-ghost use Rattle.cell_ascii.specs.GridText.{line_words, data_words};
-ghost use Rattle.cell_ascii.specs.Cells.{cell_of_word};
-ghost use Rattle.cell_ascii.specs.Places.{header_in};
+ghost use Rattle.cell_ascii_text.specs.GridText.{line_words, data_words};
+ghost use Rattle.cell_ascii_text.specs.Cells.{cell_of_word};
+ghost use Rattle.cell_ascii_text.specs.Places.{header_in};
 
 use crate::definition::header::data_words;
 use crate::definition::keys::{self, Header};

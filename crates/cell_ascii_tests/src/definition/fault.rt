@@ -1,7 +1,7 @@
 //! The first fault that the places of a text tell.
 
 ghost use Rattle.std.specs.Prelude.{◌≡◌, [], IfOk};
-ghost use Rattle.cell_ascii.specs.Places.{front_of, told, whole_table, text_fault};
+ghost use Rattle.cell_ascii_text.specs.Places.{front_of, told, whole_table, text_fault};
 ghost use Rattle.cell_ascii_tests.specs.Seen.{words_of_each, place_seen};
 
 use crate::definition::header::data_words;

@@ -3,10 +3,10 @@
 ghost use Rattle.std.specs.Prelude.{◌≡◌, ◌≤◌, length, not, is_some, codes, IfOk, Ok};
 ghost use Rattle.std.specs.List.{prefix_len, filter, flat_map, list_any, before_first, after_first};
 ghost use Rattle.std.specs.Option.{option_and_then, option_copied};
-ghost use Rattle.cell_ascii.specs.Numbers.{coordinate, side, whole_in_range};
-ghost use Rattle.cell_ascii.specs.Header.{is_colon, has_colon, is_int, header_of};
-ghost use Rattle.cell_ascii.specs.GridText.{is_data_line, is_header_line, header_lines, data_words, key_text, values, value_of, null_text, int_type};
-ghost use Rattle.cell_ascii.specs.Places.{keys_of, header_in, in_header_line};
+ghost use Rattle.cell_ascii_text.specs.Numbers.{coordinate, side, whole_in_range};
+ghost use Rattle.cell_ascii_text.specs.Header.{is_colon, has_colon, is_int, header_of};
+ghost use Rattle.cell_ascii_text.specs.GridText.{is_data_line, is_header_line, header_lines, data_words, key_text, values, value_of, null_text, int_type};
+ghost use Rattle.cell_ascii_text.specs.Places.{keys_of, header_in, in_header_line};
 ghost use Rattle.cell_ascii_tests.specs.Seen.{texts, words_of_each};
 
 use crate::definition::words;

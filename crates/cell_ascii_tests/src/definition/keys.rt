@@ -2,13 +2,13 @@
 
 ghost use Rattle.std.specs.Prelude.{◌≡◌, ◌*◌, Some, is_some, codes, bytes_eq, IfOk};
 ghost use Rattle.std.specs.Option.{option_and_then, option_copied};
-ghost use Rattle.cell_ascii.specs.Numbers.{coordinate, side, whole_in_range};
-ghost use Rattle.cell_ascii.specs.Header.{header_of};
-ghost use Rattle.cell_ascii.specs.GridText.{value_of, null_text};
-ghost use Rattle.cell_ascii.specs.Cells.{cell_of_number, cell_of_word};
-ghost use Rattle.cell_ascii.specs.Capped.{cell_in_range};
-ghost use Rattle.cell_ascii.specs.Given.{judged};
-ghost use Rattle.cell_ascii.specs.Places.{keys_of, header_in};
+ghost use Rattle.cell_ascii_text.specs.Numbers.{coordinate, side, whole_in_range};
+ghost use Rattle.cell_ascii_text.specs.Header.{header_of};
+ghost use Rattle.cell_ascii_text.specs.GridText.{value_of, null_text};
+ghost use Rattle.cell_ascii_text.specs.Cells.{cell_of_number, cell_of_word};
+ghost use Rattle.cell_ascii_header.specs.Capped.{cell_in_range};
+ghost use Rattle.cell_ascii_header.specs.Given.{judged};
+ghost use Rattle.cell_ascii_text.specs.Places.{keys_of, header_in};
 ghost use Rattle.cell_ascii_tests.specs.Seen.{words_of_each};
 
 use crate::definition::header;
@@ -36,7 +36,7 @@ pub(crate) struct Keys<'a> {
 
 impl<'a> Model for Keys<'a> {
     ghost use Rattle.std.specs.Option.{option_copied};
-    ghost use Rattle.cell_ascii.specs.Header.{Keys};
+    ghost use Rattle.cell_ascii_text.specs.Header.{Keys};
 
     ghost Value = { Keys };
 
@@ -52,7 +52,7 @@ pub(crate) struct Header<'a> {
 }
 
 impl<'a> Model for Header<'a> {
-    ghost use Rattle.cell_ascii.specs.Header.{Header};
+    ghost use Rattle.cell_ascii_text.specs.Header.{Header};
 
     ghost Value = { Header };
 

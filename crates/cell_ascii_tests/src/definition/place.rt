@@ -1,7 +1,7 @@
 //! What stands at a place.
 
 ghost use Rattle.std.specs.Prelude.{◌≡◌};
-ghost use Rattle.cell_ascii.specs.Places.{ends_token, ends_line, is_end};
+ghost use Rattle.cell_ascii_text.specs.Places.{ends_token, ends_line, is_end};
 ghost use Rattle.cell_ascii_tests.specs.Seen.{place_seen};
 
 use crate::definition::words;

@@ -2,8 +2,8 @@
 
 ghost use Rattle.std.specs.Prelude.{◌≡◌, ◌||◌, length, IfOk};
 ghost use Rattle.std.specs.List.{list_any};
-ghost use Rattle.cell_ascii.specs.GridText.{is_data_line};
-ghost use Rattle.cell_ascii.specs.Places.{when, ◌or◌, is_empty, long_token, stuck, in_header_line, second_value, bad_null, bad_value, line_fault, has_key_of, header_line_ends, why_not, header_ends, cell_fault, bad_cell, has_fewer, has_all, too_few, too_many, read_fails, whole_table};
+ghost use Rattle.cell_ascii_text.specs.GridText.{is_data_line};
+ghost use Rattle.cell_ascii_text.specs.Places.{when, ◌or◌, is_empty, long_token, stuck, in_header_line, second_value, bad_null, bad_value, line_fault, has_key_of, header_line_ends, why_not, header_ends, cell_fault, bad_cell, has_fewer, has_all, too_few, too_many, read_fails, whole_table};
 ghost use Rattle.cell_ascii_tests.specs.Seen.{texts, words_of_each, place_seen};
 
 use crate::definition::header::{

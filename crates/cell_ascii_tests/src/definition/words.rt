@@ -2,9 +2,9 @@
 
 ghost use Rattle.std.specs.Prelude.{◌≡◌, ◌≤◌, length, IfOk};
 ghost use Rattle.std.specs.List.{slice_split, filter};
-ghost use Rattle.cell_ascii.specs.Words.{is_space, is_word};
-ghost use Rattle.cell_ascii.specs.GridText.{is_token, lines_of, words_of};
-ghost use Rattle.cell_ascii.specs.Places.{line_of, gap_of, last_of, token_of};
+ghost use Rattle.cell_ascii_text.specs.Words.{is_space, is_word};
+ghost use Rattle.cell_ascii_text.specs.GridText.{is_token, lines_of, words_of};
+ghost use Rattle.cell_ascii_text.specs.Places.{line_of, gap_of, last_of, token_of};
 ghost use Rattle.cell_ascii_tests.specs.Seen.{texts};
 
 use cell_core::memory::Memory;

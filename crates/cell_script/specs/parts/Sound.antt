@@ -2,7 +2,7 @@
 use Rattle.std.specs.Prelude.{ℕ, ◌≡◌, ◌<◌, List, [], ◌∷◌, All, Option, Some, None, length}
 use Rattle.cell_core.specs.Name.{place_of}
 use Rattle.cell_script.specs.Known.{known_after}
-use Rattle.cell_script.specs.Scripts.{FitsCommand, Fits}
+use Rattle.cell_script.specs.Fitting.{FitsCommand, Fits}
 use Rattle.cell_script.specs.declared.heads.Head.{Head}
 use Rattle.cell_script.specs.declared.heads.Head.TheVariants.{Skipped, Whole, Opened}
 use Rattle.cell_script.specs.declared.reading.Block.{Block}

@@ -8,14 +8,15 @@ use Rattle.cell_core.specs.Device.{Coming}
 use Rattle.cell_core.specs.Grid.{Grid}
 use Rattle.cell_core.specs.Name.{place_of, AreDistinct}
 use Rattle.cell_core.specs.Shelf.{ShelfValue}
-use Rattle.cell_ascii.specs.Cells.{grid_of}
-use Rattle.cell_ascii.specs.GridText.{Denotes}
-use Rattle.cell_ascii.proofs.GridLawLemmas.{reading_agrees}
+use Rattle.cell_ascii_text.specs.Cells.{grid_of}
+use Rattle.cell_ascii_text.specs.GridText.{Denotes}
+use Rattle.cell_ascii_law.proofs.GridLawLemmas.{reading_agrees}
 use Rattle.rcell.proofs.runs.LoadingLemmas.{added-same}
 use Rattle.rcell.specs.runs.Accepted.{AllDenote, AreGrids, IsAccepted}
 use Rattle.rcell.specs.Making.{with_map}
 use Rattle.rcell.specs.runs.Loading.{with_grid, shelf_of_one, shelf_from, then_grids}
-use Rattle.rcell.specs.runs.Outcomes.{script_text, IsRead, Writes}
+use Rattle.rcell.specs.runs.Endings.{script_text, IsRead}
+use Rattle.rcell.specs.runs.Outcomes.{Writes}
 use Rattle.rcell.specs.declared.runs.outcome.Outcome.{Outcome}
 use Rattle.rcell.specs.runs.Sources.{Named}
 use Rattle.cell_script.specs.declared.statement.Statement.{Statement}

@@ -7,7 +7,7 @@ use Rattle.cell_core.specs.Name.{place_of}
 use Rattle.cell_core.specs.Region.{RegionValue}
 use Rattle.cell_core.specs.SameRegion.{is_same_region, is_same_region-Decides}
 use Rattle.cell_core.specs.Shelf.{ShelfValue}
-use Rattle.cell_ascii.specs.Cells.{grid_of}
+use Rattle.cell_ascii_text.specs.Cells.{grid_of}
 use Rattle.rcell.specs.runs.Sources.{AllKnown, known_of, coming_of}
 use Rattle.rcell.specs.runs.Faults.{IsOfInput}
 use Rattle.rcell.specs.Making.{with_map}

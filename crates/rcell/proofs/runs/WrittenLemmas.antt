@@ -7,7 +7,8 @@ use Rattle.cell_core.specs.Shelf.{ShelfValue}
 use Rattle.cell_script.specs.declared.statement.Statement.{Statement}
 use Rattle.rcell.specs.runs.Faults.{IsOfInput, IsOfMemory, IsBeforeExecution, IsInExecution, status_after}
 use Rattle.rcell.specs.runs.Loading.{shelf_of}
-use Rattle.rcell.specs.runs.Outcomes.{Reads, IsRead, IsDone, Writes}
+use Rattle.rcell.specs.runs.Endings.{Reads, IsRead}
+use Rattle.rcell.specs.runs.Outcomes.{IsDone, Writes}
 use Rattle.rcell.specs.runs.Sources.{Named}
 use Rattle.rcell.specs.declared.runs.outcome.Outcome.{Outcome}
 use Rattle.rcell.specs.declared.runs.outcome.RunFault.{RunFault}

@@ -1,7 +1,7 @@
 -- The faults of a run: their exit statuses, which of them come when, and what they tell (profile).
 use Rattle.std.specs.Prelude.{ℕ, ◌≡◌, ◌≢◌, ◌<◌, ⊤, Option, Some, None}
-use Rattle.cell_ascii.specs.declared.fault.GridKind.{GridKind}
-use Rattle.cell_ascii.specs.declared.fault.GridKind.TheVariants as grid_kinds
+use Rattle.cell_ascii_text.specs.declared.fault.GridKind.{GridKind}
+use Rattle.cell_ascii_text.specs.declared.fault.GridKind.TheVariants as grid_kinds
 use Rattle.cell_script.specs.declared.fault.ScriptKind.{ScriptKind}
 use Rattle.cell_script.specs.declared.fault.ScriptKind.TheVariants as script_kinds
 use Rattle.rcell.specs.declared.runs.outcome.RunFault.{RunFault}

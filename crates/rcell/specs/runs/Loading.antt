@@ -4,8 +4,8 @@ use Rattle.cell_core.specs.Grid.{Grid}
 use Rattle.cell_core.specs.Name.{place_of}
 use Rattle.cell_core.specs.SameRegion.{is_same_region}
 use Rattle.cell_core.specs.Shelf.{ShelfValue}
-use Rattle.cell_ascii.specs.Cells.{grid_of}
-use Rattle.cell_ascii.specs.declared.fault.GridFault.{GridFault}
+use Rattle.cell_ascii_text.specs.Cells.{grid_of}
+use Rattle.cell_ascii_text.specs.declared.fault.GridFault.{GridFault}
 use Rattle.rcell.specs.Making.{with_map}
 use Rattle.rcell.specs.runs.Sources.{Named}
 use Rattle.rcell.specs.declared.runs.outcome.RunFault.{RunFault}

@@ -1,53 +1,12 @@
--- What a run answers: the whole output, or the first fault of what it is given (the limit of a script and the order of the faults are the profile's).
-use Rattle.std.specs.Prelude.{ℕ, ◌≡◌, Bool, false, nat_lt, List, length, Option, Some, None, IfSome, Result, Ok, Err, if◌then◌else◌}
-use Rattle.cell_core.specs.Device.{Coming, append_known}
-use Rattle.cell_core.specs.Shelf.{ShelfValue}
+-- What a run of an accepted script answers: the whole output.
+use Rattle.std.specs.Prelude.{ℕ, ◌≡◌, Bool, false, List, length, Option, None, IfSome}
 use Rattle.cell_core.specs.Blocks.{capped}
-use Rattle.cell_script.specs.Scripts.{IsScript, IsScriptFault}
-use Rattle.cell_script.specs.declared.fault.ScriptFault.{ScriptFault}
+use Rattle.cell_core.specs.Device.{append_known}
+use Rattle.cell_core.specs.Shelf.{ShelfValue}
 use Rattle.cell_script.specs.declared.statement.Statement.{Statement}
 use Rattle.rcell.specs.Output.{IsOutput}
-use Rattle.rcell.specs.runs.Execution.{IsBefore, IsWithin}
 use Rattle.rcell.specs.runs.Faults.{IsOfMemory}
-use Rattle.rcell.specs.runs.Loading.{shelf_of}
-use Rattle.rcell.specs.runs.Sources.{Named}
 use Rattle.rcell.specs.declared.runs.outcome.Outcome.{Outcome}
-use Rattle.rcell.specs.declared.runs.outcome.RunFault.{RunFault}
-use Rattle.rcell.specs.declared.runs.outcome.RunFault.TheVariants.{GridTwice, GridRegion, Grid, ScriptRead, ScriptSize, Script, Memory, Write}
-
--- a script has at most 1048576 bytes, and its reader ends
-abbrev pub script_text : Coming → Result (List ℕ) RunFault
-script_text c = if nat_lt 1048576 (length c.bytes) then Err ScriptSize else (if c.fails then Err ScriptRead else Ok c.bytes)
-
--- the script denotes the statements over maps of these names
-pub record Reads (known : List (List ℕ)) (script : Coming) (statements : List Statement) : Type 0 where
-  pub text : List ℕ
-  pub bytes : script_text script ≡ Ok text
-  pub denoted : IsScript known text statements
-
--- the fault of a script's text, if it has one
-abbrev pub IsTextRefusal : List (List ℕ) → Result (List ℕ) RunFault → RunFault → Type 0
-IsTextRefusal known (Err first) fault = fault ≡ first
-IsTextRefusal known (Ok text) fault = (inner : ScriptFault) × (IsScriptFault known text inner × (fault ≡ Script inner))
-
--- the fault of a script: that of its bytes, else that of its lines
-abbrev pub IsScriptRefusal : List (List ℕ) → Coming → RunFault → Type 0
-IsScriptRefusal known script fault = IsTextRefusal known (script_text script) fault
-
--- the fault of the grids, else that of the script over their names
-abbrev pub IsRefusalAfter : Coming → Result (Option ShelfValue) RunFault → RunFault → Type 0
-IsRefusalAfter script (Err first) fault = fault ≡ first
-IsRefusalAfter script (Ok None) fault = ⊥
-IsRefusalAfter script (Ok (Some shelf)) fault = IsScriptRefusal shelf.names script fault
-
--- the first fault of the grids and the script
-abbrev pub IsRefusal : List Named → Coming → RunFault → Type 0
-IsRefusal grids script fault = IsRefusalAfter script (shelf_of grids) fault
-
--- the grids give the shelf, and the script denotes the statements over it
-pub record IsRead (grids : List Named) (script : Coming) (shelf : ShelfValue) (statements : List Statement) : Type 0 where
-  pub loaded : shelf_of grids ≡ Ok (Some shelf)
-  pub reads : Reads shelf.names script statements
 
 -- the sink took exactly the output of the statements, and its length is told
 pub record IsDone (shelf : ShelfValue) (statements : List Statement) (before now : Option (List ℕ)) (written : ℕ) : Type 0 where
@@ -55,31 +14,6 @@ pub record IsDone (shelf : ShelfValue) (statements : List Statement) (before now
   pub output : IsOutput shelf statements text
   pub taken : now ≡ append_known before text
   pub count : written ≡ capped (length text)
-
--- a run of a script over grids is done
-pub record IsRunDone (grids : List Named) (script : Coming) (before now : Option (List ℕ)) (written : ℕ) : Type 0 where
-  pub shelf : ShelfValue
-  pub statements : List Statement
-  pub read : IsRead grids script shelf statements
-  pub done : IsDone shelf statements before now written
-
--- a run stopped in execution: out of memory before a statement, or at a failing sink
-abbrev pub StopsAt : ShelfValue → List Statement → Option (List ℕ) → Option (List ℕ) → ℕ → RunFault → Type 0
-StopsAt shelf statements before now written (Memory line) = IsBefore shelf statements before now written line
-StopsAt shelf statements before now written Write = IsWithin shelf statements before now written
-StopsAt shelf statements before now written (GridTwice grid) = ⊥
-StopsAt shelf statements before now written (GridRegion grid) = ⊥
-StopsAt shelf statements before now written (Grid grid fault) = ⊥
-StopsAt shelf statements before now written ScriptRead = ⊥
-StopsAt shelf statements before now written ScriptSize = ⊥
-StopsAt shelf statements before now written (Script fault) = ⊥
-
--- a run of a script over grids stopped in execution
-pub record IsRunStopped (grids : List Named) (script : Coming) (before now : Option (List ℕ)) (written : ℕ) (fault : RunFault) : Type 0 where
-  pub shelf : ShelfValue
-  pub statements : List Statement
-  pub read : IsRead grids script shelf statements
-  pub stops : StopsAt shelf statements before now written fault
 
 -- where memory lasts and the sink takes everything: status 0, no fault, and exactly the output of the statements is written
 abbrev pub Writes : ShelfValue → List Statement → Option (List ℕ) → Option (List ℕ) → Bool → Outcome → Type 0

@@ -1,11 +1,11 @@
 //! Statements are executed in order: those that make maps put them on the shelf, the others write their text.
 
 ghost use Rattle.std.specs.Prelude.{◌≡◌, ◌||◌, [], length, OnOk, IfOk, IfErr, true};
-ghost use Rattle.cell_ascii.specs.Writing.{grid_text, IsNullText};
+ghost use Rattle.cell_ascii_text.specs.Writing.{grid_text, IsNullText};
 ghost use Rattle.cell_core.specs.Device.{append_known};
 ghost use Rattle.cell_core.specs.Blocks.{capped};
 ghost use Rattle.cell_script.specs.Known.{known_after};
-ghost use Rattle.cell_script.specs.Scripts.{Fits, FitsCommand};
+ghost use Rattle.cell_script.specs.Fitting.{Fits, FitsCommand};
 ghost use Rattle.rcell.specs.Making.{IsAfter};
 ghost use Rattle.rcell.specs.Output.{command_text};
 ghost use Rattle.rcell.specs.parts.Steps.{Puts, PutsCut, IsStopped, is_write, stops_write};

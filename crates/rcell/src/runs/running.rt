@@ -2,11 +2,12 @@
 
 ghost use Rattle.std.specs.Prelude.{◌≡◌, ℕ, ◌<◌, List, All, length, true, IsNone, IsSome, IfSome, IfOk, IfErr, Ok, Err, Some, None, vec_len};
 ghost use Rattle.cell_core.specs.Shelf.{ShelfValue};
-ghost use Rattle.cell_script.specs.Scripts.{Fits};
+ghost use Rattle.cell_script.specs.Fitting.{Fits};
 ghost use Rattle.cell_script.specs.declared.statement.Statement.{Statement};
 ghost use Rattle.rcell.specs.runs.Accepted.{IsAccepted};
 ghost use Rattle.rcell.specs.runs.Faults.{IsOfInput, IsBeforeExecution, IsInExecution, IsTold, status_of, status_after};
-ghost use Rattle.rcell.specs.runs.Outcomes.{Reads, IsScriptRefusal, IsRefusal, IsRead, IsDone, IsRunDone, StopsAt, IsRunStopped, Writes};
+ghost use Rattle.rcell.specs.runs.Endings.{Reads, IsScriptRefusal, IsRefusal, IsRead, IsRunDone, StopsAt, IsRunStopped};
+ghost use Rattle.rcell.specs.runs.Outcomes.{IsDone, Writes};
 ghost use Rattle.rcell.specs.runs.Sources.{AllKnown, known_of, coming_of};
 
 use crate::runs::execution::{Stop, execute};

@@ -2,7 +2,7 @@
 
 ghost use Rattle.std.specs.Prelude.{ℕ, ◌≡◌, IfOk, IfErr, IfSome, Ok, Err};
 ghost use Rattle.rcell.specs.runs.Faults.{IsOfInput, IsBeforeExecution, IsTold};
-ghost use Rattle.rcell.specs.runs.Outcomes.{script_text};
+ghost use Rattle.rcell.specs.runs.Endings.{script_text};
 
 use crate::runs::outcome::RunFault;
 use cell_core::source::Source;

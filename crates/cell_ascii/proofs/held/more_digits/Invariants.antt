@@ -1,6 +1,6 @@
 use Rattle.std.proofs.Common.{◌≡◌, ◌≤◌, take, true}
 use Rattle.std.specs.List.{list_all}
-use Rattle.cell_ascii.specs.Numbers.{is_digit, value_of_digits}
+use Rattle.cell_ascii_text.specs.Numbers.{is_digit, value_of_digits}
 use Rattle.cell_ascii.proofs.held.more_digits.Given as goal
 
 abbrev pub invariant-loop-i : goal.invariant-loop-i

@@ -1,6 +1,6 @@
 use Rattle.std.proofs.Common.{◌≡◌, take, true}
 use Rattle.std.specs.List.{list_all}
-use Rattle.cell_ascii.specs.Words.{is_word}
+use Rattle.cell_ascii_text.specs.Words.{is_word}
 use Rattle.cell_ascii.proofs.held.word_in.Given as goal
 
 abbrev pub invariant-loop-i : goal.invariant-loop-i

@@ -1,11 +1,11 @@
 use Rattle.std.proofs.lemmas.Result.{err_from_is_err_and}
 use Rattle.std.proofs.Common.{◌≡◌, Ok, Err, Some, refl}
-use Rattle.cell_ascii.specs.Cells.{grid_of}
-use Rattle.cell_ascii.specs.GridText.{Denotes}
-use Rattle.cell_ascii.specs.Places.{text_fault}
+use Rattle.cell_ascii_text.specs.Cells.{grid_of}
+use Rattle.cell_ascii_text.specs.GridText.{Denotes}
+use Rattle.cell_ascii_text.specs.Places.{text_fault}
 use Rattle.cell_ascii.specs.GridReaders.{place_in}
-use Rattle.cell_ascii.proofs.GridLawLemmas.{reading_agrees}
-use Rattle.cell_ascii.proofs.GridFaultLemmas.{faults_agree}
+use Rattle.cell_ascii_law.proofs.GridLawLemmas.{reading_agrees}
+use Rattle.cell_ascii_faults.proofs.GridFaultLemmas.{faults_agree}
 use Rattle.cell_ascii.proofs.RowReadLemmas.{implied}
 use Rattle.cell_ascii.proofs.DataLemmas.{opening_fails, data_fails, text_fails, end_fails, whole_read}
 use Rattle.cell_ascii.proofs.reader.read_map.Goals as goal

@@ -1,6 +1,6 @@
 use Rattle.std.proofs.Common.{◌≡◌, ◌+◌, ◌-◌, false, length}
 use Rattle.std.specs.Option.{option_map}
-use Rattle.cell_ascii.specs.Cells.{cell_from, many}
+use Rattle.cell_ascii_text.specs.Cells.{cell_from, many}
 use Rattle.cell_ascii.specs.Reader.{rows_from}
 use Rattle.cell_ascii.specs.GridReaders.{place_in}
 use Rattle.cell_ascii.proofs.CellLemmas.{with_front}

@@ -1,5 +1,5 @@
 use Rattle.std.proofs.Common.{◌≡◌, drop, map}
-use Rattle.cell_script.specs.Options.{options_of, with_words}
+use Rattle.cell_script.specs.OptionReading.{options_of, with_words}
 use Rattle.cell_script.proofs.options.options_of.Given as goal
 
 abbrev pub invariant-loop-word : goal.invariant-loop-word

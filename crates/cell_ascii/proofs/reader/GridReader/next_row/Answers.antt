@@ -1,9 +1,9 @@
 use Rattle.std.proofs.Common.{◌≡◌, ◌-◌, ◌+◌, ◌<◌, ◌∙◌, false, Some, None, length, ap, sym, subst, arith}
 use Rattle.std.specs.Option.{IfSome}
 use Rattle.cell_core.specs.Device.{Coming}
-use Rattle.cell_ascii.specs.Ahead.{to_come}
+use Rattle.cell_ascii_header.specs.Ahead.{to_come}
 use Rattle.cell_ascii.specs.Reader.{at_place}
-use Rattle.cell_ascii.specs.RowPlaces.{cells_fault}
+use Rattle.cell_ascii_text.specs.RowPlaces.{cells_fault}
 use Rattle.cell_ascii.specs.GridReaders.{ReaderValue, place_in}
 use Rattle.cell_ascii.proofs.RowReadLemmas.{row_told, cut_told, row_placed, rows_fit}
 use Rattle.cell_ascii.proofs.reader.GridReader.next_row.Goals as goal

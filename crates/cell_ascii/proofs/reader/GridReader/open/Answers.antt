@@ -1,10 +1,10 @@
 use Rattle.std.proofs.lemmas.Result.{err_from_is_err_and}
 use Rattle.std.proofs.Common.{◌≡◌, Some, Err}
-use Rattle.cell_ascii.specs.Ahead.{to_come}
-use Rattle.cell_ascii.specs.Header.{header_of_text}
-use Rattle.cell_ascii.specs.Places.{opening_fault}
+use Rattle.cell_ascii_header.specs.Ahead.{to_come}
+use Rattle.cell_ascii_text.specs.Header.{header_of_text}
+use Rattle.cell_ascii_text.specs.Places.{opening_fault}
 use Rattle.cell_ascii.specs.Reader.{at_place}
-use Rattle.cell_ascii.proofs.GridFaultLemmas.{opening_agrees}
+use Rattle.cell_ascii_faults.proofs.GridFaultLemmas.{opening_agrees}
 use Rattle.cell_ascii.proofs.RowReadLemmas.{implied, opening_placed, lines_fit}
 use Rattle.cell_ascii.proofs.reader.GridReader.open.Goals as goal
 

@@ -1,8 +1,8 @@
 use Rattle.std.proofs.Common.{◌∙◌, ap, sym}
 use Rattle.std.specs.Option.{option_map}
-use Rattle.cell_ascii.specs.GridText.{data_words}
-use Rattle.cell_ascii.specs.Words.{fault}
-use Rattle.cell_ascii.specs.Places.{whole_table, header_in}
+use Rattle.cell_ascii_text.specs.GridText.{data_words}
+use Rattle.cell_ascii_text.specs.Words.{fault}
+use Rattle.cell_ascii_text.specs.Places.{whole_table, header_in}
 use Rattle.cell_ascii_tests.specs.Seen.{texts, words_of_each, place_seen}
 use Rattle.cell_ascii_tests.proofs.ToldLemmas.{told_is}
 use Rattle.cell_ascii_tests.proofs.definition.fault.told.Goals as goal

@@ -4,8 +4,8 @@ use Rattle.std.specs.Int.RustNames.{FitsSigned}
 use Rattle.std.proofs.lemmas.Int.{to_z-of_z}
 use Rattle.cell_core.specs.Region.{RegionValue, region_fault}
 use Rattle.cell_core.specs.declared.region.RegionFault.{RegionFault}
-use Rattle.cell_ascii.specs.Header.{Keys, header_of, judged}
-use Rattle.cell_ascii.specs.Given.{judged as judged_parts}
+use Rattle.cell_ascii_text.specs.Header.{Keys, header_of, judged}
+use Rattle.cell_ascii_header.specs.Given.{judged as judged_parts}
 use Rattle.cell_ascii_tests.proofs.definition.keys.header_of.Goals as goal
 
 parts_judged : (k : Keys) (r : Result RegionValue RegionFault) → judged_parts r k.null k.multiplier ≡ judged k r

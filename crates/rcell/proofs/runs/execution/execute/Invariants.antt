@@ -1,5 +1,5 @@
 use Rattle.std.proofs.Common.{◌≡◌, take, drop, []}
-use Rattle.cell_script.specs.Scripts.{Fits}
+use Rattle.cell_script.specs.Fitting.{Fits}
 use Rattle.rcell.specs.parts.Steps.{HasExecuted}
 use Rattle.rcell.proofs.runs.execution.execute.Given as goal
 

@@ -1,6 +1,6 @@
 use Rattle.std.proofs.Common.{◌≡◌}
 use Rattle.std.proofs.lemmas.Result.{IfErr-weaker}
-use Rattle.cell_ascii.specs.Writing.{grid_text}
+use Rattle.cell_ascii_text.specs.Writing.{grid_text}
 use Rattle.rcell.specs.Output.{command_text, stats_text}
 use Rattle.rcell.proofs.runs.ExecutionLemmas.{stopped_in_text, grid_command, stats_command}
 use Rattle.rcell.proofs.runs.execution.execute_statement.Goals as goal

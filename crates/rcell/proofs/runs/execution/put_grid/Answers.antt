@@ -1,5 +1,5 @@
 use Rattle.std.proofs.Common.{refl}
-use Rattle.cell_ascii.specs.Writing.{grid_text}
+use Rattle.cell_ascii_text.specs.Writing.{grid_text}
 use Rattle.rcell.proofs.runs.ExecutionLemmas.{gathered_past, cut_past}
 use Rattle.rcell.proofs.runs.execution.put_grid.Goals as goal
 

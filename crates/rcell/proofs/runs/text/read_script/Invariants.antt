@@ -1,6 +1,6 @@
 use Rattle.std.proofs.Common.{◌≡◌, ◌≤◌, ◌-◌, vec_len}
 use Rattle.std.specs.Option.{option_map}
-use Rattle.rcell.specs.runs.Outcomes.{script_text}
+use Rattle.rcell.specs.runs.Endings.{script_text}
 use Rattle.rcell.proofs.runs.TextLemmas.{text_after}
 use Rattle.rcell.proofs.runs.text.read_script.Given as goal
 

@@ -1,0 +1,9 @@
+pub mod SeenLemmas
+pub mod PlaceWordLemmas
+pub mod PlaceDataLemmas
+pub mod PlaceKeyLemmas
+pub mod PlaceHeaderLemmas
+pub mod RowSeenLemmas
+pub mod RowPlaceLemmas
+pub mod PlaceKeptLemmas
+pub mod GridFaultLemmas

@@ -1,0 +1,7 @@
+pub mod MapLemmas
+pub mod StartLemmas
+pub mod GapLemmas
+pub mod DigitLemmas
+pub mod NumberLemmas
+pub mod KindLemmas
+pub mod OpeningLemmas

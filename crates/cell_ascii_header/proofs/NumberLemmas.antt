@@ -1,0 +1,54 @@
+-- Capped numbers denote the cells that the whole ones do.
+use Rattle.std.proofs.Common.{◌≡◌, ℕ, ℤ, pos, Bool, true, false, List, [], ◌∷◌, ap, sym, ◌∙◌, refl, arith, Option, Some, None, Err, if◌then◌else◌}
+use Rattle.std.specs.Prelude.{neg_ℤ, ◌==◌}
+use Rattle.std.specs.Option.{option_map}
+use Rattle.std.proofs.lemmas.Bool.Decides.{nat_tests}
+use Rattle.std.proofs.lemmas.Int.{ints}
+use Rattle.cell_ascii_text.specs.Numbers.{is_in_range, whole_number, digits_of}
+use Rattle.cell_ascii_header.specs.Capped.{capped, capped_number}
+use Rattle.cell_ascii_text.specs.Cells.{cell_of_number}
+use Rattle.cell_ascii_text.specs.declared.fault.GridKind.TheVariants.{CellRange}
+
+cell_far : (m n : ℤ) → is_in_range n ≡ false → cell_of_number m (Some n) ≡ Err CellRange
+cell_far m n e = rw e refl
+
+-- a number that is in range is not capped, and one that is out of range stays so
+agree : (m z y : ℤ) → is_in_range y ≡ is_in_range z → (is_in_range z ≡ true → y ≡ z) → cell_of_number m (Some y) ≡ cell_of_number m (Some z)
+agree m z y e same = by (is_in_range z) refl
+  where
+    by : (b : Bool) → is_in_range z ≡ b → cell_of_number m (Some y) ≡ cell_of_number m (Some z)
+    by true f = ap (λ (x : ℤ). cell_of_number m (Some x)) (same f)
+    by false f = cell_far m y (e ∙ f) ∙ sym (cell_far m z f)
+
+range_pos : (n : ℕ) → is_in_range (pos (capped n)) ≡ is_in_range (pos n)
+range_pos n = grind (arith, ints, nat_tests)
+
+range_neg : (n : ℕ) → is_in_range (neg_ℤ (pos (capped n))) ≡ is_in_range (neg_ℤ (pos n))
+range_neg n = grind (arith, ints, nat_tests)
+
+kept_pos : (n : ℕ) → is_in_range (pos n) ≡ true → capped n ≡ n
+kept_pos n e = grind (arith, ints, nat_tests)
+
+kept_neg : (n : ℕ) → is_in_range (neg_ℤ (pos n)) ≡ true → capped n ≡ n
+kept_neg n e = grind (arith, ints, nat_tests)
+
+plus_cell : (m : ℤ) (o : Option ℕ) → cell_of_number m (option_map pos (option_map capped o)) ≡ cell_of_number m (option_map pos o)
+plus_cell m None = refl
+plus_cell m (Some n) = agree m (pos n) (pos (capped n)) (range_pos n) (λ f. ap pos (kept_pos n f))
+
+minus_cell : (m : ℤ) (o : Option ℕ) → cell_of_number m (option_map (λ n. neg_ℤ (pos n)) (option_map capped o)) ≡ cell_of_number m (option_map (λ n. neg_ℤ (pos n)) o)
+minus_cell m None = refl
+minus_cell m (Some n) = agree m (neg_ℤ (pos n)) (neg_ℤ (pos (capped n))) (range_neg n) (λ f. ap (λ (k : ℕ). neg_ℤ (pos k)) (kept_neg n f))
+
+abbrev signed_by : Bool → Bool → Option ℕ → Option ℕ → Option ℤ
+signed_by minus plus rest all = if minus then option_map (λ n. neg_ℤ (pos n)) rest else (if plus then option_map pos rest else option_map pos all)
+
+signed_cell : (m : ℤ) (minus plus : Bool) (rest all : Option ℕ) → cell_of_number m (signed_by minus plus (option_map capped rest) (option_map capped all)) ≡ cell_of_number m (signed_by minus plus rest all)
+signed_cell m true plus rest all = minus_cell m rest
+signed_cell m false true rest all = plus_cell m rest
+signed_cell m false false rest all = plus_cell m all
+
+-- a number as it is computed denotes the cell that the number does
+pub capped_cell : (m : ℤ) (bs : List ℕ) → cell_of_number m (capped_number bs) ≡ cell_of_number m (whole_number bs)
+capped_cell m [] = refl
+capped_cell m (b ∷ bs) = signed_cell m (b == 45) (b == 43) (digits_of bs) (digits_of (b ∷ bs))

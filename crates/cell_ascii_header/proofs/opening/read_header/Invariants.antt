@@ -1,0 +1,15 @@
+use Rattle.std.proofs.Common.{◌≡◌, ◌+◌, ◌-◌, ◌*◌, ◌≤◌}
+use Rattle.std.specs.Option.{option_map}
+use Rattle.cell_ascii_header.specs.Ahead.{to_come}
+use Rattle.cell_ascii_text.specs.Header.{header_from}
+use Rattle.cell_ascii_header.proofs.opening.read_header.Given as goal
+
+abbrev pub invariant-loop : goal.invariant-loop
+invariant-loop g l =
+    let s = l.fn.scanner in
+    record {
+      header : option_map (header_from 10 l.fn.keys s.line s.run) (to_come s.ahead)
+          ≡ option_map (header_from (10 - l.counter) l.keys l.scanner.line l.scanner.run) (to_come l.scanner.ahead);
+      lines : l.scanner.line ≤ s.line + l.counter * 1048577;
+      run : l.scanner.run ≤ 1048576;
+    }

@@ -1,0 +1,16 @@
+use Rattle.std.proofs.Common.{◌≡◌, ◌-◌, ◌≤◌, [], length}
+use Rattle.std.specs.Option.{option_map}
+use Rattle.cell_ascii_header.specs.Ahead.{to_come}
+use Rattle.cell_ascii_text.specs.Words.{word_from}
+use Rattle.cell_ascii_header.proofs.scanner.Scanner.read_word.Given as goal
+
+abbrev pub invariant-word : goal.invariant-word
+invariant-word g l = record {
+  word : option_map (word_from l.fn.self.line []) (to_come l.fn.self.ahead) ≡ option_map (word_from l.self.line l.self.word) (to_come l.self.ahead);
+  line : l.self.line ≡ l.fn.self.line;
+  run : l.self.run ≡ 0;
+  short : length l.self.word ≤ 64;
+}
+
+abbrev pub decreases-word : goal.decreases-word
+decreases-word g l = 64 - length l.self.word

@@ -1,0 +1,17 @@
+use Rattle.std.proofs.Common.{◌≡◌, ◌+◌, ◌-◌, ◌≤◌}
+use Rattle.std.specs.Option.{option_map}
+use Rattle.cell_ascii_header.specs.Ahead.{to_come}
+use Rattle.cell_ascii_text.specs.Words.{start_of}
+use Rattle.cell_ascii_header.proofs.scanner.Scanner.skip_spaces.Given as goal
+
+abbrev pub invariant-spaces : goal.invariant-spaces
+invariant-spaces g l = record {
+  starts : option_map (start_of l.fn.self.line l.fn.self.run) (to_come l.fn.self.ahead) ≡ option_map (start_of l.self.line l.self.run) (to_come l.self.ahead);
+  lines : l.self.line + l.fn.self.run ≤ l.fn.self.line + l.self.run;
+  run : l.self.run ≤ 1048576;
+  further : l.fn.self.run ≤ l.self.run;
+  word : l.self.word ≡ l.fn.self.word;
+}
+
+abbrev pub decreases-spaces : goal.decreases-spaces
+decreases-spaces g l = 1048576 - l.self.run

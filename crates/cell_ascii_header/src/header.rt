@@ -1,0 +1,95 @@
+//! What the header of a grid text says of its cells.
+
+ghost use Rattle.std.specs.Prelude.{◌≡◌, Some};
+ghost use Rattle.cell_ascii_text.specs.Cells.{cell_of_word, cell_of_number};
+ghost use Rattle.cell_ascii_header.specs.Capped.{cell_in_range};
+ghost use Rattle.cell_ascii_text.specs.Numbers.{whole_number};
+
+use crate::null_text::NullText;
+use crate::number;
+use cell_ascii_text::fault::GridKind;
+use cell_core::cell::Cell;
+use cell_core::region::Region;
+use std::marker::Model;
+
+/// The region, the text that stands for null, and the number that each cell is multiplied by.
+#[derive(Drop)]
+pub struct Header {
+    region: Region,
+    null_text: NullText,
+    multiplier: i32,
+}
+
+impl Model for Header {
+    ghost use Rattle.cell_ascii_text.specs.Header.{Header};
+
+    ghost Value = { Header };
+
+    ghost view = { λ h. record { region = h.region; null_text = h.null_text; multiplier = h.multiplier } };
+}
+
+fn in_range(number: i64) -> Result<Cell, GridKind>
+    ensures { result ≡ cell_in_range number }
+{
+    if !number::is_in_range(number) {
+        return Err(GridKind::CellRange);
+    }
+    match Cell::value(number as i32) {
+        Some(cell) => Ok(cell),
+        None => Err(GridKind::CellRange),
+    }
+}
+
+// The cell of a number, by the multiplier.
+fn cell_of_number(multiplier: i32, number: i64) -> Result<Cell, GridKind>
+    ensures { result ≡ cell_of_number multiplier (Some number) }
+{
+    if !number::is_in_range(number) {
+        return Err(GridKind::CellRange);
+    }
+    in_range(number * multiplier as i64)
+}
+
+impl Header {
+    /// A header that says this.
+    pub fn new(region: Region, null_text: NullText, multiplier: i32) -> Header
+        ensures { result ≡ record { region = region; null_text = null_text; multiplier = multiplier } }
+    {
+        Header {
+            region,
+            null_text,
+            multiplier,
+        }
+    }
+
+    pub fn region(&self) -> Region
+        ensures { result ≡ self.now.region }
+    {
+        self.region
+    }
+
+    /// The cell that the word of a number denotes.
+    pub fn cell_of_number(&self, word: &[u8], number: i64) -> Result<Cell, GridKind>
+        requires { whole_number word.now ≡ Some number }
+        ensures { result ≡ cell_of_word self.now word.now }
+    {
+        if self.null_text.is(word) {
+            Ok(Cell::null())
+        } else {
+            cell_of_number(self.multiplier, number)
+        }
+    }
+
+    /// The cell that a word denotes.
+    pub fn cell_of_word(&self, word: &[u8]) -> Result<Cell, GridKind>
+        ensures { result ≡ cell_of_word self.now word.now }
+    {
+        if self.null_text.is(word) {
+            return Ok(Cell::null());
+        }
+        match number::whole_number(word) {
+            Some(number) => cell_of_number(self.multiplier, number),
+            None => Err(GridKind::BadCell),
+        }
+    }
+}

@@ -1,0 +1,161 @@
+//! The keys of a header that stood so far.
+
+ghost use Rattle.std.specs.Prelude.{◌≡◌, ◌≤◌, length, Ok, Err, OnOk, IfErr, Option};
+ghost use Rattle.cell_ascii_text.specs.Header.{no_keys, with_key, header_of};
+ghost use Rattle.cell_ascii_header.specs.Given.{given_value, given_null, given_type, judged};
+
+use crate::header::Header;
+use crate::null_text::NullText;
+use crate::number;
+use cell_ascii_text::fault::GridKind;
+use cell_ascii_text::key::Key;
+use cell_core::region::{Region, RegionFault};
+use std::marker::Model;
+
+/// The keys that stood so far, each with its value.
+#[derive(Drop)]
+pub struct Keys {
+    north: Option<i64>,
+    south: Option<i64>,
+    east: Option<i64>,
+    west: Option<i64>,
+    rows: Option<u32>,
+    cols: Option<u32>,
+    null: Option<NullText>,
+    kind: bool,
+    multiplier: Option<i32>,
+}
+
+impl Model for Keys {
+    ghost use Rattle.cell_ascii_text.specs.Header.{Keys};
+
+    ghost Value = { Keys };
+
+    ghost view = { λ k. record { north = k.north; south = k.south; east = k.east; west = k.west; rows = k.rows; cols = k.cols; null = k.null; kind = k.kind; multiplier = k.multiplier } };
+}
+
+// A key is given once, and its value is a number.
+fn given<T: Copy>(old: Option<T>, value: Option<T>) -> Result<T, GridKind>
+    ensures { result ≡ given_value old value }
+{
+    match (old, value) {
+        (Some(_), _) => Err(GridKind::TwiceKey),
+        (None, None) => Err(GridKind::BadNumber),
+        (None, Some(value)) => Ok(value),
+    }
+}
+
+// A null text is given once, and has no colon.
+fn given_null(old: &Option<NullText>, text: &[u8]) -> Result<NullText, GridKind>
+    requires { length text.now ≤ 64 }
+    ensures { result ≡ given_null old.now text.now }
+{
+    if text.contains(&b':') {
+        return Err(GridKind::BadHeader);
+    }
+    match old {
+        Some(_) => Err(GridKind::TwiceKey),
+        None => Ok(NullText::new(text)),
+    }
+}
+
+// The type is given once, and is that of whole numbers.
+fn given_type(old: bool, text: &[u8]) -> Result<bool, GridKind>
+    ensures { result ≡ given_type old text.now }
+{
+    if old {
+        return Err(GridKind::TwiceKey);
+    }
+    if text != b"int".as_slice() {
+        return Err(GridKind::BadType);
+    }
+    Ok(true)
+}
+
+// The header over a region, where there is one.
+fn judged(
+    region: Result<Region, RegionFault>,
+    null: Option<NullText>,
+    multiplier: Option<i32>,
+) -> Result<Header, GridKind>
+    ensures { result ≡ judged region null multiplier }
+{
+    match region {
+        Ok(region) => Ok(Header::new(
+            region,
+            null.unwrap_or(NullText::usual()),
+            multiplier.unwrap_or(1),
+        )),
+        Err(fault) => Err(GridKind::Region(fault)),
+    }
+}
+
+impl Keys {
+    pub fn new() -> Keys
+        ensures { result ≡ no_keys }
+    {
+        Keys {
+            north: None,
+            south: None,
+            east: None,
+            west: None,
+            rows: None,
+            cols: None,
+            null: None,
+            kind: false,
+            multiplier: None,
+        }
+    }
+
+    /// Adds a key, whose value is a text.
+    pub fn give(&mut self, key: Option<Key>, text: &[u8]) -> Result<(), GridKind>
+        requires { length text.now ≤ 64 }
+        ensures ok { OnOk result (with_key self.old key text.now ≡ Ok self.new) }
+        ensures err { IfErr result (λ kind. with_key self.old key text.now ≡ Err kind) }
+    {
+        match key {
+            None => return Err(GridKind::BadHeader),
+            Some(Key::North) => self.north = Some(given(self.north, number::coordinate(text))?),
+            Some(Key::South) => self.south = Some(given(self.south, number::coordinate(text))?),
+            Some(Key::East) => self.east = Some(given(self.east, number::coordinate(text))?),
+            Some(Key::West) => self.west = Some(given(self.west, number::coordinate(text))?),
+            Some(Key::Rows) => self.rows = Some(given(self.rows, number::side(text))?),
+            Some(Key::Cols) => self.cols = Some(given(self.cols, number::side(text))?),
+            Some(Key::Null) => self.null = Some(given_null(&self.null, text)?),
+            Some(Key::CellType) => self.kind = given_type(self.kind, text)?,
+            Some(Key::Multiplier) => {
+                self.multiplier = Some(given(self.multiplier, number::whole_in_range(text))?)
+            }
+        }
+        Ok(())
+    }
+
+    /// The header that the keys give.
+    pub fn header(self) -> Result<Header, GridKind>
+        ensures { result ≡ header_of self }
+    {
+        let Some(north) = self.north else {
+            return Err(GridKind::MissingKey)
+        };
+        let Some(south) = self.south else {
+            return Err(GridKind::MissingKey)
+        };
+        let Some(east) = self.east else {
+            return Err(GridKind::MissingKey)
+        };
+        let Some(west) = self.west else {
+            return Err(GridKind::MissingKey)
+        };
+        let Some(rows) = self.rows else {
+            return Err(GridKind::MissingKey)
+        };
+        let Some(cols) = self.cols else {
+            return Err(GridKind::MissingKey)
+        };
+        judged(
+            Region::new(north, south, east, west, rows, cols),
+            self.null,
+            self.multiplier,
+        )
+    }
+}

@@ -1,0 +1,304 @@
+-- The keys of a header: what one more changes, and what all of them give.
+use Rattle.std.proofs.Common.{◌≡◌, ℕ, suc, ◌+◌, ◌<◌, ℤ, List, [], Option, Some, None, Bool, true, false, is_some, refl, ap, sym, ◌∙◌, arith, Result, Ok, Err, not, subst}
+use Rattle.std.specs.Prelude.{nat_le, unwrap_or, if◌then◌else◌}
+use Rattle.std.specs.Option.{option_map}
+use Rattle.std.proofs.lemmas.Bool.{leb-true, and_parts}
+use Rattle.cell_core.specs.Region.{RegionValue, region_fault, is_side, is_rectangle, is_countable}
+use Rattle.cell_core.specs.declared.region.RegionFault.{RegionFault}
+use Rattle.cell_core.specs.declared.region.RegionFault.TheVariants.{BadExtent, BadRows, BadCols, TooManyCells}
+use Rattle.cell_ascii_text.specs.Numbers.{coordinate, side, whole_in_range}
+use Rattle.cell_ascii_text.specs.Header.{Keys, Header, judged, given, with_key, header_of, has_colon, is_int, usual_null, usual_multiplier}
+use Rattle.cell_ascii_text.specs.GridText.{null_text, int_type}
+use Rattle.cell_ascii_text.specs.declared.fault.GridKind.TheVariants.{BadHeader, TwiceKey, BadType}
+use Rattle.cell_ascii_text.specs.declared.key.Key.{Key}
+use Rattle.cell_ascii_text.specs.declared.key.Key.TheVariants.{North, South, East, West, Rows, Cols, Null, CellType, Multiplier}
+
+-- the value of a key
+pub data Value : Type 0 where
+  Number : ℤ → Value
+  Count : ℕ → Value
+  Text : List ℕ → Value
+
+abbrev pub stood : Bool → Option (Unit {0})
+stood true = Some tt
+stood false = None
+
+-- what stands for a key
+abbrev pub held : Keys → Key → Option Value
+held k North = option_map Number k.north
+held k South = option_map Number k.south
+held k East = option_map Number k.east
+held k West = option_map Number k.west
+held k Rows = option_map Count k.rows
+held k Cols = option_map Count k.cols
+held k Null = option_map Text k.null
+held k CellType = option_map (λ _. Text []) (stood k.kind)
+held k Multiplier = option_map Number k.multiplier
+
+-- what a value gives a key
+abbrev pub number_of : Key → List ℕ → Option Value
+number_of North value = option_map Number (coordinate value)
+number_of South value = option_map Number (coordinate value)
+number_of East value = option_map Number (coordinate value)
+number_of West value = option_map Number (coordinate value)
+number_of Rows value = option_map Count (side value)
+number_of Cols value = option_map Count (side value)
+number_of Null value = option_map Text (null_text value)
+number_of CellType value = option_map (λ _. Text []) (int_type value)
+number_of Multiplier value = option_map Number (whole_in_range value)
+
+abbrev pub open_one : {X : Type 0} → Option X → ℕ
+open_one None = 1
+open_one (Some x) = 0
+
+-- how many keys did not stand yet
+abbrev pub open_keys : Keys → ℕ
+open_keys k = open_one k.north + open_one k.south + open_one k.east + open_one k.west + open_one k.rows + open_one k.cols + open_one k.null + open_one (stood k.kind) + open_one k.multiplier
+
+given_is : {X : Type 0} (o value : Option X) (keep : X → Keys) (k : Keys) → given o value keep ≡ Ok k → (o ≡ None) × (x : X) × (value ≡ Some x) × (keep x ≡ k)
+given_is (Some old) value keep k e = cc
+given_is None None keep k e = cc
+given_is None (Some x) keep k e = (refl, x, refl, cc)
+
+-- k is a with one key more, whose value gives a number
+pub record IsGiven (a : Keys) (q : Key) (value : List ℕ) (k : Keys) : Type 0 where
+  pub free : held a q ≡ None
+  pub number : is_some (number_of q value) ≡ true
+  pub kept : held k q ≡ number_of q value
+  pub others : (p : Key) → (p ≡ q → ⊥) → held k p ≡ held a p
+  pub fewer : suc (open_keys k) ≡ open_keys a
+
+pub key_given : (a : Keys) (q : Key) (value : List ℕ) (k : Keys) → with_key a (Some q) value ≡ Ok k → IsGiven a q value k
+key_given a North value k e =
+    let g = given_is a.north (coordinate value) (λ x. record a { north = Some x }) k e in
+    record {
+      free = ap (option_map Number) g.0;
+      number = ap (λ (o : Option ℤ). is_some (option_map Number o)) g.2;
+      kept = ap (λ (m : Keys). option_map Number m.north) (sym g.3) ∙ ap (option_map Number) (sym g.2);
+      others = λ p d. ap (λ (m : Keys). held m p) (sym g.3) ∙ by g.1 p d;
+      fewer = ap (λ (m : Keys). suc (open_keys m)) (sym g.3) ∙ (let o = ap open_one g.0 in omega arith);
+    }
+  where
+    by : (x : ℤ) (p : Key) → (p ≡ North → ⊥) → held (record a { north = Some x }) p ≡ held a p
+    by x North d = absurd (d refl)
+    by x _ d = refl
+key_given a South value k e =
+    let g = given_is a.south (coordinate value) (λ x. record a { south = Some x }) k e in
+    record {
+      free = ap (option_map Number) g.0;
+      number = ap (λ (o : Option ℤ). is_some (option_map Number o)) g.2;
+      kept = ap (λ (m : Keys). option_map Number m.south) (sym g.3) ∙ ap (option_map Number) (sym g.2);
+      others = λ p d. ap (λ (m : Keys). held m p) (sym g.3) ∙ by g.1 p d;
+      fewer = ap (λ (m : Keys). suc (open_keys m)) (sym g.3) ∙ (let o = ap open_one g.0 in omega arith);
+    }
+  where
+    by : (x : ℤ) (p : Key) → (p ≡ South → ⊥) → held (record a { south = Some x }) p ≡ held a p
+    by x South d = absurd (d refl)
+    by x _ d = refl
+key_given a East value k e =
+    let g = given_is a.east (coordinate value) (λ x. record a { east = Some x }) k e in
+    record {
+      free = ap (option_map Number) g.0;
+      number = ap (λ (o : Option ℤ). is_some (option_map Number o)) g.2;
+      kept = ap (λ (m : Keys). option_map Number m.east) (sym g.3) ∙ ap (option_map Number) (sym g.2);
+      others = λ p d. ap (λ (m : Keys). held m p) (sym g.3) ∙ by g.1 p d;
+      fewer = ap (λ (m : Keys). suc (open_keys m)) (sym g.3) ∙ (let o = ap open_one g.0 in omega arith);
+    }
+  where
+    by : (x : ℤ) (p : Key) → (p ≡ East → ⊥) → held (record a { east = Some x }) p ≡ held a p
+    by x East d = absurd (d refl)
+    by x _ d = refl
+key_given a West value k e =
+    let g = given_is a.west (coordinate value) (λ x. record a { west = Some x }) k e in
+    record {
+      free = ap (option_map Number) g.0;
+      number = ap (λ (o : Option ℤ). is_some (option_map Number o)) g.2;
+      kept = ap (λ (m : Keys). option_map Number m.west) (sym g.3) ∙ ap (option_map Number) (sym g.2);
+      others = λ p d. ap (λ (m : Keys). held m p) (sym g.3) ∙ by g.1 p d;
+      fewer = ap (λ (m : Keys). suc (open_keys m)) (sym g.3) ∙ (let o = ap open_one g.0 in omega arith);
+    }
+  where
+    by : (x : ℤ) (p : Key) → (p ≡ West → ⊥) → held (record a { west = Some x }) p ≡ held a p
+    by x West d = absurd (d refl)
+    by x _ d = refl
+key_given a Rows value k e =
+    let g = given_is a.rows (side value) (λ x. record a { rows = Some x }) k e in
+    record {
+      free = ap (option_map Count) g.0;
+      number = ap (λ (o : Option ℕ). is_some (option_map Count o)) g.2;
+      kept = ap (λ (m : Keys). option_map Count m.rows) (sym g.3) ∙ ap (option_map Count) (sym g.2);
+      others = λ p d. ap (λ (m : Keys). held m p) (sym g.3) ∙ by g.1 p d;
+      fewer = ap (λ (m : Keys). suc (open_keys m)) (sym g.3) ∙ (let o = ap open_one g.0 in omega arith);
+    }
+  where
+    by : (x : ℕ) (p : Key) → (p ≡ Rows → ⊥) → held (record a { rows = Some x }) p ≡ held a p
+    by x Rows d = absurd (d refl)
+    by x _ d = refl
+key_given a Cols value k e =
+    let g = given_is a.cols (side value) (λ x. record a { cols = Some x }) k e in
+    record {
+      free = ap (option_map Count) g.0;
+      number = ap (λ (o : Option ℕ). is_some (option_map Count o)) g.2;
+      kept = ap (λ (m : Keys). option_map Count m.cols) (sym g.3) ∙ ap (option_map Count) (sym g.2);
+      others = λ p d. ap (λ (m : Keys). held m p) (sym g.3) ∙ by g.1 p d;
+      fewer = ap (λ (m : Keys). suc (open_keys m)) (sym g.3) ∙ (let o = ap open_one g.0 in omega arith);
+    }
+  where
+    by : (x : ℕ) (p : Key) → (p ≡ Cols → ⊥) → held (record a { cols = Some x }) p ≡ held a p
+    by x Cols d = absurd (d refl)
+    by x _ d = refl
+key_given a Null value k e = by (has_colon value) refl e
+  where
+    others : (x : List ℕ) (p : Key) → (p ≡ Null → ⊥) → held (record a { null = Some x }) p ≡ held a p
+    others x Null d = absurd (d refl)
+    others x _ d = refl
+
+    by : (t : Bool) → has_colon value ≡ t → (if t then Err BadHeader else given a.null (Some value) (λ x. record a { null = Some x })) ≡ Ok k → IsGiven a Null value k
+    by true is e = cc
+    by false is e =
+        let g = given_is a.null (Some value) (λ x. record a { null = Some x }) k e in
+        let read : null_text value ≡ Some g.1 = rw is g.2 in
+        record {
+          free = ap (option_map Text) g.0;
+          number = ap (λ (o : Option (List ℕ)). is_some (option_map Text o)) read;
+          kept = ap (λ (m : Keys). option_map Text m.null) (sym g.3) ∙ ap (option_map Text) (sym read);
+          others = λ p d. ap (λ (m : Keys). held m p) (sym g.3) ∙ others g.1 p d;
+          fewer = ap (λ (m : Keys). suc (open_keys m)) (sym g.3) ∙ (let o = ap open_one g.0 in omega arith);
+        }
+key_given a CellType value k e = by a.kind (is_int value) refl refl e
+  where
+    others : (p : Key) → (p ≡ CellType → ⊥) → held (record a { kind = true }) p ≡ held a p
+    others CellType d = absurd (d refl)
+    others _ d = refl
+
+    by : (t u : Bool) → a.kind ≡ t → is_int value ≡ u → (if t then Err TwiceKey else (if u then Ok (record a { kind = true }) else Err BadType)) ≡ Ok k → IsGiven a CellType value k
+    by true u stands is e = cc
+    by false false stands is e = cc
+    by false true stands is e =
+        let read : int_type value ≡ Some tt = rw is refl in
+        let same : record a { kind = true } ≡ k = cc in
+        record {
+          free = ap (λ (t : Bool). option_map (λ _. Text []) (stood t)) stands;
+          number = ap (λ (o : Option (Unit {0})). is_some (option_map (λ _. Text []) o)) read;
+          kept = ap (λ (m : Keys). option_map (λ _. Text []) (stood m.kind)) (sym same) ∙ ap (option_map (λ _. Text [])) (sym read);
+          others = λ p d. ap (λ (m : Keys). held m p) (sym same) ∙ others p d;
+          fewer = ap (λ (m : Keys). suc (open_keys m)) (sym same) ∙ (let o = ap (λ (t : Bool). open_one (stood t)) stands in omega arith);
+        }
+key_given a Multiplier value k e =
+    let g = given_is a.multiplier (whole_in_range value) (λ x. record a { multiplier = Some x }) k e in
+    record {
+      free = ap (option_map Number) g.0;
+      number = ap (λ (o : Option ℤ). is_some (option_map Number o)) g.2;
+      kept = ap (λ (m : Keys). option_map Number m.multiplier) (sym g.3) ∙ ap (option_map Number) (sym g.2);
+      others = λ p d. ap (λ (m : Keys). held m p) (sym g.3) ∙ by g.1 p d;
+      fewer = ap (λ (m : Keys). suc (open_keys m)) (sym g.3) ∙ (let o = ap open_one g.0 in omega arith);
+    }
+  where
+    by : (x : ℤ) (p : Key) → (p ≡ Multiplier → ⊥) → held (record a { multiplier = Some x }) p ≡ held a p
+    by x Multiplier d = absurd (d refl)
+    by x _ d = refl
+
+pub key_known : (a : Keys) (key : Option Key) (value : List ℕ) (k : Keys) → with_key a key value ≡ Ok k → (q : Key) × (key ≡ Some q) × IsGiven a q value k
+key_known a None value k e = cc
+key_known a (Some q) value k e = (q, refl, key_given a q value k e)
+
+-- a key that did not stand is taken, where its value gives a number
+pub key_taken : (a : Keys) (q : Key) (value : List ℕ) → held a q ≡ None → is_some (number_of q value) ≡ true → (k : Keys) × (with_key a (Some q) value ≡ Ok k)
+key_taken a q value = by q
+  where
+    takes : {X : Type 0} (o number : Option X) (keep : X → Keys) → o ≡ None → is_some number ≡ true → (k : Keys) × (given o number keep ≡ Ok k)
+    takes (Some x) number keep e s = cc
+    takes None None keep e s = cc
+    takes None (Some x) keep e s = (keep x, refl)
+
+    free : {X : Type 0} (wrap : X → Value) (o : Option X) → option_map wrap o ≡ None → o ≡ None
+    free wrap None e = refl
+    free wrap (Some x) e = cc
+
+    wrapped : {X : Type 0} (wrap : X → Value) (o : Option X) → is_some (option_map wrap o) ≡ true → is_some o ≡ true
+    wrapped wrap None e = e
+    wrapped wrap (Some x) e = refl
+
+    texted : (t : Bool) → has_colon value ≡ t → option_map Text a.null ≡ None → is_some (option_map Text (if t then None else Some value)) ≡ true → (k : Keys) × ((if t then Err BadHeader else given a.null (Some value) (λ x. record a { null = Some x })) ≡ Ok k)
+    texted true is e s = cc
+    texted false is e s = takes a.null (Some value) (λ x. record a { null = Some x }) (free Text a.null e) refl
+
+    typed : (t u : Bool) → option_map (λ _. Text []) (stood t) ≡ None → is_some (option_map (λ _. Text []) (if u then Some (tt {0}) else None)) ≡ true → (k : Keys) × ((if t then Err TwiceKey else (if u then Ok (record a { kind = true }) else Err BadType)) ≡ Ok k)
+    typed true u e s = cc
+    typed false false e s = cc
+    typed false true e s = (record a { kind = true }, refl)
+
+    by : (q : Key) → held a q ≡ None → is_some (number_of q value) ≡ true → (k : Keys) × (with_key a (Some q) value ≡ Ok k)
+    by North e s = takes a.north (coordinate value) (λ x. record a { north = Some x }) (free Number a.north e) (wrapped Number (coordinate value) s)
+    by South e s = takes a.south (coordinate value) (λ x. record a { south = Some x }) (free Number a.south e) (wrapped Number (coordinate value) s)
+    by East e s = takes a.east (coordinate value) (λ x. record a { east = Some x }) (free Number a.east e) (wrapped Number (coordinate value) s)
+    by West e s = takes a.west (coordinate value) (λ x. record a { west = Some x }) (free Number a.west e) (wrapped Number (coordinate value) s)
+    by Rows e s = takes a.rows (side value) (λ x. record a { rows = Some x }) (free Count a.rows e) (wrapped Count (side value) s)
+    by Cols e s = takes a.cols (side value) (λ x. record a { cols = Some x }) (free Count a.cols e) (wrapped Count (side value) s)
+    by Null e s = texted (has_colon value) refl e s
+    by CellType e s = typed a.kind (is_int value) e s
+    by Multiplier e s = takes a.multiplier (whole_in_range value) (λ x. record a { multiplier = Some x }) (free Number a.multiplier e) (wrapped Number (whole_in_range value) s)
+
+-- the keys are those of a header, whose region is a good one
+pub record IsHeaderOf (k : Keys) (h : Header) : Type 0 where
+  pub north : k.north ≡ Some h.region.north
+  pub south : k.south ≡ Some h.region.south
+  pub east : k.east ≡ Some h.region.east
+  pub west : k.west ≡ Some h.region.west
+  pub rows : k.rows ≡ Some h.region.rows
+  pub cols : k.cols ≡ Some h.region.cols
+  pub null : unwrap_or k.null usual_null ≡ h.null_text
+  pub multiplier : unwrap_or k.multiplier usual_multiplier ≡ h.multiplier
+  pub good : region_fault h.region ≡ Ok h.region
+
+same_region : (e r : RegionValue) → region_fault e ≡ Ok r → e ≡ r
+same_region e r g = by (is_rectangle e) (is_side e.rows) (is_side e.cols) (is_countable e) g
+  where
+    by : (t u v w : Bool) → (if not t then Err BadExtent else (if not u then Err BadRows else (if not v then Err BadCols else (if not w then Err TooManyCells else Ok e)))) ≡ Ok r → e ≡ r
+    by false u v w g = cc
+    by true false v w g = cc
+    by true true false w g = cc
+    by true true true false g = cc
+    by true true true true g = cc
+
+abbrev headed : Keys → RegionValue → Header
+headed k x = record { region = x; null_text = unwrap_or k.null usual_null; multiplier = unwrap_or k.multiplier usual_multiplier }
+
+good_region : (k : Keys) (x : RegionValue) (h : Header) (f : Result RegionValue RegionFault) → region_fault x ≡ f → judged k f ≡ Ok h → (headed k x ≡ h) × (region_fault x ≡ Ok x)
+good_region k x h (Err f) e j = cc
+good_region k x h (Ok y) e j =
+    let same = same_region x y e in
+    let p : headed k y ≡ h = cc in
+    (ap (headed k) same ∙ p, e ∙ ap Ok (sym same))
+
+abbrev with_six : Keys → Option ℤ → Option ℤ → Option ℤ → Option ℤ → Option ℕ → Option ℕ → Keys
+with_six k n s e w r c = record k { north = n; south = s; east = e; west = w; rows = r; cols = c }
+
+pub header_given : (k : Keys) (h : Header) → header_of k ≡ Ok h → IsHeaderOf k h
+header_given k h e = by k.north k.south k.east k.west k.rows k.cols e
+  where
+    by : (n s e w : Option ℤ) (r c : Option ℕ) → header_of (with_six k n s e w r c) ≡ Ok h → IsHeaderOf (with_six k n s e w r c) h
+    by (Some n) (Some s) (Some e) (Some w) (Some r) (Some c) j =
+        let x : RegionValue = record { north = n; south = s; east = e; west = w; rows = r; cols = c } in
+        let good = good_region k x h (region_fault x) refl j in
+        subst (λ (g : Header). IsHeaderOf (with_six k (Some n) (Some s) (Some e) (Some w) (Some r) (Some c)) g) good.0
+        (record { north = refl; south = refl; east = refl; west = refl; rows = refl; cols = refl; null = refl; multiplier = refl; good = good.1 })
+    by n s e w r c j = cc
+
+-- and the keys of a header with a good region give it
+pub header_kept : (k : Keys) (h : Header) → IsHeaderOf k h → header_of k ≡ Ok h
+header_kept k h is = (λ i. header_of (record k { north = is.north i; south = is.south i; east = is.east i; west = is.west i; rows = is.rows i; cols = is.cols i })) ∙ ap (judged k) is.good
+    ∙ (λ i. Ok (record { region = h.region; null_text = is.null i; multiplier = is.multiplier i }))
+
+-- a good region has rows and columns
+pub sides : (region : RegionValue) → region_fault region ≡ Ok region → (0 < region.rows) × (0 < region.cols)
+sides region good = by (is_rectangle region) (is_side region.rows) (is_side region.cols) refl refl good
+  where
+    least : (n : ℕ) → is_side n ≡ true → 0 < n
+    least n e = let t = leb-true 1 n (and_parts (nat_le 1 n) (nat_le n 65535) e).0 in omega arith
+
+    by : (t u v : Bool) → is_side region.rows ≡ u → is_side region.cols ≡ v → (if not t then Err BadExtent else (if not u then Err BadRows else (if not v then Err BadCols else (if not (is_countable region) then Err TooManyCells else Ok region)))) ≡ Ok region → (0 < region.rows) × (0 < region.cols)
+    by false u v r c g = cc
+    by true false v r c g = cc
+    by true true false r c g = cc
+    by true true true r c g = (least region.rows r, least region.cols c)

@@ -1,0 +1,259 @@
+-- The words of each line of a text, byte by byte, and the steps of the reading against them.
+use Rattle.std.proofs.Common.{◌≡◌, ℕ, suc, ◌+◌, ◌-◌, ◌<◌, ◌≤◌, List, [], ◌∷◌, ◌++◌, Option, Some, None, ◌==◌, Bool, true, false, cond, drop, take, length, refl, ap, sym, ◌∙◌, arith, if◌then◌else◌, append-nil, append_assoc, length-append, Result, Ok, Err, not, ◌&&◌, ◌||◌, ◌⊎◌, inl, inr}
+use Rattle.std.specs.Option.{option_map, option_and_then}
+use Rattle.std.specs.List.{prefix_len}
+use Rattle.std.proofs.lemmas.List.Sums.{sum_by-append}
+use Rattle.std.proofs.lemmas.Bool.{cases_Bool, cases_lt}
+use Rattle.std.proofs.lemmas.Bool.Decides.{nat_tests}
+use Rattle.std.specs.Prelude.{nat_lt}
+use Rattle.cell_core.specs.Device.{Coming}
+use Rattle.cell_ascii_text.specs.Words.{Start, Begins, Ends, Stops, start_of, start_at, is_space, is_word, newlines, fault, word_from, word_end}
+use Rattle.cell_ascii_text.specs.Header.{Gap, Word, Feed, Last, Fault, gap_of, gap_at, is_blank}
+use Rattle.cell_ascii_text.specs.declared.fault.GridKind.TheVariants.{Read, ReaderStuck, LongToken}
+use Rattle.cell_ascii_text.specs.declared.fault.GridFault.{GridFault}
+
+abbrev pub coming : List ℕ → Bool → Coming
+coming bs f = record { bytes = bs; fails = f }
+
+-- The next word, one byte further.
+abbrev parts : Bool → ℕ → ℕ → List ℕ → Bool → Start
+parts stuck at_fault at_start rest f = if stuck then Stops (fault ReaderStuck at_fault) else start_at at_start rest f
+
+prefix_more : (b : ℕ) (bs : List ℕ) → is_space b ≡ true → prefix_len is_space (b ∷ bs) ≡ suc (prefix_len is_space bs)
+prefix_more b bs space = ap (λ (t : Bool). cond t (1 + prefix_len is_space bs) 0) space ∙ omega arith
+
+less_more : (run : ℕ) → run < 1048576 → 1048576 - run ≡ suc (1048576 - (run + 1))
+less_more run room = omega arith
+
+newlines_more : (line b : ℕ) (bs : List ℕ) → line + newlines (b ∷ bs) ≡ line + cond (b == 10) 1 0 + newlines bs
+newlines_more line b bs = omega (arith, sum_by-append (λ (x : ℕ). cond (x == 10) 1 0) (b ∷ []) bs)
+
+pub no_feed : (b : ℕ) → is_space b ≡ false → (b == 10) ≡ false
+no_feed b e = by (b == 32) (b == 9) (b == 13) (b == 10) e
+  where
+    by : (s t r f : Bool) → ((s || t) || (r || f)) ≡ false → f ≡ false
+    by true t r f e = cc
+    by false true r f e = cc
+    by false false true f e = cc
+    by false false false f e = e
+
+pub feed_space : (b : ℕ) → (b == 10) ≡ true → is_space b ≡ true
+feed_space b e = by (b == 32) (b == 9) (b == 13) (b == 10) e
+  where
+    by : (s t r f : Bool) → f ≡ true → ((s || t) || (r || f)) ≡ true
+    by true t r f e = refl
+    by false true r f e = refl
+    by false false true f e = refl
+    by false false false f e = e
+
+module _ (line run : ℕ) (low : run ≤ 1048576) where
+  pub start-ends : start_of line run (coming [] false) ≡ Ends line
+  unfolding start_of
+  start-ends = grind (arith, nat_tests)
+
+  pub start-fails : start_of line run (coming [] true) ≡ Stops (fault Read line)
+  unfolding start_of
+  start-fails = grind (arith, nat_tests)
+
+  pub start-begins : (b : ℕ) (bs : List ℕ) (f : Bool) → is_space b ≡ false → start_of line run (coming (b ∷ bs) f) ≡ Begins line (coming (b ∷ bs) f)
+  unfolding start_of
+  start-begins b bs f word = grind (arith, nat_tests)
+
+  pub start-stuck : (b : ℕ) (bs : List ℕ) (f : Bool) → is_space b ≡ true → 1048576 ≤ run → start_of line run (coming (b ∷ bs) f) ≡ Stops (fault ReaderStuck line)
+  unfolding start_of
+  start-stuck b bs f space full = grind (arith, nat_tests)
+
+  pub start-more : (b : ℕ) (bs : List ℕ) (f : Bool) → is_space b ≡ true → run < 1048576 → start_of line run (coming (b ∷ bs) f) ≡ start_of (line + cond (b == 10) 1 0) (run + 1) (coming bs f)
+  unfolding start_of
+  start-more b bs f space room =
+      let gap = prefix_len is_space bs in
+      let longer : prefix_len is_space (b ∷ bs) ≡ suc gap = prefix_more b bs space in
+      let tests : nat_lt 1048576 (run + suc gap) ≡ nat_lt 1048576 (run + 1 + gap) = ap (nat_lt 1048576) (omega arith) in
+      let stuck : line + newlines (take (1048576 - run) (b ∷ bs)) ≡ line + cond (b == 10) 1 0 + newlines (take (1048576 - (run + 1)) bs) =
+      rw (less_more run room) (newlines_more line b (take (1048576 - (run + 1)) bs)) in
+      ap (λ (n : ℕ). parts (nat_lt 1048576 (run + n)) (line + newlines (take (1048576 - run) (b ∷ bs))) (line + newlines (take n (b ∷ bs))) (drop n (b ∷ bs)) f) longer
+      ∙ (λ i. parts (tests i) (stuck i) (newlines_more line b (take gap bs) i) (drop gap bs) f)
+
+  -- What ends the blanks of a line, one byte further.
+  pub gap-ends : gap_of line run (coming [] false) ≡ Last
+  unfolding gap_of
+  gap-ends = grind (arith, nat_tests)
+
+  pub gap-fails : gap_of line run (coming [] true) ≡ Fault (fault Read line)
+  unfolding gap_of
+  gap-fails = grind (arith, nat_tests)
+
+  pub gap-word : (b : ℕ) (bs : List ℕ) (f : Bool) → is_space b ≡ false → gap_of line run (coming (b ∷ bs) f) ≡ Word (coming (b ∷ bs) f)
+  unfolding gap_of
+  gap-word b bs f word = let e = no_feed b word in grind (arith, nat_tests)
+
+  pub gap-feed : (b : ℕ) (bs : List ℕ) (f : Bool) → (b == 10) ≡ true → run < 1048576 → gap_of line run (coming (b ∷ bs) f) ≡ Feed (run + 1) (coming bs f)
+  unfolding gap_of
+  gap-feed b bs f feed room = let e = feed_space b feed in grind (arith, nat_tests)
+
+  pub gap-stuck_feed : (b : ℕ) (bs : List ℕ) (f : Bool) → (b == 10) ≡ true → 1048576 ≤ run → gap_of line run (coming (b ∷ bs) f) ≡ Fault (fault ReaderStuck line)
+  unfolding gap_of
+  gap-stuck_feed b bs f feed full = let e = feed_space b feed in grind (arith, nat_tests)
+
+  pub gap-stuck : (b : ℕ) (bs : List ℕ) (f : Bool) → is_space b ≡ true → (b == 10) ≡ false → 1048576 ≤ run → gap_of line run (coming (b ∷ bs) f) ≡ Fault (fault ReaderStuck line)
+  unfolding gap_of
+  gap-stuck b bs f space blank full = grind (arith, nat_tests)
+
+  pub gap-more : (b : ℕ) (bs : List ℕ) (f : Bool) → is_space b ≡ true → (b == 10) ≡ false → gap_of line run (coming (b ∷ bs) f) ≡ gap_of line (run + 1) (coming bs f)
+  unfolding gap_of
+  gap-more b bs f space blank =
+      let gap = prefix_len is_blank bs in
+      let longer : prefix_len is_blank (b ∷ bs) ≡ suc gap = (λ i. cond (space i && not (blank i)) (1 + gap) 0) ∙ omega arith in
+      let count : run + suc gap ≡ run + 1 + gap = omega arith in
+      ap (λ (n : ℕ). if nat_lt 1048576 (run + n) then Fault (fault ReaderStuck line) else gap_at line (run + n) (drop n (b ∷ bs)) f) longer
+      ∙ (λ i. if nat_lt 1048576 (count i) then Fault (fault ReaderStuck line) else gap_at line (count i) (drop gap bs) f)
+
+-- The rest of a word, one byte further.
+module _ (line : ℕ) (front : List ℕ) (short : length front ≤ 64) where
+  pub word-ends : word_from line front (coming [] false) ≡ Ok (front, coming [] false)
+  unfolding word_from
+  word-ends = grind (arith, nat_tests, append-nil)
+
+  pub word-fails : word_from line front (coming [] true) ≡ Err (fault Read line)
+  unfolding word_from
+  word-fails = grind (arith, nat_tests)
+
+  pub word-stops : (b : ℕ) (bs : List ℕ) (f : Bool) → is_space b ≡ true → word_from line front (coming (b ∷ bs) f) ≡ Ok (front, coming (b ∷ bs) f)
+  unfolding word_from
+  word-stops b bs f space = grind (arith, nat_tests, append-nil)
+
+  pub word-long : (b : ℕ) (bs : List ℕ) (f : Bool) → is_space b ≡ false → 64 ≤ length front → word_from line front (coming (b ∷ bs) f) ≡ Err (fault LongToken line)
+  unfolding word_from
+  word-long b bs f word full = grind (arith, nat_tests)
+
+  pub word-more : (b : ℕ) (bs : List ℕ) (f : Bool) → is_space b ≡ false → word_from line front (coming (b ∷ bs) f) ≡ word_from line (front ++ b ∷ []) (coming bs f)
+  unfolding word_from
+  word-more b bs f word =
+      let more = prefix_len is_word bs in
+      let longer : prefix_len is_word (b ∷ bs) ≡ suc more = ap (λ (t : Bool). cond (not t) (1 + more) 0) word ∙ omega arith in
+      let count : length front + suc more ≡ length (front ++ b ∷ []) + more = omega (arith, length-append front (b ∷ [])) in
+      let whole : front ++ (b ∷ take more bs) ≡ (front ++ b ∷ []) ++ take more bs = sym (append_assoc front (b ∷ []) (take more bs)) in
+      ap (λ (n : ℕ). if nat_lt 64 (length front + n) then Err (fault LongToken line) else word_end line (front ++ take n (b ∷ bs)) (drop n (b ∷ bs)) f) longer
+      ∙ (λ i. if nat_lt 64 (count i) then Err (fault LongToken line) else word_end line (whole i) (drop more bs) f)
+
+-- The words of each line.
+abbrev pub Lines : Type 0
+Lines = List (List (List ℕ))
+
+abbrev pub first_line : Lines → List (List ℕ)
+first_line [] = []
+first_line (l ∷ ls) = l
+
+abbrev pub rest_lines : Lines → Lines
+rest_lines [] = []
+rest_lines (l ∷ ls) = ls
+
+-- a word in front of the first line
+abbrev pub put : List ℕ → Lines → Lines
+put w ls = (w ∷ first_line ls) ∷ rest_lines ls
+
+abbrev pub put_token : List ℕ → Lines → Lines
+put_token [] ls = ls
+put_token (x ∷ xs) ls = put (x ∷ xs) ls
+
+abbrev pub opening : Bool → Lines → Lines
+opening true ls = [] ∷ ls
+opening false ls = ls
+
+-- the words of each line of what is to come, where a run of spaces has gone on for `run` bytes, or a word so far; none of a text beyond the limits or that fails
+abbrev pub lex : ℕ → List ℕ → List ℕ → Bool → Option Lines
+lex run token [] true = None
+lex run token [] false = Some (put_token token ([] ∷ []))
+lex run token (b ∷ bs) f =
+    if is_space b then (if nat_lt run 1048576 then option_map (λ ls. put_token token (opening (b == 10) ls)) (lex (run + 1) [] bs f) else None)
+    else (if nat_lt (length token) 64 then lex 0 (token ++ b ∷ []) bs f else None)
+
+pub lex-space : (run : ℕ) (token : List ℕ) (b : ℕ) (bs : List ℕ) (f : Bool) → is_space b ≡ true → run < 1048576 → lex run token (b ∷ bs) f ≡ option_map (λ ls. put_token token (opening (b == 10) ls)) (lex (run + 1) [] bs f)
+lex-space run token b bs f space room = let t : nat_lt run 1048576 ≡ true = grind (arith, nat_tests) in rw (space, t)
+
+pub lex-stuck : (run : ℕ) (token : List ℕ) (b : ℕ) (bs : List ℕ) (f : Bool) → is_space b ≡ true → 1048576 ≤ run → lex run token (b ∷ bs) f ≡ None
+lex-stuck run token b bs f space full = let t : nat_lt run 1048576 ≡ false = grind (arith, nat_tests) in rw (space, t)
+
+pub lex-word : (run : ℕ) (token : List ℕ) (b : ℕ) (bs : List ℕ) (f : Bool) → is_space b ≡ false → length token < 64 → lex run token (b ∷ bs) f ≡ lex 0 (token ++ b ∷ []) bs f
+lex-word run token b bs f word room = let t : nat_lt (length token) 64 ≡ true = grind (arith, nat_tests) in rw (word, t)
+
+pub lex-long : (run : ℕ) (token : List ℕ) (b : ℕ) (bs : List ℕ) (f : Bool) → is_space b ≡ false → 64 ≤ length token → lex run token (b ∷ bs) f ≡ None
+lex-long run token b bs f word full = let t : nat_lt (length token) 64 ≡ false = grind (arith, nat_tests) in rw (word, t)
+
+-- before a word the run does not matter
+lex-begins : (run : ℕ) (b : ℕ) (bs : List ℕ) (f : Bool) → is_space b ≡ false → lex run [] (b ∷ bs) f ≡ lex 0 [] (b ∷ bs) f
+lex-begins run b bs f word = lex-word run [] b bs f word (omega arith) ∙ sym (lex-word 0 [] b bs f word (omega arith))
+
+module _ {Y : Type 0} (G : Lines → Option Y) where
+  then_skipped : (skips : (ls : Lines) → G ([] ∷ ls) ≡ G ls) (t : Bool) (o : Option Lines) → option_and_then G (option_map (opening t) o) ≡ option_and_then G o
+  then_skipped skips t None = refl
+  then_skipped skips true (Some ls) = skips ls
+  then_skipped skips false (Some ls) = refl
+
+  then_fed : (o : Option Lines) → option_and_then G (option_map (opening true) o) ≡ option_and_then (λ ls. G ([] ∷ ls)) o
+  then_fed None = refl
+  then_fed (Some ls) = refl
+
+  then_same : (o : Option Lines) → option_and_then G (option_map (opening false) o) ≡ option_and_then G o
+  then_same None = refl
+  then_same (Some ls) = refl
+
+  then_put : (x : ℕ) (xs : List ℕ) (t : Bool) (o : Option Lines)
+      → option_and_then (λ ls. G (put (x ∷ xs) ls)) (option_map (opening t) o) ≡ option_and_then G (option_map (λ ls. put_token (x ∷ xs) (opening t ls)) o)
+  then_put x xs t None = refl
+  then_put x xs t (Some ls) = refl
+
+  -- What comes before the next word: where k agrees with the words from the next one on, it agrees from here on.
+  module _ (skips : (ls : Lines) → G ([] ∷ ls) ≡ G ls) (k : Start → Option Y) (stops : (e : GridFault) → k (Stops e) ≡ None) (ends : (line : ℕ) → k (Ends line) ≡ G [])
+      (begins : (line b : ℕ) (bs : List ℕ) (f : Bool) → is_space b ≡ false → k (Begins line (coming (b ∷ bs) f)) ≡ option_and_then G (lex 0 [] (b ∷ bs) f)) where
+    pub before_word : (bs : List ℕ) (f : Bool) (line run : ℕ) → run ≤ 1048576 → k (start_of line run (coming bs f)) ≡ option_and_then G (lex run [] bs f)
+    before_word [] false line run low = ap k (start-ends line run low) ∙ ends line ∙ sym (skips [])
+    before_word [] true line run low = ap k (start-fails line run low) ∙ stops (fault Read line)
+    before_word (b ∷ bs) f line run low = by (before_word bs f (line + cond (b == 10) 1 0) (run + 1)) (cases_Bool (is_space b)) (cases_lt run 1048576)
+      where
+        by : (run + 1 ≤ 1048576 → k (start_of (line + cond (b == 10) 1 0) (run + 1) (coming bs f)) ≡ option_and_then G (lex (run + 1) [] bs f))
+            → (is_space b ≡ true) ⊎ (is_space b ≡ false) → (run < 1048576) ⊎ (1048576 ≤ run) → k (start_of line run (coming (b ∷ bs) f)) ≡ option_and_then G (lex run [] (b ∷ bs) f)
+        by on (inr word) _ = ap k (start-begins line run low b bs f word) ∙ begins line b bs f word ∙ ap (option_and_then G) (sym (lex-begins run b bs f word))
+        by on (inl space) (inr full) = ap k (start-stuck line run low b bs f space full) ∙ stops (fault ReaderStuck line) ∙ ap (option_and_then G) (sym (lex-stuck run [] b bs f space full))
+        by on (inl space) (inl room) = ap k (start-more line run low b bs f space room) ∙ on (omega arith)
+            ∙ sym (ap (option_and_then G) (lex-space run [] b bs f space room) ∙ then_skipped skips (b == 10) (lex (run + 1) [] bs f))
+
+  -- The rest of a word: where k agrees from the word's end on, it agrees from here on.
+  module _ (line : ℕ) (k : Result (List ℕ × Coming) GridFault → Option Y) (fails : (e : GridFault) → k (Err e) ≡ None)
+      (done : (x : ℕ) (xs bs : List ℕ) (f : Bool) → k (Ok (x ∷ xs, coming bs f)) ≡ option_and_then (λ ls. G (put (x ∷ xs) ls)) (lex 0 [] bs f)) where
+    in_word : (bs : List ℕ) (f : Bool) (x : ℕ) (xs : List ℕ) → length (x ∷ xs) ≤ 64 → k (word_from line (x ∷ xs) (coming bs f)) ≡ option_and_then G (lex 0 (x ∷ xs) bs f)
+    in_word [] false x xs short = ap k (word-ends line (x ∷ xs) short) ∙ done x xs [] false
+    in_word [] true x xs short = ap k (word-fails line (x ∷ xs) short) ∙ fails (fault Read line)
+    in_word (b ∷ bs) f x xs short = by (in_word bs f x (xs ++ b ∷ [])) (cases_Bool (is_space b)) (cases_lt (length (x ∷ xs)) 64)
+      where
+        by : (length (x ∷ (xs ++ b ∷ [])) ≤ 64 → k (word_from line (x ∷ (xs ++ b ∷ [])) (coming bs f)) ≡ option_and_then G (lex 0 (x ∷ (xs ++ b ∷ [])) bs f))
+            → (is_space b ≡ true) ⊎ (is_space b ≡ false) → (length (x ∷ xs) < 64) ⊎ (64 ≤ length (x ∷ xs)) → k (word_from line (x ∷ xs) (coming (b ∷ bs) f)) ≡ option_and_then G (lex 0 (x ∷ xs) (b ∷ bs) f)
+        by on (inl space) _ = ap k (word-stops line (x ∷ xs) short b bs f space) ∙ done x xs (b ∷ bs) f
+            ∙ ap (option_and_then (λ ls. G (put (x ∷ xs) ls))) (lex-space 0 [] b bs f space (omega arith)) ∙ then_put x xs (b == 10) (lex 1 [] bs f)
+            ∙ sym (ap (option_and_then G) (lex-space 0 (x ∷ xs) b bs f space (omega arith)))
+        by on (inr word) (inr full) = ap k (word-long line (x ∷ xs) short b bs f word full) ∙ fails (fault LongToken line) ∙ ap (option_and_then G) (sym (lex-long 0 (x ∷ xs) b bs f word full))
+        by on (inr word) (inl room) = ap k (word-more line (x ∷ xs) short b bs f word) ∙ on (omega (arith, length-append xs (b ∷ []))) ∙ ap (option_and_then G) (sym (lex-word 0 (x ∷ xs) b bs f word room))
+
+    -- a word from its first byte on
+    pub next_word : (b : ℕ) (bs : List ℕ) (f : Bool) → is_space b ≡ false → k (word_from line [] (coming (b ∷ bs) f)) ≡ option_and_then G (lex 0 [] (b ∷ bs) f)
+    next_word b bs f word = ap k (word-more line [] (omega arith) b bs f word) ∙ in_word bs f b [] (omega arith) ∙ ap (option_and_then G) (sym (lex-word 0 [] b bs f word (omega arith)))
+
+  -- The blanks of a line: where k agrees from what ends them on, it agrees from here on.
+  module _ (line : ℕ) (k : Gap → Option Y) (fails : (e : GridFault) → k (Fault e) ≡ None) (last : k Last ≡ G ([] ∷ []))
+      (begins : (b : ℕ) (bs : List ℕ) (f : Bool) → is_space b ≡ false → k (Word (coming (b ∷ bs) f)) ≡ option_and_then G (lex 0 [] (b ∷ bs) f))
+      (feeds : (run : ℕ) (bs : List ℕ) (f : Bool) → run ≤ 1048576 → k (Feed run (coming bs f)) ≡ option_and_then (λ ls. G ([] ∷ ls)) (lex run [] bs f)) where
+    pub before_gap : (bs : List ℕ) (f : Bool) (run : ℕ) → run ≤ 1048576 → k (gap_of line run (coming bs f)) ≡ option_and_then G (lex run [] bs f)
+    before_gap [] false run low = ap k (gap-ends line run low) ∙ last
+    before_gap [] true run low = ap k (gap-fails line run low) ∙ fails (fault Read line)
+    before_gap (b ∷ bs) f run low = by (before_gap bs f (run + 1)) (cases_Bool (is_space b)) (cases_Bool (b == 10)) (cases_lt run 1048576)
+      where
+        by : (run + 1 ≤ 1048576 → k (gap_of line (run + 1) (coming bs f)) ≡ option_and_then G (lex (run + 1) [] bs f))
+            → (is_space b ≡ true) ⊎ (is_space b ≡ false) → ((b == 10) ≡ true) ⊎ ((b == 10) ≡ false) → (run < 1048576) ⊎ (1048576 ≤ run)
+            → k (gap_of line run (coming (b ∷ bs) f)) ≡ option_and_then G (lex run [] (b ∷ bs) f)
+        by on (inr word) _ _ = ap k (gap-word line run low b bs f word) ∙ begins b bs f word ∙ ap (option_and_then G) (sym (lex-begins run b bs f word))
+        by on (inl space) (inl feed) (inl room) = ap k (gap-feed line run low b bs f feed room) ∙ feeds (run + 1) bs f (omega arith)
+            ∙ sym (ap (option_and_then G) (lex-space run [] b bs f space room) ∙ ap (λ (t : Bool). option_and_then G (option_map (opening t) (lex (run + 1) [] bs f))) feed ∙ then_fed (lex (run + 1) [] bs f))
+        by on (inl space) (inl feed) (inr full) = ap k (gap-stuck_feed line run low b bs f feed full) ∙ fails (fault ReaderStuck line) ∙ ap (option_and_then G) (sym (lex-stuck run [] b bs f space full))
+        by on (inl space) (inr blank) (inl room) = ap k (gap-more line run low b bs f space blank) ∙ on (omega arith)
+            ∙ sym (ap (option_and_then G) (lex-space run [] b bs f space room) ∙ ap (λ (t : Bool). option_and_then G (option_map (opening t) (lex (run + 1) [] bs f))) blank ∙ then_same (lex (run + 1) [] bs f))
+        by on (inl space) (inr blank) (inr full) = ap k (gap-stuck line run low b bs f space blank full) ∙ fails (fault ReaderStuck line) ∙ ap (option_and_then G) (sym (lex-stuck run [] b bs f space full))

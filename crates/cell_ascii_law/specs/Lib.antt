@@ -1,0 +1,2 @@
+-- What the law of grid texts states.
+pub mod GridLaw

@@ -1,0 +1,4 @@
+pub mod WriterLemmas
+pub mod ShortNumberLemmas
+pub mod ShortLemmas
+pub mod RunWritingLemmas

@@ -1,0 +1,35 @@
+use Rattle.std.proofs.Common.{◌≡◌, to_z, of_z, w64}
+use Rattle.std.proofs.lemmas.Int.{to_z-of_z}
+use Rattle.std.proofs.lemmas.Result.{err_from_is_err_and, IfErr-weaker, IfOk-weaker}
+use Rattle.cell_core.proofs.GatherLemmas.{CutsOff-first, CutsOff-second, Gathers-then}
+use Rattle.cell_ascii_writer.proofs.WriterLemmas.{coordinate_text-negative, coordinate_text-positive}
+use Rattle.cell_ascii_writer.proofs.writer.write_coordinate.Goals as goal
+use Rattle.cell_ascii_writer.proofs.writer.write_coordinate.Goals.{then-units-lt0+in_ok-push, else-units-lt0}
+
+pub returns-in_err-push-clause-err : goal.returns-in_err-push-clause-err
+returns-in_err-push-clause-err g c =
+    let same : to_z w64 (of_z w64 c.args.units) ≡ c.args.units = to_z-of_z w64 c.args.units c.ranges.units in
+    let p = err_from_is_err_and c.from_residual.result c.from_residual.ensures.1 in
+    rw (p.1, p.2, coordinate_text-negative c.args.units (rw same at c.if-units-lt0.true)) (CutsOff-first _ _ _ _ _ _ c.in_err-push.ensures.err)
+
+pub returns-clause-ok : goal.returns-clause-ok
+returns-clause-ok g c =
+    let same : to_z w64 (of_z w64 c.args.units) ≡ c.args.units = to_z-of_z w64 c.args.units c.ranges.units in
+    let units = rw (c.unsigned_abs.ensures.value, same) at c.write_units.ensures.ok in
+    elim c.if-units-lt0.branch [
+      | then-units-lt0+in_ok-push w ↦
+          rw (coordinate_text-negative c.args.units (rw same at w.if-units-lt0.true))
+          (IfOk-weaker c.write_units.result _ _ (λ _ gathers. Gathers-then _ _ _ _ _ _ _ _ w.in_ok-push.ensures.ok gathers) (rw (w.out-is, w.block-is) at units))
+      | else-units-lt0 w ↦ rw (coordinate_text-positive c.args.units (rw same at w.if-units-lt0.false)) (rw (w.out-is, w.block-is) at units)
+    ]
+
+pub returns-clause-err : goal.returns-clause-err
+returns-clause-err g c =
+    let same : to_z w64 (of_z w64 c.args.units) ≡ c.args.units = to_z-of_z w64 c.args.units c.ranges.units in
+    let units = rw (c.unsigned_abs.ensures.value, same) at c.write_units.ensures.err in
+    elim c.if-units-lt0.branch [
+      | then-units-lt0+in_ok-push w ↦
+          rw (coordinate_text-negative c.args.units (rw same at w.if-units-lt0.true))
+          (IfErr-weaker c.write_units.result _ _ (λ fault cuts. CutsOff-second _ _ _ _ _ _ _ fault.written w.in_ok-push.ensures.ok cuts) (rw (w.out-is, w.block-is) at units))
+      | else-units-lt0 w ↦ rw (coordinate_text-positive c.args.units (rw same at w.if-units-lt0.false)) (rw (w.out-is, w.block-is) at units)
+    ]

@@ -1,0 +1,10 @@
+use Rattle.std.proofs.lemmas.Result.{err_from_is_err_and}
+use Rattle.cell_core.proofs.GatherLemmas.{CutsOff-first, CutsOff-second}
+use Rattle.cell_ascii_writer.proofs.RunWritingLemmas.{times-rest}
+use Rattle.cell_ascii_writer.proofs.writer.write_copies.Goals as goal
+
+pub returns-in_err-push-clause-err : goal.returns-in_err-push-clause-err
+returns-in_err-push-clause-err g c =
+    let p = err_from_is_err_and c.from_residual.result c.from_residual.ensures.1 in
+    rw (p.1, p.2, times-rest c.args.count c.loop.counter c.args.field.now c.loop-test.true)
+    (CutsOff-first _ _ _ _ _ _ (CutsOff-second _ _ _ _ _ _ _ _ c.loop.invariant.gathers c.in_err-push.ensures.err))

@@ -1,0 +1,11 @@
+use Rattle.std.proofs.Common.{◌≡◌, ◌≤◌, ◌+◌, ◌*◌}
+use Rattle.cell_core.specs.Blocks.{Gathers, counted}
+use Rattle.cell_ascii_writer.specs.WrittenRuns.{times}
+use Rattle.cell_ascii_writer.proofs.writer.write_copies.Given as goal
+
+abbrev pub invariant-loop : goal.invariant-loop
+invariant-loop g l = record {
+  gathers : Gathers (g.W.Sink.taken l.fn.out) l.fn.block (times l.counter l.field) (g.W.Sink.taken l.out) l.block;
+  counted : counted l.block ≤ counted l.fn.block + 65 * l.counter;
+  failed : g.W.Sink.failed l.out ≡ g.W.Sink.failed l.fn.out;
+}

@@ -1,0 +1,120 @@
+use Rattle.std.proofs.Common.{◌≡◌, ◌∙◌, ◌||◌, Bool, ap, is_err, rules, codes, to_z, of_z, w64, SFits}
+use Rattle.std.proofs.lemmas.Int.{to_z-of_z}
+use Rattle.std.proofs.lemmas.Result.{err_from_is_err_and, IfErr-weaker, IfOk-weaker}
+use Rattle.cell_core.specs.Region.{RegionValue}
+use Rattle.cell_core.proofs.GatherLemmas.{CutsOff-second, Gathers-then}
+use Rattle.cell_ascii_writer.proofs.WriterLemmas.{edge_line, side_line, one_line, two_lines, three_lines, four_lines, five_lines, cut_in_one, cut_in_two, cut_in_three, cut_in_four, cut_in_five, still_failed}
+use Rattle.cell_ascii_writer.proofs.writer.write_region.Goals as goal
+
+pub returns-in_err-write_edge-clause-err : goal.returns-in_err-write_edge-clause-err
+returns-in_err-write_edge-clause-err g c =
+    let e : RegionValue = c.args.region in
+    let p = err_from_is_err_and c.from_residual.result c.from_residual.ensures.1 in
+    let fits : SFits w64 c.north.result = search rules in
+    let same : to_z w64 (of_z w64 c.north.result) ≡ e.north = to_z-of_z w64 c.north.result fits ∙ c.north.ensures.value in
+    rw (p.1, p.2) (cut_in_one _ _ e _ _ (rw same at c.in_err-write_edge.ensures.err))
+
+pub returns-in_err-write_edge-2-clause-err : goal.returns-in_err-write_edge-2-clause-err
+returns-in_err-write_edge-2-clause-err g c =
+    let e : RegionValue = c.args.region in
+    let p = err_from_is_err_and c.from_residual-in_err-write_edge-2.result c.from_residual-in_err-write_edge-2.ensures.1 in
+    let fits : SFits w64 c.north.result = search rules in
+    let same : to_z w64 (of_z w64 c.north.result) ≡ e.north = to_z-of_z w64 c.north.result fits ∙ c.north.ensures.value in
+    let g1 = (rw same at c.in_ok-write_edge.ensures.ok) in
+    let fits : SFits w64 c.south.result = search rules in
+    let same : to_z w64 (of_z w64 c.south.result) ≡ e.south = to_z-of_z w64 c.south.result fits ∙ c.south.ensures.value in
+    rw (p.1, p.2) (cut_in_two _ _ e _ _ (CutsOff-second _ _ (one_line e) (edge_line (codes "south") e.south) _ _ _ _ g1 (rw same at c.in_err-write_edge-2.ensures.err)))
+
+pub returns-in_err-write_edge-3-clause-err : goal.returns-in_err-write_edge-3-clause-err
+returns-in_err-write_edge-3-clause-err g c =
+    let e : RegionValue = c.args.region in
+    let p = err_from_is_err_and c.from_residual-in_err-write_edge-3.result c.from_residual-in_err-write_edge-3.ensures.1 in
+    let fits : SFits w64 c.north.result = search rules in
+    let same : to_z w64 (of_z w64 c.north.result) ≡ e.north = to_z-of_z w64 c.north.result fits ∙ c.north.ensures.value in
+    let g1 = (rw same at c.in_ok-write_edge.ensures.ok) in
+    let fits : SFits w64 c.south.result = search rules in
+    let same : to_z w64 (of_z w64 c.south.result) ≡ e.south = to_z-of_z w64 c.south.result fits ∙ c.south.ensures.value in
+    let g2 = Gathers-then _ _ (one_line e) (edge_line (codes "south") e.south) _ _ _ _ g1 (rw same at c.in_ok-write_edge-2.ensures.ok) in
+    let fits : SFits w64 c.east.result = search rules in
+    let same : to_z w64 (of_z w64 c.east.result) ≡ e.east = to_z-of_z w64 c.east.result fits ∙ c.east.ensures.value in
+    rw (p.1, p.2) (cut_in_three _ _ e _ _ (CutsOff-second _ _ (two_lines e) (edge_line (codes "east") e.east) _ _ _ _ g2 (rw same at c.in_err-write_edge-3.ensures.err)))
+
+pub returns-in_err-write_edge-4-clause-err : goal.returns-in_err-write_edge-4-clause-err
+returns-in_err-write_edge-4-clause-err g c =
+    let e : RegionValue = c.args.region in
+    let p = err_from_is_err_and c.from_residual-in_err-write_edge-4.result c.from_residual-in_err-write_edge-4.ensures.1 in
+    let fits : SFits w64 c.north.result = search rules in
+    let same : to_z w64 (of_z w64 c.north.result) ≡ e.north = to_z-of_z w64 c.north.result fits ∙ c.north.ensures.value in
+    let g1 = (rw same at c.in_ok-write_edge.ensures.ok) in
+    let fits : SFits w64 c.south.result = search rules in
+    let same : to_z w64 (of_z w64 c.south.result) ≡ e.south = to_z-of_z w64 c.south.result fits ∙ c.south.ensures.value in
+    let g2 = Gathers-then _ _ (one_line e) (edge_line (codes "south") e.south) _ _ _ _ g1 (rw same at c.in_ok-write_edge-2.ensures.ok) in
+    let fits : SFits w64 c.east.result = search rules in
+    let same : to_z w64 (of_z w64 c.east.result) ≡ e.east = to_z-of_z w64 c.east.result fits ∙ c.east.ensures.value in
+    let g3 = Gathers-then _ _ (two_lines e) (edge_line (codes "east") e.east) _ _ _ _ g2 (rw same at c.in_ok-write_edge-3.ensures.ok) in
+    let fits : SFits w64 c.west.result = search rules in
+    let same : to_z w64 (of_z w64 c.west.result) ≡ e.west = to_z-of_z w64 c.west.result fits ∙ c.west.ensures.value in
+    rw (p.1, p.2) (cut_in_four _ _ e _ _ (CutsOff-second _ _ (three_lines e) (edge_line (codes "west") e.west) _ _ _ _ g3 (rw same at c.in_err-write_edge-4.ensures.err)))
+
+pub returns-in_err-write_side-clause-err : goal.returns-in_err-write_side-clause-err
+returns-in_err-write_side-clause-err g c =
+    let e : RegionValue = c.args.region in
+    let p = err_from_is_err_and c.from_residual-in_err-write_side.result c.from_residual-in_err-write_side.ensures.1 in
+    let fits : SFits w64 c.north.result = search rules in
+    let same : to_z w64 (of_z w64 c.north.result) ≡ e.north = to_z-of_z w64 c.north.result fits ∙ c.north.ensures.value in
+    let g1 = (rw same at c.in_ok-write_edge.ensures.ok) in
+    let fits : SFits w64 c.south.result = search rules in
+    let same : to_z w64 (of_z w64 c.south.result) ≡ e.south = to_z-of_z w64 c.south.result fits ∙ c.south.ensures.value in
+    let g2 = Gathers-then _ _ (one_line e) (edge_line (codes "south") e.south) _ _ _ _ g1 (rw same at c.in_ok-write_edge-2.ensures.ok) in
+    let fits : SFits w64 c.east.result = search rules in
+    let same : to_z w64 (of_z w64 c.east.result) ≡ e.east = to_z-of_z w64 c.east.result fits ∙ c.east.ensures.value in
+    let g3 = Gathers-then _ _ (two_lines e) (edge_line (codes "east") e.east) _ _ _ _ g2 (rw same at c.in_ok-write_edge-3.ensures.ok) in
+    let fits : SFits w64 c.west.result = search rules in
+    let same : to_z w64 (of_z w64 c.west.result) ≡ e.west = to_z-of_z w64 c.west.result fits ∙ c.west.ensures.value in
+    let g4 = Gathers-then _ _ (three_lines e) (edge_line (codes "west") e.west) _ _ _ _ g3 (rw same at c.in_ok-write_edge-4.ensures.ok) in
+    rw (p.1, p.2) (cut_in_five _ _ e _ _ (CutsOff-second _ _ (four_lines e) (side_line (codes "rows") e.rows) _ _ _ _ g4 (rw c.rows.ensures.value at c.in_err-write_side.ensures.err)))
+
+pub returns-clause-ok : goal.returns-clause-ok
+returns-clause-ok g c =
+    let e : RegionValue = c.args.region in
+    let fits : SFits w64 c.north.result = search rules in
+    let same : to_z w64 (of_z w64 c.north.result) ≡ e.north = to_z-of_z w64 c.north.result fits ∙ c.north.ensures.value in
+    let g1 = (rw same at c.in_ok-write_edge.ensures.ok) in
+    let fits : SFits w64 c.south.result = search rules in
+    let same : to_z w64 (of_z w64 c.south.result) ≡ e.south = to_z-of_z w64 c.south.result fits ∙ c.south.ensures.value in
+    let g2 = Gathers-then _ _ (one_line e) (edge_line (codes "south") e.south) _ _ _ _ g1 (rw same at c.in_ok-write_edge-2.ensures.ok) in
+    let fits : SFits w64 c.east.result = search rules in
+    let same : to_z w64 (of_z w64 c.east.result) ≡ e.east = to_z-of_z w64 c.east.result fits ∙ c.east.ensures.value in
+    let g3 = Gathers-then _ _ (two_lines e) (edge_line (codes "east") e.east) _ _ _ _ g2 (rw same at c.in_ok-write_edge-3.ensures.ok) in
+    let fits : SFits w64 c.west.result = search rules in
+    let same : to_z w64 (of_z w64 c.west.result) ≡ e.west = to_z-of_z w64 c.west.result fits ∙ c.west.ensures.value in
+    let g4 = Gathers-then _ _ (three_lines e) (edge_line (codes "west") e.west) _ _ _ _ g3 (rw same at c.in_ok-write_edge-4.ensures.ok) in
+    let g5 = Gathers-then _ _ (four_lines e) (side_line (codes "rows") e.rows) _ _ _ _ g4 (rw c.rows.ensures.value at c.in_ok-write_side.ensures.ok) in
+    IfOk-weaker c.write_side-2.result _ _ (λ _ gathers. Gathers-then _ _ (five_lines e) (side_line (codes "cols") e.cols) _ _ _ _ g5 gathers) (rw c.cols.ensures.value at c.write_side-2.ensures.ok)
+
+pub returns-clause-err : goal.returns-clause-err
+returns-clause-err g c =
+    let e : RegionValue = c.args.region in
+    let fits : SFits w64 c.north.result = search rules in
+    let same : to_z w64 (of_z w64 c.north.result) ≡ e.north = to_z-of_z w64 c.north.result fits ∙ c.north.ensures.value in
+    let g1 = (rw same at c.in_ok-write_edge.ensures.ok) in
+    let fits : SFits w64 c.south.result = search rules in
+    let same : to_z w64 (of_z w64 c.south.result) ≡ e.south = to_z-of_z w64 c.south.result fits ∙ c.south.ensures.value in
+    let g2 = Gathers-then _ _ (one_line e) (edge_line (codes "south") e.south) _ _ _ _ g1 (rw same at c.in_ok-write_edge-2.ensures.ok) in
+    let fits : SFits w64 c.east.result = search rules in
+    let same : to_z w64 (of_z w64 c.east.result) ≡ e.east = to_z-of_z w64 c.east.result fits ∙ c.east.ensures.value in
+    let g3 = Gathers-then _ _ (two_lines e) (edge_line (codes "east") e.east) _ _ _ _ g2 (rw same at c.in_ok-write_edge-3.ensures.ok) in
+    let fits : SFits w64 c.west.result = search rules in
+    let same : to_z w64 (of_z w64 c.west.result) ≡ e.west = to_z-of_z w64 c.west.result fits ∙ c.west.ensures.value in
+    let g4 = Gathers-then _ _ (three_lines e) (edge_line (codes "west") e.west) _ _ _ _ g3 (rw same at c.in_ok-write_edge-4.ensures.ok) in
+    let g5 = Gathers-then _ _ (four_lines e) (side_line (codes "rows") e.rows) _ _ _ _ g4 (rw c.rows.ensures.value at c.in_ok-write_side.ensures.ok) in
+    IfErr-weaker c.write_side-2.result _ _ (λ fault cuts. CutsOff-second _ _ (five_lines e) (side_line (codes "cols") e.cols) _ _ _ fault.written g5 cuts) (rw c.cols.ensures.value at c.write_side-2.ensures.err)
+
+pub returns-clause-failed : goal.returns-clause-failed
+returns-clause-failed g c =
+    let north = still_failed _ _ c.in_ok-write_edge.ensures.failed in
+    let south = still_failed _ _ c.in_ok-write_edge-2.ensures.failed in
+    let east = still_failed _ _ c.in_ok-write_edge-3.ensures.failed in
+    let west = still_failed _ _ c.in_ok-write_edge-4.ensures.failed in
+    let rows = still_failed _ _ c.in_ok-write_side.ensures.failed in
+    c.write_side-2.ensures.failed ∙ ap (λ (before : Bool). before || is_err c.write_side-2.result) (rows ∙ west ∙ east ∙ south ∙ north)

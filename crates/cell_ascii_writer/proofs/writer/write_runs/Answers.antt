@@ -1,0 +1,16 @@
+use Rattle.std.proofs.Common.{◌≡◌, ◌∙◌, ◌++◌, ◌∷◌, List, ap, sym}
+use Rattle.std.proofs.lemmas.Result.{err_from_is_err_and}
+use Rattle.cell_core.specs.Runs.{RunValue}
+use Rattle.cell_core.proofs.GatherLemmas.{CutsOff-first, CutsOff-second}
+use Rattle.cell_ascii_writer.proofs.RunWritingLemmas.{cells_text-rest}
+use Rattle.cell_ascii_writer.proofs.writer.write_runs.Goals as goal
+
+pub returns-in_err-write_run-clause-err : goal.returns-in_err-write_run-clause-err
+returns-in_err-write_run-clause-err g c =
+    let p = err_from_is_err_and c.from_residual.result c.from_residual.ensures.1 in
+    let done : List RunValue = c.loop-cell.yielded in
+    let rest : List RunValue = c.next.new.self in
+    let run : RunValue = (c.in-Some.cell, c.in-Some.count) in
+    let whole : c.args.runs ≡ done ++ run ∷ rest = sym c.loop-cell.invariant.whole ∙ ap (λ (l : List RunValue). done ++ l) c.in-Some.ensures.steps in
+    rw (p.1, p.2, whole, cells_text-rest c.args.null_text.now done rest c.in-Some.cell c.in-Some.count)
+    (CutsOff-first _ _ _ _ _ _ (CutsOff-second _ _ _ _ _ _ _ _ c.loop-cell.invariant.gathers c.in_err-write_run.ensures.err))

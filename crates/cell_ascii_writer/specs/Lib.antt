@@ -1,0 +1,2 @@
+-- The cells of a row as they are written, run by run.
+pub mod WrittenRuns

@@ -1,0 +1,2 @@
+-- What the law of written grid texts states.
+pub mod WrittenLaw
