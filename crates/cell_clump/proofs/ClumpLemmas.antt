@@ -1,20 +1,20 @@
 -- A map of the numbers of its labels is a clumping.
-use Rattle.std.proofs.Common.{◌≡◌, ℕ, zero, suc, ℤ, pos, true, false, ◌+◌, ◌<◌, ◌≤◌, [], ◌∷◌, List, Some, None, IsSome, is_some, length, get_or, refl, ap, sym, ◌∙◌, arith, subst, inl, inr, ⊎_elim, eqb, Result, Ok, Err}
+use Rattle.std.proofs.Common.{◌≡◌, ℕ, zero, suc, ℤ, pos, true, false, ◌+◌, ◌<◌, [], ◌∷◌, List, Some, None, IsSome, is_some, length, get_or, refl, ap, sym, ◌∙◌, arith, subst, ⊎_elim, eqb, Result, Ok, Err}
 use Rattle.std.specs.Result.{IfOk}
 use Rattle.std.specs.List.{Contains, AllPairs}
 use Rattle.std.proofs.lemmas.List.Elements.{Contains-append_left, Contains-push, Contains-push_cases, Contains-get_or}
 use Rattle.std.proofs.lemmas.List.Quantifiers.{all_pairs_push}
-use Rattle.std.proofs.lemmas.Bool.{cases_lt, cases_order, cases_Bool, eqb-true, cond-true, cond-false, and_parts}
+use Rattle.std.proofs.lemmas.Bool.{cases_lt, cases_Bool, eqb-true, cond-true, cond-false, and_parts}
 use Rattle.cell_core.specs.Grid.{Grid, CellValue, IsFilled, cell_at, no_labels}
 use Rattle.cell_clump.specs.declared.clump.Joining.{Joining}
 use Rattle.cell_clump.specs.Areas.{Position, at, IsBefore, AreJoined, IsFirst, HasNumber, IsClumping}
 use Rattle.cell_clump.specs.parts.Meetings.{AreSound}
 use Rattle.cell_clump.specs.parts.Places.{position, IsInside}
-use Rattle.cell_clump.specs.parts.Starts.{start_of, label_of, run_count, HasLabels}
+use Rattle.cell_clump.specs.parts.Starts.{start_of, label_of, HasLabels}
 use Rattle.cell_clump.specs.parts.Numbers.{is_first, firsts_below, number_of, cell_number}
 use Rattle.cell_clump.specs.parts.Tables.{AreLabels}
-use Rattle.cell_clump.proofs.PathLemmas.{AreJoined-refl, AreJoined-trans, AreJoined-sym, AreJoined-first, AreJoined-last, AreJoined-some, AreJoined-along}
-use Rattle.cell_clump.proofs.LawLemmas.{IsBefore-asym, cases_before}
+use Rattle.cell_clump.proofs.PathLemmas.{AreJoined-trans, AreJoined-sym, AreJoined-first, AreJoined-some, AreJoined-along}
+use Rattle.cell_clump.proofs.LawLemmas.{cases_before}
 use Rattle.cell_clump.proofs.MeetingLemmas.{some_of}
 use Rattle.cell_clump.proofs.StartLemmas.{inside_map}
 use Rattle.cell_clump.proofs.NumberLemmas.{firsts_more, firsts_same, number_apart, is_first-open}

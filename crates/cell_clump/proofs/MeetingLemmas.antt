@@ -1,5 +1,5 @@
 -- Runs that meet, and are joined where they are of one category.
-use Rattle.std.proofs.Common.{◌≡◌, ℕ, ℤ, ◌<◌, List, Some, None, IsSome, length, refl, ap, sym, ◌∙◌, arith, subst, inl, inr, ⊎_elim, ◌⊎◌, eqb, eq-eqb, cond, max, min}
+use Rattle.std.proofs.Common.{◌≡◌, ℕ, ℤ, ◌<◌, List, Some, None, IsSome, length, refl, ap, sym, ◌∙◌, arith, subst, inr, ⊎_elim, ◌⊎◌, eqb, eq-eqb, cond, max, min}
 use Rattle.std.proofs.lemmas.Bool.{cases_eq, cases_lt, ne_eqb, cond-true, cond-false}
 use Rattle.cell_core.specs.Grid.{Grid, CellValue}
 use Rattle.cell_clump.specs.declared.clump.Joining.{Joining}

@@ -1,8 +1,8 @@
 -- Labels are replaced by numbers.
-use Rattle.std.proofs.Common.{◌≡◌, ℕ, zero, suc, pos, true, false, ◌+◌, ◌-◌, ◌*◌, ◌<◌, ◌≤◌, ◌++◌, [], ◌∷◌, List, Some, None, IsSome, is_some, All, length, take, drop, replicate, get_or, set, length-append, append_assoc, append-nil, take_all, refl, ap, sym, ◌∙◌, arith, subst, ⊎_elim, eqb, eq-eqb, add-one, get_or-set_other, get_or-set_same}
+use Rattle.std.proofs.Common.{◌≡◌, ℕ, zero, suc, pos, true, false, ◌+◌, ◌-◌, ◌<◌, ◌≤◌, ◌++◌, [], ◌∷◌, List, Some, None, IsSome, is_some, All, length, take, drop, replicate, get_or, set, length-append, append_assoc, append-nil, take_all, refl, ap, sym, ◌∙◌, arith, subst, ⊎_elim, eqb, eq-eqb, add-one, get_or-set_other, get_or-set_same}
 use Rattle.std.proofs.lemmas.List.{length-set, length_push, get_or_push, get_or_append_left, get_or-append_right, get_or-replicate, length-replicate, length-take-le, take_at}
 use Rattle.std.proofs.lemmas.Bool.{cases_lt, cases_order, cases_Bool, ne_eqb, cond-true, cond-false, and_from, and_left, and_right, both_ways}
-use Rattle.cell_core.specs.Grid.{Grid, CellValue, row_at}
+use Rattle.cell_core.specs.Grid.{Grid, CellValue}
 use Rattle.cell_core.specs.Runs.{RunValue, written_out}
 use Rattle.cell_clump.specs.declared.clump.Joining.{Joining}
 use Rattle.cell_clump.specs.Areas.{Position, at}
@@ -178,9 +178,10 @@ runs_from m r c label [] labels row wide lengths all = tt
 runs_from m r c label (run ∷ rest) labels row wide lengths all =
     let long = written_long run rest in
     let some : 0 < run.1 = lengths 0 run (omega arith) in
-    let here = all.0 0 some in
-    (sym (ap (λ (l : ℕ). at m (start_of m l)) here.1) ∙ labels.alike (position r (c + 0)) (row, omega arith) ∙ here.0,
-    runs_from m r (c + run.1) (label + 1) rest labels row (omega arith) (λ i d within. lengths (suc i) d (omega arith)) all.1)
+    let here = all.0 0 some in (
+      sym (ap (λ (l : ℕ). at m (start_of m l)) here.1) ∙ labels.alike (position r (c + 0)) (row, omega arith) ∙ here.0,
+      runs_from m r (c + run.1) (label + 1) rest labels row (omega arith) (λ i d within. lengths (suc i) d (omega arith)) all.1,
+    )
 
 -- the cells that were written
 pub numbers_at : (m : Grid) (labels : List ℕ) (open_of : ℕ → ℕ) (r c label : ℕ) (runs : List RunValue) → AreLabelled m r c label runs → (k : ℕ) → k < length (written_out runs) → get_or (numbers_from m labels open_of label runs) k None ≡ cell_number m labels open_of (label_of m (position r (c + k)))

@@ -1,5 +1,5 @@
 -- Rows whose runs are walked, one above the other.
-use Rattle.std.proofs.Common.{◌≡◌, ℕ, zero, suc, ℤ, ◌+◌, ◌-◌, ◌<◌, ◌≤◌, [], ◌∷◌, List, Some, None, All, length, get_or, refl, ap, sym, ◌∙◌, arith, subst, inl, inr, ⊎_elim, ◌⊎◌, max}
+use Rattle.std.proofs.Common.{◌≡◌, ℕ, suc, ℤ, ◌+◌, ◌-◌, ◌<◌, ◌≤◌, [], ◌∷◌, List, Some, All, length, get_or, refl, ap, sym, ◌∙◌, arith, subst, inl, inr, ⊎_elim, ◌⊎◌, max}
 use Rattle.std.proofs.lemmas.Bool.{cases_lt}
 use Rattle.std.proofs.lemmas.List.{get_or_past}
 use Rattle.cell_core.specs.Grid.{Grid, CellValue, row_at}
@@ -7,9 +7,9 @@ use Rattle.cell_core.specs.Runs.{RunValue, AreRuns, written_out}
 use Rattle.cell_clump.specs.declared.clump.Joining.{Joining}
 use Rattle.cell_clump.specs.declared.clump.Joining.TheVariants.{Edges, EdgesAndCorners}
 use Rattle.cell_clump.specs.declared.walk.Walk.{Walk}
-use Rattle.cell_clump.specs.Areas.{Position, at, AreNeighbours, ShareEdge, AreAdjacent, AreJoined}
+use Rattle.cell_clump.specs.Areas.{Position, at, AreNeighbours, AreAdjacent, AreJoined}
 use Rattle.cell_clump.specs.parts.Labels.{PointDown}
-use Rattle.cell_clump.specs.parts.Meetings.{AreSound, HaveMet}
+use Rattle.cell_clump.specs.parts.Meetings.{HaveMet}
 use Rattle.cell_clump.specs.parts.Places.{position}
 use Rattle.cell_clump.specs.parts.Rows.{HaveRows, IsAt, IsReady, AreWalked, AreMet}
 use Rattle.cell_clump.specs.parts.Starts.{start_of, label_of, run_count, AreLabelled, HasLabels}

@@ -2,7 +2,6 @@ use Rattle.std.proofs.Common.{◌≡◌, ℕ, ◌+◌, ◌<◌, ◌++◌, List, 
 use Rattle.std.proofs.lemmas.List.{length_push}
 use Rattle.std.proofs.lemmas.List.Elements.{All-push}
 use Rattle.cell_core.specs.Grid.{CellValue}
-use Rattle.cell_core.specs.Runs.{written_out}
 use Rattle.cell_clump.specs.parts.Numbers.{cell_number}
 use Rattle.cell_clump.specs.parts.Places.{position}
 use Rattle.cell_clump.specs.parts.Starts.{label_of, AreLabelled}

@@ -1,4 +1,4 @@
-use Rattle.std.proofs.Common.{◌≡◌, ℕ, ◌+◌, ◌++◌, [], ◌∷◌, length, take, replicate, drop, ap, sym, arith, rules, subst}
+use Rattle.std.proofs.Common.{◌≡◌, ℕ, ◌+◌, ◌++◌, [], ◌∷◌, length, take, ap, sym, arith, rules, subst}
 use Rattle.cell_core.specs.Grid.{Grid}
 use Rattle.cell_core.specs.Runs.{RunValue}
 use Rattle.cell_clump.specs.parts.Numbers.{AreNumbered, AreRunsFrom, CanNumber, numbers_from}

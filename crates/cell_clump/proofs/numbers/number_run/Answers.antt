@@ -1,7 +1,5 @@
 use Rattle.std.proofs.Common.{◌≡◌, IsSome, is_some, false, ap, ◌∙◌, rules}
 use Rattle.cell_core.specs.Grid.{CellValue}
-use Rattle.cell_clump.specs.Areas.{at}
-use Rattle.cell_clump.specs.parts.Starts.{start_of}
 use Rattle.cell_clump.proofs.NumberLemmas.{AreNumbered-null, run_done, run_passed}
 use Rattle.cell_clump.proofs.numbers.number_run.Goals as goal
 

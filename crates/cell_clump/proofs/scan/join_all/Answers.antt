@@ -1,4 +1,4 @@
-use Rattle.std.proofs.Common.{◌≡◌, ℕ, ◌+◌, ◌-◌, ◌<◌, length, arith, rules, refl, sym, ◌∙◌, ap, subst}
+use Rattle.std.proofs.Common.{◌≡◌, ℕ, ◌+◌, ◌-◌, ◌<◌, arith, rules, sym, ◌∙◌, ap, subst}
 use Rattle.cell_core.specs.Region.{most_side}
 use Rattle.cell_clump.specs.parts.Places.{position}
 use Rattle.cell_clump.specs.parts.Rows.{HaveRows, IsAt}
@@ -55,27 +55,27 @@ loop-r-preserved c =
       above_is = λ s e. let z : s ≡ r = omega arith in inv.here_is ∙ ap (λ (n : ℕ). label_of map (position n 0)) (sym z);
       here_is = omega (arith, inv.here_is, next);
       long = elim c.if-r-gt0.branch [
-          | then-r-gt0 w ↦ rw w.table-is (omega (arith, inv.long))
-          | else-r-gt0 w ↦ rw w.table-is inv.long
-        ];
+        | then-r-gt0 w ↦ rw w.table-is (omega (arith, inv.long))
+        | else-r-gt0 w ↦ rw w.table-is inv.long
+      ];
       down = elim c.if-r-gt0.branch [
-          | then-r-gt0 w ↦ rw w.table-is w.join_rows.ensures.down
-          | else-r-gt0 w ↦ rw w.table-is inv.down
-        ];
+        | then-r-gt0 w ↦ rw w.table-is w.join_rows.ensures.down
+        | else-r-gt0 w ↦ rw w.table-is inv.down
+      ];
       rows = elim c.if-r-gt0.branch [
-          | then-r-gt0 w ↦ rw w.table-is (
-              let some = w.if-r-gt0.true in
-              let up : (r - 1) + 1 ≡ r = omega arith in
-              let two : (r - 1) + 2 ≡ r + 1 = omega arith in
-              let above_at : IsAt map (r - 1) 0 w.over-before.result = w.over-before.ensures.place in
-              let row_at : IsAt map ((r - 1) + 1) 0 w.over-walk.result = subst (λ (n : ℕ). IsAt map n 0 w.over-walk.result) (sym up) w.over-walk.ensures.place in
-              subst (λ (n : ℕ). HaveRows j map w.join_rows.new.table n) two
-              (w.join_rows.ensures.rows map (r - 1) (AreWalked-first j map (r - 1) c.loop-r.table _ _ (subst (λ (n : ℕ). HaveRows j map c.loop-r.table n) (sym up) inv.rows) above_at row_at))
-              )
-          | else-r-gt0 w ↦ rw w.table-is (
-              let none = w.if-r-gt0.false in
-              let zero_is : r ≡ 0 = omega arith in
-              subst (λ (n : ℕ). HaveRows j map c.loop-r.table (n + 1)) (sym zero_is) (HaveRows-first j map c.loop-r.table (subst (λ (n : ℕ). HaveRows j map c.loop-r.table n) zero_is inv.rows))
-              )
-        ];
+        | then-r-gt0 w ↦ rw w.table-is (
+            let some = w.if-r-gt0.true in
+            let up : (r - 1) + 1 ≡ r = omega arith in
+            let two : (r - 1) + 2 ≡ r + 1 = omega arith in
+            let above_at : IsAt map (r - 1) 0 w.over-before.result = w.over-before.ensures.place in
+            let row_at : IsAt map ((r - 1) + 1) 0 w.over-walk.result = subst (λ (n : ℕ). IsAt map n 0 w.over-walk.result) (sym up) w.over-walk.ensures.place in
+            subst (λ (n : ℕ). HaveRows j map w.join_rows.new.table n) two
+            (w.join_rows.ensures.rows map (r - 1) (AreWalked-first j map (r - 1) c.loop-r.table _ _ (subst (λ (n : ℕ). HaveRows j map c.loop-r.table n) (sym up) inv.rows) above_at row_at))
+            )
+        | else-r-gt0 w ↦ rw w.table-is (
+            let none = w.if-r-gt0.false in
+            let zero_is : r ≡ 0 = omega arith in
+            subst (λ (n : ℕ). HaveRows j map c.loop-r.table (n + 1)) (sym zero_is) (HaveRows-first j map c.loop-r.table (subst (λ (n : ℕ). HaveRows j map c.loop-r.table n) zero_is inv.rows))
+            )
+      ];
     }
