@@ -19,8 +19,7 @@ fn count_runs(runs: Runs<'_>) -> u32
     ensures { result ≡ length runs.entry }
 {
     let mut count = 0;
-    for run in runs {
-        let _ = run;
+    for _ in runs {
         count += 1;
     }
     count
