@@ -9,8 +9,8 @@ use Rattle.cell_clump.specs.declared.clump.Joining.{Joining}
 use Rattle.cell_clump.specs.Areas.{Position, at, IsBefore, IsFirst, HasNumber, IsClumping}
 use Rattle.cell_clump.specs.ClumpLaw.{NoNumberIsLeftOut, NumbersCountAreas, Occurs}
 use Rattle.cell_clump.proofs.PathLemmas.{AreJoined-refl}
-use Rattle.cell_clump.proofs.PairLemmas.{some_of}
-use Rattle.cell_clump.proofs.RowLemmas.{position}
+use Rattle.cell_clump.proofs.MeetingLemmas.{some_of}
+use Rattle.cell_clump.specs.parts.Places.{position}
 use Rattle.cell_clump.proofs.LawLemmas.{IsBefore-asym, cases_before, within_le, HasNumber-one}
 
 IsBefore-trans : (p q s : Position) → IsBefore p q → IsBefore q s → IsBefore p s

@@ -12,7 +12,8 @@ use Rattle.cell_clump.specs.declared.clump.Joining.{Joining}
 use Rattle.cell_clump.specs.Areas.{Position, at, IsBefore, HasNumber, IsClumping}
 use Rattle.cell_clump.specs.ClumpLaw.{ClumpingIsOne}
 use Rattle.cell_clump.proofs.PathLemmas.{AreJoined-sym, AreJoined-trans}
-use Rattle.cell_clump.proofs.RowLemmas.{position, same_position}
+use Rattle.cell_clump.specs.parts.Places.{position}
+use Rattle.cell_clump.proofs.StartLemmas.{same_position}
 
 pub IsBefore-asym : (p q : Position) → IsBefore p q → IsBefore q p → ⊥
 IsBefore-asym p q (inl a) (inl b) = absurd (omega arith)

@@ -2,7 +2,8 @@ pub mod ClumpLemmas
 pub mod CountLemmas
 pub mod LabelLemmas
 pub mod LawLemmas
+pub mod MeetingLemmas
 pub mod NumberLemmas
-pub mod PairLemmas
 pub mod PathLemmas
 pub mod RowLemmas
+pub mod StartLemmas

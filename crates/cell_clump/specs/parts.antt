@@ -1,6 +1,8 @@
--- Labels, and the tables of them, by which areas are found.
+-- Labels of runs, and the tables of them, by which areas are found.
 pub mod Labels
+pub mod Meetings
 pub mod Numbers
-pub mod Pairs
+pub mod Places
 pub mod Rows
+pub mod Starts
 pub mod Tables

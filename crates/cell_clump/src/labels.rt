@@ -1,4 +1,4 @@
-//! Labels of cells, and the table that says which were joined.
+//! Labels of runs, and the table that says which were joined.
 
 ghost use Rattle.std.specs.Prelude.{◌≡◌, ℕ, ◌<◌, ◌≤◌, length, slice_index};
 ghost use Rattle.cell_clump.specs.parts.Labels.{PointDown, TellsOpen, after_join};
@@ -36,23 +36,4 @@ pub fn join_labels(table: &mut [u32], one: u32, other: u32)
     } else {
         table[first as usize] = second;
     }
-}
-
-// Joins two labels, as `join_labels` does, and returns one that leads where both lead now. An open label that was not
-// joined before takes the first label as it is, so that along a row none has to be looked up.
-pub fn join_next(table: &mut [u32], label: u32, next: u32) -> u32
-    requires down { PointDown table.old }
-    requires label_inside { label < length table.old }
-    requires next_inside { next < length table.old }
-    ensures down { PointDown table.new }
-    ensures low { result ≤ next }
-    ensures tells { (open_of : ℕ → ℕ) → TellsOpen table.old open_of → TellsOpen table.new (after_join open_of label next) }
-    ensures leads { (open_of : ℕ → ℕ) → TellsOpen table.old open_of → after_join open_of label next result ≡ after_join open_of label next next }
-{
-    if label < next && table[label as usize] == label && table[next as usize] == next {
-        table[next as usize] = label;
-        return label;
-    }
-    join_labels(table, label, next);
-    open_label(table, next)
 }

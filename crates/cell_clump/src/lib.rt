@@ -7,7 +7,8 @@
 pub mod clump;
 mod labels;
 pub mod law;
+mod meetings;
 mod numbers;
-mod pairs;
 mod rows;
 mod scan;
+mod walk;

@@ -1,70 +1,76 @@
-//! Rows of cells that are joined.
+//! Rows of runs that are joined.
 
-ghost use Rattle.std.specs.Prelude.{◌≡◌, ℕ, ◌+◌, ◌*◌, ◌<◌, ◌≤◌, length};
-ghost use Rattle.cell_core.specs.Grid.{Grid, row_at};
-ghost use Rattle.cell_clump.specs.declared.clump.Joining.{Joining};
+ghost use Rattle.std.specs.Prelude.{◌≡◌, ℕ, ◌+◌, ◌<◌, ◌≤◌, ◌^◌, length, IsTrue};
+ghost use Rattle.cell_core.specs.Grid.{Grid};
+ghost use Rattle.cell_core.specs.Region.{most_side};
 ghost use Rattle.cell_clump.specs.parts.Labels.{PointDown};
-ghost use Rattle.cell_clump.specs.parts.Pairs.{AreSound, AreJoinedAlong};
-ghost use Rattle.cell_clump.specs.parts.Rows.{AreAllJoined, AreSideBySide, AreAcross, HaveRows};
+ghost use Rattle.cell_clump.specs.parts.Rows.{AreMet, AreWalked, HaveRows, IsReady};
 
 use crate::clump::Joining;
-use crate::pairs::{join_neighbours, join_stretches};
-use cell_core::cell::Cell;
+use crate::meetings::meet;
+use crate::walk::Walk;
 
-// Joins the cells of a row with one another.
-fn join_within(table: &mut [u32], row: &[Cell], place: u32)
+// Moves on from two runs that end at one column, and joins those that touch at its corners only. False where no run is left.
+fn pass(table: &mut [u32], above: &mut Walk<'_>, row: &mut Walk<'_>, joining: Joining) -> bool
     requires down { PointDown table.old }
-    requires some { 0 < length row.now }
-    requires inside { place + length row.now ≤ length table.old }
-    requires short { length table.old < 4294967296 }
+    requires short { length table.old < 2 ^ 31 }
+    requires above_ready { IsReady most_side (length table.old) above.old }
+    requires row_ready { IsReady most_side (length table.old) row.old }
+    requires ends { above.old.end ≡ row.old.end }
     ensures down { PointDown table.new }
-    ensures joined { (j : Joining) (m : Grid) (r : ℕ) (open_of : ℕ → ℕ) →
-        place ≡ r * length row.now → row.now ≡ row_at m r → AreSound j m (length row.now) table.old open_of →
-        AreAllJoined j m (length row.now) table.new open_of (AreSideBySide r) }
+    ensures above_ready { IsReady most_side (length table.old) above.new }
+    ensures row_ready { IsReady most_side (length table.old) row.new }
+    ensures walked { IsTrue result → (m : Grid) (r : ℕ) → AreMet joining m r table.old above.old row.old → AreWalked joining m r table.new above.new row.new }
+    ensures done { (IsTrue result → ⊥) → (m : Grid) (r : ℕ) → AreMet joining m r table.old above.old row.old → HaveRows joining m table.new (r + 2) }
+    ensures fewer { IsTrue result → length above.new.runs + length row.new.runs < length above.old.runs + length row.old.runs }
 {
-    let last = row.len() - 1;
-    join_neighbours(table, &row[..last], place, &row[1..]);
-}
-
-// Joins the cells of a row with those of the row above. In each of the two rows neighbours were joined before.
-fn join_across(table: &mut [u32], above: &[Cell], row: &[Cell], place: u32, joining: Joining)
-    requires down { PointDown table.old }
-    requires some { 0 < length row.now }
-    requires wide { length above.now ≡ length row.now }
-    requires above_inside { length row.now ≤ place }
-    requires inside { place + length row.now ≤ length table.old }
-    requires short { length table.old < 4294967296 }
-    ensures down { PointDown table.new }
-    ensures joined { (m : Grid) (r : ℕ) (open_of : ℕ → ℕ) →
-        place ≡ (r + 1) * length row.now → above.now ≡ row_at m r → row.now ≡ row_at m (r + 1) →
-        AreSound joining m (length row.now) table.old open_of →
-        AreJoinedAlong open_of above.now (r * length row.now) → AreJoinedAlong open_of row.now place →
-        AreAllJoined joining m (length row.now) table.new open_of (AreAcross joining r) }
-{
-    let last = row.len() - 1;
-    let before = place - row.len() as u32;
-    join_stretches(table, above, before, row, place);
+    let (one, one_label) = (above.cell, above.label);
+    let (other, other_label) = (row.cell, row.label);
+    if !above.advance() {
+        return false;
+    }
+    if !row.advance() {
+        return false;
+    }
     if let Joining::EdgesAndCorners = joining {
-        join_stretches(table, &above[..last], before, &row[1..], place + 1);
-        join_stretches(table, &above[1..], before + 1, &row[..last], place);
+        meet(table, one, one_label, row.cell, row.label);
+        meet(table, above.cell, above.label, other, other_label);
     }
+    true
 }
 
-// Joins the cells of a row with one another, and then, if it is not the first, with those of the row above.
-pub fn join_row(table: &mut [u32], above: &[Cell], row: &[Cell], place: u32, joining: Joining)
+// Joins two runs that lie one above the other, and moves on from the one that ends first, or from both. False where no
+// run is left.
+fn step(table: &mut [u32], above: &mut Walk<'_>, row: &mut Walk<'_>, joining: Joining) -> bool
     requires down { PointDown table.old }
-    requires some { 0 < length row.now }
-    requires wide { length above.now ≡ length row.now }
-    requires above_inside { 0 < place → length row.now ≤ place }
-    requires inside { place + length row.now ≤ length table.old }
-    requires short { length table.old < 4294967296 }
+    requires short { length table.old < 2 ^ 31 }
+    requires above_ready { IsReady most_side (length table.old) above.old }
+    requires row_ready { IsReady most_side (length table.old) row.old }
     ensures down { PointDown table.new }
-    ensures rows { (m : Grid) (r : ℕ) →
-        place ≡ r * length row.now → row.now ≡ row_at m r → ((s : ℕ) → s + 1 ≡ r → above.now ≡ row_at m s) →
-        HaveRows joining m (length row.now) table.old r → HaveRows joining m (length row.now) table.new (r + 1) }
+    ensures above_ready { IsReady most_side (length table.old) above.new }
+    ensures row_ready { IsReady most_side (length table.old) row.new }
+    ensures walked { IsTrue result → (m : Grid) (r : ℕ) → AreWalked joining m r table.old above.old row.old → AreWalked joining m r table.new above.new row.new }
+    ensures done { (IsTrue result → ⊥) → (m : Grid) (r : ℕ) → AreWalked joining m r table.old above.old row.old → HaveRows joining m table.new (r + 2) }
+    ensures fewer { IsTrue result → length above.new.runs + length row.new.runs < length above.old.runs + length row.old.runs }
 {
-    join_within(table, row, place);
-    if place > 0 {
-        join_across(table, above, row, place, joining);
+    meet(table, above.cell, above.label, row.cell, row.label);
+    if above.end < row.end {
+        return above.advance();
     }
+    if row.end < above.end {
+        return row.advance();
+    }
+    pass(table, above, row, joining)
+}
+
+// Joins the runs of a row with those of the row above that they touch.
+pub fn join_rows(table: &mut [u32], mut above: Walk<'_>, mut row: Walk<'_>, joining: Joining)
+    requires down { PointDown table.old }
+    requires short { length table.old < 2 ^ 31 }
+    requires above_ready { IsReady most_side (length table.old) above }
+    requires row_ready { IsReady most_side (length table.old) row }
+    ensures down { PointDown table.new }
+    ensures rows { (m : Grid) (r : ℕ) → AreWalked joining m r table.old above.entry row.entry → HaveRows joining m table.new (r + 2) }
+{
+    while step(table, &mut above, &mut row, joining) {}
 }

@@ -1,14 +1,44 @@
 //! The labels of a map.
 
-ghost use Rattle.std.specs.Prelude.{◌≡◌, ◌*◌, IfOk, length};
+ghost use Rattle.std.specs.Prelude.{◌≡◌, ◌<◌, ◌≤◌, ◌*◌, ◌^◌, IfOk, length};
+ghost use Rattle.cell_core.specs.Region.{most_side};
+ghost use Rattle.cell_clump.specs.parts.Starts.{HasLabels, run_count};
 ghost use Rattle.cell_clump.specs.parts.Tables.{AreFresh, AreLabels};
 
 use crate::clump::Joining;
-use crate::rows::join_row;
-use cell_core::cell::Cell;
+use crate::rows::join_rows;
+use crate::walk::Walk;
 use cell_core::map::CellMap;
 use cell_core::memory::Memory;
+use cell_core::runs::Runs;
 use std::alloc::Global;
+
+// How many runs there are.
+fn count_runs(runs: Runs<'_>) -> u32
+    requires { length runs < 2 ^ 32 }
+    ensures { result ≡ length runs.entry }
+{
+    let mut count = 0;
+    for _ in runs {
+        count += 1;
+    }
+    count
+}
+
+// How many runs the rows of a map have.
+fn count_all(map: &CellMap, rows: u32) -> u32
+    requires labels { HasLabels map.now }
+    requires rows { rows ≡ map.now.region.rows }
+    requires cells { map.now.region.rows * map.now.region.cols < 2 ^ 31 }
+    ensures count { result ≡ run_count map.now }
+    ensures few { result < 2 ^ 31 }
+{
+    let mut count = 0;
+    for r in 0..rows {
+        count += count_runs(map.runs(r));
+    }
+    count
+}
 
 // A table in which each label points to itself.
 fn fresh_labels(alloc: Global, count: u32) -> Result<Vec<u32>, Memory>
@@ -22,45 +52,36 @@ fn fresh_labels(alloc: Global, count: u32) -> Result<Vec<u32>, Memory>
     Ok(table)
 }
 
-// Joins the labels of each two adjacent cells of one category. Reads each row once, from the top, and keeps the
-// one above.
-fn join_cells(
-    map: &CellMap,
-    table: &mut [u32],
-    above: &mut [Cell],
-    row: &mut [Cell],
-    joining: Joining,
-)
-    requires fresh { AreFresh (map.now.region.rows * map.now.region.cols) table.old }
-    requires above_wide { length above.old ≡ map.now.region.cols }
-    requires wide { length row.old ≡ map.now.region.cols }
+// Joins the labels of each two adjacent cells of one category. Each row is walked with the one above it.
+fn join_all(map: &CellMap, rows: u32, table: &mut [u32], joining: Joining)
+    requires labels { HasLabels map.now }
+    requires rows { rows ≡ map.now.region.rows }
+    requires cols { map.now.region.cols ≤ most_side }
+    requires fresh { AreFresh (run_count map.now) table.old }
+    requires short { length table.old < 2 ^ 31 }
     ensures { AreLabels joining map.now table.new }
 {
-    let region = map.region();
-    let cols = region.cols();
-    let mut place = 0;
-    for r in 0..region.rows() {
-        map.copy_row(r, row);
-        join_row(table, above, row, place, joining);
-        above.copy_from_slice(row);
-        place += cols;
+    let mut above = 0;
+    let mut here = 0;
+    for r in 0..rows {
+        if r > 0 {
+            let before = Walk::over(map, r - 1, above);
+            let walk = Walk::over(map, r, here);
+            join_rows(table, before, walk, joining);
+        }
+        let count = count_runs(map.runs(r));
+        above = here;
+        here += count;
     }
 }
 
-// The labels of a map's cells in row order, once each two adjacent cells of one category were joined.
-pub fn label_cells(alloc: Global, map: &CellMap, joining: Joining) -> Result<Vec<u32>, Memory>
+// The labels of a map's runs in row order, once each two adjacent cells of one category were joined.
+pub fn label_runs(alloc: Global, map: &CellMap, joining: Joining) -> Result<Vec<u32>, Memory>
     ensures { IfOk result (λ table. AreLabels joining map.now table.items) }
 {
-    let region = map.region();
-    let mut table = fresh_labels(alloc, region.rows() * region.cols())?;
-    let mut above = vec![in alloc; Cell::null(); region.cols() as usize]?;
-    let mut row = vec![in alloc; Cell::null(); region.cols() as usize]?;
-    join_cells(
-        map,
-        table.as_mut_slice(),
-        above.as_mut_slice(),
-        row.as_mut_slice(),
-        joining,
-    );
+    let rows = map.region().rows();
+    let count = count_all(map, rows);
+    let mut table = fresh_labels(alloc, count)?;
+    join_all(map, rows, table.as_mut_slice(), joining);
     Ok(table)
 }

@@ -1,4 +1,4 @@
--- Labels, and the table that says where each points. A label is the place, in row order, of the cell that it was made at.
+-- Labels, and the table that says where each points. A label is a number from 0 on, given to the runs of a map in row order.
 use Rattle.std.specs.Prelude.{ℕ, ◌<◌, ◌≤◌, ◌≡◌, List, length, slice_index, nat_eq, if◌then◌else◌, min, max}
 
 -- each label points to itself or to a smaller one

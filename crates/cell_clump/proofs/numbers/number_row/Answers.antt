@@ -1,52 +1,36 @@
-use Rattle.std.proofs.Common.{◌≡◌, ℕ, ◌+◌, ◌<◌, None, is_some, length, arith, get_or, ◌∙◌, sym, ap, subst, get_or-set_other}
-use Rattle.std.proofs.lemmas.List.{get_or_read}
-use Rattle.cell_core.specs.Grid.{Grid, CellValue}
-use Rattle.cell_clump.specs.Areas.{at}
-use Rattle.cell_clump.specs.parts.Pairs.{cell_of}
-use Rattle.cell_clump.specs.parts.Numbers.{AreNumbered}
-use Rattle.cell_clump.proofs.NumberLemmas.{AreNumbered-null, CanNumber-later, row_done, row_passed}
+use Rattle.std.proofs.Common.{◌≡◌, ℕ, ◌+◌, ◌++◌, [], ◌∷◌, length, take, ap, sym, arith, rules, subst}
+use Rattle.cell_core.specs.Grid.{Grid}
+use Rattle.cell_core.specs.Runs.{RunValue}
+use Rattle.cell_clump.specs.parts.Numbers.{AreNumbered, AreRunsFrom, CanNumber, numbers_from}
+use Rattle.cell_clump.proofs.NumberLemmas.{run_written, run_within, row_written}
 use Rattle.cell_clump.proofs.numbers.number_row.Goals as goal
-use Rattle.cell_clump.proofs.numbers.number_row.Goals.{then-is_some, else-is_some}
 
-pub returns-clause-numbered : goal.returns-clause-numbered
-returns-clause-numbered c = λ j m w labels open_of sound cells h.
-    let e : c.loop-i.at ≡ c.args.place + length c.args.row.now = omega arith in
-    subst (λ (n : ℕ). AreNumbered m w labels open_of n c.loop-i.table c.loop-i.count) e (c.loop-i.invariant.numbered j m w labels open_of sound cells h)
+pub loop-cell-preserved : goal.loop-cell-preserved
+loop-cell-preserved c =
+    let inv = c.loop-cell.invariant in
+    let label = c.loop-cell.so_far.label in
+    let old = c.loop-cell.cell-iterator in
+    let rest = c.next.new.self in
+    let steps = c.in-Some.ensures.steps in
+    let more : c.number_run-number.new.so_far.label ≡ label + 1 = c.number_run-number.ensures.label in
+    let count : length old ≡ length rest + 1 = omega (arith, ap (length {A = RunValue}) steps) in
+    let runs : (m : Grid) → AreRunsFrom m c.args.so_far.now.label c.args.runs → AreRunsFrom m label ((c.in-Some.cell, c.in-Some.count) ∷ rest) = λ m from. subst (AreRunsFrom m label) steps (inv.runs m from) in
+    record {
+      label_is = omega (arith, more, count, inv.label_is);
+      within = run_within c.loop-cell.row c.fill_run.new.cells c.loop-cell.at c.in-Some.count c.in-Some.cell old rest steps inv.within (search rules);
+      ready = subst (λ (n : ℕ). CanNumber n c.number_run-number.new.table) (sym more) c.number_run-number.ensures.ready;
+      few = omega (arith, more, c.number_run-number.ensures.few);
+      runs = λ m from. subst (λ (n : ℕ). AreRunsFrom m n rest) (sym more) ((runs m from).1);
+      numbered = λ j m labels open_of sound from h. subst (λ (n : ℕ). AreNumbered m labels open_of n c.number_run-number.new.table c.number_run-number.new.so_far.count) (sym more)
+          (c.number_run-number.ensures.numbered j m labels open_of sound ((runs m from).0) (inv.numbered j m labels open_of sound from h));
+      whole = λ j m labels open_of sound from h.
+          let applied = c.number_run-number.ensures.cell j m labels open_of sound ((runs m from).0) (inv.numbered j m labels open_of sound from h) in
+          let written = run_written m labels open_of c.loop-cell.row c.fill_run.new.cells (numbers_from m labels open_of c.args.so_far.now.label c.args.runs) c.loop-cell.at c.in-Some.count label c.number_run-number.result c.in-Some.cell old rest steps applied (inv.whole j m labels open_of sound from h) inv.within c.fill_run.ensures in
+          subst (λ (n : ℕ). take (c.loop-cell.at + c.in-Some.count) c.fill_run.new.cells ++ numbers_from m labels open_of n rest ≡ numbers_from m labels open_of c.args.so_far.now.label c.args.runs) (sym more) written;
+    }
 
 pub returns-clause-cells : goal.returns-clause-cells
-returns-clause-cells c = λ j m w labels open_of sound cells h k lt. c.loop-i.invariant.cells j m w labels open_of sound cells h k (omega arith)
-
-pub loop-i-preserved : goal.loop-i-preserved
-loop-i-preserved c =
-    let i = c.loop-i.i in
-    let place = c.args.place in
-    let read : c.index-row-i.result ≡ get_or c.loop-i.row i None = get_or_read c.loop-i.row i c.index-row-i.result (omega arith) c.index-row-i.is None in
-    let kept : get_or c.loop-i.row i None ≡ get_or c.args.row.now i None = c.loop-i.invariant.others i (omega arith) in
-    let here : (m : Grid) (w : ℕ) → ((k : ℕ) → k < length c.args.row.now → at m (cell_of w (place + k)) ≡ get_or c.args.row.now k None) → get_or c.loop-i.row i None ≡ at m (cell_of w c.loop-i.at)
-    = λ m w cells. kept ∙ sym (cells i (omega arith)) ∙ ap (λ (n : ℕ). at m (cell_of w n)) (sym c.loop-i.invariant.at_is) in
-    let tested : (m : Grid) (w : ℕ) → ((k : ℕ) → k < length c.args.row.now → at m (cell_of w (place + k)) ≡ get_or c.args.row.now k None) → is_some (at m (cell_of w c.loop-i.at)) ≡ c.is_some.result
-    = λ m w cells. ap (λ (x : CellValue). is_some x) (sym (here m w cells) ∙ sym read ∙ sym c.get.ensures.value) ∙ sym c.is_some.ensures in
-    elim c.if-is_some.branch [
-      | then-is_some w ↦ record {
-        ready = rw w.table-is w.number_label-count.ensures.ready;
-        at_is = omega arith;
-        few = rw w.count-is w.number_label-count.ensures.few;
-        others = λ k le. rw w.row-is (get_or-set_other c.loop-i.row i k w.number_cell.result None (omega arith) ∙ c.loop-i.invariant.others k (omega arith));
-        numbered = λ j m width labels open_of sound cells h.
-            rw (w.table-is, w.count-is) (w.number_label-count.ensures.numbered j m width labels open_of sound (tested m width cells ∙ w.if-is_some.true) (c.loop-i.invariant.numbered j m width labels open_of sound cells h));
-        cells = λ j m width labels open_of sound cells h.
-            let some = tested m width cells ∙ w.if-is_some.true in
-            let now = w.number_label-count.ensures.numbered j m width labels open_of sound some (c.loop-i.invariant.numbered j m width labels open_of sound cells h) in
-            rw w.row-is (row_done m width labels open_of place c.loop-i.at i _ _ c.loop-i.row w.number_cell.result c.loop-i.invariant.at_is now (omega arith) some w.number_cell.ensures (c.loop-i.invariant.cells j m width labels open_of sound cells h));
-      }
-      | else-is_some w ↦ record {
-        ready = rw w.table-is (CanNumber-later c.loop-i.at c.loop-i.table c.loop-i.invariant.ready);
-        at_is = omega arith;
-        few = rw w.count-is (let few = c.loop-i.invariant.few in omega arith);
-        others = λ k le. rw w.row-is (c.loop-i.invariant.others k (omega arith));
-        numbered = λ j m width labels open_of sound cells h.
-            rw (w.table-is, w.count-is) (AreNumbered-null m width labels open_of c.loop-i.at c.loop-i.table c.loop-i.count (c.loop-i.invariant.numbered j m width labels open_of sound cells h) (tested m width cells ∙ w.if-is_some.false));
-        cells = λ j m width labels open_of sound cells h.
-            rw w.row-is (row_passed m width labels open_of place c.loop-i.at i c.loop-i.row c.loop-i.invariant.at_is (tested m width cells ∙ w.if-is_some.false) (here m width cells) (c.loop-i.invariant.cells j m width labels open_of sound cells h));
-      }
-    ]
+returns-clause-cells c = λ j m labels open_of sound from h.
+    let inv = c.loop-cell.invariant in
+    let none : c.loop-cell.cell-iterator ≡ [] = search rules in
+    row_written m labels open_of c.loop-cell.so_far.label c.loop-cell.at c.loop-cell.row _ c.loop-cell.cell-iterator none (inv.whole j m labels open_of sound from h) inv.within
