@@ -5,6 +5,7 @@ pub mod LawLemmas
 pub mod OrderLemmas
 pub mod PrintLemmas
 pub mod RestLemmas
+pub mod RunCountLemmas
 pub mod SortedLemmas
 pub mod TableLemmas
 pub mod WalkLemmas

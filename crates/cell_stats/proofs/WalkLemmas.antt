@@ -21,7 +21,7 @@ use Rattle.cell_stats.specs.Tables.{kept, is_left_out}
 
 -- ---- the cells of a stretch
 
-cell-row : (maps : List Grid) (row col p : ℕ) → cell_in maps row col p ≡ get_or (row_in maps row p) col None
+pub cell-row : (maps : List Grid) (row col p : ℕ) → cell_in maps row col p ≡ get_or (row_in maps row p) col None
 cell-row maps row col p = by (slice_get maps p)
   where
     by : (o : Option Grid) → option_map_or (λ m. cell_at m row col) o None ≡ get_or (option_map_or (λ m. row_at m row) o []) col None
@@ -126,10 +126,10 @@ kept-replicate skip q zero false l = refl
 kept-replicate skip q (suc n) true l = rw l (kept-replicate skip q n true l)
 kept-replicate skip q (suc n) false l = rw l (ap (λ (z : List Combination). q ∷ z) (kept-replicate skip q n false l))
 
-count-append : (k : Combination) (xs ys : List Combination) → count_of k (xs ++ ys) ≡ count_of k xs + count_of k ys
+pub count-append : (k : Combination) (xs ys : List Combination) → count_of k (xs ++ ys) ≡ count_of k xs + count_of k ys
 count-append k xs ys = sum_by-append (λ (x : Combination). cond (eq_by_cmp combination_cmp k x) 1 0) xs ys
 
-count-replicate : (k q : Combination) (n : ℕ) → count_of k (replicate n q) ≡ cond (is_same k q) n 0
+pub count-replicate : (k q : Combination) (n : ℕ) → count_of k (replicate n q) ≡ cond (is_same k q) n 0
 count-replicate k q zero = by (is_same k q)
   where
     by : (b : Bool) → ◌≡◌ {A = ℕ} 0 (cond b 0 0)

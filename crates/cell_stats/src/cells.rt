@@ -7,7 +7,7 @@ ghost use Rattle.cell_stats.specs.Combinations.{row_combinations};
 ghost use Rattle.cell_stats.specs.Tables.{kept};
 ghost use Rattle.cell_stats.specs.TableText.{cell_line, cells_text};
 
-use crate::cursor::{Cursor, pass_all, restart_all, start_all};
+use crate::cursor::{Cursor, cursors_of, pass_all, restart_all};
 use crate::format::Format;
 use crate::printing::write_cell_line;
 use crate::selection::Selection;
@@ -47,8 +47,7 @@ impl<'a> CellWalk<'a> {
         requires { All (λ i. i < length shelf.now.maps) picks.now }
         ensures { IfOk result (λ walk. walk ≡ length picks.now) }
     {
-        let row = shelf.region().rows() - 1;
-        let cursors = start_all(alloc, shelf, picks, row)?;
+        let cursors = cursors_of(alloc, shelf, picks)?;
         let cells = vec![in alloc; Cell::null(); picks.len()]?;
         Ok(CellWalk { cursors, cells })
     }

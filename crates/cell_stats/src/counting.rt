@@ -12,7 +12,7 @@ use cell_core::shelf::Shelf;
 use std::alloc::Global;
 use std::collections::BTreeMap;
 
-// How many combinations are held at first: at least, and at most.
+// How many combinations are held at first: at least, and at most. All numbers of places are powers of two.
 const FEWEST: u32 = 64;
 
 const FIRST: u32 = 4096;
@@ -65,13 +65,21 @@ fn is_held(held: &Held, cells: &[Cell]) -> bool
     true
 }
 
+// The place where a combination is looked for first. The number of places is a power of two, so that no division is needed.
+fn own_place(cells: &[Cell], places: usize) -> usize
+    requires { 0 < places }
+    ensures { result < places }
+{
+    let last = places - 1;
+    (number_of(cells) & last).min(last)
+}
+
 // Where a combination is held, or else a place near its own that holds nothing, or else its own.
-fn place_of(cells: &[Cell], places: &[Held]) -> usize
+fn place_near(cells: &[Cell], own: usize, places: &[Held]) -> usize
     requires width { length cells.now ≤ 16 }
-    requires some { 0 < length places.now }
+    requires own { own < length places.now }
     ensures { result < length places.now }
 {
-    let own = number_of(cells) % places.len();
     let end = places.len().min(own.saturating_add(NEAR));
     for at in own..end {
         if places[at].count == 0 || is_held(&places[at], cells) {
@@ -136,7 +144,39 @@ fn hold(held: &mut Held, cells: &[Cell], count: u64)
     held.count = count;
 }
 
-// Counts cells of a combination at a place for it. What that held of another goes to the map.
+// Counts cells of a combination that its own place does not hold, at a place near that. What it held of another goes to the
+// map. It stays out of the loop over the cells, where it is rare.
+#[inline(never)]
+fn add_near(
+    alloc: Global,
+    cells: &[Cell],
+    count: u64,
+    own: usize,
+    spare: &mut Combo,
+    places: &mut [Held],
+    counted: &mut BTreeMap<Combo, u64>,
+) -> Result<(), Memory>
+    requires width { (length cells.now ≤ 16) × (length spare.old ≡ length cells.now) }
+    requires own { own < length places.old }
+    requires fits { (k : Combination) → total_of (length cells.now) k places.old counted.old + count < 2 ^ 64 }
+    requires no_zero { HasNoZero counted.old }
+    ensures ok { OnOk result ((k : Combination) → total_of (length cells.now) k places.new counted.new ≡ total_of (length cells.now) k places.old counted.old + cond (is_same k cells.now) count 0) }
+    ensures no_zero { OnOk result (HasNoZero counted.new) }
+    ensures spare { length spare.new ≡ length cells.now }
+{
+    let at = place_near(cells, own, places);
+    let place = &mut places[at];
+    if is_held(place, cells) {
+        place.count += count;
+        return Ok(());
+    }
+    flush(alloc, place, cells.len(), spare, counted)?;
+    hold(place, cells, count);
+    Ok(())
+}
+
+// Counts cells of a combination at a place for it.
+#[inline(always)]
 pub(crate) fn add(
     alloc: Global,
     cells: &[Cell],
@@ -153,15 +193,13 @@ pub(crate) fn add(
     ensures no_zero { OnOk result (HasNoZero counted.new) }
     ensures spare { length spare.new ≡ length cells.now }
 {
-    let at = place_of(cells, places);
-    let place = &mut places[at];
+    let own = own_place(cells, places.len());
+    let place = &mut places[own];
     if is_held(place, cells) {
         place.count += count;
         return Ok(());
     }
-    flush(alloc, place, cells.len(), spare, counted)?;
-    hold(place, cells, count);
-    Ok(())
+    add_near(alloc, cells, count, own, spare, places, counted)
 }
 
 // How many combinations are held at first: fewer where there are few cells.
@@ -170,7 +208,7 @@ fn places_for(shelf: &Shelf) -> usize
 {
     let region = shelf.region();
     let cells = region.rows().saturating_mul(region.cols());
-    (cells / 2).clamp(FEWEST, FIRST) as usize
+    (cells / 2).clamp(FEWEST, FIRST).next_power_of_two() as usize
 }
 
 // Places that hold nothing.

@@ -65,7 +65,7 @@ fn start<'a>(map: &'a CellMap, row: u32) -> Cursor<'a>
 }
 
 // The first cells of a row of the picked maps.
-pub(crate) fn start_all<'a>(
+fn start_all<'a>(
     alloc: Global,
     shelf: &'a Shelf,
     picks: &[usize],
@@ -84,7 +84,20 @@ pub(crate) fn start_all<'a>(
     Ok(cursors)
 }
 
-// Moves all back to the first cells of a row.
+// Cursors over the picked maps, in the last row. They are moved from row to row, so that memory is taken once.
+pub(crate) fn cursors_of<'a>(
+    alloc: Global,
+    shelf: &'a Shelf,
+    picks: &[usize],
+) -> Result<Vec<Cursor<'a>>, Memory>
+    requires { All (λ i. i < length shelf.now.maps) picks.now }
+    ensures { IfOk result (λ cursors. length cursors.items ≡ length picks.now) }
+{
+    let row = shelf.region().rows() - 1;
+    start_all(alloc, shelf, picks, row)
+}
+
+// Moves all to the first cells of a row.
 pub(crate) fn restart_all<'a>(
     cursors: &mut [Cursor<'a>],
     shelf: &'a Shelf,

@@ -9,9 +9,9 @@ overflow_add-place c =
     let cells = c.args.cells.now in
     let w = length cells in
     let places = c.args.places.now in
-    let at = c.place_of-at.result in
-    let held = get_or places at c.index-places-at.result in
-    let within : at < length places = omega (arith, c.place_of-at.ensures) in
+    let at = c.own_place-own.result in
+    let held = get_or places at c.index-places-own.result in
+    let within : at < length places = omega (arith, c.own_place-own.ensures) in
     let own = held_by-own w cells held (sym (c.is_held.ensures.0 c.if-is_held.true)) in
-    let le = get_or-le-sum_by (held_by w cells) places at c.index-places-at.result within in
+    let le = get_or-le-sum_by (held_by w cells) places at c.index-places-own.result within in
     omega (arith, c.requires.fits cells, own, le)

@@ -4,13 +4,33 @@ use Rattle.std.specs.List.{range_with_len}
 use Rattle.cell_core.specs.Region.{RegionValue}
 use Rattle.cell_stats.specs.Combinations.{Combination, all_combinations, combination_at}
 use Rattle.cell_stats.specs.Counts.{count_of}
-use Rattle.cell_stats.specs.parts.Cursors.{to_come}
 use Rattle.cell_stats.specs.parts.Held.{total_of, HasNoZero, is_same}
 use Rattle.cell_stats.specs.Tables.{kept, is_left_out}
 use Rattle.cell_stats.specs.declared.counting.Held.{Held}
+use Rattle.cell_stats.proofs.RunCountLemmas.{single, counted-alone, fits-alone}
 use Rattle.cell_stats.proofs.WalkLemmas.{alike, alive, passed-on, stretch, count-left, count-more, count_small, all_combinations_more}
 use Rattle.cell_stats.proofs.tallying.count_row.Goals as goal
 use Rattle.cell_stats.proofs.tallying.count_row.Goals.{then-not-is_left_out+in_ok-add, else-not-is_left_out}
+
+pub count_runs-requires-clause-fits : goal.count_runs-requires-clause-fits
+count_runs-requires-clause-fits c = λ k.
+    let picks = c.args.selection.picks.now in
+    let region = c.requires.region in
+    let one : length picks ≡ 1 = omega (arith, c.in-len1.len_at_least, c.in-len1.len_below) in
+    let few : c.args.row ≤ 65535 = omega (arith, region.rows_most, c.requires.row_in_range) in
+    let was = sym (ap (λ w. total_of w k c.args.places.now c.args.counted.now) one) ∙ c.requires.counted k in
+    let wide = c.runs-runs.ensures.width ∙ ap (λ (r : RegionValue). r.cols) c.map.ensures.region in
+    fits-alone c.args.selection.skip k c.args.selection.shelf.now.maps picks c.args.row c.args.selection.shelf.now.region.cols (total_of 1 k c.args.places.now c.args.counted.now) _ few region.cols_most was wide
+
+pub returns-in-len1-clause-ok : goal.returns-in-len1-clause-ok
+returns-in-len1-clause-ok c = λ k.
+    let picks = c.args.selection.picks.now in
+    let one : length picks ≡ 1 = omega (arith, c.in-len1.len_at_least, c.in-len1.len_below) in
+    let was = sym (ap (λ w. total_of w k c.args.places.now c.args.counted.now) one) ∙ c.requires.counted k in
+    let wide = c.runs-runs.ensures.width ∙ ap (λ (r : RegionValue). r.cols) c.map.ensures.region in
+    ap (λ w. total_of w k c.count_runs.new.places c.count_runs.new.counted) one
+    ∙ counted-alone c.args.selection.skip k c.args.selection.shelf.now.maps picks c.args.row _ c.args.selection.shelf.now.region.cols c.map.result.now c.runs-runs.result (total_of 1 k c.args.places.now c.args.counted.now) (total_of 1 k c.count_runs.new.places c.count_runs.new.counted)
+    (single picks _ one) c.map.ensures.value c.runs-runs.ensures.written wide was (c.in_ok-count_runs.ensures.ok k)
 
 pub loop-col-init : goal.loop-col-init
 loop-col-init c =
@@ -19,8 +39,7 @@ loop-col-init c =
     let row = c.args.row in
     let first = c.pass_all-count in
     let same_cols : c.cols-cols.result ≡ c.args.selection.shelf.now.region.cols = c.cols-cols.ensures.value ∙ ap (λ (r : RegionValue). r.cols) c.region.ensures.value in
-    let begun = ap (map to_come) c.as_mut_slice-cursors.ensures.value ∙ c.in_ok-started.ensures.cells in
-    let here = passed-on maps row 0 0 c.as_mut_slice-cursors.result.now first.new.cursors picks first.ensures.passed begun in
+    let here = passed-on maps row 0 0 c.restart_all.new.cursors first.new.cursors picks first.ensures.passed c.restart_all.ensures.cells in
     record {
       counted = λ k. c.requires.counted k ∙ ap (λ (l : List Combination). count_of k (kept c.args.selection.skip l)) (sym (append-nil (all_combinations maps picks row c.args.selection.shelf.now.region.cols)));
       no_zero = c.requires.no_zero;
@@ -32,7 +51,7 @@ loop-col-init c =
       least = first.ensures.least;
       some = λ h.
           let within : 0 < c.args.selection.shelf.now.region.cols = omega (arith, h, same_cols) in
-          first.ensures.some (alive maps row 0 first.new.cursors picks c.args.selection.shelf.now.region.cols here c.in_ok-started.ensures.width within first.ensures.ready) h;
+          first.ensures.some (alive maps row 0 first.new.cursors picks c.args.selection.shelf.now.region.cols here c.restart_all.ensures.width within first.ensures.ready) h;
       most = omega (arith, first.ensures.most);
     }
 
@@ -107,7 +126,7 @@ loop-col-preserved c =
       least = next.ensures.least;
       some = λ h.
           let within : col + count < cols = omega (arith, h, same_cols) in
-          next.ensures.some (alive maps row (col + count) next.new.cursors picks cols here c.in_ok-started.ensures.width within next.ensures.ready) (omega (arith, h));
+          next.ensures.some (alive maps row (col + count) next.new.cursors picks cols here c.restart_all.ensures.width within next.ensures.ready) (omega (arith, h));
       most = omega (arith, next.ensures.most, inv.most);
     }
 

@@ -1,4 +1,4 @@
-use Rattle.std.proofs.Common.{◌≡◌, ◌≤◌, ◌+◌, ◌++◌, [], List, length, replicate, unwrap_or, None, arith, rules, ap, ◌∙◌, append-nil}
+use Rattle.std.proofs.Common.{◌≡◌, ◌≤◌, ◌+◌, ◌++◌, [], List, length, unwrap_or, None, arith, rules, ap, ◌∙◌, append-nil}
 use Rattle.std.proofs.lemmas.Grind.{common_steps}
 use Rattle.std.specs.BTreeMap as tree
 use Rattle.std.specs.BTreeMap.{is_at}
@@ -6,11 +6,9 @@ use Rattle.std.specs.Map.{lookup}
 use Rattle.cell_core.specs.Region.{RegionValue, IsRegion}
 use Rattle.cell_stats.specs.Combinations.{Combination, combination_cmp, all_combinations}
 use Rattle.cell_stats.specs.Counts.{count_of}
-use Rattle.cell_stats.specs.parts.Held.{total_of, held_of, mapped_of}
+use Rattle.cell_stats.specs.parts.Held.{total_of, mapped_of}
 use Rattle.cell_stats.specs.Tables.{Pairs, kept}
 use Rattle.cell_stats.specs.declared.counting.Held.{Held}
-use Rattle.std.proofs.lemmas.List.{length-replicate}
-use Rattle.cell_stats.proofs.HeldLemmas.{held-nothing}
 use Rattle.cell_stats.proofs.TableLemmas.{IsTable-mapped, one_table_kept, table_is}
 use Rattle.cell_stats.proofs.WalkLemmas.{count_small}
 use Rattle.cell_stats.proofs.WidthLemmas.{table-wide}
@@ -28,6 +26,7 @@ loop-row-init c =
       spare = ap length (c.in_ok-spare.ensures ∙ c.deref.ensures.value) ∙ wide;
       places = c.in_ok-places.ensures.some;
       cells = wide;
+      cursors = ap length c.as_mut_slice-cursors.ensures.value ∙ c.in_ok-started.ensures;
     }
 
 pub make_room-requires-clause-fits : goal.make_room-requires-clause-fits

@@ -12,4 +12,5 @@ invariant-loop-row l = record {
   spare : length l.spare ≡ length l.picks;
   places : 0 < length l.places.items;
   cells : length l.cells.items ≡ length l.picks;
+  cursors : length l.cursors ≡ length l.picks;
 }
