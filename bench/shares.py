@@ -32,7 +32,7 @@ def place(library, symbol):
         return "the kernel"
     if "libc" in library:
         return "malloc and free" if MEMORY.search(symbol) else "memmove" if "mem" in symbol else symbol
-    return "::".join(re.sub(r"::<#?[0-9a-f]+>|\$.*", "", symbol).split("::")[-2:])
+    return "::".join(re.sub(r"::<#?[0-9a-f]+>|\$.*|\(.*", "", symbol).split("::")[-2:])
 
 
 def samples(words):
@@ -62,4 +62,5 @@ def main():
             print(f"| {kind}, {task.title} | {', '.join(shares)} |", flush=True)
 
 
-main()
+if __name__ == "__main__":
+    main()

@@ -1,5 +1,5 @@
 #!/usr/bin/env python3
-r"""Runs the proved program on each folder of cases/ and examples/, and again with each growth refused in turn.
+r"""Runs the proved program on each folder of cases/ and examples/, and again with each growth and each write refused in turn.
 
 A case is a folder with the files that the program reads and
     args     its words, one a line
@@ -8,18 +8,27 @@ A case is a folder with the files that the program reads and
     status   its exit status; no file: 0
     output   where its standard output goes in place of a pipe that is read: a path, or `closed` for a closed pipe
     more     lines FILE COUNT TEXT: so many times the text, in which \n, \r and \x20 are bytes, follows what the file has
-The last line is 'N passed, M failed'.
+    refused  lines SOURCE LINE BYTES: what is told where growths are refused, and how many bytes are out then; each such
+             line has to come, and no other; no file: those that the model allows
+A run whose growth is refused has written just what the statements before the line that it tells write, of which
+tools/model.py says what it is. The last line is 'N passed, M failed'.
 """
 import glob
 import os
+import re
+import resource
 import shutil
 import subprocess
 import sys
 import tempfile
 
+import model
+
 ROOT = os.path.dirname(os.path.dirname(os.path.abspath(__file__)))
 PROGRAM = f"{ROOT}/bin/rcell"
-OUR_OWN = ("args", "stdout", "stderr", "status", "output", "more")
+OUR_OWN = ("args", "stdout", "stderr", "status", "output", "more", "refused")
+LONGEST_LIMITED = 256  # a case that writes more is not tried with outputs of each size
+NO_MEMORY = re.compile(rb"rcell: ([^:]+):([0-9]+): no memory\n")
 
 
 def read(path, otherwise=b""):
@@ -54,50 +63,108 @@ def output_to(place):
     return open(place, "wb")
 
 
+def words_of(case):
+    return read(f"{case}/args").splitlines()
+
+
+def expected_of_case(case):
+    return model.Answer(int(read(f"{case}/status", b"0")), read(f"{case}/stdout"), read(f"{case}/stderr"))
+
+
+def run_to(output, case, folder, restore_signals=True, **more):
+    """Runs the program in the folder with the words of the case and its standard output to a file or a pipe."""
+    environment = {"PATH": "/usr/bin:/bin", **more}
+    ran = subprocess.run([PROGRAM.encode(), *words_of(case)], cwd=folder, stdin=subprocess.DEVNULL, stdout=output,
+                         stderr=subprocess.PIPE, timeout=120, env=environment, restore_signals=restore_signals)
+    return model.Answer(ran.returncode, ran.stdout or b"", ran.stderr)
+
+
 def run(case, folder, **more):
-    """Runs the program in the folder with the words of the case: its status, output and what it told."""
-    words = read(f"{case}/args").splitlines()
+    """What the program answers to the words of the case."""
     output = output_to(read(f"{case}/output").decode().strip())
-    ran = subprocess.run([PROGRAM.encode(), *words], cwd=folder, stdin=subprocess.DEVNULL, stdout=output,
-                         stderr=subprocess.PIPE, timeout=120, env={"PATH": "/usr/bin:/bin", **more})
+    answer = run_to(output, case, folder, **more)
     if output is not subprocess.PIPE:
         output.close()
-    return ran.returncode, ran.stdout or b"", ran.stderr
+    return answer
+
+
+def refusal(parts, got):
+    """The source, line and number of bytes out where memory was refused; None where that is not told, or where what is out is
+    not the whole output of the statements before the line. `parts` has the output of each statement by its line."""
+    told = NO_MEMORY.fullmatch(got.told)
+    if got.status != 3 or not told:
+        return None
+    source, line = told[1].decode(), int(told[2])
+    is_place = line == 0 or (source == "script" and line in dict(parts))
+    before = b"".join(output for at, output in parts if at < line)
+    return (source, line, len(before)) if is_place and got.output == before else None
 
 
 def refused_in_turn(case, folder, shim, room, wanted):
     """Refuses growth 1, 2, .. until a run asks for fewer. Answers how many there were, or what went wrong.
 
-    A refused run ends in status 3, tells it in one line and has written a front of the output. Where the standard
-    library asks once more for what it was refused, the run does all its work.
+    Where the standard library asks once more for what it was refused, the run does all its work.
     """
-    count = f"{room}/count"
+    count, found = f"{room}/count", set()
     for at in range(1, 100000):
         got = run(case, folder, LD_PRELOAD=shim, REFUSE_AT=str(at), REFUSE_COUNT=count)
         asked = int(read(count) or b"0")
         if asked < at:
-            return at - 1, ""
-        status, output, told = got
-        is_refused = status == 3 and wanted[1].startswith(output) and told.count(b"\n") == 1 and told.endswith(b": no memory\n")
-        if not is_refused and not (got == wanted and asked > at):
-            return at, f"with growth {at} refused: status {status}, told {told!r}"
+            return at - 1, wrong_refusals(case, found) if got == wanted else f"growth {at} was not asked for, and yet {got}"
+        told = refusal(wanted.parts, got)
+        if told:
+            found.add(told)
+        elif not (got == wanted and asked > at):
+            return at, f"with growth {at} refused: {got}"
     return at, "no run ended without a refusal"
 
 
+def wrong_refusals(case, found):
+    """What is wrong with where growths were refused, if the case says where that is."""
+    lines = (line.split() for line in read(f"{case}/refused").decode().splitlines())
+    wanted = {(source, int(line), int(count)) for source, line, count in lines}
+    return f"refused at {sorted(found)}, and not at {sorted(wanted)}" if wanted and found != wanted else ""
+
+
+def run_limited(case, folder, size):
+    """Runs the program with a file that takes so many bytes as its standard output, the signal of a full file ignored."""
+    soft, hard = resource.getrlimit(resource.RLIMIT_FSIZE)
+    with tempfile.TemporaryFile() as output:
+        resource.setrlimit(resource.RLIMIT_FSIZE, (size, hard))
+        try:
+            got = run_to(output, case, folder, restore_signals=False)
+        finally:
+            resource.setrlimit(resource.RLIMIT_FSIZE, (soft, hard))
+        output.seek(0)
+        return model.Answer(got.status, output.read(), got.told)
+
+
+def limited_in_turn(case, folder, wanted):
+    """Lets the output be a file that takes 0, 1, .. bytes. Answers how many there were, or what went wrong."""
+    sizes = range(len(wanted.output) if len(wanted.output) <= LONGEST_LIMITED else 0)
+    for size in sizes:
+        got = run_limited(case, folder, size)
+        if got != model.Answer(4, wanted.output[:size], b"rcell: output:0: write failed after %d bytes\n" % size):
+            return size + 1, f"with an output of {size} bytes: {got}"
+    return len(sizes), ""
+
+
 def judge(case, room, shim):
-    """What is wrong with a case, or '', and how many growths were refused in turn."""
+    """What is wrong with a case, or '', and how many growths and how many writes were refused in turn."""
     folder = f"{room}/folder"
     shutil.rmtree(folder, ignore_errors=True)
     lay_out(case, folder)
-    wanted = int(read(f"{case}/status", b"0")), read(f"{case}/stdout"), read(f"{case}/stderr")
-    got = run(case, folder)
-    for what, is_so, must_be in zip(("status", "output", "told"), got, wanted):
-        if is_so != must_be:
-            return f"{what} is {is_so!r}, and not {must_be!r}", 0
-    if wanted[0]:
-        return "", 0
+    wanted, got = expected_of_case(case), run(case, folder)
+    if got != wanted:
+        return f"{got}, and not {wanted}", 0, 0
+    if wanted.status:
+        return "", 0, 0
+    wanted = model.program(words_of(case), os.fsencode(folder))
+    if got != wanted:
+        return f"by the model {wanted}", 0, 0
     grown, wrong = refused_in_turn(case, folder, shim, room, wanted)
-    return wrong, grown
+    cut, wrong_output = limited_in_turn(case, folder, wanted)
+    return wrong or wrong_output, grown, cut
 
 
 def build_shim(clang, path):
@@ -111,8 +178,8 @@ def main():
         shim = f"{room}/refuse.so"
         build_shim(sys.argv[1], shim)
         for case in sorted(glob.glob(f"{ROOT}/cases/*") + glob.glob(f"{ROOT}/examples/*")):
-            wrong, grown = judge(case, room, shim)
-            refusals = f", {grown} growths refused in turn" if grown else ""
+            wrong, grown, cut = judge(case, room, shim)
+            refusals = f", {grown} growths refused in turn" * bool(grown) + f", an output of {cut} sizes" * bool(cut)
             print(f"{case[len(ROOT) + 1 :]}: {'FAILED: ' + wrong if wrong else 'ok' + refusals}", flush=True)
             passed, failed = passed + (not wrong), failed + bool(wrong)
     print(f"{passed} passed, {failed} failed")

@@ -16,7 +16,6 @@ import collections
 import glob
 import os
 import random
-import re
 import shutil
 import sys
 import tempfile
@@ -40,10 +39,6 @@ def write(path, content):
         file.write(content)
 
 
-def expected_of_case(case):
-    return model.Answer(int(read(f"{case}/status", b"0")), read(f"{case}/stdout"), read(f"{case}/stderr"))
-
-
 def answer_to_case(case, room):
     folder = f"{room}/{os.path.basename(case)}"
     cases.lay_out(case, folder)
@@ -57,7 +52,7 @@ def compare_cases():
             if os.path.exists(f"{case}/output"):
                 continue
             runs += 1
-            expected, answer = expected_of_case(case), answer_to_case(case, room)
+            expected, answer = cases.expected_of_case(case), answer_to_case(case, room)
             if expected != answer:
                 differences += 1
                 print(f"{case[len(ROOT) + 1 :]}: stands {expected}, model {answer}")
@@ -96,19 +91,9 @@ class Program:
         return got, int(read(self.count, b"0"))
 
 
-NO_MEMORY = re.compile(rb"rcell: ([^:]+):([0-9]+): no memory\n")
-
-
 def is_told_refusal(expected, got):
     """Whether the answer tells that memory was refused, with what was written by the statements before that line."""
-    told = NO_MEMORY.fullmatch(got.told)
-    if got.status != 3 or not told:
-        return False
-    source, line = told[1], int(told[2])
-    if line == 0:
-        return got.output == b""
-    before = b"".join(output for at, output in expected.parts if at < line)
-    return source == b"script" and line in dict(expected.parts) and got.output == before
+    return cases.refusal(expected.parts, got) is not None
 
 
 def answer_of_model(made: Made) -> model.Answer:

@@ -17,6 +17,7 @@ SECONDS = 10
 CODE = re.compile(r"\s*`([^`]+)`\s*")
 HEADER_LINE = re.compile(r"\s*[a-z]+:")
 MAKERS = ("r.mapcalc", "r.reclass", "r.clump")
+NAMED_GRID = re.compile(r"^\| ([a-z]) \| ([^|`]+?)(?:, and `([^`]+)`)? \|$", re.MULTILINE)
 GRID_TITLE = "## Grids"
 
 
@@ -65,10 +66,14 @@ def grid_text(lines):
     return "\n".join([*shown, *(f"{key}: {value}" for key, value in fitting.items() if key not in keys), *data]) + "\n"
 
 
-# The grids that the head of the document names.
-GRIDS = {"b": ["1 2 3 * 1 2 3 *"], "d": ["north: 8101594278.32", "1"], "g": ["1 2"], "k": ["5 * 5"],
-         "p": ["2147483647 100 * 4 5 -2147483647 * 100"], "s": ["1 2 3 9 * 0 -5 100"], "t": ["2147483647 -5 *"],
-         "u": ["1 2 1", "1 2 1", "1 1 1", "3 3 3"], "w": ["1 2 1 2 1", "1 2 1 2 1", "1 1 1 1 1"]}
+def grids_of_head():
+    """The grids that the head of the document names, each as the lines that it shows."""
+    with open(f"{ROOT}/{DOCUMENT}", encoding="utf-8") as file:
+        head = file.read().partition("\n## ")[0]
+    return {found[1]: [line for line in (found[3], *found[2].split(" / ")) if line] for found in NAMED_GRID.finditer(head)}
+
+
+GRIDS = grids_of_head()
 
 
 def inputs_of(line):

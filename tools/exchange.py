@@ -3,8 +3,9 @@
 
 GRASS reads what bin/rcell writes, and bin/rcell reads what its r.out.ascii writes; GRASS writes no line for another
 null text than `*`, so that line is put into what it wrote. Each answer of GRASS in docs/DIFFERENCES.md is asked again.
-GDAL reads what bin/rcell writes, and what it writes as AAIGrid comes back by tools/aaigrid.py. What is not installed is
-skipped with a message. The last line is 'N passed, M failed'.
+GDAL reads what bin/rcell writes, and what it writes as AAIGrid comes back by tools/aaigrid.py. The commands of GRASS and
+GDAL by which README.md and docs/GUIDE.md export a map are run as they are written there. What is not installed is skipped
+with a message. The last line is 'N passed, M failed'.
 """
 import itertools
 import os
@@ -14,6 +15,7 @@ import sys
 import tempfile
 
 import differences
+import documents
 
 ROOT = os.path.dirname(os.path.dirname(os.path.abspath(__file__)))
 HEADER = "north: {n}\nsouth: {s}\neast: {e}\nwest: {w}\nrows: {r}\ncols: {c}\n"
@@ -24,6 +26,9 @@ GRIDS = {
     "another null text": HEADER.format(n=2, s=1, e=3, w=0, r=1, c=3) + "null: -9\n-9 9 8\n",
     "multiplier": HEADER.format(n=2, s=1, e=3, w=0, r=1, c=3) + "multiplier: 3\n1 -2 *\n",
 }
+
+OWN_MAP = f"{ROOT}/examples/land-cover/landuse.txt"
+WRITES, WRITES_NUMBER = b"r.out.ascii input=g\n", b"r.out.ascii input=g null_value=-9999\n"
 
 
 def ran(words, room):
@@ -78,20 +83,73 @@ def differences_by_grass():
         yield [f"{differences.DOCUMENT}:{row.line}: GRASS answers {answer!r}, and not {row.grass!r}"] * (answer != row.grass)
 
 
+def exports_of(first_word):
+    """The blocks of README.md and docs/GUIDE.md that begin with this word, each with its place."""
+    for name in ("README.md", "docs/GUIDE.md"):
+        with open(f"{ROOT}/{name}", encoding="utf-8") as file:
+            for block in documents.blocks_of(file.read()):
+                if block.language == "sh" and block.text.split()[0] == first_word:
+                    yield f"{name}:{block.line}", block.text
+
+
+def content(path):
+    with open(path, "rb") as file:
+        return file.read()
+
+
+def wrong_export(place, room):
+    """What is wrong with the grid landuse.txt that an export has made of the map."""
+    wanted = by_rcell(room, content(OWN_MAP), WRITES)
+    found = by_rcell(room, content(f"{room}/landuse.txt"), WRITES)
+    return [f"{place}: the map {wanted!r} is exported as {found!r}"] * (found != wanted)
+
+
+def exports_by_grass():
+    """What differs where a map is exported from GRASS as the documents say, one list a block."""
+    for place, commands in exports_of("g.region"):
+        with tempfile.TemporaryDirectory() as room:
+            subprocess.run(["grass", "-e", "-c", "XY", f"{room}/here"], check=True, capture_output=True)
+            by_grass(room, f"r.in.ascii input={OWN_MAP} output=landuse type=CELL --quiet")
+            by_grass(room, commands)
+            yield wrong_export(place, room)
+
+
+def to_gdal(room, text, script, path, form):
+    """Has GDAL translate what rcell writes of a grid text."""
+    with open(f"{room}/written", "wb") as file:
+        file.write(by_rcell(room, text, script))
+    ran(["gdal_translate", "-q", "-of", form, "-ot", "Int32", "written", path], room)
+
+
+def from_gdal(room):
+    """What rcell writes of what GDAL wrote as AAIGrid."""
+    return by_rcell(room, ran([sys.executable, f"{ROOT}/tools/aaigrid.py", "back.asc"], room), WRITES)
+
+
 def grids_by_gdal():
-    """What differs where grids go to GDAL and back, one list a grid."""
-    writes, writes_number = b"r.out.ascii input=g\n", b"r.out.ascii input=g null_value=-9999\n"
+    """What differs where grids go to GDAL and back, one list a grid: with a number for null, and with `*`, which it takes for 0."""
     for name, text in GRIDS.items():
         with tempfile.TemporaryDirectory() as room:
-            written = by_rcell(room, text.encode(), writes)
-            with open(f"{room}/written", "wb") as file:
-                file.write(by_rcell(room, text.encode(), writes_number))
-            ran(["gdal_translate", "-q", "-of", "AAIGrid", "-ot", "Int32", "written", "back.asc"], room)
-            again = by_rcell(room, ran([sys.executable, f"{ROOT}/tools/aaigrid.py", "back.asc"], room), writes)
+            written = by_rcell(room, text.encode(), WRITES)
+            to_gdal(room, text.encode(), WRITES_NUMBER, "back.asc", "AAIGrid")
+            again = from_gdal(room)
+            to_gdal(room, text.encode(), WRITES, "back.asc", "AAIGrid")
+            zeros = from_gdal(room)
         yield [f"{name}: {written!r}, by GDAL {again!r}"] * (again != written)
+        yield [f"{name}: {written!r}, by GDAL with zeros for nulls {zeros!r}"] * (zeros != written.replace(b"*", b"0"))
 
 
-CHECKS = {"grass": (grids_by_grass, differences_by_grass), "gdal_translate": (grids_by_gdal,)}
+def exports_by_gdal():
+    """What differs where a GeoTIFF that GDAL made of our text is exported as the documents say, one list a block."""
+    for place, commands in exports_of("gdal_translate"):
+        with tempfile.TemporaryDirectory() as room:
+            os.symlink(f"{ROOT}/tools", f"{room}/tools")
+            to_gdal(room, content(OWN_MAP), WRITES_NUMBER, "landuse.tif", "GTiff")
+            ran(["sh", "-c", commands], room)
+            yield wrong_export(place, room)
+
+
+CHECKS = {"grass": (grids_by_grass, exports_by_grass, differences_by_grass), "gdal_translate": (grids_by_gdal, exports_by_gdal)}
 
 
 def main():
