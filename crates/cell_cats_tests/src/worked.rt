@@ -81,7 +81,11 @@ const CASES: [Case; 15] = [
         label: None,
     },
     Case {
-        lines: &[b" 1, 2\t,3 =\t4 \r", b"5\t thru,7\t= NULL gone \r", b"*,=*\r"],
+        lines: &[
+            b" 1, 2\t,3 =\t4 \r",
+            b"5\t thru,7\t= NULL gone \r",
+            b"*,=*\r",
+        ],
         given: &[1, 2, 3, 4, 5, 6, 7, 8],
         wanted: &[4, 4, 4, 4, NULL, NULL, NULL, 8],
         category: 4,
