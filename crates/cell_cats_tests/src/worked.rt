@@ -16,7 +16,7 @@ struct Case {
 
 const LEGEND: [i32; 12] = [1, 1, 2, NULL, 1, 2, 2, 2, 3, 3, 1, 1];
 
-const CASES: [Case; 14] = [
+const CASES: [Case; 15] = [
     Case {
         lines: &[b"1 thru 3 = 7 low", b"2 = NULL", b"* = *"],
         given: &[1, 2, 3, 9, NULL, 0, 4, -7],
@@ -78,6 +78,17 @@ const CASES: [Case; 14] = [
         given: &[2, 3, 4, 5, 6, 8, 9, 10],
         wanted: &[NULL, 1, 1, 1, NULL, NULL, 1, NULL],
         category: 1,
+        label: None,
+    },
+    Case {
+        lines: &[
+            b" 1, 2\t,3 =\t4 \r",
+            b"5\t thru,7\t= NULL gone \r",
+            b"*,=*\r",
+        ],
+        given: &[1, 2, 3, 4, 5, 6, 7, 8],
+        wanted: &[4, 4, 4, 4, NULL, NULL, NULL, 8],
+        category: 4,
         label: None,
     },
     Case {
