@@ -1,23 +1,20 @@
 -- Arguments of functions, column by column.
-use Rattle.std.proofs.Common.{◌≡◌, ◌<◌, ◌≤◌, ◌+◌, ◌-◌, ℕ, ℤ, zero, suc, List, [], ◌∷◌, length, take, drop, map, get_or, refl, sym, ap, ◌∙◌, arith, Some, None, Bool, true, false}
-use Rattle.std.specs.Prelude.{fold, count_by, ◌||◌, if◌then◌else◌}
-use Rattle.std.specs.List.{list_any}
-use Rattle.cell_core.specs.Cell.{cell_eq}
-use Rattle.std.proofs.lemmas.List.Folds.{list_any_more}
+use Rattle.std.proofs.Common.{◌≡◌, ◌<◌, ◌≤◌, ◌+◌, ◌-◌, ℕ, ℤ, zero, suc, List, [], ◌∷◌, length, take, drop, map, get_or, refl, sym, ap, ◌∙◌, arith, Some, None}
+use Rattle.std.specs.Prelude.{fold}
 use Rattle.std.specs.Int.{int_min, int_max}
 use Rattle.std.proofs.lemmas.List.{length-map, take_all}
-use Rattle.std.proofs.lemmas.List.Sums.{fold_more, count_by_more_yes, count_by_more_no}
+use Rattle.std.proofs.lemmas.List.Sums.{fold_more}
 use Rattle.cell_core.specs.Grid.{CellValue}
 use Rattle.cell_calc.specs.parts.Rows.{at, column}
-use Rattle.cell_calc.specs.Cells.{lesser, greater, least, greatest, known, is_null}
+use Rattle.cell_calc.specs.Cells.{lesser, greater, least, greatest, known}
 use Rattle.cell_calc.specs.parts.Joins.{known_lesser, known_greater}
 
 -- so many arguments, so many cells
-column_length : {V : Type 0} (f : V → List CellValue) (xs : List V) (k : ℕ) → length (column k (map f xs)) ≡ length xs
+pub column_length : {V : Type 0} (f : V → List CellValue) (xs : List V) (k : ℕ) → length (column k (map f xs)) ≡ length xs
 column_length f xs k = length-map (map f xs) (λ row. at row k) ∙ length-map xs f
 
 -- a cell of a column is one of its row
-column_item : {V : Type 0} (f : V → List CellValue) (xs : List V) (i k : ℕ) (x : V)
+pub column_item : {V : Type 0} (f : V → List CellValue) (xs : List V) (i k : ℕ) (x : V)
     → i < length xs → x ≡ get_or xs i x → get_or (column k (map f xs)) i None ≡ at (f x) k
 column_item f [] i k x lt is = absurd (let no : ⊥ = omega arith in no)
 column_item f (y ∷ xs) zero k x lt is = ap (λ v. at (f v) k) (sym is)
@@ -82,34 +79,6 @@ pub known_greatest_is : (xs : List CellValue) → fold known_greater None xs ≡
 known_greatest_is [] = refl
 known_greatest_is (None ∷ xs) = known_greatest_is xs
 known_greatest_is (Some w ∷ xs) = greater_from w xs
-
--- one more argument in a search for null
-pub any_step : {V : Type 0} (f : V → List CellValue) (xs : List V) (i k : ℕ) (x : V) (b new : Bool) (other : List CellValue)
-    → i < length xs → x ≡ get_or xs i x → other ≡ f x → b ≡ list_any is_null (take i (column k (map f xs))) → new ≡ (b || is_null (at other k))
-    → new ≡ list_any is_null (take (i + 1) (column k (map f xs)))
-any_step f xs i k x b new other lt is slice was each =
-    let within : i < length (column k (map f xs)) = rw (column_length f xs k) lt in
-    each ∙ ap (λ o. b || is_null (at o k)) slice ∙ ap (λ v. v || is_null (at (f x) k)) was
-    ∙ ap (λ v. list_any is_null (take i (column k (map f xs))) || is_null v) (sym (column_item f xs i k x lt is))
-    ∙ sym (list_any_more is_null (column k (map f xs)) i None within)
-
--- one more in a count
-one_more : {X : Type 0} (p : X → Bool) (ys : List X) (i : ℕ) (d : X) → i < length ys
-    → count_by p (take (i + 1) ys) ≡ count_by p (take i ys) + (if p (get_or ys i d) then 1 else 0)
-one_more p ys i d lt = by_case (p (get_or ys i d)) refl
-  where
-    by_case : (t : Bool) → p (get_or ys i d) ≡ t → count_by p (take (i + 1) ys) ≡ count_by p (take i ys) + (if t then 1 else 0)
-    by_case true e = count_by_more_yes p ys i d lt e
-    by_case false e = let h = count_by_more_no p ys i d lt e in omega (arith, h)
-
-pub count_step : {V : Type 0} (f : V → List CellValue) (v : CellValue) (xs : List V) (i k : ℕ) (x : V) (b new : ℕ) (other : List CellValue)
-    → i < length xs → x ≡ get_or xs i x → other ≡ f x → b ≡ count_by (cell_eq v) (take i (column k (map f xs)))
-    → new ≡ b + (if cell_eq v (at other k) then 1 else 0) → new ≡ count_by (cell_eq v) (take (i + 1) (column k (map f xs)))
-count_step f v xs i k x b new other lt is slice was each =
-    let within : i < length (column k (map f xs)) = rw (column_length f xs k) lt in
-    each ∙ ap (λ o. b + (if cell_eq v (at o k) then 1 else 0)) slice ∙ ap (λ n. n + (if cell_eq v (at (f x) k) then 1 else 0)) was
-    ∙ ap (λ y. count_by (cell_eq v) (take i (column k (map f xs))) + (if cell_eq v y then 1 else 0)) (sym (column_item f xs i k x lt is))
-    ∙ sym (one_more (cell_eq v) (column k (map f xs)) i None within)
 
 -- all of a column
 pub whole : {V : Type 0} (f : V → List CellValue) (xs : List V) (i k : ℕ) → length xs ≤ i → take i (column k (map f xs)) ≡ column k (map f xs)

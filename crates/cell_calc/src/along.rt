@@ -64,8 +64,15 @@ pub(crate) fn along(
         }
         Node::Call(function, xs) => {
             let arguments = along_all(alloc, xs, region, row, from, windows, cells)?;
-            call(*function, region, row, from, arguments.as_slice(), cells);
-            Ok(())
+            call(
+                alloc,
+                *function,
+                region,
+                row,
+                from,
+                arguments.as_slice(),
+                cells,
+            )
         }
     }
 }

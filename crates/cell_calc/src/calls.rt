@@ -1,14 +1,16 @@
 //! What functions do with rows of arguments.
 
-ghost use Rattle.std.specs.Prelude.{◌≡◌, ◌≤◌, ◌<◌, ◌+◌, ℕ, length, map, All};
+ghost use Rattle.std.specs.Prelude.{◌≡◌, ◌≤◌, ◌<◌, ◌+◌, ℕ, length, map, All, OnOk};
 ghost use Rattle.cell_calc.specs.Cells.{if_of, least, greatest, known, first_of, last_of, truth, is_null};
 ghost use Rattle.cell_calc.specs.Value.{spot, size_of, called};
 ghost use Rattle.cell_calc.specs.parts.Rows.{at, column};
 
 use crate::{cells, modes, rows};
 use cell_core::cell::Cell;
+use cell_core::memory::Memory;
 use cell_core::region::Region;
 use cell_language::function::Function;
+use std::alloc::Global;
 
 fn choose(arguments: &[Vec<Cell>], row: &mut [Cell])
     requires { All (λ cells. length cells.items ≡ length row.old) arguments.now }
@@ -126,18 +128,19 @@ fn size(arguments: &[Vec<Cell>], row: &mut [Cell])
 
 /// The values of a function along a strip, of those of its arguments.
 pub(crate) fn call(
+    alloc: Global,
     function: Function,
     region: Region,
     number: u32,
     from: usize,
     arguments: &[Vec<Cell>],
     row: &mut [Cell],
-)
+) -> Result<(), Memory>
     requires at_row { number < region.rows }
     requires width { from + length row.old ≤ region.cols }
     requires widths { All (λ cells. length cells.items ≡ length row.old) arguments.now }
     ensures width { length row.new ≡ length row.old }
-    ensures each { (c : ℕ) → c < length row.old → at row.new c ≡ called function (spot region number (from + c)) (column c (map (λ cells. cells.items) arguments.now)) }
+    ensures each { OnOk result ((c : ℕ) → c < length row.old → at row.new c ≡ called function (spot region number (from + c)) (column c (map (λ cells. cells.items) arguments.now))) }
 {
     let (count, width) = (region.rows(), region.cols());
     match function {
@@ -147,7 +150,7 @@ pub(crate) fn call(
         Function::Abs => size(arguments, row),
         Function::Min => least(arguments, row),
         Function::Max => greatest(arguments, row),
-        Function::Mode => modes::mode(arguments, row),
+        Function::Mode => modes::mode(alloc, arguments, row)?,
         Function::Row => rows::fill(row, cells::number(number + 1)),
         Function::Column => rows::number(row, from),
         Function::RowCount => rows::fill(row, cells::number(count)),
@@ -155,6 +158,7 @@ pub(crate) fn call(
         Function::Eval => last(arguments, row),
         Function::KnownMin => known_least(arguments, row),
         Function::KnownMax => known_greatest(arguments, row),
-        Function::KnownMode => modes::known_mode(arguments, row),
+        Function::KnownMode => modes::known_mode(alloc, arguments, row)?,
     }
+    Ok(())
 }

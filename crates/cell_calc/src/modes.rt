@@ -1,14 +1,16 @@
-//! The most frequent cells of rows, column by column.
+//! The most frequent cells of rows, column by column: the categories of a column are put in order, and the longest run of
+//! equal ones is found.
 
-ghost use Rattle.std.specs.Prelude.{◌≡◌, ◌≤◌, ◌<◌, ◌||◌, ℕ, length, map, All, if◌then◌else◌};
-ghost use Rattle.std.specs.List.{list_any};
-ghost use Rattle.cell_core.specs.Cell.{cell_eq};
-ghost use Rattle.cell_calc.specs.Cells.{occurrences, most_frequent, mode, known, is_null};
-ghost use Rattle.cell_calc.specs.parts.Modes.{more_often, most_often, better, best_of};
+ghost use Rattle.std.specs.Prelude.{◌≡◌, ◌≤◌, ◌<◌, ◌+◌, ℕ, List, length, map, take, All, IsPermutation, IsSorted, OnOk, nat_lt, if◌then◌else◌, false};
+ghost use Rattle.cell_core.specs.Cell.{cell_cmp, cell_eq};
+ghost use Rattle.cell_core.specs.Grid.{CellValue};
+ghost use Rattle.cell_calc.specs.Cells.{most_frequent, mode, known, is_null};
 ghost use Rattle.cell_calc.specs.parts.Rows.{at, column};
 
-use crate::cells::{is_null, known_lesser};
+use crate::cells::is_null;
 use cell_core::cell::Cell;
+use cell_core::memory::Memory;
+use std::alloc::Global;
 
 fn at(cells: &[Cell], c: usize) -> Cell
     requires { c < length cells.now }
@@ -17,115 +19,124 @@ fn at(cells: &[Cell], c: usize) -> Cell
     cells[c]
 }
 
-fn either(a: bool, b: bool) -> bool
-    ensures { result ≡ (a || b) }
+// 1 for a category, 0 for null.
+fn counted(cell: Cell) -> usize
+    ensures { result ≡ (if is_null cell then 0 else 1) }
 {
-    a || b
+    if is_null(cell) { 0 } else { 1 }
 }
 
-// 1 where two cells are one.
-fn same(a: Cell, b: Cell) -> usize
-    ensures { result ≡ (if cell_eq a b then 1 else 0) }
-{
-    if a == b { 1 } else { 0 }
-}
-
-fn occurrences(value: Cell, arguments: &[Vec<Cell>], c: usize) -> usize
-    requires { All (λ cells. c < length cells.items) arguments.now }
-    ensures { result ≡ occurrences value (column c (map (λ cells. cells.items) arguments.now)) }
+// Puts the categories of a column before all else, and counts them.
+fn gather(arguments: &[Vec<Cell>], c: usize, cells: &mut [Cell]) -> usize
+    requires column { All (λ row. c < length row.items) arguments.now }
+    requires room { length cells.old ≡ length arguments.now }
+    ensures length { length cells.new ≡ length cells.old }
+    ensures count { result ≤ length cells.old }
+    ensures known { take result cells.new ≡ known (column c (map (λ row. row.items) arguments.now)) }
 {
     let mut count = 0;
     for other in arguments {
-        count += same(value, at(other.as_slice(), c));
+        let cell = at(other.as_slice(), c);
+        cells[count] = cell;
+        count += counted(cell);
     }
     count
 }
 
-fn has_null(arguments: &[Vec<Cell>], c: usize) -> bool
-    requires { All (λ cells. c < length cells.items) arguments.now }
-    ensures { result ≡ list_any is_null (column c (map (λ cells. cells.items) arguments.now)) }
+// How long a run is before a cell that follows its last one.
+fn continued(run: usize, last: Cell, cell: Cell) -> usize
+    ensures { result ≡ (if cell_eq cell last then run else 0) }
 {
-    let mut found = false;
-    for other in arguments {
-        found = either(found, is_null(at(other.as_slice(), c)));
-    }
-    found
+    if cell == last { run } else { 0 }
 }
 
-// The greater of a count and how often a cell occurs at a column; null is passed over.
-fn more_often(most: usize, cell: Cell, arguments: &[Vec<Cell>], c: usize) -> usize
-    requires { All (λ cells. c < length cells.items) arguments.now }
-    ensures { result ≡ more_often (column c (map (λ cells. cells.items) arguments.now)) most cell }
+// The cell of the longer of two runs, of the first where both are as long.
+fn longer(best: Cell, most: usize, cell: Cell, run: usize) -> Cell
+    ensures { result ≡ (if nat_lt most run then cell else best) }
 {
-    if is_null(cell) {
-        return most;
-    }
-    most.max(occurrences(cell, arguments, c))
+    if most < run { cell } else { best }
 }
 
-// How often the most frequent categories occur at a column.
-fn most_often(arguments: &[Vec<Cell>], c: usize) -> usize
-    requires { All (λ cells. c < length cells.items) arguments.now }
-    ensures { result ≡ most_often (column c (map (λ cells. cells.items) arguments.now)) }
+// The category of the longest run, of several the first.
+fn longest_run(cells: &[Cell]) -> Cell
+    requires known { All (λ cell. is_null cell ≡ false) cells.now }
+    requires sorted { IsSorted cell_cmp cells.now }
+    ensures { (xs : List CellValue) → IsPermutation xs cells.now → result ≡ most_frequent xs }
 {
-    let mut most = 0;
-    for other in arguments {
-        most = more_often(most, at(other.as_slice(), c), arguments, c);
+    if cells.is_empty() {
+        return Cell::null();
     }
-    most
-}
-
-// The lesser of two categories, of which the second has to occur so often at a column.
-fn better(best: Cell, cell: Cell, most: usize, arguments: &[Vec<Cell>], c: usize) -> Cell
-    requires { All (λ cells. c < length cells.items) arguments.now }
-    ensures { result ≡ better (column c (map (λ cells. cells.items) arguments.now)) most best cell }
-{
-    if occurrences(cell, arguments, c) < most {
-        return best;
-    }
-    known_lesser(best, cell)
-}
-
-fn frequent(arguments: &[Vec<Cell>], c: usize) -> Cell
-    requires { All (λ cells. c < length cells.items) arguments.now }
-    ensures { result ≡ most_frequent (known (column c (map (λ cells. cells.items) arguments.now))) }
-{
-    let most = most_often(arguments, c);
-    let mut best = Cell::null();
-    for other in arguments {
-        best = better(best, at(other.as_slice(), c), most, arguments, c);
+    let mut best = at(cells, 0);
+    let mut most = 1;
+    let mut run = 1;
+    for i in 1..cells.len() {
+        let cell = at(cells, i);
+        run = continued(run, at(cells, i - 1), cell) + 1;
+        best = longer(best, most, cell, run);
+        most = most.max(run);
     }
     best
 }
 
-fn mode_at(arguments: &[Vec<Cell>], c: usize) -> Cell
-    requires { All (λ cells. c < length cells.items) arguments.now }
-    ensures { result ≡ mode (column c (map (λ cells. cells.items) arguments.now)) }
+fn most_frequent(cells: &mut [Cell]) -> Cell
+    requires { All (λ cell. is_null cell ≡ false) cells.old }
+    ensures { result ≡ most_frequent cells.old }
 {
-    if has_null(arguments, c) {
+    cells.sort_unstable();
+    longest_run(cells)
+}
+
+fn known_mode_at(arguments: &[Vec<Cell>], c: usize, cells: &mut [Cell]) -> Cell
+    requires column { All (λ row. c < length row.items) arguments.now }
+    requires room { length cells.old ≡ length arguments.now }
+    ensures room { length cells.new ≡ length cells.old }
+    ensures mode { result ≡ most_frequent (known (column c (map (λ row. row.items) arguments.now))) }
+{
+    let count = gather(arguments, c, cells);
+    most_frequent(&mut cells[..count])
+}
+
+fn mode_at(arguments: &[Vec<Cell>], c: usize, cells: &mut [Cell]) -> Cell
+    requires column { All (λ row. c < length row.items) arguments.now }
+    requires room { length cells.old ≡ length arguments.now }
+    ensures room { length cells.new ≡ length cells.old }
+    ensures mode { result ≡ mode (column c (map (λ row. row.items) arguments.now)) }
+{
+    let count = gather(arguments, c, cells);
+    if count < arguments.len() {
         return Cell::null();
     }
-    frequent(arguments, c)
+    most_frequent(&mut cells[..count])
 }
 
 /// The most frequent cells of the columns, null where one is null.
-pub(crate) fn mode(arguments: &[Vec<Cell>], row: &mut [Cell])
+pub(crate) fn mode(alloc: Global, arguments: &[Vec<Cell>], row: &mut [Cell]) -> Result<(), Memory>
     requires { All (λ cells. length cells.items ≡ length row.old) arguments.now }
     ensures width { length row.new ≡ length row.old }
-    ensures each { (c : ℕ) → c < length row.old → at row.new c ≡ mode (column c (map (λ cells. cells.items) arguments.now)) }
+    ensures each { OnOk result ((c : ℕ) → c < length row.old → at row.new c ≡ mode (column c (map (λ cells. cells.items) arguments.now))) }
 {
+    let mut spare = Vec::from_elem(alloc, Cell::null(), arguments.len())?;
+    let cells = spare.as_mut_slice();
     for c in 0..row.len() {
-        row[c] = mode_at(arguments, c);
+        row[c] = mode_at(arguments, c, cells);
     }
+    Ok(())
 }
 
 /// The most frequent categories of the columns.
-pub(crate) fn known_mode(arguments: &[Vec<Cell>], row: &mut [Cell])
+pub(crate) fn known_mode(
+    alloc: Global,
+    arguments: &[Vec<Cell>],
+    row: &mut [Cell],
+) -> Result<(), Memory>
     requires { All (λ cells. length cells.items ≡ length row.old) arguments.now }
     ensures width { length row.new ≡ length row.old }
-    ensures each { (c : ℕ) → c < length row.old → at row.new c ≡ most_frequent (known (column c (map (λ cells. cells.items) arguments.now))) }
+    ensures each { OnOk result ((c : ℕ) → c < length row.old → at row.new c ≡ most_frequent (known (column c (map (λ cells. cells.items) arguments.now)))) }
 {
+    let mut spare = Vec::from_elem(alloc, Cell::null(), arguments.len())?;
+    let cells = spare.as_mut_slice();
     for c in 0..row.len() {
-        row[c] = frequent(arguments, c);
+        row[c] = known_mode_at(arguments, c, cells);
     }
+    Ok(())
 }

@@ -1,21 +1,19 @@
--- How the most frequent categories are found: first how often they occur, then the least that occurs so often.
-use Rattle.std.specs.Prelude.{ℕ, max, nat_lt, List, None, fold, if◌then◌else◌}
+-- How the most frequent category is found among categories in order.
+use Rattle.std.specs.Prelude.{◌≡◌, ◌<◌, ◌≤◌, ◌<ℤ◌, ℕ, ℤ, List, Some, None}
 use Rattle.cell_core.specs.Grid.{CellValue}
-use Rattle.cell_calc.specs.Cells.{occurrences, is_null}
-use Rattle.cell_calc.specs.parts.Joins.{known_lesser}
+use Rattle.cell_calc.specs.Cells.{occurrences}
 
--- the greater of a count and how often a category occurs
-abbrev pub more_often : List CellValue → ℕ → CellValue → ℕ
-more_often xs most cell = if is_null cell then most else max most (occurrences cell xs)
+-- the least of the categories that occur most often and how often they do, the last one and how often it does
+pub record IsLongest (cells : List CellValue) (best : ℤ) (most : ℕ) (last : ℤ) (run : ℕ) : Type 0 where
+  pub within : (w : ℤ) → occurrences (Some w) cells ≤ most
+  pub below : (w : ℤ) → w <ℤ best → occurrences (Some w) cells < most
+  pub same : occurrences (Some best) cells ≡ most
+  pub running : occurrences (Some last) cells ≡ run
+  pub above : (w : ℤ) → last <ℤ w → occurrences (Some w) cells ≡ 0
+  pub positive : 0 < most
 
--- how often the most frequent categories occur
-abbrev pub most_often : List CellValue → ℕ
-most_often xs = fold (more_often xs) 0 xs
-
--- the lesser of two, of which the second has to occur so often
-abbrev pub better : List CellValue → ℕ → CellValue → CellValue → CellValue
-better xs most best cell = if nat_lt (occurrences cell xs) most then best else known_lesser best cell
-
--- the least category that occurs so often
-abbrev pub best_of : List CellValue → ℕ → CellValue
-best_of xs most = fold (better xs most) None xs
+-- the same of cells, of which neither is null
+abbrev pub HaveLongest : List CellValue → CellValue → ℕ → CellValue → ℕ → Type 0
+HaveLongest cells None most last run = ⊥
+HaveLongest cells (Some best) most None run = ⊥
+HaveLongest cells (Some best) most (Some last) run = IsLongest cells best most last run
