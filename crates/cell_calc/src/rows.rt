@@ -43,16 +43,27 @@ pub(crate) fn combine<F: Fn(Cell, Cell) -> Cell>(row: &mut [Cell], other: &[Cell
     }
 }
 
-/// Where a row of conditions holds, the cell of the first row, else that of the second.
-pub(crate) fn choose(row: &mut [Cell], yes: &[Cell], no: &[Cell])
+/// Puts the cells of another row where conditions hold, and null where they are null.
+pub(crate) fn choose(row: &mut [Cell], conditions: &[Cell], yes: &[Cell])
+    requires width_conditions { length conditions.now ≡ length row.old }
     requires width_yes { length yes.now ≡ length row.old }
-    requires width_no { length no.now ≡ length row.old }
     ensures width { length row.new ≡ length row.old }
-    ensures each { (c : ℕ) → c < length row.old → at row.new c ≡ chosen (at row.old c) (at yes.now c) (at no.now c) }
+    ensures each { (c : ℕ) → c < length row.old → at row.new c ≡ chosen (at conditions.now c) (at yes.now c) (at row.old c) }
 {
     for i in 0..row.len() {
-        row[i] = cells::chosen(row[i], yes[i], no[i]);
+        row[i] = cells::chosen(conditions[i], yes[i], row[i]);
     }
+}
+
+/// The same with one cell for a row.
+pub(crate) fn choose_one(row: &mut [Cell], conditions: &[Cell], yes: Cell)
+    requires width { length conditions.now ≡ length row.old }
+    ensures width { length row.new ≡ length row.old }
+    ensures each { (c : ℕ) → c < length row.old → at row.new c ≡ chosen (at conditions.now c) yes (at row.old c) }
+{
+    combine(row, conditions, |no, condition| {
+        cells::chosen(condition, yes, no)
+    });
 }
 
 /// The columns' numbers, from 1, of a strip that begins at a column from 0.
