@@ -96,13 +96,8 @@ fn joined(
         }
         Node::Map { place, down, right } => {
             let source = windows[*place].row(*down);
-            match rows::inside(source, from, *right, cells.len()) {
-                Some(part) => {
-                    rows::apply(operator, cells, part);
-                    true
-                }
-                None => false,
-            }
+            rows::apply_shifted(operator, cells, source, *right, from);
+            true
         }
         _ => false,
     }
