@@ -1,4 +1,4 @@
-use Rattle.std.proofs.Common.{ap, ◌+◌, ◌-◌, arith, take, drop, w32}
+use Rattle.std.proofs.Common.{ap, arith, take, drop, w32}
 use Rattle.std.proofs.lemmas.Int.{to_z-of_z}
 use Rattle.cell_calc.proofs.Strips.{beside}
 use Rattle.cell_calc.proofs.rows.apply_shifted.Goals as goal
