@@ -1,6 +1,6 @@
 //! Rows of cells.
 
-ghost use Rattle.std.specs.Prelude.{◌≡◌, ◌≤◌, ◌<◌, ℕ, pos, length, None, Some, IfSome, ◌+ℤ◌, ◌+◌};
+ghost use Rattle.std.specs.Prelude.{◌≡◌, ◌≤◌, ◌<◌, ◌≤ℤ◌, ◌<ℤ◌, ℕ, pos, length, None, Some, IfSome, ◌+ℤ◌, ◌+◌};
 ghost use Rattle.cell_calc.specs.Cells.{chosen, truth, is_null, lesser, greater};
 ghost use Rattle.cell_calc.specs.Value.{applied, item_at, size_of, negated, inverted};
 ghost use Rattle.cell_calc.specs.parts.Joins.{known_lesser, known_greater};
@@ -43,16 +43,27 @@ pub(crate) fn combine<F: Fn(Cell, Cell) -> Cell>(row: &mut [Cell], other: &[Cell
     }
 }
 
-/// Where a row of conditions holds, the cell of the first row, else that of the second.
-pub(crate) fn choose(row: &mut [Cell], yes: &[Cell], no: &[Cell])
+/// Puts the cells of another row where conditions hold, and null where they are null.
+pub(crate) fn choose(row: &mut [Cell], conditions: &[Cell], yes: &[Cell])
+    requires width_conditions { length conditions.now ≡ length row.old }
     requires width_yes { length yes.now ≡ length row.old }
-    requires width_no { length no.now ≡ length row.old }
     ensures width { length row.new ≡ length row.old }
-    ensures each { (c : ℕ) → c < length row.old → at row.new c ≡ chosen (at row.old c) (at yes.now c) (at no.now c) }
+    ensures each { (c : ℕ) → c < length row.old → at row.new c ≡ chosen (at conditions.now c) (at yes.now c) (at row.old c) }
 {
     for i in 0..row.len() {
-        row[i] = cells::chosen(row[i], yes[i], no[i]);
+        row[i] = cells::chosen(conditions[i], yes[i], row[i]);
     }
+}
+
+/// The same with one cell for a row.
+pub(crate) fn choose_one(row: &mut [Cell], conditions: &[Cell], yes: Cell)
+    requires width { length conditions.now ≡ length row.old }
+    ensures width { length row.new ≡ length row.old }
+    ensures each { (c : ℕ) → c < length row.old → at row.new c ≡ chosen (at conditions.now c) yes (at row.old c) }
+{
+    combine(row, conditions, |no, condition| {
+        cells::chosen(condition, yes, no)
+    });
 }
 
 /// The columns' numbers, from 1, of a strip that begins at a column from 0.
@@ -269,4 +280,64 @@ pub(crate) fn apply_one(operator: Operator, row: &mut [Cell], b: Cell)
         Operator::KnownAnd => each(row, |a| cells::known_and(a, b)),
         Operator::KnownOr => each(row, |a| cells::known_or(a, b)),
     }
+}
+
+// Where a row lies under a strip: its first cell there, the column of the strip that stands over that cell, and how many
+// cells they share.
+#[derive(Clone, Copy)]
+struct Overlap {
+    first: usize,
+    before: usize,
+    count: usize,
+}
+
+// That of a row of so many cells, moved to the left, under a strip of a width that begins at a column.
+fn overlap_of(cells: usize, right: i32, from: usize, width: usize) -> Overlap
+    requires { from ≤ 65535 }
+    ensures strip { result.before + result.count ≤ width }
+    ensures row { result.first + result.count ≤ cells }
+    ensures before { (c : ℕ) → c < result.before → (pos (from + c) +ℤ right) <ℤ pos 0 }
+    ensures first { 0 < result.count → pos result.first ≡ pos (from + result.before) +ℤ right }
+    ensures after { (c : ℕ) → result.before + result.count ≤ c → c < width → pos cells ≤ℤ (pos (from + c) +ℤ right) }
+{
+    let skip = from as i64 + right as i64;
+    if skip < 0 {
+        let before = (-skip as usize).min(width);
+        let count = cells.min(width - before);
+        Overlap {
+            first: 0,
+            before,
+            count,
+        }
+    } else {
+        let first = (skip as usize).min(cells);
+        let count = (cells - first).min(width);
+        Overlap {
+            first,
+            before: 0,
+            count,
+        }
+    }
+}
+
+/// The values of an operator along a strip, which holds its left operands and begins at a column; the right ones are the
+/// cells of another row so many columns to the right, null outside.
+pub(crate) fn apply_shifted(
+    operator: Operator,
+    row: &mut [Cell],
+    source: &[Cell],
+    right: i32,
+    from: usize,
+)
+    requires { from ≤ 65535 }
+    ensures width { length row.new ≡ length row.old }
+    ensures each { (c : ℕ) → c < length row.old → at row.new c ≡ applied operator (at row.old c) (item_at None source.now (pos (from + c) +ℤ right)) }
+{
+    let overlap = overlap_of(source.len(), right, from, row.len());
+    let part = &source[overlap.first..overlap.first + overlap.count];
+    let (left, others) = row.split_at_mut(overlap.before);
+    let (middle, after) = others.split_at_mut(overlap.count);
+    apply_one(operator, left, Cell::null());
+    apply(operator, middle, part);
+    apply_one(operator, after, Cell::null());
 }

@@ -1,6 +1,7 @@
 -- Values along a strip: some columns of a row, from one on.
 use Rattle.std.specs.Prelude.{◌≡◌, ◌<◌, ◌+◌, ℕ, ℤ, List, Option, Some, None, length, slice_get}
 use Rattle.cell_core.specs.Grid.{Grid, CellValue}
+use Rattle.cell_calc.specs.Cells.{chosen}
 use Rattle.cell_calc.specs.Formula.{Formula, Number, Map, Negated, Not, Binary, Call, Formulas, NoFormulas, Then}
 use Rattle.cell_calc.specs.Value.{applied, value, values, spot}
 use Rattle.cell_calc.specs.Window.{Window, IsOver, Reaches}
@@ -50,6 +51,11 @@ AreValues f windows region row from cells =
 abbrev pub AreJoined : Operator → Formula → List Window → RegionValue → (row from : ℕ) → (old new : List CellValue) → Type 0
 AreJoined op f windows region row from old new =
     (maps : List Grid) → AreOver f windows maps → (c : ℕ) → c < length old → at new c ≡ applied op (at old c) (value f maps (spot region row (from + c)))
+
+-- the new cells are the values of an expression where conditions hold, and the old ones where they do not
+abbrev pub AreChosen : Formula → List Window → RegionValue → (row from : ℕ) → (conditions old new : List CellValue) → Type 0
+AreChosen f windows region row from conditions old new =
+    (maps : List Grid) → AreOver f windows maps → (c : ℕ) → c < length old → at new c ≡ chosen (at conditions c) (value f maps (spot region row (from + c))) (at old c)
 
 -- the rows have the values of the arguments, column by column
 abbrev pub AreColumns : Formulas → List Window → RegionValue → (row from width : ℕ) → List (List CellValue) → Type 0

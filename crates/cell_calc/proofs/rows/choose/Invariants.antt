@@ -6,6 +6,6 @@ use Rattle.cell_calc.proofs.rows.choose.Given as goal
 abbrev pub invariant-loop-i : goal.invariant-loop-i
 invariant-loop-i l =
     record {
-      done : (c : ℕ) → c < l.i → at l.row c ≡ chosen (at l.initial.row c) (at l.yes c) (at l.no c);
+      done : (c : ℕ) → c < l.i → at l.row c ≡ chosen (at l.conditions c) (at l.yes c) (at l.initial.row c);
       rest : (c : ℕ) → l.i ≤ c → at l.row c ≡ at l.initial.row c;
     }
