@@ -21,6 +21,9 @@ PASSED, FAILED = 0, 101  # how a test ends that returned
 ASSERTED = -signal.SIGABRT  # how one ends in which an assertion did not hold, and says so
 FIRST_REFUSED = b"rcell: arguments:0: no memory\n"  # the first growth is that of the words
 TEST = re.compile(r"^(\S+): test$", re.M)
+AGAIN = "_again"  # ends the name of a test that makes a refused call once more, over an object that is as before
+TOLD_AGAIN = b"made again"  # what such a test tells where it does so
+CALLS_AGAIN = 6  # the calls that leave their object unchanged
 
 
 def build_shim(clang: str, path: str, source: str) -> None:
@@ -90,10 +93,21 @@ def run_test(path: str, test: str, room: str, shim: str, at: int) -> tuple[int, 
     return done.returncode, done.stderr, int(read(count, b"0"))
 
 
+def is_end(test: str, status: int, told: bytes) -> bool:
+    """Whether a test may end so with a growth refused. One that makes a refused call once more has to find all as it asserts."""
+    return status in (PASSED, FAILED) or not test.endswith(AGAIN) and status == ASSERTED and b"assert" in told
+
+
+def end_of(status: int, told: bytes) -> str:
+    if status == PASSED:
+        return "made again" if TOLD_AGAIN in told else "passed"
+    return "named memory" if re.search(rb"Alloc|[Mm]emory", told) else "failed"
+
+
 def wrong_test(path: str, test: str, room: str, shim: str, settings) -> tuple[str, dict[str, int]]:
     """What is wrong with a test of which each growth is refused in turn, and how its runs ended."""
     status, told, asked = run_test(path, test, room, shim, 0)
-    ends = {"growths": asked, "refused": 0, "passed": 0, "named memory": 0, "failed": 0}
+    ends = {"growths": asked, "refused": 0, "passed": 0, "made again": 0, "named memory": 0, "failed": 0}
     if status != PASSED:
         return f"status {status}, told {told!r}", ends
     chosen = range(1, asked + 1) if asked <= MOST_GROWTHS else settings.random.sample(range(1, asked + 1), MOST_GROWTHS)
@@ -103,21 +117,31 @@ def wrong_test(path: str, test: str, room: str, shim: str, settings) -> tuple[st
             break
         status, told, _ = run_test(path, test, room, shim, at)
         ends["refused"] += 1
-        if status not in (PASSED, FAILED) and not (status == ASSERTED and b"assert" in told):
+        if not is_end(test, status, told):
             return f"with growth {at} refused: status {status}, told {told!r}", ends
-        ends["passed" if status == PASSED else "named memory" if re.search(rb"Alloc|[Mm]emory", told) else "failed"] += 1
+        ends[end_of(status, told)] += 1
+    if test.endswith(AGAIN) and not ends["made again"]:
+        return "no call was made again", ends
     return "", ends
 
 
 def tests(report: Report, room: str, shim: str, settings) -> None:
-    """The test programs that the gate built: a refused growth ends a test by what it returns or asserts, and in no other way."""
+    """The test programs that the gate built: a refused growth ends a test by what it returns or asserts, and in no other way.
+
+    A short run takes those tests alone that make a refused call once more.
+    """
     programs = sorted(glob.glob(f"{ROOT}/crates/*/out/*_tests"))
+    made_again = 0
     for path in programs:
         listed = subprocess.run([path, "--list"], capture_output=True, text=True, check=True).stdout
         for test in TEST.findall(listed):
+            made_again += test.endswith(AGAIN)
+            if settings.short and not test.endswith(AGAIN):
+                continue
             name = f"{os.path.basename(path)} {test}"
             wrong, ends = wrong_test(path, test, room, shim, settings)
             report.runs += ends["refused"]
             if report.check(f"tests: {name}", wrong):
                 print(f"tests: {name}: " + ", ".join(f"{count} {end}" for end, count in ends.items()), flush=True)
-    print(f"tests: {len(programs)} test programs")
+    print(f"tests: {len(programs)} test programs, in which {made_again} tests make a refused call once more")
+    report.check("tests: refused calls made again", "" if made_again >= CALLS_AGAIN else f"{made_again} of {CALLS_AGAIN} are built")

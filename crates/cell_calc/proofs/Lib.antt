@@ -1,5 +1,6 @@
 -- What several proofs share.
 pub mod Columns
+pub mod Compact
 pub mod Fit
 pub mod Frequent
 pub mod Ready

@@ -6,6 +6,7 @@ pub mod binding;
 pub mod bound;
 mod calls;
 mod cells;
+pub mod compacting;
 pub mod formula;
 mod held;
 mod modes;

@@ -74,3 +74,29 @@ pub fn evaluate(alloc: Global, bound: &Bound, shelf: &Shelf) -> Result<CellMap, 
     }
     Ok(builder.finish())
 }
+
+/// Writes the values along the first row into a slice, and where memory was refused does so again. Answers, where it was,
+/// whether the slice was unchanged before that.
+///
+/// # Errors
+///
+/// [`Memory`] where memory was refused twice, or for a window.
+pub fn first_row(
+    alloc: Global,
+    bound: &Bound,
+    shelf: &Shelf,
+    cells: &mut [Cell],
+) -> Result<Option<bool>, Memory>
+    requires maps { top_of bound.now ≤ length shelf.now.maps }
+    requires width { length cells.old ≡ shelf.now.region.cols }
+{
+    let region = shelf.region();
+    let windows = open(alloc, bound, shelf)?;
+    let before = Vec::from_slice(alloc, cells)?;
+    if eval_row(alloc, bound, &region, 0, windows.as_slice(), cells).is_ok() {
+        return Ok(None);
+    }
+    let is_unchanged = before.iter().eq(cells.iter());
+    eval_row(alloc, bound, &region, 0, windows.as_slice(), cells)?;
+    Ok(Some(is_unchanged))
+}

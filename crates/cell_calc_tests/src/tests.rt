@@ -1,6 +1,6 @@
 //! Worked values of expressions over a map of three rows.
 
-use crate::evaluation::evaluate;
+use crate::evaluation::{evaluate, first_row};
 use cell_calc::{CalcFault, CalcKind, Expr, parse, resolve};
 use cell_core::cell::Cell;
 use cell_core::map::{CellMap, MapBuilder};
@@ -179,5 +179,28 @@ fn unknown_names_are_found(rt: HostRuntime) -> Result<(), Fail> {
         });
         assert_eq!(rt; resolve(alloc, &expr, &names).err(), wanted);
     }
+    Ok(())
+}
+
+// Run as it is, each growth is granted: tools/hostile.py refuses them in turn, one in each run, and wants the row to be
+// evaluated again in some of them.
+#[test]
+fn a_refused_row_is_evaluated_again(rt: HostRuntime) -> Result<(), Fail> {
+    let alloc = rt.alloc();
+    let expr = expression(alloc, b"(g + 1) * (g[1,0] + 1) + max(g, mode(g, 1))")?;
+    let names = worked_names(alloc)?;
+    let shelf = worked_shelf(alloc)?;
+    let bound = resolve(alloc, &expr, &names).map_err(|_| "no memory")?;
+    if bound.top() > shelf.len() || shelf.region().cols() != 4 {
+        return Err("no such map".into());
+    }
+    let mut cells = [cell_of(77); 4];
+    let again = first_row(alloc, &bound, &shelf, &mut cells).map_err(|_| "no memory")?;
+    if let Some(is_unchanged) = again {
+        let _ = eprintln!(rt; "made again");
+        assert!(rt; is_unchanged);
+    }
+    let numbers: Vec<i32> = cells.iter().map(|cell| number_of(*cell)).collect(alloc)?;
+    assert_eq!(rt; numbers.as_slice(), [5, 7, 11, NULL].as_slice());
     Ok(())
 }

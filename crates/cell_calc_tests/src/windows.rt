@@ -2,6 +2,7 @@
 
 use crate::tests::{NULL, at, expression, number_of, values, worked_map, worked_names};
 use cell_calc::{RowWindow, resolve};
+use cell_core::name::{Name, Names};
 use std::test::Fail;
 
 #[test]
@@ -45,5 +46,29 @@ fn an_expression_reads_the_rows_that_it_reaches(rt: HostRuntime) -> Result<(), F
     for (col, wanted) in [(0, 4), (1, 4), (2, 3), (3, NULL)] {
         assert_eq!(rt; at(&map, 1, col), wanted, "column {col}");
     }
+    Ok(())
+}
+
+#[test]
+fn an_expression_is_put_over_just_the_maps_that_it_reads(rt: HostRuntime) -> Result<(), Fail> {
+    let alloc = rt.alloc();
+    let mut names = Names::new(alloc);
+    for text in [b"a", b"b", b"c", b"d", b"e"] {
+        let name = Name::read(alloc, text).map_err(|_| "no name")?;
+        if names.find(name.bytes()).is_some() {
+            return Err("a name twice".into());
+        }
+        names.push(name).map_err(|_| "no memory")?;
+    }
+    let expr = expression(alloc, b"d * max(b[2,0], b[-1,0], 7) + d[1,1]")?;
+    let bound = resolve(alloc, &expr, &names).map_err(|_| "unknown map")?;
+    assert_eq!(rt; bound.top(), 4);
+    let (compact, places) = bound.compacted(alloc).map_err(|_| "no memory")?;
+    assert_eq!(rt; places.as_slice(), [3, 1].as_slice());
+    if compact.top() != 2 {
+        return Err("not over two maps".into());
+    }
+    assert_eq!(rt; compact.reach(0), (0, 1));
+    assert_eq!(rt; compact.reach(1), (1, 2));
     Ok(())
 }

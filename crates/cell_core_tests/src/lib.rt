@@ -2,9 +2,13 @@
 #![tactic(auto)]
 
 #[cfg(test)]
+mod blocks;
+#[cfg(test)]
 mod devices;
 #[cfg(test)]
 mod fixture;
+#[cfg(test)]
+mod growths;
 #[cfg(test)]
 mod maps;
 #[cfg(test)]

@@ -294,3 +294,34 @@ fn sink_without_room(rt: HostRuntime) -> Result<(), Fail> {
     assert!(rt; ended == Err(WriteFault { written: 5 }));
     Ok(())
 }
+
+#[test]
+fn sink_without_room_for_cells(rt: HostRuntime) -> Result<(), Fail> {
+    let format = Format::new(b' ', b"*", false, false);
+    let row = vec![in rt.alloc(); 12; 3000]?;
+    let shelf = shelf_of(rt.alloc(), &[row.as_slice()], 3000)?;
+    let picks = [0];
+    if !are_picks(&shelf, &picks) {
+        return Err(Fail::from("no picks"));
+    }
+    let mut out = MemorySink::new(vec![in rt.alloc(); 0u8; 5000]?, 4096, false);
+    let mut block = Block::new();
+    let walk = CellWalk::new(rt.alloc(), &shelf, &picks)?;
+    let ended = write_cells(
+        &mut out,
+        &mut block,
+        walk,
+        &shelf,
+        &picks,
+        Skip::Nothing,
+        &format,
+    );
+    assert!(rt; ended == Err(WriteFault { written: 5000 }));
+    assert_eq!(rt; (block.written(), out.bytes().len()), (5000, 5000));
+    for line in out.bytes().chunks(3) {
+        assert!(rt; b"12\n".starts_with(line));
+    }
+    // The block holds nothing more.
+    assert!(rt; block.empty(&mut out) == Ok(()));
+    Ok(())
+}

@@ -1,13 +1,15 @@
 -- Windows of maps, one more or one row further.
-use Rattle.std.proofs.Common.{◌≡◌, ◌<◌, ◌+◌, ℕ, zero, suc, List, [], ◌∷◌, ◌++◌, length, refl, arith, take, drop, ◌∙◌, Option, Some, None, below_more}
+use Rattle.std.proofs.Common.{◌≡◌, ◌<◌, ◌+◌, ℕ, zero, suc, List, [], ◌∷◌, ◌++◌, length, get_or, refl, ap, arith, take, drop, ◌∙◌, Option, Some, None, below_more}
 use Rattle.std.proofs.lemmas.List.{take-append-le, take_all}
-use Rattle.std.specs.Prelude.{slice_get, slice_index_or}
+use Rattle.std.proofs.lemmas.List.Elements.{All-tail}
+use Rattle.std.proofs.lemmas.Option.{slice_get-get_or}
+use Rattle.std.specs.Prelude.{slice_get, slice_index_or, All}
 use Rattle.cell_core.specs.Grid.{Grid, CellValue}
 use Rattle.cell_calc.specs.Window.{IsOver}
 use Rattle.cell_calc.specs.Formula.{Formula}
 use Rattle.cell_calc.specs.Reach.{up_of, down_of}
 use Rattle.cell_calc.specs.Window.{Window, IsWindowOf}
-use Rattle.rcell.specs.parts.Windows.{IsSet, AreSet}
+use Rattle.rcell.specs.parts.Windows.{IsSet, AreSet, then_maps, picked}
 
 -- an item before the last, and the last
 before : {A : Type 0} (xs ys : List A) (i : ℕ) → i < length xs → slice_get (xs ++ ys) i ≡ slice_get xs i
@@ -36,6 +38,37 @@ pub set_over : (row up down : ℕ) (w : Option Window) (m : Option Grid) → IsS
 set_over row up down None m h = h
 set_over row up down (Some w) None h = h
 set_over row up down (Some w) (Some m) h = h.1.1.1
+
+-- a place of a list has a map
+got : (maps : List Grid) (i : ℕ) → i < length maps → slice_get maps i ≡ None → ⊥
+got [] i lt e = let no : ⊥ = omega arith in no
+got (m ∷ maps) zero lt e = cc
+got (m ∷ maps) (suc i) lt e = got maps i (omega arith) e
+
+-- a map before others is the first
+first : (o : Option Grid) (maps : List Grid) → (o ≡ None → ⊥) → slice_get (then_maps o maps) zero ≡ o
+first None maps some = absurd (some refl)
+first (Some m) maps some = refl
+
+others : (o : Option Grid) (maps : List Grid) (k : ℕ) → (o ≡ None → ⊥) → slice_get (then_maps o maps) (suc k) ≡ slice_get maps k
+others None maps k some = absurd (some refl)
+others (Some m) maps k some = refl
+
+-- the maps picked are those at the places
+pub picked_at : (places : List ℕ) (maps : List Grid) → All (λ place. place < length maps) places
+    → (k i : ℕ) → slice_get places k ≡ Some i → slice_get (picked places maps) k ≡ slice_get maps i
+picked_at [] maps within k i e = cc
+picked_at (p ∷ places) maps within zero i e =
+    let same : p ≡ i = cc in
+    first (slice_get maps p) (picked places maps) (got maps p (within zero p (omega arith))) ∙ ap (λ j. slice_get maps j) same
+picked_at (p ∷ places) maps within (suc k) i e =
+    others (slice_get maps p) (picked places maps) k (got maps p (within zero p (omega arith)))
+    ∙ picked_at places maps (All-tail (λ place. place < length maps) p places within) k i e
+
+-- the map at a place that is read from the list of places
+pub map_read : (places : List ℕ) (maps : List Grid) (i d : ℕ) (m : Grid) → All (λ place. place < length maps) places → i < length places
+    → slice_get maps (get_or places i d) ≡ Some m → slice_get (picked places maps) i ≡ Some m
+map_read places maps i d m within lt e = picked_at places maps within i (get_or places i d) (slice_get-get_or places i d lt) ∙ e
 
 -- one more row
 row_before : (rows more : List (List CellValue)) (r : ℕ) → r < length rows → slice_index_or (rows ++ more) r [] ≡ slice_index_or rows r []

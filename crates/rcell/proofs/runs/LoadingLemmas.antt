@@ -1,6 +1,6 @@
 -- One grid more on the shelf.
-use Rattle.std.proofs.Common.{◌≡◌, ◌≢◌, ℕ, zero, suc, ◌+◌, ◌<◌, Bool, true, false, cond, List, [], ◌∷◌, ◌++◌, length, get_or, take, Option, Some, None, Result, Ok, Err, IsSome, IfErr, slice_get, refl, ap, sym, ◌∙◌, arith, add-one}
-use Rattle.std.specs.List.{remove, position_from}
+use Rattle.std.proofs.Common.{◌≡◌, ◌≢◌, ℕ, zero, suc, ◌+◌, ◌<◌, Bool, true, false, cond, List, [], ◌∷◌, ◌++◌, length, take, Option, Some, None, Result, Ok, Err, IsSome, IfErr, slice_get, refl, ap, sym, ◌∙◌, arith, add-one}
+use Rattle.std.specs.List.{position_from}
 use Rattle.cell_core.specs.Device.{Coming}
 use Rattle.cell_core.specs.Grid.{Grid}
 use Rattle.cell_core.specs.Name.{place_of}
@@ -50,11 +50,6 @@ first_fault (Err f) grid region shelf name map is same h = λ input.
     let told : added grid (record { region = region; names = []; maps = [] }) name map None ≡ Err f = ap (λ (s : ShelfValue). added grid s name map (place_of name s.names)) (sym is) ∙ h input in
     let taken = added-first grid region name map (sym same) in
     cc
-
--- a list is its first element and the rest
-pub front : {X : Type 0} (xs : List X) (x : X) → 0 < length xs → x ≡ get_or xs 0 x → xs ≡ x ∷ remove xs 0
-front [] x some e = absurd (omega arith)
-front (y ∷ ys) x some e = ap (λ z. z ∷ ys) (sym e)
 
 module _ {R : Type 0} (coming : R → Option Coming) (grid : ℕ) (shelf : Option ShelfValue) (g : List ℕ × R) (rest : List (List ℕ × R)) where
   more : (next : ShelfValue) → AllKnown coming (g ∷ rest) → (IsSome (coming g.1) → with_grid grid shelf g.0 (grid_of (coming_of coming g.1)) ≡ Ok next)

@@ -85,7 +85,7 @@ fn with_grid<R: Source + Drop>(
 /// That of the first grid that has one: [`RunFault::Grid`] where its text is refused, then [`RunFault::GridTwice`] where
 /// its name stands already, then [`RunFault::GridRegion`] where its region is not the first grid's. Where memory was
 /// refused, [`RunFault::Grid`] of kind `Memory`, or [`RunFault::Memory`], both with line 0.
-pub fn load<R: Source + Drop>(alloc: Global, mut grids: Vec<(Name, R)>) -> Result<Shelf, RunFault>
+pub fn load<R: Source + Drop>(alloc: Global, grids: Vec<(Name, R)>) -> Result<Shelf, RunFault>
     requires { 0 < vec_len grids }
     ensures ok { AllKnown R.coming grids.items → IfOk result (λ s. shelf_of (known_of R.coming grids.items) ≡ Ok (Some s)) }
     ensures fault { AllKnown R.coming grids.items → IfErr result (λ f. IsOfInput f → shelf_of (known_of R.coming grids.items) ≡ Err f) }
@@ -94,8 +94,7 @@ pub fn load<R: Source + Drop>(alloc: Global, mut grids: Vec<(Name, R)>) -> Resul
 {
     let mut shelf = None;
     let mut grid = 0;
-    'grids: while !grids.is_empty() {
-        let (name, source) = grids.remove(0);
+    for (name, source) in grids {
         match with_grid(alloc, shelf, grid, name, source) {
             Ok(more) => shelf = Some(more),
             Err(fault) => return Err(fault),

@@ -1,10 +1,10 @@
 use Rattle.std.proofs.Common.{◌≡◌, length}
-use Rattle.rcell.specs.parts.Windows.{AreSet}
+use Rattle.rcell.specs.parts.Windows.{AreSet, picked}
 use Rattle.rcell.proofs.evaluation.open.Given as goal
 
 abbrev pub invariant-loop-i : goal.invariant-loop-i
 invariant-loop-i l =
     record {
       count : length l.windows.items ≡ l.i;
-      set : AreSet l.bound l.i 0 l.windows.items l.shelf.maps;
+      set : AreSet l.bound l.i 0 l.windows.items (picked l.places l.shelf.maps);
     }

@@ -3,8 +3,8 @@ use Rattle.std.specs.Prelude.{slice_index_or}
 use Rattle.cell_calc.specs.Value.{spot}
 use Rattle.cell_calc.specs.Reach.{top_of}
 use Rattle.cell_calc.specs.Value.{value}
-use Rattle.rcell.specs.parts.Windows.{AreSet}
-use Rattle.rcell.proofs.evaluation.evaluate.Given as goal
+use Rattle.rcell.specs.parts.Windows.{AreSet, picked}
+use Rattle.rcell.proofs.evaluation.evaluate_over.Given as goal
 
 abbrev pub invariant-loop-row : goal.invariant-loop-row
 invariant-loop-row l =
@@ -13,6 +13,6 @@ invariant-loop-row l =
       count : length l.builder.rows ≡ l.row;
       width : length l.cells.items ≡ l.shelf.region.cols;
       windows : length l.windows.items ≡ top_of l.bound;
-      set : l.row < l.shelf.region.rows → AreSet l.bound (length l.windows.items) l.row l.windows.items l.shelf.maps;
-      cells : (r c : ℕ) → r < l.row → c < l.shelf.region.cols → slice_index_or (slice_index_or l.builder.rows r []) c None ≡ value l.bound l.shelf.maps (spot l.shelf.region r c);
+      set : l.row < l.shelf.region.rows → AreSet l.bound (length l.windows.items) l.row l.windows.items (picked l.places l.shelf.maps);
+      cells : (r c : ℕ) → r < l.row → c < l.shelf.region.cols → slice_index_or (slice_index_or l.builder.rows r []) c None ≡ value l.bound (picked l.places l.shelf.maps) (spot l.shelf.region r c);
     }

@@ -1,0 +1,58 @@
+//! A rule for which memory was refused: the rules are as before, and the same line added again gives it.
+//!
+//! Run as it is, each growth is granted: tools/hostile.py refuses them in turn, one in each run, and wants the call to be made
+//! again in some of them.
+
+use cell_cats::rules::{LineKind, RuleFault, Rules};
+use cell_core::cell::Cell;
+use std::alloc::AllocGlobal;
+use std::process::Abort;
+use std::test::Fail;
+
+// Each gives the category of its place, from 1 on, another one.
+const LINES: [(&[u8], i32); 6] = [
+    (b"1 = 9 low", 9),
+    (b"2 thru 3 , 5 = 7", 7),
+    (b"3 = 5 a label", 5),
+    (b"4, 4, 4, 4, 4, 4, 4, 4, 4 = -2", -2),
+    (b"5 = 1", 1),
+    (b"-7 thru -6 6 = 0 zero", 0),
+];
+
+fn new_category(rules: &Rules, category: i32) -> Option<i32> {
+    rules.apply(Cell::value(category)?).get()
+}
+
+fn add_line<R: Abort + AllocGlobal + Eprint>(
+    rt: &R,
+    rules: &mut Rules,
+    category: i32,
+    line: &[u8],
+) -> Result<(), Fail> {
+    let before = new_category(rules, category);
+    if let Err(fault) = rules.add_line(line) {
+        let _ = eprintln!(rt; "made again");
+        assert_eq!(rt; fault, RuleFault::Memory);
+        assert_eq!(rt; new_category(rules, category), before, "the line {line:?}");
+        assert!(rt;
+            rules.add_line(line) == Ok(LineKind::Rule),
+            "the line {line:?}"
+        );
+    }
+    Ok(())
+}
+
+#[test]
+fn a_refused_rule_is_added_again(rt: HostRuntime) -> Result<(), Fail> {
+    let mut rules = Rules::new(rt.alloc());
+    for (place, (line, wanted)) in LINES.iter().enumerate() {
+        let category = place as i32 + 1;
+        add_line(&rt, &mut rules, category, *line)?;
+        assert_eq!(rt;
+            new_category(&rules, category),
+            Some(*wanted),
+            "the line {line:?}"
+        );
+    }
+    Ok(())
+}

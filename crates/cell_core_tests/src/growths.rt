@@ -1,0 +1,164 @@
+//! Calls that were refused memory: their object is as before, and the same call made again succeeds.
+//!
+//! Run as they are, each growth is granted: tools/hostile.py refuses them in turn, one in each run, and wants each call to be
+//! made again in some of them.
+
+ghost use Rattle.std.specs.Prelude.{◌≡◌, length};
+
+use crate::fixture::{NULL, cells, map_of};
+use cell_core::cell::Cell;
+use cell_core::map::{CellMap, MapBuilder};
+use cell_core::name::{Name, Names};
+use cell_core::region::Region;
+use cell_core::shelf::{Shelf, ShelfFault};
+use std::alloc::AllocGlobal;
+use std::process::Abort;
+use std::test::Fail;
+
+const NAMES: [&[u8]; 15] = [
+    b"a", b"b", b"c", b"d", b"e", b"f", b"g", b"h", b"i", b"j", b"k", b"l", b"m", b"n", b"o",
+];
+
+fn push_row<R: Abort + AllocGlobal + Eprint>(
+    rt: &R,
+    builder: &mut MapBuilder,
+    row: &[Cell],
+) -> Result<(), Fail>
+    requires { length row.now ≡ builder.old.region.cols }
+    ensures { builder.new.region ≡ builder.old.region }
+{
+    let left = builder.rows_left();
+    if left == 0 {
+        return Err("no row is left".into());
+    }
+    if builder.push_row(row).is_err() {
+        let _ = eprintln!(rt; "made again");
+        assert_eq!(rt; builder.rows_left(), left);
+        builder.push_row(row)?;
+    }
+    Ok(())
+}
+
+#[test]
+fn a_refused_row_is_pushed_again(rt: HostRuntime) -> Result<(), Fail> {
+    let row = cells(rt.alloc(), &[1, 2, NULL, 2, 1, 1])?;
+    let region = Region::new(9, 0, 6, 0, 9, 6).map_err(|_| "no region")?;
+    if row.len() != region.cols() as usize {
+        return Err("no row".into());
+    }
+    let mut builder = MapBuilder::new(rt.alloc(), region);
+    for _ in 0..9 {
+        push_row(&rt, &mut builder, row.as_slice())?;
+    }
+    if builder.rows_left() != 0 {
+        return Err("rows are left".into());
+    }
+    let map = builder.finish();
+    let mut found = [Cell::null(); 6];
+    map.copy_row(8, &mut found);
+    assert_eq!(rt; found.as_slice(), row.as_slice());
+    Ok(())
+}
+
+fn set_label<R: Abort + AllocGlobal + Eprint>(
+    rt: &R,
+    map: &mut CellMap,
+    category: i32,
+    before: Option<&[u8]>,
+    text: &[u8],
+) -> Result<(), Fail> {
+    if category == i32::MIN {
+        return Err("no category".into());
+    }
+    if map.set_label(category, text).is_err() {
+        let _ = eprintln!(rt; "made again");
+        assert_eq!(rt; map.label(category), before, "category {category}");
+        map.set_label(category, text)?;
+    }
+    assert_eq!(rt; map.label(category), Some(text), "category {category}");
+    Ok(())
+}
+
+#[test]
+fn a_refused_label_is_set_again(rt: HostRuntime) -> Result<(), Fail> {
+    let mut map = map_of(rt.alloc(), 1, 2, &[1, NULL])?.ok_or("a map")?;
+    for category in 0..20 {
+        set_label(&rt, &mut map, category, None, b"low")?;
+    }
+    for category in 5..9 {
+        set_label(&rt, &mut map, category, Some(b"low".as_slice()), b"wood")?;
+    }
+    for category in 9..20 {
+        assert_eq!(rt; map.label(category), Some(b"low".as_slice()));
+    }
+    Ok(())
+}
+
+fn push_name<R: Abort + AllocGlobal + Eprint>(
+    rt: &R,
+    names: &mut Names,
+    text: &[u8],
+) -> Result<(), Fail> {
+    let count = names.len();
+    let name = Name::read(rt.alloc(), text)?;
+    let again = name.copy(rt.alloc())?;
+    if names.find(name.bytes()).is_some() {
+        return Err("a name twice".into());
+    }
+    if names.push(name).is_err() {
+        let _ = eprintln!(rt; "made again");
+        assert_eq!(rt; names.len(), count);
+        if names.find(again.bytes()).is_some() {
+            return Err("a part of a name".into());
+        }
+        names.push(again)?;
+    }
+    assert_eq!(rt; names.find(text), Some(count));
+    Ok(())
+}
+
+#[test]
+fn a_refused_name_is_pushed_again(rt: HostRuntime) -> Result<(), Fail> {
+    let mut names = Names::new(rt.alloc());
+    for text in NAMES {
+        push_name(&rt, &mut names, text)?;
+    }
+    for (place, text) in NAMES.iter().enumerate() {
+        assert_eq!(rt; names.find(*text), Some(place));
+    }
+    Ok(())
+}
+
+fn add<R: Abort + AllocGlobal + Eprint>(
+    rt: &R,
+    shelf: &mut Shelf,
+    text: &[u8],
+    map: CellMap,
+) -> Result<(), Fail> {
+    let count = shelf.len();
+    let name = Name::read(rt.alloc(), text)?;
+    if let Err(refused) = shelf.add(name, map) {
+        let _ = eprintln!(rt; "made again");
+        assert_eq!(rt; refused.fault, ShelfFault::Memory);
+        assert_eq!(rt; shelf.len(), count);
+        assert_eq!(rt; shelf.find(text), None);
+        assert_eq!(rt; refused.name.bytes(), text);
+        assert!(rt; shelf.add(refused.name, refused.map).is_ok());
+    }
+    assert_eq!(rt; shelf.find(text), Some(count));
+    Ok(())
+}
+
+#[test]
+fn a_refused_map_is_added_again(rt: HostRuntime) -> Result<(), Fail> {
+    let region = Region::new(1, 0, 1, 0, 1, 2).map_err(|_| "no region")?;
+    let mut shelf = Shelf::new(rt.alloc(), region);
+    for (place, text) in NAMES.iter().enumerate() {
+        let map = map_of(rt.alloc(), 1, 2, &[place as i32, NULL])?.ok_or("a map")?;
+        add(&rt, &mut shelf, *text, map)?;
+    }
+    for place in 0..shelf.len() {
+        assert_eq!(rt; shelf.map(place).cell(0, 0).get(), Some(place as i32));
+    }
+    Ok(())
+}

@@ -1,0 +1,7 @@
+//! Worked answers of the calls of cell_text.
+#![tactic(auto)]
+
+#[cfg(test)]
+mod numbers;
+#[cfg(test)]
+mod words;
