@@ -1,5 +1,5 @@
 -- One grid more on the shelf.
-use Rattle.std.proofs.Common.{◌≡◌, ◌≢◌, ℕ, zero, suc, ◌+◌, ◌<◌, Bool, true, false, cond, List, [], ◌∷◌, ◌++◌, length, take, Option, Some, None, Result, Ok, Err, IsSome, IfErr, slice_get, refl, ap, sym, ◌∙◌, arith, add-one}
+use Rattle.std.proofs.Common.{◌≡◌, ◌≢◌, ℕ, zero, suc, ◌+◌, Bool, true, false, cond, List, [], ◌∷◌, ◌++◌, length, take, Option, Some, None, Result, Ok, Err, IsSome, IfErr, slice_get, refl, ap, sym, ◌∙◌, arith, add-one}
 use Rattle.std.specs.List.{position_from}
 use Rattle.cell_core.specs.Device.{Coming}
 use Rattle.cell_core.specs.Grid.{Grid}
