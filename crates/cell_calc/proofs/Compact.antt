@@ -1,7 +1,7 @@
 -- The maps that an expression reads are below its top.
-use Rattle.std.proofs.Common.{◌≡◌, ◌<◌, ℕ, List, length, get_or, Some, arith, max, ◌⊎◌, inl, inr}
+use Rattle.std.proofs.Common.{◌<◌, ℕ, List, get_or, arith, max, ◌⊎◌, inl, inr}
 use Rattle.std.proofs.lemmas.Option.{slice_get-get_or}
-use Rattle.std.specs.Prelude.{All, slice_get}
+use Rattle.std.specs.Prelude.{All}
 use Rattle.cell_calc.specs.Compact.{Reads, AreReading, AreRead}
 use Rattle.cell_calc.specs.Formula.{Formula, Number, Map, Negated, Not, Binary, Call, Formulas, NoFormulas, Then}
 use Rattle.cell_calc.specs.Reach.{top_of, top_of_all}

@@ -1,4 +1,4 @@
-use Rattle.std.proofs.Common.{◌≡◌, ◌∷◌, refl, ap, ◌∙◌}
+use Rattle.std.proofs.Common.{◌∷◌, refl, ap, ◌∙◌}
 use Rattle.cell_calc.specs.Value.{applied, value, values}
 use Rattle.cell_calc.specs.parts.Tree.{formula_of, formulas_of}
 use Rattle.cell_calc.proofs.Ready.{both_values}
