@@ -42,20 +42,22 @@ fn push_row<R: Abort + AllocGlobal + Eprint>(
 #[test]
 fn a_refused_row_is_pushed_again(rt: HostRuntime) -> Result<(), Fail> {
     let row = cells(rt.alloc(), &[1, 2, NULL, 2, 1, 1])?;
-    let region = Region::new(9, 0, 6, 0, 9, 6).map_err(|_| "no region")?;
+    let region = Region::new(5, 0, 6, 0, 5, 6).map_err(|_| "no region")?;
     if row.len() != region.cols() as usize {
         return Err("no row".into());
     }
     let mut builder = MapBuilder::new(rt.alloc(), region);
-    for _ in 0..9 {
-        push_row(&rt, &mut builder, row.as_slice())?;
-    }
+    push_row(&rt, &mut builder, row.as_slice())?;
+    push_row(&rt, &mut builder, row.as_slice())?;
+    push_row(&rt, &mut builder, row.as_slice())?;
+    push_row(&rt, &mut builder, row.as_slice())?;
+    push_row(&rt, &mut builder, row.as_slice())?;
     if builder.rows_left() != 0 {
         return Err("rows are left".into());
     }
     let map = builder.finish();
     let mut found = [Cell::null(); 6];
-    map.copy_row(8, &mut found);
+    map.copy_row(4, &mut found);
     assert_eq!(rt; found.as_slice(), row.as_slice());
     Ok(())
 }
@@ -158,7 +160,10 @@ fn a_refused_map_is_added_again(rt: HostRuntime) -> Result<(), Fail> {
         add(&rt, &mut shelf, *text, map)?;
     }
     for place in 0..shelf.len() {
-        assert_eq!(rt; shelf.map(place).cell(0, 0).get(), Some(place as i32));
+        assert_eq!(rt;
+            shelf.map(place).cell(0, 0).get(),
+            i32::try_from(place).ok()
+        );
     }
     Ok(())
 }

@@ -13,7 +13,7 @@ ghost use Rattle.cell_ascii_tests.specs.Seen.{words_of_each};
 
 use crate::definition::header;
 use cell_ascii::fault::GridKind;
-use cell_ascii::number;
+use cell_ascii_header::number;
 use cell_core::cell::Cell;
 use cell_core::memory::Memory;
 use cell_core::region::{Region, RegionFault};

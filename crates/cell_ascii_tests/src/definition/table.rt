@@ -13,8 +13,9 @@ use crate::definition::keys::Header;
 use crate::definition::place::{Place, ends_line, ends_token, is_end};
 use crate::definition::words::{is_space, is_token, is_word, words_of};
 use cell_ascii::fault::GridKind;
-use cell_ascii::key::{Key, key_of};
-use cell_ascii::number;
+use cell_ascii_header::key::key_of;
+use cell_ascii_header::number;
+use cell_ascii_text::key::Key;
 use cell_core::memory::Memory;
 use std::alloc::Global;
 
