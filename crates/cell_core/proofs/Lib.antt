@@ -4,4 +4,5 @@ pub mod GatherLemmas
 pub mod LabelLemmas
 pub mod NameLemmas
 pub mod PlaceLemmas
+pub mod RowLemmas
 pub mod RunLemmas

@@ -11,6 +11,7 @@ pub mod map;
 pub mod memory;
 pub mod name;
 pub mod region;
+mod row;
 pub mod runs;
 pub mod shelf;
 pub mod sink;

@@ -9,35 +9,35 @@ ghost use Rattle.cell_core.specs.Runs.{AreRuns, written_out};
 use crate::cell::Cell;
 use crate::memory::Memory;
 use crate::region::Region;
-use crate::runs::{Runs, cell_in, runs_of, write_out};
+use crate::row::Row;
+use crate::runs::Runs;
 use std::alloc::Global;
 use std::collections::BTreeMap;
 use std::marker::Model;
 
 /// A raster map of whole numbers (GRASS: a CELL map): its region, its rows from the top, and the
-/// labels of its categories. Rows and columns count from 0. A row is kept as its runs.
+/// labels of its categories. Rows and columns count from 0. A row is kept as its runs, or as
+/// its cells where these take less memory.
 #[derive(Debug, Drop)]
 pub struct CellMap {
     region: Region,
     alloc: Global,
-    rows: Vec<Vec<(Cell, u32)>>,
+    rows: Vec<Row>,
     labels: BTreeMap<i32, Vec<u8>>,
 }
 
 impl Model for CellMap {
-    ghost use Rattle.std.specs.Prelude.{map, All};
+    ghost use Rattle.std.specs.Prelude.{map};
     ghost use Rattle.std.specs.FinMap.{from_entries};
-    ghost use Rattle.cell_core.specs.Grid.{Grid, grid_code, IsFilled};
-    ghost use Rattle.cell_core.specs.Cell.{IsCell};
-    ghost use Rattle.cell_core.specs.Runs.{AreRuns, written_out};
+    ghost use Rattle.cell_core.specs.Grid.{Grid, grid_code, IsFilled, AreCells};
 
     ghost Value = { Grid };
 
     ghost coded = { grid_code };
 
-    ghost view = { λ m. record { region = m.region; rows = map (λ row. written_out row.items) m.rows.items; labels = from_entries (map (λ e. (e.0, e.1.items)) m.labels.entries) } };
+    ghost view = { λ m. record { region = m.region; rows = m.rows.items; labels = from_entries (map (λ e. (e.0, e.1.items)) m.labels.entries) } };
 
-    ghost invariant = { λ m. IsFilled m.region (map (λ row. written_out row.items) m.rows.items) × All (λ row. AreRuns row.items) m.rows.items × All (λ row. All IsCell (written_out row.items)) m.rows.items };
+    ghost invariant = { λ m. IsFilled m.region m.rows.items × AreCells m.rows.items };
 }
 
 impl CellMap {
@@ -55,7 +55,7 @@ impl CellMap {
         requires col_in_range { col < self.now.region.cols }
         ensures { result ≡ cell_at self.now row col }
     {
-        cell_in(&self.rows[row as usize], col)
+        self.rows[row as usize].cell(col)
     }
 
     /// Copies the cells of a row, from left to right. The slice has as many cells as the region
@@ -65,7 +65,7 @@ impl CellMap {
         requires width { length cells.old ≡ self.now.region.cols }
         ensures { cells.new ≡ row_at self.now row }
     {
-        write_out(&self.rows[row as usize], cells);
+        self.rows[row as usize].copy_to(cells);
     }
 
     /// The runs of a row, from left to right.
@@ -75,7 +75,7 @@ impl CellMap {
         ensures width { length (written_out result) ≡ self.now.region.cols }
         ensures runs { AreRuns result }
     {
-        Runs::over(&self.rows[row as usize])
+        self.rows[row as usize].runs()
     }
 
     /// Says that each cell of a map is null or a category. Does nothing.
@@ -117,20 +117,17 @@ impl CellMap {
 pub struct MapBuilder {
     region: Region,
     alloc: Global,
-    rows: Vec<Vec<(Cell, u32)>>,
+    rows: Vec<Row>,
 }
 
 impl Model for MapBuilder {
-    ghost use Rattle.std.specs.Prelude.{map, All};
-    ghost use Rattle.cell_core.specs.Grid.{Draft, IsDraft};
-    ghost use Rattle.cell_core.specs.Cell.{IsCell};
-    ghost use Rattle.cell_core.specs.Runs.{AreRuns, written_out};
+    ghost use Rattle.cell_core.specs.Grid.{Draft, IsDraft, AreCells};
 
     ghost Value = { Draft };
 
-    ghost view = { λ m. record { region = m.region; rows = map (λ row. written_out row.items) m.rows.items } };
+    ghost view = { λ m. record { region = m.region; rows = m.rows.items } };
 
-    ghost invariant = { λ m. IsDraft m.region (map (λ row. written_out row.items) m.rows.items) × All (λ row. AreRuns row.items) m.rows.items × All (λ row. All IsCell (written_out row.items)) m.rows.items };
+    ghost invariant = { λ m. IsDraft m.region m.rows.items × AreCells m.rows.items };
 }
 
 impl MapBuilder {
@@ -164,8 +161,8 @@ impl MapBuilder {
         ensures ok { OnOk result (self.new ≡ record self.old { rows = self.old.rows ++ row.now ∷ [] }) }
         ensures err { OnErr result (self.new ≡ self.old) }
     {
-        let runs = runs_of(self.alloc, row)?;
-        self.rows.push(runs)?;
+        let row = Row::of(self.alloc, row)?;
+        self.rows.push(row)?;
         Ok(())
     }
 

@@ -4,6 +4,7 @@ ghost use Rattle.std.specs.Prelude.{◌≡◌, ◌<◌, ◌≤◌, ◌+◌, ◌-
 ghost use Rattle.std.specs.Iterator.{YieldsFirst, item_count};
 ghost use Rattle.cell_core.specs.Cell.{IsCell};
 ghost use Rattle.cell_core.specs.Runs.{RunValue, AreRuns, written_out};
+ghost use Rattle.cell_core.specs.parts.Rows.{alike, runs_in};
 
 use crate::cell::{Cell, category_of};
 use crate::memory::Memory;
@@ -11,7 +12,7 @@ use std::alloc::Global;
 use std::marker::Model;
 
 // How many runs a row has, so that they are given just as much memory. Its cells are null or categories.
-fn count_runs(row: &[Cell]) -> usize
+pub(crate) fn count_runs(row: &[Cell]) -> usize
     ensures { All IsCell row.now }
 {
     if row.is_empty() {
@@ -30,14 +31,17 @@ fn count_runs(row: &[Cell]) -> usize
     count
 }
 
-// The runs of a row. Takes memory once.
-pub(crate) fn runs_of(alloc: Global, row: &[Cell]) -> Result<Vec<(Cell, u32)>, Memory>
+// The runs of a row, which are so many. Takes memory once.
+pub(crate) fn runs_of(
+    alloc: Global,
+    row: &[Cell],
+    count_of_runs: usize,
+) -> Result<Vec<(Cell, u32)>, Memory>
     requires { length row.now < 2 ^ 32 }
     ensures written { IfOk result (λ runs. written_out runs.items ≡ row.now) }
     ensures runs { IfOk result (λ runs. AreRuns runs.items) }
-    ensures cells { IfOk result (λ runs. All IsCell (written_out runs.items)) }
 {
-    let mut runs = Vec::with_capacity(alloc, count_runs(row))?;
+    let mut runs = Vec::with_capacity(alloc, count_of_runs)?;
     if let Some((first, others)) = row.split_first() {
         let mut cell = *first;
         let mut count = 1;
@@ -89,28 +93,65 @@ pub(crate) fn write_out(runs: &[(Cell, u32)], cells: &mut [Cell])
     }
 }
 
+// How many cells at the start are equal to a cell.
+fn count_alike(cell: Cell, cells: &[Cell]) -> usize
+    ensures value { result ≡ alike cell cells.now }
+    ensures within { result ≤ length cells.now }
+{
+    let mut count: usize = 0;
+    for next in cells {
+        if *next != cell {
+            return count;
+        }
+        count = count.wrapping_add(1);
+    }
+    count
+}
+
 /// The runs of a row, from left to right: a cell and how often it stands there, at least once. No two neighbours have equal
 /// cells. It is seen as the list of the runs still to come.
 #[derive(Drop)]
 pub struct Runs<'a> {
-    rest: &'a [(Cell, u32)],
+    rest: Rest<'a>,
+}
+
+// What the runs still to come are read from.
+#[derive(Drop)]
+enum Rest<'a> {
+    Runs(&'a [(Cell, u32)]),
+    Cells(&'a [Cell]),
 }
 
 impl<'a> Model for Runs<'a> {
     ghost use Rattle.std.specs.Prelude.{List};
-    ghost use Rattle.cell_core.specs.Cell.{IsCell};
     ghost use Rattle.cell_core.specs.Runs.{RunValue};
+    ghost use Rattle.cell_core.specs.parts.Rows.{runs_left, IsShort};
 
     ghost Value = { List RunValue };
 
-    ghost view = { λ runs. runs.rest.now };
+    ghost view = { λ runs. runs_left runs.rest };
+
+    ghost invariant = { λ runs. IsShort runs.rest };
 }
 
 impl<'a> Runs<'a> {
-    pub(crate) fn over(rest: &'a [(Cell, u32)]) -> Runs<'a>
-        ensures { result ≡ rest.now }
+    // Over runs.
+    pub(crate) fn over(runs: &'a [(Cell, u32)]) -> Runs<'a>
+        ensures { result ≡ runs.now }
     {
-        Runs { rest }
+        Runs {
+            rest: Rest::Runs(runs),
+        }
+    }
+
+    // Over the runs of cells.
+    pub(crate) fn of_cells(cells: &'a [Cell]) -> Runs<'a>
+        requires { length cells.now < 2 ^ 32 }
+        ensures { result ≡ runs_in cells.now }
+    {
+        Runs {
+            rest: Rest::Cells(cells),
+        }
     }
 }
 
@@ -122,8 +163,18 @@ impl<'a> Iterator for Runs<'a> {
     ghost remaining = { item_count (λ s. s) };
 
     fn next(&mut self) -> Option<(Cell, u32)> {
-        let (first, others) = self.rest.split_first()?;
-        self.rest = others;
-        Some(*first)
+        match &self.rest {
+            Rest::Runs(runs) => {
+                let (first, others) = runs.split_first()?;
+                self.rest = Rest::Runs(others);
+                Some(*first)
+            }
+            Rest::Cells(cells) => {
+                let (first, others) = cells.split_first()?;
+                let alike = count_alike(*first, others);
+                self.rest = Rest::Cells(&others[alike..]);
+                Some((*first, 1 + alike as u32))
+            }
+        }
     }
 }

@@ -1,7 +1,6 @@
 use Rattle.std.proofs.Common.{◌∙◌, ap, map, w32}
 use Rattle.std.proofs.lemmas.Int.{to_z-of_z}
 use Rattle.std.specs.FinMap.{insert, from_entries}
-use Rattle.cell_core.specs.Runs.{written_out}
 use Rattle.cell_core.proofs.LabelLemmas.{insert-labels}
 use Rattle.cell_core.proofs.map.CellMap.set_label.Goals as goal
 
@@ -12,4 +11,4 @@ returns-clause-ok c =
     let updates = rw (to_z-of_z w32 c.args.category c.ranges.category) at c.in_ok-insert.ensures.updates in
     let labels = insert-labels (λ v. v.items) old c.insert.new.self.entries c.args.category c.in_ok-label.label updates.0
     ∙ ap (insert (from_entries (map (λ e. (e.0, e.1.items)) old)) c.args.category) c.in_ok-label.ensures.items in
-    rw (← c.self.view_is) (λ i. record { region = c.self.inside.region; rows = map (λ row. written_out row.items) c.self.inside.rows.items; labels = labels i })
+    rw (← c.self.view_is) (λ i. record { region = c.self.inside.region; rows = c.self.inside.rows.items; labels = labels i })

@@ -1,0 +1,88 @@
+-- The runs of cells that are kept as they are.
+use Rattle.std.proofs.Common.{◌≡◌, ◌≢◌, ℕ, suc, Bool, true, false, ◌+◌, ◌-◌, ◌<◌, ◌≤◌, List, [], ◌∷◌, ◌++◌, length, take, drop, replicate, get_or, All, refl, ap, sym, ◌∙◌, arith, add-one, take_all, length-drop}
+use Rattle.std.specs.Prelude.{if◌then◌else◌}
+use Rattle.std.proofs.Math.Seq.{drop-cons}
+use Rattle.std.proofs.lemmas.List.Elements.{All-cons, All-nil}
+use Rattle.cell_core.specs.Cell.{cell_eq, cell_eq-Decides}
+use Rattle.cell_core.specs.Grid.{CellValue}
+use Rattle.cell_core.specs.Runs.{RunValue, written_out, AreApart, AreRuns}
+use Rattle.cell_core.specs.parts.Rows.{alike, with_cell, runs_in}
+
+module _ (x : CellValue) where
+  written_out-with : (runs : List RunValue) → written_out (with_cell x runs) ≡ x ∷ written_out runs
+  written_out-with [] = refl
+  written_out-with ((y, n) ∷ runs) = by-test (cell_eq y x) refl
+    where
+      by-test : (b : Bool) → cell_eq y x ≡ b → written_out (if b then (x, n + 1) ∷ runs else (x, 1) ∷ (y, n) ∷ runs) ≡ x ∷ written_out ((y, n) ∷ runs)
+      by-test true same = ap (λ (k : ℕ). replicate k x ++ written_out runs) (add-one n) ∙ ap (λ (z : CellValue). x ∷ (replicate n z ++ written_out runs)) (sym ((cell_eq-Decides y x).0 same))
+      by-test false other = refl
+
+  apart-with : (y : CellValue) (n m : ℕ) (runs : List RunValue) → y ≡ x → AreApart ((y, n) ∷ runs) → AreApart ((x, m) ∷ runs)
+  apart-with y n m [] same apart = tt
+  apart-with y n m (run ∷ runs) same apart = (λ e. apart.0 (same ∙ e), apart.1)
+
+  AreRuns-with : (runs : List RunValue) → AreRuns runs → AreRuns (with_cell x runs)
+  AreRuns-with [] are = record { lengths = All-cons (λ (run : RunValue). 0 < run.1) (x, 1) [] (omega arith) are.lengths; apart = tt }
+  AreRuns-with ((y, n) ∷ runs) are = by-test (cell_eq y x) refl
+    where
+      others : All (λ (run : RunValue). 0 < run.1) runs
+      others i d within = are.lengths (suc i) d (omega arith)
+
+      by-test : (b : Bool) → cell_eq y x ≡ b → AreRuns (if b then (x, n + 1) ∷ runs else (x, 1) ∷ (y, n) ∷ runs)
+      by-test true same = record {
+        lengths = All-cons (λ (run : RunValue). 0 < run.1) (x, n + 1) runs (omega arith) others;
+        apart = apart-with y n (n + 1) runs ((cell_eq-Decides y x).0 same) are.apart;
+      }
+      by-test false other =
+          let differs : x ≢ y = λ e. let same = (cell_eq-Decides y x).1 (sym e) in cc in
+          record {
+            lengths = All-cons (λ (run : RunValue). 0 < run.1) (x, 1) ((y, n) ∷ runs) (omega arith) are.lengths;
+            apart = (differs, are.apart);
+          }
+
+-- written out, the runs of cells are the cells
+pub written_out-runs_in : (cells : List CellValue) → written_out (runs_in cells) ≡ cells
+written_out-runs_in [] = refl
+written_out-runs_in (x ∷ cells) = written_out-with x (runs_in cells) ∙ ap (λ (l : List CellValue). x ∷ l) (written_out-runs_in cells)
+
+pub AreRuns-runs_in : (cells : List CellValue) → AreRuns (runs_in cells)
+AreRuns-runs_in [] = record { lengths = All-nil (λ (run : RunValue). 0 < run.1); apart = tt }
+AreRuns-runs_in (x ∷ cells) = AreRuns-with x (runs_in cells) (AreRuns-runs_in cells)
+
+-- the first run, and those of the cells after it
+pub runs_in-next : (x : CellValue) (cells : List CellValue) → runs_in (x ∷ cells) ≡ (x, suc (alike x cells)) ∷ runs_in (drop (alike x cells) cells)
+runs_in-next x [] = refl
+runs_in-next x (y ∷ cells) = let first = runs_in-next y cells in ap (with_cell x) first ∙ by-test (cell_eq y x) refl first
+  where
+    after : CellValue → List RunValue
+    after z = runs_in (drop (alike z cells) cells)
+
+    by-test : (b : Bool) → cell_eq y x ≡ b → runs_in (y ∷ cells) ≡ (y, suc (alike y cells)) ∷ after y → (if b then (x, suc (alike y cells) + 1) ∷ after y else (x, 1) ∷ (y, suc (alike y cells)) ∷ after y) ≡ (x, suc (if b then suc (alike x cells) else 0)) ∷ runs_in (drop (if b then suc (alike x cells) else 0) (y ∷ cells))
+    by-test true same next = ap (λ (k : ℕ). (x, k) ∷ after y) (add-one (suc (alike y cells))) ∙ ap (λ (z : CellValue). (x, suc (suc (alike z cells))) ∷ after z) ((cell_eq-Decides y x).0 same)
+    by-test false other next = ap (λ (l : List RunValue). (x, 1) ∷ l) (sym next)
+
+-- the same, of the part of a slice
+pub runs_in-rest : (x : CellValue) (cells : List CellValue) (n : ℕ) → n ≡ alike x cells → runs_in (x ∷ cells) ≡ (x, 1 + n) ∷ runs_in (take (length cells - n) (drop n cells))
+runs_in-rest x cells n same =
+    let whole : take (length cells - n) (drop n cells) ≡ drop n cells = take_all (length cells - n) (drop n cells) (omega (arith, length-drop n cells)) in
+    runs_in-next x cells ∙ ap (λ (k : ℕ). (x, suc k) ∷ runs_in (drop k cells)) (sym same) ∙ ap (λ (k : ℕ). (x, k) ∷ runs_in (drop n cells)) (sym (add-one n) ∙ omega arith) ∙ ap (λ (l : List CellValue). (x, 1 + n) ∷ runs_in l) (sym whole)
+
+-- no more cells are alike than there are
+pub alike-within : (x : CellValue) (cells : List CellValue) → alike x cells ≤ length cells
+alike-within x [] = omega arith
+alike-within x (y ∷ cells) = by-test (cell_eq y x) (alike-within x cells)
+  where
+    by-test : (b : Bool) → alike x cells ≤ length cells → (if b then suc (alike x cells) else 0) ≤ suc (length cells)
+    by-test true others = omega (arith, others)
+    by-test false others = omega arith
+
+module _ (x y : CellValue) (cells : List CellValue) (i : ℕ) (within : i < length cells) (read : y ≡ get_or cells i y) where
+  next-cell : drop i cells ≡ y ∷ drop (i + 1) cells
+  next-cell = rw add-one (drop-cons cells i y within ∙ ap (λ z. z ∷ drop (suc i) cells) (sym read))
+
+  -- a cell that is alike, and one that is not
+  pub alike-more : cell_eq y x ≡ true → alike x (drop i cells) ≡ suc (alike x (drop (i + 1) cells))
+  alike-more same = ap (alike x) next-cell ∙ ap (λ (b : Bool). if b then suc (alike x (drop (i + 1) cells)) else 0) same
+
+  pub alike-ends : cell_eq y x ≡ false → alike x (drop i cells) ≡ 0
+  alike-ends other = ap (alike x) next-cell ∙ ap (λ (b : Bool). if b then suc (alike x (drop (i + 1) cells)) else 0) other

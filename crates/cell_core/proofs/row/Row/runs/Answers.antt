@@ -1,0 +1,8 @@
+use Rattle.cell_core.proofs.RowLemmas.{written_out-runs_in, AreRuns-runs_in}
+use Rattle.cell_core.proofs.row.Row.runs.Goals as goal
+
+pub returns-in-Cells-clause-written : goal.returns-in-Cells-clause-written
+returns-in-Cells-clause-written c = search (written_out-runs_in c.in-Cells.cells.items, c.in-Cells.is, c.self.view_is, c.of_cells.ensures, c.deref-in-Cells.ensures.value)
+
+pub returns-in-Cells-clause-runs : goal.returns-in-Cells-clause-runs
+returns-in-Cells-clause-runs c = rw (c.of_cells.ensures) (AreRuns-runs_in c.deref-in-Cells.result.now)

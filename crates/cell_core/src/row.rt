@@ -1,0 +1,91 @@
+//! A row of a map as it is kept.
+
+ghost use Rattle.std.specs.Prelude.{◌≡◌, ◌<◌, ◌^◌, length, All, None, IfOk, slice_index_or};
+ghost use Rattle.cell_core.specs.Cell.{IsCell};
+ghost use Rattle.cell_core.specs.Runs.{AreRuns, written_out};
+
+use crate::cell::Cell;
+use crate::memory::Memory;
+use crate::runs::{Runs, cell_in, count_runs, runs_of, write_out};
+use std::alloc::Global;
+use std::marker::Model;
+
+// A run takes as much memory as so many cells.
+const CELLS_A_RUN: usize = 2;
+
+/// A row of cells, kept in the form that takes less memory.
+#[derive(Debug, Drop)]
+pub(crate) struct Row {
+    kept: Kept,
+}
+
+/// A row as its runs, or as its cells where most runs are short.
+#[derive(Debug, Drop)]
+enum Kept {
+    Runs(Vec<(Cell, u32)>),
+    Cells(Vec<Cell>),
+}
+
+impl Model for Row {
+    ghost use Rattle.std.specs.Prelude.{List};
+    ghost use Rattle.cell_core.specs.Grid.{CellValue};
+    ghost use Rattle.cell_core.specs.parts.Rows.{cells_of, IsKept};
+
+    ghost Value = { List CellValue };
+
+    ghost view = { λ row. cells_of row.kept };
+
+    ghost invariant = { λ row. IsKept row.kept };
+}
+
+impl Row {
+    // Keeps a row of cells. Takes memory once.
+    pub(crate) fn of(alloc: Global, cells: &[Cell]) -> Result<Row, Memory>
+        requires { length cells.now < 2 ^ 32 }
+        ensures value { IfOk result (λ row. row ≡ cells.now) }
+        ensures cells { IfOk result (λ row. All IsCell row) }
+    {
+        let count = count_runs(cells);
+        let kept = if count <= cells.len() / CELLS_A_RUN {
+            Kept::Runs(runs_of(alloc, cells, count)?)
+        } else {
+            Kept::Cells(Vec::from_slice(alloc, cells)?)
+        };
+        Ok(Row { kept })
+    }
+
+    // The cell at a column, or null after the end.
+    pub(crate) fn cell(&self, col: u32) -> Cell
+        ensures { result ≡ slice_index_or self.now col None }
+    {
+        match &self.kept {
+            Kept::Runs(runs) => cell_in(runs, col),
+            Kept::Cells(cells) => match cells.get(col as usize) {
+                Some(cell) => *cell,
+                None => Cell::null(),
+            },
+        }
+    }
+
+    // Copies the cells into a slice of as many.
+    pub(crate) fn copy_to(&self, cells: &mut [Cell])
+        requires { length cells.old ≡ length self.now }
+        ensures { cells.new ≡ self.now }
+    {
+        match &self.kept {
+            Kept::Runs(runs) => write_out(runs, cells),
+            Kept::Cells(kept) => cells.copy_from_slice(kept),
+        }
+    }
+
+    // The runs, from left to right.
+    pub(crate) fn runs(&self) -> Runs<'_>
+        ensures written { written_out result ≡ self.now }
+        ensures runs { AreRuns result }
+    {
+        match &self.kept {
+            Kept::Runs(runs) => Runs::over(runs),
+            Kept::Cells(cells) => Runs::of_cells(cells),
+        }
+    }
+}
