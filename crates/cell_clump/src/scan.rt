@@ -10,20 +10,7 @@ use crate::rows::join_rows;
 use crate::walk::Walk;
 use cell_core::map::CellMap;
 use cell_core::memory::Memory;
-use cell_core::runs::Runs;
 use std::alloc::Global;
-
-// How many runs there are.
-fn count_runs(runs: Runs<'_>) -> u32
-    requires { length runs < 2 ^ 32 }
-    ensures { result ≡ length runs.entry }
-{
-    let mut count = 0;
-    for _ in runs {
-        count += 1;
-    }
-    count
-}
 
 // How many runs the rows of a map have.
 fn count_all(map: &CellMap, rows: u32) -> u32
@@ -35,7 +22,7 @@ fn count_all(map: &CellMap, rows: u32) -> u32
 {
     let mut count = 0;
     for r in 0..rows {
-        count += count_runs(map.runs(r));
+        count += map.runs(r).len() as u32;
     }
     count
 }
@@ -69,7 +56,7 @@ fn join_all(map: &CellMap, rows: u32, table: &mut [u32], joining: Joining)
             let walk = Walk::over(map, r, here);
             join_rows(table, before, walk, joining);
         }
-        let count = count_runs(map.runs(r));
+        let count = map.runs(r).len() as u32;
         above = here;
         here += count;
     }

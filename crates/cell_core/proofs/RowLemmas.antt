@@ -6,7 +6,7 @@ use Rattle.std.proofs.lemmas.List.Elements.{All-cons, All-nil}
 use Rattle.cell_core.specs.Cell.{cell_eq, cell_eq-Decides}
 use Rattle.cell_core.specs.Grid.{CellValue}
 use Rattle.cell_core.specs.Runs.{RunValue, written_out, AreApart, AreRuns}
-use Rattle.cell_core.specs.parts.Rows.{alike, with_cell, runs_in}
+use Rattle.cell_core.specs.parts.Rows.{alike, breaks, with_cell, runs_in}
 
 module _ (x : CellValue) where
   written_out-with : (runs : List RunValue) → written_out (with_cell x runs) ≡ x ∷ written_out runs
@@ -67,6 +67,26 @@ runs_in-rest x cells n same =
     let whole : take (length cells - n) (drop n cells) ≡ drop n cells = take_all (length cells - n) (drop n cells) (omega (arith, length-drop n cells)) in
     runs_in-next x cells ∙ ap (λ (k : ℕ). (x, suc k) ∷ runs_in (drop k cells)) (sym same) ∙ ap (λ (k : ℕ). (x, k) ∷ runs_in (drop n cells)) (sym (add-one n) ∙ omega arith) ∙ ap (λ (l : List CellValue). (x, 1 + n) ∷ runs_in l) (sym whole)
 
+-- as many runs as begin after the first cell, and one
+pub length-runs_in : (x : CellValue) (cells : List CellValue) → length (runs_in (x ∷ cells)) ≡ suc (breaks x cells)
+length-runs_in x [] = refl
+length-runs_in x (y ∷ cells) = ap (λ (l : List RunValue). length (with_cell x l)) (runs_in-next y cells) ∙ by-test (cell_eq y x) (ap length (sym (runs_in-next y cells)) ∙ length-runs_in y cells)
+  where
+    after : List RunValue
+    after = runs_in (drop (alike y cells) cells)
+
+    by-test : (b : Bool) → suc (length after) ≡ suc (breaks y cells) → length (if b then (x, suc (alike y cells) + 1) ∷ after else (x, 1) ∷ (y, suc (alike y cells)) ∷ after) ≡ suc (if b then breaks y cells else suc (breaks y cells))
+    by-test true others = others
+    by-test false others = ap suc others
+
+-- the first cell is equal to itself
+pub breaks-whole : (cells : List CellValue) (x : CellValue) → 0 < length cells → x ≡ get_or cells 0 x → 1 + breaks x cells ≡ length (runs_in cells)
+breaks-whole [] x some read = absurd (omega (arith, some))
+breaks-whole (y ∷ cells) x some read =
+    let itself : cell_eq y y ≡ true = (cell_eq-Decides y y).1 refl in
+    let other : breaks x (y ∷ cells) ≡ breaks y cells = ap (λ (z : CellValue). breaks z (y ∷ cells)) read ∙ ap (λ (b : Bool). if b then breaks y cells else suc (breaks y cells)) itself in
+    omega (arith, other, length-runs_in y cells)
+
 -- no more cells are alike than there are
 pub alike-within : (x : CellValue) (cells : List CellValue) → alike x cells ≤ length cells
 alike-within x [] = omega arith
@@ -79,6 +99,13 @@ alike-within x (y ∷ cells) = by-test (cell_eq y x) (alike-within x cells)
 module _ (x y : CellValue) (cells : List CellValue) (i : ℕ) (within : i < length cells) (read : y ≡ get_or cells i y) where
   next-cell : drop i cells ≡ y ∷ drop (i + 1) cells
   next-cell = rw add-one (drop-cons cells i y within ∙ ap (λ z. z ∷ drop (suc i) cells) (sym read))
+
+  -- a run that goes on, and one that begins
+  pub breaks-none : cell_eq y x ≡ true → breaks x (drop i cells) ≡ breaks y (drop (i + 1) cells)
+  breaks-none same = ap (breaks x) next-cell ∙ ap (λ (b : Bool). if b then breaks y (drop (i + 1) cells) else suc (breaks y (drop (i + 1) cells))) same
+
+  pub breaks-one : cell_eq y x ≡ false → breaks x (drop i cells) ≡ suc (breaks y (drop (i + 1) cells))
+  breaks-one other = ap (breaks x) next-cell ∙ ap (λ (b : Bool). if b then breaks y (drop (i + 1) cells) else suc (breaks y (drop (i + 1) cells))) other
 
   -- a cell that is alike, and one that is not
   pub alike-more : cell_eq y x ≡ true → alike x (drop i cells) ≡ suc (alike x (drop (i + 1) cells))

@@ -11,9 +11,10 @@ use crate::memory::Memory;
 use std::alloc::Global;
 use std::marker::Model;
 
-// How many runs a row has, so that they are given just as much memory. Its cells are null or categories.
+// How many runs a row has. Its cells are null or categories.
 pub(crate) fn count_runs(row: &[Cell]) -> usize
-    ensures { All IsCell row.now }
+    ensures count { result ≡ length (runs_in row.now) }
+    ensures cells { All IsCell row.now }
 {
     if row.is_empty() {
         return 0;
@@ -141,6 +142,16 @@ impl<'a> Runs<'a> {
     {
         Runs {
             rest: Rest::Runs(runs),
+        }
+    }
+
+    /// How many runs are still to come.
+    pub fn len(&self) -> usize
+        ensures { result ≡ length self.now }
+    {
+        match &self.rest {
+            Rest::Runs(runs) => runs.len(),
+            Rest::Cells(cells) => count_runs(cells),
         }
     }
 

@@ -33,6 +33,11 @@ abbrev pub runs_in : List CellValue → List RunValue
 runs_in [] = []
 runs_in (x ∷ cells) = with_cell x (runs_in cells)
 
+-- how many runs begin after a cell
+abbrev pub breaks : CellValue → List CellValue → ℕ
+breaks x [] = 0
+breaks x (y ∷ cells) = if cell_eq y x then breaks y cells else suc (breaks y cells)
+
 -- the runs still to come
 abbrev pub runs_left : Rest → List RunValue
 runs_left (rest.Runs runs) = runs.now

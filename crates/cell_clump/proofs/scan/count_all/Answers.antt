@@ -1,8 +1,8 @@
 use Rattle.std.proofs.Common.{◌<◌, ◌+◌, arith, rules}
 use Rattle.cell_clump.proofs.scan.count_all.Goals as goal
 
-pub count_runs-count-requires : goal.count_runs-count-requires
-count_runs-count-requires c =
+pub overflow_cast-count : goal.overflow_cast-count
+overflow_cast-count c =
     let map = c.args.map.now in
     let r = c.loop-r.r in
     let row : r < map.region.rows = search rules in

@@ -16,8 +16,8 @@ join_rows-requires-clause-above_ready c = IsReady-below _ _ most_side _ _ c.requ
 pub join_rows-requires-clause-row_ready : goal.join_rows-requires-clause-row_ready
 join_rows-requires-clause-row_ready c = IsReady-below _ _ most_side _ _ c.requires.cols (sym c.loop-r.invariant.long) c.over-walk.ensures.ready
 
-pub count_runs-count-requires : goal.count_runs-count-requires
-count_runs-count-requires c =
+pub overflow_cast-count : goal.overflow_cast-count
+overflow_cast-count c =
     let r = c.loop-r.r in
     let row : r < c.args.map.now.region.rows = search rules in
     let next = c.requires.labels.next r c.runs.result row c.runs.ensures.written c.runs.ensures.runs in

@@ -1,6 +1,11 @@
-use Rattle.std.proofs.Common.{All, take}
+use Rattle.std.proofs.Common.{◌≡◌, ◌≤◌, ◌+◌, All, take, drop, length}
 use Rattle.cell_core.specs.Cell.{IsCell}
+use Rattle.cell_core.specs.parts.Rows.{breaks, runs_in}
 use Rattle.cell_core.proofs.runs.count_runs.Given as goal
 
 abbrev pub invariant-loop-cell : goal.invariant-loop-cell
-invariant-loop-cell l = All IsCell (take l.cell-index l.row)
+invariant-loop-cell l = record {
+  cells : All IsCell (take l.cell-index l.row);
+  count : l.count + breaks l.last (drop l.cell-index l.row) ≡ length (runs_in l.row);
+  few : l.count ≤ l.cell-index + 1;
+}
