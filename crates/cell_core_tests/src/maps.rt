@@ -21,6 +21,7 @@ fn expect_runs<R: Abort + AllocGlobal>(
     wanted: &[(i32, u32)],
 ) -> Result<(), Fail> {
     assert!(rt; row < map.region().rows());
+    assert_eq!(rt; map.runs(row).len(), wanted.len(), "row {row}");
     let found: Vec<(Cell, u32)> = map.runs(row).collect(rt.alloc())?;
     assert_eq!(rt; found.len(), wanted.len(), "row {row}");
     for (run, wanted) in found.iter().zip(wanted) {
@@ -35,6 +36,23 @@ fn gives_its_runs(rt: HostRuntime) -> Result<(), Fail> {
     expect_runs(&rt, &map, 0, &[(1, 2), (2, 1), (NULL, 1)])?;
     expect_runs(&rt, &map, 1, &[(1, 1), (2, 3)])?;
     expect_runs(&rt, &map, 2, &[(3, 2), (1, 2)])
+}
+
+// Rows of as many runs as half their cells, of one more and of one less.
+#[test]
+fn gives_the_runs_of_cells(rt: HostRuntime) -> Result<(), Fail> {
+    let rows = [1, 1, 2, 2, 3, 3, 1, 1, 2, 3, 3, 3, 1, 1, 2, 2, 2, 2];
+    let map = map_of(rt.alloc(), 3, 6, &rows)?.ok_or("a map")?;
+    expect_runs(&rt, &map, 0, &[(1, 2), (2, 2), (3, 2)])?;
+    expect_runs(&rt, &map, 1, &[(1, 2), (2, 1), (3, 3)])?;
+    expect_runs(&rt, &map, 2, &[(1, 2), (2, 4)])?;
+    let map = map_of(rt.alloc(), 2, 6, &[1, 2, 2, 3, 3, 3, NULL, NULL, 1, 2, NULL, 3])?.ok_or("a map")?;
+    expect_runs(&rt, &map, 0, &[(1, 1), (2, 2), (3, 3)])?;
+    expect_runs(&rt, &map, 1, &[(NULL, 2), (1, 1), (2, 1), (NULL, 1), (3, 1)])?;
+    for (row, col, wanted) in [(0, 0, 1), (0, 2, 2), (0, 5, 3), (1, 1, NULL), (1, 3, 2), (1, 5, 3)] {
+        assert_eq!(rt; map.cell(row, col), cell(wanted), "{row} {col}");
+    }
+    Ok(())
 }
 
 #[test]
