@@ -13,20 +13,23 @@ ROOT = os.path.dirname(os.path.dirname(os.path.abspath(__file__)))
 def faults_of(path):
     """What is wrong with an edit: a list of lines."""
     crate = os.path.dirname(os.path.dirname(path))
-    text, faults, replaced = None, [], None
+    texts, of, faults, replaced = {None: None}, None, [], None
     with open(path, encoding="utf-8") as file:
         lines = file.read().splitlines()
     for line in lines:
         key, _, value = line.partition(": ")
         if key == "file":
-            with open(os.path.join(crate, value), encoding="utf-8") as source:
-                text = source.read()
+            of = value
+            # A further pair applies to what the earlier ones made.
+            if of not in texts:
+                with open(os.path.join(crate, of), encoding="utf-8") as source:
+                    texts[of] = source.read()
         elif key == "old":
             replaced = value
-            if text is None or text.count(value) != 1:
+            if texts[of] is None or texts[of].count(value) != 1:
                 faults.append(f"{os.path.relpath(path, ROOT)}: not once in its file: {value}")
-        elif key == "new" and text is not None and replaced is not None:
-            text = text.replace(replaced, value, 1)
+        elif key == "new" and texts[of] is not None and replaced is not None:
+            texts[of] = texts[of].replace(replaced, value, 1)
     return faults
 
 
