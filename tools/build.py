@@ -3,7 +3,8 @@
 
     build.py [--jobs N]
 
-It says which crate it proves and how long all took so far. A crate that was proved before and has not changed is
+Each proof is shared out among N processes: if it is not given, as many as there are processors, at most four, and no
+more than memory has room for. It says which crate it proves and how long all took so far. A crate that was proved before and has not changed is
 loaded in seconds. Each crate's log is crates/NAME/out/build.log; where a proof fails, the end of the log is printed.
 """
 import os
@@ -16,6 +17,9 @@ import time
 ROOT = os.path.dirname(os.path.dirname(os.path.abspath(__file__)))
 PROGRAM = "rcell_program"
 LINES_OF_A_LOG = 40
+MOST_JOBS = 4
+# What a process of a proof may take.
+BYTES_A_JOB = 2 << 30
 SECONDS_BETWEEN_NEWS = 60
 
 
@@ -91,8 +95,13 @@ def build(news, at, jobs):
     return is_proved
 
 
+def usual_jobs():
+    memory = os.sysconf("SC_PAGE_SIZE") * os.sysconf("SC_PHYS_PAGES")
+    return max(1, min(MOST_JOBS, len(os.sched_getaffinity(0)), memory // BYTES_A_JOB))
+
+
 def main():
-    news, jobs = News(crates_in_order()), sys.argv[1:]
+    news, jobs = News(crates_in_order()), sys.argv[1:] or ["--jobs", str(usual_jobs())]
     print(f"Proving {len(news.crates)} crates, then building bin/rcell.", flush=True)
     for at, name in enumerate(news.crates, 1):
         if not build(news, at, jobs):
