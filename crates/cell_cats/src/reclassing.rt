@@ -1,6 +1,6 @@
 //! Maps by rules.
 
-ghost use Rattle.std.specs.Prelude.{◌≡◌, ◌<◌, ◌≤◌, ◌+◌, ◌++◌, length, take, drop, replicate, ℤ, IfOk, OnOk};
+ghost use Rattle.std.specs.Prelude.{◌≡◌, ◌<◌, ◌≤◌, ◌+◌, length, ℤ, IfOk, OnOk};
 ghost use Rattle.std.specs.FinMap.{get};
 ghost use Rattle.cell_core.specs.Grid.{no_labels};
 ghost use Rattle.cell_core.specs.Runs.{written_out};
@@ -13,16 +13,8 @@ use crate::rules::Rules;
 use cell_core::cell::Cell;
 use cell_core::map::{CellMap, MapBuilder};
 use cell_core::memory::Memory;
-use cell_core::runs::Runs;
+use cell_core::runs::{Runs, fill_run};
 use std::alloc::Global;
-
-// Writes a run over the cells from a place on.
-fn fill_run(cells: &mut [Cell], at: usize, run: (Cell, u32))
-    requires { at + run.1 ≤ length cells.old }
-    ensures { cells.new ≡ take at cells.old ++ replicate run.1 run.0 ++ drop (at + run.1) cells.old }
-{
-    cells[at..at + run.1 as usize].fill(run.0);
-}
 
 // Writes the new categories of a row's runs. The slice is as long as that row.
 fn write_new(rules: &Rules, known: &mut [Known], runs: Runs<'_>, row: &mut [Cell])

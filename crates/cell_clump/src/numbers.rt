@@ -1,6 +1,6 @@
 //! Numbers in place of labels.
 
-ghost use Rattle.std.specs.Prelude.{◌≡◌, ℕ, pos, ◌+◌, ◌<◌, ◌≤◌, ◌++◌, length, take, drop, replicate, List, Some, IsSome, IfOk};
+ghost use Rattle.std.specs.Prelude.{◌≡◌, ℕ, pos, ◌+◌, ◌<◌, ◌≤◌, length, List, Some, IsSome, IfOk};
 ghost use Rattle.cell_core.specs.Grid.{Grid, IsFilled, cell_at, no_labels};
 ghost use Rattle.cell_core.specs.Runs.{written_out};
 ghost use Rattle.cell_clump.specs.declared.clump.Joining.{Joining};
@@ -14,7 +14,7 @@ ghost use Rattle.cell_clump.specs.parts.Starts.{HasLabels, label_of, run_count, 
 use cell_core::cell::Cell;
 use cell_core::map::{CellMap, MapBuilder};
 use cell_core::memory::Memory;
-use cell_core::runs::Runs;
+use cell_core::runs::{Runs, fill_run};
 use std::alloc::Global;
 
 // Replaces a label by a number: an open one by the next number, a closed one by that of the label that it points
@@ -46,14 +46,6 @@ fn number_cell(number: u32) -> Cell
     ensures { result ≡ Some (pos number) }
 {
     Cell::value(number as i32).unwrap()
-}
-
-// Writes a run over the cells from a place on.
-fn fill_run(cells: &mut [Cell], at: usize, run: (Cell, u32))
-    requires { at + run.1 ≤ length cells.old }
-    ensures { cells.new ≡ take at cells.old ++ replicate run.1 run.0 ++ drop (at + run.1) cells.old }
-{
-    cells[at..at + run.1 as usize].fill(run.0);
 }
 
 // The label after those of a row, and the greatest number so far.

@@ -74,8 +74,9 @@ pub(crate) fn cell_in(runs: &[(Cell, u32)], col: u32) -> Cell
     Cell::null()
 }
 
-// Writes a run over the cells from a place on.
-fn fill_run(cells: &mut [Cell], at: usize, run: (Cell, u32))
+/// Writes a run over the cells of a row from a column on.
+#[inline]
+pub fn fill_run(cells: &mut [Cell], at: usize, run: (Cell, u32))
     requires { at + run.1 ≤ length cells.old }
     ensures { cells.new ≡ take at cells.old ++ replicate run.1 run.0 ++ drop (at + run.1) cells.old }
 {

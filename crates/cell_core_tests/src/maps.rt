@@ -50,6 +50,7 @@ fn gives_the_runs_of_cells(rt: HostRuntime) -> Result<(), Fail> {
     expect_runs(&rt, &map, 0, &[(1, 1), (2, 2), (3, 3)])?;
     expect_runs(&rt, &map, 1, &[(NULL, 2), (1, 1), (2, 1), (NULL, 1), (3, 1)])?;
     for (row, col, wanted) in [(0, 0, 1), (0, 2, 2), (0, 5, 3), (1, 1, NULL), (1, 3, 2), (1, 5, 3)] {
+        assert!(rt; row < map.region().rows() && col < map.region().cols());
         assert_eq!(rt; map.cell(row, col), cell(wanted), "{row} {col}");
     }
     Ok(())
