@@ -52,3 +52,21 @@ signed_cell m false false rest all = plus_cell m all
 pub capped_cell : (m : ℤ) (bs : List ℕ) → cell_of_number m (capped_number bs) ≡ cell_of_number m (whole_number bs)
 capped_cell m [] = refl
 capped_cell m (b ∷ bs) = signed_cell m (b == 45) (b == 43) (digits_of bs) (digits_of (b ∷ bs))
+
+plus_same : (o : Option ℕ) (n : ℤ) → option_map pos o ≡ Some n → is_in_range n ≡ true → option_map pos (option_map capped o) ≡ Some n
+plus_same None n e r = cc
+plus_same (Some k) n e r = let same : pos k ≡ n = cc in ap (λ (m : ℕ). Some (pos m)) (kept_pos k (ap is_in_range same ∙ r)) ∙ e
+
+minus_same : (o : Option ℕ) (n : ℤ) → option_map (λ m. neg_ℤ (pos m)) o ≡ Some n → is_in_range n ≡ true → option_map (λ m. neg_ℤ (pos m)) (option_map capped o) ≡ Some n
+minus_same None n e r = cc
+minus_same (Some k) n e r = let same : neg_ℤ (pos k) ≡ n = cc in ap (λ (m : ℕ). Some (neg_ℤ (pos m))) (kept_neg k (ap is_in_range same ∙ r)) ∙ e
+
+signed_same : (minus plus : Bool) (rest all : Option ℕ) (n : ℤ) → signed_by minus plus rest all ≡ Some n → is_in_range n ≡ true → signed_by minus plus (option_map capped rest) (option_map capped all) ≡ Some n
+signed_same true plus rest all n e r = minus_same rest n e r
+signed_same false true rest all n e r = plus_same rest n e r
+signed_same false false rest all n e r = plus_same all n e r
+
+-- a number in range is computed as it is
+pub capped_same : (bs : List ℕ) (n : ℤ) → whole_number bs ≡ Some n → is_in_range n ≡ true → capped_number bs ≡ Some n
+capped_same [] n e r = cc
+capped_same (b ∷ bs) n e r = signed_same (b == 45) (b == 43) (digits_of bs) (digits_of (b ∷ bs)) n e r

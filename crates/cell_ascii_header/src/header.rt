@@ -1,6 +1,6 @@
 //! What the header of a grid text says of its cells.
 
-ghost use Rattle.std.specs.Prelude.{◌≡◌, Some};
+ghost use Rattle.std.specs.Prelude.{◌≡◌, Some, bytes_eq};
 ghost use Rattle.cell_ascii_text.specs.Cells.{cell_of_word, cell_of_number};
 ghost use Rattle.cell_ascii_header.specs.Capped.{cell_in_range};
 ghost use Rattle.cell_ascii_text.specs.Numbers.{whole_number};
@@ -17,15 +17,21 @@ use std::marker::Model;
 pub struct Header {
     region: Region,
     null_text: NullText,
+    // The number that the null text is, if it is one: no word of another number in range is compared with the text.
+    null_number: Option<i64>,
     multiplier: i32,
 }
 
 impl Model for Header {
+    ghost use Rattle.std.specs.Prelude.{◌≡◌};
+    ghost use Rattle.cell_ascii_header.specs.Capped.{capped_number};
     ghost use Rattle.cell_ascii_text.specs.Header.{Header};
 
     ghost Value = { Header };
 
     ghost view = { λ h. record { region = h.region; null_text = h.null_text; multiplier = h.multiplier } };
+
+    ghost invariant = { λ h. h.null_number ≡ capped_number h.null_text };
 }
 
 fn in_range(number: i64) -> Result<Cell, GridKind>
@@ -47,6 +53,10 @@ fn cell_of_number(multiplier: i32, number: i64) -> Result<Cell, GridKind>
     if !number::is_in_range(number) {
         return Err(GridKind::CellRange);
     }
+    // The usual multiplier is no reason to look at the range once more.
+    if multiplier == 1 {
+        return in_range(number);
+    }
     in_range(number * multiplier as i64)
 }
 
@@ -55,9 +65,11 @@ impl Header {
     pub fn new(region: Region, null_text: NullText, multiplier: i32) -> Header
         ensures { result ≡ record { region = region; null_text = null_text; multiplier = multiplier } }
     {
+        let null_number = null_text.number();
         Header {
             region,
             null_text,
+            null_number,
             multiplier,
         }
     }
@@ -73,11 +85,25 @@ impl Header {
         requires { whole_number word.now ≡ Some number }
         ensures { result ≡ cell_of_word self.now word.now }
     {
-        if self.null_text.is(word) {
+        if self.is_null(word, number) {
             Ok(Cell::null())
         } else {
             cell_of_number(self.multiplier, number)
         }
+    }
+
+    // Whether the word of a number is the null text. The texts are compared only where the numbers do not tell.
+    fn is_null(&self, word: &[u8], number: i64) -> bool
+        requires { whole_number word.now ≡ Some number }
+        ensures { result ≡ bytes_eq word.now self.now.null_text }
+    {
+        let Some(null) = self.null_number else {
+            return false;
+        };
+        if null != number && number::is_in_range(number) {
+            return false;
+        }
+        self.null_text.is(word)
     }
 
     /// The cell that a word denotes.

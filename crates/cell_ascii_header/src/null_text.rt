@@ -2,7 +2,9 @@
 
 ghost use Rattle.std.specs.Prelude.{◌≡◌, ◌≤◌, length, bytes_eq};
 ghost use Rattle.cell_ascii_text.specs.Header.{usual_null};
+ghost use Rattle.cell_ascii_header.specs.Capped.{capped_number};
 
+use crate::number;
 use std::marker::Model;
 
 /// A text of at most 64 bytes.
@@ -51,5 +53,12 @@ impl NullText {
         ensures { result ≡ bytes_eq word.now self.now }
     {
         word == &self.bytes[..self.len]
+    }
+
+    /// The number that this text is, if it is one. One out of every range is answered by another that is.
+    pub fn number(&self) -> Option<i64>
+        ensures { result ≡ capped_number self.now }
+    {
+        number::whole_number(&self.bytes[..self.len])
     }
 }

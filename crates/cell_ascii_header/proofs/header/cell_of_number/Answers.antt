@@ -25,4 +25,4 @@ returns c =
     let small : unsigned_abs m ≤ 2147483648 = omega (arith, ints) in
     let product_fits = fits_signed_mul w64 n m 2147483647 2147483648 (abs_in n near) small (omega arith) in
     let wide : FitsSigned w64 m = record { sfits = omega (arith, multiplier_fits.sfits) } in
-    (simp to_z-of_z at c.in_range.ensures) ∙ by_product m n near
+    (simp to_z-of_z at c.in_range-2.ensures) ∙ by_product m n near
