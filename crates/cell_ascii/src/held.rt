@@ -150,6 +150,9 @@ fn cell_in(held: &[u8], header: &Header) -> Option<(Cell, usize)>
 
 /// The cells that are held one after another, each a space and a word that ends, up to the length of a row: they fill the
 /// front of the row. Returns how many they are, and how many bytes they take.
+///
+/// It is not inlined: within a larger function its loop would keep less in registers.
+#[inline(never)]
 pub fn cells_in(held: &[u8], header: &Header, row: &mut [Cell]) -> (usize, usize)
     ensures cells { HoldsCells header.now held.now (take result.0 row.new) result.0 result.1 }
     ensures count { result.0 ≤ length row.old }
