@@ -1,5 +1,5 @@
 -- Expressions over just the maps that they read.
-use Rattle.std.specs.Prelude.{◌≡◌, ◌⊎◌, ℕ, List, Some, slice_get}
+use Rattle.std.specs.Prelude.{◌≡◌, ◌≢◌, ◌⊎◌, ℕ, List, Some, slice_get, AllPairs}
 use Rattle.cell_core.specs.Grid.{Grid}
 use Rattle.cell_calc.specs.Formula.{Formula, Number, Map, Negated, Not, Binary, Call, Formulas, NoFormulas, Then}
 
@@ -29,3 +29,7 @@ ArePicked places maps picked = (k i : ℕ) → slice_get places k ≡ Some i →
 -- the places, and then others
 abbrev pub IsLonger : (old new : List ℕ) → Type 0
 IsLonger old new = (k i : ℕ) → slice_get old k ≡ Some i → slice_get new k ≡ Some i
+
+-- no place is listed twice
+abbrev pub AreDistinct : List ℕ → Type 0
+AreDistinct places = AllPairs (λ a b. a ≢ b) places

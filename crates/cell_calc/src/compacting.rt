@@ -1,8 +1,8 @@
 //! Expressions over just the maps that they read.
 
-ghost use Rattle.std.specs.Prelude.{◌≡◌, ◌<◌, ◌+◌, ℕ, List, length, max, slice_get, Some, All, IfOk, IfSome};
+ghost use Rattle.std.specs.Prelude.{◌≡◌, ◌≢◌, ◌<◌, ◌+◌, ℕ, List, length, max, slice_get, Some, All, IfOk, IfSome, IfNone};
 ghost use Rattle.cell_core.specs.Grid.{Grid};
-ghost use Rattle.cell_calc.specs.Compact.{Reads, AreReading, AreRead, ArePicked, IsLonger};
+ghost use Rattle.cell_calc.specs.Compact.{Reads, AreReading, AreRead, ArePicked, AreDistinct, IsLonger};
 ghost use Rattle.cell_calc.specs.Formula.{Formula, count};
 ghost use Rattle.cell_calc.specs.Reach.{IsProper, AreProper, top_of, top_of_all};
 ghost use Rattle.cell_calc.specs.Value.{Spot, value, values};
@@ -15,16 +15,19 @@ use std::alloc::Global;
 
 // Where a number stands in a list.
 fn found(places: &[usize], place: usize) -> Option<usize>
-    ensures { IfSome result (λ k. slice_get places.now k ≡ Some place) }
+    ensures some { IfSome result (λ k. slice_get places.now k ≡ Some place) }
+    ensures none { IfNone result (All (λ known. known ≢ place) places.now) }
 {
     places.iter().position(|known| *known == place)
 }
 
 // Where a place stands in a list: last, if it was not there.
+#[tactic(auto, using(std::proofs::lemmas::List::Quantifiers::all_pairs_push))]
 fn listed(places: &mut Vec<usize>, place: usize) -> Result<usize, Memory>
     ensures there { IfOk result (λ k. slice_get places.new.items k ≡ Some place) }
     ensures count { IfOk result (λ k. length places.new.items ≡ max (length places.old.items) (k + 1)) }
     ensures longer { IsLonger places.old.items places.new.items }
+    ensures distinct { AreDistinct places.old.items → AreDistinct places.new.items }
     ensures read { (f : Formula) → Reads place f → AreRead places.old.items f → AreRead places.new.items f }
 {
     if let Some(k) = found(places.as_slice(), place) {
@@ -43,6 +46,7 @@ fn compacted(alloc: Global, node: &Node, places: &mut Vec<usize>) -> Result<Node
     ensures proper { IfOk result (λ n. IsProper (formula_of n)) }
     ensures count { IfOk result (λ n. length places.new.items ≡ max (length places.old.items) (top_of (formula_of n))) }
     ensures longer { IsLonger places.old.items places.new.items }
+    ensures distinct { AreDistinct places.old.items → AreDistinct places.new.items }
     ensures read { (f : Formula) → ((i : ℕ) → Reads i (formula_of node.now) → Reads i f) → AreRead places.old.items f → AreRead places.new.items f }
 {
     match node {
@@ -82,6 +86,7 @@ fn compacted_all(alloc: Global, nodes: &Nodes, places: &mut Vec<usize>) -> Resul
     ensures arguments { IfOk result (λ ns. count (formulas_of ns) ≡ count (formulas_of nodes.now)) }
     ensures count { IfOk result (λ ns. length places.new.items ≡ max (length places.old.items) (top_of_all (formulas_of ns))) }
     ensures longer { IsLonger places.old.items places.new.items }
+    ensures distinct { AreDistinct places.old.items → AreDistinct places.new.items }
     ensures read { (f : Formula) → ((i : ℕ) → AreReading i (formulas_of nodes.now) → Reads i f) → AreRead places.old.items f → AreRead places.new.items f }
 {
     match nodes {
@@ -106,6 +111,7 @@ impl Bound {
         ensures value { IfOk result (λ r. (maps picked : List Grid) → ArePicked r.1.items maps picked → (s : Spot) → value r.0 picked s ≡ value self.now maps s) }
         ensures top { IfOk result (λ r. top_of r.0 ≡ length r.1.items) }
         ensures read { IfOk result (λ r. AreRead r.1.items self.now) }
+        ensures distinct { IfOk result (λ r. AreDistinct r.1.items) }
         ensures within { IfOk result (λ r. All (λ i. i < top_of self.now) r.1.items) }
     {
         let mut places = Vec::new(alloc);
