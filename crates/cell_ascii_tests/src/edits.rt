@@ -25,6 +25,9 @@ const WIDE: &[u8] =
 
 const LONG: &[u8] = b"11111111111111111111111111111111111111111111111111111111111111111";
 
+// What stands in the place of a token.
+const OTHERS: [&[u8]; 6] = [LONG, b"x", b"x:", b"2147483648", b"-9", b"*"];
+
 fn read<R: AllocGlobal>(
     rt: &R,
     text: &[u8],
@@ -94,10 +97,17 @@ fn agrees<R: Abort + AllocGlobal>(
 ) -> Result<(), Fail> {
     let told = text_fault(rt.alloc(), text, fails).map_err(|_| "no memory")?;
     note(kinds, told).map_err(|_| "no memory")?;
-    expect(rt, read(rt, text, 1, fails)?, text, told)?;
-    expect(rt, read(rt, text, 2, fails)?, text, told)?;
-    expect(rt, read(rt, text, 7, fails)?, text, told)?;
-    expect(rt, read(rt, text, 65536, fails)?, text, told)
+    for more in [0u16, 1, 6, 65535] {
+        expect(rt, read(rt, text, more as usize + 1, fails)?, text, told)?;
+    }
+    Ok(())
+}
+
+fn append(text: &mut Vec<u8>, parts: &[&[u8]]) -> Result<(), Memory> {
+    for part in parts {
+        text.extend_from_slice(part)?;
+    }
+    Ok(())
 }
 
 // The parts up to one, other parts, and the parts from one on.
@@ -109,15 +119,9 @@ fn spliced(
     from: usize,
 ) -> Result<Vec<u8>, Memory> {
     let mut text = Vec::new(alloc);
-    for part in parts.iter().take(to) {
-        text.extend_from_slice(part)?;
-    }
-    for part in others {
-        text.extend_from_slice(part)?;
-    }
-    for part in parts.iter().skip(from) {
-        text.extend_from_slice(part)?;
-    }
+    append(&mut text, &parts[..to.min(parts.len())])?;
+    append(&mut text, others)?;
+    append(&mut text, &parts[from.min(parts.len())..])?;
     Ok(text)
 }
 
@@ -173,14 +177,43 @@ fn agrees_replaced<R: Abort + AllocGlobal>(
     parts: &[&[u8]],
 ) -> Result<(), Fail> {
     for i in 0..parts.len() {
-        agrees_spliced(rt, kinds, parts, i, &[LONG], i + 1)?;
-        agrees_spliced(rt, kinds, parts, i, &[b"x"], i + 1)?;
-        agrees_spliced(rt, kinds, parts, i, &[b"x:"], i + 1)?;
-        agrees_spliced(rt, kinds, parts, i, &[b"2147483648"], i + 1)?;
-        agrees_spliced(rt, kinds, parts, i, &[b"-9"], i + 1)?;
-        agrees_spliced(rt, kinds, parts, i, &[b"*"], i + 1)?;
+        for other in OTHERS {
+            agrees_spliced(rt, kinds, parts, i, &[other], i + 1)?;
+        }
     }
     Ok(())
+}
+
+fn agrees_by_bytes<R: Abort + AllocGlobal>(
+    rt: &R,
+    kinds: &mut Vec<GridKind>,
+    text: &[u8],
+) -> Result<(), Fail> {
+    let bytes: Vec<&[u8]> = text.chunks(1).collect(rt.alloc())?;
+    agrees_without(rt, kinds, &bytes)
+}
+
+fn agrees_by_tokens<R: Abort + AllocGlobal>(
+    rt: &R,
+    kinds: &mut Vec<GridKind>,
+    text: &[u8],
+) -> Result<(), Fail> {
+    let runs: Vec<&[u8]> = text
+        .chunk_by(|a, b| is_space(*a) == is_space(*b))
+        .collect(rt.alloc())?;
+    agrees_without(rt, kinds, &runs)?;
+    agrees_swapped(rt, kinds, &runs)?;
+    agrees_replaced(rt, kinds, &runs)
+}
+
+fn agrees_by_lines<R: Abort + AllocGlobal>(
+    rt: &R,
+    kinds: &mut Vec<GridKind>,
+    text: &[u8],
+) -> Result<(), Fail> {
+    let lines: Vec<&[u8]> = text.split_inclusive(|b| *b == b'\n').collect(rt.alloc())?;
+    agrees_without(rt, kinds, &lines)?;
+    agrees_swapped(rt, kinds, &lines)
 }
 
 // Edits a text byte by byte, token by token and line by line. Answers the kinds of fault that were told.
@@ -188,17 +221,9 @@ fn agrees_edited<R: Abort + AllocGlobal>(rt: &R, text: &[u8]) -> Result<Vec<Grid
     let mut kinds = Vec::new(rt.alloc());
     agrees(rt, &mut kinds, text, false)?;
     assert!(rt; kinds.is_empty());
-    let bytes: Vec<&[u8]> = text.chunks(1).collect(rt.alloc())?;
-    agrees_without(rt, &mut kinds, &bytes)?;
-    let runs: Vec<&[u8]> = text
-        .chunk_by(|a, b| is_space(*a) == is_space(*b))
-        .collect(rt.alloc())?;
-    agrees_without(rt, &mut kinds, &runs)?;
-    agrees_swapped(rt, &mut kinds, &runs)?;
-    agrees_replaced(rt, &mut kinds, &runs)?;
-    let lines: Vec<&[u8]> = text.split_inclusive(|b| *b == b'\n').collect(rt.alloc())?;
-    agrees_without(rt, &mut kinds, &lines)?;
-    agrees_swapped(rt, &mut kinds, &lines)?;
+    agrees_by_bytes(rt, &mut kinds, text)?;
+    agrees_by_tokens(rt, &mut kinds, text)?;
+    agrees_by_lines(rt, &mut kinds, text)?;
     Ok(kinds)
 }
 

@@ -1,5 +1,7 @@
 //! Whole texts, read in pieces of seven bytes.
 
+ghost use Rattle.cell_ascii_text.specs.Writing.{IsNullText};
+
 use cell_ascii::fault::{GridFault, GridKind};
 use cell_ascii::reader::read_map;
 use cell_ascii::writer::write_map;
@@ -56,6 +58,40 @@ fn expect_fault<R: Abort + AllocGlobal>(
     Ok(())
 }
 
+fn expect_faults<R: Abort + AllocGlobal>(
+    rt: &R,
+    table: &[(&[u8], GridKind, u64)],
+) -> Result<(), Fail> {
+    for (text, kind, line) in table {
+        expect_fault(rt, text, *kind, *line)?;
+    }
+    Ok(())
+}
+
+// The category of a cell of a map; None where it is null or outside.
+fn category(map: &CellMap, row: u32, col: u32) -> Option<i32> {
+    let region = map.region();
+    if row < region.rows() && col < region.cols() {
+        return map.cell(row, col).get();
+    }
+    None
+}
+
+// What is written of a map with this null text, by pieces of a size: it has the length that the call answers.
+fn written<R: Abort + AllocGlobal>(
+    rt: &R,
+    map: &CellMap,
+    null_text: &[u8],
+    sink: MemorySink,
+) -> Result<Vec<u8>, Fail>
+    requires { IsNullText null_text.now }
+{
+    let mut sink = sink;
+    let length = write_map(map, null_text, &mut sink).map_err(|_| "no room")?;
+    assert_eq!(rt; length, sink.bytes().len() as u64);
+    Ok(sink.bytes().to_vec(rt.alloc())?)
+}
+
 // A text with further bytes behind it, all alike.
 fn followed_by<R: AllocGlobal>(rt: &R, text: &[u8], byte: u8, count: u32) -> Result<Vec<u8>, Fail> {
     let mut bytes = text.to_vec(rt.alloc())?;
@@ -68,90 +104,92 @@ fn followed_by<R: AllocGlobal>(rt: &R, text: &[u8], byte: u8, count: u32) -> Res
 #[test]
 fn reads_a_grid(rt: HostRuntime) -> Result<(), Fail> {
     let map = read(&rt, GRID)?.map_err(|_| "a fault")?;
-    let region = map.region();
-    assert_eq!(rt; region.rows(), 3);
-    assert_eq!(rt; region.cols(), 4);
-    assert_eq!(rt; map.cell(0, 2).get(), Some(2));
-    assert_eq!(rt; map.cell(0, 3).get(), None);
-    assert_eq!(rt; map.cell(2, 0).get(), Some(3));
+    assert_eq!(rt; (map.region().rows(), map.region().cols()), (3, 4));
+    for (row, col, wanted) in [(0, 2, Some(2)), (0, 3, None), (2, 0, Some(3))] {
+        assert_eq!(rt; category(&map, row, col), wanted, "{row} {col}");
+    }
     Ok(())
 }
 
-#[test]
-fn tells_faults_of_a_header(rt: HostRuntime) -> Result<(), Fail> {
-    expect_fault(&rt, b"", GridKind::MissingKey, 1)?;
-    expect_fault(&rt, b"north: 3 4\n", GridKind::BadHeader, 1)?;
-    expect_fault(&rt, b"kind: int\n", GridKind::BadHeader, 1)?;
-    expect_fault(&rt, b"type: int\n", GridKind::MissingKey, 2)?;
-    expect_fault(&rt, b"north: 1\nnorth: 1\n", GridKind::TwiceKey, 2)?;
-    expect_fault(
-        &rt,
+// Texts with a fault of the header, and its line.
+const HEADER_FAULTS: [(&[u8], GridKind, u64); 8] = [
+    (b"", GridKind::MissingKey, 1),
+    (b"north: 3 4\n", GridKind::BadHeader, 1),
+    (b"kind: int\n", GridKind::BadHeader, 1),
+    (b"type: int\n", GridKind::MissingKey, 2),
+    (b"north: 1\nnorth: 1\n", GridKind::TwiceKey, 2),
+    (
         b"north: 12345678901\nsouth: 0\neast: 4\nwest: 0\nrows: 3\ncols: 4\n1 1 2 *\n1 2 2 2\n3 3 1 1\n",
         GridKind::BadNumber,
         1,
-    )?;
-    expect_fault(
-        &rt,
+    ),
+    (
         b"north: 3\nsouth: 0\neast: 4\nwest: 0\nrows: 99999999999\ncols: 4\n1 1 2 *\n1 2 2 2\n3 3 1 1\n",
         GridKind::BadNumber,
         5,
-    )?;
-    expect_fault(
-        &rt,
+    ),
+    (
         b"north: 3\nsouth: 0\neast: 4\nwest: 0\nrows: 3\ncols: 4\ntype: float\n1 1 2 *\n1 2 2 2\n3 3 1 1\n",
         GridKind::BadType,
         7,
-    )
-}
+    ),
+];
 
 #[test]
-fn tells_faults_of_a_region(rt: HostRuntime) -> Result<(), Fail> {
-    expect_fault(
-        &rt,
+fn tells_faults_of_a_header(rt: HostRuntime) -> Result<(), Fail> {
+    expect_faults(&rt, &HEADER_FAULTS)
+}
+
+// Texts with a fault of the region.
+const REGION_FAULTS: [(&[u8], GridKind, u64); 3] = [
+    (
         b"north: 3\nsouth: 0\neast: 4\nwest: 0\nrows: -1\ncols: 4\n1 1 2 *\n1 2 2 2\n3 3 1 1\n",
         GridKind::Region(RegionFault::BadRows),
         7,
-    )?;
-    expect_fault(
-        &rt,
+    ),
+    (
         b"north: 0\nsouth: 0\neast: 4\nwest: 0\nrows: 3\ncols: 4\n1 1 2 *\n1 2 2 2\n3 3 1 1\n",
         GridKind::Region(RegionFault::BadExtent),
         7,
-    )?;
-    expect_fault(
-        &rt,
+    ),
+    (
         b"north: 3\nsouth: 0\neast: 4\nwest: 0\nrows: -1\ncols: 4\n",
         GridKind::Region(RegionFault::BadRows),
         7,
-    )
+    ),
+];
+
+#[test]
+fn tells_faults_of_a_region(rt: HostRuntime) -> Result<(), Fail> {
+    expect_faults(&rt, &REGION_FAULTS)
 }
 
-// More cells than there are categories above 0.
-#[test]
-fn tells_too_many_cells(rt: HostRuntime) -> Result<(), Fail> {
-    expect_fault(
-        &rt,
+// Regions with more cells than there are categories above 0, and such as have just not.
+const SIZE_FAULTS: [(&[u8], GridKind, u64); 3] = [
+    (
         b"north: 1\nsouth: 0\neast: 1\nwest: 0\nrows: 65535\ncols: 65535\n7\n",
         GridKind::Region(RegionFault::TooManyCells),
         7,
-    )?;
-    expect_fault(
-        &rt,
+    ),
+    (
         b"north: 1\nsouth: 0\neast: 1\nwest: 0\nrows: 65536\ncols: 65535\n7\n",
         GridKind::Region(RegionFault::BadRows),
         7,
-    )?;
-    expect_fault(
-        &rt,
+    ),
+    (
         b"north: 1\nsouth: 0\neast: 1\nwest: 0\nrows: 65535\ncols: 32768\n7\n",
         GridKind::TooFew,
         8,
-    )
+    ),
+];
+
+#[test]
+fn tells_too_many_cells(rt: HostRuntime) -> Result<(), Fail> {
+    expect_faults(&rt, &SIZE_FAULTS)
 }
 
-// The widest row, of equal cells: it is written as it was read.
-#[test]
-fn reads_the_widest_row(rt: HostRuntime) -> Result<(), Fail> {
+// A row of 65535 cells of 7.
+fn widest_row<R: AllocGlobal>(rt: &R) -> Result<Vec<u8>, Fail> {
     let mut text = b"north: 1\nsouth: 0\neast: 1\nwest: 0\nrows: 1\ncols: 65535\n".to_vec(
         rt.alloc(),
     )?;
@@ -159,30 +197,42 @@ fn reads_the_widest_row(rt: HostRuntime) -> Result<(), Fail> {
         text.extend_from_slice(b"7 ")?;
     }
     text.extend_from_slice(b"7\n")?;
+    Ok(text)
+}
+
+// The widest row, of equal cells: it is written as it was read.
+#[test]
+fn reads_the_widest_row(rt: HostRuntime) -> Result<(), Fail> {
+    let text = widest_row(&rt)?;
     let map = read(&rt, text.as_slice())?.map_err(|_| "a fault")?;
-    let mut sink = MemorySink::new(vec![in rt.alloc(); 0u8; 200000]?, 5000, false);
-    let length = write_map(&map, b"*", &mut sink).map_err(|_| "no room")?;
-    assert_eq!(rt; length, text.len() as u64);
-    assert!(rt; sink.bytes() == text.as_slice());
+    let sink = MemorySink::new(vec![in rt.alloc(); 0u8; 200000]?, 5000, false);
+    let found = written(&rt, &map, b"*", sink)?;
+    assert!(rt; found.as_slice() == text.as_slice());
     Ok(())
 }
 
-#[test]
-fn tells_faults_of_cells(rt: HostRuntime) -> Result<(), Fail> {
-    let six = b"north: 3\nsouth: 0\neast: 4\nwest: 0\nrows: 3\ncols: 4\n";
-    expect_fault(&rt, six, GridKind::TooFew, 7)?;
-    expect_fault(
-        &rt,
+// Texts with too few cells or too many.
+const CELL_FAULTS: [(&[u8], GridKind, u64); 3] = [
+    (
+        b"north: 3\nsouth: 0\neast: 4\nwest: 0\nrows: 3\ncols: 4\n",
+        GridKind::TooFew,
+        7,
+    ),
+    (
         b"north: 3\nsouth: 0\neast: 4\nwest: 0\nrows: 3\ncols: 4\n1 1 2 *\n1 2 2 2\n3 3 1\n",
         GridKind::TooFew,
         10,
-    )?;
-    expect_fault(
-        &rt,
+    ),
+    (
         b"north: 3\nsouth: 0\neast: 4\nwest: 0\nrows: 3\ncols: 4\n1 1 2 *\n1 2 2 2\n3 3 1 1 5\n",
         GridKind::TooMany,
         9,
-    )
+    ),
+];
+
+#[test]
+fn tells_faults_of_cells(rt: HostRuntime) -> Result<(), Fail> {
+    expect_faults(&rt, &CELL_FAULTS)
 }
 
 #[test]
@@ -210,19 +260,54 @@ fn reads_null_and_multiplier(rt: HostRuntime) -> Result<(), Fail> {
     )
 }
 
+// Texts that further bytes, all alike, turn into faults: the byte, their number and the fault that they have then.
+const LIMITS: [(&[u8], u8, u32, Option<GridFault>); 5] = [
+    (GRID, b' ', 1048575, None),
+    (
+        GRID,
+        b' ',
+        1048576,
+        Some(GridFault {
+            kind: GridKind::ReaderStuck,
+            line: 10,
+        }),
+    ),
+    (
+        b"north: 3 ",
+        b'1',
+        65,
+        Some(GridFault {
+            kind: GridKind::BadHeader,
+            line: 1,
+        }),
+    ),
+    (
+        b"north: ",
+        b'1',
+        65,
+        Some(GridFault {
+            kind: GridKind::LongToken,
+            line: 1,
+        }),
+    ),
+    (
+        b"north: 1\nsouth: 0\neast: 1\nwest: 0\nrows: 1\ncols: 1\n",
+        b'1',
+        65,
+        Some(GridFault {
+            kind: GridKind::LongToken,
+            line: 7,
+        }),
+    ),
+];
+
 #[test]
 fn limits_words_and_blanks(rt: HostRuntime) -> Result<(), Fail> {
-    let most = followed_by(&rt, GRID, b' ', 1048575)?;
-    assert_eq!(rt; read(&rt, most.as_slice())?.err(), None);
-    let more = followed_by(&rt, GRID, b' ', 1048576)?;
-    expect_fault(&rt, more.as_slice(), GridKind::ReaderStuck, 10)?;
-    let second = followed_by(&rt, b"north: 3 ", b'1', 65)?;
-    expect_fault(&rt, second.as_slice(), GridKind::BadHeader, 1)?;
-    let long = followed_by(&rt, b"north: ", b'1', 65)?;
-    expect_fault(&rt, long.as_slice(), GridKind::LongToken, 1)?;
-    let header = b"north: 1\nsouth: 0\neast: 1\nwest: 0\nrows: 1\ncols: 1\n";
-    let cell = followed_by(&rt, header, b'1', 65)?;
-    expect_fault(&rt, cell.as_slice(), GridKind::LongToken, 7)
+    for (text, byte, count, wanted) in LIMITS {
+        let text = followed_by(&rt, text, byte, count)?;
+        assert_eq!(rt; read(&rt, text.as_slice())?.err(), wanted);
+    }
+    Ok(())
 }
 
 // A text is put in blocks, and none of it is flushed.
@@ -235,24 +320,29 @@ fn writes_without_a_flush(rt: HostRuntime) -> Result<(), Fail> {
     };
     let length = write_map(&map, b"*", &mut sink).map_err(|_| "no room")?;
     assert_eq!(rt; length, GRID.len() as u64);
-    assert_eq!(rt; sink.puts, 1);
-    assert_eq!(rt; sink.flushes, 0);
+    assert_eq!(rt; (sink.puts, sink.flushes), (1, 0));
     Ok(())
+}
+
+// The text that is written of this one.
+fn written_again<R: Abort + AllocGlobal>(rt: &R, text: &[u8]) -> Result<Vec<u8>, Fail> {
+    let map = read(rt, text)?.map_err(|_| "a fault")?;
+    let sink = MemorySink::new(vec![in rt.alloc(); 0u8; 100]?, 3, false);
+    written(rt, &map, b"-9", sink)
 }
 
 #[test]
 fn reads_what_it_writes(rt: HostRuntime) -> Result<(), Fail> {
     let row = b"north: 10.50\nsouth: -.25\neast: 4.\nwest: +0\nrows: 1\ncols: 2\n7 *";
     let map = read(&rt, row)?.map_err(|_| "a fault")?;
-    let mut sink = MemorySink::new(vec![in rt.alloc(); 0u8; 100]?, 3, false);
-    let length = write_map(&map, b"-9", &mut sink).map_err(|_| "no room")?;
-    assert_eq!(rt; length, 71);
-    let again = read(&rt, sink.bytes())?.map_err(|_| "a fault")?;
+    let text = written_again(&rt, row)?;
+    assert_eq!(rt; text.len(), 71);
+    let again = read(&rt, text.as_slice())?.map_err(|_| "a fault")?;
     assert_eq!(rt; again.region(), map.region());
-    let region = again.region();
-    assert_eq!(rt; region.rows(), 1);
-    assert_eq!(rt; region.cols(), 2);
-    assert_eq!(rt; again.cell(0, 0).get(), Some(7));
-    assert_eq!(rt; again.cell(0, 1).get(), None);
+    assert_eq!(rt; (again.region().rows(), again.region().cols()), (1, 2));
+    assert_eq!(rt;
+        (category(&again, 0, 0), category(&again, 0, 1)),
+        (Some(7), None)
+    );
     Ok(())
 }

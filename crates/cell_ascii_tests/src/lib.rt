@@ -1,6 +1,7 @@
 //! What the definitions of a grid text say, as a plain program, and tests of the reader against it.
 #![tactic(auto)]
 
+#[cfg(test)]
 mod definition;
 #[cfg(test)]
 mod edits;

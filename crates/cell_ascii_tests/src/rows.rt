@@ -5,6 +5,7 @@ use cell_ascii::reader::GridReader;
 use cell_core::cell::Cell;
 use cell_core::source::MemorySource;
 use std::alloc::AllocGlobal;
+use std::process::Abort;
 use std::test::Fail;
 
 const FAILED: GridFault = GridFault {
@@ -16,6 +17,13 @@ fn open<R: AllocGlobal>(rt: &R, text: &[u8]) -> Result<GridReader<MemorySource>,
     let bytes = text.to_vec(rt.alloc())?;
     let opened = GridReader::open(rt.alloc(), MemorySource::new(bytes, 7, false));
     Ok(opened.map_err(|_| "no header")?)
+}
+
+fn expect_cells<R: Abort>(rt: &R, row: &[Cell], categories: &[i32]) {
+    assert_eq!(rt; row.len(), categories.len());
+    for (cell, category) in row.iter().zip(categories.iter()) {
+        assert_eq!(rt; cell.get(), Some(*category));
+    }
 }
 
 #[test]
@@ -38,23 +46,24 @@ fn stops_at_a_bad_cell(rt: HostRuntime) -> Result<(), Fail> {
         panic!(rt; "a reader that failed goes on");
     };
     assert_eq!(rt; again, FAILED);
-    let held = [3, 3, 2, 2];
-    assert_eq!(rt; row.len(), held.len());
-    for (cell, category) in row.iter().zip(held.iter()) {
-        assert_eq!(rt; cell.get(), Some(*category));
-    }
+    expect_cells(&rt, row, &[3, 3, 2, 2]);
     assert_eq!(rt; reader.finish(), Err(FAILED));
     Ok(())
 }
 
 #[test]
-fn reads_rows_to_the_end(rt: HostRuntime) -> Result<(), Fail> {
+fn tells_that_a_row_is_missing(rt: HostRuntime) -> Result<(), Fail> {
     let six = b"north: 3\nsouth: 0\neast: 4\nwest: 0\nrows: 3\ncols: 4\n";
     let mut reader = open(&rt, six)?;
     let mut cells = vec![in rt.alloc(); Cell::null(); reader.region().cols() as usize]?;
     let kind = GridKind::TooFew;
     let few = reader.next_row(cells.as_mut_slice());
     assert_eq!(rt; few, Err(GridFault { kind, line: 7 }));
+    Ok(())
+}
+
+#[test]
+fn reads_rows_to_the_end(rt: HostRuntime) -> Result<(), Fail> {
     let one = b"north: 1\nsouth: 0\neast: 1\nwest: 0\nrows: 1\ncols: 1\n7\n8";
     let mut reader = open(&rt, one)?;
     let mut cells = vec![in rt.alloc(); Cell::null(); reader.region().cols() as usize]?;

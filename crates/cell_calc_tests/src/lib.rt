@@ -2,7 +2,9 @@
 //! expressions and windows beside both.
 #![tactic(auto)]
 
+#[cfg(test)]
 mod definition;
+#[cfg(test)]
 mod evaluation;
 #[cfg(test)]
 mod random;

@@ -1,10 +1,11 @@
 //! Values of random expressions, beside those that the definition gives cell by cell.
 
 use crate::definition::value::value;
-use crate::evaluation::evaluate;
-use crate::tests::{at, expression, number_of, worked_names, worked_shelf};
-use cell_calc::resolve;
-use cell_core::cell::Cell;
+use crate::tests::{at, expression, map_of, number_of, worked_names, worked_shelf};
+use cell_calc::{Expr, resolve};
+use cell_core::map::CellMap;
+use cell_core::name::Names;
+use cell_core::shelf::Shelf;
 use std::alloc::{AllocGlobal, Global};
 use std::process::Abort;
 use std::test::Fail;
@@ -97,26 +98,40 @@ fn write(seed: &mut u64, levels: u32, text: &mut String) -> Result<(), Fail> {
     Ok(())
 }
 
-// The values of an expression by rows are those by the definition.
-fn expect_as_defined<R: Abort + AllocGlobal>(rt: &R, text: &str) -> Result<(), Fail> {
-    let alloc = rt.alloc();
-    let expr = expression(alloc, text.as_bytes())?;
-    let names = worked_names(alloc)?;
-    let shelf = worked_shelf(alloc)?;
-    let bound = resolve(alloc, &expr, &names).map_err(|_| "unknown map")?;
-    if bound.top() > shelf.len() {
-        return Err("no such map".into());
-    }
-    let map = evaluate(alloc, &bound, &shelf).map_err(|_| "no memory")?;
+// A map's cells are those that the definition gives an expression.
+fn expect_cells<R: Abort + AllocGlobal>(
+    rt: &R,
+    map: &CellMap,
+    expr: &Expr,
+    names: &Names,
+    shelf: &Shelf,
+    text: &str,
+) -> Result<(), Fail> {
     let region = shelf.region();
     for row in 0..region.rows() {
         for col in 0..region.cols() {
-            let wanted = value(alloc, expr.tree(), &names, &shelf, row, col);
+            let wanted = value(rt.alloc(), expr.tree(), names, shelf, row, col);
             let wanted = wanted.map_err(|_| "no memory")?;
-            assert_eq!(rt; at(&map, row, col), number_of(wanted), "{text} {row} {col}");
+            assert_eq!(rt; at(map, row, col), number_of(wanted), "{text} {row} {col}");
         }
     }
     Ok(())
+}
+
+// The map of an expression over the worked map, by rows.
+fn map_by_rows(alloc: Global, expr: &Expr, names: &Names, shelf: &Shelf) -> Result<CellMap, Fail> {
+    let bound = resolve(alloc, expr, names).map_err(|_| "unknown map")?;
+    map_of(alloc, &bound, shelf)
+}
+
+// The values of an expression by rows are those by the definition.
+fn expect_as_defined<R: Abort + AllocGlobal>(rt: &R, text: &str) -> Result<(), Fail> {
+    let alloc = rt.alloc();
+    let names = worked_names(alloc)?;
+    let shelf = worked_shelf(alloc)?;
+    let expr = expression(alloc, text.as_bytes())?;
+    let map = map_by_rows(alloc, &expr, &names, &shelf)?;
+    expect_cells(rt, &map, &expr, &names, &shelf, text)
 }
 
 #[test]

@@ -1,13 +1,14 @@
 //! Worked values of expressions over a map of three rows.
 
 use crate::evaluation::{evaluate, first_row};
-use cell_calc::{CalcFault, CalcKind, Expr, parse, resolve};
+use cell_calc::{Bound, CalcFault, CalcKind, Expr, parse, resolve};
 use cell_core::cell::Cell;
 use cell_core::map::{CellMap, MapBuilder};
 use cell_core::name::{Name, Names};
 use cell_core::region::Region;
 use cell_core::shelf::Shelf;
 use std::alloc::Global;
+use std::process::Abort;
 use std::test::Fail;
 
 pub(crate) const NULL: i32 = i32::MIN;
@@ -85,16 +86,24 @@ pub(crate) fn expression(alloc: Global, text: &[u8]) -> Result<Expr, Fail> {
     }
 }
 
-// The map of an expression over the worked map.
-pub(crate) fn values(alloc: Global, text: &[u8]) -> Result<CellMap, Fail> {
+// An expression over the places of names.
+pub(crate) fn bound_of(alloc: Global, names: &Names, text: &[u8]) -> Result<Bound, Fail> {
     let expr = expression(alloc, text)?;
-    let names = worked_names(alloc)?;
-    let shelf = worked_shelf(alloc)?;
-    let bound = resolve(alloc, &expr, &names).map_err(|_| "unknown map")?;
+    resolve(alloc, &expr, names).map_err(|_| "unknown map".into())
+}
+
+// The map of an expression over a shelf.
+pub(crate) fn map_of(alloc: Global, bound: &Bound, shelf: &Shelf) -> Result<CellMap, Fail> {
     if bound.top() > shelf.len() {
         return Err("no such map".into());
     }
-    evaluate(alloc, &bound, &shelf).map_err(|_| "no memory".into())
+    evaluate(alloc, bound, shelf).map_err(|_| "no memory".into())
+}
+
+// The map of an expression over the worked map.
+pub(crate) fn values(alloc: Global, text: &[u8]) -> Result<CellMap, Fail> {
+    let bound = bound_of(alloc, &worked_names(alloc)?, text)?;
+    map_of(alloc, &bound, &worked_shelf(alloc)?)
 }
 
 pub(crate) fn at(map: &CellMap, row: u32, col: u32) -> i32 {
@@ -105,58 +114,64 @@ pub(crate) fn at(map: &CellMap, row: u32, col: u32) -> i32 {
     NULL
 }
 
+// Expressions and the one value that each has everywhere.
+const VALUES: [(&str, i32); 41] = [
+    ("2147483647 + 1", NULL),
+    ("2147483647 + 2", NULL),
+    ("-2147483647 - 1", NULL),
+    ("1 + 2 * 3 - -4", 11),
+    ("7 / -2", -3),
+    ("-7 % 3", -1),
+    ("5 % 0", NULL),
+    ("2147483647 + 1 - 1", NULL),
+    ("1073741824 * -2", NULL),
+    ("65536 * 65536 * 0", NULL),
+    ("abs(-2147483647)", 2147483647),
+    ("-2147483647 / -1", 2147483647),
+    ("- - 3", 3),
+    ("if(0, null(), 4)", 4),
+    ("if(null(), 1, 2)", NULL),
+    ("if(7)", 1),
+    ("if(0, 3)", 0),
+    ("1 < 2 < 3", 1),
+    ("mode(1,1,null())", NULL),
+    ("mode(2,1,2,1)", 1),
+    ("max(3, null())", NULL),
+    ("nrows() * 100 + ncols()", 304),
+    ("10 - 4 - 3", 3),
+    ("!0 + 1", 2),
+    ("2 < 3 == 1", 1),
+    ("0 ? 5 : 1 ? 6 : 7", 6),
+    ("0 &&& null()", 0),
+    ("1 &&& null()", NULL),
+    ("null() ||| 5", 1),
+    ("0 ||| null()", NULL),
+    ("1 && 0 &&& null()", 0),
+    ("null() && 0 &&& 0", 0),
+    ("5 ||| null() && 0", 1),
+    ("eval(null(), 4)", 4),
+    ("eval(1, 2, 3)", 3),
+    ("nmin(null(), 2)", 2),
+    ("nmin(3, null(), 2)", 2),
+    ("nmax(null(), -4)", -4),
+    ("nmode(null(), null())", NULL),
+    ("nmode(2, null(), 1, 2, 1)", 1),
+    ("g[255,-255]", NULL),
+];
+
+fn expect_everywhere<R: Abort>(rt: &R, map: &CellMap, text: &str, wanted: i32) {
+    for row in 0..3 {
+        for col in 0..4 {
+            assert_eq!(rt; at(map, row, col), wanted, "{text} {row} {col}");
+        }
+    }
+}
+
 #[test]
 fn expressions_have_one_value_everywhere(rt: HostRuntime) -> Result<(), Fail> {
-    for (text, wanted) in [
-        (b"2147483647 + 1".as_slice(), NULL),
-        (b"2147483647 + 2", NULL),
-        (b"-2147483647 - 1", NULL),
-        (b"1 + 2 * 3 - -4", 11),
-        (b"7 / -2", -3),
-        (b"-7 % 3", -1),
-        (b"5 % 0", NULL),
-        (b"2147483647 + 1 - 1", NULL),
-        (b"1073741824 * -2", NULL),
-        (b"65536 * 65536 * 0", NULL),
-        (b"abs(-2147483647)", 2147483647),
-        (b"-2147483647 / -1", 2147483647),
-        (b"- - 3", 3),
-        (b"if(0, null(), 4)", 4),
-        (b"if(null(), 1, 2)", NULL),
-        (b"if(7)", 1),
-        (b"if(0, 3)", 0),
-        (b"1 < 2 < 3", 1),
-        (b"mode(1,1,null())", NULL),
-        (b"mode(2,1,2,1)", 1),
-        (b"max(3, null())", NULL),
-        (b"nrows() * 100 + ncols()", 304),
-        (b"10 - 4 - 3", 3),
-        (b"!0 + 1", 2),
-        (b"2 < 3 == 1", 1),
-        (b"0 ? 5 : 1 ? 6 : 7", 6),
-        (b"0 &&& null()", 0),
-        (b"1 &&& null()", NULL),
-        (b"null() ||| 5", 1),
-        (b"0 ||| null()", NULL),
-        (b"1 && 0 &&& null()", 0),
-        (b"null() && 0 &&& 0", 0),
-        (b"5 ||| null() && 0", 1),
-        (b"eval(null(), 4)", 4),
-        (b"eval(1, 2, 3)", 3),
-        (b"nmin(null(), 2)", 2),
-        (b"nmin(3, null(), 2)", 2),
-        (b"nmax(null(), -4)", -4),
-        (b"nmode(null(), null())", NULL),
-        (b"nmode(2, null(), 1, 2, 1)", 1),
-        (b"g[255,-255]", NULL),
-    ] {
-        let map = values(rt.alloc(), text)?;
-        let name = text.to_vec(rt.alloc())?;
-        for row in 0..3 {
-            for col in 0..4 {
-                assert_eq!(rt; at(&map, row, col), wanted, "{name:?} {row} {col}");
-            }
-        }
+    for (text, wanted) in VALUES {
+        let map = values(rt.alloc(), text.as_bytes())?;
+        expect_everywhere(&rt, &map, text, wanted);
     }
     Ok(())
 }
@@ -182,25 +197,29 @@ fn unknown_names_are_found(rt: HostRuntime) -> Result<(), Fail> {
     Ok(())
 }
 
+// Writes an expression's values along the first row into a slice, again where memory was refused, and answers as
+// [`first_row`] does.
+fn worked_row(alloc: Global, text: &[u8], cells: &mut [Cell]) -> Result<Option<bool>, Fail> {
+    let bound = bound_of(alloc, &worked_names(alloc)?, text)?;
+    let shelf = worked_shelf(alloc)?;
+    if bound.top() > shelf.len() || shelf.region().cols() as usize != cells.len() {
+        return Err("no such map".into());
+    }
+    first_row(alloc, &bound, &shelf, cells).map_err(|_| "no memory".into())
+}
+
 // Run as it is, each growth is granted: tools/hostile.py refuses them in turn, one in each run, and wants the row to be
 // evaluated again in some of them.
 #[test]
 fn a_refused_row_is_evaluated_again(rt: HostRuntime) -> Result<(), Fail> {
-    let alloc = rt.alloc();
-    let expr = expression(alloc, b"(g + 1) * (g[1,0] + 1) + max(g, mode(g, 1))")?;
-    let names = worked_names(alloc)?;
-    let shelf = worked_shelf(alloc)?;
-    let bound = resolve(alloc, &expr, &names).map_err(|_| "no memory")?;
-    if bound.top() > shelf.len() || shelf.region().cols() != 4 {
-        return Err("no such map".into());
-    }
+    let text = b"(g + 1) * (g[1,0] + 1) + max(g, mode(g, 1))";
     let mut cells = [cell_of(77); 4];
-    let again = first_row(alloc, &bound, &shelf, &mut cells).map_err(|_| "no memory")?;
-    if let Some(is_unchanged) = again {
+    if let Some(is_unchanged) = worked_row(rt.alloc(), text, &mut cells)? {
         let _ = eprintln!(rt; "made again");
         assert!(rt; is_unchanged);
     }
-    let numbers: Vec<i32> = cells.iter().map(|cell| number_of(*cell)).collect(alloc)?;
-    assert_eq!(rt; numbers.as_slice(), [5, 7, 11, NULL].as_slice());
+    for (cell, wanted) in cells.iter().zip([5, 7, 11, NULL].iter()) {
+        assert_eq!(rt; number_of(*cell), *wanted);
+    }
     Ok(())
 }

@@ -39,6 +39,22 @@ fn push_row<R: Abort + AllocGlobal + Eprint>(
     Ok(())
 }
 
+// Five of them.
+fn push_rows<R: Abort + AllocGlobal + Eprint>(
+    rt: &R,
+    builder: &mut MapBuilder,
+    row: &[Cell],
+) -> Result<(), Fail>
+    requires { length row.now ≡ builder.old.region.cols }
+    ensures { builder.new.region ≡ builder.old.region }
+{
+    push_row(rt, builder, row)?;
+    push_row(rt, builder, row)?;
+    push_row(rt, builder, row)?;
+    push_row(rt, builder, row)?;
+    push_row(rt, builder, row)
+}
+
 #[test]
 fn a_refused_row_is_pushed_again(rt: HostRuntime) -> Result<(), Fail> {
     let row = cells(rt.alloc(), &[1, 2, NULL, 2, 1, 1])?;
@@ -47,11 +63,7 @@ fn a_refused_row_is_pushed_again(rt: HostRuntime) -> Result<(), Fail> {
         return Err("no row".into());
     }
     let mut builder = MapBuilder::new(rt.alloc(), region);
-    push_row(&rt, &mut builder, row.as_slice())?;
-    push_row(&rt, &mut builder, row.as_slice())?;
-    push_row(&rt, &mut builder, row.as_slice())?;
-    push_row(&rt, &mut builder, row.as_slice())?;
-    push_row(&rt, &mut builder, row.as_slice())?;
+    push_rows(&rt, &mut builder, row.as_slice())?;
     if builder.rows_left() != 0 {
         return Err("rows are left".into());
     }

@@ -1,59 +1,106 @@
 //! Names, lists of names and the shelf.
 
 use crate::fixture::{NULL, map_of};
+use cell_core::map::CellMap;
 use cell_core::name::{Name, NameFault, Names};
 use cell_core::shelf::{Shelf, ShelfFault};
+use std::alloc::{AllocGlobal, Global};
+use std::process::Abort;
 use std::test::Fail;
+
+// Short texts that are names, and such as are none.
+const TEXTS: [(&[u8], Option<NameFault>); 6] = [
+    (b"1a", Some(NameFault::BadName)),
+    (b"", Some(NameFault::BadName)),
+    (b".a", Some(NameFault::BadName)),
+    (b"a-b", Some(NameFault::BadName)),
+    (b"_land.2", None),
+    (b"Z9", None),
+];
 
 #[test]
 fn reads_names(rt: HostRuntime) -> Result<(), Fail> {
-    let alloc = rt.alloc();
-    let long = vec![in alloc; b'a'; 65]?;
-    let table = [
+    for (text, fault) in TEXTS {
+        assert_eq!(rt; Name::read(rt.alloc(), text).err(), fault);
+    }
+    Ok(())
+}
+
+#[test]
+fn reads_names_of_64_bytes(rt: HostRuntime) -> Result<(), Fail> {
+    let long = vec![in rt.alloc(); b'a'; 65]?;
+    for (text, fault) in [
         (&long[..64], None),
         (long.as_slice(), Some(NameFault::BadName)),
-        (b"1a", Some(NameFault::BadName)),
-        (b"", Some(NameFault::BadName)),
-        (b".a", Some(NameFault::BadName)),
-        (b"a-b", Some(NameFault::BadName)),
-        (b"_land.2", None),
-        (b"Z9", None),
-    ];
-    for (text, fault) in table {
-        assert_eq!(rt; Name::read(alloc, text).err(), fault);
+    ] {
+        assert_eq!(rt; Name::read(rt.alloc(), text).err(), fault);
     }
-    let name = Name::read(alloc, b"_land.2")?;
-    let copy = name.copy(alloc)?;
+    Ok(())
+}
+
+#[test]
+fn copies_names(rt: HostRuntime) -> Result<(), Fail> {
+    let name = Name::read(rt.alloc(), b"_land.2")?;
+    let copy = name.copy(rt.alloc())?;
     assert_eq!(rt; copy.bytes(), b"_land.2".as_slice());
     Ok(())
 }
 
 #[test]
-fn finds_names_and_maps(rt: HostRuntime) -> Result<(), Fail> {
-    let alloc = rt.alloc();
-    let first = map_of(alloc, 1, 3, &[7, NULL, 1])?.ok_or("a map")?;
-    let second = map_of(alloc, 1, 3, &[1, 1, 1])?.ok_or("a map")?;
-    let other = map_of(alloc, 1, 2, &[1, 1])?.ok_or("a map")?;
-    let mut names = Names::new(alloc);
-    let mut shelf = Shelf::new(alloc, first.region());
-    names.push(Name::read(alloc, b"g")?)?;
-    assert!(rt; shelf.add(Name::read(alloc, b"g")?, first).is_ok());
-    assert!(rt; names.len() == 1 && shelf.len() == 1);
+fn finds_names(rt: HostRuntime) -> Result<(), Fail> {
+    let mut names = Names::new(rt.alloc());
+    names.push(Name::read(rt.alloc(), b"g")?)?;
+    assert_eq!(rt; names.len(), 1);
     assert_eq!(rt; names.find(b"g"), Some(0));
-    assert_eq!(rt; shelf.find(b"g"), Some(0));
-    assert_eq!(rt; shelf.find(b"h"), None);
+    Ok(())
+}
+
+// A shelf with one map, under the name g.
+fn shelf_of_one(alloc: Global) -> Result<Shelf, Fail> {
+    let map = map_of(alloc, 1, 3, &[7, NULL, 1])?.ok_or("a map")?;
+    let mut shelf = Shelf::new(alloc, map.region());
+    let name = Name::read(alloc, b"g")?;
+    if shelf.add(name, map).is_err() {
+        return Err("not added".into());
+    }
+    Ok(shelf)
+}
+
+#[test]
+fn finds_maps(rt: HostRuntime) -> Result<(), Fail> {
+    let shelf = shelf_of_one(rt.alloc())?;
+    if shelf.len() != 1 {
+        return Err("not one map".into());
+    }
+    assert_eq!(rt; (shelf.find(b"g"), shelf.find(b"h")), (Some(0), None));
     assert_eq!(rt; shelf.name(0).bytes(), b"g".as_slice());
     assert!(rt; shelf.map(0).region() == shelf.region());
-    let refused = shelf
-        .add(Name::read(alloc, b"g")?, second)
-        .err()
-        .ok_or("refused")?;
-    assert_eq!(rt; refused.fault, ShelfFault::Exists);
-    assert_eq!(rt; refused.name.bytes(), b"g".as_slice());
-    let refused = shelf
-        .add(Name::read(alloc, b"h")?, other)
-        .err()
-        .ok_or("refused")?;
-    assert_eq!(rt; refused.fault, ShelfFault::OtherRegion);
     Ok(())
+}
+
+// Why a shelf with one map refuses another, and the name that comes back.
+fn expect_refused<R: Abort + AllocGlobal>(
+    rt: &R,
+    name: &[u8],
+    map: CellMap,
+    fault: ShelfFault,
+) -> Result<(), Fail> {
+    let mut shelf = shelf_of_one(rt.alloc())?;
+    let name_read = Name::read(rt.alloc(), name)?;
+    let refused = shelf.add(name_read, map).err().ok_or("refused")?;
+    assert_eq!(rt; refused.fault, fault);
+    assert_eq!(rt; refused.name.bytes(), name);
+    Ok(())
+}
+
+#[test]
+fn refuses_a_name_that_is_there(rt: HostRuntime) -> Result<(), Fail> {
+    let map = map_of(rt.alloc(), 1, 3, &[1, 1, 1])?.ok_or("a map")?;
+    expect_refused(&rt, b"g", map, ShelfFault::Exists)
+}
+
+#[test]
+fn refuses_another_region(rt: HostRuntime) -> Result<(), Fail> {
+    let map = map_of(rt.alloc(), 1, 2, &[1, 1])?.ok_or("a map")?;
+    expect_refused(&rt, b"h", map, ShelfFault::OtherRegion)
 }

@@ -106,183 +106,187 @@ fn expect_tables<R: Abort + AllocGlobal>(
     Ok(())
 }
 
+const OF_ONE_MAP: [(&[usize], Skip, &[u8], &str); 3] = [
+    (&[0], Skip::Nothing, b"", "1 5\n2 4\n3 2\n* 1\n"),
+    (&[0], Skip::AnyNull, b"", "1 5\n2 4\n3 2\n"),
+    (&[0], Skip::Nothing, b"*", ""),
+];
+
 #[test]
 fn tables_of_one_map(rt: HostRuntime) -> Result<(), Fail> {
-    let counts = Format::new(b' ', b"*", false, true);
+    let format = Format::new(b' ', b"*", false, true);
     let shelf = shelf_of(rt.alloc(), &[&G], 4)?;
-    let cases: [(&[usize], Skip, &[u8], &str); 3] = [
-        (&[0], Skip::Nothing, b"", "1 5\n2 4\n3 2\n* 1\n"),
-        (&[0], Skip::AnyNull, b"", "1 5\n2 4\n3 2\n"),
-        (&[0], Skip::Nothing, b"*", ""),
-    ];
-    expect_tables(&rt, &shelf, &counts, &cases)?;
-    let plain = Format::new(b' ', b"*", false, false);
+    expect_tables(&rt, &shelf, &format, &OF_ONE_MAP)
+}
+
+#[test]
+fn a_table_without_counts(rt: HostRuntime) -> Result<(), Fail> {
+    let format = Format::new(b' ', b"*", false, false);
+    let shelf = shelf_of(rt.alloc(), &[&G], 4)?;
     expect_table(
         &rt,
         &shelf,
         &[0],
         Skip::Nothing,
-        &plain,
+        &format,
         b"",
         "1\n2\n3\n*\n",
     )
 }
 
+const OF_NULL: [(&[usize], Skip, &[u8], &str); 3] = [
+    (&[0], Skip::Nothing, b"", "* 1\n"),
+    (&[0], Skip::AnyNull, b"", ""),
+    (&[0], Skip::AllNull, b"", ""),
+];
+
 #[test]
 fn tables_of_null(rt: HostRuntime) -> Result<(), Fail> {
-    let counts = Format::new(b' ', b"*", false, true);
+    let format = Format::new(b' ', b"*", false, true);
     let null = shelf_of(rt.alloc(), &[&[NULL]], 1)?;
-    let cases: [(&[usize], Skip, &[u8], &str); 3] = [
-        (&[0], Skip::Nothing, b"", "* 1\n"),
-        (&[0], Skip::AnyNull, b"", ""),
-        (&[0], Skip::AllNull, b"", ""),
-    ];
-    expect_tables(&rt, &null, &counts, &cases)
+    expect_tables(&rt, &null, &format, &OF_NULL)
 }
+
+const OF_TWO_MAPS: [(&[usize], Skip, &[u8], &str); 16] = [
+    (&[0, 0], Skip::Nothing, b"", "1 1 5\n2 2 4\n3 3 2\n* * 1\n"),
+    (
+        &[0, 2],
+        Skip::Nothing,
+        b"",
+        "1 1 3\n1 4 2\n2 2 4\n3 3 2\n* * 1\n",
+    ),
+    (
+        &[0, 2],
+        Skip::Nothing,
+        b"1,2",
+        "1 4 2\n2 2 4\n3 3 2\n* * 1\n",
+    ),
+    (&[0, 2], Skip::Nothing, b"*,*", ""),
+    (
+        &[0, 1],
+        Skip::AnyNull,
+        b"",
+        "1 1 2\n1 2 2\n2 2 2\n3 1 1\n3 3 1\n",
+    ),
+    (
+        &[0, 1],
+        Skip::AllNull,
+        b"",
+        "1 1 2\n1 2 2\n1 * 1\n2 2 2\n2 * 2\n3 1 1\n3 3 1\n",
+    ),
+    (
+        &[0, 1],
+        Skip::Nothing,
+        b"",
+        "1 1 2\n1 2 2\n1 * 1\n2 2 2\n2 * 2\n3 1 1\n3 3 1\n* * 1\n",
+    ),
+    (
+        &[0, 1],
+        Skip::Nothing,
+        b"1,1",
+        "1 2 2\n1 * 1\n2 2 2\n2 * 2\n3 1 1\n3 3 1\n* * 1\n",
+    ),
+    (
+        &[0, 1],
+        Skip::Nothing,
+        b"1,2",
+        "1 * 1\n2 2 2\n2 * 2\n3 1 1\n3 3 1\n* * 1\n",
+    ),
+    (
+        &[0, 1],
+        Skip::Nothing,
+        b"1,*",
+        "2 2 2\n2 * 2\n3 1 1\n3 3 1\n* * 1\n",
+    ),
+    (
+        &[0, 1],
+        Skip::Nothing,
+        b"2,1",
+        "2 2 2\n2 * 2\n3 1 1\n3 3 1\n* * 1\n",
+    ),
+    (
+        &[0, 1],
+        Skip::Nothing,
+        b"2,2",
+        "2 * 2\n3 1 1\n3 3 1\n* * 1\n",
+    ),
+    (&[0, 1], Skip::Nothing, b"2,*", "3 1 1\n3 3 1\n* * 1\n"),
+    (&[0, 1], Skip::Nothing, b"3,1", "3 3 1\n* * 1\n"),
+    (&[0, 1], Skip::Nothing, b"3,3", "* * 1\n"),
+    (&[0, 1], Skip::Nothing, b"*,*", ""),
+];
 
 #[test]
 fn tables_of_two_maps(rt: HostRuntime) -> Result<(), Fail> {
     let format = Format::new(b' ', b"*", false, true);
     let shelf = shelf_of(rt.alloc(), &[&G, &X, &AREAS], 4)?;
-    let cases: [(&[usize], Skip, &[u8], &str); 16] = [
-        (&[0, 0], Skip::Nothing, b"", "1 1 5\n2 2 4\n3 3 2\n* * 1\n"),
-        (
-            &[0, 2],
-            Skip::Nothing,
-            b"",
-            "1 1 3\n1 4 2\n2 2 4\n3 3 2\n* * 1\n",
-        ),
-        (
-            &[0, 2],
-            Skip::Nothing,
-            b"1,2",
-            "1 4 2\n2 2 4\n3 3 2\n* * 1\n",
-        ),
-        (&[0, 2], Skip::Nothing, b"*,*", ""),
-        (
-            &[0, 1],
-            Skip::AnyNull,
-            b"",
-            "1 1 2\n1 2 2\n2 2 2\n3 1 1\n3 3 1\n",
-        ),
-        (
-            &[0, 1],
-            Skip::AllNull,
-            b"",
-            "1 1 2\n1 2 2\n1 * 1\n2 2 2\n2 * 2\n3 1 1\n3 3 1\n",
-        ),
-        (
-            &[0, 1],
-            Skip::Nothing,
-            b"",
-            "1 1 2\n1 2 2\n1 * 1\n2 2 2\n2 * 2\n3 1 1\n3 3 1\n* * 1\n",
-        ),
-        (
-            &[0, 1],
-            Skip::Nothing,
-            b"1,1",
-            "1 2 2\n1 * 1\n2 2 2\n2 * 2\n3 1 1\n3 3 1\n* * 1\n",
-        ),
-        (
-            &[0, 1],
-            Skip::Nothing,
-            b"1,2",
-            "1 * 1\n2 2 2\n2 * 2\n3 1 1\n3 3 1\n* * 1\n",
-        ),
-        (
-            &[0, 1],
-            Skip::Nothing,
-            b"1,*",
-            "2 2 2\n2 * 2\n3 1 1\n3 3 1\n* * 1\n",
-        ),
-        (
-            &[0, 1],
-            Skip::Nothing,
-            b"2,1",
-            "2 2 2\n2 * 2\n3 1 1\n3 3 1\n* * 1\n",
-        ),
-        (
-            &[0, 1],
-            Skip::Nothing,
-            b"2,2",
-            "2 * 2\n3 1 1\n3 3 1\n* * 1\n",
-        ),
-        (&[0, 1], Skip::Nothing, b"2,*", "3 1 1\n3 3 1\n* * 1\n"),
-        (&[0, 1], Skip::Nothing, b"3,1", "3 3 1\n* * 1\n"),
-        (&[0, 1], Skip::Nothing, b"3,3", "* * 1\n"),
-        (&[0, 1], Skip::Nothing, b"*,*", ""),
-    ];
-    expect_tables(&rt, &shelf, &format, &cases)
+    expect_tables(&rt, &shelf, &format, &OF_TWO_MAPS)
+}
+
+// A map and one of its classes, of which one has a label.
+fn labelled_shelf(alloc: Global) -> Result<Shelf, Fail> {
+    let mut shelf = shelf_of(alloc, &[&[1, 2, 3, 9, NULL]], 5)?;
+    let mut made = map_of(alloc, &[7, NULL, 7, 9, NULL], 5)?.ok_or("no map")?;
+    made.set_label(7, b"low")?;
+    add(alloc, &mut shelf, b"r", made)?;
+    Ok(shelf)
+}
+
+#[test]
+fn labels(rt: HostRuntime) -> Result<(), Fail> {
+    let format = Format::new(b' ', b"*", true, true);
+    let shelf = labelled_shelf(rt.alloc())?;
+    let wanted = "7 low 2\n9  1\n* no data 2\n";
+    expect_table(&rt, &shelf, &[1], Skip::Nothing, &format, b"", wanted)
 }
 
 #[test]
 fn labels_and_separators(rt: HostRuntime) -> Result<(), Fail> {
-    let mut shelf = shelf_of(rt.alloc(), &[&[1, 2, 3, 9, NULL]], 5)?;
-    let mut made = map_of(rt.alloc(), &[7, NULL, 7, 9, NULL], 5)?.ok_or("no map")?;
-    made.set_label(7, b"low")?;
-    add(rt.alloc(), &mut shelf, b"r", made)?;
-    let spaced = Format::new(b' ', b"*", true, true);
-    expect_table(
-        &rt,
-        &shelf,
-        &[1],
-        Skip::Nothing,
-        &spaced,
-        b"",
-        "7 low 2\n9  1\n* no data 2\n",
-    )?;
-    let piped = Format::new(b'|', b"NA", true, true);
-    expect_table(
-        &rt,
-        &shelf,
-        &[1, 0],
-        Skip::Nothing,
-        &piped,
-        b"7,1",
-        "7|low|3||1\n9||9||1\nNA|no data|2||1\nNA|no data|NA|no data|1\n",
-    )?;
-    let commas = Format::new(b',', b"NA", false, true);
-    let short = shelf_of(rt.alloc(), &[&[5, NULL, 5]], 3)?;
-    expect_table(
-        &rt,
-        &short,
-        &[0, 0],
-        Skip::Nothing,
-        &commas,
-        b"",
-        "5,5,2\nNA,NA,1\n",
-    )
+    let format = Format::new(b'|', b"NA", true, true);
+    let shelf = labelled_shelf(rt.alloc())?;
+    let wanted = "7|low|3||1\n9||9||1\nNA|no data|2||1\nNA|no data|NA|no data|1\n";
+    expect_table(&rt, &shelf, &[1, 0], Skip::Nothing, &format, b"7,1", wanted)
 }
 
 #[test]
-fn cells_line_by_line(rt: HostRuntime) -> Result<(), Fail> {
+fn separators(rt: HostRuntime) -> Result<(), Fail> {
+    let format = Format::new(b',', b"NA", false, true);
+    let shelf = shelf_of(rt.alloc(), &[&[5, NULL, 5]], 3)?;
+    let wanted = "5,5,2\nNA,NA,1\n";
+    expect_table(&rt, &shelf, &[0, 0], Skip::Nothing, &format, b"", wanted)
+}
+
+#[test]
+fn cells_of_one_map(rt: HostRuntime) -> Result<(), Fail> {
     let format = Format::new(b' ', b"*", false, false);
-    let labels = Format::new(b'|', b"NA", true, true);
-    let one = shelf_of(rt.alloc(), &[&[5, NULL, 5]], 3)?;
-    let two = shelf_of(rt.alloc(), &[&[1, 1, 2, NULL], &[1, NULL, NULL, NULL]], 2)?;
-    let cases: [(&Shelf, &[usize], Skip, &Format, &str); 5] = [
-        (&one, &[0], Skip::Nothing, &format, "5\n*\n5\n"),
-        (&one, &[0], Skip::AnyNull, &format, "5\n5\n"),
-        (
-            &two,
-            &[0, 1],
-            Skip::Nothing,
-            &format,
-            "1 1\n1 *\n2 *\n* *\n",
-        ),
-        (&two, &[0, 1], Skip::AllNull, &format, "1 1\n1 *\n2 *\n"),
-        (
-            &two,
-            &[1],
-            Skip::Nothing,
-            &labels,
-            "1|\nNA|no data\nNA|no data\nNA|no data\n",
-        ),
-    ];
-    for (shelf, picks, skip, format, wanted) in cases {
-        expect_cells(&rt, shelf, picks, skip, format, wanted)?;
+    let shelf = shelf_of(rt.alloc(), &[&[5, NULL, 5]], 3)?;
+    for (skip, wanted) in [(Skip::Nothing, "5\n*\n5\n"), (Skip::AnyNull, "5\n5\n")] {
+        expect_cells(&rt, &shelf, &[0], skip, &format, wanted)?;
     }
     Ok(())
+}
+
+const PAIR: [&[i32]; 2] = [&[1, 1, 2, NULL], &[1, NULL, NULL, NULL]];
+
+#[test]
+fn cells_of_two_maps(rt: HostRuntime) -> Result<(), Fail> {
+    let format = Format::new(b' ', b"*", false, false);
+    let shelf = shelf_of(rt.alloc(), &PAIR, 2)?;
+    for (skip, wanted) in [
+        (Skip::Nothing, "1 1\n1 *\n2 *\n* *\n"),
+        (Skip::AllNull, "1 1\n1 *\n2 *\n"),
+    ] {
+        expect_cells(&rt, &shelf, &[0, 1], skip, &format, wanted)?;
+    }
+    Ok(())
+}
+
+#[test]
+fn cells_with_labels(rt: HostRuntime) -> Result<(), Fail> {
+    let format = Format::new(b'|', b"NA", true, true);
+    let shelf = shelf_of(rt.alloc(), &PAIR, 2)?;
+    let wanted = "1|\nNA|no data\nNA|no data\nNA|no data\n";
+    expect_cells(&rt, &shelf, &[1], Skip::Nothing, &format, wanted)
 }
 
 #[test]
@@ -295,33 +299,39 @@ fn sink_without_room(rt: HostRuntime) -> Result<(), Fail> {
     Ok(())
 }
 
+// What a sink of so much room takes of the cells, by blocks; the block holds nothing more then.
+fn expect_cells_cut<R: Abort + AllocGlobal>(
+    rt: &R,
+    shelf: &Shelf,
+    picks: &[usize],
+    format: &Format,
+    room: Vec<u8>,
+) -> Result<Vec<u8>, Fail> {
+    if !are_picks(shelf, picks) {
+        return Err(Fail::from("no picks"));
+    }
+    let written = room.len() as u64;
+    let mut out = MemorySink::new(room, 4096, false);
+    let mut block = Block::new();
+    let walk = CellWalk::new(rt.alloc(), shelf, picks)?;
+    let skip = Skip::Nothing;
+    let ended = write_cells(&mut out, &mut block, walk, shelf, picks, skip, format);
+    assert!(rt; ended == Err(WriteFault { written }));
+    assert_eq!(rt; block.written(), written);
+    assert!(rt; block.empty(&mut out) == Ok(()));
+    Ok(Vec::from_slice(rt.alloc(), out.bytes())?)
+}
+
 #[test]
 fn sink_without_room_for_cells(rt: HostRuntime) -> Result<(), Fail> {
     let format = Format::new(b' ', b"*", false, false);
     let row = vec![in rt.alloc(); 12; 3000]?;
     let shelf = shelf_of(rt.alloc(), &[row.as_slice()], 3000)?;
-    let picks = [0];
-    if !are_picks(&shelf, &picks) {
-        return Err(Fail::from("no picks"));
-    }
-    let mut out = MemorySink::new(vec![in rt.alloc(); 0u8; 5000]?, 4096, false);
-    let mut block = Block::new();
-    let walk = CellWalk::new(rt.alloc(), &shelf, &picks)?;
-    let ended = write_cells(
-        &mut out,
-        &mut block,
-        walk,
-        &shelf,
-        &picks,
-        Skip::Nothing,
-        &format,
-    );
-    assert!(rt; ended == Err(WriteFault { written: 5000 }));
-    assert_eq!(rt; (block.written(), out.bytes().len()), (5000, 5000));
-    for line in out.bytes().chunks(3) {
+    let room = vec![in rt.alloc(); 0u8; 5000]?;
+    let bytes = expect_cells_cut(&rt, &shelf, &[0], &format, room)?;
+    assert_eq!(rt; bytes.len(), 5000);
+    for line in bytes.chunks(3) {
         assert!(rt; b"12\n".starts_with(line));
     }
-    // The block holds nothing more.
-    assert!(rt; block.empty(&mut out) == Ok(()));
     Ok(())
 }

@@ -29,23 +29,25 @@ fn pair_of(alloc: Global, text: &[u8]) -> Result<[i32; 2], ComboFault> {
     Ok([first, second])
 }
 
+// Texts, and the two categories or the fault of each.
+const TEXTS: [(&[u8], Result<[i32; 2], ComboFault>); 12] = [
+    (b"1,*", Ok([1, NULL])),
+    (b"*,*", Ok([NULL, NULL])),
+    (b"-2147483647,+007", Ok([-2147483647, 7])),
+    (b"1,x", Err(ComboFault::BadCombo)),
+    (b"1", Err(ComboFault::BadWidth)),
+    (b"1,2,3", Err(ComboFault::BadWidth)),
+    (b"1,2,x", Err(ComboFault::BadCombo)),
+    (b"1,-2147483648", Err(ComboFault::BadCombo)),
+    (b"1,2147483648", Err(ComboFault::BadCombo)),
+    (b"", Err(ComboFault::BadCombo)),
+    (b"1,", Err(ComboFault::BadCombo)),
+    (b"1, 2", Err(ComboFault::BadCombo)),
+];
+
 #[test]
 fn texts_of_combinations(rt: HostRuntime) -> Result<(), Fail> {
-    let cases: [(&[u8], Result<[i32; 2], ComboFault>); 12] = [
-        (b"1,*", Ok([1, NULL])),
-        (b"*,*", Ok([NULL, NULL])),
-        (b"-2147483647,+007", Ok([-2147483647, 7])),
-        (b"1,x", Err(ComboFault::BadCombo)),
-        (b"1", Err(ComboFault::BadWidth)),
-        (b"1,2,3", Err(ComboFault::BadWidth)),
-        (b"1,2,x", Err(ComboFault::BadCombo)),
-        (b"1,-2147483648", Err(ComboFault::BadCombo)),
-        (b"1,2147483648", Err(ComboFault::BadCombo)),
-        (b"", Err(ComboFault::BadCombo)),
-        (b"1,", Err(ComboFault::BadCombo)),
-        (b"1, 2", Err(ComboFault::BadCombo)),
-    ];
-    for (text, want) in cases {
+    for (text, want) in TEXTS {
         assert_eq!(rt; pair_of(rt.alloc(), text), want, "{text:?}");
     }
     Ok(())
@@ -68,24 +70,26 @@ fn after(alloc: Global, table: &Table, text: &[u8]) -> Result<(Option<u64>, usiz
     Ok((first, many))
 }
 
+// Combinations, the count of the first entry after each, and how many are after it.
+const ENTRIES_AFTER: [(&[u8], Option<u64>, usize); 10] = [
+    (b"0,9", Some(2), 8),
+    (b"1,1", Some(2), 7),
+    (b"1,2", Some(1), 6),
+    (b"1,*", Some(2), 5),
+    (b"2,1", Some(2), 5),
+    (b"2,2", Some(2), 4),
+    (b"2,*", Some(1), 3),
+    (b"3,1", Some(1), 2),
+    (b"3,3", Some(1), 1),
+    (b"*,*", None, 0),
+];
+
 #[test]
 fn entries_after_a_combination(rt: HostRuntime) -> Result<(), Fail> {
     let shelf = shelf_of(rt.alloc(), &[&G, &X], 4)?;
     let table = table_of(rt.alloc(), &shelf, &[0, 1])?;
     assert!(rt; table.len() == 8);
-    let cases: [(&[u8], Option<u64>, usize); 10] = [
-        (b"0,9", Some(2), 8),
-        (b"1,1", Some(2), 7),
-        (b"1,2", Some(1), 6),
-        (b"1,*", Some(2), 5),
-        (b"2,1", Some(2), 5),
-        (b"2,2", Some(2), 4),
-        (b"2,*", Some(1), 3),
-        (b"3,1", Some(1), 2),
-        (b"3,3", Some(1), 1),
-        (b"*,*", None, 0),
-    ];
-    for (text, first, many) in cases {
+    for (text, first, many) in ENTRIES_AFTER {
         let found = after(rt.alloc(), &table, text)?;
         assert_eq!(rt; found, (first, many), "after {text:?}");
     }
