@@ -1,7 +1,6 @@
 //! What the definitions of a grid text say, as a plain program, and tests of the reader against it.
 #![tactic(auto)]
 
-#[cfg(test)]
 mod definition;
 #[cfg(test)]
 mod edits;

@@ -4,6 +4,7 @@ ghost use Rattle.std.specs.Prelude.{◌≡◌};
 ghost use Rattle.cell_ascii_text.specs.Places.{ends_token, ends_line, is_end};
 ghost use Rattle.cell_ascii_tests.specs.Seen.{place_seen};
 
+#[cfg(test)]
 use crate::definition::words;
 
 /// A byte, the end of a text, or a failing read.
@@ -15,6 +16,7 @@ pub(crate) enum Place {
 }
 
 /// A blank or line feed, or the end.
+#[cfg(test)]
 pub(crate) fn ends_token(place: Place) -> bool
     ensures { result ≡ ends_token (place_seen place) }
 {
@@ -26,6 +28,7 @@ pub(crate) fn ends_token(place: Place) -> bool
 }
 
 /// A line feed, or the end.
+#[cfg(test)]
 pub(crate) fn ends_line(place: Place) -> bool
     ensures { result ≡ ends_line (place_seen place) }
 {
@@ -37,6 +40,7 @@ pub(crate) fn ends_line(place: Place) -> bool
 }
 
 /// The end of a text.
+#[cfg(test)]
 pub(crate) fn is_end(place: Place) -> bool
     ensures { result ≡ is_end (place_seen place) }
 {
