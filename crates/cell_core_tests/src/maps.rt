@@ -46,10 +46,28 @@ fn gives_the_runs_of_cells(rt: HostRuntime) -> Result<(), Fail> {
     expect_runs(&rt, &map, 0, &[(1, 2), (2, 2), (3, 2)])?;
     expect_runs(&rt, &map, 1, &[(1, 2), (2, 1), (3, 3)])?;
     expect_runs(&rt, &map, 2, &[(1, 2), (2, 4)])?;
-    let map = map_of(rt.alloc(), 2, 6, &[1, 2, 2, 3, 3, 3, NULL, NULL, 1, 2, NULL, 3])?.ok_or("a map")?;
+    let map = map_of(
+        rt.alloc(),
+        2,
+        6,
+        &[1, 2, 2, 3, 3, 3, NULL, NULL, 1, 2, NULL, 3],
+    )?
+    .ok_or("a map")?;
     expect_runs(&rt, &map, 0, &[(1, 1), (2, 2), (3, 3)])?;
-    expect_runs(&rt, &map, 1, &[(NULL, 2), (1, 1), (2, 1), (NULL, 1), (3, 1)])?;
-    for (row, col, wanted) in [(0, 0, 1), (0, 2, 2), (0, 5, 3), (1, 1, NULL), (1, 3, 2), (1, 5, 3)] {
+    expect_runs(
+        &rt,
+        &map,
+        1,
+        &[(NULL, 2), (1, 1), (2, 1), (NULL, 1), (3, 1)],
+    )?;
+    for (row, col, wanted) in [
+        (0, 0, 1),
+        (0, 2, 2),
+        (0, 5, 3),
+        (1, 1, NULL),
+        (1, 3, 2),
+        (1, 5, 3),
+    ] {
         assert!(rt; row < map.region().rows() && col < map.region().cols());
         assert_eq!(rt; map.cell(row, col), cell(wanted), "{row} {col}");
     }
