@@ -248,3 +248,34 @@ fn is_flushed_once_unless_refused_or_failed(rt: HostRuntime) -> Result<(), Fail>
     }
     Ok(())
 }
+
+fn counted<R: AllocGlobal>(rt: &R) -> Result<(Outcome, u32), Fail> {
+    let mut out = Counting {
+        room: 200,
+        has_failed: false,
+        flushes: 0,
+    };
+    let script = Unknown::new(SCRIPT, Then::Ends);
+    let grid = Unknown::new(GRID, Then::Ends);
+    let outcome = run_sources(rt.alloc(), script, grid, &mut out)?;
+    Ok((outcome, out.flushes))
+}
+
+// A run that is out of memory in a statement is flushed once, as one that is done; one that is out of memory before is not.
+#[test]
+fn a_run_out_of_memory_is_flushed_and_made_again(rt: HostRuntime) -> Result<(), Fail> {
+    let (outcome, flushes) = counted(&rt)?;
+    if outcome.status == 0 {
+        assert_eq!(rt; flushes, 1);
+        return Ok(());
+    }
+    let is_in_statement = match outcome.fault {
+        Some(RunFault::Memory { line }) => line > 0,
+        _ => false,
+    };
+    assert_eq!(rt; (outcome.status, flushes), (3, u32::from(is_in_statement)));
+    let _ = eprintln!(rt; "made again");
+    let (again, flushes) = counted(&rt)?;
+    assert_eq!(rt; (again.status, flushes), (0, 1));
+    Ok(())
+}
