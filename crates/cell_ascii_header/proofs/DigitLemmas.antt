@@ -6,7 +6,7 @@ use Rattle.std.proofs.lemmas.Bool.Decides.{nat_tests}
 use Rattle.std.proofs.Math.Nat.{mul-le-mul_right, pow-suc, pow-le-pow_right, one-le-pow}
 use Rattle.std.proofs.lemmas.Nat.{pow-add}
 use Rattle.cell_ascii_text.specs.Numbers.{is_digit, value_of_digits, in_units}
-use Rattle.cell_ascii_header.specs.Capped.{capped}
+use Rattle.cell_text.specs.Capped.{capped}
 
 both : (a b : Bool) → (a && b) ≡ true → (a ≡ true) × (b ≡ true)
 both true b e = (refl, e)

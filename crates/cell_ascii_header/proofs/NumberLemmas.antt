@@ -5,7 +5,7 @@ use Rattle.std.specs.Option.{option_map}
 use Rattle.std.proofs.lemmas.Bool.Decides.{nat_tests}
 use Rattle.std.proofs.lemmas.Int.{ints}
 use Rattle.cell_ascii_text.specs.Numbers.{is_in_range, whole_number, digits_of}
-use Rattle.cell_ascii_header.specs.Capped.{capped, capped_number}
+use Rattle.cell_text.specs.Capped.{capped, capped_number}
 use Rattle.cell_ascii_text.specs.Cells.{cell_of_number}
 use Rattle.cell_ascii_text.specs.declared.fault.GridKind.TheVariants.{CellRange}
 

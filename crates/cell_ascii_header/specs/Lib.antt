@@ -1,7 +1,7 @@
--- The bytes of a source, the scanner of words, numbers as they are computed, a header line by line.
+-- The bytes of a source, the scanner of words, the cell of a number, a header line by line.
 pub mod Ahead
 pub mod Scan
 pub mod Steps
-pub mod Capped
+pub mod InRange
 pub mod Given
 pub mod Opening

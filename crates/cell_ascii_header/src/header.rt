@@ -2,14 +2,14 @@
 
 ghost use Rattle.std.specs.Prelude.{◌≡◌, Some, bytes_eq};
 ghost use Rattle.cell_ascii_text.specs.Cells.{cell_of_word, cell_of_number};
-ghost use Rattle.cell_ascii_header.specs.Capped.{cell_in_range};
+ghost use Rattle.cell_ascii_header.specs.InRange.{cell_in_range};
 ghost use Rattle.cell_ascii_text.specs.Numbers.{whole_number};
 
 use crate::null_text::NullText;
-use crate::number;
 use cell_ascii_text::fault::GridKind;
 use cell_core::cell::Cell;
 use cell_core::region::Region;
+use cell_text::numbers;
 use std::marker::Model;
 
 /// The region, the text that stands for null, and the number that each cell is multiplied by.
@@ -24,7 +24,7 @@ pub struct Header {
 
 impl Model for Header {
     ghost use Rattle.std.specs.Prelude.{◌≡◌};
-    ghost use Rattle.cell_ascii_header.specs.Capped.{capped_number};
+    ghost use Rattle.cell_text.specs.Capped.{capped_number};
     ghost use Rattle.cell_ascii_text.specs.Header.{Header};
 
     ghost Value = { Header };
@@ -37,7 +37,7 @@ impl Model for Header {
 fn in_range(number: i64) -> Result<Cell, GridKind>
     ensures { result ≡ cell_in_range number }
 {
-    if !number::is_in_range(number) {
+    if !numbers::is_in_range(number) {
         return Err(GridKind::CellRange);
     }
     match Cell::value(number as i32) {
@@ -50,7 +50,7 @@ fn in_range(number: i64) -> Result<Cell, GridKind>
 fn cell_of_number(multiplier: i32, number: i64) -> Result<Cell, GridKind>
     ensures { result ≡ cell_of_number multiplier (Some number) }
 {
-    if !number::is_in_range(number) {
+    if !numbers::is_in_range(number) {
         return Err(GridKind::CellRange);
     }
     // The usual multiplier is no reason to look at the range once more.
@@ -100,7 +100,7 @@ impl Header {
         let Some(null) = self.null_number else {
             return false;
         };
-        if null != number && number::is_in_range(number) {
+        if null != number && numbers::is_in_range(number) {
             return false;
         }
         self.null_text.is(word)
@@ -113,7 +113,7 @@ impl Header {
         if self.null_text.is(word) {
             return Ok(Cell::null());
         }
-        match number::whole_number(word) {
+        match numbers::whole_number(word) {
             Some(number) => cell_of_number(self.multiplier, number),
             None => Err(GridKind::BadCell),
         }

@@ -10,6 +10,7 @@ use crate::number;
 use cell_ascii_text::fault::GridKind;
 use cell_ascii_text::key::Key;
 use cell_core::region::{Region, RegionFault};
+use cell_text::numbers;
 use std::marker::Model;
 
 /// The keys that stood so far, each with its value.
@@ -124,7 +125,7 @@ impl Keys {
             Some(Key::Null) => self.null = Some(given_null(&self.null, text)?),
             Some(Key::CellType) => self.kind = given_type(self.kind, text)?,
             Some(Key::Multiplier) => {
-                self.multiplier = Some(given(self.multiplier, number::whole_in_range(text))?)
+                self.multiplier = Some(given(self.multiplier, numbers::whole_in_range(text))?)
             }
         }
         Ok(())

@@ -2,9 +2,9 @@
 
 ghost use Rattle.std.specs.Prelude.{◌≡◌, ◌≤◌, length, bytes_eq};
 ghost use Rattle.cell_ascii_text.specs.Header.{usual_null};
-ghost use Rattle.cell_ascii_header.specs.Capped.{capped_number};
+ghost use Rattle.cell_text.specs.Capped.{capped_number};
 
-use crate::number;
+use cell_text::numbers;
 use std::marker::Model;
 
 /// A text of at most 64 bytes.
@@ -55,10 +55,10 @@ impl NullText {
         word == &self.bytes[..self.len]
     }
 
-    /// The number that this text is, if it is one. One out of every range is answered by another that is.
+    /// The number that this text is, if it is one. One below -10^18 or above 10^18 comes as that bound.
     pub fn number(&self) -> Option<i64>
         ensures { result ≡ capped_number self.now }
     {
-        number::whole_number(&self.bytes[..self.len])
+        numbers::whole_number(&self.bytes[..self.len])
     }
 }

@@ -1,76 +1,13 @@
-//! Whole numbers and coordinates in decimal.
+//! Sides and coordinates in decimal.
 
-ghost use Rattle.std.specs.Prelude.{◌≡◌, ◌&&◌, ◌==◌, ◌+◌, ◌*◌, ◌<◌, ◌≤◌, ◌^◌, nat_le, length, Option, IfSome};
-ghost use Rattle.std.specs.List.{list_all, position_or_len};
-ghost use Rattle.cell_ascii_text.specs.Numbers.{is_digit, value_of_digits, in_units, unsigned_coordinate, coordinate, whole_in_range, is_in_range, side};
-ghost use Rattle.cell_ascii_header.specs.Capped.{capped, capped_digits, capped_number};
+ghost use Rattle.std.specs.Prelude.{◌≡◌, ◌&&◌, ◌==◌, ◌+◌, ◌<◌, ◌≤◌, nat_le, length, IfSome};
+ghost use Rattle.std.specs.List.{position_or_len};
+ghost use Rattle.cell_ascii_text.specs.Numbers.{in_units, unsigned_coordinate, coordinate, side};
 
-// Greater than each number that is in range.
-const CAP: u64 = 1000000000000000000;
+use cell_text::numbers::{are_digits, value_of_digits, whole_in_range};
 
-/// A decimal digit.
-pub fn is_digit(b: u8) -> bool
-    ensures { result ≡ is_digit b }
-{
-    b'0' <= b && b <= b'9'
-}
-
-fn are_digits(text: &[u8]) -> bool
-    ensures { result ≡ list_all is_digit text.now }
-{
-    text.iter().all(|b| is_digit(*b))
-}
-
-// The value of digits, capped.
-fn value_of_digits(text: &[u8]) -> u64
-    ensures value { result ≡ capped (value_of_digits text.now) }
-    ensures most { result ≤ CAP }
-{
-    let mut value = 0u64;
-    for b in text {
-        value = (value * 10 + (*b).saturating_sub(b'0') as u64).min(CAP);
-    }
-    value
-}
-
-// The value of one or more digits, capped.
-fn digits_of(text: &[u8]) -> Option<u64>
-    ensures value { result ≡ capped_digits text.now }
-    ensures most { IfSome result (λ n. n ≤ CAP) }
-{
-    if text.is_empty() || !are_digits(text) {
-        return None;
-    }
-    Some(value_of_digits(text))
-}
-
-/// A whole number: an optional sign and digits. One out of every range is answered by another that is.
-pub fn whole_number(text: &[u8]) -> Option<i64>
-    ensures { result ≡ capped_number text.now }
-{
-    match text {
-        [b'-', digits @ ..] => digits_of(digits).map(|n| -(n as i64)),
-        [b'+', digits @ ..] => digits_of(digits).map(|n| n as i64),
-        _ => digits_of(text).map(|n| n as i64),
-    }
-}
-
-/// From -2147483647 to 2147483647.
-pub fn is_in_range(n: i64) -> bool
-    ensures { result ≡ is_in_range n }
-{
-    -2147483647 <= n && n <= 2147483647
-}
-
-/// A whole number in range.
-pub fn whole_in_range(text: &[u8]) -> Option<i32>
-    ensures { result ≡ whole_in_range text.now }
-{
-    match whole_number(text) {
-        Some(n) if is_in_range(n) => Some(n as i32),
-        _ => None,
-    }
-}
+// Greater than each coordinate in units.
+const UNITS_CAP: u64 = 1000000000000000000;
 
 /// A number of rows or columns: a whole number in range, where a negative one counts none.
 pub fn side(text: &[u8]) -> Option<u32>
@@ -88,7 +25,7 @@ fn are_short(whole: usize, part: usize) -> bool
 // In units of 10^-8.
 fn in_units(whole: &[u8], part: &[u8]) -> Option<u64>
     ensures value { result ≡ in_units whole.now part.now }
-    ensures most { IfSome result (λ n. n < CAP) }
+    ensures most { IfSome result (λ n. n < UNITS_CAP) }
 {
     if !are_digits(whole) || !are_digits(part) || !are_short(whole.len(), part.len()) {
         return None;
@@ -112,7 +49,7 @@ pub fn place_of(byte: u8, text: &[u8]) -> usize
 
 fn unsigned_coordinate(text: &[u8]) -> Option<u64>
     ensures value { result ≡ unsigned_coordinate text.now }
-    ensures most { IfSome result (λ n. n < CAP) }
+    ensures most { IfSome result (λ n. n < UNITS_CAP) }
 {
     let point = place_of(b'.', text);
     if point < text.len() {

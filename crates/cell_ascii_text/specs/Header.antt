@@ -1,7 +1,7 @@
 -- The header of a grid text, from the bytes to come: key lines, up to the end of the first word of the data (r.in.ascii manual; the limits are the profile's).
 pub use Rattle.cell_ascii_text.specs.GridWords.{Header, is_colon, has_colon, is_int, usual_null, usual_multiplier}
-use Rattle.std.specs.Prelude.{ℕ, ℤ, pos, zero, suc, ◌+◌, Bool, true, false, ◌&&◌, ◌==◌, not, nat_lt, List, [], ◌∷◌, drop, Option, Some, None, Result, Ok, Err, if◌then◌else◌, bytes_eq, codes, unwrap_or}
-use Rattle.std.specs.List.{prefix_len, list_any, before_first, after_first}
+use Rattle.std.specs.Prelude.{ℕ, ℤ, zero, suc, ◌+◌, Bool, true, false, ◌&&◌, ◌==◌, not, nat_lt, List, [], ◌∷◌, drop, Option, Some, None, Result, Ok, Err, if◌then◌else◌, unwrap_or}
+use Rattle.std.specs.List.{prefix_len, before_first, after_first}
 use Rattle.cell_core.specs.Device.{Coming}
 use Rattle.cell_core.specs.Region.{RegionValue, region_fault}
 use Rattle.cell_core.specs.declared.region.RegionFault.{RegionFault}

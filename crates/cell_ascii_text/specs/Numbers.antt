@@ -1,43 +1,9 @@
 -- Whole numbers and coordinates in decimal (r.in.ascii manual; the numbers of digits are the profile's).
-use Rattle.std.specs.Prelude.{ℕ, ℤ, pos, negsuc, neg_ℤ, int_le, ◌+◌, ◌-◌, ◌*◌, ◌^◌, Bool, nat_le, ◌&&◌, ◌==◌, List, [], ◌∷◌, fold, length, Option, Some, None, if◌then◌else◌}
+use Rattle.std.specs.Prelude.{ℕ, ℤ, pos, negsuc, ◌+◌, ◌-◌, ◌*◌, ◌^◌, nat_le, ◌&&◌, ◌==◌, List, length, Option, Some, None, if◌then◌else◌}
 use Rattle.std.specs.List.{list_all, before_first, after_first}
 use Rattle.std.specs.Option.{option_map}
-
--- a decimal digit
-abbrev pub is_digit : ℕ → Bool
-is_digit b = nat_le 48 b && nat_le b 57
-
--- the value of decimal digits
-abbrev pub value_of_digits : List ℕ → ℕ
-value_of_digits bs = fold (λ n b. n * 10 + (b - 48)) 0 bs
-
--- the value of one or more digits
-abbrev pub digits_of : List ℕ → Option ℕ
-digits_of [] = None
-digits_of (b ∷ bs) = if list_all is_digit (b ∷ bs) then Some (value_of_digits (b ∷ bs)) else None
-
--- what stands behind an optional sign, read by `unsigned`
-abbrev pub signed : (List ℕ → Option ℕ) → List ℕ → Option ℤ
-signed unsigned [] = None
-signed unsigned (b ∷ bs) =
-    if b == 45 then option_map (λ n. neg_ℤ (pos n)) (unsigned bs)
-    else (if b == 43 then option_map pos (unsigned bs) else option_map pos (unsigned (b ∷ bs)))
-
--- an optional sign and one or more digits
-abbrev pub whole_number : List ℕ → Option ℤ
-whole_number bs = signed digits_of bs
-
--- from -2147483647 to 2147483647
-abbrev pub is_in_range : ℤ → Bool
-is_in_range n = int_le (negsuc 2147483646) n && int_le n (pos 2147483647)
-
--- a whole number in range
-abbrev pub whole_in_range : List ℕ → Option ℤ
-whole_in_range bs = keep (whole_number bs)
-  where
-    keep : Option ℤ → Option ℤ
-    keep None = None
-    keep (Some n) = if is_in_range n then Some n else None
+pub use Rattle.cell_text.specs.Digits.{is_digit, value_of_digits, digits_of}
+pub use Rattle.cell_text.specs.WholeNumbers.{signed, whole_number, is_in_range, whole_in_range}
 
 -- at most ten digits, and at most eight behind the point, one at least in all, in units of 10^-8
 abbrev pub in_units : List ℕ → List ℕ → Option ℕ

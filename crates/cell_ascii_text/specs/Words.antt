@@ -1,6 +1,6 @@
 -- Words of a grid text: what stands before the next word, and the word (profile: blanks, line feeds and their limits).
 pub use Rattle.cell_ascii_text.specs.GridWords.{is_space}
-use Rattle.std.specs.Prelude.{ℕ, ◌+◌, ◌-◌, Bool, true, false, ◌||◌, ◌==◌, not, nat_lt, List, [], ◌∷◌, ◌++◌, length, take, drop, count_by, Result, Ok, Err, if◌then◌else◌}
+use Rattle.std.specs.Prelude.{ℕ, ◌+◌, ◌-◌, Bool, true, false, ◌==◌, not, nat_lt, List, [], ◌∷◌, ◌++◌, length, take, drop, count_by, Result, Ok, Err, if◌then◌else◌}
 use Rattle.std.specs.List.{prefix_len}
 use Rattle.cell_core.specs.Device.{Coming}
 use Rattle.cell_ascii_text.specs.declared.fault.GridKind.{GridKind}

@@ -7,7 +7,9 @@ use Rattle.std.specs.Prelude.{nat_lt, not}
 use Rattle.cell_core.specs.Name.{is_name, is_name_byte, is_name_start, starts_name}
 use Rattle.cell_language.proofs.Longest.{both_true, not_true, sign-passes, word-longest, sign-longest}
 use Rattle.cell_language.proofs.Pieces.{pieces-blank, pieces-first, tokens_of-cons}
-use Rattle.cell_language.specs.Tokens.{is_blank, is_digit, sign_of, value_of, Piece, pieces, piece_length, word_of, token_of, tokens_of, next_token, token_list}
+use Rattle.cell_text.specs.Blanks.{is_blank}
+use Rattle.cell_text.specs.Digits.{is_digit, value_of_digits}
+use Rattle.cell_language.specs.Tokens.{sign_of, Piece, pieces, piece_length, word_of, token_of, tokens_of, next_token, token_list}
 use Rattle.cell_language.specs.Spelling.{Spells, IsLongest, AreSpelled}
 use Rattle.cell_language.specs.Spelling as spelling
 use Rattle.cell_language.specs.declared.token.Placed.{Placed}
@@ -72,7 +74,7 @@ digits-start (b ∷ bs) some h = digit-is_name_start b (both_true (is_digit b) (
 spells-token : (c : ℕ) (bytes : List ℕ) (t : Token) → Spells bytes t → token_of c bytes ≡ Ok t
 unfolding word_of
 spells-token c bytes (token.Number n) is =
-    let low : nat_le (value_of bytes) 2147483647 ≡ true = grind (arith, nat_tests) in
+    let low : nat_le (value_of_digits bytes) 2147483647 ≡ true = grind (arith, nat_tests) in
     rw (digits-are_name_bytes bytes is.1, digits-start bytes is.0 is.1, is.1, low) (ap (λ m. Ok (token.Number m)) is.2)
 spells-token c bytes (token.Name name) is =
     let named : is_name bytes ≡ true = rw is.0 is.1 in

@@ -1,6 +1,7 @@
 -- How the pieces of a text follow from its front, and its tokens from those before.
 use Rattle.std.proofs.Common.{◌≡◌, ℕ, zero, suc, ◌+◌, ◌-◌, true, false, List, [], ◌∷◌, ◌++◌, length, take, drop, refl, ap, sym, ◌∙◌, arith, append_assoc, append-nil, Result, Ok, Err, inl, inr, ◌<◌}
-use Rattle.cell_language.specs.Tokens.{is_blank, Piece, pieces, piece_length, tokens_of, next_token, before, token_list, IsTold}
+use Rattle.cell_text.specs.Blanks.{is_blank}
+use Rattle.cell_language.specs.Tokens.{Piece, pieces, piece_length, tokens_of, next_token, before, token_list, IsTold}
 use Rattle.cell_language.specs.declared.fault.CalcFault.{CalcFault}
 use Rattle.cell_language.specs.declared.token.Placed.{Placed}
 

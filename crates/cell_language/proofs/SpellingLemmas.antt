@@ -7,7 +7,9 @@ use Rattle.std.specs.Option.{option_map, ok_or}
 use Rattle.cell_core.specs.Name.{is_name, is_name_byte, starts_name}
 use Rattle.cell_language.proofs.Longest.{piece_length-within, piece-longest}
 use Rattle.cell_language.proofs.Pieces.{pieces-blank, pieces-opened, tokens_of-cons}
-use Rattle.cell_language.specs.Tokens.{fault, value_of, name_of, number_of, not_whole, is_blank, is_digit, Piece, pieces, piece_length, word_of, mark_of, token_of, placed, tokens_of, next_token, before, token_list, sign_of}
+use Rattle.cell_text.specs.Blanks.{is_blank}
+use Rattle.cell_text.specs.Digits.{value_of_digits, is_digit}
+use Rattle.cell_language.specs.Tokens.{fault, name_of, number_of, not_whole, Piece, pieces, piece_length, word_of, mark_of, token_of, placed, tokens_of, next_token, before, token_list, sign_of}
 use Rattle.cell_language.specs.Spelling.{Spells, AreSpelled}
 use Rattle.cell_language.specs.Spelling as spelling
 use Rattle.cell_language.specs.declared.fault.CalcFault.{CalcFault}
@@ -43,9 +45,9 @@ name-spells c bytes t starts all is =
 number-spells : (c : ℕ) (bytes : List ℕ) (t : Token) → 0 < length bytes → list_all is_digit bytes ≡ true →
     number_of c bytes ≡ Ok t → Spells bytes t
 number-spells c bytes t some digits is =
-    elim (chosen (nat_le (value_of bytes) 2147483647) (Ok (token.Number (value_of bytes))) (Err (fault BadNumber c)) t is) [
-      | inl h ↦ let e : token.Number (value_of bytes) ≡ t = cc in
-          let low : value_of bytes ≤ 2147483647 = grind (arith, nat_tests) in
+    elim (chosen (nat_le (value_of_digits bytes) 2147483647) (Ok (token.Number (value_of_digits bytes))) (Err (fault BadNumber c)) t is) [
+      | inl h ↦ let e : token.Number (value_of_digits bytes) ≡ t = cc in
+          let low : value_of_digits bytes ≤ 2147483647 = grind (arith, nat_tests) in
           subst (Spells bytes) e (some, digits, refl, low)
       | inr h ↦ cc
     ]

@@ -1,8 +1,10 @@
 -- The tokens of an assignment (operators: r.mapcalc manual; limits and faults: profile).
-use Rattle.std.specs.Prelude.{◌≡◌, ◌⊎◌, ℕ, zero, suc, ◌+◌, ◌-◌, ◌*◌, Bool, ◌++◌, ◌||◌, ◌==◌, nat_le, nat_lt, List, [], ◌∷◌, length, take, map, fold, find, codes, bytes_eq, nat_eq, Option, Result, Ok, Err, if◌then◌else◌}
+use Rattle.std.specs.Prelude.{◌≡◌, ◌⊎◌, ℕ, zero, suc, ◌+◌, ◌-◌, Bool, ◌++◌, ◌||◌, ◌==◌, nat_le, nat_lt, List, [], ◌∷◌, length, take, map, find, codes, bytes_eq, nat_eq, Option, Result, Ok, Err, if◌then◌else◌}
 use Rattle.std.specs.List.{prefix_len, list_all, list_any, starts_with}
 use Rattle.std.specs.Option.{option_map, option_map_or, ok_or}
-use Rattle.cell_core.specs.Name.{is_between, is_name_byte, starts_name}
+use Rattle.cell_core.specs.Name.{is_name_byte, starts_name}
+use Rattle.cell_text.specs.Blanks.{is_blank}
+use Rattle.cell_text.specs.Digits.{is_digit, value_of_digits}
 use Rattle.cell_language.specs.declared.fault.CalcFault.{CalcFault}
 use Rattle.cell_language.specs.declared.fault.CalcKind.{CalcKind}
 use Rattle.cell_language.specs.declared.fault.CalcKind.TheVariants.{BadByte, BadNumber, FloatNumber, TooLong, BadName, Memory}
@@ -23,18 +25,6 @@ no_memory = fault Memory 0
 -- a fault that may be told where this is wanted: its own, or want of memory
 abbrev pub IsTold : {T : Type 0} → Result T CalcFault → CalcFault → Type 0
 IsTold wanted told = (told ≡ no_memory) ⊎ (wanted ≡ Err told)
-
--- a space, a tab or a carriage return
-abbrev pub is_blank : ℕ → Bool
-is_blank b = (b == 32 || b == 9) || b == 13
-
--- a decimal digit
-abbrev pub is_digit : ℕ → Bool
-is_digit b = is_between 48 57 b
-
--- the value of decimal digits
-abbrev pub value_of : List ℕ → ℕ
-value_of digits = fold (λ n b. n * 10 + (b - 48)) 0 digits
 
 -- the signs of three bytes
 abbrev pub triple_signs : List (List ℕ × Sign)
@@ -77,7 +67,7 @@ name_of column bytes = if nat_le (length bytes) 64 then Ok (token.Name bytes) el
 -- a number is at most the greatest category
 abbrev pub number_of : ℕ → List ℕ → Result Token CalcFault
 number_of column digits =
-    if nat_le (value_of digits) 2147483647 then Ok (token.Number (value_of digits)) else Err (fault BadNumber column)
+    if nat_le (value_of_digits digits) 2147483647 then Ok (token.Number (value_of_digits digits)) else Err (fault BadNumber column)
 
 -- a word is a name where it begins with a letter or an underscore, and else a number
 unfoldable pub word_of : ℕ → List ℕ → Result Token CalcFault

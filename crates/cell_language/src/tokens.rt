@@ -1,15 +1,17 @@
 //! Cuts an assignment into its tokens.
 
-ghost use Rattle.std.specs.Prelude.{◌≡◌, ◌+◌, ◌<◌, ◌≤◌, IfOk, IfErr, IsTrue, Ok, true, length, min, false, nat_eq, [], ◌∷◌, ◌||◌, ◌==◌};
+ghost use Rattle.std.specs.Prelude.{◌≡◌, ◌+◌, ◌<◌, ◌≤◌, IfOk, IfErr, IsTrue, Ok, true, length, false, nat_eq, [], ◌∷◌, ◌||◌, ◌==◌};
 ghost use Rattle.std.specs.List.{list_all, list_any, prefix_len, starts_with};
-ghost use Rattle.cell_core.specs.Name.{is_name_start, is_name_byte, starts_name};
+ghost use Rattle.cell_core.specs.Name.{is_name_byte, starts_name};
 ghost use Rattle.cell_language.specs.Spelling.{AreSpelled, ListIsSpelled};
-ghost use Rattle.cell_language.specs.Tokens.{is_blank, is_digit, value_of, sign_of, triple_signs, double_signs, mark_length, piece_length, is_float_byte, not_whole, name_of, number_of, word_of, mark_of, token_of, next_token, token_list, fault, IsTold};
+ghost use Rattle.cell_language.specs.Tokens.{sign_of, triple_signs, double_signs, mark_length, piece_length, is_float_byte, not_whole, name_of, number_of, word_of, mark_of, token_of, next_token, token_list, fault, IsTold};
 ghost use Rattle.cell_language.specs.declared.fault.CalcKind.TheVariants.{FloatNumber, BadNumber};
 
 use crate::fault::{CalcFault, CalcKind};
 use crate::token::{Placed, Sign, Token};
-use cell_core::name::{Name, NameFault};
+use cell_core::name::{Name, NameFault, is_name_byte, starts_name};
+use cell_text::blanks::is_blank;
+use cell_text::numbers::{are_digits, value_of_digits};
 use std::alloc::Global;
 
 /// The greatest number of tokens of an assignment (profile).
@@ -17,9 +19,6 @@ const TOKEN_LIMIT: usize = 1000;
 
 /// The greatest category, as of GRASS's CELL type.
 const GREATEST_NUMBER: u64 = 2147483647;
-
-/// Above the greatest number, and small enough to take one more digit.
-const NUMBER_CAP: u64 = 4294967295;
 
 /// Out of memory, which has no column.
 const NO_MEMORY: CalcFault = CalcFault {
@@ -33,45 +32,6 @@ fn fault(kind: CalcKind, column: u32) -> CalcFault
     CalcFault { kind, column }
 }
 
-fn is_blank(b: u8) -> bool
-    ensures { result ≡ is_blank b }
-{
-    b == b' ' || b == b'\t' || b == b'\r'
-}
-
-fn is_digit(b: u8) -> bool
-    ensures { result ≡ is_digit b }
-{
-    b'0' <= b && b <= b'9'
-}
-
-fn is_name_start(b: u8) -> bool
-    ensures { result ≡ is_name_start b }
-{
-    (b'A' <= b && b <= b'Z') || (b'a' <= b && b <= b'z') || b == b'_'
-}
-
-fn is_name_byte(b: u8) -> bool
-    ensures { result ≡ is_name_byte b }
-{
-    is_name_start(b) || is_digit(b) || b == b'.'
-}
-
-fn starts_name(text: &[u8]) -> bool
-    ensures { result ≡ starts_name text.now }
-{
-    match text {
-        [] => false,
-        [first, ..] => is_name_start(*first),
-    }
-}
-
-fn are_digits(bytes: &[u8]) -> bool
-    ensures { result ≡ list_all is_digit bytes.now }
-{
-    bytes.iter().all(|b| is_digit(*b))
-}
-
 fn are_name_bytes(bytes: &[u8]) -> bool
     ensures { result ≡ list_all is_name_byte bytes.now }
 {
@@ -82,17 +42,6 @@ fn is_float_byte(b: u8) -> bool
     ensures { result ≡ is_float_byte b }
 {
     b == b'.' || b == b'e' || b == b'E'
-}
-
-// The value of digits, and no more than is out of range.
-fn value_of(digits: &[u8]) -> u64
-    ensures { result ≡ min (value_of digits.now) NUMBER_CAP }
-{
-    let mut value = 0u64;
-    for b in digits {
-        value = (value * 10 + (*b).saturating_sub(b'0') as u64).min(NUMBER_CAP);
-    }
-    value
 }
 
 fn single_sign(b: u8) -> Option<Sign>
@@ -224,7 +173,7 @@ fn not_whole(bytes: &[u8]) -> CalcKind
 fn number_of(digits: &[u8], column: u32) -> Result<Token, CalcFault>
     ensures { result ≡ number_of column digits.now }
 {
-    let value = value_of(digits);
+    let value = value_of_digits(digits);
     if value <= GREATEST_NUMBER {
         Ok(Token::Number(value as u32))
     } else {

@@ -1,7 +1,6 @@
 //! The line of an r.mapcalc.
 
 ghost use Rattle.std.specs.Prelude.{◌≡◌, ◌≢◌, ◌≤◌, IfOk, IfErr, Ok, Err, length};
-ghost use Rattle.cell_text.specs.Blanks.{after_blanks};
 ghost use Rattle.cell_script.specs.RMapcalc.{after_word, after_command, assignment_text};
 ghost use Rattle.cell_script.specs.Commands.{mapcalc_of, IsMapcalc};
 ghost use Rattle.cell_script.specs.parts.Sound.{FitsHead};
@@ -14,19 +13,8 @@ use cell_core::memory::Memory;
 use cell_core::name::Names;
 use cell_language::assignment::{Assignment, parse};
 use cell_language::fault::CalcKind;
-use cell_text::blanks::is_blank;
+use cell_text::blanks::{after_blanks, is_blank};
 use std::alloc::Global;
-
-fn after_blanks<'a>(text: &'a [u8]) -> &'a [u8]
-    ensures text { result.now ≡ after_blanks text.now }
-    ensures shorter { length result.now ≤ length text.now }
-{
-    let mut rest = text;
-    while let [b' ' | b'\t' | b'\r', others @ ..] = rest {
-        rest = others;
-    }
-    rest
-}
 
 fn after_word<'a>(text: &'a [u8]) -> &'a [u8]
     ensures text { result.now ≡ after_word text.now }

@@ -2,5 +2,5 @@
 pub mod Blanks
 pub mod Digits
 pub mod WholeNumbers
+pub mod Capped
 pub mod Words
-pub mod parts

@@ -6,12 +6,16 @@ use Rattle.cell_text.specs.declared.numbers.TheConstants.{LEAST, GREATEST}
 use Rattle.cell_text.specs.declared.numbers.WholeFault.{WholeFault}
 use Rattle.cell_text.specs.declared.numbers.WholeFault.TheVariants.{NotWhole, OutOfRange}
 
+-- what comes after an optional sign, read by `unsigned`
+abbrev pub signed : (List ℕ → Option ℕ) → List ℕ → Option ℤ
+signed unsigned [] = None
+signed unsigned (b ∷ bs) =
+    if b == 45 then option_map (λ n. neg_ℤ (pos n)) (unsigned bs)
+    else (if b == 43 then option_map pos (unsigned bs) else option_map pos (unsigned (b ∷ bs)))
+
 -- an optional sign and one or more digits
 abbrev pub whole_number : List ℕ → Option ℤ
-whole_number [] = None
-whole_number (b ∷ bs) =
-    if b == 45 then option_map (λ n. neg_ℤ (pos n)) (digits_of bs)
-    else (if b == 43 then option_map pos (digits_of bs) else option_map pos (digits_of (b ∷ bs)))
+whole_number bs = signed digits_of bs
 
 -- from -2147483647 to 2147483647
 abbrev pub is_in_range : ℤ → Bool

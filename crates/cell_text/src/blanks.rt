@@ -1,6 +1,6 @@
 //! Blanks, and texts without the blanks at their ends.
 
-ghost use Rattle.std.specs.Prelude.{◌≡◌};
+ghost use Rattle.std.specs.Prelude.{◌≡◌, ◌≤◌, length};
 ghost use Rattle.std.specs.List.{before_first, after_first};
 ghost use Rattle.cell_text.specs.Blanks.{is_blank, after_blanks, before_blanks, trimmed};
 
@@ -11,8 +11,10 @@ pub fn is_blank(b: u8) -> bool
     b == b' ' || b == b'\t' || b == b'\r'
 }
 
-fn after_blanks<'a>(text: &'a [u8]) -> &'a [u8]
-    ensures { result.now ≡ after_blanks text.now }
+/// The text without the blanks at its start. Takes no memory.
+pub fn after_blanks<'a>(text: &'a [u8]) -> &'a [u8]
+    ensures text { result.now ≡ after_blanks text.now }
+    ensures shorter { length result.now ≤ length text.now }
 {
     let mut rest = text;
     while let [b' ' | b'\t' | b'\r', others @ ..] = rest {

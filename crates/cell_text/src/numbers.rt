@@ -4,7 +4,7 @@ ghost use Rattle.std.specs.Prelude.{◌≡◌, ◌≤◌, IfSome};
 ghost use Rattle.std.specs.List.{list_all};
 ghost use Rattle.cell_text.specs.Digits.{is_digit, value_of_digits};
 ghost use Rattle.cell_text.specs.WholeNumbers.{is_in_range, read_whole, whole_in_range};
-ghost use Rattle.cell_text.specs.parts.Capped.{capped, capped_digits, capped_number};
+ghost use Rattle.cell_text.specs.Capped.{capped, capped_digits, capped_number};
 
 /// The least whole number in range (GRASS: the least category).
 pub const LEAST: i32 = -2147483647;
@@ -12,7 +12,7 @@ pub const LEAST: i32 = -2147483647;
 /// The greatest whole number in range (GRASS: the greatest category).
 pub const GREATEST: i32 = 2147483647;
 
-// Greater than each number that is in range.
+// What greater numbers count as. It is out of every range.
 const CAP: u64 = 1000000000000000000;
 
 /// Why a text is no whole number in range.
@@ -31,16 +31,17 @@ pub fn is_digit(b: u8) -> bool
     b'0' <= b && b <= b'9'
 }
 
-fn are_digits(text: &[u8]) -> bool
+/// Whether each byte is a decimal digit. Takes no memory.
+pub fn are_digits(text: &[u8]) -> bool
     ensures { result ≡ list_all is_digit text.now }
 {
     text.iter().all(|b| is_digit(*b))
 }
 
-// The value of digits, capped.
-fn value_of_digits(text: &[u8]) -> u64
+/// The value of decimal digits, or 10^18 where it is greater. Takes no memory.
+pub fn value_of_digits(text: &[u8]) -> u64
     ensures value { result ≡ capped (value_of_digits text.now) }
-    ensures most { result ≤ CAP }
+    ensures most { result ≤ 1000000000000000000 }
 {
     let mut value = 0u64;
     for b in text {
@@ -60,8 +61,9 @@ fn digits_of(text: &[u8]) -> Option<u64>
     Some(value_of_digits(text))
 }
 
-// An optional sign and digits. A number out of range may come as another that is out of range too.
-fn whole_number(text: &[u8]) -> Option<i64>
+/// The whole number that a text spells: an optional sign and one or more digits. One below -10^18 or above 10^18 comes as
+/// that bound. Takes no memory.
+pub fn whole_number(text: &[u8]) -> Option<i64>
     ensures { result ≡ capped_number text.now }
 {
     match text {
@@ -71,8 +73,8 @@ fn whole_number(text: &[u8]) -> Option<i64>
     }
 }
 
-// From the least to the greatest.
-fn is_in_range(n: i64) -> bool
+/// Whether a number is from [`LEAST`] to [`GREATEST`]. Takes no memory.
+pub fn is_in_range(n: i64) -> bool
     ensures { result ≡ is_in_range n }
 {
     LEAST as i64 <= n && n <= GREATEST as i64

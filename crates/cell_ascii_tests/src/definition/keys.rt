@@ -6,7 +6,7 @@ ghost use Rattle.cell_ascii_text.specs.Numbers.{coordinate, side, whole_in_range
 ghost use Rattle.cell_ascii_text.specs.Header.{header_of};
 ghost use Rattle.cell_ascii_text.specs.GridText.{value_of, null_text};
 ghost use Rattle.cell_ascii_text.specs.Cells.{cell_of_number, cell_of_word};
-ghost use Rattle.cell_ascii_header.specs.Capped.{cell_in_range};
+ghost use Rattle.cell_ascii_header.specs.InRange.{cell_in_range};
 ghost use Rattle.cell_ascii_header.specs.Given.{judged};
 ghost use Rattle.cell_ascii_text.specs.Places.{keys_of, header_in};
 ghost use Rattle.cell_ascii_tests.specs.Seen.{words_of_each};
@@ -17,6 +17,7 @@ use cell_ascii_header::number;
 use cell_core::cell::Cell;
 use cell_core::memory::Memory;
 use cell_core::region::{Region, RegionFault};
+use cell_text::numbers;
 use std::alloc::Global;
 use std::marker::Model;
 
@@ -81,7 +82,7 @@ fn multiplier_of(alloc: Global, lines: &[&[u8]]) -> Result<Option<i32>, Memory>
     ensures { IfOk result (λ n. n ≡ option_and_then whole_in_range (value_of (codes "multiplier") (words_of_each lines.now))) }
 {
     match header::value_of(alloc, b"multiplier", lines)? {
-        Some(value) => Ok(number::whole_in_range(value)),
+        Some(value) => Ok(numbers::whole_in_range(value)),
         None => Ok(None),
     }
 }
@@ -167,7 +168,7 @@ pub(crate) fn header_in<'a>(
 fn in_range(number: i64) -> Result<Cell, GridKind>
     ensures { result ≡ cell_in_range number }
 {
-    if !number::is_in_range(number) {
+    if !numbers::is_in_range(number) {
         return Err(GridKind::CellRange);
     }
     match Cell::value(number as i32) {
@@ -180,7 +181,7 @@ fn in_range(number: i64) -> Result<Cell, GridKind>
 fn cell_of_number(multiplier: i32, number: i64) -> Result<Cell, GridKind>
     ensures { result ≡ cell_of_number multiplier (Some number) }
 {
-    if !number::is_in_range(number) {
+    if !numbers::is_in_range(number) {
         return Err(GridKind::CellRange);
     }
     in_range(number * multiplier as i64)
@@ -215,7 +216,7 @@ impl<'a> Header<'a> {
         if self.is_null(word) {
             return Ok(Cell::null());
         }
-        match number::whole_number(word) {
+        match numbers::whole_number(word) {
             Some(number) => cell_of_number(self.multiplier, number),
             None => Err(GridKind::BadCell),
         }

@@ -17,6 +17,7 @@ use cell_ascii_header::key::key_of;
 use cell_ascii_header::number;
 use cell_ascii_text::key::Key;
 use cell_core::memory::Memory;
+use cell_text::numbers;
 use std::alloc::Global;
 
 fn when(told: bool, kind: GridKind) -> Option<GridKind>
@@ -142,7 +143,7 @@ pub(crate) fn bad_value(key: Key, value: &[u8]) -> Option<GridKind>
         Key::Cols => when(number::side(value).is_none(), GridKind::BadNumber),
         Key::Null => None,
         Key::CellType => when(int_type(value).is_none(), GridKind::BadType),
-        Key::Multiplier => when(number::whole_in_range(value).is_none(), GridKind::BadNumber),
+        Key::Multiplier => when(numbers::whole_in_range(value).is_none(), GridKind::BadNumber),
     }
 }
 

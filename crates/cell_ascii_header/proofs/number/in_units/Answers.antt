@@ -2,7 +2,7 @@ use Rattle.std.proofs.Common.{◌≡◌, ℕ, List, ◌+◌, ◌-◌, ◌*◌, �
 use Rattle.std.specs.Prelude.{nat_le, ◌&&◌}
 use Rattle.std.specs.List.{list_all}
 use Rattle.cell_ascii_text.specs.Numbers.{is_digit, value_of_digits, in_units}
-use Rattle.cell_ascii_header.specs.Capped.{capped}
+use Rattle.cell_text.specs.Capped.{capped}
 use Rattle.cell_ascii_header.proofs.DigitLemmas.{whole_capped, part_capped, in_units_is, units_below, whole_below, short_whole}
 use Rattle.cell_ascii_header.proofs.number.in_units.Goals as goal
 

@@ -1,6 +1,6 @@
 use Rattle.std.proofs.Common.{◌≡◌, take}
 use Rattle.cell_text.specs.Digits.{value_of_digits}
-use Rattle.cell_text.specs.parts.Capped.{capped}
+use Rattle.cell_text.specs.Capped.{capped}
 use Rattle.cell_text.proofs.numbers.value_of_digits.Given as goal
 
 abbrev pub invariant-loop-b : goal.invariant-loop-b

@@ -2,7 +2,7 @@ use Rattle.std.proofs.Common.{◌≡◌, ◌≢◌, ◌∙◌, ap, sym, ℕ, ℤ
 use Rattle.std.specs.Int.RustNames.{FitsSigned}
 use Rattle.std.proofs.lemmas.Int.{to_z-of_z}
 use Rattle.cell_core.proofs.NameLemmas.{bytes_eq-differ}
-use Rattle.cell_ascii_header.specs.Capped.{capped_number}
+use Rattle.cell_text.specs.Capped.{capped_number}
 use Rattle.cell_ascii_text.specs.Numbers.{whole_number, is_in_range}
 use Rattle.cell_ascii_header.proofs.NumberLemmas.{capped_same}
 use Rattle.cell_ascii_header.proofs.header.Header.is_null.Goals as goal

@@ -4,7 +4,7 @@ use Rattle.std.specs.Int.RustNames.{FitsSigned, unsigned_abs}
 use Rattle.std.proofs.lemmas.Int.{ints, to_z-of_z, fits_signed_mul}
 use Rattle.std.proofs.lemmas.Bool.Decides.{nat_tests}
 use Rattle.cell_ascii_text.specs.Numbers.{is_in_range}
-use Rattle.cell_ascii_header.specs.Capped.{cell_in_range}
+use Rattle.cell_ascii_header.specs.InRange.{cell_in_range}
 use Rattle.cell_ascii_text.specs.Cells.{cell_of_number}
 use Rattle.cell_ascii_tests.proofs.definition.keys.cell_of_number.Goals as goal
 

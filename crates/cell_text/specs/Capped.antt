@@ -1,0 +1,17 @@
+-- Numbers as they are computed: those above 10^18, which are out of every range, count as 10^18.
+use Rattle.std.specs.Prelude.{ℕ, ℤ, min, List, Option}
+use Rattle.std.specs.Option.{option_map}
+use Rattle.cell_text.specs.Digits.{digits_of}
+use Rattle.cell_text.specs.WholeNumbers.{signed}
+
+-- a number, or 10^18 where it is greater
+abbrev pub capped : ℕ → ℕ
+capped n = min n 1000000000000000000
+
+-- the value of one or more digits, capped
+abbrev pub capped_digits : List ℕ → Option ℕ
+capped_digits bs = option_map capped (digits_of bs)
+
+-- an optional sign and one or more digits, capped
+abbrev pub capped_number : List ℕ → Option ℤ
+capped_number bs = signed capped_digits bs

@@ -1,2 +1,0 @@
--- Numbers as they are computed.
-pub mod Capped
