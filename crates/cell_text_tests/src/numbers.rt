@@ -1,6 +1,9 @@
 //! Digits and whole numbers.
 
-use cell_text::numbers::{WholeFault, is_digit, read_whole, whole_in_range};
+use cell_text::numbers::{
+    WholeFault, are_digits, is_digit, is_in_range, read_whole, value_of_digits, whole_in_range,
+    whole_number,
+};
 use std::test::Fail;
 
 const NUMBERS: [(&[u8], Result<i32, WholeFault>); 22] = [
@@ -36,6 +39,11 @@ fn reads_whole_numbers(rt: HostRuntime) -> Result<(), Fail> {
     for (text, wanted) in &NUMBERS {
         assert!(rt; read_whole(*text) == *wanted, "the text {text:?}");
         assert_eq!(rt; whole_in_range(*text), wanted.ok(), "the text {text:?}");
+        assert_eq!(rt;
+            whole_number(*text).is_some(),
+            *wanted != Err(WholeFault::NotWhole),
+            "the text {text:?}"
+        );
     }
     Ok(())
 }
@@ -49,4 +57,28 @@ fn ten_bytes_are_digits(rt: HostRuntime) {
             "the byte {byte}"
         );
     }
+}
+
+#[test]
+fn values_stop_at_a_bound(rt: HostRuntime) -> Result<(), Fail> {
+    let table: [(&[u8], u64); 6] = [
+        (b"", 0),
+        (b"0", 0),
+        (b"0042", 42),
+        (b"999999999999999999", 999999999999999999),
+        (b"1000000000000000000", 1000000000000000000),
+        (b"18446744073709551617", 1000000000000000000),
+    ];
+    for (digits, wanted) in table {
+        assert!(rt; are_digits(digits), "the text {digits:?}");
+        assert_eq!(rt; value_of_digits(digits), wanted, "the text {digits:?}");
+    }
+    assert!(rt; !are_digits(b"12a"));
+    assert_eq!(rt;
+        whole_number(b"-18446744073709551617"),
+        Some(-1000000000000000000)
+    );
+    assert!(rt; is_in_range(-2147483647) && is_in_range(2147483647));
+    assert!(rt; !is_in_range(-2147483648) && !is_in_range(2147483648));
+    Ok(())
 }

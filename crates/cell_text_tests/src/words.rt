@@ -1,6 +1,6 @@
 //! Blanks, words, parts and pairs.
 
-use cell_text::blanks::{around_blank, is_blank, trimmed};
+use cell_text::blanks::{after_blanks, around_blank, is_blank, trimmed};
 use cell_text::words::{list_words_of, pair_of, parts_of, words_of};
 use std::alloc::AllocGlobal;
 use std::process::Abort;
@@ -15,16 +15,17 @@ fn three_bytes_are_blanks(rt: HostRuntime) {
 
 #[test]
 fn takes_blanks_from_both_ends(rt: HostRuntime) -> Result<(), Fail> {
-    let table: [(&[u8], &[u8]); 7] = [
-        (b"a b", b"a b"),
-        (b" \t a b\r", b"a b"),
-        (b"", b""),
-        (b" \t\r", b""),
-        (b"\r\r x", b"x"),
-        (b"\x0ba\x0c ", b"\x0ba\x0c"),
-        (b" a\n ", b"a\n"),
+    let table: [(&[u8], &[u8], &[u8]); 7] = [
+        (b"a b", b"a b", b"a b"),
+        (b" \t a b\r", b"a b\r", b"a b"),
+        (b"", b"", b""),
+        (b" \t\r", b"", b""),
+        (b"\r\r x", b"x", b"x"),
+        (b"\x0ba\x0c ", b"\x0ba\x0c ", b"\x0ba\x0c"),
+        (b" a\n ", b"a\n ", b"a\n"),
     ];
-    for (text, wanted) in table {
+    for (text, after, wanted) in table {
+        assert_eq!(rt; after_blanks(text), after, "the text {text:?}");
         assert_eq!(rt; trimmed(text), wanted, "the text {text:?}");
     }
     Ok(())
