@@ -7,7 +7,6 @@ use Rattle.cell_script.specs.OptionWords.{AreOptions}
 use Rattle.cell_script.specs.Options.{Given, has_flag}
 use Rattle.cell_script.specs.RReclass.{AreFromTo}
 use Rattle.cell_script.specs.declared.options.Form.TheVariants as form
-use Rattle.cell_script.specs.declared.statement.Command.TheVariants.{Clump}
 
 -- with the flag `d` cells that touch at a corner are joined too
 abbrev pub joining_of : Given → Joining

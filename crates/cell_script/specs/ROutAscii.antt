@@ -6,7 +6,6 @@ use Rattle.cell_text.specs.Words.{words_of}
 use Rattle.cell_script.specs.OptionWords.{AreOptions}
 use Rattle.cell_script.specs.Options.{Given}
 use Rattle.cell_script.specs.declared.options.Form.TheVariants as form
-use Rattle.cell_script.specs.declared.statement.Command.TheVariants.{OutAscii}
 
 -- r.out.ascii: null is an asterisk where no text is given
 pub record SpellsOutAscii (known : List (List ℕ)) (line : List ℕ) (place : ℕ) (null_text : List ℕ) : Type 0 where

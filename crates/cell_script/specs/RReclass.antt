@@ -9,7 +9,6 @@ use Rattle.cell_script.specs.Lines.{Line, IsSkipped}
 use Rattle.cell_script.specs.OptionWords.{AreOptions}
 use Rattle.cell_script.specs.Options.{Given}
 use Rattle.cell_script.specs.declared.options.Form.TheVariants as form
-use Rattle.cell_script.specs.declared.statement.Command.TheVariants.{Reclass}
 
 -- options name a known map as `input`, and a new one as `output`
 pub record AreFromTo (known : List (List ℕ)) (given : Given) (place : ℕ) (target : List ℕ) : Type 0 where

@@ -11,7 +11,6 @@ use Rattle.cell_stats.specs.declared.skip.Skip.TheVariants.{Nothing, AnyNull, Al
 use Rattle.cell_script.specs.OptionWords.{AreOptions}
 use Rattle.cell_script.specs.Options.{Given, has_flag}
 use Rattle.cell_script.specs.declared.options.Form.TheVariants as form
-use Rattle.cell_script.specs.declared.statement.Command.TheVariants.{Stats}
 use Rattle.cell_script.specs.declared.statement.StatsOptions.{StatsOptions}
 
 -- the places of names among the known ones, where all are known

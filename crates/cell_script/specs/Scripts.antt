@@ -1,5 +1,5 @@
 -- Which texts are scripts, and of which statements, by lines that group into statements (profile; the commands are those of the GRASS manual).
-use Rattle.std.specs.Prelude.{ℕ, List, ◌≤◌, ◌+◌, [], ◌∷◌, ◌++◌, length, All}
+use Rattle.std.specs.Prelude.{ℕ, List, ◌≤◌, [], ◌∷◌, ◌++◌, length, All}
 use Rattle.cell_cats.specs.Rule.{RuleValue}
 use Rattle.cell_script.specs.Known.{known_after}
 use Rattle.cell_script.specs.Lines.{script_lines, Line, numbered, IsSkipped}

@@ -1,11 +1,11 @@
 -- What r.stats writes, by every table of its maps.
-use Rattle.std.proofs.Common.{◌≡◌, ℕ, ◌*◌, true, false, List, [], ◌∷◌, ◌++◌, None, refl, ap, sym, ◌∙◌, subst}
+use Rattle.std.proofs.Common.{◌≡◌, ℕ, true, false, List, [], ◌∷◌, ◌++◌, refl, ap, ◌∙◌}
 use Rattle.std.specs.Prelude.{sum_by, decimal}
 use Rattle.std.specs.List.{flat_map}
 use Rattle.cell_core.specs.Shelf.{ShelfValue}
 use Rattle.cell_script.specs.declared.statement.StatsOptions.{StatsOptions}
 use Rattle.cell_stats.specs.TableLaw.{TableAgrees, CountsAddUp}
-use Rattle.cell_stats.specs.TableText.{FormatValue, table_text, printed_pairs, pair_line, line_text, combination_fields}
+use Rattle.cell_stats.specs.TableText.{FormatValue, table_text, printed_pairs, line_text, combination_fields}
 use Rattle.cell_stats.specs.Tables.{Pairs, table_of}
 use Rattle.cell_stats.specs.declared.skip.Skip.TheVariants.{Nothing}
 use Rattle.rcell.specs.Output.{combinations_of, format_of, stats_text}

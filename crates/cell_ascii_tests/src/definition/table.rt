@@ -143,7 +143,10 @@ pub(crate) fn bad_value(key: Key, value: &[u8]) -> Option<GridKind>
         Key::Cols => when(number::side(value).is_none(), GridKind::BadNumber),
         Key::Null => None,
         Key::CellType => when(int_type(value).is_none(), GridKind::BadType),
-        Key::Multiplier => when(numbers::whole_in_range(value).is_none(), GridKind::BadNumber),
+        Key::Multiplier => when(
+            numbers::whole_in_range(value).is_none(),
+            GridKind::BadNumber,
+        ),
     }
 }
 

@@ -1,5 +1,5 @@
 -- What is read is written, where memory lasts and the sink takes everything.
-use Rattle.std.proofs.Common.{◌≡◌, ℕ, Bool, true, false, List, Option, Some, None, Result, Ok, Err, refl, ap, sym, ◌∙◌, subst}
+use Rattle.std.proofs.Common.{◌≡◌, ℕ, Bool, true, List, Option, Some, None, Result, Ok, Err, refl, ap, sym, ◌∙◌, subst}
 use Rattle.std.specs.Prelude.{IsNone, IfSome}
 use Rattle.std.proofs.lemmas.Bool.{true≢false}
 use Rattle.cell_core.specs.Device.{Coming}
