@@ -13,23 +13,25 @@ use std::marker::Model;
 
 // How many runs a row has. Its cells are null or categories.
 pub(crate) fn count_runs(row: &[Cell]) -> usize
+    requires { length row.now < 2 ^ 32 }
     ensures count { result ≡ length (runs_in row.now) }
     ensures cells { All IsCell row.now }
 {
     if row.is_empty() {
         return 0;
     }
-    let mut count: usize = 1;
+    // Of 32 bits, so that a vector counts as many as it compares.
+    let mut ends: u32 = 0;
     let mut last = row[0];
     for cell in row {
         // The proof looks at each category. The count compares cells alone, several at a time.
         let _ = category_of(*cell);
         if *cell != last {
-            count = count.wrapping_add(1);
+            ends = ends.wrapping_add(1);
         }
         last = *cell;
     }
-    count
+    ends as usize + 1
 }
 
 // The runs of a row, which are so many. Takes memory once.

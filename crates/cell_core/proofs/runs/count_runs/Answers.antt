@@ -1,8 +1,7 @@
-use Rattle.std.proofs.Common.{arith, rules, ◌≡◌, ◌≢◌, ◌<◌, ◌+◌, ◌++◌, [], ◌∷◌, All, length, take, drop, true, false, suc, ap, sym, ◌∙◌, take_all}
+use Rattle.std.proofs.Common.{arith, rules, ◌≡◌, ◌<◌, ◌+◌, ◌++◌, [], ◌∷◌, All, length, take, true, false, ap, sym, ◌∙◌, take_all}
 use Rattle.std.proofs.lemmas.List.{take_more}
 use Rattle.std.proofs.lemmas.List.Elements.{All-push, All-same}
 use Rattle.cell_core.specs.Cell.{IsCell, cell_eq}
-use Rattle.cell_core.specs.parts.Rows.{breaks}
 use Rattle.cell_core.proofs.RowLemmas.{breaks-none, breaks-one, breaks-whole}
 use Rattle.cell_core.proofs.runs.count_runs.Goals as goal
 use Rattle.cell_core.proofs.runs.count_runs.Goals.{then-ne, else-ne}
@@ -27,15 +26,15 @@ loop-cell-preserved c =
           let other : cell_eq cell last ≡ false = search (rules, w.if-ne, c.ne.ensures) in
           record {
             cells = cells;
-            count = omega (arith, w.count-is, breaks-one last cell row i within c.cell-item.is other, c.loop-cell.invariant.count);
-            few = omega (arith, w.count-is, c.loop-cell.invariant.few);
+            count = omega (arith, w.ends-is, breaks-one last cell row i within c.cell-item.is other, c.loop-cell.invariant.count);
+            few = omega (arith, w.ends-is, c.loop-cell.invariant.few);
           }
       | else-ne w ↦
           let same : cell_eq cell last ≡ true = search (rules, w.if-ne, c.ne.ensures) in
           record {
             cells = cells;
-            count = omega (arith, w.count-is, breaks-none last cell row i within c.cell-item.is same, c.loop-cell.invariant.count);
-            few = omega (arith, w.count-is, c.loop-cell.invariant.few);
+            count = omega (arith, w.ends-is, breaks-none last cell row i within c.cell-item.is same, c.loop-cell.invariant.count);
+            few = omega (arith, w.ends-is, c.loop-cell.invariant.few);
           }
     ]
 
