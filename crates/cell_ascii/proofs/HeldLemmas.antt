@@ -140,32 +140,21 @@ all_three : (a b c : ℕ) → is_digit a ≡ true → is_digit b ≡ true → is
 all_three a b c e f g = rw (e, f, g) refl
 
 -- one digit
-pub numeral_one : (bs : List ℕ) (n : ℕ) → 2 ≤ length bs → is_digit (slice_index_or bs 0 0) ≡ true → is_space (slice_index_or bs 1 0) ≡ true
-    → n ≡ slice_index_or bs 0 0 - 48 → IsNumeral bs n 1
-numeral_one [] n l a e m = absurd (omega arith)
-numeral_one (x ∷ []) n l a e m = absurd (omega arith)
-numeral_one (x ∷ y ∷ bs) n l a e m =
-    record { some = omega arith; few = omega arith; within = omega arith; digits = all_one x a; sum = omega (arith, m); ends = e }
+pub short_one : (a b : ℕ) (bs : List ℕ) → is_digit a ≡ true → is_space b ≡ true → IsNumeral (a ∷ b ∷ bs) (a - 48) 1
+short_one a b bs da eb =
+    record { some = omega arith; few = omega arith; within = omega arith; digits = all_one a da; sum = omega arith; ends = eb }
 
 -- two digits
-pub numeral_two : (bs : List ℕ) (n : ℕ) → 3 ≤ length bs → is_digit (slice_index_or bs 0 0) ≡ true → is_digit (slice_index_or bs 1 0) ≡ true → is_space (slice_index_or bs 2 0) ≡ true
-    → n ≡ (slice_index_or bs 0 0 - 48) * 10 + (slice_index_or bs 1 0 - 48) → IsNumeral bs n 2
-numeral_two [] n l a b e m = absurd (omega arith)
-numeral_two (x ∷ []) n l a b e m = absurd (omega arith)
-numeral_two (x ∷ y ∷ []) n l a b e m = absurd (omega arith)
-numeral_two (x ∷ y ∷ z ∷ bs) n l a b e m =
-    record { some = omega arith; few = omega arith; within = omega arith; digits = all_two x y a b; sum = omega (arith, m); ends = e }
+pub short_two : (a b c : ℕ) (bs : List ℕ) → is_digit a ≡ true → is_digit b ≡ true → is_space c ≡ true
+    → IsNumeral (a ∷ b ∷ c ∷ bs) ((a - 48) * 10 + (b - 48)) 2
+short_two a b c bs da db ec =
+    record { some = omega arith; few = omega arith; within = omega arith; digits = all_two a b da db; sum = omega arith; ends = ec }
 
 -- three digits
-pub numeral_three : (bs : List ℕ) (n : ℕ) → 4 ≤ length bs → is_digit (slice_index_or bs 0 0) ≡ true → is_digit (slice_index_or bs 1 0) ≡ true → is_digit (slice_index_or bs 2 0) ≡ true
-    → is_space (slice_index_or bs 3 0) ≡ true
-    → n ≡ ((slice_index_or bs 0 0 - 48) * 10 + (slice_index_or bs 1 0 - 48)) * 10 + (slice_index_or bs 2 0 - 48) → IsNumeral bs n 3
-numeral_three [] n l a b d e m = absurd (omega arith)
-numeral_three (x ∷ []) n l a b d e m = absurd (omega arith)
-numeral_three (x ∷ y ∷ []) n l a b d e m = absurd (omega arith)
-numeral_three (x ∷ y ∷ z ∷ []) n l a b d e m = absurd (omega arith)
-numeral_three (x ∷ y ∷ z ∷ u ∷ bs) n l a b d e m =
-    record { some = omega arith; few = omega arith; within = omega arith; digits = all_three x y z a b d; sum = omega (arith, m); ends = e }
+pub short_three : (a b c d : ℕ) (bs : List ℕ) → is_digit a ≡ true → is_digit b ≡ true → is_digit c ≡ true → is_space d ≡ true
+    → IsNumeral (a ∷ b ∷ c ∷ d ∷ bs) (((a - 48) * 10 + (b - 48)) * 10 + (c - 48)) 3
+short_three a b c d bs da db dc ed =
+    record { some = omega arith; few = omega arith; within = omega arith; digits = all_three a b c da db dc; sum = omega arith; ends = ed }
 
 -- at most eight digits
 pub few_below : (bs : List ℕ) → list_all is_digit bs ≡ true → length bs ≤ 8 → value_of_digits bs < 100000000
@@ -187,3 +176,24 @@ first_rest (x ∷ xs) b l s =
 
 pub digit_last : (b : ℕ) → is_digit b ≡ true → b ≤ 57
 digit_last b e = grind (arith, nat_tests)
+
+-- a space and four bytes, and the others
+pub front_space : (bs : List ℕ) → 6 ≤ length bs → slice_index_or bs 0 0 ≡ 32
+    → bs ≡ 32 ∷ slice_index_or bs 1 0 ∷ slice_index_or bs 2 0 ∷ slice_index_or bs 3 0 ∷ slice_index_or bs 4 0 ∷ drop 5 bs
+front_space [] l e = absurd (omega arith)
+front_space (x ∷ []) l e = absurd (omega arith)
+front_space (x ∷ a ∷ []) l e = absurd (omega arith)
+front_space (x ∷ a ∷ b ∷ []) l e = absurd (omega arith)
+front_space (x ∷ a ∷ b ∷ c ∷ []) l e = absurd (omega arith)
+front_space (x ∷ a ∷ b ∷ c ∷ d ∷ bs) l e = ap (λ (y : ℕ). y ∷ a ∷ b ∷ c ∷ d ∷ bs) e
+
+-- a space, a minus and four bytes, and the others
+pub front_minus : (bs : List ℕ) → 6 ≤ length bs → slice_index_or bs 0 0 ≡ 32 → slice_index_or bs 1 0 ≡ 45
+    → bs ≡ 32 ∷ 45 ∷ slice_index_or bs 2 0 ∷ slice_index_or bs 3 0 ∷ slice_index_or bs 4 0 ∷ slice_index_or bs 5 0 ∷ drop 6 bs
+front_minus [] l e m = absurd (omega arith)
+front_minus (x ∷ []) l e m = absurd (omega arith)
+front_minus (x ∷ y ∷ []) l e m = absurd (omega arith)
+front_minus (x ∷ y ∷ a ∷ []) l e m = absurd (omega arith)
+front_minus (x ∷ y ∷ a ∷ b ∷ []) l e m = absurd (omega arith)
+front_minus (x ∷ y ∷ a ∷ b ∷ c ∷ []) l e m = absurd (omega arith)
+front_minus (x ∷ y ∷ a ∷ b ∷ c ∷ d ∷ bs) l e m = rw (e, m) refl

@@ -1,6 +1,6 @@
 //! A cell whose bytes are held.
 
-ghost use Rattle.std.specs.Prelude.{◌≡◌, ◌<◌, ◌≤◌, pos, neg_ℤ, length, take, drop, Some, IfSome};
+ghost use Rattle.std.specs.Prelude.{◌≡◌, ℕ, List, ◌∷◌, ◌<◌, ◌≤◌, pos, neg_ℤ, length, take, drop, Some, IfSome};
 ghost use Rattle.cell_ascii.specs.Held.{HoldsCell, HoldsCells, HoldsWord, IsNumeral, held_word};
 ghost use Rattle.cell_ascii_text.specs.Numbers.{whole_number};
 
@@ -15,41 +15,30 @@ const MOST_DIGITS: usize = 9;
 // The most bytes of a word.
 const MOST_BYTES: usize = 64;
 
-// One digit and a byte that ends it.
-#[tactic(auto, using(crate::proofs::HeldLemmas::numeral_one))]
-fn one_digit(bytes: &[u8]) -> Option<u32>
-    ensures { IfSome result (λ value. IsNumeral bytes.now value 1) }
+// One to three digits and a byte that ends them, at the front of four bytes, and how many digits there are.
+#[inline(always)]
+#[tactic(auto, using(crate::proofs::HeldLemmas::short_one, crate::proofs::HeldLemmas::short_two, crate::proofs::HeldLemmas::short_three))]
+fn short_digits(a: u8, b: u8, c: u8, d: u8) -> Option<(u32, usize)>
+    ensures { IfSome result (λ r. (bytes : List ℕ) → IsNumeral (a ∷ b ∷ c ∷ d ∷ bytes) r.0 r.1) }
 {
-    match bytes {
-        [a, e, ..] if is_digit(*a) && is_space(*e) => Some((*a - b'0') as u32),
-        _ => None,
+    if !is_digit(a) {
+        return None;
     }
-}
-
-// Two digits and a byte that ends them.
-#[tactic(auto, using(crate::proofs::HeldLemmas::numeral_two))]
-fn two_digits(bytes: &[u8]) -> Option<u32>
-    ensures { IfSome result (λ value. IsNumeral bytes.now value 2) }
-{
-    match bytes {
-        [a, b, e, ..] if is_digit(*a) && is_digit(*b) && is_space(*e) => {
-            Some((*a - b'0') as u32 * 10 + (*b - b'0') as u32)
-        }
-        _ => None,
+    let value = (a - b'0') as u32;
+    if is_space(b) {
+        return Some((value, 1));
     }
-}
-
-// Three digits and a byte that ends them.
-#[tactic(auto, using(crate::proofs::HeldLemmas::numeral_three))]
-fn three_digits(bytes: &[u8]) -> Option<u32>
-    ensures { IfSome result (λ value. IsNumeral bytes.now value 3) }
-{
-    match bytes {
-        [a, b, c, e, ..] if is_digit(*a) && is_digit(*b) && is_digit(*c) && is_space(*e) => {
-            Some(((*a - b'0') as u32 * 10 + (*b - b'0') as u32) * 10 + (*c - b'0') as u32)
-        }
-        _ => None,
+    if !is_digit(b) {
+        return None;
     }
+    let value = value * 10 + (b - b'0') as u32;
+    if is_space(c) {
+        return Some((value, 2));
+    }
+    if !is_digit(c) || !is_space(d) {
+        return None;
+    }
+    Some((value * 10 + (c - b'0') as u32, 3))
 }
 
 // One to nine digits and a byte that ends them, and how many digits there are.
@@ -72,23 +61,6 @@ fn more_digits(bytes: &[u8]) -> Option<(u32, usize)>
     None
 }
 
-// One to nine digits and a byte that ends them, and how many digits there are. It is inlined, as each cell calls it.
-#[inline(always)]
-fn numeral_in(bytes: &[u8]) -> Option<(u32, usize)>
-    ensures { IfSome result (λ r. IsNumeral bytes.now r.0 r.1) }
-{
-    if let Some(value) = one_digit(bytes) {
-        return Some((value, 1));
-    }
-    if let Some(value) = two_digits(bytes) {
-        return Some((value, 2));
-    }
-    if let Some(value) = three_digits(bytes) {
-        return Some((value, 3));
-    }
-    more_digits(bytes)
-}
-
 // The number of digits behind a minus.
 fn negative(value: u32) -> i64
     ensures { result ≡ neg_ℤ (pos value) }
@@ -96,7 +68,26 @@ fn negative(value: u32) -> i64
     -(value as i64)
 }
 
-// A space, a number and a byte that ends it, and how many bytes stand before that one.
+// A space, a number of one to three digits and a byte that ends it, and how many bytes stand before that one. It looks at the
+// length once, so that there have to be as many bytes as the longest form takes.
+#[inline(always)]
+fn short_number_in(held: &[u8]) -> Option<(i64, usize)>
+    ensures word { IfSome result (λ r. HoldsWord held.now r.1) }
+    ensures number { IfSome result (λ r. whole_number (held_word held.now r.1) ≡ Some r.0) }
+    ensures within { IfSome result (λ r. (0 < r.1) × (r.1 ≤ length held.now)) }
+{
+    let [b' ', a, b, c, d, e, ..] = held else {
+        return None;
+    };
+    if *a == b'-' {
+        let (value, n) = short_digits(*b, *c, *d, *e)?;
+        return Some((negative(value), n + 2));
+    }
+    let (value, n) = short_digits(*a, *b, *c, *d)?;
+    Some((value as i64, n + 1))
+}
+
+// The same of one to nine digits.
 fn number_in(held: &[u8]) -> Option<(i64, usize)>
     ensures word { IfSome result (λ r. HoldsWord held.now r.1) }
     ensures number { IfSome result (λ r. whole_number (held_word held.now r.1) ≡ Some r.0) }
@@ -104,10 +95,10 @@ fn number_in(held: &[u8]) -> Option<(i64, usize)>
 {
     let [b' ', rest @ ..] = held else { return None };
     if let [b'-', digits @ ..] = rest {
-        let (value, n) = numeral_in(digits)?;
+        let (value, n) = more_digits(digits)?;
         return Some((negative(value), n + 2));
     }
-    let (value, n) = numeral_in(rest)?;
+    let (value, n) = more_digits(rest)?;
     Some((value as i64, n + 1))
 }
 
@@ -129,23 +120,48 @@ fn word_in(held: &[u8]) -> Option<usize>
     None
 }
 
-// The cell of a space and a word that ends among the bytes held, and how many of them it takes.
-// None where another form stands, or a word that is no cell.
-fn cell_in(held: &[u8], header: &Header) -> Option<(Cell, usize)>
+// The cell of the number that stands before the byte at place n, and that place.
+#[inline(always)]
+fn cell_of_number(held: &[u8], header: &Header, number: i64, n: usize) -> Option<(Cell, usize)>
+    requires word { HoldsWord held.now n }
+    requires number { whole_number (held_word held.now n) ≡ Some number }
+    requires within { (0 < n) × (n ≤ length held.now) }
+    ensures cell { IfSome result (λ r. HoldsCell header.now held.now r.0 r.1) }
+    ensures within { IfSome result (λ r. r.1 ≤ length held.now) }
+{
+    match header.cell_of_number(&held[1..n], number) {
+        Ok(cell) => Some((cell, n)),
+        Err(_) => None,
+    }
+}
+
+// The same as `cell_in`, where no short number stands.
+#[inline(never)]
+fn other_cell_in(held: &[u8], header: &Header) -> Option<(Cell, usize)>
     ensures cell { IfSome result (λ r. HoldsCell header.now held.now r.0 r.1) }
     ensures within { IfSome result (λ r. r.1 ≤ length held.now) }
 {
     if let Some((number, n)) = number_in(held) {
-        let Ok(cell) = header.cell_of_number(&held[1..n], number) else {
-            return None;
-        };
-        return Some((cell, n));
+        return cell_of_number(held, header, number, n);
     }
     let n = word_in(held)?;
-    let Ok(cell) = header.cell_of_word(&held[1..n]) else {
-        return None;
-    };
-    Some((cell, n))
+    match header.cell_of_word(&held[1..n]) {
+        Ok(cell) => Some((cell, n)),
+        Err(_) => None,
+    }
+}
+
+// The cell of a space and a word that ends among the bytes held, and how many of them it takes.
+// None where another form stands, or a word that is no cell.
+#[inline(always)]
+fn cell_in(held: &[u8], header: &Header) -> Option<(Cell, usize)>
+    ensures cell { IfSome result (λ r. HoldsCell header.now held.now r.0 r.1) }
+    ensures within { IfSome result (λ r. r.1 ≤ length held.now) }
+{
+    match short_number_in(held) {
+        Some((number, n)) => cell_of_number(held, header, number, n),
+        None => other_cell_in(held, header),
+    }
 }
 
 /// The cells that are held one after another, each a space and a word that ends, up to the length of a row: they fill the

@@ -1,12 +1,15 @@
 -- Capped numbers denote the cells that the whole ones do.
 use Rattle.std.proofs.Common.{◌≡◌, ℕ, ℤ, pos, Bool, true, false, List, [], ◌∷◌, ap, sym, ◌∙◌, refl, arith, Option, Some, None, Err, if◌then◌else◌}
-use Rattle.std.specs.Prelude.{neg_ℤ, ◌==◌}
+use Rattle.std.specs.Prelude.{neg_ℤ, ◌==◌, ◌*ℤ◌, bytes_eq}
 use Rattle.std.specs.Option.{option_map}
 use Rattle.std.proofs.lemmas.Bool.Decides.{nat_tests}
 use Rattle.std.proofs.lemmas.Int.{ints}
 use Rattle.cell_ascii_text.specs.Numbers.{is_in_range, whole_number, digits_of}
 use Rattle.cell_text.specs.Capped.{capped, capped_number}
-use Rattle.cell_ascii_text.specs.Cells.{cell_of_number}
+use Rattle.cell_core.proofs.NameLemmas.{bytes_eq-differ}
+use Rattle.cell_ascii_header.specs.InRange.{cell_in_range}
+use Rattle.cell_ascii_text.specs.Header.{Header}
+use Rattle.cell_ascii_text.specs.Cells.{cell_of_word, cell_of_number}
 use Rattle.cell_ascii_text.specs.declared.fault.GridKind.TheVariants.{CellRange}
 
 cell_far : (m n : ℤ) → is_in_range n ≡ false → cell_of_number m (Some n) ≡ Err CellRange
@@ -70,3 +73,33 @@ signed_same false false rest all n e r = plus_same all n e r
 pub capped_same : (bs : List ℕ) (n : ℤ) → whole_number bs ≡ Some n → is_in_range n ≡ true → capped_number bs ≡ Some n
 capped_same [] n e r = cc
 capped_same (b ∷ bs) n e r = signed_same (b == 45) (b == 43) (digits_of bs) (digits_of (b ∷ bs)) n e r
+
+signed_none : (minus plus : Bool) (rest all : Option ℕ) → signed_by minus plus (option_map capped rest) (option_map capped all) ≡ None → signed_by minus plus rest all ≡ None
+signed_none true plus None all e = refl
+signed_none true plus (Some k) all e = cc
+signed_none false true None all e = refl
+signed_none false true (Some k) all e = cc
+signed_none false false rest None e = refl
+signed_none false false rest (Some k) e = cc
+
+-- a text that is no number as it is computed is none
+capped_none : (bs : List ℕ) → capped_number bs ≡ None → whole_number bs ≡ None
+capped_none [] e = refl
+capped_none (b ∷ bs) e = signed_none (b == 45) (b == 43) (digits_of bs) (digits_of (b ∷ bs)) e
+
+times_one : (n : ℤ) → n *ℤ pos 1 ≡ n
+times_one n = omega (arith, ints)
+
+by_one : (m n : ℤ) → m ≡ pos 1 → cell_in_range n ≡ cell_of_number m (Some n)
+by_one m n e = by (is_in_range n) refl
+  where
+    by : (b : Bool) → is_in_range n ≡ b → cell_in_range n ≡ cell_of_number m (Some n)
+    by true f = rw (e, times_one n, f) refl
+    by false f = rw f refl
+
+-- the word of a number is its cell, where the null text is no number and nothing is multiplied
+pub plain_cell : (h : Header) (word : List ℕ) (n : ℤ) → whole_number word ≡ Some n → capped_number h.null_text ≡ None → h.multiplier ≡ pos 1
+    → cell_in_range n ≡ cell_of_word h word
+plain_cell h word n is none one =
+    let other : bytes_eq word h.null_text ≡ false = bytes_eq-differ word h.null_text (λ same. let no : whole_number word ≡ None = capped_none word (ap capped_number same ∙ none) in cc) in
+    rw (other, is) (by_one h.multiplier n one)

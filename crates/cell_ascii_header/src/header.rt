@@ -20,10 +20,12 @@ pub struct Header {
     // The number that the null text is, if it is one: no word of another number in range is compared with the text.
     null_number: Option<i64>,
     multiplier: i32,
+    // Whether the null text is no number and the multiplier 1, so that each number in range is its own cell.
+    is_plain: bool,
 }
 
 impl Model for Header {
-    ghost use Rattle.std.specs.Prelude.{◌≡◌};
+    ghost use Rattle.std.specs.Prelude.{◌≡◌, None, pos, true};
     ghost use Rattle.cell_text.specs.Capped.{capped_number};
     ghost use Rattle.cell_ascii_text.specs.Header.{Header};
 
@@ -31,9 +33,10 @@ impl Model for Header {
 
     ghost view = { λ h. record { region = h.region; null_text = h.null_text; multiplier = h.multiplier } };
 
-    ghost invariant = { λ h. h.null_number ≡ capped_number h.null_text };
+    ghost invariant = { λ h. (h.null_number ≡ capped_number h.null_text) × (h.is_plain ≡ true → (h.null_number ≡ None) × (h.multiplier ≡ pos 1)) };
 }
 
+#[inline(always)]
 fn in_range(number: i64) -> Result<Cell, GridKind>
     ensures { result ≡ cell_in_range number }
 {
@@ -47,6 +50,7 @@ fn in_range(number: i64) -> Result<Cell, GridKind>
 }
 
 // The cell of a number, by the multiplier.
+#[inline(always)]
 fn cell_of_number(multiplier: i32, number: i64) -> Result<Cell, GridKind>
     ensures { result ≡ cell_of_number multiplier (Some number) }
 {
@@ -66,11 +70,13 @@ impl Header {
         ensures { result ≡ record { region = region; null_text = null_text; multiplier = multiplier } }
     {
         let null_number = null_text.number();
+        let is_plain = null_number.is_none() && multiplier == 1;
         Header {
             region,
             null_text,
             null_number,
             multiplier,
+            is_plain,
         }
     }
 
@@ -80,11 +86,15 @@ impl Header {
         self.region
     }
 
-    /// The cell that the word of a number denotes.
+    /// The cell that the word of a number denotes. It is inlined, as each cell calls it.
+    #[inline(always)]
     pub fn cell_of_number(&self, word: &[u8], number: i64) -> Result<Cell, GridKind>
         requires { whole_number word.now ≡ Some number }
         ensures { result ≡ cell_of_word self.now word.now }
     {
+        if self.is_plain {
+            return in_range(number);
+        }
         if self.is_null(word, number) {
             Ok(Cell::null())
         } else {
@@ -93,6 +103,7 @@ impl Header {
     }
 
     // Whether the word of a number is the null text. The texts are compared only where the numbers do not tell.
+    #[inline(always)]
     fn is_null(&self, word: &[u8], number: i64) -> bool
         requires { whole_number word.now ≡ Some number }
         ensures { result ≡ bytes_eq word.now self.now.null_text }
