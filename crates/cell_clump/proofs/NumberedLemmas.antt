@@ -1,0 +1,78 @@
+-- The numbers of the cells of a row, while they are written.
+use Rattle.std.proofs.Common.{◌≡◌, ℕ, ℤ, pos, true, false, ◌+◌, ◌*◌, ◌<◌, ◌≤◌, List, Some, None, is_some, length, replicate, get_or, set, refl, ap, sym, ◌∙◌, arith, subst, ⊎_elim, get_or-set_other, get_or-set_same}
+use Rattle.std.proofs.lemmas.Bool.{cases_lt, cond-true, cond-false}
+use Rattle.cell_core.specs.Grid.{Grid, CellValue, row_at}
+use Rattle.cell_clump.specs.declared.clump.Joining.{Joining}
+use Rattle.cell_clump.specs.declared.near.Labelled.{Labelled}
+use Rattle.cell_clump.specs.declared.near.Near.{Near}
+use Rattle.cell_clump.specs.Areas.{Position, at}
+use Rattle.cell_clump.specs.parts.Numbers.{AreWritten, HaveNumbers, IsNumbered, cell_number, number_at}
+use Rattle.cell_clump.specs.parts.Places.{position}
+use Rattle.cell_clump.specs.parts.Reading.{AreBeside, AreNear, IsLine}
+use Rattle.cell_clump.specs.parts.Starts.{starts}
+use Rattle.cell_clump.specs.parts.Tables.{AreLabels}
+use Rattle.cell_clump.proofs.LineLemmas.{line_empty, near_next, line_next, beside_next, beside_first, line_down, tells_here}
+use Rattle.cell_clump.proofs.NumberLemmas.{number_small}
+
+module _ (j : Joining) (m : Grid) (labels : List ℕ) (h : AreLabels j m labels) where
+  pub numbering_first : (next : ℕ) (line : List Labelled) (r : ℕ) (near : Near) → HaveNumbers j m labels h next line r 0 → near.left.cell ≡ None → near.above.cell ≡ None → ((d : Labelled) → 0 < length line → near.upper_right ≡ get_or line 0 d) → (length line ≤ 0 → near.upper_right.cell ≡ None) → AreBeside m (r * m.region.cols + 0) (number_at j m labels h) r 0 near
+  numbering_first next line r near have left above within past = beside_first m h.has_read.read.inside (r * m.region.cols + 0) (number_at j m labels h) r line near have.is_line left above within past
+
+  pub numbering_down : (next : ℕ) (line : List Labelled) (r c : ℕ) → c ≡ m.region.cols → HaveNumbers j m labels h next line r c → HaveNumbers j m labels h next line (r + 1) 0
+  numbering_down next line r c e have =
+      let z : r * m.region.cols + c ≡ (r + 1) * m.region.cols + 0 = omega arith in
+      record {
+        next_is = have.next_is ∙ ap (starts j m) z;
+        is_line = subst (λ (k : ℕ). IsLine m k (number_at j m labels h) (r + 1) 0 line) z
+            (line_down m (r * m.region.cols + c) (number_at j m labels h) r line (subst (λ (k : ℕ). IsLine m (r * m.region.cols + c) (number_at j m labels h) r k line) e have.is_line));
+      }
+
+  module _ (next : ℕ) (line : List Labelled) (r c : ℕ) (near : Near) (have : HaveNumbers j m labels h next line r c) (beside : AreBeside m (r * m.region.cols + c) (number_at j m labels h) r c near) (ur : Labelled) (within : (d : Labelled) → c + 1 < length line → ur ≡ get_or line (c + 1) d) (past : length line ≤ c + 1 → ur.cell ≡ None) where
+    abbrev pub turned : Near
+    turned = record { left = near.left; upper_left = near.above; above = near.upper_right; upper_right = ur }
+
+    pub numbering_near : AreNear m (r * m.region.cols + c) (number_at j m labels h) r c turned
+    numbering_near = near_next m h.has_read.read.inside (r * m.region.cols + c) (number_at j m labels h) r c line have.is_line near ur beside within past
+
+    module _ (x : Labelled) (c_in : c < m.region.cols) (cell : x.cell ≡ at m (position r c)) (label : (v : ℤ) → at m (position r c) ≡ Some v → x.label ≡ number_at j m labels h (position r c)) where
+      pub numbering_next : (after : ℕ) → after ≡ starts j m (r * m.region.cols + (c + 1)) → HaveNumbers j m labels h after (set line c x) r (c + 1)
+      numbering_next after next_is = record {
+        next_is = next_is;
+        is_line = line_next m (r * m.region.cols + c) (r * m.region.cols + (c + 1)) (number_at j m labels h) (number_at j m labels h) (omega arith) (λ q lt. refl) r c x
+            (tells_here m (r * m.region.cols + (c + 1)) (number_at j m labels h) r c x cell label (omega arith)) line c_in have.is_line;
+      }
+
+      pub numbering_beside : AreBeside m (r * m.region.cols + (c + 1)) (number_at j m labels h) r (c + 1) (record turned { left = x })
+      numbering_beside = beside_next m (r * m.region.cols + c) (r * m.region.cols + (c + 1)) (number_at j m labels h) (number_at j m labels h) (omega arith) (λ q lt. refl) r c x
+          (tells_here m (r * m.region.cols + (c + 1)) (number_at j m labels h) r c x cell label (omega arith)) turned numbering_near
+
+  -- what was written for a cell
+  pub number_written_at : (r c : ℕ) (x : Labelled) (w : CellValue) → length labels < 2147483648 → x.cell ≡ at m (position r c) → ((v : ℤ) → at m (position r c) ≡ Some v → x.label ≡ number_at j m labels h (position r c)) → (x.cell ≡ None → w ≡ None) → ((v : ℤ) → x.cell ≡ Some v → x.label < 2147483648 → w ≡ Some (pos x.label)) → w ≡ cell_number j m labels h (position r c)
+  number_written_at r c x w short cell label null number = by_cell (at m (position r c)) refl
+    where
+      by_cell : (y : CellValue) → at m (position r c) ≡ y → w ≡ cell_number j m labels h (position r c)
+      by_cell None e =
+          let none : is_some (at m (position r c)) ≡ false = ap (λ (z : CellValue). is_some z) e in
+          null (cell ∙ e) ∙ sym (cond-false (is_some (at m (position r c))) (Some (pos (number_at j m labels h (position r c)))) None none)
+      by_cell (Some v) e =
+          let some : is_some (at m (position r c)) ≡ true = ap (λ (z : CellValue). is_some z) e in
+          let is = label v e in
+          let small = number_small j m labels h (position r c) v e short in
+          number v (cell ∙ e) (omega arith) ∙ ap (λ (n : ℕ). Some (pos n)) is ∙ sym (cond-true (is_some (at m (position r c))) (Some (pos (number_at j m labels h (position r c)))) None some)
+
+  pub written_next : (r c : ℕ) (row : List CellValue) (w : CellValue) → c < length row → w ≡ cell_number j m labels h (position r c) → AreWritten j m labels h r c row → AreWritten j m labels h r (c + 1) (set row c w)
+  written_next r c row w inside is before k lt =
+      ⊎_elim (λ below. get_or-set_other row c k w None (omega arith) ∙ before k below)
+      (λ ge. let e : k ≡ c = omega arith in ap (λ (i : ℕ). get_or (set row c w) i None) e ∙ get_or-set_same row c w None inside ∙ is ∙ ap (λ (i : ℕ). cell_number j m labels h (position r i)) (sym e))
+      (cases_lt k c)
+
+pub copied_rest : (m : Grid) (r c : ℕ) (cells : List CellValue) (x : CellValue) → ((k : ℕ) → c ≤ k → get_or cells k None ≡ get_or (row_at m r) k None) → x ≡ get_or cells c None → x ≡ at m (position r c)
+copied_rest m r c cells x rest is = is ∙ rest c (omega arith)
+
+pub numbers_first : (j : Joining) (m : Grid) (labels : List ℕ) (h : AreLabels j m labels) (line : List Labelled) (x : Labelled) → line ≡ replicate m.region.cols x → x.cell ≡ None → HaveNumbers j m labels h 0 line 0 0
+numbers_first j m labels h line x is none =
+    let z : 0 ≡ 0 * m.region.cols + 0 = omega arith in
+    record {
+      next_is = ap (starts j m) z;
+      is_line = subst (λ (k : ℕ). IsLine m k (number_at j m labels h) 0 0 line) z (line_empty m (number_at j m labels h) line x is none);
+    }
