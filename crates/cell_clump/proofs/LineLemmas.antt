@@ -55,20 +55,19 @@ module _ (m : Grid) (inside : (p : Position) (v : ℤ) → at m p ≡ Some v →
       (cases_lt k m.region.cols)
 
   -- the neighbours of the next cell
-  pub near_next : (near : Near) (x : Labelled) → AreBeside m count f r c near → ((d : Labelled) → c + 1 < length line → x ≡ get_or line (c + 1) d) → (length line ≤ c + 1 → x.cell ≡ None) → AreNear m count f r c (record { left = near.left; upper_left = near.above; above = near.upper_right; upper_right = x })
-  near_next near x beside within past = record {
+  pub near_next : (near : Near) (x y : Labelled) → AreBeside m count f r c near → c < m.region.cols → x ≡ get_or line c x → ((d : Labelled) → c + 1 < length line → y ≡ get_or line (c + 1) d) → (length line ≤ c + 1 → y.cell ≡ None) → AreNear m count f r c (record { left = near.left; upper_left = near.above; above = x; upper_right = y })
+  near_next near x y beside c_in is within past = record {
     left = beside.left;
     upper_left = beside.upper_left;
-    above = beside.above;
-    upper_right = tells_column (c + 1) x (omega arith) within past;
+    above = subst (Tells m count f (IsAbove r c)) (sym is) (is_line.above c x (omega arith) c_in);
+    upper_right = tells_column (c + 1) y (omega arith) within past;
   }
 
 -- at the left of a row
-pub beside_first : (m : Grid) → ((p : Position) (v : ℤ) → at m p ≡ Some v → IsInside m p) → (count : ℕ) (f : Position → ℕ) (r : ℕ) (line : List Labelled) (near : Near) → IsLine m count f r 0 line → near.left.cell ≡ None → near.above.cell ≡ None → ((d : Labelled) → 0 < length line → near.upper_right ≡ get_or line 0 d) → (length line ≤ 0 → near.upper_right.cell ≡ None) → AreBeside m count f r 0 near
-beside_first m inside count f r line near is_line left above within past = record {
+pub beside_first : (m : Grid) (count : ℕ) (f : Position → ℕ) (r : ℕ) (near : Near) → near.left.cell ≡ None → near.above.cell ≡ None → AreBeside m count f r 0 near
+beside_first m count f r near left above = record {
   left = tells_none m count f (IsLeft r 0) near.left left (λ q v lies is. let col = lies.1 in omega arith);
   upper_left = tells_none m count f (IsUpperLeft r 0) near.above above (λ q v lies is. let col = lies.1 in omega arith);
-  above = tells_column m inside count f r 0 line is_line 0 near.upper_right (omega arith) within past;
 }
 
 -- ---- one cell more
@@ -92,7 +91,6 @@ module _ (m : Grid) (count more : ℕ) (f g : Position → ℕ) (le : count ≤ 
         (λ q h. let col = h.1 in (h.0, omega arith)) (λ q h. let col = h.1 in (h.0, omega arith)) here;
     upper_left = tells_as m more g (IsAbove r c) (IsUpperLeft r (c + 1)) near.above
         (λ q h. let col = h.1 in (h.0, omega arith)) (λ q h. let col = h.1 in (h.0, omega arith)) (tells_grown m count more f g (IsAbove r c) near.above le same n.above);
-    above = tells_grown m count more f g (IsAbove r (c + 1)) near.upper_right le same n.upper_right;
   }
 
 -- the line at the next row
@@ -114,39 +112,36 @@ line_first m f line wide none = record {
 
 -- ---- labels in the line
 
-module _ (j : Joining) (m : Grid) (table : List ℕ) (line : List Labelled) (r c : ℕ) (near : Near) (h : IsReading j m table line r c near) (ur : Labelled) (within : (d : Labelled) → c + 1 < length line → ur ≡ get_or line (c + 1) d) (past : length line ≤ c + 1 → ur.cell ≡ None) where
+module _ (j : Joining) (m : Grid) (table : List ℕ) (line : List Labelled) (r c : ℕ) (near : Near) (h : IsReading j m table line r c near) (x y : Labelled) (c_in : c < m.region.cols) (is : x ≡ get_or line c x) (within : (d : Labelled) → c + 1 < length line → y ≡ get_or line (c + 1) d) (past : length line ≤ c + 1 → y.cell ≡ None) where
   abbrev pub turned : Near
-  turned = record { left = near.left; upper_left = near.above; above = near.upper_right; upper_right = ur }
+  turned = record { left = near.left; upper_left = near.above; above = x; upper_right = y }
 
   pub reading_near : AreNear m (length h.cells.labels) (label_in m h.cells.labels) r c turned
-  reading_near = near_next m h.cells.has_read.read.inside (length h.cells.labels) (label_in m h.cells.labels) r c line h.cells.is_line near ur h.beside within past
+  reading_near = near_next m h.cells.has_read.read.inside (length h.cells.labels) (label_in m h.cells.labels) r c line h.cells.is_line near x y h.beside c_in is within past
 
   pub reading_inside : AreInside (length table) turned
   reading_inside = inside_near j m table h.cells.labels h.cells.has_read.open_of r c turned h.cells.has_read.read reading_near
 
-  pub reading_next : (new : List ℕ) (x : Labelled) → c < m.region.cols → x.cell ≡ at m (position r c) → HasRead j m new (h.cells.labels ++ x.label ∷ []) → IsReading j m new (set line c x) r (c + 1) (record turned { left = x })
-  reading_next new x c_in cell has_read =
+  pub reading_next : (new : List ℕ) (z : Labelled) → z.cell ≡ at m (position r c) → HasRead j m new (h.cells.labels ++ z.label ∷ []) → IsReading j m new (set line c z) r (c + 1) (record turned { left = z })
+  reading_next new z cell has_read =
       let old : List ℕ = h.cells.labels in
-      let more : List ℕ = old ++ x.label ∷ [] in
+      let more : List ℕ = old ++ z.label ∷ [] in
       let count = h.cells.count in
-      let long : length more ≡ length old + 1 = length_push old x.label in
-      let same : (q : Position) → place_of m.region.cols q < length old → label_in m more q ≡ label_in m old q = λ q lt. get_or_append_left old (x.label ∷ []) 0 (place_of m.region.cols q) lt in
-      let here = tells_here m (length more) (label_in m more) r c x cell (λ v is. sym (get_or_push old x.label 0 (r * m.region.cols + c) count)) (omega arith) in
+      let long : length more ≡ length old + 1 = length_push old z.label in
+      let same : (q : Position) → place_of m.region.cols q < length old → label_in m more q ≡ label_in m old q = λ q lt. get_or_append_left old (z.label ∷ []) 0 (place_of m.region.cols q) lt in
+      let here = tells_here m (length more) (label_in m more) r c z cell (λ v is. sym (get_or_push old z.label 0 (r * m.region.cols + c) count)) (omega arith) in
       record {
         cells = record {
           labels = more;
           has_read = has_read;
           count = omega arith;
-          is_line = line_next m (length old) (length more) (label_in m old) (label_in m more) (omega arith) same r c x here line c_in h.cells.is_line;
+          is_line = line_next m (length old) (length more) (label_in m old) (label_in m more) (omega arith) same r c z here line c_in h.cells.is_line;
         };
-        beside = beside_next m (length old) (length more) (label_in m old) (label_in m more) (omega arith) same r c x here turned reading_near;
+        beside = beside_next m (length old) (length more) (label_in m old) (label_in m more) (omega arith) same r c z here turned reading_near;
       }
 
-pub reading_first : (j : Joining) (m : Grid) (table : List ℕ) (line : List Labelled) (r : ℕ) (near : Near) → HaveCells j m table line r 0 → near.left.cell ≡ None → near.above.cell ≡ None → ((d : Labelled) → 0 < length line → near.upper_right ≡ get_or line 0 d) → (length line ≤ 0 → near.upper_right.cell ≡ None) → IsReading j m table line r 0 near
-reading_first j m table line r near h left above within past = record {
-  cells = h;
-  beside = beside_first m h.has_read.read.inside (length h.labels) (label_in m h.labels) r line near h.is_line left above within past;
-}
+pub reading_first : (j : Joining) (m : Grid) (table : List ℕ) (line : List Labelled) (r : ℕ) (near : Near) → HaveCells j m table line r 0 → near.left.cell ≡ None → near.above.cell ≡ None → IsReading j m table line r 0 near
+reading_first j m table line r near h left above = record { cells = h; beside = beside_first m (length h.labels) (label_in m h.labels) r near left above }
 
 pub cells_down : (j : Joining) (m : Grid) (table : List ℕ) (line : List Labelled) (r c : ℕ) → c ≡ m.region.cols → HaveCells j m table line r c → HaveCells j m table line (r + 1) 0
 cells_down j m table line r c e h = record {

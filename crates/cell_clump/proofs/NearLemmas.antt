@@ -158,33 +158,34 @@ module _ (j : Joining) (m : Grid) (r c : ℕ) (v : ℤ) (table labels : List ℕ
 -- ---- by edges
 
 module _ (m : Grid) (r c : ℕ) (v : ℤ) (table labels : List ℕ) (f : ℕ → ℕ) (near : Near) (n : AreNear m (length labels) (label_in m labels) r c near) (rd : AreRead Edges m table labels f) where
-  pub edges_left : (near.above.cell ≡ Some v → ⊥) → near.left.cell ≡ Some v → Shares Edges m table labels f r c v near.left.label
-  edges_left not_above left =
+  pub edges_above : (near.left.cell ≡ Some v → ⊥) → near.above.cell ≡ Some v → Shares Edges m table labels f r c v near.above.label
+  edges_above not_left above =
+      let t = tell_above m (length labels) (label_in m labels) r c v near n above in
+      shared Edges m r c v table labels f rd t.0 near.above (inr t.1) t.2
+      (λ p earlier is. ⊎_elim (λ h. absurd (not_left (told_left m (length labels) (label_in m labels) r c v near n p h is).cell))
+      (λ h. ap f (sym (told_above m (length labels) (label_in m labels) r c v near n p h is).label)) earlier)
+
+  pub edges_left : near.left.cell ≡ Some v → (near.above.cell ≡ Some v → near.upper_left.cell ≡ Some v) → Shares Edges m table labels f r c v near.left.label
+  edges_left left between =
       let t = tell_left m (length labels) (label_in m labels) r c v near n left in
       shared Edges m r c v table labels f rd t.0 near.left (inl t.1) t.2
       (λ p earlier is. ⊎_elim (λ h. ap f (sym (told_left m (length labels) (label_in m labels) r c v near n p h is).label))
-      (λ h. absurd (not_above (told_above m (length labels) (label_in m labels) r c v near n p h is).cell)) earlier)
-
-  pub edges_above : near.above.cell ≡ Some v → (near.left.cell ≡ Some v → near.upper_left.cell ≡ Some v) → Shares Edges m table labels f r c v near.above.label
-  edges_above above between =
-      let t = tell_above m (length labels) (label_in m labels) r c v near n above in
-      shared Edges m r c v table labels f rd t.0 near.above (inr t.1) t.2
-      (λ p earlier is. ⊎_elim
-      (λ h. let l = told_left m (length labels) (label_in m labels) r c v near n p h is in
-      let u = tell_upper_left m (length labels) (label_in m labels) r c v near n (between l.cell) in
-      let a = h.0 in let b = h.1 in let x = u.1.0 in let y = u.1.1 in let z = t.1.0 in let w = t.1.1 in
-      met Edges m r c v table labels f rd p u.0 near.left near.upper_left (below Edges p u.0 (omega arith) (omega arith)) l u.2
+      (λ h. let a = told_above m (length labels) (label_in m labels) r c v near n p h is in
+      let u = tell_upper_left m (length labels) (label_in m labels) r c v near n (between a.cell) in
+      let x = u.1.0 in let y = u.1.1 in let z = t.1.0 in let w = t.1.1 in let i = h.0 in let k = h.1 in
+      sym (met Edges m r c v table labels f rd t.0 u.0 near.left near.upper_left (below Edges t.0 u.0 (omega arith) (omega arith)) t.2 u.2
       ∙ ap f u.2.label
-      ∙ met Edges m r c v table labels f rd u.0 t.0 near.upper_left near.above (beside Edges u.0 t.0 (omega arith) (omega arith)) u.2 t.2)
-      (λ h. ap f (sym (told_above m (length labels) (label_in m labels) r c v near n p h is).label)) earlier)
+      ∙ met Edges m r c v table labels f rd u.0 p near.upper_left near.above (beside Edges u.0 p (omega arith) (omega arith)) u.2 a
+      ∙ ap f a.label)
+      ∙ ap f (sym t.2.label)) earlier)
 
-  pub edges_joined : (new : List ℕ) → at m (position r c) ≡ Some v → near.above.cell ≡ Some v → near.left.cell ≡ Some v → length new ≡ length table → TellsOpen new (after_join f near.left.label near.above.label) → Shares Edges m new labels f r c v near.above.label
-  edges_joined new is above left long tells =
+  pub edges_joined : (new : List ℕ) → at m (position r c) ≡ Some v → near.left.cell ≡ Some v → near.above.cell ≡ Some v → length new ≡ length table → TellsOpen new (after_join f near.above.label near.left.label) → Shares Edges m new labels f r c v near.left.label
+  edges_joined new is left above long tells =
       let t = tell_above m (length labels) (label_in m labels) r c v near n above in
       let l = tell_left m (length labels) (label_in m labels) r c v near n left in
-      shared_joined Edges m r c v table labels f rd new l.0 t.0 near.left near.above is (inl l.1) (inr t.1) l.2 t.2 long tells
-      (λ p earlier p_is. ⊎_elim (λ h. inl (ap f (sym (told_left m (length labels) (label_in m labels) r c v near n p h p_is).label)))
-      (λ h. inr (ap f (sym (told_above m (length labels) (label_in m labels) r c v near n p h p_is).label))) earlier)
+      shared_joined Edges m r c v table labels f rd new t.0 l.0 near.above near.left is (inr t.1) (inl l.1) t.2 l.2 long tells
+      (λ p earlier p_is. ⊎_elim (λ h. inr (ap f (sym (told_left m (length labels) (label_in m labels) r c v near n p h p_is).label)))
+      (λ h. inl (ap f (sym (told_above m (length labels) (label_in m labels) r c v near n p h p_is).label))) earlier)
 
 -- ---- by edges and corners
 
@@ -207,59 +208,64 @@ module _ (m : Grid) (r c : ℕ) (v : ℤ) (table labels : List ℕ) (f : ℕ →
       (λ p h s. let a = h.0 in let b = h.1 in met EdgesAndCorners m r c v table labels f rd p t.0 near.upper_left near.above (beside EdgesAndCorners p t.0 (omega arith) (omega arith)) s t.2)
       (λ p h s. let a = h.0 in let b = h.1 in sym (met EdgesAndCorners m r c v table labels f rd t.0 p near.above near.upper_right (beside EdgesAndCorners t.0 p (omega arith) (omega arith)) t.2 s ∙ ap f s.label) ∙ ap f (sym t.2.label)))
 
-  pub corners_left : ((q : Position) → IsAbove r c q ⊎ IsUpperRight r c q → at m q ≡ Some v → ⊥) → near.left.cell ≡ Some v → Shares EdgesAndCorners m table labels f r c v near.left.label
-  corners_left none left =
+  -- the upper left neighbour touches the left one
+  under_left : (p l : Position) → IsUpperLeft r c p → IsLeft r c l → Told m (length labels) (label_in m labels) p v near.upper_left → Told m (length labels) (label_in m labels) l v near.left → f (label_in m labels p) ≡ f near.left.label
+  under_left p l h g s t =
+      let a = h.0 in let b = h.1 in let z = g.0 in let w = g.1 in
+      sym (met EdgesAndCorners m r c v table labels f rd l p near.left near.upper_left (below EdgesAndCorners l p (omega arith) (omega arith)) t s ∙ ap f s.label) ∙ ap f (sym t.label)
+
+  pub corners_left : (near.above.cell ≡ Some v → ⊥) → near.left.cell ≡ Some v → (near.upper_right.cell ≡ Some v → ⊥) → Shares EdgesAndCorners m table labels f r c v near.left.label
+  corners_left not_above left not_upper_right =
       let t = tell_left m (length labels) (label_in m labels) r c v near n left in
-      let z = t.1.0 in let w = t.1.1 in
       shared EdgesAndCorners m r c v table labels f rd t.0 near.left (inl (inl t.1)) t.2
       (each (λ p. f (label_in m labels p) ≡ f near.left.label)
       (λ p h s. ap f (sym s.label))
-      (λ p h s. absurd (none p (inl h) s.is))
-      (λ p h s. let a = h.0 in let b = h.1 in sym (met EdgesAndCorners m r c v table labels f rd t.0 p near.left near.upper_left (below EdgesAndCorners t.0 p (omega arith) (omega arith)) t.2 s ∙ ap f s.label) ∙ ap f (sym t.2.label))
-      (λ p h s. absurd (none p (inr h) s.is)))
-
-  pub corners_upper_left : ((q : Position) → IsAbove r c q ⊎ IsUpperRight r c q → at m q ≡ Some v → ⊥) → (near.left.cell ≡ Some v → ⊥) → near.upper_left.cell ≡ Some v → Shares EdgesAndCorners m table labels f r c v near.upper_left.label
-  corners_upper_left none not_left upper_left =
-      let t = tell_upper_left m (length labels) (label_in m labels) r c v near n upper_left in
-      shared EdgesAndCorners m r c v table labels f rd t.0 near.upper_left (inr (inl t.1)) t.2
-      (each (λ p. f (label_in m labels p) ≡ f near.upper_left.label)
-      (λ p h s. absurd (not_left s.cell))
-      (λ p h s. absurd (none p (inl h) s.is))
-      (λ p h s. ap f (sym s.label))
-      (λ p h s. absurd (none p (inr h) s.is)))
-
-  pub corners_upper_right : (near.above.cell ≡ Some v → ⊥) → (near.left.cell ≡ Some v → ⊥) → (near.upper_left.cell ≡ Some v → ⊥) → near.upper_right.cell ≡ Some v → Shares EdgesAndCorners m table labels f r c v near.upper_right.label
-  corners_upper_right not_above not_left not_upper_left upper_right =
-      let t = tell_upper_right m (length labels) (label_in m labels) r c v near n upper_right in
-      shared EdgesAndCorners m r c v table labels f rd t.0 near.upper_right (inr (inr t.1)) t.2
-      (each (λ p. f (label_in m labels p) ≡ f near.upper_right.label)
-      (λ p h s. absurd (not_left s.cell))
       (λ p h s. absurd (not_above s.cell))
-      (λ p h s. absurd (not_upper_left s.cell))
-      (λ p h s. ap f (sym s.label)))
+      (λ p h s. under_left p t.0 h t.1 s t.2)
+      (λ p h s. absurd (not_upper_right s.cell)))
 
-  pub corners_joined_left : (new : List ℕ) → at m (position r c) ≡ Some v → (near.above.cell ≡ Some v → ⊥) → near.upper_right.cell ≡ Some v → near.left.cell ≡ Some v → length new ≡ length table → TellsOpen new (after_join f near.left.label near.upper_right.label) → Shares EdgesAndCorners m new labels f r c v near.upper_right.label
-  corners_joined_left new is not_above upper_right left long tells =
+  pub corners_joined_left : (new : List ℕ) → at m (position r c) ≡ Some v → (near.above.cell ≡ Some v → ⊥) → near.left.cell ≡ Some v → near.upper_right.cell ≡ Some v → length new ≡ length table → TellsOpen new (after_join f near.upper_right.label near.left.label) → Shares EdgesAndCorners m new labels f r c v near.left.label
+  corners_joined_left new is not_above left upper_right long tells =
       let t = tell_upper_right m (length labels) (label_in m labels) r c v near n upper_right in
       let l = tell_left m (length labels) (label_in m labels) r c v near n left in
-      let z = l.1.0 in let w = l.1.1 in
-      shared_joined EdgesAndCorners m r c v table labels f rd new l.0 t.0 near.left near.upper_right is (inl (inl l.1)) (inr (inr t.1)) l.2 t.2 long tells
-      (each (λ p. (f (label_in m labels p) ≡ f near.left.label) ⊎ (f (label_in m labels p) ≡ f near.upper_right.label))
-      (λ p h s. inl (ap f (sym s.label)))
+      shared_joined EdgesAndCorners m r c v table labels f rd new t.0 l.0 near.upper_right near.left is (inr (inr t.1)) (inl (inl l.1)) t.2 l.2 long tells
+      (each (λ p. (f (label_in m labels p) ≡ f near.upper_right.label) ⊎ (f (label_in m labels p) ≡ f near.left.label))
+      (λ p h s. inr (ap f (sym s.label)))
       (λ p h s. absurd (not_above s.cell))
-      (λ p h s. let a = h.0 in let b = h.1 in inl (sym (met EdgesAndCorners m r c v table labels f rd l.0 p near.left near.upper_left (below EdgesAndCorners l.0 p (omega arith) (omega arith)) l.2 s ∙ ap f s.label) ∙ ap f (sym l.2.label)))
-      (λ p h s. inr (ap f (sym s.label))))
+      (λ p h s. inr (under_left p l.0 h l.1 s l.2))
+      (λ p h s. inl (ap f (sym s.label))))
 
-  pub corners_joined_upper_left : (new : List ℕ) → at m (position r c) ≡ Some v → (near.above.cell ≡ Some v → ⊥) → near.upper_right.cell ≡ Some v → (near.left.cell ≡ Some v → ⊥) → near.upper_left.cell ≡ Some v → length new ≡ length table → TellsOpen new (after_join f near.upper_left.label near.upper_right.label) → Shares EdgesAndCorners m new labels f r c v near.upper_right.label
-  corners_joined_upper_left new is not_above upper_right not_left upper_left long tells =
-      let t = tell_upper_right m (length labels) (label_in m labels) r c v near n upper_right in
-      let u = tell_upper_left m (length labels) (label_in m labels) r c v near n upper_left in
-      shared_joined EdgesAndCorners m r c v table labels f rd new u.0 t.0 near.upper_left near.upper_right is (inr (inl u.1)) (inr (inr t.1)) u.2 t.2 long tells
-      (each (λ p. (f (label_in m labels p) ≡ f near.upper_left.label) ⊎ (f (label_in m labels p) ≡ f near.upper_right.label))
-      (λ p h s. absurd (not_left s.cell))
-      (λ p h s. absurd (not_above s.cell))
-      (λ p h s. inl (ap f (sym s.label)))
-      (λ p h s. inr (ap f (sym s.label))))
+  module _ (none : (q : Position) → IsLeft r c q ⊎ IsAbove r c q → at m q ≡ Some v → ⊥) where
+    pub corners_upper_right : (near.upper_left.cell ≡ Some v → ⊥) → near.upper_right.cell ≡ Some v → Shares EdgesAndCorners m table labels f r c v near.upper_right.label
+    corners_upper_right not_upper_left upper_right =
+        let t = tell_upper_right m (length labels) (label_in m labels) r c v near n upper_right in
+        shared EdgesAndCorners m r c v table labels f rd t.0 near.upper_right (inr (inr t.1)) t.2
+        (each (λ p. f (label_in m labels p) ≡ f near.upper_right.label)
+        (λ p h s. absurd (none p (inl h) s.is))
+        (λ p h s. absurd (none p (inr h) s.is))
+        (λ p h s. absurd (not_upper_left s.cell))
+        (λ p h s. ap f (sym s.label)))
+
+    pub corners_upper_left : near.upper_left.cell ≡ Some v → (near.upper_right.cell ≡ Some v → near.upper_right.label ≡ near.upper_left.label) → Shares EdgesAndCorners m table labels f r c v near.upper_left.label
+    corners_upper_left upper_left same =
+        let t = tell_upper_left m (length labels) (label_in m labels) r c v near n upper_left in
+        shared EdgesAndCorners m r c v table labels f rd t.0 near.upper_left (inr (inl t.1)) t.2
+        (each (λ p. f (label_in m labels p) ≡ f near.upper_left.label)
+        (λ p h s. absurd (none p (inl h) s.is))
+        (λ p h s. absurd (none p (inr h) s.is))
+        (λ p h s. ap f (sym s.label))
+        (λ p h s. ap f (sym s.label ∙ same s.cell)))
+
+    pub corners_joined : (new : List ℕ) → at m (position r c) ≡ Some v → near.upper_left.cell ≡ Some v → near.upper_right.cell ≡ Some v → length new ≡ length table → TellsOpen new (after_join f near.upper_right.label near.upper_left.label) → Shares EdgesAndCorners m new labels f r c v near.upper_left.label
+    corners_joined new is upper_left upper_right long tells =
+        let t = tell_upper_right m (length labels) (label_in m labels) r c v near n upper_right in
+        let u = tell_upper_left m (length labels) (label_in m labels) r c v near n upper_left in
+        shared_joined EdgesAndCorners m r c v table labels f rd new t.0 u.0 near.upper_right near.upper_left is (inr (inr t.1)) (inr (inl u.1)) t.2 u.2 long tells
+        (each (λ p. (f (label_in m labels p) ≡ f near.upper_right.label) ⊎ (f (label_in m labels p) ≡ f near.upper_left.label))
+        (λ p h s. absurd (none p (inl h) s.is))
+        (λ p h s. absurd (none p (inr h) s.is))
+        (λ p h s. inr (ap f (sym s.label)))
+        (λ p h s. inl (ap f (sym s.label))))
 
 pub if_some_map : {A : Type 0} (x : Option A) (P Q : A → Type 0) → IfSome x P → ((a : A) → P a → Q a) → IfSome x Q
 if_some_map None P Q h f = tt

@@ -15,8 +15,8 @@ use Rattle.cell_clump.proofs.LineLemmas.{line_empty, near_next, line_next, besid
 use Rattle.cell_clump.proofs.NumberLemmas.{number_small}
 
 module _ (j : Joining) (m : Grid) (labels : List ℕ) (h : AreLabels j m labels) where
-  pub numbering_first : (next : ℕ) (line : List Labelled) (r : ℕ) (near : Near) → HaveNumbers j m labels h next line r 0 → near.left.cell ≡ None → near.above.cell ≡ None → ((d : Labelled) → 0 < length line → near.upper_right ≡ get_or line 0 d) → (length line ≤ 0 → near.upper_right.cell ≡ None) → AreBeside m (r * m.region.cols + 0) (number_at j m labels h) r 0 near
-  numbering_first next line r near have left above within past = beside_first m h.has_read.read.inside (r * m.region.cols + 0) (number_at j m labels h) r line near have.is_line left above within past
+  pub numbering_first : (r : ℕ) (near : Near) → near.left.cell ≡ None → near.above.cell ≡ None → AreBeside m (r * m.region.cols + 0) (number_at j m labels h) r 0 near
+  numbering_first r near left above = beside_first m (r * m.region.cols + 0) (number_at j m labels h) r near left above
 
   pub numbering_down : (next : ℕ) (line : List Labelled) (r c : ℕ) → c ≡ m.region.cols → HaveNumbers j m labels h next line r c → HaveNumbers j m labels h next line (r + 1) 0
   numbering_down next line r c e have =
@@ -27,38 +27,39 @@ module _ (j : Joining) (m : Grid) (labels : List ℕ) (h : AreLabels j m labels)
             (line_down m (r * m.region.cols + c) (number_at j m labels h) r line (subst (λ (k : ℕ). IsLine m (r * m.region.cols + c) (number_at j m labels h) r k line) e have.is_line));
       }
 
-  module _ (next : ℕ) (line : List Labelled) (r c : ℕ) (near : Near) (have : HaveNumbers j m labels h next line r c) (beside : AreBeside m (r * m.region.cols + c) (number_at j m labels h) r c near) (ur : Labelled) (within : (d : Labelled) → c + 1 < length line → ur ≡ get_or line (c + 1) d) (past : length line ≤ c + 1 → ur.cell ≡ None) where
+  module _ (next : ℕ) (line : List Labelled) (r c : ℕ) (near : Near) (have : HaveNumbers j m labels h next line r c) (beside : AreBeside m (r * m.region.cols + c) (number_at j m labels h) r c near) (x y : Labelled) (c_in : c < m.region.cols) (is : x ≡ get_or line c x) (within : (d : Labelled) → c + 1 < length line → y ≡ get_or line (c + 1) d) (past : length line ≤ c + 1 → y.cell ≡ None) where
     abbrev pub turned : Near
-    turned = record { left = near.left; upper_left = near.above; above = near.upper_right; upper_right = ur }
+    turned = record { left = near.left; upper_left = near.above; above = x; upper_right = y }
 
     pub numbering_near : AreNear m (r * m.region.cols + c) (number_at j m labels h) r c turned
-    numbering_near = near_next m h.has_read.read.inside (r * m.region.cols + c) (number_at j m labels h) r c line have.is_line near ur beside within past
+    numbering_near = near_next m h.has_read.read.inside (r * m.region.cols + c) (number_at j m labels h) r c line have.is_line near x y beside c_in is within past
 
-    module _ (x : Labelled) (c_in : c < m.region.cols) (cell : x.cell ≡ at m (position r c)) (label : (v : ℤ) → at m (position r c) ≡ Some v → x.label ≡ number_at j m labels h (position r c)) where
-      pub numbering_next : (after : ℕ) → after ≡ starts j m (r * m.region.cols + (c + 1)) → HaveNumbers j m labels h after (set line c x) r (c + 1)
+    module _ (z : Labelled) (cell : z.cell ≡ at m (position r c)) (label : (v : ℤ) → at m (position r c) ≡ Some v → z.label ≡ number_at j m labels h (position r c)) where
+      pub numbering_next : (after : ℕ) → after ≡ starts j m (r * m.region.cols + (c + 1)) → HaveNumbers j m labels h after (set line c z) r (c + 1)
       numbering_next after next_is = record {
         next_is = next_is;
-        is_line = line_next m (r * m.region.cols + c) (r * m.region.cols + (c + 1)) (number_at j m labels h) (number_at j m labels h) (omega arith) (λ q lt. refl) r c x
-            (tells_here m (r * m.region.cols + (c + 1)) (number_at j m labels h) r c x cell label (omega arith)) line c_in have.is_line;
+        is_line = line_next m (r * m.region.cols + c) (r * m.region.cols + (c + 1)) (number_at j m labels h) (number_at j m labels h) (omega arith) (λ q lt. refl) r c z
+            (tells_here m (r * m.region.cols + (c + 1)) (number_at j m labels h) r c z cell label (omega arith)) line c_in have.is_line;
       }
 
-      pub numbering_beside : AreBeside m (r * m.region.cols + (c + 1)) (number_at j m labels h) r (c + 1) (record turned { left = x })
-      numbering_beside = beside_next m (r * m.region.cols + c) (r * m.region.cols + (c + 1)) (number_at j m labels h) (number_at j m labels h) (omega arith) (λ q lt. refl) r c x
-          (tells_here m (r * m.region.cols + (c + 1)) (number_at j m labels h) r c x cell label (omega arith)) turned numbering_near
+      pub numbering_beside : AreBeside m (r * m.region.cols + (c + 1)) (number_at j m labels h) r (c + 1) (record turned { left = z })
+      numbering_beside = beside_next m (r * m.region.cols + c) (r * m.region.cols + (c + 1)) (number_at j m labels h) (number_at j m labels h) (omega arith) (λ q lt. refl) r c z
+          (tells_here m (r * m.region.cols + (c + 1)) (number_at j m labels h) r c z cell label (omega arith)) turned numbering_near
 
   -- what was written for a cell
-  pub number_written_at : (r c : ℕ) (x : Labelled) (w : CellValue) → length labels < 2147483648 → x.cell ≡ at m (position r c) → ((v : ℤ) → at m (position r c) ≡ Some v → x.label ≡ number_at j m labels h (position r c)) → (x.cell ≡ None → w ≡ None) → ((v : ℤ) → x.cell ≡ Some v → x.label < 2147483648 → w ≡ Some (pos x.label)) → w ≡ cell_number j m labels h (position r c)
-  number_written_at r c x w short cell label null number = by_cell (at m (position r c)) refl
+  pub number_written_at : (r c : ℕ) (cell : CellValue) (number : ℕ) (w : CellValue) → length labels < 2147483648 → cell ≡ at m (position r c) → ((v : ℤ) → at m (position r c) ≡ Some v → number ≡ number_at j m labels h (position r c)) → (cell ≡ None → number ≡ 2147483648) → (2147483648 ≤ number → w ≡ None) → (number < 2147483648 → w ≡ Some (pos number)) → w ≡ cell_number j m labels h (position r c)
+  number_written_at r c cell number w short here label null past within = by_cell (at m (position r c)) refl
     where
       by_cell : (y : CellValue) → at m (position r c) ≡ y → w ≡ cell_number j m labels h (position r c)
       by_cell None e =
           let none : is_some (at m (position r c)) ≡ false = ap (λ (z : CellValue). is_some z) e in
-          null (cell ∙ e) ∙ sym (cond-false (is_some (at m (position r c))) (Some (pos (number_at j m labels h (position r c)))) None none)
+          let none_number = null (here ∙ e) in
+          past (omega arith) ∙ sym (cond-false (is_some (at m (position r c))) (Some (pos (number_at j m labels h (position r c)))) None none)
       by_cell (Some v) e =
           let some : is_some (at m (position r c)) ≡ true = ap (λ (z : CellValue). is_some z) e in
           let is = label v e in
           let small = number_small j m labels h (position r c) v e short in
-          number v (cell ∙ e) (omega arith) ∙ ap (λ (n : ℕ). Some (pos n)) is ∙ sym (cond-true (is_some (at m (position r c))) (Some (pos (number_at j m labels h (position r c)))) None some)
+          within (omega arith) ∙ ap (λ (n : ℕ). Some (pos n)) is ∙ sym (cond-true (is_some (at m (position r c))) (Some (pos (number_at j m labels h (position r c)))) None some)
 
   pub written_next : (r c : ℕ) (row : List CellValue) (w : CellValue) → c < length row → w ≡ cell_number j m labels h (position r c) → AreWritten j m labels h r c row → AreWritten j m labels h r (c + 1) (set row c w)
   written_next r c row w inside is before k lt =

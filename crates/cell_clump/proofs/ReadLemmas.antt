@@ -104,7 +104,7 @@ module _ (j : Joining) (m : Grid) (table labels : List ℕ) (f : ℕ → ℕ) (r
             (λ u e. (
               omega arith,
               subst (λ (k : ℕ). AreJoined j m (start_of j m k) (position r c)) (sym is_same)
-              (AreJoined-trans j m _ s.from _ (rd.joined s.from v s.alike from_read) (AreJoined-adjacent j m s.from (position r c) v near s.alike is)),
+                  (AreJoined-trans j m _ s.from _ (rd.joined s.from v s.alike from_read) (AreJoined-adjacent j m s.from (position r c) v near s.alike is)),
             ))
             (λ e. absurd (both_ways (begins j m (position r c)) none e))
             (λ q u earlier q_is e _. let both : Some v ≡ Some u = sym is ∙ e in let one : u ≡ v = cc in s.meet q earlier (q_is ∙ ap Some one));

@@ -8,7 +8,7 @@ ghost use Rattle.cell_clump.specs.Areas.{Position, at};
 ghost use Rattle.cell_clump.specs.parts.Labels.{PointDown};
 ghost use Rattle.cell_clump.specs.parts.Places.{position};
 ghost use Rattle.cell_clump.specs.parts.Reading.{AreInside, AreNear, AreRead, HasRead, Shares, label_in};
-ghost use Rattle.cell_clump.specs.parts.Starts.{IsEarlier, IsAbove, IsUpperRight};
+ghost use Rattle.cell_clump.specs.parts.Starts.{IsEarlier, IsAbove, IsLeft};
 
 use crate::clump::Joining;
 use crate::labels::join_labels;
@@ -65,21 +65,21 @@ fn shared_by_edges(table: &mut [u32], cell: Cell, near: &Near) -> Option<u32>
     ensures none { result ≡ None → (m : Grid) (r c : ℕ) (v : ℤ) (count : ℕ) (label_of : Position → ℕ) → cell ≡ Some v → AreNear m count label_of r c near.now →
         (q : Position) → IsEarlier Edges r c q → at m q ≡ Some v → ⊥ }
 {
-    if near.above.cell != cell {
-        return if near.left.cell == cell {
-            Some(near.left.label)
+    if near.left.cell != cell {
+        return if near.above.cell == cell {
+            Some(near.above.label)
         } else {
             None
         };
     }
-    if near.left.cell == cell && near.upper_left.cell != cell {
-        join_labels(table, near.left.label, near.above.label);
+    if near.above.cell == cell && near.upper_left.cell != cell {
+        join_labels(table, near.above.label, near.left.label);
     }
-    Some(near.above.label)
+    Some(near.left.label)
 }
 
 // The label that a cell shares with a neighbour on an edge or at a corner, if there is one. If there are two that no other
-// cell has joined, their labels are joined. The one above touches each of the others, so beside it none is looked at.
+// cell has joined, their labels are joined. The one above touches each of the others.
 fn shared_by_corners(table: &mut [u32], cell: Cell, near: &Near) -> Option<u32>
     requires some { IsSome cell }
     requires down { PointDown table.old }
@@ -94,31 +94,37 @@ fn shared_by_corners(table: &mut [u32], cell: Cell, near: &Near) -> Option<u32>
     if near.above.cell == cell {
         return Some(near.above.label);
     }
-    if near.upper_right.cell != cell {
-        return shared_on_the_left(cell, near);
+    if near.left.cell != cell {
+        return shared_at_corners(table, cell, near);
     }
-    if near.left.cell == cell {
-        join_labels(table, near.left.label, near.upper_right.label);
-    } else if near.upper_left.cell == cell {
-        join_labels(table, near.upper_left.label, near.upper_right.label);
+    if near.upper_right.cell == cell {
+        join_labels(table, near.upper_right.label, near.left.label);
     }
-    Some(near.upper_right.label)
+    Some(near.left.label)
 }
 
-// The label that a cell shares with its left neighbour, or else with its upper left one, which touches that.
-fn shared_on_the_left(cell: Cell, near: &Near) -> Option<u32>
-    ensures shares { IfSome result (λ label. (m : Grid) (r c : ℕ) (v : ℤ) (labels : List ℕ) (table : List ℕ) (open_of : ℕ → ℕ) → cell ≡ Some v → at m (position r c) ≡ Some v → AreNear m (length labels) (label_in m labels) r c near.now →
-        ((q : Position) → IsAbove r c q ⊎ IsUpperRight r c q → at m q ≡ Some v → ⊥) → AreRead EdgesAndCorners m table labels open_of → Shares EdgesAndCorners m table labels open_of r c v label) }
-    ensures none { result ≡ None → (near.now.left.cell ≢ cell) × (near.now.upper_left.cell ≢ cell) }
+// The label that a cell shares with a neighbour at a corner, if there is one. If there are two, their labels are joined.
+fn shared_at_corners(table: &mut [u32], cell: Cell, near: &Near) -> Option<u32>
+    requires some { IsSome cell }
+    requires down { PointDown table.old }
+    requires inside { AreInside (length table.old) near.now }
+    ensures down { PointDown table.new }
+    ensures kept { result ≡ None → table.new ≡ table.old }
+    ensures shares { IfSome result (λ label. (m : Grid) (r c : ℕ) (v : ℤ) (labels : List ℕ) (open_of : ℕ → ℕ) → cell ≡ Some v → at m (position r c) ≡ Some v → AreNear m (length labels) (label_in m labels) r c near.now →
+        ((q : Position) → IsLeft r c q ⊎ IsAbove r c q → at m q ≡ Some v → ⊥) → AreRead EdgesAndCorners m table.old labels open_of → Shares EdgesAndCorners m table.new labels open_of r c v label) }
+    ensures none { result ≡ None → (near.now.upper_left.cell ≢ cell) × (near.now.upper_right.cell ≢ cell) }
 {
-    if near.left.cell == cell {
-        return Some(near.left.label);
+    if near.upper_left.cell != cell {
+        return if near.upper_right.cell == cell {
+            Some(near.upper_right.label)
+        } else {
+            None
+        };
     }
-    if near.upper_left.cell == cell {
-        Some(near.upper_left.label)
-    } else {
-        None
+    if near.upper_right.cell == cell && near.upper_right.label != near.upper_left.label {
+        join_labels(table, near.upper_right.label, near.upper_left.label);
     }
+    Some(near.upper_left.label)
 }
 
 // The label that a cell shares with its neighbours, if it does.

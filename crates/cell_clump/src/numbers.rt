@@ -55,9 +55,13 @@ fn number_labels(table: &mut [u32])
     }
 }
 
+// What null has for a number: no category is so great.
+const NO_NUMBER: u32 = 1 << 31;
+
 // The cell of a number.
 fn number_cell(number: u32) -> Cell
-    ensures { number < 2147483648 → result ≡ Some (pos number) }
+    ensures within { number < 2147483648 → result ≡ Some (pos number) }
+    ensures past { 2147483648 ≤ number → result ≡ None }
 {
     match i32::try_from(number) {
         Ok(category) => Cell::value(category).unwrap_or(Cell::null()),
@@ -65,21 +69,16 @@ fn number_cell(number: u32) -> Cell
     }
 }
 
-// The number of a cell: one that it shares with its neighbours, or else that of the next label. Null has none.
-fn number_of_cell(
-    joining: Joining,
-    cell: Cell,
-    near: &Near,
-    table: &[u32],
-    next: &mut usize,
-) -> u32
+// The number of a cell: one that it shares with its neighbours, or else that of the next label.
+fn number_of_cell(joining: Joining, cell: Cell, near: &Near, table: &[u32], next: &mut usize) -> u32
+    ensures null { cell ≡ None → result ≡ 2147483648 }
     ensures number { (m : Grid) (r c : ℕ) (v : ℤ) (labels : List ℕ) (h : AreLabels joining m labels) → cell ≡ Some v → at m (position r c) ≡ Some v → r < m.region.rows → c < m.region.cols → next.old ≡ starts joining m (r * m.region.cols + c) → IsNumbered joining m labels h table.now →
         AreNear m (r * m.region.cols + c) (number_at joining m labels h) r c near.now → result ≡ number_at joining m labels h (position r c) }
     ensures next { (m : Grid) (r c : ℕ) (labels : List ℕ) (h : AreLabels joining m labels) → cell ≡ at m (position r c) → r < m.region.rows → c < m.region.cols → next.old ≡ starts joining m (r * m.region.cols + c) → IsNumbered joining m labels h table.now →
         AreNear m (r * m.region.cols + c) (number_at joining m labels h) r c near.now → next.new ≡ starts joining m (r * m.region.cols + (c + 1)) }
 {
     if !cell.get().is_some() {
-        return 0;
+        return NO_NUMBER;
     }
     if let Some(number) = known_label(joining, cell, near) {
         return number;
@@ -93,20 +92,9 @@ fn number_of_cell(
     }
 }
 
-// What is written for a cell and its number.
-fn written(numbered: Labelled) -> Cell
-    ensures null { numbered.cell ≡ None → result ≡ None }
-    ensures number { (v : ℤ) → numbered.cell ≡ Some v → numbered.label < 2147483648 → result ≡ Some (pos numbered.label) }
-{
-    if numbered.cell.get().is_some() {
-        number_cell(numbered.label)
-    } else {
-        Cell::null()
-    }
-}
-
 // Replaces the cells of a row by their numbers. The line holds the row above it, and then the row. The first cell of the row
 // that shares no label has this one. Returns that of the first such cell after the row.
+#[inline(never)]
 fn number_row(
     map: &CellMap,
     row: u32,
@@ -128,11 +116,11 @@ fn number_row(
         left: outside(),
         upper_left: outside(),
         above: outside(),
-        upper_right: at_column(line, 0),
+        upper_right: outside(),
     };
     for col in 0..cells.len() {
         near.upper_left = near.above;
-        near.above = near.upper_right;
+        near.above = line[col];
         near.upper_right = at_column(line, col + 1);
         let cell = cells[col];
         near.left = Labelled {
@@ -140,7 +128,7 @@ fn number_row(
             label: number_of_cell(joining, cell, &near, table, &mut next),
         };
         line[col] = near.left;
-        cells[col] = written(near.left);
+        cells[col] = number_cell(near.left.label);
     }
     next
 }

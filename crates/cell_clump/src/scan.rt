@@ -22,6 +22,7 @@ fn most_labels(map: &CellMap) -> usize {
 }
 
 // Labels the cells of a row. The line holds the row above it, and then the row.
+#[inline(never)]
 fn label_row(
     map: &CellMap,
     row: u32,
@@ -44,11 +45,11 @@ fn label_row(
         left: outside(),
         upper_left: outside(),
         above: outside(),
-        upper_right: at_column(line, 0),
+        upper_right: outside(),
     };
     for col in 0..cells.len() {
         near.upper_left = near.above;
-        near.above = near.upper_right;
+        near.above = line[col];
         near.upper_right = at_column(line, col + 1);
         let cell = cells[col];
         let label = label_cell(table, joining, cell, &near)?;

@@ -58,11 +58,10 @@ pub record HaveCells (j : Joining) (m : Grid) (table : List ℕ) (line : List La
   pub count : length labels ≡ r * m.region.cols + c
   pub is_line : IsLine m (length labels) (label_in m labels) r c line
 
--- what was read beside a cell, while the one on its left is in hand
+-- what was read on the left of a cell, while the neighbours of the cell there are in hand
 pub record AreBeside (m : Grid) (count : ℕ) (label_of : Position → ℕ) (r c : ℕ) (near : Near) : Type 0 where
   pub left : Tells m count label_of (IsLeft r c) near.left
   pub upper_left : Tells m count label_of (IsUpperLeft r c) near.above
-  pub above : Tells m count label_of (IsAbove r c) near.upper_right
 
 -- the same of the cells before a column, and what was read beside the next
 pub record IsReading (j : Joining) (m : Grid) (table : List ℕ) (line : List Labelled) (r c : ℕ) (near : Near) : Type 0 where

@@ -33,4 +33,4 @@ returns-clause-read c = λ m r col labels is col_in count near h.
     let pushed : c.push.new.self.items ≡ c.args.table.now.items ++ c.len-label.result ∷ [] = c.in_ok-push.ensures.items ∙ ap (λ (xs : List ℕ). xs ++ c.len-label.result ∷ []) (back ∙ kept) in
     let own : c.len-label.result ≡ length c.args.table.now.items = search rules in
     rw pushed (read_new c.args.joining m c.args.table.now.items labels h.open_of h.read r col c.len-label.result col_in count v.0 here c.requires.down
-      (c.shared_label.ensures.none none m r col v.0 _ _ v.1 near) own)
+    (c.shared_label.ensures.none none m r col v.0 _ _ v.1 near) own)

@@ -13,7 +13,7 @@ loop-col-init c = record {
   long = c.requires.long;
   rest = λ k le. ap (λ (xs : List CellValue). get_or xs k None) c.copy_row.ensures;
   numbers = λ labels h n have. have;
-  beside = λ labels h n have. numbering_first c.args.joining c.args.map.now labels h c.args.first c.args.line.now c.args.row _ have c.outside.ensures c.outside-3.ensures c.at_column.ensures.within c.at_column.ensures.past;
+  beside = λ labels h n have. numbering_first c.args.joining c.args.map.now labels h c.args.row _ c.outside.ensures c.outside-3.ensures;
   written = λ labels h n have k lt. absurd (omega arith);
 }
 
@@ -29,36 +29,37 @@ loop-col-preserved c =
     let x = c.index-cells-col.result in
     let within = c.at_column-near.ensures.within in
     let past = c.at_column-near.ensures.past in
+    let above = c.index-line-col.is in
     let inside : col < length c.loop-col.cells = omega (arith, c.loop-col-test.true, c.loop-col.auto.cells) in
     let col_in : col < m.region.cols = omega (arith, inv.wide) in
     let row_in : r < m.region.rows = search rules in
     let here : x ≡ at m (position r col) = copied_rest m r col c.loop-col.cells x inv.rest (c.index-cells-col.is ∙ get_or_default c.loop-col.cells col x None inside) in
     record {
-      wide = length-set c.loop-col.cells col c.written.result ∙ inv.wide;
+      wide = length-set c.loop-col.cells col c.number_cell.result ∙ inv.wide;
       long = length-set line col _ ∙ inv.long;
-      rest = λ k le. get_or-set_other c.loop-col.cells col k c.written.result None (omega arith) ∙ inv.rest k (omega arith);
+      rest = λ k le. get_or-set_other c.loop-col.cells col k c.number_cell.result None (omega arith) ∙ inv.rest k (omega arith);
       numbers = λ labels h n have.
           let now = inv.numbers labels h n have in
           let beside = inv.beside labels h n have in
-          let near = numbering_near j m labels h next line r col c.loop-col.near now beside c.at_column-near.result within past in
-          numbering_next j m labels h next line r col c.loop-col.near now beside c.at_column-near.result within past _ col_in here
+          let near = numbering_near j m labels h next line r col c.loop-col.near now beside c.index-line-col.result c.at_column-near.result col_in above within past in
+          numbering_next j m labels h next line r col c.loop-col.near now beside c.index-line-col.result c.at_column-near.result col_in above within past _ here
           (λ v is. c.number_of_cell.ensures.number m r col v labels h (here ∙ is) is row_in col_in now.next_is n near)
           c.number_of_cell.new.next
           (c.number_of_cell.ensures.next m r col labels h here row_in col_in now.next_is n near);
       beside = λ labels h n have.
           let now = inv.numbers labels h n have in
           let beside = inv.beside labels h n have in
-          let near = numbering_near j m labels h next line r col c.loop-col.near now beside c.at_column-near.result within past in
-          numbering_beside j m labels h next line r col c.loop-col.near now beside c.at_column-near.result within past _ col_in here
+          let near = numbering_near j m labels h next line r col c.loop-col.near now beside c.index-line-col.result c.at_column-near.result col_in above within past in
+          numbering_beside j m labels h next line r col c.loop-col.near now beside c.index-line-col.result c.at_column-near.result col_in above within past _ here
           (λ v is. c.number_of_cell.ensures.number m r col v labels h (here ∙ is) is row_in col_in now.next_is n near);
       written = λ labels h n have.
           let now = inv.numbers labels h n have in
           let beside = inv.beside labels h n have in
-          let near = numbering_near j m labels h next line r col c.loop-col.near now beside c.at_column-near.result within past in
-          written_next j m labels h r col c.loop-col.cells c.written.result inside
-          (number_written_at j m labels h r col _ c.written.result n.short here
+          let near = numbering_near j m labels h next line r col c.loop-col.near now beside c.index-line-col.result c.at_column-near.result col_in above within past in
+          written_next j m labels h r col c.loop-col.cells c.number_cell.result inside
+          (number_written_at j m labels h r col x c.number_of_cell.result c.number_cell.result n.short here
           (λ v is. c.number_of_cell.ensures.number m r col v labels h (here ∙ is) is row_in col_in now.next_is n near)
-          c.written.ensures.null c.written.ensures.number)
+          c.number_of_cell.ensures.null c.number_cell.ensures.past c.number_cell.ensures.within)
           (inv.written labels h n have);
     }
 
