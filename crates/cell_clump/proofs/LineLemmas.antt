@@ -45,23 +45,18 @@ tells_here m count f r c x cell label lt = record {
   all = λ q v lies is. cell ∙ sym (ap (at m) (same_position q r c lies.0 lies.1)) ∙ is;
 }
 
-module _ (m : Grid) (inside : (p : Position) (v : ℤ) → at m p ≡ Some v → IsInside m p) (count : ℕ) (f : Position → ℕ) (r c : ℕ) (line : List Labelled) (is_line : IsLine m count f r c line) where
-  -- what stands at a column from which on the line holds the row above
-  tells_column : (k : ℕ) (x : Labelled) → c ≤ k → ((d : Labelled) → k < length line → x ≡ get_or line k d) → (length line ≤ k → x.cell ≡ None) → Tells m count f (IsAbove r k) x
-  tells_column k x le within past =
-      let wide = is_line.wide in
-      ⊎_elim (λ lt. subst (Tells m count f (IsAbove r k)) (sym (within x (omega arith))) (is_line.above k x le lt))
-      (λ ge. tells_none m count f (IsAbove r k) x (past (omega arith)) (λ q v lies is. let col = lies.1 in let q_in = (inside q v is).1 in omega arith))
-      (cases_lt k m.region.cols)
-
-  -- the neighbours of the next cell
-  pub near_next : (near : Near) (x y : Labelled) → AreBeside m count f r c near → c < m.region.cols → x ≡ get_or line c x → ((d : Labelled) → c + 1 < length line → y ≡ get_or line (c + 1) d) → (length line ≤ c + 1 → y.cell ≡ None) → AreNear m count f r c (record { left = near.left; upper_left = near.above; above = x; upper_right = y })
-  near_next near x y beside c_in is within past = record {
-    left = beside.left;
-    upper_left = beside.upper_left;
-    above = subst (Tells m count f (IsAbove r c)) (sym is) (is_line.above c x (omega arith) c_in);
-    upper_right = tells_column (c + 1) y (omega arith) within past;
-  }
+-- the neighbours of the next cell
+pub near_next : (m : Grid) → ((p : Position) (v : ℤ) → at m p ≡ Some v → IsInside m p) → (count : ℕ) (f : Position → ℕ) (r c : ℕ) (line : List Labelled) → IsLine m count f r c line → (near : Near) (x y : Labelled) → AreBeside m count f r c near → c < m.region.cols → x ≡ get_or line c x → y ≡ get_or line (c + 1) y → AreNear m count f r c (record { left = near.left; upper_left = near.above; above = x; upper_right = y })
+near_next m inside count f r c line is_line near x y beside c_in is next = record {
+  left = beside.left;
+  upper_left = beside.upper_left;
+  above = subst (Tells m count f (IsAbove r c)) (sym is) (is_line.above c x (omega arith) c_in);
+  upper_right = ⊎_elim (λ lt. subst (Tells m count f (IsAbove r (c + 1))) (sym next) (is_line.above (c + 1) y (omega arith) lt))
+      (λ ge. let e : c + 1 ≡ m.region.cols = omega arith in
+      let none : y.cell ≡ None = ap (λ (z : Labelled). z.cell) (next ∙ ap (λ (k : ℕ). get_or line k y) e) ∙ is_line.end y in
+      tells_none m count f (IsUpperRight r c) y none (λ q v lies is. let col = lies.1 in let q_in = (inside q v is).1 in omega arith))
+      (cases_lt (c + 1) m.region.cols);
+}
 
 -- at the left of a row
 pub beside_first : (m : Grid) (count : ℕ) (f : Position → ℕ) (r : ℕ) (near : Near) → near.left.cell ≡ None → near.above.cell ≡ None → AreBeside m count f r 0 near
@@ -78,6 +73,7 @@ module _ (m : Grid) (count more : ℕ) (f g : Position → ℕ) (le : count ≤ 
       let wide = is_line.wide in
       record {
         wide = length-set line c x ∙ is_line.wide;
+        end = λ d. ap (λ (z : Labelled). z.cell) (get_or-set_other line c m.region.cols x d (omega arith)) ∙ is_line.end d;
         here = λ k d lt. ⊎_elim
             (λ below. subst (Tells m more g (IsCell r k)) (sym (get_or-set_other line c k x d (omega arith))) (tells_grown m count more f g (IsCell r k) (get_or line k d) le same (is_line.here k d below)))
             (λ ge. let e : c ≡ k = omega arith in subst (λ (i : ℕ). Tells m more g (IsCell r i) (get_or (set line c x) i d)) e (subst (Tells m more g (IsCell r c)) (sym (get_or-set_same line c x d (omega arith))) here))
@@ -97,27 +93,29 @@ module _ (m : Grid) (count more : ℕ) (f g : Position → ℕ) (le : count ≤ 
 pub line_down : (m : Grid) (count : ℕ) (f : Position → ℕ) (r : ℕ) (line : List Labelled) → IsLine m count f r m.region.cols line → IsLine m count f (r + 1) 0 line
 line_down m count f r line h = record {
   wide = h.wide;
+  end = h.end;
   here = λ k d lt. absurd (omega arith);
   above = λ k d ge lt. tells_as m count f (IsCell r k) (IsAbove (r + 1) k) (get_or line k d)
       (λ q l. let row = l.0 in (omega arith, l.1)) (λ q l. let row = l.0 in (omega arith, l.1)) (h.here k d lt);
 }
 
 -- the line before the first row
-pub line_first : (m : Grid) (f : Position → ℕ) (line : List Labelled) → length line ≡ m.region.cols → ((k : ℕ) (d : Labelled) → k < m.region.cols → (get_or line k d).cell ≡ None) → IsLine m 0 f 0 0 line
+pub line_first : (m : Grid) (f : Position → ℕ) (line : List Labelled) → length line ≡ m.region.cols + 1 → ((k : ℕ) (d : Labelled) → k < m.region.cols + 1 → (get_or line k d).cell ≡ None) → IsLine m 0 f 0 0 line
 line_first m f line wide none = record {
   wide = wide;
+  end = λ d. none m.region.cols d (omega arith);
   here = λ k d lt. absurd (omega arith);
-  above = λ k d ge lt. tells_none m 0 f (IsAbove 0 k) (get_or line k d) (none k d lt) (λ q v lies is. let row = lies.0 in omega arith);
+  above = λ k d ge lt. tells_none m 0 f (IsAbove 0 k) (get_or line k d) (none k d (omega arith)) (λ q v lies is. let row = lies.0 in omega arith);
 }
 
 -- ---- labels in the line
 
-module _ (j : Joining) (m : Grid) (table : List ℕ) (line : List Labelled) (r c : ℕ) (near : Near) (h : IsReading j m table line r c near) (x y : Labelled) (c_in : c < m.region.cols) (is : x ≡ get_or line c x) (within : (d : Labelled) → c + 1 < length line → y ≡ get_or line (c + 1) d) (past : length line ≤ c + 1 → y.cell ≡ None) where
+module _ (j : Joining) (m : Grid) (table : List ℕ) (line : List Labelled) (r c : ℕ) (near : Near) (h : IsReading j m table line r c near) (x y : Labelled) (c_in : c < m.region.cols) (is : x ≡ get_or line c x) (next : y ≡ get_or line (c + 1) y) where
   abbrev pub turned : Near
   turned = record { left = near.left; upper_left = near.above; above = x; upper_right = y }
 
   pub reading_near : AreNear m (length h.cells.labels) (label_in m h.cells.labels) r c turned
-  reading_near = near_next m h.cells.has_read.read.inside (length h.cells.labels) (label_in m h.cells.labels) r c line h.cells.is_line near x y h.beside c_in is within past
+  reading_near = near_next m h.cells.has_read.read.inside (length h.cells.labels) (label_in m h.cells.labels) r c line h.cells.is_line near x y h.beside c_in is next
 
   pub reading_inside : AreInside (length table) turned
   reading_inside = inside_near j m table h.cells.labels h.cells.has_read.open_of r c turned h.cells.has_read.read reading_near
@@ -158,11 +156,11 @@ pub copied : (m : Grid) (r c : ℕ) (cells : List CellValue) (x : CellValue) →
 copied m r c cells x e lt is = is ∙ get_or_default cells c x None lt ∙ ap (λ (xs : List CellValue). get_or xs c None) e
 
 -- a line of nulls
-pub line_empty : (m : Grid) (f : Position → ℕ) (line : List Labelled) (x : Labelled) → line ≡ replicate m.region.cols x → x.cell ≡ None → IsLine m 0 f 0 0 line
-line_empty m f line x is none = line_first m f line (ap (length {A = Labelled}) is ∙ length-replicate m.region.cols x)
-    (λ k d lt. ap (λ (xs : List Labelled). (get_or xs k d).cell) is ∙ ap (λ (y : Labelled). y.cell) (get_or-replicate m.region.cols k x d lt) ∙ none)
+pub line_empty : (m : Grid) (f : Position → ℕ) (line : List Labelled) (x : Labelled) → line ≡ replicate (m.region.cols + 1) x → x.cell ≡ None → IsLine m 0 f 0 0 line
+line_empty m f line x is none = line_first m f line (ap (length {A = Labelled}) is ∙ length-replicate (m.region.cols + 1) x)
+    (λ k d lt. ap (λ (xs : List Labelled). (get_or xs k d).cell) is ∙ ap (λ (y : Labelled). y.cell) (get_or-replicate (m.region.cols + 1) k x d lt) ∙ none)
 
-pub cells_first : (j : Joining) (m : Grid) (line : List Labelled) (x : Labelled) → IsFilled m.region m.rows → line ≡ replicate m.region.cols x → x.cell ≡ None → HaveCells j m [] line 0 0
+pub cells_first : (j : Joining) (m : Grid) (line : List Labelled) (x : Labelled) → IsFilled m.region m.rows → line ≡ replicate (m.region.cols + 1) x → x.cell ≡ None → HaveCells j m [] line 0 0
 cells_first j m line x filled is none = record {
   labels = [];
   has_read = read_nothing j m (λ p v some. inside_map m p v filled some);

@@ -27,12 +27,12 @@ module _ (j : Joining) (m : Grid) (labels : List ℕ) (h : AreLabels j m labels)
             (line_down m (r * m.region.cols + c) (number_at j m labels h) r line (subst (λ (k : ℕ). IsLine m (r * m.region.cols + c) (number_at j m labels h) r k line) e have.is_line));
       }
 
-  module _ (next : ℕ) (line : List Labelled) (r c : ℕ) (near : Near) (have : HaveNumbers j m labels h next line r c) (beside : AreBeside m (r * m.region.cols + c) (number_at j m labels h) r c near) (x y : Labelled) (c_in : c < m.region.cols) (is : x ≡ get_or line c x) (within : (d : Labelled) → c + 1 < length line → y ≡ get_or line (c + 1) d) (past : length line ≤ c + 1 → y.cell ≡ None) where
+  module _ (next : ℕ) (line : List Labelled) (r c : ℕ) (near : Near) (have : HaveNumbers j m labels h next line r c) (beside : AreBeside m (r * m.region.cols + c) (number_at j m labels h) r c near) (x y : Labelled) (c_in : c < m.region.cols) (is : x ≡ get_or line c x) (right : y ≡ get_or line (c + 1) y) where
     abbrev pub turned : Near
     turned = record { left = near.left; upper_left = near.above; above = x; upper_right = y }
 
     pub numbering_near : AreNear m (r * m.region.cols + c) (number_at j m labels h) r c turned
-    numbering_near = near_next m h.has_read.read.inside (r * m.region.cols + c) (number_at j m labels h) r c line have.is_line near x y beside c_in is within past
+    numbering_near = near_next m h.has_read.read.inside (r * m.region.cols + c) (number_at j m labels h) r c line have.is_line near x y beside c_in is right
 
     module _ (z : Labelled) (cell : z.cell ≡ at m (position r c)) (label : (v : ℤ) → at m (position r c) ≡ Some v → z.label ≡ number_at j m labels h (position r c)) where
       pub numbering_next : (after : ℕ) → after ≡ starts j m (r * m.region.cols + (c + 1)) → HaveNumbers j m labels h after (set line c z) r (c + 1)
@@ -70,7 +70,7 @@ module _ (j : Joining) (m : Grid) (labels : List ℕ) (h : AreLabels j m labels)
 pub copied_rest : (m : Grid) (r c : ℕ) (cells : List CellValue) (x : CellValue) → ((k : ℕ) → c ≤ k → get_or cells k None ≡ get_or (row_at m r) k None) → x ≡ get_or cells c None → x ≡ at m (position r c)
 copied_rest m r c cells x rest is = is ∙ rest c (omega arith)
 
-pub numbers_first : (j : Joining) (m : Grid) (labels : List ℕ) (h : AreLabels j m labels) (line : List Labelled) (x : Labelled) → line ≡ replicate m.region.cols x → x.cell ≡ None → HaveNumbers j m labels h 0 line 0 0
+pub numbers_first : (j : Joining) (m : Grid) (labels : List ℕ) (h : AreLabels j m labels) (line : List Labelled) (x : Labelled) → line ≡ replicate (m.region.cols + 1) x → x.cell ≡ None → HaveNumbers j m labels h 0 line 0 0
 numbers_first j m labels h line x is none =
     let z : 0 ≡ 0 * m.region.cols + 0 = omega arith in
     record {

@@ -32,17 +32,6 @@ pub(crate) fn outside() -> Labelled
     }
 }
 
-// What stands at a column of a line.
-pub(crate) fn at_column(line: &[Labelled], col: usize) -> Labelled
-    ensures within { (d : Labelled) → col < length line.now → result ≡ slice_index_or line.now col d }
-    ensures past { length line.now ≤ col → result.cell ≡ None }
-{
-    match line.get(col) {
-        Some(here) => *here,
-        None => outside(),
-    }
-}
-
 // The neighbours of a cell that come before it, null where the map ends.
 #[derive(Clone, Copy)]
 pub(crate) struct Near {

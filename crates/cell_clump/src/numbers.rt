@@ -13,7 +13,7 @@ ghost use Rattle.cell_clump.specs.parts.Starts.{starts};
 ghost use Rattle.cell_clump.specs.parts.Tables.{AreLabels};
 
 use crate::clump::Joining;
-use crate::near::{Labelled, Near, at_column, known_label, outside};
+use crate::near::{Labelled, Near, known_label, outside};
 use cell_core::cell::Cell;
 use cell_core::map::{CellMap, MapBuilder};
 use cell_core::memory::Memory;
@@ -92,8 +92,8 @@ fn number_of_cell(joining: Joining, cell: Cell, near: &Near, table: &[u32], next
     }
 }
 
-// Replaces the cells of a row by their numbers. The line holds the row above it, and then the row. The first cell of the row
-// that shares no label has this one. Returns that of the first such cell after the row.
+// Replaces the cells of a row by their numbers. The line is as for the labels. The first cell of the row that shares no label
+// has this one. Returns that of the first such cell after the row.
 #[inline(never)]
 fn number_row(
     map: &CellMap,
@@ -106,7 +106,7 @@ fn number_row(
 ) -> usize
     requires row { row < map.now.region.rows }
     requires wide { length cells.old ≡ map.now.region.cols }
-    requires long { length line.old ≡ map.now.region.cols }
+    requires long { length line.old ≡ map.now.region.cols + 1 }
     ensures numbers { (labels : List ℕ) (h : AreLabels joining map.now labels) → IsNumbered joining map.now labels h table.now → HaveNumbers joining map.now labels h first line.old row 0 → HaveNumbers joining map.now labels h result line.new (row + 1) 0 }
     ensures cells { (labels : List ℕ) (h : AreLabels joining map.now labels) → IsNumbered joining map.now labels h table.now → HaveNumbers joining map.now labels h first line.old row 0 → AreWritten joining map.now labels h row map.now.region.cols cells.new }
 {
@@ -121,7 +121,7 @@ fn number_row(
     for col in 0..cells.len() {
         near.upper_left = near.above;
         near.above = line[col];
-        near.upper_right = at_column(line, col + 1);
+        near.upper_right = line[col + 1];
         let cell = cells[col];
         near.left = Labelled {
             cell,
@@ -148,7 +148,7 @@ pub fn number_cells(
     number_labels(table);
     let mut buffer = vec![in alloc; Cell::null(); cols]?;
     let cells = buffer.as_mut_slice();
-    let mut whole = vec![in alloc; outside(); cols]?;
+    let mut whole = vec![in alloc; outside(); cols + 1]?;
     let line = whole.as_mut_slice();
     let mut builder = MapBuilder::new(alloc, region);
     let mut next = 0;

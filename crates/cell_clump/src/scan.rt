@@ -6,7 +6,7 @@ ghost use Rattle.cell_clump.specs.parts.Reading.{HaveCells};
 ghost use Rattle.cell_clump.specs.parts.Tables.{AreLabels};
 
 use crate::clump::Joining;
-use crate::near::{Labelled, Near, at_column, label_cell, outside};
+use crate::near::{Labelled, Near, label_cell, outside};
 use cell_core::cell::Cell;
 use cell_core::map::CellMap;
 use cell_core::memory::Memory;
@@ -21,7 +21,7 @@ fn most_labels(map: &CellMap) -> usize {
     most
 }
 
-// Labels the cells of a row. The line holds the row above it, and then the row.
+// Labels the cells of a row. The line holds the row above it, and then the row; what stands after it is null.
 #[inline(never)]
 fn label_row(
     map: &CellMap,
@@ -50,7 +50,7 @@ fn label_row(
     for col in 0..cells.len() {
         near.upper_left = near.above;
         near.above = line[col];
-        near.upper_right = at_column(line, col + 1);
+        near.upper_right = line[col + 1];
         let cell = cells[col];
         let label = label_cell(table, joining, cell, &near)?;
         near.left = Labelled { cell, label };
@@ -68,7 +68,7 @@ pub fn label_cells(alloc: Global, map: &CellMap, joining: Joining) -> Result<Vec
     let mut table = Vec::with_capacity(alloc, most_labels(map))?;
     let mut buffer = vec![in alloc; Cell::null(); cols]?;
     let cells = buffer.as_mut_slice();
-    let mut whole = vec![in alloc; outside(); cols]?;
+    let mut whole = vec![in alloc; outside(); cols + 1]?;
     let line = whole.as_mut_slice();
     for row in 0..region.rows() {
         label_row(map, row, joining, &mut table, cells, line)?;

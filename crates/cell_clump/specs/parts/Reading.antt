@@ -45,9 +45,10 @@ pub record AreNear (m : Grid) (count : ℕ) (label_of : Position → ℕ) (r c :
   pub above : Tells m count label_of (IsAbove r c) near.above
   pub upper_right : Tells m count label_of (IsUpperRight r c) near.upper_right
 
--- they are those of a row up to a column, and of the row above it from there on
+-- they are those of a row up to a column, and of the row above it from there on; null stands after them
 pub record IsLine (m : Grid) (count : ℕ) (label_of : Position → ℕ) (r c : ℕ) (line : List Labelled) : Type 0 where
-  pub wide : length line ≡ m.region.cols
+  pub wide : length line ≡ m.region.cols + 1
+  pub end : (d : Labelled) → (slice_index_or line m.region.cols d).cell ≡ None
   pub here : (k : ℕ) (d : Labelled) → k < c → Tells m count label_of (IsCell r k) (slice_index_or line k d)
   pub above : (k : ℕ) (d : Labelled) → c ≤ k → k < m.region.cols → Tells m count label_of (IsAbove r k) (slice_index_or line k d)
 

@@ -1,4 +1,4 @@
-use Rattle.std.proofs.Common.{◌≡◌, ℕ, ◌<◌, ◌≤◌, ◌*◌, List, [], ◌++◌, ◌∷◌, All, None, length, replicate, get_or, arith, rules, refl, sym, ap, ◌∙◌}
+use Rattle.std.proofs.Common.{◌≡◌, ◌+◌, ℕ, ◌<◌, ◌≤◌, ◌*◌, List, [], ◌++◌, ◌∷◌, All, None, length, replicate, get_or, arith, rules, refl, sym, ap, ◌∙◌}
 use Rattle.std.proofs.lemmas.List.{length_push}
 use Rattle.std.proofs.lemmas.List.Elements.{All-push}
 use Rattle.cell_core.specs.Grid.{CellValue}
@@ -17,7 +17,7 @@ number_labels-requires-clause-short c =
 pub loop-row-init : goal.loop-row-init
 loop-row-init c =
     let cols : c.cols-cols.result ≡ c.args.map.now.region.cols = search rules in
-    let line : c.as_mut_slice-line.result.now ≡ replicate c.args.map.now.region.cols c.outside.result = c.as_mut_slice-line.ensures.value ∙ c.in_ok-whole.ensures.items_if_clones_equal (λ y e. e) ∙ rw cols refl in
+    let line : c.as_mut_slice-line.result.now ≡ replicate (c.args.map.now.region.cols + 1) c.outside.result = c.as_mut_slice-line.ensures.value ∙ c.in_ok-whole.ensures.items_if_clones_equal (λ y e. e) ∙ rw cols refl in
     record {
       wide = search rules;
       long = search rules;
@@ -36,7 +36,7 @@ loop-row-preserved c =
     let r = c.loop-row.row in
     let row : List CellValue = c.number_row-next.new.cells in
     let wide : length row ≡ width = search rules in
-    let long : length c.number_row-next.new.line ≡ width = search rules in
+    let long : length c.number_row-next.new.line ≡ width + 1 = search rules in
     let grown : c.push_row.new.self.rows ≡ c.loop-row.builder.rows ++ row ∷ [] = rw c.in_ok-push_row.ensures.ok refl in
     record {
       wide = wide;

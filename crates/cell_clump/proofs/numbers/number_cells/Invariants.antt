@@ -1,4 +1,4 @@
-use Rattle.std.proofs.Common.{◌≡◌, ℕ, ◌<◌, List, [], All, None, length, get_or}
+use Rattle.std.proofs.Common.{◌≡◌, ℕ, ◌+◌, ◌<◌, List, [], All, None, length, get_or}
 use Rattle.cell_core.specs.Grid.{CellValue}
 use Rattle.cell_clump.specs.parts.Numbers.{HaveNumbers, IsNumbered, cell_number}
 use Rattle.cell_clump.specs.parts.Places.{position}
@@ -8,7 +8,7 @@ use Rattle.cell_clump.proofs.numbers.number_cells.Given as goal
 abbrev pub invariant-loop-row : goal.invariant-loop-row
 invariant-loop-row l = record {
   wide : length l.cells ≡ l.map.region.cols;
-  long : length l.line ≡ l.map.region.cols;
+  long : length l.line ≡ l.map.region.cols + 1;
   region : l.builder.region ≡ l.map.region;
   pushed : length l.builder.rows ≡ l.row;
   filled : All (λ (cells : List CellValue). length cells ≡ l.map.region.cols) l.builder.rows;

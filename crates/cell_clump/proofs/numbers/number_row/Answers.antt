@@ -27,8 +27,7 @@ loop-col-preserved c =
     let next = c.loop-col.next in
     let inv = c.loop-col.invariant in
     let x = c.index-cells-col.result in
-    let within = c.at_column-near.ensures.within in
-    let past = c.at_column-near.ensures.past in
+    let right = c.index-line-col-in-loop-col.is in
     let above = c.index-line-col.is in
     let inside : col < length c.loop-col.cells = omega (arith, c.loop-col-test.true, c.loop-col.auto.cells) in
     let col_in : col < m.region.cols = omega (arith, inv.wide) in
@@ -41,21 +40,21 @@ loop-col-preserved c =
       numbers = λ labels h n have.
           let now = inv.numbers labels h n have in
           let beside = inv.beside labels h n have in
-          let near = numbering_near j m labels h next line r col c.loop-col.near now beside c.index-line-col.result c.at_column-near.result col_in above within past in
-          numbering_next j m labels h next line r col c.loop-col.near now beside c.index-line-col.result c.at_column-near.result col_in above within past _ here
+          let near = numbering_near j m labels h next line r col c.loop-col.near now beside c.index-line-col.result c.index-line-col-in-loop-col.result col_in above right in
+          numbering_next j m labels h next line r col c.loop-col.near now beside c.index-line-col.result c.index-line-col-in-loop-col.result col_in above right _ here
           (λ v is. c.number_of_cell.ensures.number m r col v labels h (here ∙ is) is row_in col_in now.next_is n near)
           c.number_of_cell.new.next
           (c.number_of_cell.ensures.next m r col labels h here row_in col_in now.next_is n near);
       beside = λ labels h n have.
           let now = inv.numbers labels h n have in
           let beside = inv.beside labels h n have in
-          let near = numbering_near j m labels h next line r col c.loop-col.near now beside c.index-line-col.result c.at_column-near.result col_in above within past in
-          numbering_beside j m labels h next line r col c.loop-col.near now beside c.index-line-col.result c.at_column-near.result col_in above within past _ here
+          let near = numbering_near j m labels h next line r col c.loop-col.near now beside c.index-line-col.result c.index-line-col-in-loop-col.result col_in above right in
+          numbering_beside j m labels h next line r col c.loop-col.near now beside c.index-line-col.result c.index-line-col-in-loop-col.result col_in above right _ here
           (λ v is. c.number_of_cell.ensures.number m r col v labels h (here ∙ is) is row_in col_in now.next_is n near);
       written = λ labels h n have.
           let now = inv.numbers labels h n have in
           let beside = inv.beside labels h n have in
-          let near = numbering_near j m labels h next line r col c.loop-col.near now beside c.index-line-col.result c.at_column-near.result col_in above within past in
+          let near = numbering_near j m labels h next line r col c.loop-col.near now beside c.index-line-col.result c.index-line-col-in-loop-col.result col_in above right in
           written_next j m labels h r col c.loop-col.cells c.number_cell.result inside
           (number_written_at j m labels h r col x c.number_of_cell.result c.number_cell.result n.short here
           (λ v is. c.number_of_cell.ensures.number m r col v labels h (here ∙ is) is row_in col_in now.next_is n near)

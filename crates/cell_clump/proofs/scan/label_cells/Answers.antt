@@ -1,4 +1,4 @@
-use Rattle.std.proofs.Common.{◌≡◌, List, refl, length, replicate, arith, rules, ◌∙◌}
+use Rattle.std.proofs.Common.{◌≡◌, ◌+◌, List, refl, length, replicate, arith, rules, ◌∙◌}
 use Rattle.cell_clump.specs.declared.near.Labelled.{Labelled}
 use Rattle.cell_clump.proofs.LineLemmas.{cells_first}
 use Rattle.cell_clump.proofs.scan.label_cells.Goals as goal
@@ -6,7 +6,7 @@ use Rattle.cell_clump.proofs.scan.label_cells.Goals as goal
 pub loop-row-init : goal.loop-row-init
 loop-row-init c =
     let cols : c.cols-cols.result ≡ c.args.map.now.region.cols = search rules in
-    let line : c.as_mut_slice-line.result.now ≡ replicate c.args.map.now.region.cols c.outside.result = c.as_mut_slice-line.ensures.value ∙ c.in_ok-whole.ensures.items_if_clones_equal (λ y e. e) ∙ rw cols refl in
+    let line : c.as_mut_slice-line.result.now ≡ replicate (c.args.map.now.region.cols + 1) c.outside.result = c.as_mut_slice-line.ensures.value ∙ c.in_ok-whole.ensures.items_if_clones_equal (λ y e. e) ∙ rw cols refl in
     record {
       wide = search rules;
       down = search rules;
