@@ -1,21 +1,18 @@
 -- The numbers of the cells of a row, while they are written.
-use Rattle.std.proofs.Common.{◌≡◌, ℕ, ℤ, pos, true, false, ◌+◌, ◌*◌, ◌<◌, ◌≤◌, List, Some, None, is_some, length, replicate, get_or, set, refl, ap, sym, ◌∙◌, arith, subst, inl, inr, ⊎_elim, get_or-set_other, get_or-set_same}
-use Rattle.std.proofs.lemmas.List.{get_or_default}
+use Rattle.std.proofs.Common.{◌≡◌, ℕ, ℤ, pos, true, false, ◌+◌, ◌*◌, ◌<◌, ◌≤◌, List, Some, None, is_some, length, replicate, get_or, set, refl, ap, sym, ◌∙◌, arith, subst, ⊎_elim, get_or-set_other, get_or-set_same}
 use Rattle.std.proofs.lemmas.Bool.{cases_lt, cond-true, cond-false}
 use Rattle.cell_core.specs.Grid.{Grid, CellValue, row_at}
 use Rattle.cell_clump.specs.declared.clump.Joining.{Joining}
-use Rattle.cell_clump.specs.declared.clump.Joining.TheVariants.{Edges, EdgesAndCorners}
 use Rattle.cell_clump.specs.declared.near.Labelled.{Labelled}
 use Rattle.cell_clump.specs.declared.near.Near.{Near}
 use Rattle.cell_clump.specs.Areas.{Position, at}
 use Rattle.cell_clump.specs.parts.Numbers.{AreWritten, HaveNumbers, IsNumbered, cell_number, number_at}
 use Rattle.cell_clump.specs.parts.Places.{position}
-use Rattle.cell_clump.specs.parts.Reading.{AreBeside, AreNear, IsLine, Tells}
-use Rattle.cell_clump.specs.parts.Starts.{IsEarlier, IsLeft, IsUpperLeft, starts}
+use Rattle.cell_clump.specs.parts.Reading.{AreBeside, AreNear, IsLine}
+use Rattle.cell_clump.specs.parts.Starts.{starts}
 use Rattle.cell_clump.specs.parts.Tables.{AreLabels}
 use Rattle.cell_clump.proofs.LineLemmas.{line_empty, near_next, line_next, beside_next, beside_first, line_down, tells_here}
-use Rattle.cell_clump.proofs.NumberLemmas.{number_met, number_small, stays_next}
-use Rattle.cell_clump.proofs.StartLemmas.{begins_none, begins_null, earlier_adjacent}
+use Rattle.cell_clump.proofs.NumberLemmas.{number_small}
 
 module _ (j : Joining) (m : Grid) (labels : List ℕ) (h : AreLabels j m labels) where
   pub numbering_first : (r : ℕ) (near : Near) → near.left.cell ≡ None → near.above.cell ≡ None → AreBeside m (r * m.region.cols + 0) (number_at j m labels h) r 0 near
@@ -80,40 +77,3 @@ numbers_first j m labels h line x is none =
       next_is = ap (starts j m) z;
       is_line = subst (λ (k : ℕ). IsLine m k (number_at j m labels h) 0 0 line) z (line_empty m (number_at j m labels h) line x is none);
     }
-
-left_earlier : (j : Joining) (r c : ℕ) (q : Position) → IsLeft r c q → IsEarlier j r c q
-left_earlier Edges r c q h = inl h
-left_earlier EdgesAndCorners r c q h = inl (inl h)
-
--- a cell that goes on with the run on its left
-module _ (j : Joining) (m : Grid) (labels : List ℕ) (h : AreLabels j m labels) (next : ℕ) (line : List Labelled) (r c : ℕ) (near : Near) (have : HaveNumbers j m labels h next line r c) (beside : AreBeside m (r * m.region.cols + c) (number_at j m labels h) r c near) (x : Labelled) (c_in : c < m.region.cols) (is : x ≡ get_or line c x) (z : Labelled) (left : near.left ≡ z) (cell : z.cell ≡ at m (position r c)) where
-  goes_left : Tells m (r * m.region.cols + c) (number_at j m labels h) (IsLeft r c) z
-  goes_left = subst (Tells m (r * m.region.cols + c) (number_at j m labels h) (IsLeft r c)) left beside.left
-
-  pub goes_label : (v : ℤ) → at m (position r c) ≡ Some v → z.label ≡ number_at j m labels h (position r c)
-  goes_label v e =
-      let t = goes_left.some v (cell ∙ e) in
-      t.3 ∙ number_met j m labels h t.0 (position r c) v (earlier_adjacent j r c t.0 (left_earlier j r c t.0 t.1)) t.2 e
-
-  goes_next : next ≡ starts j m (r * m.region.cols + (c + 1))
-  goes_next = by_cell (at m (position r c)) refl
-    where
-      by_cell : (y : CellValue) → at m (position r c) ≡ y → next ≡ starts j m (r * m.region.cols + (c + 1))
-      by_cell None e = have.next_is ∙ sym (stays_next j m r c c_in (begins_null j m (position r c) e))
-      by_cell (Some v) e =
-          let t = goes_left.some v (cell ∙ e) in
-          have.next_is ∙ sym (stays_next j m r c c_in (begins_none j m r c v e t.0 (left_earlier j r c t.0 t.1) t.2))
-
-  goes_right : get_or line (c + 1) x ≡ get_or line (c + 1) (get_or line (c + 1) x)
-  goes_right = get_or_default line (c + 1) x (get_or line (c + 1) x) (let wide = have.is_line.wide in omega arith)
-
-  pub goes_have : HaveNumbers j m labels h next (set line c z) r (c + 1)
-  goes_have = numbering_next j m labels h next line r c near have beside x (get_or line (c + 1) x) c_in is goes_right z cell goes_label next goes_next
-
-  pub goes_beside : (after : Near) → after.left ≡ z → after.above ≡ x → AreBeside m (r * m.region.cols + (c + 1)) (number_at j m labels h) r (c + 1) after
-  goes_beside after after_left after_above =
-      let b = numbering_beside j m labels h next line r c near have beside x (get_or line (c + 1) x) c_in is goes_right z cell goes_label in
-      record {
-        left = subst (Tells m (r * m.region.cols + (c + 1)) (number_at j m labels h) (IsLeft r (c + 1))) (sym after_left) b.left;
-        upper_left = subst (Tells m (r * m.region.cols + (c + 1)) (number_at j m labels h) (IsUpperLeft r (c + 1))) (sym after_above) b.upper_left;
-      }

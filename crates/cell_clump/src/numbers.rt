@@ -118,24 +118,17 @@ fn number_row(
         above: outside(),
         upper_right: outside(),
     };
-    let mut col = 0;
-    while col < cells.len() {
+    for col in 0..cells.len() {
         near.upper_left = near.above;
         near.above = line[col];
         near.upper_right = line[col + 1];
         let cell = cells[col];
-        let label = number_of_cell(joining, cell, &near, table, &mut next);
-        near.left = Labelled { cell, label };
-        let number = number_cell(label);
+        near.left = Labelled {
+            cell,
+            label: number_of_cell(joining, cell, &near, table, &mut next),
+        };
         line[col] = near.left;
-        cells[col] = number;
-        col += 1;
-        'run: while col < cells.len() && cells[col] == cell {
-            near.above = line[col];
-            line[col] = near.left;
-            cells[col] = number;
-            col += 1;
-        }
+        cells[col] = number_cell(near.left.label);
     }
     next
 }

@@ -1,12 +1,11 @@
 -- The numbers of the cells of a map, of a table of labels.
 use Rattle.std.specs.Prelude.{ℕ, ℤ, zero, suc, pos, Bool, ◌+◌, ◌*◌, ◌<◌, ◌≤◌, ◌≡◌, List, [], ◌∷◌, ◌++◌, length, Some, None, nat_eq, slice_index, slice_index_or, if◌then◌else◌, is_some}
-use Rattle.cell_core.specs.Grid.{Grid, CellValue, row_at}
+use Rattle.cell_core.specs.Grid.{Grid, CellValue}
 use Rattle.cell_clump.specs.declared.clump.Joining.{Joining}
 use Rattle.cell_clump.specs.declared.near.Labelled.{Labelled}
-use Rattle.cell_clump.specs.declared.near.Near.{Near}
 use Rattle.cell_clump.specs.Areas.{Position, at}
 use Rattle.cell_clump.specs.parts.Places.{position}
-use Rattle.cell_clump.specs.parts.Reading.{AreBeside, IsLine, label_in}
+use Rattle.cell_clump.specs.parts.Reading.{IsLine, label_in}
 use Rattle.cell_clump.specs.parts.Starts.{start_of, starts}
 use Rattle.cell_clump.specs.parts.Tables.{AreLabels}
 
@@ -57,10 +56,3 @@ pub record HaveNumbers (j : Joining) (m : Grid) (labels : List ℕ) (h : AreLabe
 -- what is written for the cells of a row before a column
 abbrev pub AreWritten : (j : Joining) (m : Grid) (labels : List ℕ) → AreLabels j m labels → ℕ → ℕ → List CellValue → Type 0
 AreWritten j m labels h r c row = (k : ℕ) → k < c → slice_index_or row k None ≡ cell_number j m labels h (position r k)
-
--- the cells of a row before a column were replaced by their numbers, if those of the rows before it have theirs
-pub record IsNumbering (j : Joining) (m : Grid) (table : List ℕ) (first : ℕ) (start : List Labelled) (r c next : ℕ) (line : List Labelled) (cells : List CellValue) (near : Near) : Type 0 where
-  pub rest : (k : ℕ) → c ≤ k → slice_index_or cells k None ≡ slice_index_or (row_at m r) k None
-  pub numbers : (labels : List ℕ) (h : AreLabels j m labels) → IsNumbered j m labels h table → HaveNumbers j m labels h first start r 0 → HaveNumbers j m labels h next line r c
-  pub beside : (labels : List ℕ) (h : AreLabels j m labels) → IsNumbered j m labels h table → HaveNumbers j m labels h first start r 0 → AreBeside m (r * m.region.cols + c) (number_at j m labels h) r c near
-  pub written : (labels : List ℕ) (h : AreLabels j m labels) → IsNumbered j m labels h table → HaveNumbers j m labels h first start r 0 → AreWritten j m labels h r c cells

@@ -1,27 +1,16 @@
-use Rattle.std.proofs.Common.{◌≡◌, ◌+◌, ◌-◌, ◌≤◌, length}
-use Rattle.cell_clump.specs.parts.Numbers.{IsNumbering}
+use Rattle.std.proofs.Common.{◌≡◌, ℕ, ◌+◌, ◌*◌, ◌≤◌, List, None, length, get_or}
+use Rattle.cell_core.specs.Grid.{row_at}
+use Rattle.cell_clump.specs.parts.Numbers.{AreWritten, HaveNumbers, IsNumbered, number_at}
+use Rattle.cell_clump.specs.parts.Reading.{AreBeside}
+use Rattle.cell_clump.specs.parts.Tables.{AreLabels}
 use Rattle.cell_clump.proofs.numbers.number_row.Given as goal
 
 abbrev pub invariant-loop-col : goal.invariant-loop-col
 invariant-loop-col l = record {
-  within : l.col ≤ length l.cells;
   wide : length l.cells ≡ l.map.region.cols;
   long : length l.line ≡ l.map.region.cols + 1;
-  numbering : IsNumbering l.joining l.map l.table l.fn.first l.fn.line l.row l.col l.next l.line l.cells l.near;
+  rest : (k : ℕ) → l.col ≤ k → get_or l.cells k None ≡ get_or (row_at l.map l.row) k None;
+  numbers : (labels : List ℕ) (h : AreLabels l.joining l.map labels) → IsNumbered l.joining l.map labels h l.table → HaveNumbers l.joining l.map labels h l.fn.first l.fn.line l.row 0 → HaveNumbers l.joining l.map labels h l.next l.line l.row l.col;
+  beside : (labels : List ℕ) (h : AreLabels l.joining l.map labels) → IsNumbered l.joining l.map labels h l.table → HaveNumbers l.joining l.map labels h l.fn.first l.fn.line l.row 0 → AreBeside l.map (l.row * l.map.region.cols + l.col) (number_at l.joining l.map labels h) l.row l.col l.near;
+  written : (labels : List ℕ) (h : AreLabels l.joining l.map labels) → IsNumbered l.joining l.map labels h l.table → HaveNumbers l.joining l.map labels h l.fn.first l.fn.line l.row 0 → AreWritten l.joining l.map labels h l.row l.col l.cells;
 }
-
-abbrev pub decreases-loop-col : goal.decreases-loop-col
-decreases-loop-col l = length l.cells - l.col
-
-abbrev pub invariant-run : goal.invariant-run
-invariant-run l = record {
-  within : l.col ≤ length l.cells;
-  nearer : length l.cells - l.col ≤ length l.initial.cells - l.initial.col;
-  wide : length l.cells ≡ l.map.region.cols;
-  long : length l.line ≡ l.map.region.cols + 1;
-  left : l.near.left ≡ l.initial.near.left;
-  numbering : IsNumbering l.joining l.map l.table l.fn.first l.fn.line l.row l.col l.next l.line l.cells l.near;
-}
-
-abbrev pub decreases-run : goal.decreases-run
-decreases-run l = length l.cells - l.col
