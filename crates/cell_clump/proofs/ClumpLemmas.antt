@@ -1,18 +1,18 @@
 -- A map of the numbers of its labels is a clumping.
-use Rattle.std.proofs.Common.{◌≡◌, ℕ, zero, suc, ℤ, pos, true, false, ◌+◌, ◌*◌, ◌<◌, ◌≤◌, [], ◌∷◌, List, Some, None, IsSome, is_some, not, length, get_or, refl, ap, sym, ◌∙◌, arith, subst, ⊎_elim, eqb}
+use Rattle.std.proofs.Common.{◌≡◌, ℕ, zero, suc, ℤ, pos, true, false, ◌+◌, ◌*◌, ◌<◌, [], ◌∷◌, List, Some, None, IsSome, is_some, not, length, get_or, refl, ap, sym, ◌∙◌, arith, subst, ⊎_elim}
 use Rattle.std.specs.List.{Contains, AllPairs}
 use Rattle.std.proofs.lemmas.List.Elements.{Contains-append_left, Contains-push, Contains-push_cases, Contains-get_or}
 use Rattle.std.proofs.lemmas.List.Quantifiers.{all_pairs_push}
 use Rattle.std.proofs.lemmas.Bool.{cases_lt, cases_Bool, eqb-true, cond-true, cond-false, and_parts}
-use Rattle.cell_core.specs.Grid.{Grid, CellValue, IsFilled, cell_at, no_labels}
+use Rattle.cell_core.specs.Grid.{Grid, CellValue, IsFilled, no_labels}
 use Rattle.cell_clump.specs.declared.clump.Joining.{Joining}
 use Rattle.cell_clump.specs.Areas.{Position, at, IsBefore, AreJoined, IsFirst, HasNumber, IsClumping}
-use Rattle.cell_clump.specs.parts.Places.{position, place_of, IsInside}
+use Rattle.cell_clump.specs.parts.Places.{position, place_of}
 use Rattle.cell_clump.specs.parts.Reading.{AreRead, label_in}
 use Rattle.cell_clump.specs.parts.Starts.{start_of, starts, begins, meets}
 use Rattle.cell_clump.specs.parts.Numbers.{is_first, firsts_below, number_of, number_at, cell_number}
 use Rattle.cell_clump.specs.parts.Tables.{AreLabels}
-use Rattle.cell_clump.proofs.PathLemmas.{AreJoined-trans, AreJoined-sym, AreJoined-first, AreJoined-some, AreJoined-along}
+use Rattle.cell_clump.proofs.PathLemmas.{AreJoined-trans, AreJoined-sym, AreJoined-first, AreJoined-along}
 use Rattle.cell_clump.proofs.LawLemmas.{cases_before}
 use Rattle.cell_clump.proofs.MeetingLemmas.{some_of}
 use Rattle.cell_clump.proofs.NearLemmas.{label_below}

@@ -92,10 +92,6 @@ TellsOpen-joined table a b first second high low open_of a_inside b_inside tells
     subst (λ (l : ℕ). TellsOpen (set table high l) (after_join open_of a b)) (sym low')
     (subst (λ (h : ℕ). TellsOpen (set table h (min (open_of a) (open_of b))) (after_join open_of a b)) (sym high') (TellsOpen-after table a b open_of a_inside b_inside tells))
 
--- an open label leads to itself
-pub TellsOpen-twice : (table : List ℕ) (open_of : ℕ → ℕ) (k : ℕ) → TellsOpen table open_of → k < length table → open_of (open_of k) ≡ open_of k
-TellsOpen-twice table open_of k tells inside = tells.itself (open_of k) (let low = tells.low k inside in omega arith) (tells.is_open k inside)
-
 -- ---- a label more, which is open
 
 abbrev pub extended : (ℕ → ℕ) → ℕ → ℕ → ℕ

@@ -1,5 +1,5 @@
 -- The labels that a cell shares with the neighbours that come before it.
-use Rattle.std.proofs.Common.{◌≡◌, ℕ, suc, ℤ, ◌+◌, ◌*◌, ◌<◌, Bool, true, false, not, List, Option, Some, None, length, refl, ap, sym, ◌∙◌, arith, subst, inl, inr, ⊎_elim, ◌⊎◌}
+use Rattle.std.proofs.Common.{◌≡◌, ℕ, suc, ℤ, ◌+◌, ◌<◌, Bool, true, false, not, List, Option, Some, None, length, refl, ap, sym, ◌∙◌, arith, subst, inl, inr, ⊎_elim, ◌⊎◌}
 use Rattle.cell_core.specs.Grid.{Grid, CellValue}
 use Rattle.std.specs.Option.{IfSome}
 use Rattle.cell_core.specs.Cell.{cell_eq}
@@ -8,11 +8,11 @@ use Rattle.cell_clump.specs.declared.clump.Joining.{Joining}
 use Rattle.cell_clump.specs.declared.clump.Joining.TheVariants.{Edges, EdgesAndCorners}
 use Rattle.cell_clump.specs.declared.near.Labelled.{Labelled}
 use Rattle.cell_clump.specs.declared.near.Near.{Near}
-use Rattle.cell_clump.specs.Areas.{Position, at, AreNeighbours, AreAdjacent, AreJoined}
+use Rattle.cell_clump.specs.Areas.{Position, at, AreAdjacent, AreJoined}
 use Rattle.cell_clump.specs.parts.Labels.{TellsOpen, after_join}
 use Rattle.cell_clump.specs.parts.Places.{position, place_of}
-use Rattle.cell_clump.specs.parts.Reading.{AreInside, AreNear, AreRead, HasRead, Shares, Tells, WasRead, label_in}
-use Rattle.cell_clump.specs.parts.Starts.{IsLeft, IsAbove, IsUpperLeft, IsUpperRight, IsEarlier, start_of, starts}
+use Rattle.cell_clump.specs.parts.Reading.{AreInside, AreNear, AreRead, Shares, Tells, WasRead, label_in}
+use Rattle.cell_clump.specs.parts.Starts.{IsLeft, IsAbove, IsUpperLeft, IsUpperRight, IsEarlier, start_of}
 use Rattle.cell_clump.proofs.PathLemmas.{AreJoined-adjacent, AreJoined-sym, AreJoined-trans}
 use Rattle.cell_clump.proofs.MeetingLemmas.{AreSound-joined, after_join_keeps, after_join_one}
 use Rattle.cell_clump.proofs.StartLemmas.{same_position, earlier_adjacent, count_le, alike_from, alike_to}
@@ -71,18 +71,6 @@ told m count label_of Lies x v h one q lies is =
     subst (λ (p : Position). Told m count label_of p v x) (one t.0 q t.1 lies) t.2
 
 module _ (m : Grid) (count : ℕ) (label_of : Position → ℕ) (r c : ℕ) (v : ℤ) (near : Near) (n : AreNear m count label_of r c near) where
-  pub tell_left : near.left.cell ≡ Some v → (q : Position) × IsLeft r c q × Told m count label_of q v near.left
-  tell_left e = tell m count label_of (IsLeft r c) near.left v n.left e
-
-  pub tell_above : near.above.cell ≡ Some v → (q : Position) × IsAbove r c q × Told m count label_of q v near.above
-  tell_above e = tell m count label_of (IsAbove r c) near.above v n.above e
-
-  pub tell_upper_left : near.upper_left.cell ≡ Some v → (q : Position) × IsUpperLeft r c q × Told m count label_of q v near.upper_left
-  tell_upper_left e = tell m count label_of (IsUpperLeft r c) near.upper_left v n.upper_left e
-
-  pub tell_upper_right : near.upper_right.cell ≡ Some v → (q : Position) × IsUpperRight r c q × Told m count label_of q v near.upper_right
-  tell_upper_right e = tell m count label_of (IsUpperRight r c) near.upper_right v n.upper_right e
-
   pub told_left : (q : Position) → IsLeft r c q → at m q ≡ Some v → Told m count label_of q v near.left
   told_left = told m count label_of (IsLeft r c) near.left v n.left (one_left r c)
 
@@ -105,10 +93,10 @@ label_below j m table labels open_of rd q v is read =
 
 pub inside_near : (j : Joining) (m : Grid) (table labels : List ℕ) (open_of : ℕ → ℕ) (r c : ℕ) (near : Near) → AreRead j m table labels open_of → AreNear m (length labels) (label_in m labels) r c near → AreInside (length table) near
 inside_near j m table labels open_of r c near rd n = record {
-  left = λ v e. from v near.left (tell_left m (length labels) (label_in m labels) r c v near n e).2;
-  upper_left = λ v e. from v near.upper_left (tell_upper_left m (length labels) (label_in m labels) r c v near n e).2;
-  above = λ v e. from v near.above (tell_above m (length labels) (label_in m labels) r c v near n e).2;
-  upper_right = λ v e. from v near.upper_right (tell_upper_right m (length labels) (label_in m labels) r c v near n e).2;
+  left = λ v e. from v near.left (tell m (length labels) (label_in m labels) (IsLeft r c) near.left v n.left e).2;
+  upper_left = λ v e. from v near.upper_left (tell m (length labels) (label_in m labels) (IsUpperLeft r c) near.upper_left v n.upper_left e).2;
+  above = λ v e. from v near.above (tell m (length labels) (label_in m labels) (IsAbove r c) near.above v n.above e).2;
+  upper_right = λ v e. from v near.upper_right (tell m (length labels) (label_in m labels) (IsUpperRight r c) near.upper_right v n.upper_right e).2;
 }
   where
     from : {q : Position} (v : ℤ) (x : Labelled) → Told m (length labels) (label_in m labels) q v x → x.label < length table
@@ -160,18 +148,18 @@ module _ (j : Joining) (m : Grid) (r c : ℕ) (v : ℤ) (table labels : List ℕ
 module _ (m : Grid) (r c : ℕ) (v : ℤ) (table labels : List ℕ) (f : ℕ → ℕ) (near : Near) (n : AreNear m (length labels) (label_in m labels) r c near) (rd : AreRead Edges m table labels f) where
   pub edges_above : (near.left.cell ≡ Some v → ⊥) → near.above.cell ≡ Some v → Shares Edges m table labels f r c v near.above.label
   edges_above not_left above =
-      let t = tell_above m (length labels) (label_in m labels) r c v near n above in
+      let t = tell m (length labels) (label_in m labels) (IsAbove r c) near.above v n.above above in
       shared Edges m r c v table labels f rd t.0 near.above (inr t.1) t.2
       (λ p earlier is. ⊎_elim (λ h. absurd (not_left (told_left m (length labels) (label_in m labels) r c v near n p h is).cell))
       (λ h. ap f (sym (told_above m (length labels) (label_in m labels) r c v near n p h is).label)) earlier)
 
   pub edges_left : near.left.cell ≡ Some v → (near.above.cell ≡ Some v → near.upper_left.cell ≡ Some v) → Shares Edges m table labels f r c v near.left.label
   edges_left left between =
-      let t = tell_left m (length labels) (label_in m labels) r c v near n left in
+      let t = tell m (length labels) (label_in m labels) (IsLeft r c) near.left v n.left left in
       shared Edges m r c v table labels f rd t.0 near.left (inl t.1) t.2
       (λ p earlier is. ⊎_elim (λ h. ap f (sym (told_left m (length labels) (label_in m labels) r c v near n p h is).label))
       (λ h. let a = told_above m (length labels) (label_in m labels) r c v near n p h is in
-      let u = tell_upper_left m (length labels) (label_in m labels) r c v near n (between a.cell) in
+      let u = tell m (length labels) (label_in m labels) (IsUpperLeft r c) near.upper_left v n.upper_left (between a.cell) in
       let x = u.1.0 in let y = u.1.1 in let z = t.1.0 in let w = t.1.1 in let i = h.0 in let k = h.1 in
       sym (met Edges m r c v table labels f rd t.0 u.0 near.left near.upper_left (below Edges t.0 u.0 (omega arith) (omega arith)) t.2 u.2
       ∙ ap f u.2.label
@@ -181,8 +169,8 @@ module _ (m : Grid) (r c : ℕ) (v : ℤ) (table labels : List ℕ) (f : ℕ →
 
   pub edges_joined : (new : List ℕ) → at m (position r c) ≡ Some v → near.left.cell ≡ Some v → near.above.cell ≡ Some v → length new ≡ length table → TellsOpen new (after_join f near.above.label near.left.label) → Shares Edges m new labels f r c v near.left.label
   edges_joined new is left above long tells =
-      let t = tell_above m (length labels) (label_in m labels) r c v near n above in
-      let l = tell_left m (length labels) (label_in m labels) r c v near n left in
+      let t = tell m (length labels) (label_in m labels) (IsAbove r c) near.above v n.above above in
+      let l = tell m (length labels) (label_in m labels) (IsLeft r c) near.left v n.left left in
       shared_joined Edges m r c v table labels f rd new t.0 l.0 near.above near.left is (inr t.1) (inl l.1) t.2 l.2 long tells
       (λ p earlier p_is. ⊎_elim (λ h. inr (ap f (sym (told_left m (length labels) (label_in m labels) r c v near n p h p_is).label)))
       (λ h. inl (ap f (sym (told_above m (length labels) (label_in m labels) r c v near n p h p_is).label))) earlier)
@@ -199,7 +187,7 @@ module _ (m : Grid) (r c : ℕ) (v : ℤ) (table labels : List ℕ) (f : ℕ →
 
   pub corners_above : near.above.cell ≡ Some v → Shares EdgesAndCorners m table labels f r c v near.above.label
   corners_above above =
-      let t = tell_above m (length labels) (label_in m labels) r c v near n above in
+      let t = tell m (length labels) (label_in m labels) (IsAbove r c) near.above v n.above above in
       let z = t.1.0 in let w = t.1.1 in
       shared EdgesAndCorners m r c v table labels f rd t.0 near.above (inl (inr t.1)) t.2
       (each (λ p. f (label_in m labels p) ≡ f near.above.label)
@@ -216,7 +204,7 @@ module _ (m : Grid) (r c : ℕ) (v : ℤ) (table labels : List ℕ) (f : ℕ →
 
   pub corners_left : (near.above.cell ≡ Some v → ⊥) → near.left.cell ≡ Some v → (near.upper_right.cell ≡ Some v → ⊥) → Shares EdgesAndCorners m table labels f r c v near.left.label
   corners_left not_above left not_upper_right =
-      let t = tell_left m (length labels) (label_in m labels) r c v near n left in
+      let t = tell m (length labels) (label_in m labels) (IsLeft r c) near.left v n.left left in
       shared EdgesAndCorners m r c v table labels f rd t.0 near.left (inl (inl t.1)) t.2
       (each (λ p. f (label_in m labels p) ≡ f near.left.label)
       (λ p h s. ap f (sym s.label))
@@ -226,8 +214,8 @@ module _ (m : Grid) (r c : ℕ) (v : ℤ) (table labels : List ℕ) (f : ℕ →
 
   pub corners_joined_left : (new : List ℕ) → at m (position r c) ≡ Some v → (near.above.cell ≡ Some v → ⊥) → near.left.cell ≡ Some v → near.upper_right.cell ≡ Some v → length new ≡ length table → TellsOpen new (after_join f near.upper_right.label near.left.label) → Shares EdgesAndCorners m new labels f r c v near.left.label
   corners_joined_left new is not_above left upper_right long tells =
-      let t = tell_upper_right m (length labels) (label_in m labels) r c v near n upper_right in
-      let l = tell_left m (length labels) (label_in m labels) r c v near n left in
+      let t = tell m (length labels) (label_in m labels) (IsUpperRight r c) near.upper_right v n.upper_right upper_right in
+      let l = tell m (length labels) (label_in m labels) (IsLeft r c) near.left v n.left left in
       shared_joined EdgesAndCorners m r c v table labels f rd new t.0 l.0 near.upper_right near.left is (inr (inr t.1)) (inl (inl l.1)) t.2 l.2 long tells
       (each (λ p. (f (label_in m labels p) ≡ f near.upper_right.label) ⊎ (f (label_in m labels p) ≡ f near.left.label))
       (λ p h s. inr (ap f (sym s.label)))
@@ -238,7 +226,7 @@ module _ (m : Grid) (r c : ℕ) (v : ℤ) (table labels : List ℕ) (f : ℕ →
   module _ (none : (q : Position) → IsLeft r c q ⊎ IsAbove r c q → at m q ≡ Some v → ⊥) where
     pub corners_upper_right : (near.upper_left.cell ≡ Some v → ⊥) → near.upper_right.cell ≡ Some v → Shares EdgesAndCorners m table labels f r c v near.upper_right.label
     corners_upper_right not_upper_left upper_right =
-        let t = tell_upper_right m (length labels) (label_in m labels) r c v near n upper_right in
+        let t = tell m (length labels) (label_in m labels) (IsUpperRight r c) near.upper_right v n.upper_right upper_right in
         shared EdgesAndCorners m r c v table labels f rd t.0 near.upper_right (inr (inr t.1)) t.2
         (each (λ p. f (label_in m labels p) ≡ f near.upper_right.label)
         (λ p h s. absurd (none p (inl h) s.is))
@@ -248,7 +236,7 @@ module _ (m : Grid) (r c : ℕ) (v : ℤ) (table labels : List ℕ) (f : ℕ →
 
     pub corners_upper_left : near.upper_left.cell ≡ Some v → (near.upper_right.cell ≡ Some v → near.upper_right.label ≡ near.upper_left.label) → Shares EdgesAndCorners m table labels f r c v near.upper_left.label
     corners_upper_left upper_left same =
-        let t = tell_upper_left m (length labels) (label_in m labels) r c v near n upper_left in
+        let t = tell m (length labels) (label_in m labels) (IsUpperLeft r c) near.upper_left v n.upper_left upper_left in
         shared EdgesAndCorners m r c v table labels f rd t.0 near.upper_left (inr (inl t.1)) t.2
         (each (λ p. f (label_in m labels p) ≡ f near.upper_left.label)
         (λ p h s. absurd (none p (inl h) s.is))
@@ -258,8 +246,8 @@ module _ (m : Grid) (r c : ℕ) (v : ℤ) (table labels : List ℕ) (f : ℕ →
 
     pub corners_joined : (new : List ℕ) → at m (position r c) ≡ Some v → near.upper_left.cell ≡ Some v → near.upper_right.cell ≡ Some v → length new ≡ length table → TellsOpen new (after_join f near.upper_right.label near.upper_left.label) → Shares EdgesAndCorners m new labels f r c v near.upper_left.label
     corners_joined new is upper_left upper_right long tells =
-        let t = tell_upper_right m (length labels) (label_in m labels) r c v near n upper_right in
-        let u = tell_upper_left m (length labels) (label_in m labels) r c v near n upper_left in
+        let t = tell m (length labels) (label_in m labels) (IsUpperRight r c) near.upper_right v n.upper_right upper_right in
+        let u = tell m (length labels) (label_in m labels) (IsUpperLeft r c) near.upper_left v n.upper_left upper_left in
         shared_joined EdgesAndCorners m r c v table labels f rd new t.0 u.0 near.upper_right near.upper_left is (inr (inr t.1)) (inr (inl u.1)) t.2 u.2 long tells
         (each (λ p. (f (label_in m labels p) ≡ f near.upper_right.label) ⊎ (f (label_in m labels p) ≡ f near.upper_left.label))
         (λ p h s. absurd (none p (inl h) s.is))

@@ -1,5 +1,5 @@
 -- Labels are replaced by numbers.
-use Rattle.std.proofs.Common.{◌≡◌, ℕ, zero, suc, ℤ, pos, true, false, ◌+◌, ◌-◌, ◌*◌, ◌<◌, ◌≤◌, ◌++◌, [], ◌∷◌, List, Some, None, IsSome, is_some, length, get_or, set, refl, ap, sym, ◌∙◌, arith, subst, ⊎_elim, eqb, eq-eqb, add-one, get_or-set_other, get_or-set_same}
+use Rattle.std.proofs.Common.{◌≡◌, ℕ, zero, suc, ℤ, true, false, ◌+◌, ◌-◌, ◌*◌, ◌<◌, ◌≤◌, ◌++◌, [], ◌∷◌, List, Some, None, length, get_or, set, refl, ap, sym, ◌∙◌, arith, subst, ⊎_elim, eq-eqb, add-one, get_or-set_other, get_or-set_same}
 use Rattle.std.proofs.lemmas.List.{length-set, length_push, get_or_push, get_or_append_left, get_or_past}
 use Rattle.std.proofs.lemmas.Bool.{cases_lt, cases_order, cases_Bool, ne_eqb, cond-true, cond-false}
 use Rattle.cell_core.specs.Grid.{Grid, CellValue}
@@ -8,13 +8,13 @@ use Rattle.cell_clump.specs.declared.clump.Joining.{Joining}
 use Rattle.cell_clump.specs.Areas.{Position, at, AreAdjacent}
 use Rattle.cell_clump.specs.parts.Labels.{PointDown}
 use Rattle.cell_clump.specs.parts.Meetings.{AreSound}
-use Rattle.cell_clump.specs.parts.Places.{position, place_of, IsInside}
+use Rattle.cell_clump.specs.parts.Places.{position}
 use Rattle.cell_clump.specs.parts.Reading.{WasRead, label_in}
 use Rattle.cell_clump.specs.parts.Starts.{IsEarlier, begins, starts, start_of}
-use Rattle.cell_clump.specs.parts.Numbers.{is_first, firsts_below, number_of, number_at, cell_number, AreNumbered, CanNumber, IsNumbered}
+use Rattle.cell_clump.specs.parts.Numbers.{is_first, firsts_below, number_of, number_at, AreNumbered, CanNumber, IsNumbered}
 use Rattle.cell_clump.specs.parts.Tables.{AreLabels}
 use Rattle.cell_clump.proofs.NearLemmas.{label_below}
-use Rattle.cell_clump.proofs.StartLemmas.{place_inside, earlier_adjacent, begins_none, begins_from, count_begins, count_stays, starts_most}
+use Rattle.cell_clump.proofs.StartLemmas.{place_inside, begins_from, count_begins, count_stays, starts_most}
 
 -- ---- the count of open labels, place by place
 

@@ -5,8 +5,8 @@ use Rattle.cell_core.specs.Grid.{Grid, CellValue, row_at}
 use Rattle.cell_clump.specs.declared.clump.Joining.{Joining}
 use Rattle.cell_clump.specs.declared.near.Labelled.{Labelled}
 use Rattle.cell_clump.specs.declared.near.Near.{Near}
-use Rattle.cell_clump.specs.Areas.{Position, at}
-use Rattle.cell_clump.specs.parts.Numbers.{AreWritten, HaveNumbers, IsNumbered, cell_number, number_at}
+use Rattle.cell_clump.specs.Areas.{at}
+use Rattle.cell_clump.specs.parts.Numbers.{AreWritten, HaveNumbers, cell_number, number_at}
 use Rattle.cell_clump.specs.parts.Places.{position}
 use Rattle.cell_clump.specs.parts.Reading.{AreBeside, AreNear, IsLine}
 use Rattle.cell_clump.specs.parts.Starts.{starts}

@@ -1,22 +1,21 @@
 -- One cell more was read.
-use Rattle.std.proofs.Common.{◌≡◌, ℕ, suc, ℤ, true, false, ◌+◌, ◌*◌, ◌<◌, ◌≤◌, ◌++◌, ◌∷◌, [], List, Some, None, length, get_or, take, drop, refl, ap, sym, ◌∙◌, arith, subst, inl, inr, ⊎_elim}
+use Rattle.std.proofs.Common.{◌≡◌, ℕ, suc, ℤ, true, ◌+◌, ◌*◌, ◌<◌, ◌++◌, ◌∷◌, [], List, Some, None, length, take, drop, refl, ap, sym, ◌∙◌, arith, subst, ⊎_elim}
 use Rattle.std.proofs.lemmas.Bool.{cases_lt, both_ways}
 use Rattle.std.proofs.lemmas.List.{length_push, get_or_push, get_or_append_left, take_at}
 use Rattle.cell_core.specs.Grid.{Grid}
 use Rattle.cell_clump.specs.declared.clump.Joining.{Joining}
-use Rattle.cell_clump.specs.declared.near.Near.{Near}
 use Rattle.cell_clump.specs.Areas.{Position, at, IsBefore, AreAdjacent, AreJoined}
 use Rattle.cell_clump.specs.parts.Labels.{PointDown}
 use Rattle.cell_clump.specs.parts.Meetings.{AreSound}
 use Rattle.cell_clump.specs.parts.Places.{position, place_of, IsInside}
-use Rattle.cell_clump.specs.parts.Reading.{AreNear, AreRead, HasRead, Shares, WasRead, label_in}
+use Rattle.cell_clump.specs.parts.Reading.{AreRead, HasRead, Shares, WasRead, label_in}
 use Rattle.cell_clump.specs.parts.Starts.{IsEarlier, begins, starts, start_of}
-use Rattle.cell_clump.proofs.LabelLemmas.{extended, extended_new, extended_old}
+use Rattle.cell_clump.proofs.LabelLemmas.{extended, extended_old}
 use Rattle.cell_clump.proofs.LawLemmas.{cases_before}
 use Rattle.cell_clump.proofs.MeetingLemmas.{AreSound-push}
 use Rattle.cell_clump.proofs.NearLemmas.{label_below}
 use Rattle.cell_clump.proofs.PathLemmas.{AreAdjacent-sym, AreJoined-adjacent, AreJoined-refl, AreJoined-trans}
-use Rattle.cell_clump.proofs.StartLemmas.{one_place, place_lt, earlier_adjacent, earlier_before, adjacent_earlier, begins_none, begins_from, begins_null, count_le, count_begins, count_stays, start_here}
+use Rattle.cell_clump.proofs.StartLemmas.{one_place, place_lt, earlier_adjacent, earlier_before, adjacent_earlier, begins_none, begins_from, begins_null, count_begins, count_stays, start_here}
 
 -- a cell with a smaller place comes before
 pub before_of : (w : ℕ) (p q : Position) → p.col < w → q.col < w → place_of w p < place_of w q → IsBefore p q

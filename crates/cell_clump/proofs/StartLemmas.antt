@@ -1,7 +1,7 @@
 -- The cells that get labels of their own, and how they are counted.
-use Rattle.std.proofs.Common.{◌≡◌, ◌≢◌, ℕ, zero, suc, ℤ, Bool, true, false, not, ◌||◌, ◌+◌, ◌-◌, ◌*◌, ◌%◌, ◌<◌, ◌≤◌, List, [], ◌∷◌, ◌++◌, Some, None, length, get_or, refl, ap, sym, ◌∙◌, arith, subst, inl, inr, ⊎_elim, ◌⊎◌, is_some}
+use Rattle.std.proofs.Common.{◌≡◌, ℕ, zero, suc, ℤ, Bool, true, false, not, ◌||◌, ◌+◌, ◌-◌, ◌*◌, ◌<◌, ◌≤◌, List, [], ◌∷◌, ◌++◌, Some, None, length, get_or, refl, ap, sym, ◌∙◌, arith, subst, inl, inr, ⊎_elim, ◌⊎◌, is_some}
 use Rattle.std.proofs.Math.Nat.{mul-le-mul_right}
-use Rattle.std.proofs.lemmas.Bool.{cases_lt, cases_Bool, cond-true, cond-false, both_ways, and_from, and_left, and_right, and_parts}
+use Rattle.std.proofs.lemmas.Bool.{cases_lt, cases_Bool, cond-true, cond-false, and_from, and_left, and_right}
 use Rattle.std.proofs.lemmas.List.{length_push, get_or_push, get_or_append_left, get_or_past}
 use Rattle.std.proofs.lemmas.List.Elements.{All-get_or}
 use Rattle.std.proofs.lemmas.Nat.{div-mul-add, mod-mul-add, div-add-mod', mul-add-lt}
@@ -9,9 +9,9 @@ use Rattle.cell_core.specs.Cell.{cell_eq, cell_eq-Decides}
 use Rattle.cell_core.specs.Grid.{Grid, CellValue, IsFilled, cell_at, row_at}
 use Rattle.cell_clump.specs.declared.clump.Joining.{Joining}
 use Rattle.cell_clump.specs.declared.clump.Joining.TheVariants.{Edges, EdgesAndCorners}
-use Rattle.cell_clump.specs.Areas.{Position, at, IsBefore, AreNeighbours, AreAdjacent}
+use Rattle.cell_clump.specs.Areas.{Position, at, IsBefore, AreAdjacent}
 use Rattle.cell_clump.specs.parts.Places.{position, cell_of, place_of, IsInside}
-use Rattle.cell_clump.specs.parts.Starts.{IsLeft, IsAbove, IsUpperLeft, IsUpperRight, IsEarlier, left_of, above_of, upper_left_of, upper_right_of, meets, begins, starts_below, starts, label_count, start_of}
+use Rattle.cell_clump.specs.parts.Starts.{IsLeft, IsAbove, IsUpperLeft, IsUpperRight, IsEarlier, left_of, above_of, upper_left_of, upper_right_of, meets, begins, starts_below, starts, start_of}
 
 pub same_position : (p : Position) (r c : ℕ) → p.row ≡ r → p.col ≡ c → p ≡ position r c
 same_position p r c e d = ap (λ (x : ℕ). position x p.col) e ∙ ap (position r) d
@@ -245,10 +245,6 @@ module _ (j : Joining) (m : Grid) where
       (λ no'. let same = count_same n no' in absurd (omega arith))
       (cases_Bool (begins j m (cell_of m.region.cols n))))
       (cases_lt k (starts j m n))
-
-  pub label_count_is : label_count j m ≡ starts j m (m.region.rows * m.region.cols)
-  unfolding label_count
-  label_count_is = refl
 
   start_is : (k : ℕ) → start_of j m k ≡ get_or (starts_below j m (m.region.rows * m.region.cols)) k (position 0 0)
   unfolding start_of

@@ -1,5 +1,5 @@
 -- The numbers of the cells of a map, of a table of labels.
-use Rattle.std.specs.Prelude.{ℕ, ℤ, zero, suc, pos, Bool, ◌+◌, ◌*◌, ◌<◌, ◌≤◌, ◌≡◌, List, [], ◌∷◌, ◌++◌, length, Some, None, nat_eq, slice_index, slice_index_or, if◌then◌else◌, is_some}
+use Rattle.std.specs.Prelude.{ℕ, zero, suc, pos, Bool, ◌+◌, ◌*◌, ◌<◌, ◌≤◌, ◌≡◌, List, [], ◌∷◌, ◌++◌, length, Some, None, nat_eq, slice_index, slice_index_or, if◌then◌else◌, is_some}
 use Rattle.cell_core.specs.Grid.{Grid, CellValue}
 use Rattle.cell_clump.specs.declared.clump.Joining.{Joining}
 use Rattle.cell_clump.specs.declared.near.Labelled.{Labelled}

@@ -6,7 +6,7 @@ use Rattle.cell_clump.specs.declared.near.Labelled.{Labelled}
 use Rattle.cell_clump.specs.declared.near.Near.{Near}
 use Rattle.cell_clump.specs.Areas.{Position, at, AreAdjacent, AreJoined}
 use Rattle.cell_clump.specs.parts.Meetings.{AreSound}
-use Rattle.cell_clump.specs.parts.Places.{position, place_of, IsInside}
+use Rattle.cell_clump.specs.parts.Places.{place_of, IsInside}
 use Rattle.cell_clump.specs.parts.Starts.{IsEarlier, IsLeft, IsAbove, IsUpperLeft, IsUpperRight, IsCell, begins, starts, start_of}
 
 -- the label of a cell, of the labels of the cells in row order

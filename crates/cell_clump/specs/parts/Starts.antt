@@ -64,10 +64,6 @@ starts_below j m (suc k) = if begins j m (cell_of m.region.cols k) then starts_b
 abbrev pub starts : Joining → Grid → ℕ → ℕ
 starts j m k = length (starts_below j m k)
 
--- how many a map has
-unfoldable pub label_count : Joining → Grid → ℕ
-label_count j m = length (starts_below j m (m.region.rows * m.region.cols))
-
 -- the cell whose own label is this one
 unfoldable pub start_of : Joining → Grid → ℕ → Position
 start_of j m k = slice_index_or (starts_below j m (m.region.rows * m.region.cols)) k (position 0 0)

@@ -1,5 +1,5 @@
-use Rattle.std.proofs.Common.{◌≡◌, ◌++◌, ◌∷◌, [], List, ℕ, None, IsSome, is_some, false, length, take, drop, arith, rules, refl, ap, sym, ◌∙◌, subst}
-use Rattle.cell_clump.specs.parts.Reading.{AreRead, HasRead}
+use Rattle.std.proofs.Common.{◌≡◌, ◌++◌, ◌∷◌, [], List, ℕ, None, IsSome, is_some, false, length, arith, rules, ap, sym, ◌∙◌}
+use Rattle.cell_clump.specs.parts.Reading.{AreRead}
 use Rattle.cell_clump.proofs.MeetingLemmas.{some_of, none_of}
 use Rattle.cell_clump.proofs.ReadLemmas.{read_null, read_shared, read_new, written_back}
 use Rattle.cell_clump.proofs.near.label_cell.Goals as goal

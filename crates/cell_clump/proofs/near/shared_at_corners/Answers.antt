@@ -1,4 +1,4 @@
-use Rattle.std.proofs.Common.{◌≡◌, arith}
+use Rattle.std.proofs.Common.{arith}
 use Rattle.cell_clump.proofs.MeetingLemmas.{some_of}
 use Rattle.cell_clump.proofs.NearLemmas.{is_alike, is_unlike, ne_alike, ne_unlike, corners_upper_left, corners_upper_right, corners_joined}
 use Rattle.cell_clump.proofs.near.shared_at_corners.Goals as goal

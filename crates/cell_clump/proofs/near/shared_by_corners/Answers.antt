@@ -1,4 +1,4 @@
-use Rattle.std.proofs.Common.{◌≡◌, inl, inr, ⊎_elim}
+use Rattle.std.proofs.Common.{⊎_elim}
 use Rattle.cell_clump.proofs.MeetingLemmas.{some_of}
 use Rattle.cell_clump.proofs.NearLemmas.{is_alike, is_unlike, ne_alike, ne_unlike, told_above, told_left, corners_above, corners_left, corners_joined_left, if_some_map}
 use Rattle.cell_clump.proofs.near.shared_by_corners.Goals as goal

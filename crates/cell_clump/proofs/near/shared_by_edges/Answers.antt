@@ -1,4 +1,3 @@
-use Rattle.std.proofs.Common.{◌≡◌}
 use Rattle.cell_clump.proofs.MeetingLemmas.{some_of}
 use Rattle.cell_clump.proofs.NearLemmas.{is_alike, is_unlike, ne_alike, ne_unlike, edges_left, edges_above, edges_joined}
 use Rattle.cell_clump.proofs.near.shared_by_edges.Goals as goal

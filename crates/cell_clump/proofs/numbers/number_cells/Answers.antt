@@ -1,10 +1,9 @@
-use Rattle.std.proofs.Common.{◌≡◌, ◌+◌, ℕ, ◌<◌, ◌≤◌, ◌*◌, List, [], ◌++◌, ◌∷◌, All, None, length, replicate, get_or, arith, rules, refl, sym, ap, ◌∙◌}
+use Rattle.std.proofs.Common.{◌≡◌, ◌+◌, ℕ, List, [], ◌++◌, ◌∷◌, length, replicate, arith, rules, refl, ◌∙◌}
 use Rattle.std.proofs.lemmas.List.{length_push}
 use Rattle.std.proofs.lemmas.List.Elements.{All-push}
 use Rattle.cell_core.specs.Grid.{CellValue}
 use Rattle.cell_clump.specs.parts.Numbers.{IsNumbered, cell_number}
 use Rattle.cell_clump.specs.parts.Places.{position}
-use Rattle.cell_clump.specs.parts.Starts.{starts}
 use Rattle.cell_clump.proofs.NumberLemmas.{cells_more, table_short}
 use Rattle.cell_clump.proofs.NumberedLemmas.{numbers_first}
 use Rattle.cell_clump.proofs.ClumpLemmas.{clumping}

@@ -1,6 +1,6 @@
 use Rattle.std.proofs.lemmas.Grind.{common_steps}
 use Rattle.std.proofs.lemmas.Option.{gets}
-use Rattle.std.proofs.Common.{◌≡◌, ℕ, ap, ◌+◌, ◌<◌, ◌≤◌, IsSome, is_some, false, None, length, get_or, arith, rules, sym, ◌∙◌}
+use Rattle.std.proofs.Common.{◌≡◌, ℕ, ap, ◌<◌, ◌≤◌, IsSome, is_some, false, None, length, get_or, arith, rules, sym, ◌∙◌}
 use Rattle.cell_clump.proofs.MeetingLemmas.{some_of, none_of}
 use Rattle.cell_clump.proofs.NumberLemmas.{number_met, number_own, own_inside, own_next, stays_next}
 use Rattle.cell_clump.proofs.StartLemmas.{earlier_adjacent, begins_none, begins_null}

@@ -1,8 +1,8 @@
-use Rattle.std.proofs.Common.{◌≡◌, ℕ, ℤ, ◌+◌, ◌<◌, ◌≤◌, List, Some, None, length, get_or, refl, ap, sym, ◌∙◌, arith, rules, get_or-set_other, subst}
+use Rattle.std.proofs.Common.{◌≡◌, ℕ, ◌<◌, List, None, length, get_or, ap, ◌∙◌, arith, rules, get_or-set_other, subst}
 use Rattle.std.proofs.lemmas.List.{length-set, get_or_default}
 use Rattle.cell_core.specs.Grid.{CellValue}
 use Rattle.cell_clump.specs.Areas.{at}
-use Rattle.cell_clump.specs.parts.Numbers.{AreWritten, number_at}
+use Rattle.cell_clump.specs.parts.Numbers.{AreWritten}
 use Rattle.cell_clump.specs.parts.Places.{position}
 use Rattle.cell_clump.proofs.NumberedLemmas.{numbering_first, numbering_down, numbering_near, numbering_next, numbering_beside, number_written_at, written_next, copied_rest}
 use Rattle.cell_clump.proofs.numbers.number_row.Goals as goal

@@ -1,5 +1,4 @@
-use Rattle.std.proofs.Common.{◌≡◌, ◌+◌, List, refl, length, replicate, arith, rules, ◌∙◌}
-use Rattle.cell_clump.specs.declared.near.Labelled.{Labelled}
+use Rattle.std.proofs.Common.{◌≡◌, ◌+◌, refl, replicate, rules, ◌∙◌}
 use Rattle.cell_clump.proofs.LineLemmas.{cells_first}
 use Rattle.cell_clump.proofs.scan.label_cells.Goals as goal
 

@@ -1,4 +1,4 @@
-use Rattle.std.proofs.Common.{◌≡◌, ◌+◌, ◌<◌, ◌≤◌, length, arith, rules}
+use Rattle.std.proofs.Common.{◌≡◌, ◌<◌, arith}
 use Rattle.cell_clump.specs.Areas.{at}
 use Rattle.cell_clump.specs.parts.Places.{position}
 use Rattle.cell_clump.proofs.LineLemmas.{reading_first, reading_near, reading_inside, reading_next, cells_down, copied}

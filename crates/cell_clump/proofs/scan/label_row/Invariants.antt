@@ -1,5 +1,4 @@
 use Rattle.std.proofs.Common.{◌≡◌, ◌+◌, ◌≤◌, length}
-use Rattle.cell_core.specs.Grid.{row_at}
 use Rattle.cell_clump.specs.parts.Labels.{PointDown}
 use Rattle.cell_clump.specs.parts.Reading.{IsReading}
 use Rattle.cell_clump.proofs.scan.label_row.Given as goal
