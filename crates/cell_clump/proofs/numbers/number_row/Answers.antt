@@ -1,8 +1,10 @@
-use Rattle.std.proofs.Common.{◌≡◌, ℕ, ◌<◌, List, None, length, get_or, ap, ◌∙◌, arith, rules, get_or-set_other, subst}
+use Rattle.std.proofs.Common.{◌≡◌, ℕ, ◌<◌, List, None, length, get_or, ap, ◌∙◌, arith, rules, get_or-set_other, subst, ◌*◌, ℤ, Some, ◌+◌}
 use Rattle.std.proofs.lemmas.List.{length-set, get_or_default}
 use Rattle.cell_core.specs.Grid.{CellValue}
 use Rattle.cell_clump.specs.Areas.{at}
-use Rattle.cell_clump.specs.parts.Numbers.{AreWritten}
+use Rattle.cell_clump.specs.parts.Numbers.{AreWritten, HaveNumbers, IsNumbered, number_at}
+use Rattle.cell_clump.specs.parts.Tables.{AreLabels}
+use Rattle.cell_clump.specs.parts.Reading.{AreNear}
 use Rattle.cell_clump.specs.parts.Places.{position}
 use Rattle.cell_clump.proofs.NumberedLemmas.{numbering_first, numbering_down, numbering_near, numbering_next, numbering_beside, number_written_at, written_next, copied_rest}
 use Rattle.cell_clump.proofs.numbers.number_row.Goals as goal
@@ -33,32 +35,19 @@ loop-col-preserved c =
     let col_in : col < m.region.cols = omega (arith, inv.wide) in
     let row_in : r < m.region.rows = search rules in
     let here : x ≡ at m (position r col) = copied_rest m r col c.loop-col.cells x inv.rest (c.index-cells-col.is ∙ get_or_default c.loop-col.cells col x None inside) in
+    let near : (labels : List ℕ) (h : AreLabels j m labels) → IsNumbered j m labels h c.args.table.now → HaveNumbers j m labels h c.args.first c.args.line.now r 0 → AreNear m (r * m.region.cols + col) (number_at j m labels h) r col _ = λ labels h n have.
+    numbering_near j m labels h next line r col c.loop-col.near (inv.numbers labels h n have) (inv.beside labels h n have) c.index-line-col.result c.index-line-col-in-loop-col.result col_in above right in
+    let label : (labels : List ℕ) (h : AreLabels j m labels) → IsNumbered j m labels h c.args.table.now → HaveNumbers j m labels h c.args.first c.args.line.now r 0 → (v : ℤ) → at m (position r col) ≡ Some v → c.number_of_cell.result ≡ number_at j m labels h (position r col) = λ labels h n have v is.
+    c.number_of_cell.ensures.number m r col v labels h (here ∙ is) is row_in col_in (inv.numbers labels h n have).next_is n (near labels h n have) in
     record {
       wide = length-set c.loop-col.cells col c.number_cell.result ∙ inv.wide;
       long = length-set line col _ ∙ inv.long;
       rest = λ k le. get_or-set_other c.loop-col.cells col k c.number_cell.result None (omega arith) ∙ inv.rest k (omega arith);
-      numbers = λ labels h n have.
-          let now = inv.numbers labels h n have in
-          let beside = inv.beside labels h n have in
-          let near = numbering_near j m labels h next line r col c.loop-col.near now beside c.index-line-col.result c.index-line-col-in-loop-col.result col_in above right in
-          numbering_next j m labels h next line r col c.loop-col.near now beside c.index-line-col.result c.index-line-col-in-loop-col.result col_in above right _ here
-          (λ v is. c.number_of_cell.ensures.number m r col v labels h (here ∙ is) is row_in col_in now.next_is n near)
-          c.number_of_cell.new.next
-          (c.number_of_cell.ensures.next m r col labels h here row_in col_in now.next_is n near);
-      beside = λ labels h n have.
-          let now = inv.numbers labels h n have in
-          let beside = inv.beside labels h n have in
-          let near = numbering_near j m labels h next line r col c.loop-col.near now beside c.index-line-col.result c.index-line-col-in-loop-col.result col_in above right in
-          numbering_beside j m labels h next line r col c.loop-col.near now beside c.index-line-col.result c.index-line-col-in-loop-col.result col_in above right _ here
-          (λ v is. c.number_of_cell.ensures.number m r col v labels h (here ∙ is) is row_in col_in now.next_is n near);
-      written = λ labels h n have.
-          let now = inv.numbers labels h n have in
-          let beside = inv.beside labels h n have in
-          let near = numbering_near j m labels h next line r col c.loop-col.near now beside c.index-line-col.result c.index-line-col-in-loop-col.result col_in above right in
-          written_next j m labels h r col c.loop-col.cells c.number_cell.result inside
-          (number_written_at j m labels h r col x c.number_of_cell.result c.number_cell.result n.short here
-          (λ v is. c.number_of_cell.ensures.number m r col v labels h (here ∙ is) is row_in col_in now.next_is n near)
-          c.number_of_cell.ensures.null c.number_cell.ensures.past c.number_cell.ensures.within)
+      numbers = λ labels h n have. numbering_next j m labels h next line r col c.loop-col.near (inv.numbers labels h n have) (inv.beside labels h n have) c.index-line-col.result c.index-line-col-in-loop-col.result col_in above right _ here (label labels h n have)
+          c.number_of_cell.new.next (c.number_of_cell.ensures.next m r col labels h here row_in col_in (inv.numbers labels h n have).next_is n (near labels h n have));
+      beside = λ labels h n have. numbering_beside j m labels h next line r col c.loop-col.near (inv.numbers labels h n have) (inv.beside labels h n have) c.index-line-col.result c.index-line-col-in-loop-col.result col_in above right _ here (label labels h n have);
+      written = λ labels h n have. written_next j m labels h r col c.loop-col.cells c.number_cell.result inside
+          (number_written_at j m labels h r col x c.number_of_cell.result c.number_cell.result n.short here (label labels h n have) c.number_of_cell.ensures.null c.number_cell.ensures.past c.number_cell.ensures.within)
           (inv.written labels h n have);
     }
 
