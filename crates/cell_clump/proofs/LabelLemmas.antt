@@ -1,6 +1,7 @@
 -- What a write to the table of labels leaves.
-use Rattle.std.proofs.Common.{◌≡◌, ℕ, ◌<◌, ◌≤◌, List, length, get_or, set, refl, ap, sym, ◌∙◌, arith, subst, ⊎_elim, eqb, eq-eqb, cond, max, min, get_or-set_other, get_or-set_same}
+use Rattle.std.proofs.Common.{◌≡◌, ℕ, ◌+◌, ◌++◌, ◌∷◌, [], ◌<◌, ◌≤◌, List, length, get_or, set, refl, ap, sym, ◌∙◌, arith, subst, ⊎_elim, eqb, eq-eqb, cond, max, min, get_or-set_other, get_or-set_same}
 use Rattle.std.proofs.Math.ListN.{length-set}
+use Rattle.std.proofs.lemmas.List.{length_push, get_or_push, get_or_append_left}
 use Rattle.std.proofs.lemmas.Bool.{cases_eq, cases_lt, ne_eqb, cond-true, cond-false}
 use Rattle.cell_clump.specs.parts.Labels.{PointDown, TellsOpen, closed, after_join}
 
@@ -91,6 +92,39 @@ TellsOpen-joined table a b first second high low open_of a_inside b_inside tells
     subst (λ (l : ℕ). TellsOpen (set table high l) (after_join open_of a b)) (sym low')
     (subst (λ (h : ℕ). TellsOpen (set table h (min (open_of a) (open_of b))) (after_join open_of a b)) (sym high') (TellsOpen-after table a b open_of a_inside b_inside tells))
 
--- an open label leads to itself
-pub TellsOpen-twice : (table : List ℕ) (open_of : ℕ → ℕ) (k : ℕ) → TellsOpen table open_of → k < length table → open_of (open_of k) ≡ open_of k
-TellsOpen-twice table open_of k tells inside = tells.itself (open_of k) (let low = tells.low k inside in omega arith) (tells.is_open k inside)
+-- ---- a label more, which is open
+
+abbrev pub extended : (ℕ → ℕ) → ℕ → ℕ → ℕ
+extended open_of n k = cond (eqb k n) n (open_of k)
+
+pub extended_new : (open_of : ℕ → ℕ) (n : ℕ) → extended open_of n n ≡ n
+extended_new open_of n = cond-true (eqb n n) n (open_of n) (eq-eqb _ _ refl)
+
+pub extended_old : (open_of : ℕ → ℕ) (n k : ℕ) → k < n → extended open_of n k ≡ open_of k
+extended_old open_of n k lt = cond-false (eqb k n) n (open_of k) (ne_eqb _ _ (λ e. absurd (omega arith)))
+
+pub TellsOpen-push : (table : List ℕ) (open_of : ℕ → ℕ) → PointDown table → TellsOpen table open_of → TellsOpen (table ++ length table ∷ []) (extended open_of (length table))
+TellsOpen-push table open_of down tells =
+    let n : ℕ = length table in
+    let new : List ℕ = table ++ n ∷ [] in
+    let f : ℕ → ℕ = extended open_of n in
+    let long : length new ≡ n + 1 = length_push table n in
+    let last : get_or new n 0 ≡ n = get_or_push table n 0 n refl in
+    let old : (k : ℕ) → k < n → get_or new k 0 ≡ get_or table k 0 = λ k lt. get_or_append_left table (n ∷ []) 0 k lt in
+    let same : f n ≡ n = extended_new open_of n in
+    let kept : (k : ℕ) → k < n → f k ≡ open_of k = λ k lt. extended_old open_of n k lt in
+    let each : (P : ℕ → Type 0) → ((k : ℕ) → k < n → P k) → P n → (k : ℕ) → k < length new → P k = λ P below here k lt. ⊎_elim (λ less. below k less) (λ le. let e : n ≡ k = omega arith in subst P e here) (cases_lt k n) in
+    record {
+      points = each (λ k. f (get_or new k 0) ≡ f k)
+          (λ k lt. let low = down k in ap f (old k lt) ∙ kept (get_or table k 0) (omega arith) ∙ tells.points k lt ∙ sym (kept k lt))
+          (ap f last);
+      itself = each (λ k. get_or new k 0 ≡ k → f k ≡ k)
+          (λ k lt e. kept k lt ∙ tells.itself k lt (sym (old k lt) ∙ e))
+          (λ e. same);
+      is_open = each (λ k. get_or new (f k) 0 ≡ f k)
+          (λ k lt. let low = tells.low k lt in subst (λ (i : ℕ). get_or new i 0 ≡ i) (sym (kept k lt)) (old (open_of k) (omega arith) ∙ tells.is_open k lt))
+          (subst (λ (i : ℕ). get_or new i 0 ≡ i) (sym same) last);
+      low = each (λ k. f k ≤ k)
+          (λ k lt. let low = tells.low k lt in let is = kept k lt in omega arith)
+          (omega arith);
+    }

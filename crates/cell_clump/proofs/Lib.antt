@@ -2,8 +2,11 @@ pub mod ClumpLemmas
 pub mod CountLemmas
 pub mod LabelLemmas
 pub mod LawLemmas
+pub mod LineLemmas
 pub mod MeetingLemmas
+pub mod NearLemmas
 pub mod NumberLemmas
+pub mod NumberedLemmas
 pub mod PathLemmas
-pub mod RowLemmas
+pub mod ReadLemmas
 pub mod StartLemmas

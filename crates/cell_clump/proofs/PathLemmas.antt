@@ -1,5 +1,5 @@
 -- Paths: each cell is joined to itself, both ways, and onwards.
-use Rattle.std.proofs.Common.{◌≡◌, ℕ, ℤ, ◌++◌, [], ◌∷◌, List, Some, IsSome, refl, ap, sym, ◌∙◌, subst, inl, inr}
+use Rattle.std.proofs.Common.{◌≡◌, ℕ, ℤ, ◌++◌, [], ◌∷◌, List, Some, refl, ap, sym, ◌∙◌, subst, inl, inr}
 use Rattle.std.specs.List.{All}
 use Rattle.std.proofs.lemmas.List.Elements.{All-nil, All-cons, All-head, All-tail, All-append}
 use Rattle.cell_core.specs.Grid.{Grid}
@@ -35,9 +35,6 @@ AreJoined-first j m p q h = All-head (λ s. at m s ≡ Some h.category) p h.othe
 
 pub AreJoined-last : (j : Joining) (m : Grid) (p q : Position) → (h : AreJoined j m p q) → at m q ≡ Some h.category
 AreJoined-last j m p q h = last_alike j m h.category p h.others q h.leads h.alike
-
-pub AreJoined-some : (j : Joining) (m : Grid) (p q : Position) → AreJoined j m p q → IsSome (at m q)
-AreJoined-some j m p q h = rw (AreJoined-last j m p q h) refl
 
 -- a cell that is not null is joined to itself
 pub AreJoined-refl : (j : Joining) (m : Grid) (p : Position) (v : ℤ) → at m p ≡ Some v → AreJoined j m p p

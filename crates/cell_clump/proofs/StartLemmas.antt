@@ -1,36 +1,41 @@
--- Where the runs of a map begin, and the labels of its cells.
-use Rattle.std.proofs.Common.{◌≡◌, ◌≢◌, ℕ, zero, suc, ℤ, Bool, true, false, ◌+◌, ◌-◌, ◌*◌, ◌%◌, ◌<◌, ◌≤◌, List, [], ◌∷◌, ◌++◌, Some, None, All, length, replicate, get_or, refl, ap, sym, ◌∙◌, arith, subst, inl, inr, ⊎_elim, eqb, length-append}
+-- The cells that get labels of their own, and how they are counted.
+use Rattle.std.proofs.Common.{◌≡◌, ℕ, zero, suc, ℤ, Bool, true, false, not, ◌||◌, ◌+◌, ◌-◌, ◌*◌, ◌<◌, ◌≤◌, List, [], ◌∷◌, ◌++◌, Some, None, length, get_or, refl, ap, sym, ◌∙◌, arith, subst, inl, inr, ⊎_elim, ◌⊎◌, is_some}
 use Rattle.std.proofs.Math.Nat.{mul-le-mul_right}
-use Rattle.std.proofs.lemmas.Bool.{cases_lt, cases_Bool, ne_eqb, cond-true, cond-false, both_ways}
-use Rattle.std.proofs.lemmas.List.{length_push, get_or_push, get_or_append_left, get_or-append_right, get_or_past, get_or-replicate, length-replicate}
+use Rattle.std.proofs.lemmas.Bool.{cases_lt, cases_Bool, cond-true, cond-false, and_from, and_left, and_right}
+use Rattle.std.proofs.lemmas.List.{length_push, get_or_push, get_or_append_left, get_or_past}
 use Rattle.std.proofs.lemmas.List.Elements.{All-get_or}
 use Rattle.std.proofs.lemmas.Nat.{div-mul-add, mod-mul-add, div-add-mod', mul-add-lt}
 use Rattle.cell_core.specs.Cell.{cell_eq, cell_eq-Decides}
-use Rattle.cell_core.specs.Grid.{Grid, CellValue, IsFilled, row_at}
-use Rattle.cell_core.specs.Runs.{RunValue, AreApart, AreRuns, written_out}
+use Rattle.cell_core.specs.Grid.{Grid, CellValue, IsFilled, cell_at, row_at}
 use Rattle.cell_clump.specs.declared.clump.Joining.{Joining}
 use Rattle.cell_clump.specs.declared.clump.Joining.TheVariants.{Edges, EdgesAndCorners}
-use Rattle.cell_clump.specs.Areas.{Position, at, IsBefore, AreAdjacent, AreJoined}
+use Rattle.cell_clump.specs.Areas.{Position, at, IsBefore, AreAdjacent}
 use Rattle.cell_clump.specs.parts.Places.{position, cell_of, place_of, IsInside}
-use Rattle.cell_clump.specs.parts.Starts.{begins, starts_below, run_count, start_of, label_of, AreLabelled, HasLabels}
-use Rattle.cell_clump.proofs.PathLemmas.{AreJoined-refl, AreJoined-adjacent, AreJoined-trans}
+use Rattle.cell_clump.specs.parts.Starts.{IsLeft, IsAbove, IsUpperLeft, IsUpperRight, IsEarlier, left_of, above_of, upper_left_of, upper_right_of, meets, begins, starts_below, starts, start_of}
 
 pub same_position : (p : Position) (r c : ℕ) → p.row ≡ r → p.col ≡ c → p ≡ position r c
 same_position p r c e d = ap (λ (x : ℕ). position x p.col) e ∙ ap (position r) d
 
 -- the cell at the place of a cell, and the place of the cell at a place
-cell_of-place : (w r c : ℕ) → c < w → cell_of w (r * w + c) ≡ position r c
+pub cell_of-place : (w r c : ℕ) → c < w → cell_of w (r * w + c) ≡ position r c
 cell_of-place w r c lt = same_position (cell_of w (r * w + c)) r c (div-mul-add r w c lt) (mod-mul-add r w c lt)
 
-place_of-cell : (w k : ℕ) → place_of w (cell_of w k) ≡ k
+pub place_of-cell : (w k : ℕ) → place_of w (cell_of w k) ≡ k
 place_of-cell w k = div-add-mod' k w
 
-place_lt : (w : ℕ) (p q : Position) → p.col < w → IsBefore p q → place_of w p < place_of w q
+pub place_lt : (w : ℕ) (p q : Position) → p.col < w → IsBefore p q → place_of w p < place_of w q
 place_lt w p q inside (inl lt) = let whole : (p.row + 1) * w ≤ q.row * w = mul-le-mul_right w (omega arith) in omega arith
 place_lt w p q inside (inr h) = let same : p.row * w ≡ q.row * w = ap (λ (n : ℕ). n * w) h.0 in let lt = h.1 in omega arith
 
+pub place_inside : (m : Grid) (p : Position) → IsInside m p → place_of m.region.cols p < m.region.rows * m.region.cols
+place_inside m p inside = let lt = mul-add-lt p.row m.region.cols p.col m.region.rows inside.0 inside.1 in omega arith
+
+-- two cells of one place are one
+pub one_place : (w : ℕ) (p q : Position) → p.col < w → q.col < w → place_of w p ≡ place_of w q → p ≡ q
+one_place w p q p_in q_in e = sym (cell_of-place w p.row p.col p_in) ∙ ap (cell_of w) e ∙ cell_of-place w q.row q.col q_in
+
 -- a cell that is not null is of the map
-pub inside_row : (m : Grid) (p : Position) (v : ℤ) → at m p ≡ Some v → p.col < length (row_at m p.row)
+inside_row : (m : Grid) (p : Position) (v : ℤ) → at m p ≡ Some v → p.col < length (row_at m p.row)
 inside_row m p v is =
     ⊎_elim (λ lt. lt) (λ le. let past : at m p ≡ None = get_or_past (row_at m p.row) p.col None le in absurd (let none : None ≡ Some v = sym past ∙ is in cc)) (cases_lt p.col (length (row_at m p.row)))
 
@@ -49,357 +54,230 @@ inside_map m p v filled is =
     let wide = row_wide m p.row filled (omega arith) in
     (omega arith, omega arith)
 
--- ---- where runs begin
+-- ---- the neighbours that come before a cell
 
-starts_more : (m : Grid) (k : ℕ) → begins m (cell_of m.region.cols k) ≡ true → starts_below m (suc k) ≡ starts_below m k ++ cell_of m.region.cols k ∷ []
-starts_more m k is = cond-true (begins m (cell_of m.region.cols k)) _ _ is
+pub earlier_before : (j : Joining) (r c : ℕ) (q : Position) → IsEarlier j r c q → IsBefore q (position r c)
+earlier_before Edges r c q (inl h) = inr (h.0, let e = h.1 in omega arith)
+earlier_before Edges r c q (inr h) = inl (let e = h.0 in omega arith)
+earlier_before EdgesAndCorners r c q (inl (inl h)) = inr (h.0, let e = h.1 in omega arith)
+earlier_before EdgesAndCorners r c q (inl (inr h)) = inl (let e = h.0 in omega arith)
+earlier_before EdgesAndCorners r c q (inr (inl h)) = inl (let e = h.0 in omega arith)
+earlier_before EdgesAndCorners r c q (inr (inr h)) = inl (let e = h.0 in omega arith)
 
-starts_same : (m : Grid) (k : ℕ) → begins m (cell_of m.region.cols k) ≡ false → starts_below m (suc k) ≡ starts_below m k
-starts_same m k is = cond-false (begins m (cell_of m.region.cols k)) _ _ is
+pub earlier_adjacent : (j : Joining) (r c : ℕ) (q : Position) → IsEarlier j r c q → AreAdjacent j q (position r c)
+earlier_adjacent Edges r c q (inl h) = inl (h.0, inl h.1)
+earlier_adjacent Edges r c q (inr h) = inr (inl h.0, h.1)
+earlier_adjacent EdgesAndCorners r c q (inl (inl h)) = inl (inl (h.0, inl h.1))
+earlier_adjacent EdgesAndCorners r c q (inl (inr h)) = inl (inr (inl h.0, h.1))
+earlier_adjacent EdgesAndCorners r c q (inr (inl h)) = inr (inl h.0, inl h.1)
+earlier_adjacent EdgesAndCorners r c q (inr (inr h)) = inr (inl h.0, inr (sym h.1))
 
-abbrev starts : Grid → ℕ → ℕ
-starts m k = length (starts_below m k)
+not_before : (r c : ℕ) (q : Position) → IsBefore q (position r c) → (r < q.row) ⊎ ((q.row ≡ r) × (c < q.col + 1)) → ⊥
+not_before r c q (inl lt) (inl gt) = omega arith
+not_before r c q (inl lt) (inr h) = let e = h.0 in omega arith
+not_before r c q (inr g) (inl gt) = let e = g.0 in omega arith
+not_before r c q (inr g) (inr h) = let less = g.1 in let more = h.1 in omega arith
 
-count_more : (m : Grid) (k : ℕ) → begins m (cell_of m.region.cols k) ≡ true → starts m (suc k) ≡ starts m k + 1
-count_more m k is = ap (length {A = Position}) (starts_more m k is) ∙ length_push (starts_below m k) (cell_of m.region.cols k)
+-- there are no others
+pub adjacent_earlier : (j : Joining) (r c : ℕ) (q : Position) → AreAdjacent j q (position r c) → IsBefore q (position r c) → IsEarlier j r c q
+adjacent_earlier Edges r c q (inl (e, inl h)) before = inl (e, h)
+adjacent_earlier Edges r c q (inl (e, inr h)) before = absurd (not_before r c q before (inr (e, omega arith)))
+adjacent_earlier Edges r c q (inr (inl h, e)) before = inr (h, e)
+adjacent_earlier Edges r c q (inr (inr h, e)) before = absurd (not_before r c q before (inl (omega arith)))
+adjacent_earlier EdgesAndCorners r c q (inl (inl (e, inl h))) before = inl (inl (e, h))
+adjacent_earlier EdgesAndCorners r c q (inl (inl (e, inr h))) before = absurd (not_before r c q before (inr (e, omega arith)))
+adjacent_earlier EdgesAndCorners r c q (inl (inr (inl h, e))) before = inl (inr (h, e))
+adjacent_earlier EdgesAndCorners r c q (inl (inr (inr h, e))) before = absurd (not_before r c q before (inl (omega arith)))
+adjacent_earlier EdgesAndCorners r c q (inr (inl h, inl e)) before = inr (inl (h, e))
+adjacent_earlier EdgesAndCorners r c q (inr (inl h, inr e)) before = inr (inr (h, sym e))
+adjacent_earlier EdgesAndCorners r c q (inr (inr h, e)) before = absurd (not_before r c q before (inl (omega arith)))
 
-count_same : (m : Grid) (k : ℕ) → begins m (cell_of m.region.cols k) ≡ false → starts m (suc k) ≡ starts m k
-count_same m k is = ap (length {A = Position}) (starts_same m k is)
+-- ---- which cells get labels of their own
 
-count_step : (m : Grid) (k : ℕ) → starts m k ≤ starts m (suc k)
-count_step m k = ⊎_elim (λ yes'. let e = count_more m k yes' in omega arith) (λ no'. let e = count_same m k no' in omega arith) (cases_Bool (begins m (cell_of m.region.cols k)))
+left_at : (m : Grid) (r c : ℕ) (q : Position) → IsLeft r c q → left_of m r c ≡ at m q
+left_at m r c q h = let e = h.1 in let z : c ≡ suc q.col = omega arith in ap (left_of m r) z ∙ ap (λ (x : ℕ). cell_at m x q.col) (sym h.0)
 
-count_grows : (m : Grid) (k d : ℕ) → starts m k ≤ starts m (d + k)
-count_grows m k zero = let e : 0 + k ≡ k = omega arith in subst (λ (n : ℕ). starts m k ≤ starts m n) (sym e) (omega arith)
-count_grows m k (suc d) =
-    let before = count_grows m k d in
-    let step = count_step m (d + k) in
-    let e : suc d + k ≡ suc (d + k) = omega arith in
-    subst (λ (n : ℕ). starts m k ≤ starts m n) (sym e) (omega arith)
+above_at : (m : Grid) (r c : ℕ) (q : Position) → IsAbove r c q → above_of m r c ≡ at m q
+above_at m r c q h = let e = h.0 in let z : r ≡ suc q.row = omega arith in ap (λ (x : ℕ). above_of m x c) z ∙ ap (cell_at m q.row) (sym h.1)
 
-count_le : (m : Grid) (k n : ℕ) → k ≤ n → starts m k ≤ starts m n
-count_le m k n le = let e : (n - k) + k ≡ n = omega arith in subst (λ (x : ℕ). starts m k ≤ starts m x) e (count_grows m k (n - k))
+upper_left_at : (m : Grid) (r c : ℕ) (q : Position) → IsUpperLeft r c q → upper_left_of m r c ≡ at m q
+upper_left_at m r c q h = let e = h.0 in let z : r ≡ suc q.row = omega arith in ap (λ (x : ℕ). upper_left_of m x c) z ∙ left_at m q.row c q (refl, h.1)
 
-count_most : (m : Grid) (k : ℕ) → starts m k ≤ k
-count_most m zero = omega arith
-count_most m (suc k) =
-    let before = count_most m k in
-    ⊎_elim (λ yes'. let e = count_more m k yes' in omega arith) (λ no'. let e = count_same m k no' in omega arith) (cases_Bool (begins m (cell_of m.region.cols k)))
+upper_right_at : (m : Grid) (r c : ℕ) (q : Position) → IsUpperRight r c q → upper_right_of m r c ≡ at m q
+upper_right_at m r c q h =
+    let e = h.0 in
+    let d = h.1 in
+    let z : r ≡ suc q.row = omega arith in
+    let y : suc c ≡ q.col = omega arith in
+    ap (λ (x : ℕ). upper_right_of m x c) z ∙ ap (cell_at m q.row) y
 
--- a run begins at the left of a row
-begins_left : (m : Grid) (p : Position) → p.col ≡ 0 → begins m p ≡ true
-begins_left m p e = rw e refl
+left_found : (m : Grid) (r c : ℕ) (v : ℤ) → left_of m r c ≡ Some v → (q : Position) × IsLeft r c q × (at m q ≡ Some v)
+left_found m r zero v e = absurd (let none : None ≡ Some v = e in cc)
+left_found m r (suc c) v e = (position r c, (refl, omega arith), e)
 
-count_some : (m : Grid) (k : ℕ) → 0 < m.region.cols → 1 ≤ starts m (suc k)
-count_some m k some =
-    let z : 0 ≡ 0 * m.region.cols + 0 = omega arith in
-    let left : (cell_of m.region.cols 0).col ≡ 0 = ap (λ (n : ℕ). n % m.region.cols) z ∙ mod-mul-add 0 m.region.cols 0 some in
-    let one = count_more m 0 (begins_left m (cell_of m.region.cols 0) left) in
-    let grows = count_le m 1 (suc k) (omega arith) in
-    omega arith
+above_found : (m : Grid) (r c : ℕ) (v : ℤ) → above_of m r c ≡ Some v → (q : Position) × IsAbove r c q × (at m q ≡ Some v)
+above_found m zero c v e = absurd (let none : None ≡ Some v = e in cc)
+above_found m (suc r) c v e = (position r c, (omega arith, refl), e)
 
-kept_step : (m : Grid) (n k : ℕ) (e : Position) → k < starts m n → get_or (starts_below m (suc n)) k e ≡ get_or (starts_below m n) k e
-kept_step m n k e lt =
-    ⊎_elim (λ yes'. ap (λ (ps : List Position). get_or ps k e) (starts_more m n yes') ∙ get_or_append_left (starts_below m n) (cell_of m.region.cols n ∷ []) e k lt)
-    (λ no'. ap (λ (ps : List Position). get_or ps k e) (starts_same m n no')) (cases_Bool (begins m (cell_of m.region.cols n)))
+upper_left_found : (m : Grid) (r c : ℕ) (v : ℤ) → upper_left_of m r c ≡ Some v → (q : Position) × IsUpperLeft r c q × (at m q ≡ Some v)
+upper_left_found m zero c v e = absurd (let none : None ≡ Some v = e in cc)
+upper_left_found m (suc r) c v e =
+    let t = left_found m r c v e in
+    let row : t.0.row ≡ r = t.1.0 in
+    (t.0, (omega arith, t.1.1), t.2)
 
-kept_from : (m : Grid) (n d k : ℕ) (e : Position) → k < starts m n → get_or (starts_below m (d + n)) k e ≡ get_or (starts_below m n) k e
-kept_from m n zero k e lt = let z : 0 + n ≡ n = omega arith in ap (λ (x : ℕ). get_or (starts_below m x) k e) z
-kept_from m n (suc d) k e lt =
-    let z : suc d + n ≡ suc (d + n) = omega arith in
-    let grows = count_grows m n d in
-    ap (λ (x : ℕ). get_or (starts_below m x) k e) z ∙ kept_step m (d + n) k e (omega arith) ∙ kept_from m n d k e lt
+upper_right_found : (m : Grid) (r c : ℕ) (v : ℤ) → upper_right_of m r c ≡ Some v → (q : Position) × IsUpperRight r c q × (at m q ≡ Some v)
+upper_right_found m zero c v e = absurd (let none : None ≡ Some v = e in cc)
+upper_right_found m (suc r) c v e = (position r (suc c), (omega arith, omega arith), e)
 
--- the place at which the run of a label begins
-found : (m : Grid) (n k : ℕ) (e : Position) → k < starts m n → (x : ℕ) × (x < n) × (begins m (cell_of m.region.cols x) ≡ true) × (starts m x ≡ k) × (get_or (starts_below m n) k e ≡ cell_of m.region.cols x)
-found m zero k e lt = absurd (omega arith)
-found m (suc n) k e lt =
-    let old : k < starts m n → (x : ℕ) × (x < suc n) × (begins m (cell_of m.region.cols x) ≡ true) × (starts m x ≡ k) × (get_or (starts_below m (suc n)) k e ≡ cell_of m.region.cols x) = λ below.
-    let t = found m n k e below in
-    (t.0, let less = t.1 in omega arith, t.2, t.3, kept_step m n k e below ∙ t.4) in
-    ⊎_elim old
-    (λ le. ⊎_elim
-    (λ yes'. let more = count_more m n yes' in
-    let here : starts m n ≡ k = omega arith in
-    (n, omega arith, yes', here, ap (λ (ps : List Position). get_or ps k e) (starts_more m n yes') ∙ get_or_push (starts_below m n) (cell_of m.region.cols n) e k here))
-    (λ no'. let same = count_same m n no' in absurd (omega arith))
-    (cases_Bool (begins m (cell_of m.region.cols n))))
-    (cases_lt k (starts m n))
+or_left : (a b : Bool) → a ≡ true → a || b ≡ true
+or_left a b e = rw e refl
 
--- ---- the label of a cell
+or_right : (a b : Bool) → b ≡ true → a || b ≡ true
+or_right true b e = refl
+or_right false b e = e
 
-label_is : (m : Grid) (p : Position) → label_of m p ≡ starts m (suc (place_of m.region.cols p)) - 1
-unfolding label_of
-label_is m p = refl
+or_cases : (a b : Bool) → a || b ≡ true → (a ≡ true) ⊎ (b ≡ true)
+or_cases true b e = inl refl
+or_cases false b e = inr e
 
-run_count_is : (m : Grid) → run_count m ≡ starts m (m.region.rows * m.region.cols)
-unfolding run_count
-run_count_is m = refl
+pub alike_from : (x y : CellValue) (v : ℤ) → x ≡ Some v → y ≡ Some v → cell_eq x y ≡ true
+alike_from x y v e d = (cell_eq-Decides x y).1 (e ∙ sym d)
 
-start_is : (m : Grid) (k : ℕ) → start_of m k ≡ get_or (starts_below m (m.region.rows * m.region.cols)) k (position 0 0)
-unfolding start_of
-start_is m k = refl
+pub alike_to : (x y : CellValue) (v : ℤ) → y ≡ Some v → cell_eq x y ≡ true → x ≡ Some v
+alike_to x y v d is = (cell_eq-Decides x y).0 is ∙ d
 
-begins_at : (m : Grid) (r c : ℕ) → c < m.region.cols → begins m (position r c) ≡ true → begins m (cell_of m.region.cols (r * m.region.cols + c)) ≡ true
-begins_at m r c lt is = ap (begins m) (cell_of-place m.region.cols r c lt) ∙ is
+meets_from : (j : Joining) (m : Grid) (r c : ℕ) (v : ℤ) → at m (position r c) ≡ Some v → (q : Position) → IsEarlier j r c q → at m q ≡ Some v → meets j m r c ≡ true
+meets_from Edges m r c v is q (inl h) e = or_left _ _ (alike_from _ _ v (left_at m r c q h ∙ e) is)
+meets_from Edges m r c v is q (inr h) e = or_right _ _ (alike_from _ _ v (above_at m r c q h ∙ e) is)
+meets_from EdgesAndCorners m r c v is q (inl (inl h)) e = or_left _ _ (or_left _ _ (alike_from _ _ v (left_at m r c q h ∙ e) is))
+meets_from EdgesAndCorners m r c v is q (inl (inr h)) e = or_left _ _ (or_right _ _ (alike_from _ _ v (above_at m r c q h ∙ e) is))
+meets_from EdgesAndCorners m r c v is q (inr (inl h)) e = or_right _ _ (or_left _ _ (alike_from _ _ v (upper_left_at m r c q h ∙ e) is))
+meets_from EdgesAndCorners m r c v is q (inr (inr h)) e = or_right _ _ (or_right _ _ (alike_from _ _ v (upper_right_at m r c q h ∙ e) is))
 
--- a cell at which a run begins
-label_begins : (m : Grid) (r c : ℕ) → c < m.region.cols → begins m (position r c) ≡ true → label_of m (position r c) ≡ starts m (r * m.region.cols + c)
-label_begins m r c lt is =
-    let more = count_more m (r * m.region.cols + c) (begins_at m r c lt is) in
-    let label = label_is m (position r c) in
-    omega arith
+meets_none : (j : Joining) (m : Grid) (r c : ℕ) (v : ℤ) → at m (position r c) ≡ Some v → ((q : Position) → IsEarlier j r c q → at m q ≡ Some v → ⊥) → meets j m r c ≡ true → ⊥
+meets_none Edges m r c v is none e =
+    ⊎_elim (λ d. let t = left_found m r c v (alike_to _ _ v is d) in none t.0 (inl t.1) t.2)
+    (λ d. let t = above_found m r c v (alike_to _ _ v is d) in none t.0 (inr t.1) t.2) (or_cases _ _ e)
+meets_none EdgesAndCorners m r c v is none e =
+    ⊎_elim
+    (λ f. ⊎_elim (λ d. let t = left_found m r c v (alike_to _ _ v is d) in none t.0 (inl (inl t.1)) t.2)
+    (λ d. let t = above_found m r c v (alike_to _ _ v is d) in none t.0 (inl (inr t.1)) t.2) (or_cases _ _ f))
+    (λ f. ⊎_elim (λ d. let t = upper_left_found m r c v (alike_to _ _ v is d) in none t.0 (inr (inl t.1)) t.2)
+    (λ d. let t = upper_right_found m r c v (alike_to _ _ v is d) in none t.0 (inr (inr t.1)) t.2) (or_cases _ _ f))
+    (or_cases _ _ e)
 
--- and one at which none begins has the label of its left neighbour
-label_goes_on : (m : Grid) (r c : ℕ) → c + 1 < m.region.cols → begins m (position r (c + 1)) ≡ false → label_of m (position r (c + 1)) ≡ label_of m (position r c)
-label_goes_on m r c lt is =
-    let same = count_same m (r * m.region.cols + (c + 1)) (ap (begins m) (cell_of-place m.region.cols r (c + 1) lt) ∙ is) in
-    let label = label_is m (position r (c + 1)) in
-    let other = label_is m (position r c) in
-    let e : r * m.region.cols + (c + 1) ≡ suc (r * m.region.cols + c) = omega arith in
-    let f : starts m (r * m.region.cols + (c + 1)) ≡ starts m (suc (r * m.region.cols + c)) = ap (starts m) e in
-    omega arith
+not_true : (b : Bool) → b ≡ true → not b ≡ false
+not_true b e = rw e refl
 
--- whether a run begins at a cell that has a left neighbour
-begins_apart : (m : Grid) (r c : ℕ) → at m (position r c) ≢ at m (position r (c + 1)) → begins m (position r (c + 1)) ≡ true
-begins_apart m r c ne = apart (cell_eq (at m (position r c)) (at m (position r (c + 1)))) refl
-  where
-    apart : (b : Bool) → cell_eq (at m (position r c)) (at m (position r (c + 1))) ≡ b → begins m (position r (c + 1)) ≡ true
-    apart true e = absurd (ne ((cell_eq-Decides (at m (position r c)) (at m (position r (c + 1)))).0 e))
-    apart false e = let z : (c + 1) - 1 ≡ c = omega arith in
-        let far : eqb (c + 1) 0 ≡ false = ne_eqb (c + 1) 0 (λ n. absurd (omega arith)) in
-        rw (far, z, e) refl
+not_false : (b : Bool) → (b ≡ true → ⊥) → not b ≡ true
+not_false true h = absurd (h refl)
+not_false false h = refl
 
-begins_alike : (m : Grid) (r c : ℕ) → at m (position r c) ≡ at m (position r (c + 1)) → begins m (position r (c + 1)) ≡ false
-begins_alike m r c same =
-    let e : cell_eq (at m (position r c)) (at m (position r (c + 1))) ≡ true = (cell_eq-Decides (at m (position r c)) (at m (position r (c + 1)))).1 same in
-    let z : (c + 1) - 1 ≡ c = omega arith in
-    let far : eqb (c + 1) 0 ≡ false = ne_eqb (c + 1) 0 (λ n. absurd (omega arith)) in
-    rw (far, z, e) refl
+pub begins_none : (j : Joining) (m : Grid) (r c : ℕ) (v : ℤ) → at m (position r c) ≡ Some v → (q : Position) → IsEarlier j r c q → at m q ≡ Some v → begins j m (position r c) ≡ false
+begins_none j m r c v is q earlier e = and_right (is_some (at m (position r c))) (not (meets j m r c)) (not_true _ (meets_from j m r c v is q earlier e))
 
--- ---- the cells of runs
+pub begins_from : (j : Joining) (m : Grid) (r c : ℕ) (v : ℤ) → at m (position r c) ≡ Some v → ((q : Position) → IsEarlier j r c q → at m q ≡ Some v → ⊥) → begins j m (position r c) ≡ true
+begins_from j m r c v is none = and_from (is_some (at m (position r c))) (not (meets j m r c)) (rw is refl) (not_false _ (meets_none j m r c v is none))
 
--- the cells of one run from its beginning on
-in_run : (m : Grid) (r c n : ℕ) (x : CellValue) → c + n ≤ m.region.cols → begins m (position r c) ≡ true → ((k : ℕ) → k < n → at m (position r (c + k)) ≡ x) → (k : ℕ) → k < n → (label_of m (position r (c + k)) ≡ starts m (r * m.region.cols + c)) × (starts m (suc (r * m.region.cols + (c + k))) ≡ starts m (r * m.region.cols + c) + 1)
-in_run m r c n x wide is cells zero lt =
-    let z : c + 0 ≡ c = omega arith in
-    let label = label_begins m r c (omega arith) is in
-    let more = count_more m (r * m.region.cols + c) (begins_at m r c (omega arith) is) in
-    (ap (λ (i : ℕ). label_of m (position r i)) z ∙ label, ap (λ (i : ℕ). starts m (suc (r * m.region.cols + i))) z ∙ more)
-in_run m r c n x wide is cells (suc k) lt =
-    let before = in_run m r c n x wide is cells k (omega arith) in
-    let z : c + suc k ≡ (c + k) + 1 = omega arith in
-    let same : at m (position r (c + k)) ≡ at m (position r ((c + k) + 1)) = cells k (omega arith) ∙ sym (cells (suc k) lt) ∙ ap (λ (i : ℕ). at m (position r i)) z in
-    let none = begins_alike m r (c + k) same in
-    let label = label_goes_on m r (c + k) (omega arith) none in
-    let count = count_same m (r * m.region.cols + ((c + k) + 1)) (ap (begins m) (cell_of-place m.region.cols r ((c + k) + 1) (omega arith)) ∙ none) in
-    let e : r * m.region.cols + ((c + k) + 1) ≡ suc (r * m.region.cols + (c + k)) = omega arith in
-    let f : starts m (r * m.region.cols + ((c + k) + 1)) ≡ starts m (suc (r * m.region.cols + (c + k))) = ap (starts m) e in (
-      ap (λ (i : ℕ). label_of m (position r i)) z ∙ label ∙ before.0,
-      ap (λ (i : ℕ). starts m (suc (r * m.region.cols + i))) z ∙ count ∙ f ∙ before.1,
-    )
+pub begins_null : (j : Joining) (m : Grid) (p : Position) → at m p ≡ None → begins j m p ≡ false
+begins_null j m p is = and_left (is_some (at m p)) (not (meets j m p.row p.col)) (rw is refl)
 
--- the first cell of the runs to come is another than the one before it
-abbrev BeginsNext : Grid → ℕ → ℕ → List RunValue → Type 0
-BeginsNext m r c [] = Unit {0}
-BeginsNext m r c (run ∷ rest) = begins m (position r c) ≡ true
+-- ---- how many of the first cells get one
 
-head_cell : (run : RunValue) (rest : List RunValue) (k : ℕ) → k < run.1 → get_or (written_out (run ∷ rest)) k None ≡ run.0
-head_cell run rest k lt = get_or_append_left (replicate run.1 run.0) (written_out rest) None k (let long = length-replicate run.1 run.0 in omega arith) ∙ get_or-replicate run.1 k run.0 None lt
+module _ (j : Joining) (m : Grid) where
+  starts_more : (k : ℕ) → begins j m (cell_of m.region.cols k) ≡ true → starts_below j m (suc k) ≡ starts_below j m k ++ cell_of m.region.cols k ∷ []
+  starts_more k is = cond-true (begins j m (cell_of m.region.cols k)) _ _ is
 
-pub written_long : (run : RunValue) (rest : List RunValue) → length (written_out (run ∷ rest)) ≡ run.1 + length (written_out rest)
-written_long run rest = length-append (replicate run.1 run.0) (written_out rest) ∙ ap (λ (k : ℕ). k + length (written_out rest)) (length-replicate run.1 run.0)
+  starts_same : (k : ℕ) → begins j m (cell_of m.region.cols k) ≡ false → starts_below j m (suc k) ≡ starts_below j m k
+  starts_same k is = cond-false (begins j m (cell_of m.region.cols k)) _ _ is
 
-tail_cell : (run : RunValue) (rest : List RunValue) (k : ℕ) → get_or (written_out (run ∷ rest)) (run.1 + k) None ≡ get_or (written_out rest) k None
-tail_cell run rest k =
-    let e : (run.1 + k) - run.1 ≡ k = omega arith in
-    get_or-append_right (replicate run.1 run.0) (written_out rest) run.1 (run.1 + k) None (length-replicate run.1 run.0) (omega arith) ∙ ap (λ (i : ℕ). get_or (written_out rest) i None) e
+  count_more : (k : ℕ) → begins j m (cell_of m.region.cols k) ≡ true → starts j m (suc k) ≡ starts j m k + 1
+  count_more k is = ap (length {A = Position}) (starts_more k is) ∙ length_push (starts_below j m k) (cell_of m.region.cols k)
 
-abbrev FromLeft : List RunValue → Type 0
-FromLeft runs = All (λ run. 0 < run.1) runs
+  count_same : (k : ℕ) → begins j m (cell_of m.region.cols k) ≡ false → starts j m (suc k) ≡ starts j m k
+  count_same k is = ap (length {A = Position}) (starts_same k is)
 
-lengths_rest : (run : RunValue) (rest : List RunValue) → FromLeft (run ∷ rest) → FromLeft rest
-lengths_rest run rest all i d within = all (suc i) d (omega arith)
+  count_step : (k : ℕ) → starts j m k ≤ starts j m (suc k)
+  count_step k = ⊎_elim (λ yes'. let e = count_more k yes' in omega arith) (λ no'. let e = count_same k no' in omega arith) (cases_Bool (begins j m (cell_of m.region.cols k)))
 
--- the runs from a column of a row on
-labelled : (m : Grid) (r c : ℕ) (runs : List RunValue) → ((k : ℕ) → k < length (written_out runs) → at m (position r (c + k)) ≡ get_or (written_out runs) k None) → c + length (written_out runs) ≡ m.region.cols → FromLeft runs → AreApart runs → BeginsNext m r c runs → AreLabelled m r c (starts m (r * m.region.cols + c)) runs × (starts m (r * m.region.cols + m.region.cols) ≡ starts m (r * m.region.cols + c) + length runs)
-labelled m r c [] cells wide lengths apart is =
-    let e : m.region.cols ≡ c = omega arith in
-    (tt, let f : starts m (r * m.region.cols + m.region.cols) ≡ starts m (r * m.region.cols + c) = ap (λ (i : ℕ). starts m (r * m.region.cols + i)) e in omega arith)
-labelled m r c (run ∷ rest) cells wide lengths apart is =
-    let n : ℕ = run.1 in
-    let long = written_long run rest in
-    let n_some : 0 < n = lengths 0 run (omega arith) in
-    let here : (k : ℕ) → k < n → at m (position r (c + k)) ≡ run.0 = λ k lt. cells k (omega arith) ∙ head_cell run rest k lt in
-    let within = in_run m r c n run.0 (omega arith) is here in
-    let one = within (n - 1) (omega arith) in
-    let e : suc (r * m.region.cols + (c + (n - 1))) ≡ r * m.region.cols + (c + n) = omega arith in
-    let count : starts m (r * m.region.cols + (c + n)) ≡ starts m (r * m.region.cols + c) + 1 = ap (starts m) (sym e) ∙ one.1 in
-    let there : (k : ℕ) → k < length (written_out rest) → at m (position r ((c + n) + k)) ≡ get_or (written_out rest) k None = λ k lt.
-    let z : (c + n) + k ≡ c + (n + k) = omega arith in
-    ap (λ (i : ℕ). at m (position r i)) z ∙ cells (n + k) (omega arith) ∙ tail_cell run rest k in
-    let next = labelled m r (c + n) rest there (omega arith) (lengths_rest run rest lengths) (apart_rest run rest apart) (begins_rest rest apart lengths here there n_some) in (
-      (
-        λ k lt. (here k lt, (within k lt).0),
-        subst (λ (l : ℕ). AreLabelled m r (c + n) l rest) count next.0,
-      ),
-      let last = next.1 in omega arith,
-    )
-  where
-    apart_rest : (run : RunValue) (rest : List RunValue) → AreApart (run ∷ rest) → AreApart rest
-    apart_rest run [] h = tt
-    apart_rest run (next ∷ rest) h = h.1
+  count_grows : (k d : ℕ) → starts j m k ≤ starts j m (d + k)
+  count_grows k zero = let e : 0 + k ≡ k = omega arith in subst (λ (n : ℕ). starts j m k ≤ starts j m n) (sym e) (omega arith)
+  count_grows k (suc d) =
+      let before = count_grows k d in
+      let step = count_step (d + k) in
+      let e : suc d + k ≡ suc (d + k) = omega arith in
+      subst (λ (n : ℕ). starts j m k ≤ starts j m n) (sym e) (omega arith)
 
-    begins_rest : (others : List RunValue) → AreApart (run ∷ others) → FromLeft (run ∷ others) → ((k : ℕ) → k < run.1 → at m (position r (c + k)) ≡ run.0) → ((k : ℕ) → k < length (written_out others) → at m (position r ((c + run.1) + k)) ≡ get_or (written_out others) k None) → 0 < run.1 → BeginsNext m r (c + run.1) others
-    begins_rest [] h all here there some = tt
-    begins_rest (next ∷ others) h all here there some =
-        let next_some : 0 < next.1 = all 1 run (omega arith) in
-        let long = written_long next others in
-        let z : c + run.1 ≡ (c + (run.1 - 1)) + 1 = omega arith in
-        let y : (c + run.1) + 0 ≡ c + run.1 = omega arith in
-        let last : at m (position r (c + (run.1 - 1))) ≡ run.0 = here (run.1 - 1) (omega arith) in
-        let first : at m (position r (c + run.1)) ≡ next.0 = ap (λ (i : ℕ). at m (position r i)) (sym y) ∙ there 0 (omega arith) ∙ head_cell next others 0 next_some in
-        let unlike : at m (position r (c + (run.1 - 1))) ≢ at m (position r ((c + (run.1 - 1)) + 1)) = λ e. h.0 (sym last ∙ e ∙ ap (λ (i : ℕ). at m (position r i)) (sym z) ∙ first) in
-        ap (λ (i : ℕ). begins m (position r i)) z ∙ begins_apart m r (c + (run.1 - 1)) unlike
+  pub count_le : (k n : ℕ) → k ≤ n → starts j m k ≤ starts j m n
+  count_le k n le = let e : (n - k) + k ≡ n = omega arith in subst (λ (x : ℕ). starts j m k ≤ starts j m x) e (count_grows k (n - k))
 
--- ---- the labels of a map
+  pub starts_most : (k : ℕ) → starts j m k ≤ k
+  starts_most zero = omega arith
+  starts_most (suc k) =
+      let before = starts_most k in
+      ⊎_elim (λ yes'. let e = count_more k yes' in omega arith) (λ no'. let e = count_same k no' in omega arith) (cases_Bool (begins j m (cell_of m.region.cols k)))
 
-AreAdjacent-right : (j : Joining) (r c : ℕ) → AreAdjacent j (position r c) (position r (c + 1))
-AreAdjacent-right Edges r c = inl (refl, inl refl)
-AreAdjacent-right EdgesAndCorners r c = inl (inl (refl, inl refl))
+  kept_step : (n k : ℕ) (e : Position) → k < starts j m n → get_or (starts_below j m (suc n)) k e ≡ get_or (starts_below j m n) k e
+  kept_step n k e lt =
+      ⊎_elim (λ yes'. ap (λ (ps : List Position). get_or ps k e) (starts_more n yes') ∙ get_or_append_left (starts_below j m n) (cell_of m.region.cols n ∷ []) e k lt)
+      (λ no'. ap (λ (ps : List Position). get_or ps k e) (starts_same n no')) (cases_Bool (begins j m (cell_of m.region.cols n)))
 
--- where the run of a cell begins
-record HasStart (m : Grid) (p : Position) : Type 0 where
-  alike : at m (start_of m (label_of m p)) ≡ at m p
-  joined : (j : Joining) (v : ℤ) → at m p ≡ Some v → AreJoined j m (start_of m (label_of m p)) p
+  kept_from : (n d k : ℕ) (e : Position) → k < starts j m n → get_or (starts_below j m (d + n)) k e ≡ get_or (starts_below j m n) k e
+  kept_from n zero k e lt = let z : 0 + n ≡ n = omega arith in ap (λ (x : ℕ). get_or (starts_below j m x) k e) z
+  kept_from n (suc d) k e lt =
+      let z : suc d + n ≡ suc (d + n) = omega arith in
+      let grows = count_grows n d in
+      ap (λ (x : ℕ). get_or (starts_below j m x) k e) z ∙ kept_step (d + n) k e (omega arith) ∙ kept_from n d k e lt
 
-module _ (m : Grid) (filled : IsFilled m.region m.rows) (some : 0 < m.region.cols) where
-  place_inside : (r c : ℕ) → r < m.region.rows → c < m.region.cols → r * m.region.cols + c < m.region.rows * m.region.cols
-  place_inside r c row col = let lt = mul-add-lt r m.region.cols c m.region.rows row col in omega arith
+  -- the place of the cell whose own label is this one
+  found : (n k : ℕ) (e : Position) → k < starts j m n → (x : ℕ) × (x < n) × (begins j m (cell_of m.region.cols x) ≡ true) × (starts j m x ≡ k) × (get_or (starts_below j m n) k e ≡ cell_of m.region.cols x)
+  found zero k e lt = absurd (omega arith)
+  found (suc n) k e lt =
+      let old : k < starts j m n → (x : ℕ) × (x < suc n) × (begins j m (cell_of m.region.cols x) ≡ true) × (starts j m x ≡ k) × (get_or (starts_below j m (suc n)) k e ≡ cell_of m.region.cols x) = λ below.
+      let t = found n k e below in
+      (t.0, let less = t.1 in omega arith, t.2, t.3, kept_step n k e below ∙ t.4) in
+      ⊎_elim old
+      (λ le. ⊎_elim
+      (λ yes'. let more = count_more n yes' in
+      let here : starts j m n ≡ k = omega arith in
+      (n, omega arith, yes', here, ap (λ (ps : List Position). get_or ps k e) (starts_more n yes') ∙ get_or_push (starts_below j m n) (cell_of m.region.cols n) e k here))
+      (λ no'. let same = count_same n no' in absurd (omega arith))
+      (cases_Bool (begins j m (cell_of m.region.cols n))))
+      (cases_lt k (starts j m n))
 
-  start_here : (r c : ℕ) → r < m.region.rows → c < m.region.cols → begins m (position r c) ≡ true → start_of m (label_of m (position r c)) ≡ position r c
-  start_here r c row col is =
-      let place : ℕ = r * m.region.cols + c in
-      let begun = begins_at m r c col is in
-      let more = count_more m place begun in
-      let inside = place_inside r c row col in
+  start_is : (k : ℕ) → start_of j m k ≡ get_or (starts_below j m (m.region.rows * m.region.cols)) k (position 0 0)
+  unfolding start_of
+  start_is k = refl
+
+  begins_at : (r c : ℕ) → c < m.region.cols → begins j m (position r c) ≡ begins j m (cell_of m.region.cols (r * m.region.cols + c))
+  begins_at r c lt = ap (begins j m) (sym (cell_of-place m.region.cols r c lt))
+
+  -- the count before and after a cell
+  pub count_begins : (r c : ℕ) → c < m.region.cols → begins j m (position r c) ≡ true → starts j m (suc (r * m.region.cols + c)) ≡ starts j m (r * m.region.cols + c) + 1
+  count_begins r c lt is = count_more (r * m.region.cols + c) (sym (begins_at r c lt) ∙ is)
+
+  pub count_stays : (r c : ℕ) → c < m.region.cols → begins j m (position r c) ≡ false → starts j m (suc (r * m.region.cols + c)) ≡ starts j m (r * m.region.cols + c)
+  count_stays r c lt is = count_same (r * m.region.cols + c) (sym (begins_at r c lt) ∙ is)
+
+  -- the cell whose own label is the count before it
+  pub start_here : (p : Position) → IsInside m p → begins j m p ≡ true → start_of j m (starts j m (place_of m.region.cols p)) ≡ p
+  start_here p inside is =
+      let place : ℕ = place_of m.region.cols p in
+      let begun : begins j m (cell_of m.region.cols place) ≡ true = sym (begins_at p.row p.col inside.1) ∙ is in
+      let more = count_more place begun in
+      let within = place_inside m p inside in
       let e : ((m.region.rows * m.region.cols) - suc place) + suc place ≡ m.region.rows * m.region.cols = omega arith in
-      let kept = kept_from m (suc place) ((m.region.rows * m.region.cols) - suc place) (starts m place) (position 0 0) (omega arith) in
-      ap (start_of m) (label_begins m r c col is) ∙ start_is m (starts m place)
-      ∙ ap (λ (n : ℕ). get_or (starts_below m n) (starts m place) (position 0 0)) (sym e) ∙ kept
-      ∙ ap (λ (ps : List Position). get_or ps (starts m place) (position 0 0)) (starts_more m place begun)
-      ∙ get_or_push (starts_below m place) (cell_of m.region.cols place) (position 0 0) (starts m place) refl
-      ∙ cell_of-place m.region.cols r c col
+      let kept = kept_from (suc place) ((m.region.rows * m.region.cols) - suc place) (starts j m place) (position 0 0) (omega arith) in
+      start_is (starts j m place)
+      ∙ ap (λ (n : ℕ). get_or (starts_below j m n) (starts j m place) (position 0 0)) (sym e) ∙ kept
+      ∙ ap (λ (ps : List Position). get_or ps (starts j m place) (position 0 0)) (starts_more place begun)
+      ∙ get_or_push (starts_below j m place) (cell_of m.region.cols place) (position 0 0) (starts j m place) refl
+      ∙ cell_of-place m.region.cols p.row p.col inside.1
 
-  has_start_begins : (r c : ℕ) → r < m.region.rows → c < m.region.cols → begins m (position r c) ≡ true → HasStart m (position r c)
-  has_start_begins r c row col is =
-      let here = start_here r c row col is in
-      record {
-        alike = ap (at m) here;
-        joined = λ j v e. subst (λ (q : Position). AreJoined j m q (position r c)) (sym here) (AreJoined-refl j m (position r c) v e);
-      }
-
-  has_start_next : (r c : ℕ) → c + 1 < m.region.cols → HasStart m (position r c) → begins m (position r (c + 1)) ≡ false → HasStart m (position r (c + 1))
-  has_start_next r c col h is =
-      let same : at m (position r c) ≡ at m (position r (c + 1)) = alike_of (cell_eq (at m (position r c)) (at m (position r (c + 1)))) refl in
-      let label = label_goes_on m r c col is in
-      record {
-        alike = ap (λ (l : ℕ). at m (start_of m l)) label ∙ h.alike ∙ same;
-        joined = λ j v e. subst (λ (l : ℕ). AreJoined j m (start_of m l) (position r (c + 1))) (sym label)
-            (AreJoined-trans j m _ (position r c) _ (h.joined j v (same ∙ e)) (AreJoined-adjacent j m (position r c) (position r (c + 1)) v (AreAdjacent-right j r c) (same ∙ e) e));
-      }
-    where
-      alike_of : (b : Bool) → cell_eq (at m (position r c)) (at m (position r (c + 1))) ≡ b → at m (position r c) ≡ at m (position r (c + 1))
-      alike_of true e = (cell_eq-Decides (at m (position r c)) (at m (position r (c + 1)))).0 e
-      alike_of false e =
-          let begun : begins m (position r (c + 1)) ≡ true = begins_apart m r c (λ same. both_ways (cell_eq (at m (position r c)) (at m (position r (c + 1)))) e ((cell_eq-Decides (at m (position r c)) (at m (position r (c + 1)))).1 same)) in
-          absurd (both_ways (begins m (position r (c + 1))) is begun)
-
-  has_start : (r c : ℕ) → r < m.region.rows → c < m.region.cols → HasStart m (position r c)
-  has_start r zero row col = has_start_begins r zero row col (begins_left m (position r zero) refl)
-  has_start r (suc c) row col =
-      let z : c + 1 ≡ suc c = omega arith in
-      subst (λ (i : ℕ). HasStart m (position r i)) z
-      (⊎_elim (λ yes'. has_start_begins r (c + 1) row (omega arith) yes')
-      (λ no'. has_start_next r c (omega arith) (has_start r c row (omega arith)) no')
-      (cases_Bool (begins m (position r (c + 1)))))
-
-  start_found : (k : ℕ) → k < run_count m → (x : ℕ) × (starts m x ≡ k) × (begins m (cell_of m.region.cols x) ≡ true) × (start_of m k ≡ cell_of m.region.cols x)
+  -- each label is some cell's own
+  pub start_found : (k : ℕ) → k < starts j m (m.region.rows * m.region.cols) → (x : ℕ) × (x < m.region.rows * m.region.cols) × (begins j m (start_of j m k) ≡ true) × (starts j m x ≡ k) × (start_of j m k ≡ cell_of m.region.cols x)
   start_found k lt =
-      let total = run_count_is m in
-      let t = found m (m.region.rows * m.region.cols) k (position 0 0) (omega arith) in
-      (t.0, t.3, t.2, start_is m k ∙ t.4)
-
-  own : (k : ℕ) → k < run_count m → label_of m (start_of m k) ≡ k
-  own k lt =
-      let t = start_found k lt in
-      let place : place_of m.region.cols (start_of m k) ≡ t.0 = ap (place_of m.region.cols) t.3 ∙ place_of-cell m.region.cols t.0 in
-      let more = count_more m t.0 t.2 in
-      let label = label_is m (start_of m k) in
-      let here : starts m (suc (place_of m.region.cols (start_of m k))) ≡ starts m (suc t.0) = ap (λ (n : ℕ). starts m (suc n)) place in
-      let is = t.1 in
-      omega arith
-
-  before : (k : ℕ) (p : Position) → k < run_count m → IsInside m p → IsBefore p (start_of m k) → label_of m p < k
-  before k p lt inside less =
-      let t = start_found k lt in
-      let place : place_of m.region.cols (start_of m k) ≡ t.0 = ap (place_of m.region.cols) t.3 ∙ place_of-cell m.region.cols t.0 in
-      let below = place_lt m.region.cols p (start_of m k) inside.1 less in
-      let le = count_le m (suc (place_of m.region.cols p)) t.0 (omega arith) in
-      let one = count_some m (place_of m.region.cols p) some in
-      let label = label_is m p in
-      let is = t.1 in
-      omega arith
-
-  few : (p : Position) → IsInside m p → label_of m p < run_count m
-  few p inside =
-      let below = place_inside p.row p.col inside.0 inside.1 in
-      let le = count_le m (suc (place_of m.region.cols p)) (m.region.rows * m.region.cols) (omega arith) in
-      let one = count_some m (place_of m.region.cols p) some in
-      let label = label_is m p in
-      let total = run_count_is m in
-      omega arith
-
-  label_left : (r : ℕ) → label_of m (position r 0) ≡ starts m (r * m.region.cols)
-  label_left r =
-      let z : r * m.region.cols + 0 ≡ r * m.region.cols = omega arith in
-      label_begins m r 0 some (begins_left m (position r 0) refl) ∙ ap (starts m) z
-
-  row_runs : (r : ℕ) (runs : List RunValue) → r < m.region.rows → written_out runs ≡ row_at m r → AreRuns runs → AreLabelled m r 0 (starts m (r * m.region.cols + 0)) runs × (starts m (r * m.region.cols + m.region.cols) ≡ starts m (r * m.region.cols + 0) + length runs)
-  row_runs r runs row is are =
-      let wide : length (written_out runs) ≡ m.region.cols = ap (length {A = CellValue}) is ∙ row_wide m r filled row in
-      labelled m r 0 runs (λ k lt. let z : 0 + k ≡ k = omega arith in ap (λ (i : ℕ). at m (position r i)) z ∙ ap (λ (xs : List CellValue). get_or xs k None) (sym is)) (omega arith) are.lengths are.apart (begins_first runs)
-    where
-      begins_first : (others : List RunValue) → BeginsNext m r 0 others
-      begins_first [] = tt
-      begins_first (run ∷ others) = begins_left m (position r 0) refl
-
-  pub has_labels : HasLabels m
-  has_labels = record {
-    some = some;
-    inside = λ p v is. inside_map m p v filled is;
-    own = own;
-    before = before;
-    few = few;
-    alike = λ p inside. (has_start p.row p.col inside.0 inside.1).alike;
-    joined = λ j p v is. let inside = inside_map m p v filled is in (has_start p.row p.col inside.0 inside.1).joined j v is;
-    beside = λ r c v is also. let inside = inside_map m (position r (c + 1)) v filled also in sym (label_goes_on m r c inside.1 (begins_alike m r c (is ∙ sym also)));
-    rows = λ r runs row is are. let z : r * m.region.cols + 0 ≡ r * m.region.cols = omega arith in
-        subst (λ (l : ℕ). AreLabelled m r 0 l runs) (ap (starts m) z ∙ sym (label_left r)) ((row_runs r runs row is are).0);
-    next = λ r runs row is are.
-        let t = (row_runs r runs row is are).1 in
-        let z : r * m.region.cols + 0 ≡ r * m.region.cols = omega arith in
-        let e : (r + 1) * m.region.cols ≡ r * m.region.cols + m.region.cols = omega arith in
-        let there = label_left (r + 1) ∙ ap (starts m) e in
-        let here = label_left r ∙ ap (starts m) (sym z) in
-        omega arith;
-    first = let z : 0 * m.region.cols ≡ 0 = omega arith in label_left 0 ∙ ap (starts m) z;
-    last = label_left m.region.rows ∙ sym (run_count_is m);
-    most = λ r lt.
-        let le : r * m.region.cols ≤ m.region.rows * m.region.cols = mul-le-mul_right m.region.cols (omega arith) in
-        let grows = count_le m (r * m.region.cols) (m.region.rows * m.region.cols) le in
-        let here = label_left r in
-        let total = run_count_is m in
-        omega arith;
-    total = let most = count_most m (m.region.rows * m.region.cols) in let total = run_count_is m in omega arith;
-  }
+      let t = found (m.region.rows * m.region.cols) k (position 0 0) lt in
+      let here : start_of j m k ≡ cell_of m.region.cols t.0 = start_is k ∙ t.4 in
+      (t.0, t.1, ap (begins j m) here ∙ t.2, t.3, here)

@@ -1,8 +1,8 @@
--- Labels of runs, and the tables of them, by which areas are found.
+-- Labels of cells, and the tables of them, by which areas are found.
 pub mod Labels
 pub mod Meetings
 pub mod Numbers
 pub mod Places
-pub mod Rows
+pub mod Reading
 pub mod Starts
 pub mod Tables

@@ -5,7 +5,7 @@ ghost use Rattle.cell_clump.specs.Areas.{IsClumping};
 ghost use Rattle.cell_clump.specs.declared.clump.Joining.TheVariants.{Edges};
 
 use crate::numbers::number_cells;
-use crate::scan::label_runs;
+use crate::scan::label_cells;
 use cell_core::map::CellMap;
 use cell_core::memory::Memory;
 use std::alloc::Global;
@@ -27,7 +27,7 @@ pub enum Joining {
 /// left (profile). The rows `1 2` and `2 1` give `1 2` and `3 4` by edges, and `1 2` and `2 1` by edges
 /// and corners.
 ///
-/// It takes four bytes for each run of equal cells side by side, and one row, besides the map that it returns.
+/// It takes four bytes for each run of equal cells side by side, and a few rows, besides the map that it returns.
 ///
 /// # Errors
 ///
@@ -35,8 +35,8 @@ pub enum Joining {
 pub fn clump_with(alloc: Global, map: &CellMap, joining: Joining) -> Result<CellMap, Memory>
     ensures { IfOk result (IsClumping joining map.now) }
 {
-    let mut table = label_runs(alloc, map, joining)?;
-    number_cells(alloc, map, table.as_mut_slice())
+    let mut table = label_cells(alloc, map, joining)?;
+    number_cells(alloc, map, joining, table.as_mut_slice())
 }
 
 /// The numbers of the areas that are joined by edges: [`clump_with`] by [`Joining::Edges`].

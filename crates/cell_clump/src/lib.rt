@@ -7,8 +7,6 @@
 pub mod clump;
 mod labels;
 pub mod law;
-mod meetings;
+mod near;
 mod numbers;
-mod rows;
 mod scan;
-mod walk;

@@ -1,20 +1,22 @@
 //! Numbers in place of labels.
 
-ghost use Rattle.std.specs.Prelude.{◌≡◌, ℕ, pos, ◌+◌, ◌<◌, ◌≤◌, length, List, Some, IsSome, IfOk};
-ghost use Rattle.cell_core.specs.Grid.{Grid, IsFilled, cell_at, no_labels};
-ghost use Rattle.cell_core.specs.Runs.{written_out};
+ghost use Rattle.std.specs.Prelude.{◌≡◌, ℕ, ℤ, pos, ◌+◌, ◌*◌, ◌<◌, ◌≤◌, length, List, Some, None, IfOk, slice_index};
+ghost use Rattle.cell_core.specs.Grid.{Grid};
 ghost use Rattle.cell_clump.specs.declared.clump.Joining.{Joining};
-ghost use Rattle.cell_clump.specs.Areas.{Position, at};
+ghost use Rattle.cell_clump.specs.Areas.{IsClumping, at};
 ghost use Rattle.cell_clump.specs.parts.Labels.{PointDown};
 ghost use Rattle.cell_clump.specs.parts.Meetings.{AreSound};
-ghost use Rattle.cell_clump.specs.parts.Numbers.{AreNumbered, AreRunsFrom, CanNumber, cell_number, numbers_from};
+ghost use Rattle.cell_clump.specs.parts.Numbers.{AreNumbered, AreWritten, CanNumber, HaveNumbers, IsNumbered, number_at, number_of};
 ghost use Rattle.cell_clump.specs.parts.Places.{position};
-ghost use Rattle.cell_clump.specs.parts.Starts.{HasLabels, label_of, run_count, start_of};
+ghost use Rattle.cell_clump.specs.parts.Reading.{AreNear};
+ghost use Rattle.cell_clump.specs.parts.Starts.{starts};
+ghost use Rattle.cell_clump.specs.parts.Tables.{AreLabels};
 
+use crate::clump::Joining;
+use crate::near::{Labelled, Near, known_label, outside};
 use cell_core::cell::Cell;
 use cell_core::map::{CellMap, MapBuilder};
 use cell_core::memory::Memory;
-use cell_core::runs::{Runs, fill_run};
 use std::alloc::Global;
 
 // Replaces a label by a number: an open one by the next number, a closed one by that of the label that it points
@@ -27,8 +29,8 @@ fn number_label(table: &mut [u32], place: u32, count: u32) -> u32
     ensures ready { CanNumber (place + 1) table.new }
     ensures few { result ≤ place + 1 }
     ensures numbered { (j : Joining) (m : Grid) (labels : List ℕ) (open_of : ℕ → ℕ) →
-        AreSound j m labels open_of → IsSome (at m (start_of m place)) →
-        AreNumbered m labels open_of place table.old count → AreNumbered m labels open_of (place + 1) table.new result }
+        AreSound j m labels open_of →
+        AreNumbered j m labels open_of place table.old count → AreNumbered j m labels open_of (place + 1) table.new result }
 {
     let label = table[place as usize];
     if label == place {
@@ -40,97 +42,119 @@ fn number_label(table: &mut [u32], place: u32, count: u32) -> u32
     }
 }
 
+// Replaces each label of a table by the number of its area.
+fn number_labels(table: &mut [u32])
+    requires down { PointDown table.old }
+    requires short { length table.old < 2147483648 }
+    ensures numbered { (j : Joining) (m : Grid) (open_of : ℕ → ℕ) → AreSound j m table.old open_of →
+        (k : ℕ) → k < length table.old → slice_index table.new k ≡ number_of j m table.old (open_of k) }
+{
+    let mut count = 0;
+    for place in 0..table.len() as u32 {
+        count = number_label(table, place, count);
+    }
+}
+
+// What null has for a number: no category is so great.
+const NO_NUMBER: u32 = 1 << 31;
+
 // The cell of a number.
 fn number_cell(number: u32) -> Cell
-    requires { number < 2147483648 }
-    ensures { result ≡ Some (pos number) }
+    ensures within { number < 2147483648 → result ≡ Some (pos number) }
+    ensures past { 2147483648 ≤ number → result ≡ None }
 {
-    Cell::value(number as i32).unwrap()
+    match i32::try_from(number) {
+        Ok(category) => Cell::value(category).unwrap_or(Cell::null()),
+        Err(_) => Cell::null(),
+    }
 }
 
-// The label after those of a row, and the greatest number so far.
-#[derive(Clone, Copy)]
-struct Numbered {
-    label: u32,
-    count: u32,
-}
-
-// Replaces the label of a run by a number, unless the run is null. Returns the cell of that number, or null.
-fn number_run(table: &mut [u32], cell: Cell, so_far: &mut Numbered) -> Cell
-    requires inside { so_far.old.label < length table.old }
-    requires short { length table.old < 2147483648 }
-    requires ready { CanNumber so_far.old.label table.old }
-    requires few { so_far.old.count ≤ so_far.old.label }
-    ensures label { so_far.new.label ≡ so_far.old.label + 1 }
-    ensures ready { CanNumber (so_far.old.label + 1) table.new }
-    ensures few { so_far.new.count ≤ so_far.old.label + 1 }
-    ensures numbered { (j : Joining) (m : Grid) (labels : List ℕ) (open_of : ℕ → ℕ) →
-        AreSound j m labels open_of → at m (start_of m so_far.old.label) ≡ cell →
-        AreNumbered m labels open_of so_far.old.label table.old so_far.old.count →
-        AreNumbered m labels open_of (so_far.old.label + 1) table.new so_far.new.count }
-    ensures cell { (j : Joining) (m : Grid) (labels : List ℕ) (open_of : ℕ → ℕ) →
-        AreSound j m labels open_of → at m (start_of m so_far.old.label) ≡ cell →
-        AreNumbered m labels open_of so_far.old.label table.old so_far.old.count →
-        result ≡ cell_number m labels open_of so_far.old.label }
+// The number of a cell: one that it shares with its neighbours, or else that of the next label.
+fn number_of_cell(joining: Joining, cell: Cell, near: &Near, table: &[u32], next: &mut usize) -> u32
+    ensures null { cell ≡ None → result ≡ 2147483648 }
+    ensures number { (m : Grid) (r c : ℕ) (v : ℤ) (labels : List ℕ) (h : AreLabels joining m labels) → cell ≡ Some v → at m (position r c) ≡ Some v → r < m.region.rows → c < m.region.cols → next.old ≡ starts joining m (r * m.region.cols + c) → IsNumbered joining m labels h table.now →
+        AreNear m (r * m.region.cols + c) (number_at joining m labels h) r c near.now → result ≡ number_at joining m labels h (position r c) }
+    ensures next { (m : Grid) (r c : ℕ) (labels : List ℕ) (h : AreLabels joining m labels) → cell ≡ at m (position r c) → r < m.region.rows → c < m.region.cols → next.old ≡ starts joining m (r * m.region.cols + c) → IsNumbered joining m labels h table.now →
+        AreNear m (r * m.region.cols + c) (number_at joining m labels h) r c near.now → next.new ≡ starts joining m (r * m.region.cols + (c + 1)) }
 {
-    let label = so_far.label;
-    so_far.label += 1;
     if !cell.get().is_some() {
-        return Cell::null();
+        return NO_NUMBER;
     }
-    let count = number_label(table, label, so_far.count);
-    so_far.count = count;
-    number_cell(table[label as usize])
+    if let Some(number) = known_label(joining, cell, near) {
+        return number;
+    }
+    match table.get(*next) {
+        Some(number) => {
+            *next += 1;
+            *number
+        }
+        None => 0,
+    }
 }
 
-// Replaces the labels of a row's runs by numbers, and writes the numbers of its cells.
-fn number_row(table: &mut [u32], row: &mut [Cell], runs: Runs<'_>, so_far: &mut Numbered)
-    requires inside { so_far.old.label + length runs ≤ length table.old }
-    requires short { length table.old < 2147483648 }
-    requires wide { length row.old ≡ length (written_out runs) }
-    requires ready { CanNumber so_far.old.label table.old }
-    requires few { so_far.old.count ≤ so_far.old.label }
-    ensures label { so_far.new.label ≡ so_far.old.label + length runs.entry }
-    ensures ready { CanNumber so_far.new.label table.new }
-    ensures few { so_far.new.count ≤ so_far.new.label }
-    ensures numbered { (j : Joining) (m : Grid) (labels : List ℕ) (open_of : ℕ → ℕ) →
-        AreSound j m labels open_of → AreRunsFrom m so_far.old.label runs.entry →
-        AreNumbered m labels open_of so_far.old.label table.old so_far.old.count →
-        AreNumbered m labels open_of so_far.new.label table.new so_far.new.count }
-    ensures cells { (j : Joining) (m : Grid) (labels : List ℕ) (open_of : ℕ → ℕ) →
-        AreSound j m labels open_of → AreRunsFrom m so_far.old.label runs.entry →
-        AreNumbered m labels open_of so_far.old.label table.old so_far.old.count →
-        row.new ≡ numbers_from m labels open_of so_far.old.label runs.entry }
+// Replaces the cells of a row by their numbers. The line is as for the labels. The first cell of the row that shares no label
+// has this one. Returns that of the first such cell after the row.
+#[inline(never)]
+fn number_row(
+    map: &CellMap,
+    row: u32,
+    joining: Joining,
+    table: &[u32],
+    first: usize,
+    cells: &mut [Cell],
+    line: &mut [Labelled],
+) -> usize
+    requires row { row < map.now.region.rows }
+    requires wide { length cells.old ≡ map.now.region.cols }
+    requires long { length line.old ≡ map.now.region.cols + 1 }
+    ensures numbers { (labels : List ℕ) (h : AreLabels joining map.now labels) → IsNumbered joining map.now labels h table.now → HaveNumbers joining map.now labels h first line.old row 0 → HaveNumbers joining map.now labels h result line.new (row + 1) 0 }
+    ensures cells { (labels : List ℕ) (h : AreLabels joining map.now labels) → IsNumbered joining map.now labels h table.now → HaveNumbers joining map.now labels h first line.old row 0 → AreWritten joining map.now labels h row map.now.region.cols cells.new }
 {
-    let mut at = 0;
-    for (cell, count) in runs {
-        let number = number_run(table, cell, so_far);
-        fill_run(row, at, (number, count));
-        at += count as usize;
+    map.copy_row(row, cells);
+    let mut next = first;
+    let mut near = Near {
+        left: outside(),
+        upper_left: outside(),
+        above: outside(),
+        upper_right: outside(),
+    };
+    for col in 0..cells.len() {
+        near.upper_left = near.above;
+        near.above = line[col];
+        near.upper_right = line[col + 1];
+        let cell = cells[col];
+        near.left = Labelled {
+            cell,
+            label: number_of_cell(joining, cell, &near, table, &mut next),
+        };
+        line[col] = near.left;
+        cells[col] = number_cell(near.left.label);
     }
+    next
 }
 
-// The map of the numbers of a map's cells, of the table of the labels of its runs.
-pub fn number_cells(alloc: Global, map: &CellMap, table: &mut [u32]) -> Result<CellMap, Memory>
-    requires labels { HasLabels map.now }
-    requires long { length table.old ≡ run_count map.now }
-    requires down { PointDown table.old }
-    ensures region { IfOk result (λ numbers. numbers.region ≡ map.now.region) }
-    ensures labels { IfOk result (λ numbers. numbers.labels ≡ no_labels) }
-    ensures filled { IfOk result (λ numbers. IsFilled numbers.region numbers.rows) }
-    ensures cells { IfOk result (λ numbers. (j : Joining) (open_of : ℕ → ℕ) →
-        AreSound j map.now table.old open_of →
-        (r c : ℕ) → r < map.now.region.rows → c < map.now.region.cols →
-        cell_at numbers r c ≡ cell_number map.now table.old open_of (label_of map.now (position r c))) }
+// The map of the numbers of a map's cells, of the table of its labels.
+pub fn number_cells(
+    alloc: Global,
+    map: &CellMap,
+    joining: Joining,
+    table: &mut [u32],
+) -> Result<CellMap, Memory>
+    requires labels { AreLabels joining map.now table.old }
+    ensures { IfOk result (IsClumping joining map.now) }
 {
     let region = map.region();
-    let mut buffer = vec![in alloc; Cell::null(); region.cols() as usize]?;
-    let row = buffer.as_mut_slice();
+    let cols = region.cols() as usize;
+    number_labels(table);
+    let mut buffer = vec![in alloc; Cell::null(); cols]?;
+    let cells = buffer.as_mut_slice();
+    let mut whole = vec![in alloc; outside(); cols + 1]?;
+    let line = whole.as_mut_slice();
     let mut builder = MapBuilder::new(alloc, region);
-    let mut so_far = Numbered { label: 0, count: 0 };
-    for r in 0..region.rows() {
-        number_row(table, row, map.runs(r), &mut so_far);
-        builder.push_row(row)?;
+    let mut next = 0;
+    for row in 0..region.rows() {
+        next = number_row(map, row, joining, table, next, cells, line);
+        builder.push_row(cells)?;
     }
     Ok(builder.finish())
 }

@@ -1,74 +1,77 @@
 //! The labels of a map.
 
-ghost use Rattle.std.specs.Prelude.{◌≡◌, ◌<◌, ◌≤◌, ◌*◌, ◌^◌, IfOk, length};
-ghost use Rattle.cell_core.specs.Region.{most_side};
-ghost use Rattle.cell_clump.specs.parts.Starts.{HasLabels, run_count};
-ghost use Rattle.cell_clump.specs.parts.Tables.{AreFresh, AreLabels};
+ghost use Rattle.std.specs.Prelude.{◌≡◌, ◌<◌, ◌≤◌, ◌+◌, ◌*◌, ◌^◌, IfOk, OnOk, length};
+ghost use Rattle.cell_clump.specs.parts.Labels.{PointDown};
+ghost use Rattle.cell_clump.specs.parts.Reading.{HaveCells};
+ghost use Rattle.cell_clump.specs.parts.Tables.{AreLabels};
 
 use crate::clump::Joining;
-use crate::rows::join_rows;
-use crate::walk::Walk;
+use crate::near::{Labelled, Near, label_cell, outside};
+use cell_core::cell::Cell;
 use cell_core::map::CellMap;
 use cell_core::memory::Memory;
 use std::alloc::Global;
 
-// How many runs the rows of a map have.
-fn count_all(map: &CellMap, rows: u32) -> u32
-    requires labels { HasLabels map.now }
-    requires rows { rows ≡ map.now.region.rows }
-    requires cells { map.now.region.rows * map.now.region.cols < 2 ^ 31 }
-    ensures count { result ≡ run_count map.now }
-    ensures few { result < 2 ^ 31 }
-{
-    let mut count = 0;
-    for r in 0..rows {
-        count += map.runs(r).len() as u32;
+// How many labels a map may need: one a run.
+fn most_labels(map: &CellMap) -> usize {
+    let mut most: usize = 0;
+    for row in 0..map.region().rows() {
+        most = most.saturating_add(map.runs(row).len());
     }
-    count
+    most
 }
 
-// A table in which each label points to itself.
-fn fresh_labels(alloc: Global, count: u32) -> Result<Vec<u32>, Memory>
-    ensures { IfOk result (λ table. AreFresh count table.items) }
+// Labels the cells of a row. The line holds the row above it, and then the row; what stands after it is null.
+#[inline(never)]
+fn label_row(
+    map: &CellMap,
+    row: u32,
+    joining: Joining,
+    table: &mut Vec<u32>,
+    cells: &mut [Cell],
+    line: &mut [Labelled],
+) -> Result<(), Memory>
+    requires row { row < map.now.region.rows }
+    requires wide { length cells.old ≡ map.now.region.cols }
+    requires down { PointDown table.old.items }
+    requires short { length table.old.items + map.now.region.cols < 2 ^ 31 }
+    requires read { HaveCells joining map.now table.old.items line.old row 0 }
+    ensures down { OnOk result (PointDown table.new.items) }
+    ensures long { OnOk result (length table.new.items ≤ length table.old.items + map.now.region.cols) }
+    ensures read { OnOk result (HaveCells joining map.now table.new.items line.new (row + 1) 0) }
 {
-    let mut table = vec![in alloc; 0; count as usize]?;
-    let labels = table.as_mut_slice();
-    for label in 0..count {
-        labels[label as usize] = label;
+    map.copy_row(row, cells);
+    let mut near = Near {
+        left: outside(),
+        upper_left: outside(),
+        above: outside(),
+        upper_right: outside(),
+    };
+    for col in 0..cells.len() {
+        near.upper_left = near.above;
+        near.above = line[col];
+        near.upper_right = line[col + 1];
+        let cell = cells[col];
+        let label = label_cell(table, joining, cell, &near)?;
+        near.left = Labelled { cell, label };
+        line[col] = near.left;
     }
-    Ok(table)
+    Ok(())
 }
 
-// Joins the labels of each two adjacent cells of one category. Each row is walked with the one above it.
-fn join_all(map: &CellMap, rows: u32, table: &mut [u32], joining: Joining)
-    requires labels { HasLabels map.now }
-    requires rows { rows ≡ map.now.region.rows }
-    requires cols { map.now.region.cols ≤ most_side }
-    requires fresh { AreFresh (run_count map.now) table.old }
-    requires short { length table.old < 2 ^ 31 }
-    ensures { AreLabels joining map.now table.new }
-{
-    let mut above = 0;
-    let mut here = 0;
-    for r in 0..rows {
-        if r > 0 {
-            let before = Walk::over(map, r - 1, above);
-            let walk = Walk::over(map, r, here);
-            join_rows(table, before, walk, joining);
-        }
-        let count = map.runs(r).len() as u32;
-        above = here;
-        here += count;
-    }
-}
-
-// The labels of a map's runs in row order, once each two adjacent cells of one category were joined.
-pub fn label_runs(alloc: Global, map: &CellMap, joining: Joining) -> Result<Vec<u32>, Memory>
+// The table of the labels of a map, once those of each two adjacent cells of one category were joined.
+pub fn label_cells(alloc: Global, map: &CellMap, joining: Joining) -> Result<Vec<u32>, Memory>
     ensures { IfOk result (λ table. AreLabels joining map.now table.items) }
 {
-    let rows = map.region().rows();
-    let count = count_all(map, rows);
-    let mut table = fresh_labels(alloc, count)?;
-    join_all(map, rows, table.as_mut_slice(), joining);
+    let region = map.region();
+    let cols = region.cols() as usize;
+    let mut table = Vec::with_capacity(alloc, most_labels(map))?;
+    let mut buffer = vec![in alloc; Cell::null(); cols]?;
+    let cells = buffer.as_mut_slice();
+    let mut whole = vec![in alloc; outside(); cols + 1]?;
+    let line = whole.as_mut_slice();
+    for row in 0..region.rows() {
+        label_row(map, row, joining, &mut table, cells, line)?;
+    }
     Ok(table)
 }

@@ -1,58 +1,69 @@
--- The runs of a map in row order: where each begins, and which cells have its label.
-use Rattle.std.specs.Prelude.{ℕ, ℤ, zero, suc, Bool, not, ◌||◌, ◌+◌, ◌-◌, ◌*◌, ◌<◌, ◌≤◌, ◌≡◌, List, [], ◌∷◌, ◌++◌, length, Some, nat_eq, slice_index_or, if◌then◌else◌}
+-- The cells of a map that get a label of their own, in row order.
+use Rattle.std.specs.Prelude.{ℕ, zero, suc, Bool, not, ◌||◌, ◌&&◌, ◌+◌, ◌*◌, ◌≡◌, ◌⊎◌, List, [], ◌∷◌, ◌++◌, length, None, is_some, slice_index_or, if◌then◌else◌}
 use Rattle.cell_core.specs.Cell.{cell_eq}
-use Rattle.cell_core.specs.Grid.{Grid, cell_at, row_at}
-use Rattle.cell_core.specs.Runs.{RunValue, AreRuns, written_out}
+use Rattle.cell_core.specs.Grid.{Grid, CellValue, cell_at}
 use Rattle.cell_clump.specs.declared.clump.Joining.{Joining}
-use Rattle.cell_clump.specs.Areas.{Position, at, IsBefore, AreJoined}
-use Rattle.cell_clump.specs.parts.Places.{position, cell_of, place_of, IsInside}
+use Rattle.cell_clump.specs.declared.clump.Joining.TheVariants.{Edges, EdgesAndCorners}
+use Rattle.cell_clump.specs.Areas.{Position, at}
+use Rattle.cell_clump.specs.parts.Places.{position, cell_of}
 
--- whether a run begins at a cell: at the left of a row, or where the cell on the left is another
-abbrev pub begins : Grid → Position → Bool
-begins m p = nat_eq p.col 0 || not (cell_eq (cell_at m p.row (p.col - 1)) (at m p))
+-- where a cell lies
+abbrev pub IsCell : ℕ → ℕ → Position → Type 0
+IsCell r c q = (q.row ≡ r) × (q.col ≡ c)
 
--- the cells at which runs begin, of the first places
-abbrev pub starts_below : Grid → ℕ → List Position
-starts_below m zero = []
-starts_below m (suc k) = if begins m (cell_of m.region.cols k) then starts_below m k ++ cell_of m.region.cols k ∷ [] else starts_below m k
+-- and where it lies by another one that comes after it in row order
+abbrev pub IsLeft : ℕ → ℕ → Position → Type 0
+IsLeft r c q = (q.row ≡ r) × (q.col + 1 ≡ c)
 
--- how many runs a map has
-unfoldable pub run_count : Grid → ℕ
-run_count m = length (starts_below m (m.region.rows * m.region.cols))
+abbrev pub IsAbove : ℕ → ℕ → Position → Type 0
+IsAbove r c q = (q.row + 1 ≡ r) × (q.col ≡ c)
 
--- where the run of a label begins
-unfoldable pub start_of : Grid → ℕ → Position
-start_of m k = slice_index_or (starts_below m (m.region.rows * m.region.cols)) k (position 0 0)
+abbrev pub IsUpperLeft : ℕ → ℕ → Position → Type 0
+IsUpperLeft r c q = (q.row + 1 ≡ r) × (q.col + 1 ≡ c)
 
--- the label of a cell: that of its run
-unfoldable pub label_of : Grid → Position → ℕ
-label_of m p = length (starts_below m (suc (place_of m.region.cols p))) - 1
+abbrev pub IsUpperRight : ℕ → ℕ → Position → Type 0
+IsUpperRight r c q = (q.row + 1 ≡ r) × (q.col ≡ c + 1)
 
--- the cells of runs that stand in a row from a column on, and their labels, one more for each run
-abbrev pub AreLabelled : Grid → ℕ → ℕ → ℕ → List RunValue → Type 0
-AreLabelled m r c label [] = Unit {0}
-AreLabelled m r c label (run ∷ rest) = ((k : ℕ) → k < run.1 → (at m (position r (c + k)) ≡ run.0) × (label_of m (position r (c + k)) ≡ label)) × AreLabelled m r (c + run.1) (label + 1) rest
+-- the adjacent cells that come before a cell
+abbrev pub IsEarlier : Joining → ℕ → ℕ → Position → Type 0
+IsEarlier Edges r c q = IsLeft r c q ⊎ IsAbove r c q
+IsEarlier EdgesAndCorners r c q = (IsLeft r c q ⊎ IsAbove r c q) ⊎ (IsUpperLeft r c q ⊎ IsUpperRight r c q)
 
--- what is known of labels, and of the cells at which runs begin
-pub record HasLabels (m : Grid) : Type 0 where
-  -- a row has a cell
-  pub some : 0 < m.region.cols
-  -- each cell that is not null is of the map
-  pub inside : (p : Position) (v : ℤ) → at m p ≡ Some v → IsInside m p
-  -- the cell at which a run begins has its label, and those before it have smaller ones
-  pub own : (k : ℕ) → k < run_count m → label_of m (start_of m k) ≡ k
-  pub before : (k : ℕ) (p : Position) → k < run_count m → IsInside m p → IsBefore p (start_of m k) → label_of m p < k
-  -- each cell has a label, its run is of its category, and it is joined to the cell at which its run begins
-  pub few : (p : Position) → IsInside m p → label_of m p < run_count m
-  pub alike : (p : Position) → IsInside m p → at m (start_of m (label_of m p)) ≡ at m p
-  pub joined : (j : Joining) (p : Position) (v : ℤ) → at m p ≡ Some v → AreJoined j m (start_of m (label_of m p)) p
-  -- neighbours of one category in a row have one label
-  pub beside : (r c : ℕ) (v : ℤ) → at m (position r c) ≡ Some v → at m (position r (c + 1)) ≡ Some v → label_of m (position r c) ≡ label_of m (position r (c + 1))
-  -- the runs of a row have labels one after another, and the next row goes on with them
-  pub rows : (r : ℕ) (runs : List RunValue) → r < m.region.rows → written_out runs ≡ row_at m r → AreRuns runs → AreLabelled m r 0 (label_of m (position r 0)) runs
-  pub next : (r : ℕ) (runs : List RunValue) → r < m.region.rows → written_out runs ≡ row_at m r → AreRuns runs → label_of m (position (r + 1) 0) ≡ label_of m (position r 0) + length runs
-  pub first : label_of m (position 0 0) ≡ 0
-  pub last : label_of m (position m.region.rows 0) ≡ run_count m
-  -- and there are no more of them than cells
-  pub most : (r : ℕ) → r < m.region.rows + 1 → label_of m (position r 0) ≤ run_count m
-  pub total : run_count m ≤ m.region.rows * m.region.cols
+-- what they hold, null outside the map
+abbrev pub left_of : Grid → ℕ → ℕ → CellValue
+left_of m r zero = None
+left_of m r (suc c) = cell_at m r c
+
+abbrev pub above_of : Grid → ℕ → ℕ → CellValue
+above_of m zero c = None
+above_of m (suc r) c = cell_at m r c
+
+abbrev pub upper_left_of : Grid → ℕ → ℕ → CellValue
+upper_left_of m zero c = None
+upper_left_of m (suc r) c = left_of m r c
+
+abbrev pub upper_right_of : Grid → ℕ → ℕ → CellValue
+upper_right_of m zero c = None
+upper_right_of m (suc r) c = cell_at m r (suc c)
+
+-- one of them is of the category of the cell
+abbrev pub meets : Joining → Grid → ℕ → ℕ → Bool
+meets Edges m r c = cell_eq (left_of m r c) (cell_at m r c) || cell_eq (above_of m r c) (cell_at m r c)
+meets EdgesAndCorners m r c = (cell_eq (left_of m r c) (cell_at m r c) || cell_eq (above_of m r c) (cell_at m r c)) || (cell_eq (upper_left_of m r c) (cell_at m r c) || cell_eq (upper_right_of m r c) (cell_at m r c))
+
+-- a cell gets a label of its own: it is not null, and none of them is of its category
+abbrev pub begins : Joining → Grid → Position → Bool
+begins j m p = is_some (at m p) && not (meets j m p.row p.col)
+
+-- such cells, of the first places
+abbrev pub starts_below : Joining → Grid → ℕ → List Position
+starts_below j m zero = []
+starts_below j m (suc k) = if begins j m (cell_of m.region.cols k) then starts_below j m k ++ cell_of m.region.cols k ∷ [] else starts_below j m k
+
+-- how many they are
+abbrev pub starts : Joining → Grid → ℕ → ℕ
+starts j m k = length (starts_below j m k)
+
+-- the cell whose own label is this one
+unfoldable pub start_of : Joining → Grid → ℕ → Position
+start_of j m k = slice_index_or (starts_below j m (m.region.rows * m.region.cols)) k (position 0 0)

@@ -1,36 +1,62 @@
-use Rattle.std.proofs.Common.{◌≡◌, ℕ, ◌+◌, ◌++◌, [], ◌∷◌, length, take, ap, sym, arith, rules, subst}
-use Rattle.cell_core.specs.Grid.{Grid}
-use Rattle.cell_core.specs.Runs.{RunValue}
-use Rattle.cell_clump.specs.parts.Numbers.{AreNumbered, AreRunsFrom, CanNumber, numbers_from}
-use Rattle.cell_clump.proofs.NumberLemmas.{run_written, run_within, row_written}
+use Rattle.std.proofs.Common.{◌≡◌, ℕ, ◌<◌, List, None, length, get_or, ap, ◌∙◌, arith, rules, get_or-set_other, subst, ◌*◌, ℤ, Some, ◌+◌}
+use Rattle.std.proofs.lemmas.List.{length-set, get_or_default}
+use Rattle.cell_core.specs.Grid.{CellValue}
+use Rattle.cell_clump.specs.Areas.{at}
+use Rattle.cell_clump.specs.parts.Numbers.{AreWritten, HaveNumbers, IsNumbered, number_at}
+use Rattle.cell_clump.specs.parts.Tables.{AreLabels}
+use Rattle.cell_clump.specs.parts.Reading.{AreNear}
+use Rattle.cell_clump.specs.parts.Places.{position}
+use Rattle.cell_clump.proofs.NumberedLemmas.{numbering_first, numbering_down, numbering_near, numbering_next, numbering_beside, number_written_at, written_next, copied_rest}
 use Rattle.cell_clump.proofs.numbers.number_row.Goals as goal
 
-pub loop-cell-preserved : goal.loop-cell-preserved
-loop-cell-preserved c =
-    let inv = c.loop-cell.invariant in
-    let label = c.loop-cell.so_far.label in
-    let old = c.loop-cell.cell-iterator in
-    let rest = c.next.new.self in
-    let steps = c.in-Some.ensures.steps in
-    let more : c.number_run-number.new.so_far.label ≡ label + 1 = c.number_run-number.ensures.label in
-    let count : length old ≡ length rest + 1 = omega (arith, ap (length {A = RunValue}) steps) in
-    let runs : (m : Grid) → AreRunsFrom m c.args.so_far.now.label c.args.runs → AreRunsFrom m label ((c.in-Some.cell, c.in-Some.count) ∷ rest) = λ m from. subst (AreRunsFrom m label) steps (inv.runs m from) in
+pub loop-col-init : goal.loop-col-init
+loop-col-init c = record {
+  wide = omega (arith, c.copy_row.auto.cells, c.requires.wide);
+  long = c.requires.long;
+  rest = λ k le. ap (λ (xs : List CellValue). get_or xs k None) c.copy_row.ensures;
+  numbers = λ labels h n have. have;
+  beside = λ labels h n have. numbering_first c.args.joining c.args.map.now labels h c.args.row _ c.outside.ensures c.outside-3.ensures;
+  written = λ labels h n have k lt. absurd (omega arith);
+}
+
+pub loop-col-preserved : goal.loop-col-preserved
+loop-col-preserved c =
+    let m = c.args.map.now in
+    let j = c.args.joining in
+    let r = c.args.row in
+    let col = c.loop-col.col in
+    let line = c.loop-col.line in
+    let next = c.loop-col.next in
+    let inv = c.loop-col.invariant in
+    let x = c.index-cells-col.result in
+    let right = c.index-line-col-in-loop-col.is in
+    let above = c.index-line-col.is in
+    let inside : col < length c.loop-col.cells = omega (arith, c.loop-col-test.true, c.loop-col.auto.cells) in
+    let col_in : col < m.region.cols = omega (arith, inv.wide) in
+    let row_in : r < m.region.rows = search rules in
+    let here : x ≡ at m (position r col) = copied_rest m r col c.loop-col.cells x inv.rest (c.index-cells-col.is ∙ get_or_default c.loop-col.cells col x None inside) in
+    let near : (labels : List ℕ) (h : AreLabels j m labels) → IsNumbered j m labels h c.args.table.now → HaveNumbers j m labels h c.args.first c.args.line.now r 0 → AreNear m (r * m.region.cols + col) (number_at j m labels h) r col _ = λ labels h n have.
+    numbering_near j m labels h next line r col c.loop-col.near (inv.numbers labels h n have) (inv.beside labels h n have) c.index-line-col.result c.index-line-col-in-loop-col.result col_in above right in
+    let label : (labels : List ℕ) (h : AreLabels j m labels) → IsNumbered j m labels h c.args.table.now → HaveNumbers j m labels h c.args.first c.args.line.now r 0 → (v : ℤ) → at m (position r col) ≡ Some v → c.number_of_cell.result ≡ number_at j m labels h (position r col) = λ labels h n have v is.
+    c.number_of_cell.ensures.number m r col v labels h (here ∙ is) is row_in col_in (inv.numbers labels h n have).next_is n (near labels h n have) in
     record {
-      label_is = omega (arith, more, count, inv.label_is);
-      within = run_within c.loop-cell.row c.fill_run.new.cells c.loop-cell.at c.in-Some.count c.in-Some.cell old rest steps inv.within (search rules);
-      ready = subst (λ (n : ℕ). CanNumber n c.number_run-number.new.table) (sym more) c.number_run-number.ensures.ready;
-      few = omega (arith, more, c.number_run-number.ensures.few);
-      runs = λ m from. subst (λ (n : ℕ). AreRunsFrom m n rest) (sym more) ((runs m from).1);
-      numbered = λ j m labels open_of sound from h. subst (λ (n : ℕ). AreNumbered m labels open_of n c.number_run-number.new.table c.number_run-number.new.so_far.count) (sym more)
-          (c.number_run-number.ensures.numbered j m labels open_of sound ((runs m from).0) (inv.numbered j m labels open_of sound from h));
-      whole = λ j m labels open_of sound from h.
-          let applied = c.number_run-number.ensures.cell j m labels open_of sound ((runs m from).0) (inv.numbered j m labels open_of sound from h) in
-          let written = run_written m labels open_of c.loop-cell.row c.fill_run.new.cells (numbers_from m labels open_of c.args.so_far.now.label c.args.runs) c.loop-cell.at c.in-Some.count label c.number_run-number.result c.in-Some.cell old rest steps applied (inv.whole j m labels open_of sound from h) inv.within c.fill_run.ensures in
-          subst (λ (n : ℕ). take (c.loop-cell.at + c.in-Some.count) c.fill_run.new.cells ++ numbers_from m labels open_of n rest ≡ numbers_from m labels open_of c.args.so_far.now.label c.args.runs) (sym more) written;
+      wide = length-set c.loop-col.cells col c.number_cell.result ∙ inv.wide;
+      long = length-set line col _ ∙ inv.long;
+      rest = λ k le. get_or-set_other c.loop-col.cells col k c.number_cell.result None (omega arith) ∙ inv.rest k (omega arith);
+      numbers = λ labels h n have. numbering_next j m labels h next line r col c.loop-col.near (inv.numbers labels h n have) (inv.beside labels h n have) c.index-line-col.result c.index-line-col-in-loop-col.result col_in above right _ here (label labels h n have)
+          c.number_of_cell.new.next (c.number_of_cell.ensures.next m r col labels h here row_in col_in (inv.numbers labels h n have).next_is n (near labels h n have));
+      beside = λ labels h n have. numbering_beside j m labels h next line r col c.loop-col.near (inv.numbers labels h n have) (inv.beside labels h n have) c.index-line-col.result c.index-line-col-in-loop-col.result col_in above right _ here (label labels h n have);
+      written = λ labels h n have. written_next j m labels h r col c.loop-col.cells c.number_cell.result inside
+          (number_written_at j m labels h r col x c.number_of_cell.result c.number_cell.result n.short here (label labels h n have) c.number_of_cell.ensures.null c.number_cell.ensures.past c.number_cell.ensures.within)
+          (inv.written labels h n have);
     }
 
+pub returns-clause-numbers : goal.returns-clause-numbers
+returns-clause-numbers c = λ labels h n have.
+    let e : c.loop-col.col ≡ c.args.map.now.region.cols = omega (arith, c.copy_row.auto.cells, c.requires.wide, c.loop-col-test.false, c.loop-col.auto.col-end, c.loop-col.auto.cells) in
+    numbering_down c.args.joining c.args.map.now labels h c.loop-col.next c.loop-col.line c.args.row c.loop-col.col e (c.loop-col.invariant.numbers labels h n have)
+
 pub returns-clause-cells : goal.returns-clause-cells
-returns-clause-cells c = λ j m labels open_of sound from h.
-    let inv = c.loop-cell.invariant in
-    let none : c.loop-cell.cell-iterator ≡ [] = search rules in
-    row_written m labels open_of c.loop-cell.so_far.label c.loop-cell.at c.loop-cell.row _ c.loop-cell.cell-iterator none (inv.whole j m labels open_of sound from h) inv.within
+returns-clause-cells c = λ labels h n have.
+    let e : c.loop-col.col ≡ c.args.map.now.region.cols = omega (arith, c.copy_row.auto.cells, c.requires.wide, c.loop-col-test.false, c.loop-col.auto.col-end, c.loop-col.auto.cells) in
+    subst (λ (k : ℕ). AreWritten c.args.joining c.args.map.now labels h c.args.row k c.loop-col.cells) e (c.loop-col.invariant.written labels h n have)

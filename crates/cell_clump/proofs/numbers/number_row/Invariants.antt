@@ -1,18 +1,16 @@
-use Rattle.std.proofs.Common.{◌≡◌, ℕ, ◌+◌, ◌≤◌, ◌++◌, List, length, take}
-use Rattle.cell_core.specs.Grid.{Grid}
-use Rattle.cell_core.specs.Runs.{written_out}
-use Rattle.cell_clump.specs.declared.clump.Joining.{Joining}
-use Rattle.cell_clump.specs.parts.Meetings.{AreSound}
-use Rattle.cell_clump.specs.parts.Numbers.{AreNumbered, AreRunsFrom, CanNumber, numbers_from}
+use Rattle.std.proofs.Common.{◌≡◌, ℕ, ◌+◌, ◌*◌, ◌≤◌, List, None, length, get_or}
+use Rattle.cell_core.specs.Grid.{row_at}
+use Rattle.cell_clump.specs.parts.Numbers.{AreWritten, HaveNumbers, IsNumbered, number_at}
+use Rattle.cell_clump.specs.parts.Reading.{AreBeside}
+use Rattle.cell_clump.specs.parts.Tables.{AreLabels}
 use Rattle.cell_clump.proofs.numbers.number_row.Given as goal
 
-abbrev pub invariant-loop-cell : goal.invariant-loop-cell
-invariant-loop-cell l = record {
-  label_is : l.so_far.label + length l.cell-iterator ≡ l.fn.so_far.label + length l.fn.runs;
-  within : l.at + length (written_out l.cell-iterator) ≡ length l.row;
-  ready : CanNumber l.so_far.label l.table;
-  few : l.so_far.count ≤ l.so_far.label;
-  runs : (m : Grid) → AreRunsFrom m l.fn.so_far.label l.fn.runs → AreRunsFrom m l.so_far.label l.cell-iterator;
-  numbered : (j : Joining) (m : Grid) (labels : List ℕ) (open_of : ℕ → ℕ) → AreSound j m labels open_of → AreRunsFrom m l.fn.so_far.label l.fn.runs → AreNumbered m labels open_of l.fn.so_far.label l.fn.table l.fn.so_far.count → AreNumbered m labels open_of l.so_far.label l.table l.so_far.count;
-  whole : (j : Joining) (m : Grid) (labels : List ℕ) (open_of : ℕ → ℕ) → AreSound j m labels open_of → AreRunsFrom m l.fn.so_far.label l.fn.runs → AreNumbered m labels open_of l.fn.so_far.label l.fn.table l.fn.so_far.count → take l.at l.row ++ numbers_from m labels open_of l.so_far.label l.cell-iterator ≡ numbers_from m labels open_of l.fn.so_far.label l.fn.runs;
+abbrev pub invariant-loop-col : goal.invariant-loop-col
+invariant-loop-col l = record {
+  wide : length l.cells ≡ l.map.region.cols;
+  long : length l.line ≡ l.map.region.cols + 1;
+  rest : (k : ℕ) → l.col ≤ k → get_or l.cells k None ≡ get_or (row_at l.map l.row) k None;
+  numbers : (labels : List ℕ) (h : AreLabels l.joining l.map labels) → IsNumbered l.joining l.map labels h l.table → HaveNumbers l.joining l.map labels h l.fn.first l.fn.line l.row 0 → HaveNumbers l.joining l.map labels h l.next l.line l.row l.col;
+  beside : (labels : List ℕ) (h : AreLabels l.joining l.map labels) → IsNumbered l.joining l.map labels h l.table → HaveNumbers l.joining l.map labels h l.fn.first l.fn.line l.row 0 → AreBeside l.map (l.row * l.map.region.cols + l.col) (number_at l.joining l.map labels h) l.row l.col l.near;
+  written : (labels : List ℕ) (h : AreLabels l.joining l.map labels) → IsNumbered l.joining l.map labels h l.table → HaveNumbers l.joining l.map labels h l.fn.first l.fn.line l.row 0 → AreWritten l.joining l.map labels h l.row l.col l.cells;
 }

@@ -1,0 +1,42 @@
+use Rattle.std.proofs.Common.{◌≡◌, ◌<◌, arith}
+use Rattle.cell_clump.specs.Areas.{at}
+use Rattle.cell_clump.specs.parts.Places.{position}
+use Rattle.cell_clump.proofs.LineLemmas.{reading_first, reading_near, reading_inside, reading_next, cells_down, copied}
+use Rattle.cell_clump.proofs.scan.label_row.Goals as goal
+
+pub loop-col-init : goal.loop-col-init
+loop-col-init c = record {
+  wide = c.requires.read.is_line.wide;
+  down = c.requires.down;
+  most = omega arith;
+  reading = reading_first c.args.joining c.args.map.now c.args.table.now.items c.args.line.now c.args.row _ c.requires.read c.outside.ensures c.outside-3.ensures;
+}
+
+pub label_cell-requires-clause-inside : goal.label_cell-requires-clause-inside
+label_cell-requires-clause-inside c =
+    let col_in : c.loop-col.col < c.args.map.now.region.cols = omega (arith, c.copy_row.auto.cells, c.requires.wide, c.loop-col-test.true) in
+    reading_inside c.args.joining c.args.map.now c.loop-col.table.items c.loop-col.line c.args.row c.loop-col.col c.loop-col.near c.loop-col.invariant.reading c.index-line-col.result c.index-line-col-in-loop-col.result col_in c.index-line-col.is c.index-line-col-in-loop-col.is
+
+pub loop-col-preserved : goal.loop-col-preserved
+loop-col-preserved c =
+    let m = c.args.map.now in
+    let r = c.args.row in
+    let col = c.loop-col.col in
+    let inv = c.loop-col.invariant in
+    let h = inv.reading in
+    let col_in : col < m.region.cols = omega (arith, c.copy_row.auto.cells, c.requires.wide, c.loop-col-test.true) in
+    let here : c.index-cells-col.result ≡ at m (position r col) = copied m r col c.copy_row.new.cells c.index-cells-col.result c.copy_row.ensures c.loop-col-test.true c.index-cells-col.is in
+    let near = reading_near c.args.joining m c.loop-col.table.items c.loop-col.line r col c.loop-col.near h c.index-line-col.result c.index-line-col-in-loop-col.result col_in c.index-line-col.is c.index-line-col-in-loop-col.is in
+    let read = c.in_ok-label.ensures.read m r col h.cells.labels here col_in h.cells.count near h.cells.has_read in
+    let next = reading_next c.args.joining m c.loop-col.table.items c.loop-col.line r col c.loop-col.near h c.index-line-col.result c.index-line-col-in-loop-col.result col_in c.index-line-col.is c.index-line-col-in-loop-col.is c.label_cell.new.table.items _ here read in
+    record {
+      wide = next.cells.is_line.wide;
+      down = c.in_ok-label.ensures.down;
+      most = omega (arith, c.in_ok-label.ensures.long, inv.most);
+      reading = next;
+    }
+
+pub returns-clause-read : goal.returns-clause-read
+returns-clause-read c =
+    let e : c.loop-col.col ≡ c.args.map.now.region.cols = omega (arith, c.copy_row.auto.cells, c.requires.wide, c.loop-col-test.false, c.loop-col.auto.col-end) in
+    cells_down c.args.joining c.args.map.now c.loop-col.table.items c.loop-col.line c.args.row c.loop-col.col e c.loop-col.invariant.reading.cells
