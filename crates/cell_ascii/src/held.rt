@@ -42,6 +42,7 @@ fn short_digits(a: u8, b: u8, c: u8, d: u8) -> Option<(u32, usize)>
 }
 
 // One to nine digits and a byte that ends them, and how many digits there are.
+#[inline(always)]
 fn more_digits(bytes: &[u8]) -> Option<(u32, usize)>
     ensures { IfSome result (λ r. IsNumeral bytes.now r.0 r.1) }
 {
