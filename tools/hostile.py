@@ -11,7 +11,7 @@
     outputs   full, closed and waiting outputs, files limited to each size, a disk that fills
     inputs    pipes with names, standard input as script and as grid, readers that stop in the middle of a token
     bytes     each proper prefix of each grid, script, rule block and expression; each byte turned to each of nine others
-    stack     each case on a stack of 64 KiB, the deepest expressions on one of 2 MiB
+    stack     each case and the deepest expressions on a stack of 64 KiB
     sizes     the greatest inputs
     memory    the bytes a cell of each command, over patches and over noise
     times     times at 1,000, 10,000 and 100,000 of each kind of thing: none grows by more than its number

@@ -15,8 +15,7 @@ from compare import Program, read
 from hostile_cases import Made, Report, answer_of_model
 
 STACK_KIB = 64
-DEEP_STACK_KIB = 2048  # for expressions that nest hundreds deep, each level of which takes stack
-LEAST_STACK_KIB, STACK_STEP_KIB = 16, 8
+LEAST_STACK_KIB, STACK_STEP_KIB = 16, 1
 MOST_FILES = min(resource.getrlimit(resource.RLIMIT_NOFILE)[1], 200000)
 SPARE_FILES = 16
 OUT_OF_TIME = -signal.SIGKILL
@@ -87,9 +86,6 @@ def deep() -> dict[str, bytes]:
     }
 
 
-DEEP_CASES = ("cases/longest-expressions",)
-
-
 def on_stack(program: Program, made: Made, kib: int) -> model.Answer:
     got = spent(program, made.words, kib)
     return model.Answer(got.status, got.output, got.told)
@@ -97,7 +93,7 @@ def on_stack(program: Program, made: Made, kib: int) -> model.Answer:
 
 def stack_needed(program: Program, made: Made, expected: model.Answer) -> int:
     """The smallest stack, to the step, on which a run ends as it must."""
-    few, enough = LEAST_STACK_KIB, DEEP_STACK_KIB
+    few, enough = LEAST_STACK_KIB, STACK_KIB
     while enough - few > STACK_STEP_KIB:
         middle = (few + enough) // 2
         few, enough = (few, middle) if on_stack(program, made, middle) == expected else (middle, enough)
@@ -105,19 +101,18 @@ def stack_needed(program: Program, made: Made, expected: model.Answer) -> int:
 
 
 def stack(report: Report, program: Program, cases: dict[str, Made], settings) -> None:
-    """Each case on the small stack, and each deep expression over a few cells on the larger one."""
+    """Each case, and each deep expression over a few cells, on the small stack."""
     text = grid(3, 4, lambda row, col: row * col)
     made_deep = {f"a script of {name}": over(text, b"r.mapcalc x = %s\nr.out.ascii input=x\n" % body) for name, body in deep().items()}
+    most = 0
     for name, made in {**cases, **made_deep}.items():
         program.put(made)
-        kib = STACK_KIB if name in cases and name not in DEEP_CASES else DEEP_STACK_KIB
         expected = answer_of_model(made)
-        if report.compare(f"stack of {kib} KiB of {name}", made, expected, on_stack(program, made, kib)):
+        if report.compare(f"stack of {STACK_KIB} KiB of {name}", made, expected, on_stack(program, made, STACK_KIB)):
             report.check("")
-        if kib == DEEP_STACK_KIB and not settings.short:
-            print(f"stack: {name} needs {stack_needed(program, made, expected)} KiB", flush=True)
-    print(f"stack: {len(cases)} cases on a stack of {STACK_KIB} KiB, those that nest deep and {len(made_deep)} deep expressions "
-          f"on {DEEP_STACK_KIB}")
+            most = most if settings.short else max(most, stack_needed(program, made, expected))
+    needed = f", none of which needs more than {most}" if most else ""
+    print(f"stack: {len(cases)} cases and {len(made_deep)} deep expressions on a stack of {STACK_KIB} KiB{needed}", flush=True)
 
 
 def name_at(number: int) -> bytes:
