@@ -3,11 +3,11 @@ use Rattle.std.specs.Prelude.{ℕ, Bool, ◌&&◌, ◌||◌, List, [], ◌∷◌
 use Rattle.std.specs.Option.{option_map, option_and_then}
 use Rattle.cell_ascii_text.specs.GridWords.{usual_null}
 use Rattle.cell_core.specs.Name.{place_of}
-use Rattle.cell_stats.specs.Combinations.{Combination}
-use Rattle.cell_stats.specs.ComboText.{combo_of}
+use Rattle.cell_counts.specs.Combinations.{Combination}
+use Rattle.cell_counts.specs.ComboText.{combo_of}
 use Rattle.cell_text.specs.Words.{words_of}
-use Rattle.cell_stats.specs.declared.skip.Skip.{Skip}
-use Rattle.cell_stats.specs.declared.skip.Skip.TheVariants.{Nothing, AnyNull, AllNull}
+use Rattle.cell_counts.specs.declared.skip.Skip.{Skip}
+use Rattle.cell_counts.specs.declared.skip.Skip.TheVariants.{Nothing, AnyNull, AllNull}
 use Rattle.cell_script.specs.OptionWords.{AreOptions}
 use Rattle.cell_script.specs.Options.{Given, has_flag}
 use Rattle.cell_script.specs.declared.options.Form.TheVariants as form

@@ -2,7 +2,7 @@
 
 use cell_calc::CalcFault;
 use cell_cats::rules::RuleFault;
-use cell_stats::reading::ComboFault;
+use cell_counts::reading::ComboFault;
 use thiserror::Error;
 
 /// What is wrong with a script.

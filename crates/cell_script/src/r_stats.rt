@@ -13,9 +13,9 @@ use crate::options::{Form, Options, options_of};
 use crate::statement::{Command, Places, StatsOptions};
 use cell_core::memory::Memory;
 use cell_core::name::{Name, Names};
-use cell_stats::combination::Combo;
-use cell_stats::reading::ComboFault;
-use cell_stats::skip::Skip;
+use cell_counts::combination::Combo;
+use cell_counts::reading::ComboFault;
+use cell_counts::skip::Skip;
 use std::alloc::Global;
 
 // The places of names among the known ones.

@@ -8,8 +8,8 @@ use cell_cats::rules::Rules;
 use cell_clump::clump::Joining;
 use cell_core::memory::Memory;
 use cell_core::name::Name;
-use cell_stats::combination::Combo;
-use cell_stats::skip::Skip;
+use cell_counts::combination::Combo;
+use cell_counts::skip::Skip;
 use std::alloc::Global;
 use std::marker::Model;
 

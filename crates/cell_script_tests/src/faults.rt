@@ -5,7 +5,7 @@ use cell_core::name::{Name, Names};
 use cell_language::fault::{CalcFault, CalcKind};
 use cell_script::fault::{ScriptFault, ScriptKind};
 use cell_script::parsing::parse_script;
-use cell_stats::reading::ComboFault;
+use cell_counts::reading::ComboFault;
 use std::alloc::Global;
 use std::test::Fail;
 

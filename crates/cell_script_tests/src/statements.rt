@@ -5,7 +5,7 @@ use cell_core::cell::Cell;
 use cell_core::name::{Name, Names};
 use cell_script::parsing::parse_script;
 use cell_script::statement::Command;
-use cell_stats::skip::Skip;
+use cell_counts::skip::Skip;
 use std::test::Fail;
 
 #[test]

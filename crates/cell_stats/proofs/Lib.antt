@@ -1,12 +1,7 @@
 pub mod CellsLemmas
-pub mod CursorLemmas
-pub mod HeldLemmas
 pub mod LawLemmas
-pub mod OrderLemmas
 pub mod PrintLemmas
 pub mod RestLemmas
-pub mod RunCountLemmas
 pub mod SortedLemmas
 pub mod TableLemmas
-pub mod WalkLemmas
 pub mod WidthLemmas

@@ -1,4 +1,2 @@
--- Places in the rows of maps, counts on their way to a table, fields of a line.
-pub mod Cursors
-pub mod Held
+-- Fields of a line.
 pub mod Preceded

@@ -3,20 +3,20 @@
 ghost use Rattle.std.specs.Prelude.{◌≡◌, ◌<◌, ◌≤◌, ◌||◌, [], All, length, flat_map, replicate, OnOk, IfOk, IfErr, is_err};
 ghost use Rattle.cell_core.specs.Blocks.{Gathers, CutsOff};
 ghost use Rattle.cell_core.specs.Region.{IsRegion};
-ghost use Rattle.cell_stats.specs.Combinations.{row_combinations};
-ghost use Rattle.cell_stats.specs.Tables.{kept};
+ghost use Rattle.cell_counts.specs.Combinations.{row_combinations};
+ghost use Rattle.cell_counts.specs.LeftOut.{kept};
 ghost use Rattle.cell_stats.specs.TableText.{cell_line, cells_text};
 
-use crate::cursor::{Cursor, cursors_of, pass_all, restart_all};
 use crate::format::Format;
 use crate::printing::write_cell_line;
-use crate::selection::Selection;
-use crate::skip::{Skip, is_left_out};
 use cell_core::block::Block;
 use cell_core::cell::Cell;
 use cell_core::memory::Memory;
 use cell_core::shelf::Shelf;
 use cell_core::sink::{Sink, WriteFault};
+use cell_counts::cursor::{Cursor, cursors_of, pass_all, restart_all};
+use cell_counts::selection::Selection;
+use cell_counts::skip::{Skip, is_left_out};
 use std::alloc::Global;
 use std::marker::Model;
 

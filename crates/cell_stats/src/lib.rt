@@ -1,15 +1,11 @@
-//! Tables of the combinations of categories over several maps (r.stats manual).
+//! Tables of the combinations of categories over several maps, and their printed form (r.stats manual).
 #![tactic(auto)]
 
 pub mod cells;
-pub mod combination;
-mod counting;
-mod cursor;
 pub mod format;
 pub mod law;
 pub mod printing;
-pub mod reading;
-mod selection;
-pub mod skip;
 pub mod table;
 pub mod tallying;
+
+pub use cell_counts::{combination, reading, skip};

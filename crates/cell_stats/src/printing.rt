@@ -7,7 +7,6 @@ ghost use Rattle.cell_core.specs.Blocks.{Gathers, CutsOff};
 ghost use Rattle.cell_stats.specs.TableText.{cell_line, combination_fields, count_fields, label_in, pair_line, printed_pairs, table_text};
 ghost use Rattle.cell_stats.specs.parts.Preceded.{next_text, others_text, pick_text, preceded};
 
-use crate::combination::Combo;
 use crate::format::Format;
 use crate::table::Table;
 use cell_core::block::Block;
@@ -15,6 +14,7 @@ use cell_core::cell::Cell;
 use cell_core::shelf::Shelf;
 use cell_core::sink::{Sink, WriteFault};
 use cell_core::text::write_cell;
+use cell_counts::combination::Combo;
 use itoa::Buffer;
 
 // The label of a cell of a map.

@@ -3,10 +3,10 @@ use Rattle.std.proofs.lemmas.Result.{err_from_is_err_and}
 use Rattle.std.specs.List.{range_with_len}
 use Rattle.cell_core.proofs.GatherLemmas.{CutsOff-second, Gathers-none, Gathers-then}
 use Rattle.cell_core.specs.Region.{RegionValue}
-use Rattle.cell_stats.specs.Combinations.{combination_at, row_combinations}
+use Rattle.cell_counts.specs.Combinations.{combination_at, row_combinations}
 use Rattle.cell_stats.proofs.CellsLemmas.{lines, lines-row, lines-stretch}
 use Rattle.cell_stats.proofs.PrintLemmas.{cut-first}
-use Rattle.cell_stats.proofs.WalkLemmas.{alike, alive, passed-on}
+use Rattle.cell_counts.proofs.WalkLemmas.{alike, alive, passed-on}
 use Rattle.cell_stats.proofs.cells.write_row.Goals as goal
 
 pub loop-col-init : goal.loop-col-init

@@ -1,91 +1,28 @@
-use Rattle.std.proofs.Common.{◌≡◌, ◌≤◌, ◌+◌, ◌++◌, [], List, length, unwrap_or, None, arith, rules, ap, ◌∙◌, append-nil}
-use Rattle.std.proofs.lemmas.Grind.{common_steps}
-use Rattle.std.specs.BTreeMap as tree
-use Rattle.std.specs.BTreeMap.{is_at}
-use Rattle.std.specs.Map.{lookup}
-use Rattle.cell_core.specs.Region.{RegionValue, IsRegion}
-use Rattle.cell_stats.specs.Combinations.{Combination, combination_cmp, all_combinations}
-use Rattle.cell_stats.specs.Counts.{count_of}
-use Rattle.cell_stats.specs.parts.Held.{total_of, mapped_of}
-use Rattle.cell_stats.specs.Tables.{Pairs, kept}
-use Rattle.cell_stats.specs.declared.counting.Held.{Held}
+use Rattle.std.proofs.Common.{◌≡◌, rules}
+use Rattle.cell_counts.specs.Combinations.{all_combinations}
 use Rattle.cell_stats.proofs.TableLemmas.{IsTable-mapped, one_table_kept, table_is}
-use Rattle.cell_stats.proofs.WalkLemmas.{count_small}
 use Rattle.cell_stats.proofs.WidthLemmas.{table-wide}
 use Rattle.cell_stats.proofs.tallying.tally.Goals as goal
-
-pub loop-row-init : goal.loop-row-init
-loop-row-init c =
-    let empty = c.new-counted.ensures.empty in
-    let wide : length c.in_ok-cells.cells.items ≡ length c.args.picks.now = grind (arith, common_steps) in
-    record {
-      counted = λ k.
-          ap (λ n. n + mapped_of k c.new-counted.result) (c.in_ok-places.ensures.nothing (length c.args.picks.now) k)
-          ∙ ap (λ (es : Pairs). 0 + unwrap_or (lookup (is_at (combination_cmp k)) es) 0) empty;
-      no_zero = λ k e. let none : tree.get combination_cmp c.new-counted.result k ≡ None = ap (lookup (is_at (combination_cmp k))) empty in cc;
-      spare = ap length (c.in_ok-spare.ensures ∙ c.deref.ensures.value) ∙ wide;
-      places = c.in_ok-places.ensures.some;
-      cells = wide;
-      cursors = ap length c.as_mut_slice-cursors.ensures.value ∙ c.in_ok-started.ensures;
-    }
-
-pub make_room-requires-clause-fits : goal.make_room-requires-clause-fits
-make_room-requires-clause-fits c = λ k.
-    let maps = c.args.shelf.now.maps in
-    let picks = c.args.picks.now in
-    let skip = c.args.skip in
-    let value = c.args.shelf.now.region in
-    let region : IsRegion value = rw (← c.region.ensures.value) c.rows-row-end.ensures.region in
-    let row = c.loop-row.row in
-    let base = all_combinations maps picks row value.cols in
-    let rows : row ≤ 65535 = omega (arith, region.rows_most, c.loop-row.auto.row-end, c.rows-row-end.ensures.value, ap (λ (r : RegionValue). r.rows) c.region.ensures.value) in
-    let small = count_small maps picks value.cols skip k row 0 rows (omega arith) region.cols_most in
-    let same : count_of k (kept skip (base ++ [])) ≡ count_of k (kept skip base) = ap (λ (l : List Combination). count_of k (kept skip l)) (append-nil base) in
-    let total = c.loop-row.invariant.counted k in
-    omega (arith, total, small, same)
-
-pub flush_all-requires-clause-fits : goal.flush_all-requires-clause-fits
-flush_all-requires-clause-fits c = λ k.
-    let maps = c.args.shelf.now.maps in
-    let picks = c.args.picks.now in
-    let skip = c.args.skip in
-    let value = c.args.shelf.now.region in
-    let region : IsRegion value = rw (← c.region.ensures.value) c.rows-row-end.ensures.region in
-    let row = c.loop-row.row in
-    let base = all_combinations maps picks row value.cols in
-    let rows : row ≤ 65535 = omega (arith, region.rows_most, c.loop-row.auto.row-end, c.rows-row-end.ensures.value, ap (λ (r : RegionValue). r.rows) c.region.ensures.value) in
-    let small = count_small maps picks value.cols skip k row 0 rows (omega arith) region.cols_most in
-    let same : count_of k (kept skip (base ++ [])) ≡ count_of k (kept skip base) = ap (λ (l : List Combination). count_of k (kept skip l)) (append-nil base) in
-    let total = ap (λ (p : List Held). total_of (length picks) k p c.loop-row.counted) c.deref-2.ensures.value ∙ c.loop-row.invariant.counted k in
-    omega (arith, total, small, same)
 
 pub of-requires-clause-wide : goal.of-requires-clause-wide
 of-requires-clause-wide c =
     let maps = c.args.shelf.now.maps in
     let picks = c.args.picks.now in
     let skip = c.args.skip in
-    let value = c.args.shelf.now.region in
-    let m = c.flush_all.new.counted in
-    let last : c.loop-row.row ≡ value.rows = omega (arith, c.loop-row-test.false, c.loop-row.auto.row-end, c.rows-row-end.ensures.value, ap (λ (r : RegionValue). r.rows) c.region.ensures.value) in
-    let counts : (k : Combination) → mapped_of k m ≡ count_of k (kept skip (all_combinations maps picks value.rows value.cols)) = λ k.
-    c.in_ok-flush_all.ensures.ok k ∙ ap (λ (p : List Held). total_of (length picks) k p c.loop-row.counted) c.deref-2.ensures.value ∙ c.loop-row.invariant.counted k
-    ∙ ap (λ r. count_of k (kept skip (all_combinations maps picks r value.cols))) last in
-    let table = IsTable-mapped skip (all_combinations maps picks value.rows value.cols) m (c.into_iter.ensures.into_iter_gives.5) counts c.in_ok-flush_all.ensures.no_zero in
+    let region = c.args.shelf.now.region in
+    let m = c.in_ok-counted.counted in
+    let table = IsTable-mapped skip (all_combinations maps picks region.rows region.cols) m (c.into_iter.ensures.into_iter_gives.5) c.in_ok-counted.ensures.counts c.in_ok-counted.ensures.no_zero in
     let same : c.in_ok-entries.entries.items ≡ m.entries = search rules in
-    rw same (table-wide maps picks skip value.rows value.cols m.entries table)
+    rw same (table-wide maps picks skip region.rows region.cols m.entries table)
 
 pub returns-clause-table : goal.returns-clause-table
 returns-clause-table c =
     let maps = c.args.shelf.now.maps in
     let picks = c.args.picks.now in
     let skip = c.args.skip in
-    let value = c.args.shelf.now.region in
-    let m = c.flush_all.new.counted in
-    let last : c.loop-row.row ≡ value.rows = omega (arith, c.loop-row-test.false, c.loop-row.auto.row-end, c.rows-row-end.ensures.value, ap (λ (r : RegionValue). r.rows) c.region.ensures.value) in
-    let counts : (k : Combination) → mapped_of k m ≡ count_of k (kept skip (all_combinations maps picks value.rows value.cols)) = λ k.
-    c.in_ok-flush_all.ensures.ok k ∙ ap (λ (p : List Held). total_of (length picks) k p c.loop-row.counted) c.deref-2.ensures.value ∙ c.loop-row.invariant.counted k
-    ∙ ap (λ r. count_of k (kept skip (all_combinations maps picks r value.cols))) last in
-    let table = IsTable-mapped skip (all_combinations maps picks value.rows value.cols) m (c.into_iter.ensures.into_iter_gives.5) counts c.in_ok-flush_all.ensures.no_zero in
+    let region = c.args.shelf.now.region in
+    let m = c.in_ok-counted.counted in
+    let table = IsTable-mapped skip (all_combinations maps picks region.rows region.cols) m (c.into_iter.ensures.into_iter_gives.5) c.in_ok-counted.ensures.counts c.in_ok-counted.ensures.no_zero in
     let same : c.in_ok-entries.entries.items ≡ m.entries = search rules in
     rw (c.of.ensures, same) table
 

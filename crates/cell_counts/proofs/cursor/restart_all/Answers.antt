@@ -1,0 +1,50 @@
+use Rattle.std.proofs.Common.{◌≡◌, ◌<◌, ◌++◌, [], ◌∷◌, length, map, take, take_all, get_or, ap, sym, ◌∙◌, arith, ℕ}
+use Rattle.std.proofs.lemmas.List.{take_more}
+use Rattle.std.proofs.lemmas.List.Elements.{All-push}
+use Rattle.cell_core.specs.Region.{RegionValue}
+use Rattle.cell_core.specs.Grid.{row_at}
+use Rattle.cell_counts.specs.Cursors.{to_come, IsReady, row_in}
+use Rattle.cell_counts.proofs.CursorLemmas.{map-take-more, map-take-set, All-take-set}
+use Rattle.cell_counts.proofs.WalkLemmas.{row-of}
+use Rattle.cell_counts.proofs.cursor.restart_all.Goals as goal
+
+pub loop-i-preserved : goal.loop-i-preserved
+loop-i-preserved c =
+    let maps = c.args.shelf.now.maps in
+    let picks = c.args.picks.now in
+    let i = c.loop-i.i in
+    let p = get_or picks i 0 in
+    let inv = c.loop-i.invariant in
+    let start = c.start.result in
+    let within : i < length picks = omega arith in
+    let within_cursors : i < length c.loop-i.cursors = omega (arith, c.requires.width) in
+    let is : row_in maps c.args.row p ≡ row_at c.map.result.now c.args.row = row-of maps c.args.row p c.map.result.now c.map.ensures.value in
+    record {
+      cells =
+          map-take-set to_come c.loop-i.cursors i start within_cursors ∙ ap (λ l. l ++ to_come start ∷ []) inv.cells
+          ∙ ap (λ x. map (row_in maps c.args.row) (take i picks) ++ x ∷ []) (c.start.ensures.cells ∙ sym is) ∙ sym (map-take-more (row_in maps c.args.row) picks i 0 within);
+      width = rw (take_more picks i 0 within) (
+          All-push (λ (x : ℕ). length (row_in maps c.args.row x) ≡ c.args.shelf.now.region.cols) (take i picks) p inv.width (ap length is ∙ c.start.ensures.width ∙ ap (λ (r : RegionValue). r.cols) c.map.ensures.region)
+          );
+      ready = All-take-set IsReady IsReady c.loop-i.cursors i start within_cursors (λ x h. h) inv.ready c.start.ensures.ready;
+    }
+
+pub returns-clause-cells : goal.returns-clause-cells
+returns-clause-cells c =
+    let picks = c.args.picks.now in
+    let cursors = c.loop-i.cursors in
+    let all : take c.loop-i.i cursors ≡ cursors = take_all c.loop-i.i cursors (omega (arith, c.requires.width)) in
+    let picked : take c.loop-i.i picks ≡ picks = take_all c.loop-i.i picks (omega arith) in
+    ap (map to_come) (sym all) ∙ c.loop-i.invariant.cells ∙ ap (map (row_in c.args.shelf.now.maps c.args.row)) picked
+
+pub returns-clause-width : goal.returns-clause-width
+returns-clause-width c =
+    let picks = c.args.picks.now in
+    let picked : take c.loop-i.i picks ≡ picks = take_all c.loop-i.i picks (omega arith) in
+    rw picked at c.loop-i.invariant.width
+
+pub returns-clause-ready : goal.returns-clause-ready
+returns-clause-ready c =
+    let cursors = c.loop-i.cursors in
+    let all : take c.loop-i.i cursors ≡ cursors = take_all c.loop-i.i cursors (omega (arith, c.requires.width)) in
+    rw all at c.loop-i.invariant.ready
