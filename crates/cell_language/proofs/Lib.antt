@@ -11,3 +11,4 @@ pub mod Longest
 pub mod Pieces
 pub mod SpellingLemmas
 pub mod OnlyLemmas
+pub mod PostfixLemmas

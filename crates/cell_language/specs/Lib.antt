@@ -6,6 +6,7 @@ pub mod Grammar
 pub mod GrammarFault
 pub mod Grammatical
 pub mod Operator
+pub mod Postfix
 pub mod Reading
 pub mod Spelling
 pub mod Stopping
@@ -14,3 +15,4 @@ pub mod Token
 pub mod Tokens
 pub mod Tree
 pub mod Unknown
+pub mod parts

@@ -7,6 +7,7 @@ pub mod fault;
 pub mod function;
 pub mod operator;
 mod parsing;
+pub mod step;
 pub mod token;
 pub mod tokens;
 pub mod tree;

@@ -1,6 +1,6 @@
 //! From tokens to an assignment.
 
-ghost use Rattle.std.specs.Prelude.{◌≡◌, ◌<◌, ◌≤◌, ◌+◌, [], ◌∷◌, Some, None, length, IfOk, IfErr, IfSome, IfNone, MatchResult};
+ghost use Rattle.std.specs.Prelude.{◌≡◌, ◌<◌, ◌≤◌, ◌+◌, ◌++◌, [], ◌∷◌, Some, None, length, IfOk, IfErr, IfSome, IfNone, MatchResult};
 ghost use Rattle.cell_language.specs.declared.assignment.Assignment.{Assignment};
 ghost use Rattle.cell_language.specs.declared.function.Function.TheVariants.{If};
 ghost use Rattle.cell_language.specs.declared.parsing.Stop.TheVariants.{Memory};
@@ -13,12 +13,14 @@ ghost use Rattle.cell_language.specs.Stopping.{StopsAt, IsStop, IsPart, IsAfter,
 ghost use Rattle.cell_language.specs.Term.{Binary, Call, Then, NoTerms, count};
 ghost use Rattle.cell_language.specs.Token.{head, name_at, AreCategories};
 ghost use Rattle.cell_language.specs.Tree.{term_of, terms_of};
+ghost use Rattle.cell_language.specs.Postfix.{postfix, postfix_all};
 
 use crate::assignment::Assignment;
 use crate::expr::Expr;
 use crate::fault::{CalcFault, CalcKind};
 use crate::function::{Function, accepts, function_of};
 use crate::operator::{Operator, TOP_LEVEL, level_of, operator_of};
+use crate::step::Step;
 use crate::token::{Placed, Sign, Token};
 use crate::tree::{Arguments, Tree};
 use cell_core::name::Name;
@@ -379,6 +381,93 @@ fn whole<'a>(
     Ok((tree, rest))
 }
 
+// Puts the steps of a tree after others.
+#[cycle(flattening)]
+fn flatten<'a>(alloc: Global, tree: &Tree, steps: &mut Vec<Step>) -> Result<(), Stop<'a>>
+    ensures ok { IfOk result (λ _. steps.new.items ≡ steps.old.items ++ postfix (term_of tree.now)) }
+    ensures err { IfErr result (λ e. e ≡ Memory) }
+{
+    match tree {
+        Tree::Number(n) => put(steps, Step::Number(*n)),
+        Tree::Map {
+            name,
+            down,
+            right,
+            column,
+        } => {
+            let name = copied(alloc, name)?;
+            put(
+                steps,
+                Step::Map {
+                    name,
+                    down: *down,
+                    right: *right,
+                    column: *column,
+                },
+            )
+        }
+        Tree::Negated(a) => {
+            flatten(alloc, a, steps)?;
+            put(steps, Step::Negated)
+        }
+        Tree::Not(a) => {
+            flatten(alloc, a, steps)?;
+            put(steps, Step::Not)
+        }
+        Tree::Binary(operator, a, b) => {
+            flatten(alloc, a, steps)?;
+            flatten(alloc, b, steps)?;
+            put(steps, Step::Binary(*operator))
+        }
+        Tree::Call(function, arguments) => {
+            let count = flatten_all(alloc, arguments, steps)?;
+            put(steps, Step::Call(*function, count))
+        }
+    }
+}
+
+#[cycle(flattening)]
+fn flatten_all<'a>(
+    alloc: Global,
+    arguments: &Arguments,
+    steps: &mut Vec<Step>,
+) -> Result<usize, Stop<'a>>
+    ensures ok { IfOk result (λ _. steps.new.items ≡ steps.old.items ++ postfix_all (terms_of arguments.now)) }
+    ensures counted { IfOk result (λ n. n ≡ count (terms_of arguments.now)) }
+    ensures err { IfErr result (λ e. e ≡ Memory) }
+{
+    match arguments {
+        Arguments::Empty => Ok(0),
+        Arguments::Then(a, others) => {
+            flatten(alloc, a, steps)?;
+            let count = flatten_all(alloc, others, steps)?;
+            match count.checked_add(1) {
+                Some(count) => Ok(count),
+                None => Err(Stop::Memory),
+            }
+        }
+    }
+}
+
+fn put<'a>(steps: &mut Vec<Step>, step: Step) -> Result<(), Stop<'a>>
+    ensures ok { IfOk result (λ _. steps.new.items ≡ steps.old.items ++ step ∷ []) }
+    ensures err { IfErr result (λ e. e ≡ Memory) }
+{
+    match steps.push(step) {
+        Ok(()) => Ok(()),
+        Err(_) => Err(Stop::Memory),
+    }
+}
+
+fn flat<'a>(alloc: Global, tree: &Tree) -> Result<Vec<Step>, Stop<'a>>
+    ensures ok { IfOk result (λ steps. steps.items ≡ postfix (term_of tree.now)) }
+    ensures err { IfErr result (λ e. e ≡ Memory) }
+{
+    let mut steps = Vec::new(alloc);
+    flatten(alloc, tree, &mut steps)?;
+    Ok(steps)
+}
+
 /// The assignment that the tokens of a text stand for; the text ends before the column `end`.
 pub(crate) fn assignment(
     alloc: Global,
@@ -407,10 +496,14 @@ pub(crate) fn assignment(
         Ok(read) => read,
         Err(stop) => return Err(fault_of(end, stop)),
     };
+    let steps = match flat(alloc, &tree) {
+        Ok(steps) => steps,
+        Err(stop) => return Err(fault_of(end, stop)),
+    };
     match first(left) {
         None => Ok(Assignment {
             target,
-            expr: Expr { tree },
+            expr: Expr { steps },
         }),
         Some(_) => Err(fault_of(end, Stop::At(CalcKind::Expected, left))),
     }
