@@ -12,3 +12,4 @@ pub mod Pieces
 pub mod SpellingLemmas
 pub mod OnlyLemmas
 pub mod PostfixLemmas
+pub mod WaitingLemmas

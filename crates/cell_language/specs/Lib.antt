@@ -13,6 +13,5 @@ pub mod Stopping
 pub mod Term
 pub mod Token
 pub mod Tokens
-pub mod Tree
 pub mod Unknown
 pub mod parts
