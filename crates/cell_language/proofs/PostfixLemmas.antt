@@ -1,6 +1,6 @@
 -- Steps in postfix order build the term that they are of.
 use Rattle.std.proofs.Common.{◌≡◌, ℕ, zero, suc, ◌+◌, List, [], ◌∷◌, ◌++◌, Option, Some, None, refl, sym, ap, ◌∙◌, append_assoc, append-nil, suc-add, add-suc, add-zero, zero-add}
-use Rattle.cell_language.specs.declared.function.Function.{Function}
+use Rattle.cell_tokens.specs.declared.function.Function.{Function}
 use Rattle.cell_language.specs.declared.step.Step.{Step}
 use Rattle.cell_language.specs.declared.step.Step.TheVariants as step
 use Rattle.cell_language.specs.Postfix.{postfix, postfix_all}

@@ -3,28 +3,28 @@ use Rattle.std.proofs.Common.{◌≡◌, ℕ, suc, ◌+◌, List, [], ◌∷◌,
 use Rattle.std.specs.Prelude.{Vec}
 use Rattle.std.proofs.lemmas.List.{reverse-append, nil_from_length}
 use Rattle.std.specs.Borrow.{Bor}
-use Rattle.cell_language.specs.declared.fault.CalcKind.{CalcKind}
-use Rattle.cell_language.specs.declared.fault.CalcKind.TheVariants.{Expected, Arguments as BadArguments}
-use Rattle.cell_language.specs.declared.function.Function.{Function}
-use Rattle.cell_language.specs.declared.function.Function.TheVariants.{If}
-use Rattle.cell_language.specs.declared.operator.Operator.{Operator}
+use Rattle.cell_tokens.specs.declared.fault.CalcKind.{CalcKind}
+use Rattle.cell_tokens.specs.declared.fault.CalcKind.TheVariants.{Expected, Arguments as BadArguments}
+use Rattle.cell_tokens.specs.declared.function.Function.{Function}
+use Rattle.cell_tokens.specs.declared.function.Function.TheVariants.{If}
+use Rattle.cell_tokens.specs.declared.operator.Operator.{Operator}
 use Rattle.cell_language.specs.declared.parsing.Stop.{Stop}
 use Rattle.cell_language.specs.declared.parsing.Stop.TheVariants.{Memory, At}
 use Rattle.cell_language.specs.declared.reader.Frame.{Frame}
 use Rattle.cell_language.specs.declared.reader.Frame.TheVariants as frame
 use Rattle.cell_language.specs.declared.step.Step.{Step}
 use Rattle.cell_language.specs.declared.step.Step.TheVariants as step
-use Rattle.cell_language.specs.declared.token.Placed.{Placed}
-use Rattle.cell_language.specs.declared.token.Sign.TheVariants.{Minus, Exclamation, Question, Colon, OpenParenthesis, CloseParenthesis, Comma}
-use Rattle.cell_language.specs.declared.token.Token.{Token}
-use Rattle.cell_language.specs.declared.token.Token.TheVariants as token
-use Rattle.cell_language.specs.Function.{function_of, accepts}
-use Rattle.cell_language.specs.Operator.{level_of}
+use Rattle.cell_tokens.specs.declared.token.Placed.{Placed}
+use Rattle.cell_tokens.specs.declared.token.Sign.TheVariants.{Minus, Exclamation, Question, Colon, OpenParenthesis, CloseParenthesis, Comma}
+use Rattle.cell_tokens.specs.declared.token.Token.{Token}
+use Rattle.cell_tokens.specs.declared.token.Token.TheVariants as token
+use Rattle.cell_tokens.specs.Function.{function_of, accepts}
+use Rattle.cell_tokens.specs.Operator.{level_of}
 use Rattle.cell_language.specs.Postfix.{postfix, postfix_all}
 use Rattle.cell_language.specs.Reading.{Outcome, Got, GotAll, Stops, State, Operand, Expression, next, GoesOn, IsNot, negate, invert, closed, close, judged, call, add, Reads, whole, stopped, done, expression, unread, unchosen, unasked, no_colon, some, arguments, halted, unended}
 use Rattle.cell_language.specs.Stopping.{StopsAt, IsAfter, IsCallOf}
 use Rattle.cell_language.specs.Term.{Term, Negated, Not, Binary, Call, Terms, NoTerms, Then, count}
-use Rattle.cell_language.specs.Token.{head}
+use Rattle.cell_tokens.specs.Token.{head}
 use Rattle.cell_language.specs.parts.Built.{built}
 use Rattle.cell_language.specs.parts.Waiting.{add_all, Fills, Awaits, IsRead, latest_first}
 use Rattle.cell_language.proofs.PostfixLemmas.{are_of_built}

@@ -3,12 +3,9 @@
 
 pub mod assignment;
 pub mod expr;
-pub mod fault;
-pub mod function;
-pub mod operator;
 mod parsing;
 mod reader;
 pub mod step;
-pub mod token;
-pub mod tokens;
 mod unknown;
+
+pub use cell_tokens::{fault, function, operator, token, tokens};

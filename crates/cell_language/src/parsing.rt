@@ -7,14 +7,14 @@ ghost use Rattle.cell_language.specs.Assignment.{IsAssignment};
 ghost use Rattle.cell_language.specs.GrammarFault.{IsFaultOf, column_of};
 ghost use Rattle.cell_language.specs.Reading.{next, offset, distance, offsets, GoesOn, IsNot};
 ghost use Rattle.cell_language.specs.Stopping.{IsPart, IsAfter, fault_of};
-ghost use Rattle.cell_language.specs.Token.{head, AreCategories};
+ghost use Rattle.cell_tokens.specs.Token.{head, AreCategories};
 
 use crate::assignment::Assignment;
 use crate::expr::Expr;
-use crate::fault::{CalcFault, CalcKind};
-use crate::operator::{Operator, level_of, operator_of};
+use cell_tokens::fault::{CalcFault, CalcKind};
+use cell_tokens::operator::{Operator, level_of, operator_of};
 use crate::reader::expression;
-use crate::token::{Placed, Sign, Token};
+use cell_tokens::token::{Placed, Sign, Token};
 use cell_core::name::Name;
 use std::alloc::Global;
 

@@ -3,20 +3,20 @@
 ghost use Rattle.std.specs.Prelude.{◌≡◌, ◌<◌, ◌≤◌, ◌+◌, ◌*◌, ◌++◌, [], ◌∷◌, length, vec_len, IfOk, IfErr};
 ghost use Rattle.cell_language.specs.declared.parsing.Stop.TheVariants.{Memory};
 ghost use Rattle.cell_language.specs.declared.reader.Frame.TheVariants as frame;
-ghost use Rattle.cell_language.specs.declared.token.Sign.TheVariants.{OpenParenthesis};
+ghost use Rattle.cell_tokens.specs.declared.token.Sign.TheVariants.{OpenParenthesis};
 ghost use Rattle.cell_language.specs.Postfix.{postfix};
 ghost use Rattle.cell_language.specs.Reading.{State, Operand, Expression, Got, Reads, IsNot};
 ghost use Rattle.cell_language.specs.Stopping.{StopsAt, IsAfter, IsCallOf};
-ghost use Rattle.cell_language.specs.Token.{head, name_at};
+ghost use Rattle.cell_tokens.specs.Token.{head, name_at};
 ghost use Rattle.cell_language.specs.parts.Built.{built};
 ghost use Rattle.cell_language.specs.parts.Waiting.{Awaits, IsRead, Goes, waiting, latest_first, tokens_of};
 
-use crate::fault::CalcKind;
-use crate::function::{Function, accepts, function_of};
-use crate::operator::{Operator, TOP_LEVEL, level_of};
+use cell_tokens::fault::CalcKind;
+use cell_tokens::function::{Function, accepts, function_of};
+use cell_tokens::operator::{Operator, TOP_LEVEL, level_of};
 use crate::parsing::{Stop, after_sign, copied, first, next, offsets};
 use crate::step::Step;
-use crate::token::{Placed, Sign, Token};
+use cell_tokens::token::{Placed, Sign, Token};
 use cell_core::name::Name;
 use std::alloc::Global;
 

@@ -1,7 +1,7 @@
 //! The steps of an expression.
 
-use crate::function::Function;
-use crate::operator::Operator;
+use cell_tokens::function::Function;
+use cell_tokens::operator::Operator;
 use cell_core::name::Name;
 
 /// A step of an expression in postfix order: what it takes stands before it.

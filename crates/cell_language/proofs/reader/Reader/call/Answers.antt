@@ -1,6 +1,6 @@
 use Rattle.std.proofs.Common.{sym, ap, ◌∙◌}
-use Rattle.cell_language.specs.declared.fault.CalcKind.TheVariants.{UnknownFunction, Arguments}
-use Rattle.cell_language.specs.Function.{function_of}
+use Rattle.cell_tokens.specs.declared.fault.CalcKind.TheVariants.{UnknownFunction, Arguments}
+use Rattle.cell_tokens.specs.Function.{function_of}
 use Rattle.cell_language.specs.Term.{Call, NoTerms}
 use Rattle.cell_language.specs.parts.Waiting.{waiting}
 use Rattle.cell_language.proofs.Steps.{unknown_reads, call_accepted, call_refused, none_reads}

@@ -3,7 +3,7 @@ use Rattle.std.proofs.lemmas.Int.{to_z-of_z}
 use Rattle.std.proofs.lemmas.Result.{err_from_is_err_and}
 use Rattle.cell_language.specs.Reading.{Operand}
 use Rattle.cell_language.specs.Term.{Map}
-use Rattle.cell_language.specs.Token.{name_at}
+use Rattle.cell_tokens.specs.Token.{name_at}
 use Rattle.cell_language.specs.parts.Waiting.{waiting}
 use Rattle.cell_language.proofs.Steps.{map_alone, map_moved, map_stops}
 use Rattle.cell_language.proofs.WaitingLemmas.{stops_on, operand_read}

@@ -1,4 +1,4 @@
-use Rattle.cell_language.specs.declared.fault.CalcKind.TheVariants.{Expected}
+use Rattle.cell_tokens.specs.declared.fault.CalcKind.TheVariants.{Expected}
 use Rattle.cell_language.specs.Reading.{nothing}
 use Rattle.cell_language.specs.Term.{Number}
 use Rattle.cell_language.specs.parts.Waiting.{waiting}

@@ -1,5 +1,5 @@
 use Rattle.std.proofs.Common.{subst}
-use Rattle.cell_language.specs.declared.fault.CalcKind.TheVariants.{Expected}
+use Rattle.cell_tokens.specs.declared.fault.CalcKind.TheVariants.{Expected}
 use Rattle.cell_language.specs.Stopping.{IsAfter}
 use Rattle.cell_language.specs.parts.Waiting.{waiting}
 use Rattle.cell_language.proofs.Steps.{no_operand}

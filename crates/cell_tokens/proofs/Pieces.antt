@@ -1,9 +1,9 @@
 -- How the pieces of a text follow from its front, and its tokens from those before.
 use Rattle.std.proofs.Common.{◌≡◌, ℕ, zero, suc, ◌+◌, ◌-◌, true, false, List, [], ◌∷◌, ◌++◌, length, take, drop, refl, ap, sym, ◌∙◌, arith, append_assoc, append-nil, Result, Ok, Err, inl, inr, ◌<◌}
 use Rattle.cell_text.specs.Blanks.{is_blank}
-use Rattle.cell_language.specs.Tokens.{Piece, pieces, piece_length, tokens_of, next_token, before, token_list, IsTold}
-use Rattle.cell_language.specs.declared.fault.CalcFault.{CalcFault}
-use Rattle.cell_language.specs.declared.token.Placed.{Placed}
+use Rattle.cell_tokens.specs.Tokens.{Piece, pieces, piece_length, tokens_of, next_token, before, token_list, IsTold}
+use Rattle.cell_tokens.specs.declared.fault.CalcFault.{CalcFault}
+use Rattle.cell_tokens.specs.declared.token.Placed.{Placed}
 
 -- tokens put before those of what follows
 abbrev pub prefixed : List Placed → Result (List Placed) CalcFault → Result (List Placed) CalcFault

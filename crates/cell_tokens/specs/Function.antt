@@ -1,7 +1,7 @@
 -- The functions of expressions, and how many arguments they take (r.mapcalc manual, "Functions").
 use Rattle.std.specs.Prelude.{ℕ, Bool, ◌&&◌, ◌==◌, nat_le, List, [], ◌∷◌, Option, Some, None, codes, bytes_eq, cond}
-use Rattle.cell_language.specs.declared.function.Function.{Function}
-use Rattle.cell_language.specs.declared.function.Function.TheVariants.{If, IsNull, Null, Abs, Min, Max, Mode, Row, Column, RowCount, ColumnCount, Eval, KnownMin, KnownMax, KnownMode}
+use Rattle.cell_tokens.specs.declared.function.Function.{Function}
+use Rattle.cell_tokens.specs.declared.function.Function.TheVariants.{If, IsNull, Null, Abs, Min, Max, Mode, Row, Column, RowCount, ColumnCount, Eval, KnownMin, KnownMax, KnownMode}
 
 -- the names of the functions
 abbrev pub names : List (List ℕ × Function)

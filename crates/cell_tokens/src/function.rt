@@ -1,7 +1,7 @@
 //! The functions of expressions.
 
 ghost use Rattle.std.specs.Prelude.{◌≡◌};
-ghost use Rattle.cell_language.specs.Function.{function_of, accepts};
+ghost use Rattle.cell_tokens.specs.Function.{function_of, accepts};
 
 /// A function of expressions (r.mapcalc manual, "Functions").
 #[derive(Clone, Copy, Debug, PartialEq, Eq)]
@@ -27,7 +27,7 @@ pub enum Function {
 }
 
 /// The function of a name, if there is one.
-pub(crate) fn function_of(name: &[u8]) -> Option<Function>
+pub fn function_of(name: &[u8]) -> Option<Function>
     ensures { result ≡ function_of name.now }
 {
     if name == b"if".as_slice() {
@@ -79,7 +79,7 @@ pub(crate) fn function_of(name: &[u8]) -> Option<Function>
 }
 
 /// Whether a function takes so many arguments.
-pub(crate) fn accepts(function: Function, count: usize) -> bool
+pub fn accepts(function: Function, count: usize) -> bool
     ensures { result ≡ accepts function count }
 {
     match function {

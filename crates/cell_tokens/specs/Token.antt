@@ -1,9 +1,9 @@
 -- Tokens at their columns (profile: columns count bytes from 1).
 use Rattle.std.specs.Prelude.{◌≤◌, ℕ, List, [], ◌∷◌, Option, Some, None}
-use Rattle.cell_language.specs.declared.token.Placed.{Placed}
-use Rattle.cell_language.specs.declared.token.Sign.{Sign}
-use Rattle.cell_language.specs.declared.token.Token.{Token}
-use Rattle.cell_language.specs.declared.token.Token.TheVariants as token
+use Rattle.cell_tokens.specs.declared.token.Placed.{Placed}
+use Rattle.cell_tokens.specs.declared.token.Sign.{Sign}
+use Rattle.cell_tokens.specs.declared.token.Token.{Token}
+use Rattle.cell_tokens.specs.declared.token.Token.TheVariants as token
 
 -- a number at a column
 abbrev pub number_at : (number column : ℕ) → Placed

@@ -5,10 +5,10 @@ use Rattle.std.specs.Option.{is_some}
 use Rattle.cell_core.specs.Name.{is_name, is_name_byte}
 use Rattle.cell_text.specs.Blanks.{is_blank}
 use Rattle.cell_text.specs.Digits.{is_digit, value_of_digits}
-use Rattle.cell_language.specs.Tokens.{sign_of, token_list}
-use Rattle.cell_language.specs.declared.token.Placed.{Placed}
-use Rattle.cell_language.specs.declared.token.Token.{Token}
-use Rattle.cell_language.specs.declared.token.Token.TheVariants.{Number, Name, Sign}
+use Rattle.cell_tokens.specs.Tokens.{sign_of, token_list}
+use Rattle.cell_tokens.specs.declared.token.Placed.{Placed}
+use Rattle.cell_tokens.specs.declared.token.Token.{Token}
+use Rattle.cell_tokens.specs.declared.token.Token.TheVariants.{Number, Name, Sign}
 
 -- these bytes spell a token: a number in digits, zeros before it or not, a name as it is, a sign by its own bytes
 abbrev pub Spells : List ℕ → Token → Type 0

@@ -5,14 +5,14 @@ use Rattle.std.specs.Option.{option_map, option_map_or, ok_or}
 use Rattle.cell_core.specs.Name.{is_name_byte, starts_name}
 use Rattle.cell_text.specs.Blanks.{is_blank}
 use Rattle.cell_text.specs.Digits.{is_digit, value_of_digits}
-use Rattle.cell_language.specs.declared.fault.CalcFault.{CalcFault}
-use Rattle.cell_language.specs.declared.fault.CalcKind.{CalcKind}
-use Rattle.cell_language.specs.declared.fault.CalcKind.TheVariants.{BadByte, BadNumber, FloatNumber, TooLong, BadName, Memory}
-use Rattle.cell_language.specs.declared.token.Placed.{Placed}
-use Rattle.cell_language.specs.declared.token.Sign.{Sign}
-use Rattle.cell_language.specs.declared.token.Sign.TheVariants as sign
-use Rattle.cell_language.specs.declared.token.Token.{Token}
-use Rattle.cell_language.specs.declared.token.Token.TheVariants as token
+use Rattle.cell_tokens.specs.declared.fault.CalcFault.{CalcFault}
+use Rattle.cell_tokens.specs.declared.fault.CalcKind.{CalcKind}
+use Rattle.cell_tokens.specs.declared.fault.CalcKind.TheVariants.{BadByte, BadNumber, FloatNumber, TooLong, BadName, Memory}
+use Rattle.cell_tokens.specs.declared.token.Placed.{Placed}
+use Rattle.cell_tokens.specs.declared.token.Sign.{Sign}
+use Rattle.cell_tokens.specs.declared.token.Sign.TheVariants as sign
+use Rattle.cell_tokens.specs.declared.token.Token.{Token}
+use Rattle.cell_tokens.specs.declared.token.Token.TheVariants as token
 
 -- a fault at a column
 abbrev pub fault : CalcKind → ℕ → CalcFault

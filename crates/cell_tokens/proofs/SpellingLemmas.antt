@@ -5,19 +5,19 @@ use Rattle.std.specs.Prelude.{nat_lt, if◌then◌else◌}
 use Rattle.std.proofs.lemmas.Bool.Decides.{nat_tests}
 use Rattle.std.specs.Option.{option_map, ok_or}
 use Rattle.cell_core.specs.Name.{is_name, is_name_byte, starts_name}
-use Rattle.cell_language.proofs.Longest.{piece_length-within, piece-longest}
-use Rattle.cell_language.proofs.Pieces.{pieces-blank, pieces-opened, tokens_of-cons}
+use Rattle.cell_tokens.proofs.Longest.{piece_length-within, piece-longest}
+use Rattle.cell_tokens.proofs.Pieces.{pieces-blank, pieces-opened, tokens_of-cons}
 use Rattle.cell_text.specs.Blanks.{is_blank}
 use Rattle.cell_text.specs.Digits.{value_of_digits, is_digit}
-use Rattle.cell_language.specs.Tokens.{fault, name_of, number_of, not_whole, Piece, pieces, piece_length, word_of, mark_of, token_of, placed, tokens_of, next_token, before, token_list, sign_of}
-use Rattle.cell_language.specs.Spelling.{Spells, AreSpelled}
-use Rattle.cell_language.specs.Spelling as spelling
-use Rattle.cell_language.specs.declared.fault.CalcFault.{CalcFault}
-use Rattle.cell_language.specs.declared.token.Placed.{Placed}
-use Rattle.cell_language.specs.declared.fault.CalcKind.TheVariants.{BadName, BadNumber, BadByte, TooLong}
-use Rattle.cell_language.specs.declared.token.Sign.{Sign}
-use Rattle.cell_language.specs.declared.token.Token.{Token}
-use Rattle.cell_language.specs.declared.token.Token.TheVariants as token
+use Rattle.cell_tokens.specs.Tokens.{fault, name_of, number_of, not_whole, Piece, pieces, piece_length, word_of, mark_of, token_of, placed, tokens_of, next_token, before, token_list, sign_of}
+use Rattle.cell_tokens.specs.Spelling.{Spells, AreSpelled}
+use Rattle.cell_tokens.specs.Spelling as spelling
+use Rattle.cell_tokens.specs.declared.fault.CalcFault.{CalcFault}
+use Rattle.cell_tokens.specs.declared.token.Placed.{Placed}
+use Rattle.cell_tokens.specs.declared.fault.CalcKind.TheVariants.{BadName, BadNumber, BadByte, TooLong}
+use Rattle.cell_tokens.specs.declared.token.Sign.{Sign}
+use Rattle.cell_tokens.specs.declared.token.Token.{Token}
+use Rattle.cell_tokens.specs.declared.token.Token.TheVariants as token
 
 -- a list that begins with a token comes from its two parts
 before-ok : (r : Result Placed CalcFault) (s : Result (List Placed) CalcFault) (ts : List Placed) → before r s ≡ Ok ts →

@@ -5,17 +5,17 @@ use Rattle.std.proofs.Math.Seq.{take-append_seam, drop-append_seam}
 use Rattle.std.specs.List.{list_all}
 use Rattle.std.specs.Prelude.{nat_lt, not}
 use Rattle.cell_core.specs.Name.{is_name, is_name_byte, is_name_start, starts_name}
-use Rattle.cell_language.proofs.Longest.{both_true, not_true, sign-passes, word-longest, sign-longest}
-use Rattle.cell_language.proofs.Pieces.{pieces-blank, pieces-first, tokens_of-cons}
+use Rattle.cell_tokens.proofs.Longest.{both_true, not_true, sign-passes, word-longest, sign-longest}
+use Rattle.cell_tokens.proofs.Pieces.{pieces-blank, pieces-first, tokens_of-cons}
 use Rattle.cell_text.specs.Blanks.{is_blank}
 use Rattle.cell_text.specs.Digits.{is_digit, value_of_digits}
-use Rattle.cell_language.specs.Tokens.{sign_of, Piece, pieces, piece_length, word_of, token_of, tokens_of, next_token, token_list}
-use Rattle.cell_language.specs.Spelling.{Spells, IsLongest, AreSpelled}
-use Rattle.cell_language.specs.Spelling as spelling
-use Rattle.cell_language.specs.declared.token.Placed.{Placed}
-use Rattle.cell_language.specs.declared.token.Sign.{Sign}
-use Rattle.cell_language.specs.declared.token.Token.{Token}
-use Rattle.cell_language.specs.declared.token.Token.TheVariants as token
+use Rattle.cell_tokens.specs.Tokens.{sign_of, Piece, pieces, piece_length, word_of, token_of, tokens_of, next_token, token_list}
+use Rattle.cell_tokens.specs.Spelling.{Spells, IsLongest, AreSpelled}
+use Rattle.cell_tokens.specs.Spelling as spelling
+use Rattle.cell_tokens.specs.declared.token.Placed.{Placed}
+use Rattle.cell_tokens.specs.declared.token.Sign.{Sign}
+use Rattle.cell_tokens.specs.declared.token.Token.{Token}
+use Rattle.cell_tokens.specs.declared.token.Token.TheVariants as token
 
 -- bytes that begin with no blank
 abbrev begins_piece : List ℕ → Bool

@@ -1,8 +1,8 @@
 use Rattle.std.proofs.Common.{arith, ◌∙◌, sym}
 use Rattle.std.proofs.lemmas.Result.{err_from_is_err_and}
-use Rattle.cell_language.proofs.SpellingLemmas.{are_spelled, are_few}
-use Rattle.cell_language.proofs.Pieces.{after_blank, after_token, at_fault, at_end, at_start}
-use Rattle.cell_language.proofs.tokens.tokens.Goals as goal
+use Rattle.cell_tokens.proofs.SpellingLemmas.{are_spelled, are_few}
+use Rattle.cell_tokens.proofs.Pieces.{after_blank, after_token, at_fault, at_end, at_start}
+use Rattle.cell_tokens.proofs.tokens.tokens.Goals as goal
 
 pub pieces-init : goal.pieces-init
 pieces-init c = (at_start _ _ _ c.new-found.ensures.items c.new-found.ensures.len, omega arith)

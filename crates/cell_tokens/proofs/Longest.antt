@@ -7,9 +7,9 @@ use Rattle.std.specs.List.{list_all, prefix_len, starts_with}
 use Rattle.std.specs.Option.{is_some, option_map, option_map_or}
 use Rattle.std.specs.Prelude.{find, map, not, nat_eq, bytes_eq}
 use Rattle.cell_core.specs.Name.{is_name_byte}
-use Rattle.cell_language.specs.Spelling.{is_piece, IsLongest}
-use Rattle.cell_language.specs.Tokens.{triple_signs, double_signs, single_signs, signs, sign_of, mark_length, piece_length}
-use Rattle.cell_language.specs.declared.token.Sign.{Sign}
+use Rattle.cell_tokens.specs.Spelling.{is_piece, IsLongest}
+use Rattle.cell_tokens.specs.Tokens.{triple_signs, double_signs, single_signs, signs, sign_of, mark_length, piece_length}
+use Rattle.cell_tokens.specs.declared.token.Sign.{Sign}
 
 pub both_true : (a b : Bool) → (a && b) ≡ true → (a ≡ true) × (b ≡ true)
 both_true true b h = (refl, h)

@@ -1,7 +1,7 @@
 //! The operators between two operands.
 
 ghost use Rattle.std.specs.Prelude.{◌≡◌};
-ghost use Rattle.cell_language.specs.Operator.{operator_of, level_of};
+ghost use Rattle.cell_tokens.specs.Operator.{operator_of, level_of};
 
 use crate::token::{Sign, Token};
 
@@ -28,7 +28,7 @@ pub enum Operator {
 }
 
 /// The operator that a token is, if it stands between two operands.
-pub(crate) fn operator_of(token: &Token) -> Option<Operator>
+pub fn operator_of(token: &Token) -> Option<Operator>
     ensures { result ≡ operator_of token.now }
 {
     let Token::Sign(sign) = token else {
@@ -55,10 +55,10 @@ pub(crate) fn operator_of(token: &Token) -> Option<Operator>
 }
 
 /// The level of what may have any operator between operands.
-pub(crate) const TOP_LEVEL: u32 = 6;
+pub const TOP_LEVEL: u32 = 6;
 
 /// The level of an operator's right operand, which is one below its own: 0 binds tightest.
-pub(crate) fn level_of(operator: Operator) -> u32
+pub fn level_of(operator: Operator) -> u32
     ensures { result ≡ level_of operator }
 {
     match operator {

@@ -1,10 +1,10 @@
 -- Operators, and how tightly they bind (r.mapcalc manual, "Operators and order of precedence").
 use Rattle.std.specs.Prelude.{ℕ, Option, Some, None}
-use Rattle.cell_language.specs.declared.operator.Operator.{Operator}
-use Rattle.cell_language.specs.declared.operator.Operator.TheVariants as operator
-use Rattle.cell_language.specs.declared.token.Sign.TheVariants as sign
-use Rattle.cell_language.specs.declared.token.Token.{Token}
-use Rattle.cell_language.specs.declared.token.Token.TheVariants as token
+use Rattle.cell_tokens.specs.declared.operator.Operator.{Operator}
+use Rattle.cell_tokens.specs.declared.operator.Operator.TheVariants as operator
+use Rattle.cell_tokens.specs.declared.token.Sign.TheVariants as sign
+use Rattle.cell_tokens.specs.declared.token.Token.{Token}
+use Rattle.cell_tokens.specs.declared.token.Token.TheVariants as token
 
 -- a token as an operator between two operands
 abbrev pub operator_of : Token → Option Operator
