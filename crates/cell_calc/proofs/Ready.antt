@@ -5,7 +5,7 @@ use Rattle.std.proofs.lemmas.Int.{ints}
 use Rattle.cell_core.specs.Grid.{Grid, CellValue}
 use Rattle.cell_calc.specs.parts.Along.{IsReady, AreReady, AreAllReady, AreOver, AreAllOver}
 use Rattle.cell_calc.specs.Window.{IsOver}
-use Rattle.cell_language.specs.declared.operator.Operator.{Operator}
+use Rattle.cell_tokens.specs.declared.operator.Operator.{Operator}
 use Rattle.cell_calc.specs.Formula.{Formula, Number, Map, Negated, Not, Binary, Call, Formulas, NoFormulas, Then}
 use Rattle.cell_calc.specs.Window.{HasReach}
 use Rattle.cell_language.specs.Grammatical.{up_by, down_by}

@@ -6,7 +6,7 @@ use Rattle.std.proofs.lemmas.Int.{ints}
 use Rattle.std.proofs.lemmas.Slice.{take-put_mid}
 use borrow.Rule.Slice.PartMut.{put_mid, mid_of}
 use Rattle.cell_core.specs.Grid.{CellValue}
-use Rattle.cell_language.specs.declared.operator.Operator.{Operator}
+use Rattle.cell_tokens.specs.declared.operator.Operator.{Operator}
 use Rattle.cell_calc.specs.Value.{applied, item_at}
 use Rattle.cell_calc.specs.parts.Rows.{at}
 

@@ -1,8 +1,8 @@
 -- Worked rows, computed by the definition of value.
 use Rattle.std.proofs.Common.{◌≡◌, pos, negsuc, [], Some, None, refl}
 use Rattle.cell_core.specs.Grid.{CellValue}
-use Rattle.cell_language.specs.declared.function.Function.TheVariants as function
-use Rattle.cell_language.specs.declared.operator.Operator.TheVariants as operator
+use Rattle.cell_tokens.specs.declared.function.Function.TheVariants as function
+use Rattle.cell_tokens.specs.declared.operator.Operator.TheVariants as operator
 use Rattle.cell_calc.specs.Formula.{Formula, Number, Negated, Binary, Call, NoFormulas, Then}
 use Rattle.cell_calc.specs.Value.{value}
 

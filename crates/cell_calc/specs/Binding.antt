@@ -4,8 +4,8 @@ use Rattle.std.specs.Option.{unwrap_or}
 use Rattle.cell_core.specs.Name.{place_of}
 use Rattle.cell_calc.specs.Formula as formula
 use Rattle.cell_calc.specs.Formula.{Formula, Formulas}
-use Rattle.cell_language.specs.declared.fault.CalcFault.{CalcFault}
-use Rattle.cell_language.specs.declared.fault.CalcKind.TheVariants.{UnknownMap, Memory}
+use Rattle.cell_tokens.specs.declared.fault.CalcFault.{CalcFault}
+use Rattle.cell_tokens.specs.declared.fault.CalcKind.TheVariants.{UnknownMap, Memory}
 use Rattle.cell_language.specs.Term.{Term, Number, Map, Negated, Not, Binary, Call, Terms, NoTerms, Then}
 use Rattle.cell_language.specs.Unknown.{first_unknown}
 

@@ -1,7 +1,7 @@
 -- Which maps an expression reads, and how far up and down.
 use Rattle.std.specs.Prelude.{◌≤◌, ◌<◌, ◌^◌, IsTrue, ℕ, ◌+◌, max, ◌==◌, if◌then◌else◌}
 use Rattle.cell_calc.specs.Formula.{Formula, Number, Map, Negated, Not, Binary, Call, Formulas, NoFormulas, Then, count}
-use Rattle.cell_language.specs.Function.{accepts}
+use Rattle.cell_tokens.specs.Function.{accepts}
 use Rattle.cell_language.specs.Grammatical.{up_by, down_by}
 
 abbrev mutual

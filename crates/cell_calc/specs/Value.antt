@@ -4,10 +4,10 @@ use Rattle.cell_core.specs.Grid.{Grid, CellValue}
 use Rattle.cell_core.specs.Region.{RegionValue}
 use Rattle.cell_calc.specs.Cells.{fit, is_zero, is_null, truth, of_one, of_both, known_and, known_or, first_of, last_of, if_of, least, greatest, mode, most_frequent, known}
 use Rattle.cell_calc.specs.Formula.{Formula, Number, Map, Negated, Not, Binary, Call, Formulas, NoFormulas, Then}
-use Rattle.cell_language.specs.declared.function.Function.{Function}
-use Rattle.cell_language.specs.declared.function.Function.TheVariants as function
-use Rattle.cell_language.specs.declared.operator.Operator.{Operator}
-use Rattle.cell_language.specs.declared.operator.Operator.TheVariants as operator
+use Rattle.cell_tokens.specs.declared.function.Function.{Function}
+use Rattle.cell_tokens.specs.declared.function.Function.TheVariants as function
+use Rattle.cell_tokens.specs.declared.operator.Operator.{Operator}
+use Rattle.cell_tokens.specs.declared.operator.Operator.TheVariants as operator
 
 -- an item of a list by any whole number, counted from 0; another thing outside
 abbrev pub item_at : {A : Type 0} → A → List A → ℤ → A

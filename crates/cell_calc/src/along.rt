@@ -5,7 +5,7 @@ ghost use Rattle.cell_calc.specs.Formula.{Call, NoFormulas};
 ghost use Rattle.cell_calc.specs.Reach.{IsProper, AreProper};
 ghost use Rattle.cell_calc.specs.parts.Along.{AreReady, AreAllReady, AreValues, AreJoined, AreChosen, AreColumns};
 ghost use Rattle.cell_calc.specs.parts.Tree.{formula_of, formulas_of};
-ghost use Rattle.cell_language.specs.declared.function.Function.TheVariants.{If};
+ghost use Rattle.cell_tokens.specs.declared.function.Function.TheVariants.{If};
 
 use crate::calls::{call, call_of_one};
 use crate::formula::{Node, Nodes};

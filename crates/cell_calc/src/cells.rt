@@ -4,7 +4,7 @@ ghost use Rattle.std.specs.Prelude.{◌≡◌, pos, ◌+ℤ◌, ◌-ℤ◌, ◌*
 ghost use Rattle.cell_calc.specs.Cells.{fit, truth, chosen, lesser, greater, is_zero, is_false, is_true, is_null, known_and, known_or, of_one};
 ghost use Rattle.cell_calc.specs.Value.{negated, inverted, size_of, applied};
 ghost use Rattle.cell_calc.specs.parts.Joins.{known_lesser, known_greater};
-ghost use Rattle.cell_language.specs.declared.operator.Operator.TheVariants as operator;
+ghost use Rattle.cell_tokens.specs.declared.operator.Operator.TheVariants as operator;
 
 use cell_core::cell::Cell;
 

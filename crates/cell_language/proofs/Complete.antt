@@ -2,23 +2,23 @@
 use Rattle.std.proofs.Common.{◌≡◌, ℕ, zero, suc, ◌≤◌, ℤ, List, [], ◌∷◌, ◌++◌, Option, Some, None, Ok, true, refl, sym, ap, ◌∙◌, subst, arith, append_assoc, append-nil}
 use Rattle.std.specs.Prelude.{nat_le}
 use Rattle.std.proofs.lemmas.Bool.Decides.{nat_tests}
-use Rattle.cell_language.specs.declared.fault.CalcKind.{CalcKind}
-use Rattle.cell_language.specs.declared.function.Function.{Function}
-use Rattle.cell_language.specs.declared.function.Function.TheVariants.{If}
-use Rattle.cell_language.specs.declared.operator.Operator.{Operator}
-use Rattle.cell_language.specs.declared.token.Placed.{Placed}
-use Rattle.cell_language.specs.declared.token.Sign.{Sign}
-use Rattle.cell_language.specs.declared.token.Sign.TheVariants.{Question, Colon, OpenParenthesis, CloseParenthesis, OpenBracket, CloseBracket, Comma}
-use Rattle.cell_language.specs.declared.token.Token.{Token}
-use Rattle.cell_language.specs.declared.token.Token.TheVariants as token
-use Rattle.cell_language.specs.Function.{function_of, accepts}
+use Rattle.cell_tokens.specs.declared.fault.CalcKind.{CalcKind}
+use Rattle.cell_tokens.specs.declared.function.Function.{Function}
+use Rattle.cell_tokens.specs.declared.function.Function.TheVariants.{If}
+use Rattle.cell_tokens.specs.declared.operator.Operator.{Operator}
+use Rattle.cell_tokens.specs.declared.token.Placed.{Placed}
+use Rattle.cell_tokens.specs.declared.token.Sign.{Sign}
+use Rattle.cell_tokens.specs.declared.token.Sign.TheVariants.{Question, Colon, OpenParenthesis, CloseParenthesis, OpenBracket, CloseBracket, Comma}
+use Rattle.cell_tokens.specs.declared.token.Token.{Token}
+use Rattle.cell_tokens.specs.declared.token.Token.TheVariants as token
+use Rattle.cell_tokens.specs.Function.{function_of, accepts}
 use Rattle.cell_language.specs.Grammar as grammar
 use Rattle.cell_language.specs.Grammar.{IsOffset, AreOffsets, Stands, IsExpression, AreCalled, AreArguments, below, joined, choice}
-use Rattle.cell_language.specs.Operator.{operator_of, level_of, top}
+use Rattle.cell_tokens.specs.Operator.{operator_of, level_of, top}
 use Rattle.cell_language.specs.Reading as reading
 use Rattle.cell_language.specs.Reading.{Part, and_then, offset, to_bracket, Outcome, Got, GotAll, Stops, State, Operand, Whole, More, Expression, Choice, AfterQuestion, Called, Arguments, Onward, below_level, next, IsNot, IsAlone, BeginsNone, negate, invert, close, join, choose, move, judged, call, add, Reads, nothing, whole, stopped, done, more, expression, unread, unchosen, asked, unasked, no_colon, otherwise, arguments, halted, unended}
 use Rattle.cell_language.specs.Term.{Term, Number, Map, Binary, Call, Terms, NoTerms, Then, count}
-use Rattle.cell_language.specs.Token.{name_at, sign_at, head}
+use Rattle.cell_tokens.specs.Token.{name_at, sign_at, head}
 
 -- what is there once
 same_some : {A : Type 0} (x : Option A) (a b : A) → x ≡ Some a → x ≡ Some b → a ≡ b

@@ -2,23 +2,23 @@
 use Rattle.std.proofs.Common.{◌≡◌, ℕ, List, [], ◌∷◌, ◌++◌, Option, Some, refl, sym, ap, ◌∙◌, subst, append-nil, inl, inr}
 use Rattle.std.specs.Prelude.{◌+◌, length, Result, Ok, Err, IfErr, MatchResult}
 use Rattle.cell_language.specs.declared.assignment.Assignment.{Assignment}
-use Rattle.cell_language.specs.declared.fault.CalcFault.{CalcFault}
-use Rattle.cell_language.specs.declared.fault.CalcKind.{CalcKind}
-use Rattle.cell_language.specs.declared.fault.CalcKind.TheVariants.{Expected, UnknownFunction, Arguments as BadArguments, BadOffset}
+use Rattle.cell_tokens.specs.declared.fault.CalcFault.{CalcFault}
+use Rattle.cell_tokens.specs.declared.fault.CalcKind.{CalcKind}
+use Rattle.cell_tokens.specs.declared.fault.CalcKind.TheVariants.{Expected, UnknownFunction, Arguments as BadArguments, BadOffset}
 use Rattle.cell_language.specs.declared.parsing.Stop.{Stop}
 use Rattle.cell_language.specs.declared.parsing.Stop.TheVariants.{Memory, At}
-use Rattle.cell_language.specs.declared.token.Placed.{Placed}
-use Rattle.cell_language.specs.declared.token.Sign.TheVariants.{Assign}
-use Rattle.cell_language.specs.declared.token.Token.{Token}
-use Rattle.cell_language.specs.declared.token.Token.TheVariants as token
+use Rattle.cell_tokens.specs.declared.token.Placed.{Placed}
+use Rattle.cell_tokens.specs.declared.token.Sign.TheVariants.{Assign}
+use Rattle.cell_tokens.specs.declared.token.Token.{Token}
+use Rattle.cell_tokens.specs.declared.token.Token.TheVariants as token
 use Rattle.cell_language.specs.Assignment.{IsAssignment}
 use Rattle.cell_language.specs.Grammar.{IsExpression}
 use Rattle.cell_language.specs.GrammarFault.{column_of, IsNone, IsUnexpected, IsInBrackets, Says, IsGrammarFault, IsFaultOf, IsTextFault}
 use Rattle.cell_language.specs.Reading.{Outcome, Got, GotAll, Stops, Expression, IsNot, Reads, tail}
 use Rattle.cell_language.specs.Stopping.{StopsAt, IsAfter, fault_of}
 use Rattle.cell_language.specs.Term.{Term}
-use Rattle.cell_language.specs.Token.{name_at, sign_at, head}
-use Rattle.cell_language.specs.Tokens.{token_list}
+use Rattle.cell_tokens.specs.Token.{name_at, sign_at, head}
+use Rattle.cell_tokens.specs.Tokens.{token_list}
 use Rattle.cell_language.proofs.Complete.{one_outcome, read_all}
 use Rattle.cell_language.proofs.InBrackets.{far_in_brackets}
 use Rattle.cell_language.proofs.Law.{one}

@@ -2,22 +2,22 @@
 use Rattle.std.proofs.Common.{◌≡◌, ℕ, ℤ, pos, neg_ℤ, List, [], ◌∷◌, ◌++◌, Option, Some, None, Ok, Err, Bool, true, false, refl, sym, ap, ◌∙◌, subst, append_assoc}
 use Rattle.std.specs.Prelude.{nat_le, if◌then◌else◌}
 use Rattle.std.proofs.lemmas.List.{append_cancel_right}
-use Rattle.cell_language.specs.declared.fault.CalcKind.{CalcKind}
-use Rattle.cell_language.specs.declared.fault.CalcKind.TheVariants.{Expected, BadOffset}
-use Rattle.cell_language.specs.declared.function.Function.{Function}
-use Rattle.cell_language.specs.declared.operator.Operator.{Operator}
-use Rattle.cell_language.specs.declared.token.Placed.{Placed}
-use Rattle.cell_language.specs.declared.token.Sign.TheVariants.{Plus, Minus, OpenParenthesis, CloseParenthesis, OpenBracket, CloseBracket, Comma}
-use Rattle.cell_language.specs.declared.token.Token.{Token}
-use Rattle.cell_language.specs.declared.token.Token.TheVariants as token
-use Rattle.cell_language.specs.Function.{accepts}
+use Rattle.cell_tokens.specs.declared.fault.CalcKind.{CalcKind}
+use Rattle.cell_tokens.specs.declared.fault.CalcKind.TheVariants.{Expected, BadOffset}
+use Rattle.cell_tokens.specs.declared.function.Function.{Function}
+use Rattle.cell_tokens.specs.declared.operator.Operator.{Operator}
+use Rattle.cell_tokens.specs.declared.token.Placed.{Placed}
+use Rattle.cell_tokens.specs.declared.token.Sign.TheVariants.{Plus, Minus, OpenParenthesis, CloseParenthesis, OpenBracket, CloseBracket, Comma}
+use Rattle.cell_tokens.specs.declared.token.Token.{Token}
+use Rattle.cell_tokens.specs.declared.token.Token.TheVariants as token
+use Rattle.cell_tokens.specs.Function.{accepts}
 use Rattle.cell_language.specs.Grammar.{IsOffset}
 use Rattle.cell_language.specs.GrammarFault as grammar_fault
 use Rattle.cell_language.specs.GrammarFault.{IsOffsetSign, IsBeforeNumber, IsInBrackets}
 use Rattle.cell_language.specs.Reading as reading
 use Rattle.cell_language.specs.Reading.{Part, tail, and_then, distance_at, distance, signed, offset_at, offset, comma_at, bracket_at, to_bracket, Outcome, Got, GotAll, Stops, State, Operand, Whole, More, Expression, Choice, AfterQuestion, Called, Arguments, Onward, negate, invert, closed, close, join, choose, move, judged, call, add, Reads, nothing, whole, stopped, done, more, expression, unread, unchosen, asked, unasked, no_colon, otherwise, arguments, halted, unended}
 use Rattle.cell_language.specs.Term.{Term, count}
-use Rattle.cell_language.specs.Token.{name_at, sign_at, head}
+use Rattle.cell_tokens.specs.Token.{name_at, sign_at, head}
 use Rattle.cell_language.proofs.Sound.{IsPartOf, IsSign, AreBoth, front_is, sound_offset, sound_offsets, sound_comma, sound_bracket}
 
 -- a number that is too far, after tokens of which this holds

@@ -7,7 +7,5 @@ pub mod Steps
 pub mod Faults
 pub mod Grammatical
 pub mod InBrackets
-pub mod Longest
-pub mod Pieces
-pub mod SpellingLemmas
-pub mod OnlyLemmas
+pub mod PostfixLemmas
+pub mod WaitingLemmas

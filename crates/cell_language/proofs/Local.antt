@@ -1,20 +1,20 @@
 -- Reading depends on the tokens read and on the one at the front of the rest.
 use Rattle.std.proofs.Common.{◌≡◌, ℕ, ℤ, pos, neg_ℤ, List, [], ◌∷◌, ◌++◌, Option, Some, None, Ok, Err, Bool, true, false, refl, sym, ap, ◌∙◌, subst, append_assoc}
 use Rattle.std.specs.Prelude.{nat_le, if◌then◌else◌}
-use Rattle.cell_language.specs.declared.fault.CalcKind.TheVariants.{Expected, BadOffset}
-use Rattle.cell_language.specs.declared.function.Function.{Function}
-use Rattle.cell_language.specs.declared.operator.Operator.{Operator}
-use Rattle.cell_language.specs.declared.token.Placed.{Placed}
-use Rattle.cell_language.specs.declared.token.Sign.{Sign}
-use Rattle.cell_language.specs.declared.token.Sign.TheVariants.{Plus, Minus, Exclamation, Question, Colon, OpenParenthesis, CloseParenthesis, OpenBracket, CloseBracket, Comma}
-use Rattle.cell_language.specs.declared.token.Token.{Token}
-use Rattle.cell_language.specs.declared.token.Token.TheVariants as token
-use Rattle.cell_language.specs.Function.{function_of, accepts}
-use Rattle.cell_language.specs.Operator.{level_of, top}
+use Rattle.cell_tokens.specs.declared.fault.CalcKind.TheVariants.{Expected, BadOffset}
+use Rattle.cell_tokens.specs.declared.function.Function.{Function}
+use Rattle.cell_tokens.specs.declared.operator.Operator.{Operator}
+use Rattle.cell_tokens.specs.declared.token.Placed.{Placed}
+use Rattle.cell_tokens.specs.declared.token.Sign.{Sign}
+use Rattle.cell_tokens.specs.declared.token.Sign.TheVariants.{Plus, Minus, Exclamation, Question, Colon, OpenParenthesis, CloseParenthesis, OpenBracket, CloseBracket, Comma}
+use Rattle.cell_tokens.specs.declared.token.Token.{Token}
+use Rattle.cell_tokens.specs.declared.token.Token.TheVariants as token
+use Rattle.cell_tokens.specs.Function.{function_of, accepts}
+use Rattle.cell_tokens.specs.Operator.{level_of, top}
 use Rattle.cell_language.specs.Reading as reading
 use Rattle.cell_language.specs.Reading.{Part, tail, and_then, distance_at, distance, signed, offset_at, offset, comma_at, bracket_at, to_bracket, Outcome, Got, GotAll, Stops, State, Operand, Whole, More, Expression, Choice, AfterQuestion, Called, Arguments, Onward, goes_on, next, IsNot, IsAlone, BeginsNone, negate, invert, closed, close, join, choose, move, judged, call, add, Reads, nothing, whole, stopped, done, more, expression, unread, unchosen, asked, unasked, no_colon, otherwise, arguments, halted, unended}
 use Rattle.cell_language.specs.Term.{Term, count}
-use Rattle.cell_language.specs.Token.{number_at, name_at, sign_at, head}
+use Rattle.cell_tokens.specs.Token.{number_at, name_at, sign_at, head}
 use Rattle.cell_language.proofs.Sound.{front_is}
 
 -- what is left of the tokens

@@ -2,26 +2,23 @@
 use Rattle.std.proofs.Common.{◌≡◌, ℕ, ℤ, pos, List, [], ◌∷◌, Some, None, Ok, Err, true, false, refl, sym, ap, ◌∙◌, subst}
 use Rattle.std.specs.Prelude.{Result, IfOk, IfErr, MatchResult}
 use Rattle.std.specs.Borrow.{Bor}
-use Rattle.cell_language.specs.declared.fault.CalcKind.{CalcKind}
-use Rattle.cell_language.specs.declared.fault.CalcKind.TheVariants.{Expected, UnknownFunction, Arguments as BadArguments}
-use Rattle.cell_language.specs.declared.function.Function.{Function}
-use Rattle.cell_language.specs.declared.operator.Operator.{Operator}
+use Rattle.cell_tokens.specs.declared.fault.CalcKind.{CalcKind}
+use Rattle.cell_tokens.specs.declared.fault.CalcKind.TheVariants.{Expected, UnknownFunction, Arguments as BadArguments}
+use Rattle.cell_tokens.specs.declared.function.Function.{Function}
+use Rattle.cell_tokens.specs.declared.operator.Operator.{Operator}
 use Rattle.cell_language.specs.declared.parsing.Stop.{Stop}
 use Rattle.cell_language.specs.declared.parsing.Stop.TheVariants.{Memory, At}
-use Rattle.cell_language.specs.declared.token.Placed.{Placed}
-use Rattle.cell_language.specs.declared.token.Sign.{Sign}
-use Rattle.cell_language.specs.declared.token.Sign.TheVariants.{Minus, Exclamation, Question, Colon, OpenParenthesis, CloseParenthesis, OpenBracket, Comma}
-use Rattle.cell_language.specs.declared.token.Token.TheVariants as token
-use Rattle.cell_language.specs.declared.tree.Arguments.{Arguments as CallArguments}
-use Rattle.cell_language.specs.declared.tree.Tree.{Tree}
-use Rattle.cell_language.specs.Function.{function_of, accepts}
-use Rattle.cell_language.specs.Operator.{level_of}
+use Rattle.cell_tokens.specs.declared.token.Placed.{Placed}
+use Rattle.cell_tokens.specs.declared.token.Sign.{Sign}
+use Rattle.cell_tokens.specs.declared.token.Sign.TheVariants.{Minus, Exclamation, Question, Colon, OpenParenthesis, CloseParenthesis, OpenBracket, Comma}
+use Rattle.cell_tokens.specs.declared.token.Token.TheVariants as token
+use Rattle.cell_tokens.specs.Function.{function_of, accepts}
+use Rattle.cell_tokens.specs.Operator.{level_of}
 use Rattle.cell_language.specs.Reading as reading
 use Rattle.cell_language.specs.Reading.{Part, tail, Outcome, Got, GotAll, Stops, State, Operand, Whole, More, Expression, Choice, AfterQuestion, Called, Arguments, Onward, next, GoesOn, IsNot, BeginsNone, negate, invert, closed, close, join, choose, move, judged, call, add, Reads, nothing, whole, stopped, more, expression, asked, otherwise}
 use Rattle.cell_language.specs.Stopping.{StopsAt, IsStop, IsPartStop, IsAfter, IsCallOf}
 use Rattle.cell_language.specs.Term.{Term, Number, Map, Call, Terms, NoTerms, Then, count}
-use Rattle.cell_language.specs.Token.{number_at, name_at, sign_at, head}
-use Rattle.cell_language.specs.Tree.{term_of, terms_of}
+use Rattle.cell_tokens.specs.Token.{number_at, name_at, sign_at, head}
 use Rattle.cell_language.proofs.Sound.{front_is}
 
 -- where one state stops, so does the other
@@ -109,24 +106,3 @@ pub number_reads : (n : ℕ) (s : Placed) (ts us : List Placed) → ts ≡ s ∷
 number_reads n s ts us e f =
     let f' = front_is ts (token.Number n) (ap head e ∙ ap (λ x. Some x) f) in
     subst (λ l. Reads (Operand l) (Got (Number n) us)) (sym (f'.1 ∙ ap (λ l. number_at n f'.0 ∷ tail l) e)) reading.number
-
--- what stands in parentheses, in the words of `closed`
-pub closed_ok : (ts us : List Placed) → IsAfter OpenParenthesis ts us → (a : Term) (rest : List Placed) (r : Result (Tree × Bor (List Placed)) Stop) → Reads (Expression us) (Got a rest)
-    → MatchResult r (λ x. closed (head rest) a rest ≡ Got (term_of x.0) x.1.now) (λ e. IsStop (closed (head rest) a rest) e) → IfOk r (λ x. Reads (Operand ts) (Got (term_of x.0) x.1.now))
-closed_ok ts us h a rest (Ok x) r told = subst (Reads (Operand ts)) told (inside_reads ts us (Got a rest) h r)
-closed_ok ts us h a rest (Err e) r told = tt
-
-pub closed_err : (ts us : List Placed) → IsAfter OpenParenthesis ts us → (a : Term) (rest : List Placed) (r : Result (Tree × Bor (List Placed)) Stop) → Reads (Expression us) (Got a rest)
-    → MatchResult r (λ x. closed (head rest) a rest ≡ Got (term_of x.0) x.1.now) (λ e. IsStop (closed (head rest) a rest) e) → IfErr r (λ e. StopsAt (Operand ts) e)
-closed_err ts us h a rest (Ok x) r told = tt
-closed_err ts us h a rest (Err Memory) r told = tt
-closed_err ts us h a rest (Err (At kind left)) r told = subst (Reads (Operand ts)) told (inside_reads ts us (Got a rest) h r)
-
--- arguments are what follows the parenthesis, where it does not close
-pub some_ok : (ts : List Placed) (r : Result (CallArguments × Bor (List Placed)) Stop) → IsNot CloseParenthesis (head ts) → IfOk r (λ x. Reads (Arguments ts) (GotAll (terms_of x.0) x.1.now)) → IfOk r (λ x. Reads (Called ts) (GotAll (terms_of x.0) x.1.now))
-some_ok ts (Ok x) n h = reading.some n h
-some_ok ts (Err e) n h = tt
-
-pub some_err : (ts : List Placed) (r : Result (CallArguments × Bor (List Placed)) Stop) → IsNot CloseParenthesis (head ts) → IfErr r (λ e. StopsAt (Arguments ts) e) → IfErr r (λ e. StopsAt (Called ts) e)
-some_err ts (Ok x) n h = tt
-some_err ts (Err e) n h = stop_on (Arguments ts) (Called ts) (λ kind rest r. reading.some n r) e h

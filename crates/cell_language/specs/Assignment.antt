@@ -1,11 +1,11 @@
 -- Which lists of tokens stand for which assignments (r.mapcalc manual).
 use Rattle.std.specs.Prelude.{◌≡◌, ℕ, List, ◌∷◌, IsOkAnd}
 use Rattle.cell_language.specs.declared.assignment.Assignment.{Assignment}
-use Rattle.cell_language.specs.declared.token.Placed.{Placed}
-use Rattle.cell_language.specs.declared.token.Sign.TheVariants.{Assign}
+use Rattle.cell_tokens.specs.declared.token.Placed.{Placed}
+use Rattle.cell_tokens.specs.declared.token.Sign.TheVariants.{Assign}
 use Rattle.cell_language.specs.Grammar.{IsExpression}
-use Rattle.cell_language.specs.Token.{name_at, sign_at}
-use Rattle.cell_language.specs.Tokens.{token_list}
+use Rattle.cell_tokens.specs.Token.{name_at, sign_at}
+use Rattle.cell_tokens.specs.Tokens.{token_list}
 
 -- assignment = NAME "=" expr
 abbrev pub IsAssignment : List Placed → Assignment → Type 0

@@ -1,18 +1,18 @@
 -- Why a list of tokens stands for no assignment (profile).
 use Rattle.std.specs.Prelude.{◌≡◌, ◌<◌, ◌+◌, ℕ, ℤ, List, [], ◌∷◌, ◌++◌, length, Some, None, false, ◌⊎◌, MatchResult}
 use Rattle.cell_language.specs.declared.assignment.Assignment.{Assignment}
-use Rattle.cell_language.specs.declared.fault.CalcFault.{CalcFault}
-use Rattle.cell_language.specs.declared.fault.CalcKind.{CalcKind}
-use Rattle.cell_language.specs.declared.fault.CalcKind.TheVariants.{Expected, UnknownFunction, Arguments, BadOffset}
-use Rattle.cell_language.specs.declared.function.Function.{Function}
-use Rattle.cell_language.specs.declared.token.Placed.{Placed}
-use Rattle.cell_language.specs.declared.token.Sign.TheVariants.{OpenParenthesis, OpenBracket, Comma, Minus, Plus}
+use Rattle.cell_tokens.specs.declared.fault.CalcFault.{CalcFault}
+use Rattle.cell_tokens.specs.declared.fault.CalcKind.{CalcKind}
+use Rattle.cell_tokens.specs.declared.fault.CalcKind.TheVariants.{Expected, UnknownFunction, Arguments, BadOffset}
+use Rattle.cell_tokens.specs.declared.function.Function.{Function}
+use Rattle.cell_tokens.specs.declared.token.Placed.{Placed}
+use Rattle.cell_tokens.specs.declared.token.Sign.TheVariants.{OpenParenthesis, OpenBracket, Comma, Minus, Plus}
 use Rattle.cell_language.specs.Assignment.{IsAssignment}
-use Rattle.cell_language.specs.Function.{function_of, accepts}
+use Rattle.cell_tokens.specs.Function.{function_of, accepts}
 use Rattle.cell_language.specs.Grammar.{IsOffset, AreCalled}
 use Rattle.cell_language.specs.Term.{Terms, count}
-use Rattle.cell_language.specs.Token.{number_at, name_at, sign_at}
-use Rattle.cell_language.specs.Tokens.{no_memory, token_list}
+use Rattle.cell_tokens.specs.Token.{number_at, name_at, sign_at}
+use Rattle.cell_tokens.specs.Tokens.{no_memory, token_list}
 
 -- the column of the first of the tokens, or the end of the text
 abbrev pub column_of : (end : ℕ) → List Placed → ℕ

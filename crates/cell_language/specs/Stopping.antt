@@ -1,17 +1,17 @@
 -- Where the parser stops.
 use Rattle.std.specs.Borrow.{Bor}
 use Rattle.std.specs.Prelude.{MatchResult, Ok, Result, ◌≡◌, ℕ, List, Some, Err}
-use Rattle.cell_language.specs.declared.fault.CalcFault.{CalcFault}
-use Rattle.cell_language.specs.declared.fault.CalcKind.TheVariants as kind
+use Rattle.cell_tokens.specs.declared.fault.CalcFault.{CalcFault}
+use Rattle.cell_tokens.specs.declared.fault.CalcKind.TheVariants as kind
 use Rattle.cell_language.specs.declared.parsing.Stop.{Stop}
 use Rattle.cell_language.specs.declared.parsing.Stop.TheVariants.{Memory, At}
-use Rattle.cell_language.specs.declared.token.Placed.{Placed}
-use Rattle.cell_language.specs.declared.token.Sign.{Sign}
-use Rattle.cell_language.specs.declared.token.Sign.TheVariants.{OpenParenthesis}
-use Rattle.cell_language.specs.declared.token.Token.TheVariants as token
+use Rattle.cell_tokens.specs.declared.token.Placed.{Placed}
+use Rattle.cell_tokens.specs.declared.token.Sign.{Sign}
+use Rattle.cell_tokens.specs.declared.token.Sign.TheVariants.{OpenParenthesis}
+use Rattle.cell_tokens.specs.declared.token.Token.TheVariants as token
 use Rattle.cell_language.specs.GrammarFault.{column_of}
 use Rattle.cell_language.specs.Reading.{State, Outcome, Stops, Reads, Part, tail}
-use Rattle.cell_language.specs.Token.{head}
+use Rattle.cell_tokens.specs.Token.{head}
 
 -- reading stops there, if memory lasts
 abbrev pub StopsAt : State → Stop → Type 0

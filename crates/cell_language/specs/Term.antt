@@ -1,7 +1,7 @@
 -- Expressions as trees, without where they lie in memory.
 use Rattle.std.specs.Prelude.{ℕ, zero, suc, ℤ, List, [], ◌∷◌}
-use Rattle.cell_language.specs.declared.function.Function.{Function}
-use Rattle.cell_language.specs.declared.operator.Operator.{Operator}
+use Rattle.cell_tokens.specs.declared.function.Function.{Function}
+use Rattle.cell_tokens.specs.declared.operator.Operator.{Operator}
 
 mutual
   -- an expression

@@ -2,14 +2,14 @@
 
 ghost use Rattle.std.specs.Prelude.{◌≡◌, ◌≤◌, List, length, IfOk, IfErr};
 ghost use Rattle.cell_language.specs.declared.assignment.Assignment.{Assignment};
-ghost use Rattle.cell_language.specs.declared.token.Placed.{Placed};
+ghost use Rattle.cell_tokens.specs.declared.token.Placed.{Placed};
 ghost use Rattle.cell_language.specs.Assignment.{IsAssignment, IsAssignmentText};
 ghost use Rattle.cell_language.specs.GrammarFault.{IsTextFault};
 
 use crate::expr::Expr;
-use crate::fault::CalcFault;
+use cell_tokens::fault::CalcFault;
 use crate::parsing::assignment;
-use crate::tokens::tokens;
+use cell_tokens::tokens::tokens;
 use cell_core::name::Name;
 use std::alloc::Global;
 

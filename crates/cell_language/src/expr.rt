@@ -2,11 +2,11 @@
 
 ghost use Rattle.std.specs.Prelude.{◌≡◌};
 ghost use Rattle.cell_language.specs.Grammatical.{IsGrammatical};
-ghost use Rattle.cell_language.specs.Tree.{term_of};
+ghost use Rattle.cell_language.specs.Postfix.{postfix};
 ghost use Rattle.cell_language.specs.Unknown.{first_unknown};
 
-use crate::tree::Tree;
-use crate::unknown::first_unknown;
+use crate::step::Step;
+use crate::unknown::first_unplaced;
 use cell_core::name::Names;
 use std::marker::Model;
 
@@ -14,22 +14,21 @@ use std::marker::Model;
 /// number of arguments that its function takes.
 #[derive(Drop)]
 pub struct Expr {
-    pub(crate) tree: Tree,
+    pub(crate) steps: Vec<Step>,
 }
 
 impl Model for Expr {
     ghost use Rattle.cell_language.specs.Code.{term_code};
-    ghost use Rattle.cell_language.specs.Grammatical.{IsGrammatical};
     ghost use Rattle.cell_language.specs.Term.{Term};
-    ghost use Rattle.cell_language.specs.Tree.{term_of};
+    ghost use Rattle.cell_language.specs.parts.Built.{built, AreOfExpression};
 
     ghost Value = { Term };
 
     ghost coded = { term_code };
 
-    ghost view = { λ e. term_of e.tree };
+    ghost view = { λ e. built e.steps.items };
 
-    ghost invariant = { λ e. IsGrammatical (term_of e.tree) };
+    ghost invariant = { λ e. AreOfExpression e.steps.items };
 }
 
 impl Expr {
@@ -37,14 +36,14 @@ impl Expr {
     pub fn first_unknown(&self, names: &Names) -> Option<u32>
         ensures { result ≡ first_unknown names.now self.now }
     {
-        first_unknown(self.tree(), names)
+        first_unplaced(self.steps(), names)
     }
 
-    /// The expression as a tree. Takes no memory.
-    pub fn tree(&self) -> &Tree
-        ensures tree { term_of result.now ≡ self.now }
+    /// The steps of the expression in postfix order. Takes no memory.
+    pub fn steps(&self) -> &[Step]
+        ensures steps { result.now ≡ postfix self.now }
         ensures grammatical { IsGrammatical self.now }
     {
-        &self.tree
+        &self.steps
     }
 }

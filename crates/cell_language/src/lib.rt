@@ -3,11 +3,9 @@
 
 pub mod assignment;
 pub mod expr;
-pub mod fault;
-pub mod function;
-pub mod operator;
 mod parsing;
-pub mod token;
-pub mod tokens;
-pub mod tree;
+mod reader;
+pub mod step;
 mod unknown;
+
+pub use cell_tokens::{fault, function, operator, token, tokens};

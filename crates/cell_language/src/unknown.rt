@@ -1,50 +1,32 @@
 //! Map names that are not known.
 
 ghost use Rattle.std.specs.Prelude.{◌≡◌};
-ghost use Rattle.cell_language.specs.Tree.{term_of, terms_of};
-ghost use Rattle.cell_language.specs.Unknown.{first_unknown, first_unknown_all, first_of, unplaced};
+ghost use Rattle.cell_language.specs.parts.Unplaced.{first_unplaced, unplaced_at};
 
-use crate::tree::{Arguments, Tree};
+use crate::step::Step;
 use cell_core::name::Names;
 
-fn first_of(a: Option<u32>, b: Option<u32>) -> Option<u32>
-    ensures { result ≡ first_of a b }
+// The column of a map name that has no place among the names.
+fn unplaced(step: &Step, names: &Names) -> Option<u32>
+    ensures { result ≡ unplaced_at names.now step.now }
 {
-    match a {
-        Some(column) => Some(column),
-        None => b,
-    }
-}
-
-fn unplaced(place: Option<usize>, column: u32) -> Option<u32>
-    ensures { result ≡ unplaced place column }
-{
-    match place {
+    let Step::Map { name, column, .. } = step else {
+        return None;
+    };
+    match names.find(name.bytes()) {
         Some(_) => None,
-        None => Some(column),
+        None => Some(*column),
     }
 }
 
-#[cycle(unknown)]
-pub(crate) fn first_unknown(tree: &Tree, names: &Names) -> Option<u32>
-    ensures { result ≡ first_unknown names.now (term_of tree.now) }
+/// The column of the first map name that has no place among the names.
+pub(crate) fn first_unplaced(steps: &[Step], names: &Names) -> Option<u32>
+    ensures { result ≡ first_unplaced names.now steps.now }
 {
-    match tree {
-        Tree::Number(_) => None,
-        Tree::Map { name, column, .. } => unplaced(names.find(name.bytes()), *column),
-        Tree::Negated(a) => first_unknown(a, names),
-        Tree::Not(a) => first_unknown(a, names),
-        Tree::Binary(_, a, b) => first_of(first_unknown(a, names), first_unknown(b, names)),
-        Tree::Call(_, xs) => first_unknown_all(xs, names),
+    for step in steps {
+        if let Some(column) = unplaced(step, names) {
+            return Some(column);
+        }
     }
-}
-
-#[cycle(unknown)]
-fn first_unknown_all(arguments: &Arguments, names: &Names) -> Option<u32>
-    ensures { result ≡ first_unknown_all names.now (terms_of arguments.now) }
-{
-    match arguments {
-        Arguments::Empty => None,
-        Arguments::Then(a, xs) => first_of(first_unknown(a, names), first_unknown_all(xs, names)),
-    }
+    None
 }

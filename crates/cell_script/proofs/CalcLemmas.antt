@@ -3,10 +3,10 @@ use Rattle.std.proofs.Common.{◌≡◌, ℕ, List, Result, Ok, Err, MatchResult
 use Rattle.std.specs.Prelude.{IsOkAnd}
 use Rattle.cell_language.specs.Assignment.{IsAssignment}
 use Rattle.cell_language.specs.GrammarFault.{IsGrammarFault}
-use Rattle.cell_language.specs.Tokens.{token_list}
+use Rattle.cell_tokens.specs.Tokens.{token_list}
 use Rattle.cell_language.specs.declared.assignment.Assignment.{Assignment}
-use Rattle.cell_language.specs.declared.fault.CalcFault.{CalcFault}
-use Rattle.cell_language.specs.declared.token.Placed.{Placed}
+use Rattle.cell_tokens.specs.declared.fault.CalcFault.{CalcFault}
+use Rattle.cell_tokens.specs.declared.token.Placed.{Placed}
 use Rattle.cell_script.specs.Commands.{mapcalc_of, IsMapcalc}
 use Rattle.cell_script.specs.RMapcalc.{assignment_text}
 use Rattle.cell_script.specs.declared.fault.ScriptKind.{ScriptKind}

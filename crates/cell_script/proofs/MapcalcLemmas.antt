@@ -11,8 +11,8 @@ use Rattle.cell_script.proofs.PlaceLemmas.{place_of-within}
 use Rattle.cell_language.specs.Assignment.{IsAssignmentText}
 use Rattle.cell_language.specs.GrammarFault.{IsTextFault}
 use Rattle.cell_language.specs.declared.assignment.Assignment.{Assignment}
-use Rattle.cell_language.specs.declared.fault.CalcFault.{CalcFault}
-use Rattle.cell_language.specs.declared.fault.CalcKind.TheVariants as calc
+use Rattle.cell_tokens.specs.declared.fault.CalcFault.{CalcFault}
+use Rattle.cell_tokens.specs.declared.fault.CalcKind.TheVariants as calc
 use Rattle.cell_script.specs.Commands.{mapcalc_of, IsMapcalc}
 use Rattle.cell_script.specs.RMapcalc.{assignment_text}
 use Rattle.cell_script.specs.declared.fault.ScriptKind.{ScriptKind}

@@ -10,8 +10,8 @@ use Rattle.cell_counts.specs.Combinations.{Combination}
 use Rattle.cell_counts.specs.ComboText.{combo_of}
 use Rattle.cell_text.specs.Words.{words_of}
 use Rattle.cell_language.specs.declared.assignment.Assignment.{Assignment}
-use Rattle.cell_language.specs.declared.fault.CalcFault.{CalcFault}
-use Rattle.cell_language.specs.declared.fault.CalcKind.TheVariants as calc
+use Rattle.cell_tokens.specs.declared.fault.CalcFault.{CalcFault}
+use Rattle.cell_tokens.specs.declared.fault.CalcKind.TheVariants as calc
 use Rattle.cell_counts.specs.declared.reading.ComboFault.{ComboFault}
 use Rattle.cell_script.specs.Lines.{is_comment}
 use Rattle.cell_script.specs.OptionReading.{new_target, and_then, options_of, from_to, needed, known_place}

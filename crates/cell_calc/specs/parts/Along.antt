@@ -6,7 +6,7 @@ use Rattle.cell_calc.specs.Formula.{Formula, Number, Map, Negated, Not, Binary, 
 use Rattle.cell_calc.specs.Value.{applied, value, values, spot}
 use Rattle.cell_calc.specs.Window.{Window, IsOver, Reaches}
 use Rattle.cell_core.specs.Region.{RegionValue}
-use Rattle.cell_language.specs.declared.operator.Operator.{Operator}
+use Rattle.cell_tokens.specs.declared.operator.Operator.{Operator}
 use Rattle.cell_calc.specs.parts.Rows.{at, column}
 
 -- there is a window that stands at the row and reaches the offset

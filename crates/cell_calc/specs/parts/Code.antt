@@ -2,7 +2,7 @@
 use Rattle.std.specs.Prelude.{◌≡◌, ℕ, zero, suc, ℤ, List, [], ◌∷◌, ◌++◌, refl}
 use Rattle.std.proofs.Common.{sym, ap, ◌∙◌, append_assoc, append-nil}
 use Rattle.std.specs.Coded.{Coded, code_by, coded_list, coded×, coded_ℕ, coded_ℤ}
-use Rattle.cell_language.specs.declared.function.Function.TheVariants.{If}
+use Rattle.cell_tokens.specs.declared.function.Function.TheVariants.{If}
 use Rattle.cell_language.specs.Code.{operator_at, operator_place, operator_back, function_at, function_place, function_back, Step, step}
 use Rattle.cell_calc.specs.Formula.{Formula, Number, Map, Negated, Not, Binary, Call, Formulas, NoFormulas, Then}
 

@@ -1,0 +1,4 @@
+pub mod Longest
+pub mod OnlyLemmas
+pub mod Pieces
+pub mod SpellingLemmas
