@@ -1,12 +1,10 @@
+pub mod FaultLemmas
 pub mod CalcLemmas
 pub mod LawLemmas
-pub mod NullTextLemmas
 pub mod MapcalcLemmas
-pub mod NameLemmas
 pub mod PlaceLemmas
 pub mod ReadingLemmas
 pub mod SoundLemmas
-pub mod OptionLemmas
 pub mod SkippedLemmas
 pub mod SpellingLemmas
 pub mod GroupingLemmas

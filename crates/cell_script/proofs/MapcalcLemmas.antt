@@ -7,7 +7,7 @@ use Rattle.cell_calc.specs.Formula.{Formula}
 use Rattle.cell_calc.specs.Reach.{top_of, top_of_all}
 use Rattle.cell_language.specs.Term.{Term, Number, Map, Negated, Not, Binary, Call, Terms, NoTerms, Then}
 use Rattle.cell_language.specs.Unknown.{first_of, unplaced, first_unknown, first_unknown_all}
-use Rattle.cell_script.proofs.PlaceLemmas.{place_of-within}
+use Rattle.cell_options.proofs.PlaceLemmas.{place_of-within}
 use Rattle.cell_language.specs.Assignment.{IsAssignmentText}
 use Rattle.cell_language.specs.GrammarFault.{IsTextFault}
 use Rattle.cell_language.specs.declared.assignment.Assignment.{Assignment}

@@ -14,24 +14,29 @@ use Rattle.cell_counts.specs.ComboText.{combo_of}
 use Rattle.cell_counts.specs.declared.reading.ComboFault.{ComboFault}
 use Rattle.cell_text.specs.Words.{words_of}
 use Rattle.cell_script.specs.Commands.{as_whole, as_opened, head_named, head_of_words, is_mapcalc, IsShortHead, IsHeadOf, IsHead, clump_of, clump_with, mapcalc_of, IsMapcalc, out_ascii_of, out_ascii_with, reclass_of, after_of, stats_at, stats_with, stats_of}
+use Rattle.cell_script.specs.Faults.{in_script}
 use Rattle.cell_script.specs.Lines.{is_comment, IsSkipped}
-use Rattle.cell_script.specs.Options.{Given}
-use Rattle.cell_script.specs.OptionReading.{and_then, known_place, options_of, from_to}
+use Rattle.cell_options.specs.Options.{Given, is_torn}
+use Rattle.cell_options.specs.Maps.{needed, known_place, known_places, from_to, input_place, input_places}
+use Rattle.cell_options.specs.Places.{places_of}
+use Rattle.cell_options.specs.OptionReading.{and_then, options_of}
 use Rattle.cell_script.specs.RClump.{joining_of, SpellsClump}
 use Rattle.cell_script.specs.RMapcalc.{assignment_text}
-use Rattle.cell_script.specs.RStats.{places_of, is_torn, printed_with, SpellsAfter, SpellsStats}
+use Rattle.cell_script.specs.RStats.{printed_with, SpellsAfter, SpellsStats}
 use Rattle.cell_script.specs.RReclass.{AreFromTo, SpellsReclass}
 use Rattle.cell_script.specs.ROutAscii.{SpellsOutAscii}
 use Rattle.cell_script.specs.Scripts.{Spells}
 use Rattle.cell_script.specs.declared.fault.ScriptKind.{ScriptKind}
-use Rattle.cell_script.specs.declared.fault.ScriptKind.TheVariants.{BadOption, UnknownCommand}
+use Rattle.cell_script.specs.declared.fault.ScriptKind.TheVariants.{UnknownCommand}
 use Rattle.cell_script.specs.declared.heads.Head.{Head}
 use Rattle.cell_script.specs.declared.heads.Head.TheVariants.{Skipped, Whole, Opened}
-use Rattle.cell_script.specs.declared.options.Form.TheVariants as form
+use Rattle.cell_options.specs.declared.fault.OptionFault.{OptionFault}
+use Rattle.cell_options.specs.declared.fault.OptionFault.TheVariants.{BadOption}
+use Rattle.cell_options.specs.declared.options.Form.TheVariants as form
 use Rattle.cell_script.specs.declared.statement.Command.{Command}
 use Rattle.cell_script.specs.declared.statement.Command.TheVariants.{Mapcalc, Reclass, Clump, Stats, OutAscii}
 use Rattle.cell_script.specs.declared.statement.StatsOptions.{StatsOptions}
-use Rattle.cell_script.proofs.OptionLemmas.{options-sound, options-complete}
+use Rattle.cell_options.proofs.OptionLemmas.{options-sound, options-complete}
 use Rattle.cell_script.proofs.SkippedLemmas.{say_nothing, say_nothing-trimmed}
 
 -- one of two, by a test
@@ -65,14 +70,19 @@ from_to-complete : (known : List (List ℕ)) (given : Given) (place : ℕ) (targ
 from_to-complete known given place target maps = rw (maps.input_is, maps.output_is, maps.read, maps.made) refl
 
 -- what comes next of something that is good
-record Went {A B : Type 0} (next : A → Result B ScriptKind) (first : Result A ScriptKind) (last : B) : Type 0 where
+record Went {A B E : Type 0} (next : A → Result B E) (first : Result A E) (last : B) : Type 0 where
   value : A
   is : first ≡ Ok value
   goes : next value ≡ Ok last
 
-went : {A B : Type 0} (next : A → Result B ScriptKind) (first : Result A ScriptKind) (last : B) → and_then next first ≡ Ok last → Went next first last
+went : {A B E : Type 0} (next : A → Result B E) (first : Result A E) (last : B) → and_then next first ≡ Ok last → Went next first last
 went next (Ok value) last e = record { value = value; is = refl; goes = e }
 went next (Err kind) last e = cc
+
+-- what is good in a script
+in_script-ok : {A : Type 0} (r : Result A OptionFault) (x : A) → in_script r ≡ Ok x → r ≡ Ok x
+in_script-ok (Ok y) x e = let same : y ≡ x = cc in ap Ok same
+in_script-ok (Err fault) x e = cc
 
 -- ---- r.reclass
 
@@ -120,67 +130,98 @@ after-complete width None (Some combination) s = absurd s
 after-complete width (Some text) None s = absurd s
 after-complete width (Some text) (Some combination) s = rw s refl
 
+-- the inputs whose places are these
+record Placed (known : List (List ℕ)) (given : Given) (places : List ℕ) : Type 0 where
+  inputs : List (List ℕ)
+  inputs_are : given.inputs ≡ Some inputs
+  read : places_of known inputs ≡ Some places
+  together : is_torn given ≡ false
+
+input_places-sound : (known : List (List ℕ)) (given : Given) (places : List ℕ) → input_places known given ≡ Ok places → Placed known given places
+input_places-sound known given places e = by given.inputs refl e
+  where
+    found : (inputs : List (List ℕ)) (torn : Bool) (place : Option (List ℕ)) → given.inputs ≡ Some inputs → is_torn given ≡ torn → places_of known inputs ≡ place
+        → cond torn (Err BadOption) (known_places place) ≡ Ok places → Placed known given places
+    found inputs true place i t p f = cc
+    found inputs false None i t p f = cc
+    found inputs false (Some other) i t p f = let same : other ≡ places = cc in record { inputs = inputs; inputs_are = i; read = p ∙ ap Some same; together = t }
+
+    by : (inputs : Option (List (List ℕ))) → given.inputs ≡ inputs → needed inputs (λ names. cond (is_torn given) (Err BadOption) (known_places (places_of known names))) ≡ Ok places → Placed known given places
+    by None i f = cc
+    by (Some inputs) i f = found inputs (is_torn given) (places_of known inputs) i refl refl f
+
+input_places-complete : (known : List (List ℕ)) (given : Given) (inputs : List (List ℕ)) (places : List ℕ) → given.inputs ≡ Some inputs → is_torn given ≡ false → places_of known inputs ≡ Some places
+    → input_places known given ≡ Ok places
+input_places-complete known given inputs places i t p = rw (i, t, p) refl
+
 stats-sound : (known : List (List ℕ)) (line : List ℕ) (words : List (List ℕ)) (command : Command) → words_of line ≡ codes "r.stats" ∷ words
     → stats_of known words ≡ Ok command → Spells known line command
 stats-sound known line words command is e =
-    let w = went (stats_with known) (options_of form.Stats words) command e in
-    with_names w.value w.is w.value.inputs refl w.goes
-  where
-    with_places : (given : Given) → options_of form.Stats words ≡ Ok given → (inputs : List (List ℕ)) → given.inputs ≡ Some inputs → is_torn given ≡ false
-        → (places : Option (List ℕ)) → places_of known inputs ≡ places → stats_at given places ≡ Ok command → Spells known line command
-    with_places given options inputs i together None p f = cc
-    with_places given options inputs i together (Some places) p f =
-        let v = went (λ after. Ok (Stats places (printed_with given after))) (after_of (length places) given.after) command f in
-        let same : Stats places (printed_with given v.value) ≡ command = let g = v.goes in cc in
-        subst (λ c. Spells known line c) same (record {
-          words = words;
-          named = is;
-          given = given;
-          options_are = options-sound form.Stats words given options;
-          inputs = inputs;
-          inputs_are = i;
-          read = p;
-          together = together;
-          after = after-sound (length places) given.after v.value v.is;
-          printed = refl;
-        })
-
-    torn : (given : Given) → options_of form.Stats words ≡ Ok given → (inputs : List (List ℕ)) → given.inputs ≡ Some inputs
-        → ((is_torn given ≡ true) × (◌≡◌ {A = Result Command ScriptKind} (Err BadOption) (Ok command))) ⊎ ((is_torn given ≡ false) × (stats_at given (places_of known inputs) ≡ Ok command)) → Spells known line command
-    torn given options inputs i (inl (t, f)) = cc
-    torn given options inputs i (inr (t, f)) = with_places given options inputs i t (places_of known inputs) refl f
-
-    with_names : (given : Given) → options_of form.Stats words ≡ Ok given → (inputs : Option (List (List ℕ))) → given.inputs ≡ inputs → stats_with known given ≡ Ok command → Spells known line command
-    with_names given options None i f = let g : Err _ ≡ Ok command = rw i at f in cc
-    with_names given options (Some inputs) i f =
-        let g : cond (is_torn given) (Err BadOption) (stats_at given (places_of known inputs)) ≡ Ok command = rw i at f in
-        torn given options inputs i (either (is_torn given) (Err BadOption) (stats_at given (places_of known inputs)) (Ok command) g)
+    let w = went (stats_with known) (in_script (options_of form.Stats words)) command e in
+    let v = went (stats_at w.value) (in_script (input_places known w.value)) command w.goes in
+    let placed = input_places-sound known w.value v.value (in_script-ok (input_places known w.value) v.value v.is) in
+    let u = went (λ after. Ok (Stats v.value (printed_with w.value after))) (after_of (length v.value) w.value.after) command v.goes in
+    let same : Stats v.value (printed_with w.value u.value) ≡ command = let g = u.goes in cc in
+    subst (λ c. Spells known line c) same (record {
+      words = words;
+      named = is;
+      given = w.value;
+      options_are = options-sound form.Stats words w.value (in_script-ok (options_of form.Stats words) w.value w.is);
+      inputs = placed.inputs;
+      inputs_are = placed.inputs_are;
+      read = placed.read;
+      together = placed.together;
+      after = after-sound (length v.value) w.value.after u.value u.is;
+      printed = refl;
+    })
 
 stats-complete : (known : List (List ℕ)) (line places : List ℕ) (options : StatsOptions) (s : SpellsStats known line places options) → stats_of known s.words ≡ Ok (Stats places options)
 stats-complete known line places options s =
-    rw (options-complete form.Stats s.words s.given s.options_are, s.inputs_are, s.together, s.read, after-complete (length places) s.given.after options.after s.after) (ap (λ o. Ok (Stats places o)) s.printed)
+    rw (options-complete form.Stats s.words s.given s.options_are, input_places-complete known s.given s.inputs places s.inputs_are s.together s.read, after-complete (length places) s.given.after options.after s.after) (ap (λ o. Ok (Stats places o)) s.printed)
 
 -- ---- r.out.ascii
+
+-- the input whose place is this
+record Found (known : List (List ℕ)) (given : Given) (place : ℕ) : Type 0 where
+  input : List ℕ
+  input_is : given.input ≡ Some input
+  read : place_of input known ≡ Some place
+
+input_place-sound : (known : List (List ℕ)) (given : Given) (place : ℕ) → input_place known given ≡ Ok place → Found known given place
+input_place-sound known given place e = by given.input refl e
+  where
+    found : (input : List ℕ) (at : Option ℕ) → given.input ≡ Some input → place_of input known ≡ at → known_place at Ok ≡ Ok place → Found known given place
+    found input None i p f = cc
+    found input (Some other) i p f = let same : other ≡ place = cc in record { input = input; input_is = i; read = p ∙ ap Some same }
+
+    by : (input : Option (List ℕ)) → given.input ≡ input → needed input (λ input. known_place (place_of input known) Ok) ≡ Ok place → Found known given place
+    by None i f = cc
+    by (Some input) i f = found input (place_of input known) i refl f
+
+input_place-complete : (known : List (List ℕ)) (given : Given) (input : List ℕ) (place : ℕ) → given.input ≡ Some input → place_of input known ≡ Some place → input_place known given ≡ Ok place
+input_place-complete known given input place i p = rw (i, p) refl
 
 out_ascii-sound : (known : List (List ℕ)) (line : List ℕ) (words : List (List ℕ)) (command : Command) → words_of line ≡ codes "r.out.ascii" ∷ words
     → out_ascii_of known words ≡ Ok command → Spells known line command
 out_ascii-sound known line words command is e =
     let w = went (out_ascii_with known) (options_of form.OutAscii words) command e in
-    by w.value w.is w.value.input refl w.goes
-  where
-    found : (given : Given) → options_of form.OutAscii words ≡ Ok given → (input : List ℕ) → given.input ≡ Some input → (place : Option ℕ) → place_of input known ≡ place
-        → known_place place (λ place. Ok (OutAscii place (unwrap_or given.null_text usual_null))) ≡ Ok command → Spells known line command
-    found given options input i None p f = cc
-    found given options input i (Some place) p f =
-        let same : OutAscii place (unwrap_or given.null_text usual_null) ≡ command = cc in
-        subst (λ c. Spells known line c) same (record { words = words; named = is; given = given; options = options-sound form.OutAscii words given options; input = input; input_is = i; read = p; null_is = refl })
-
-    by : (given : Given) → options_of form.OutAscii words ≡ Ok given → (input : Option (List ℕ)) → given.input ≡ input → out_ascii_with known given ≡ Ok command → Spells known line command
-    by given options None i f = let g : Err _ ≡ Ok command = rw i at f in cc
-    by given options (Some input) i f = found given options input i (place_of input known) refl (rw i at f)
+    let v = went (λ place. Ok (OutAscii place (unwrap_or w.value.null_text usual_null))) (input_place known w.value) command w.goes in
+    let found = input_place-sound known w.value v.value v.is in
+    let same : OutAscii v.value (unwrap_or w.value.null_text usual_null) ≡ command = let g = v.goes in cc in
+    subst (λ c. Spells known line c) same (record {
+      words = words;
+      named = is;
+      given = w.value;
+      options = options-sound form.OutAscii words w.value w.is;
+      input = found.input;
+      input_is = found.input_is;
+      read = found.read;
+      null_is = refl;
+    })
 
 out_ascii-complete : (known : List (List ℕ)) (line : List ℕ) (place : ℕ) (null_text : List ℕ) (s : SpellsOutAscii known line place null_text) → out_ascii_of known s.words ≡ Ok (OutAscii place null_text)
-out_ascii-complete known line place null_text s = rw (options-complete form.OutAscii s.words s.given s.options, s.input_is, s.read) (ap (λ n. Ok (OutAscii place n)) s.null_is)
+out_ascii-complete known line place null_text s =
+    rw (options-complete form.OutAscii s.words s.given s.options, input_place-complete known s.given s.input place s.input_is s.read) (ap (λ n. Ok (OutAscii place n)) s.null_is)
 
 -- ---- r.mapcalc
 
@@ -224,17 +265,17 @@ named-sound known line w ws head is e =
   where
     by : (stats out_ascii clump reclass : Bool) → bytes_eq w (codes "r.stats") ≡ stats → bytes_eq w (codes "r.out.ascii") ≡ out_ascii
         → bytes_eq w (codes "r.clump") ≡ clump → bytes_eq w (codes "r.reclass") ≡ reclass
-        → cond stats (as_whole (stats_of known ws)) (cond out_ascii (as_whole (out_ascii_of known ws))
-        (cond clump (as_whole (clump_of known ws)) (cond reclass (as_opened (reclass_of known ws)) (Err UnknownCommand)))) ≡ Ok head
+        → cond stats (as_whole (stats_of known ws)) (cond out_ascii (as_whole (in_script (out_ascii_of known ws)))
+        (cond clump (as_whole (in_script (clump_of known ws))) (cond reclass (as_opened (in_script (reclass_of known ws))) (Err UnknownCommand)))) ≡ Ok head
         → Says known line head
     by true out_ascii clump reclass s o c r f =
         whole-sound known line head (stats_of known ws) f (λ command g. stats-sound known line ws command (renamed line w (codes "r.stats") ws is s) g)
     by false true clump reclass s o c r f =
-        whole-sound known line head (out_ascii_of known ws) f (λ command g. out_ascii-sound known line ws command (renamed line w (codes "r.out.ascii") ws is o) g)
+        whole-sound known line head (in_script (out_ascii_of known ws)) f (λ command g. out_ascii-sound known line ws command (renamed line w (codes "r.out.ascii") ws is o) (in_script-ok (out_ascii_of known ws) command g))
     by false false true reclass s o c r f =
-        whole-sound known line head (clump_of known ws) f (λ command g. clump-sound known line ws command (renamed line w (codes "r.clump") ws is c) g)
+        whole-sound known line head (in_script (clump_of known ws)) f (λ command g. clump-sound known line ws command (renamed line w (codes "r.clump") ws is c) (in_script-ok (clump_of known ws) command g))
     by false false false true s o c r f =
-        opened-sound known line head (reclass_of known ws) f (λ maps g. reclass-sound known line ws maps (renamed line w (codes "r.reclass") ws is r) g)
+        opened-sound known line head (in_script (reclass_of known ws)) f (λ maps g. reclass-sound known line ws maps (renamed line w (codes "r.reclass") ws is r) (in_script-ok (reclass_of known ws) maps g))
     by false false false false s o c r f = cc
 
 nothing-sound : (known : List (List ℕ)) (line : List ℕ) (head : Head) (ws : List (List ℕ)) → words_of line ≡ ws → say_nothing ws ≡ true → ◌≡◌ {A = Result Head ScriptKind} (Ok Skipped) (Ok head) → Says known line head
@@ -300,10 +341,10 @@ says-head known line (Whole (Mapcalc target bound)) s says =
     (inl (says.assignment, says.says, rw (says.read, says.made) (rw (says.target_is, says.bound_is) refl))))
 says-head known line (Whole (Reclass place target rules)) s says = absurd says
 says-head known line (Whole (Clump place target joining)) s says =
-    other-head known line (Ok (Whole (Clump place target joining))) (codes "r.clump" ∷ says.words) s says.named refl (ap as_whole (clump-complete known line place target joining says))
+    other-head known line (Ok (Whole (Clump place target joining))) (codes "r.clump" ∷ says.words) s says.named refl (ap (λ r. as_whole (in_script r)) (clump-complete known line place target joining says))
 says-head known line (Whole (Stats places options)) s says =
     other-head known line (Ok (Whole (Stats places options))) (codes "r.stats" ∷ says.words) s says.named refl (ap as_whole (stats-complete known line places options says))
 says-head known line (Whole (OutAscii place null_text)) s says =
-    other-head known line (Ok (Whole (OutAscii place null_text))) (codes "r.out.ascii" ∷ says.words) s says.named refl (ap as_whole (out_ascii-complete known line place null_text says))
+    other-head known line (Ok (Whole (OutAscii place null_text))) (codes "r.out.ascii" ∷ says.words) s says.named refl (ap (λ r. as_whole (in_script r)) (out_ascii-complete known line place null_text says))
 says-head known line (Opened place target) s says =
-    other-head known line (Ok (Opened place target)) (codes "r.reclass" ∷ says.words) s says.named refl (ap as_opened (reclass-complete known line place target says))
+    other-head known line (Ok (Opened place target)) (codes "r.reclass" ∷ says.words) s says.named refl (ap (λ r. as_opened (in_script r)) (reclass-complete known line place target says))

@@ -13,17 +13,20 @@ use Rattle.cell_language.specs.declared.assignment.Assignment.{Assignment}
 use Rattle.cell_tokens.specs.declared.fault.CalcFault.{CalcFault}
 use Rattle.cell_tokens.specs.declared.fault.CalcKind.TheVariants as calc
 use Rattle.cell_counts.specs.declared.reading.ComboFault.{ComboFault}
+use Rattle.cell_script.specs.Faults.{in_script}
 use Rattle.cell_script.specs.Lines.{is_comment}
-use Rattle.cell_script.specs.OptionReading.{new_target, and_then, options_of, from_to, needed, known_place}
-use Rattle.cell_script.specs.Options.{Given}
+use Rattle.cell_options.specs.Maps.{new_target, from_to, input_place, input_places}
+use Rattle.cell_options.specs.OptionReading.{and_then, options_of}
+use Rattle.cell_options.specs.Options.{Given}
 use Rattle.cell_script.specs.RClump.{joining_of}
 use Rattle.cell_script.specs.RMapcalc.{assignment_text}
-use Rattle.cell_script.specs.RStats.{places_of, is_torn, printed_with}
+use Rattle.cell_script.specs.RStats.{printed_with}
 use Rattle.cell_script.specs.declared.fault.ScriptKind.{ScriptKind}
-use Rattle.cell_script.specs.declared.fault.ScriptKind.TheVariants.{Calc, BadOption, UnknownMap, Combo, UnknownCommand, LongLine}
+use Rattle.cell_script.specs.declared.fault.ScriptKind.TheVariants.{Calc, Combo, UnknownCommand, LongLine}
 use Rattle.cell_script.specs.declared.heads.Head.{Head}
 use Rattle.cell_script.specs.declared.heads.Head.TheVariants.{Whole, Skipped, Opened}
-use Rattle.cell_script.specs.declared.options.Form.TheVariants as form
+use Rattle.cell_options.specs.declared.fault.OptionFault.{OptionFault}
+use Rattle.cell_options.specs.declared.options.Form.TheVariants as form
 use Rattle.cell_script.specs.declared.statement.Command.{Command}
 use Rattle.cell_script.specs.declared.statement.Command.TheVariants.{Mapcalc, Clump, Stats, OutAscii}
 
@@ -33,7 +36,7 @@ mapcalc_of known a = by (first_unknown known a.expr)
   where
     by : Option ℕ → Result Head ScriptKind
     by (Some column) = Err (Calc (record { kind = calc.UnknownMap; column = column }))
-    by None = new_target (place_of a.target known) (Ok (Whole (Mapcalc a.target (placed known a.expr))))
+    by None = in_script (new_target (place_of a.target known) (Ok (Whole (Mapcalc a.target (placed known a.expr)))))
 
 -- the text is an assignment, and this is what comes of it
 abbrev pub IsAssigned : List (List ℕ) → List ℕ → Result Head ScriptKind → Type 0
@@ -48,15 +51,15 @@ abbrev pub IsMapcalc : List (List ℕ) → List ℕ → Result Head ScriptKind �
 IsMapcalc known line head = IsAssigned known (assignment_text line) head ⊎ IsUnassigned (assignment_text line) head
 
 -- the place of the map that is read, and the name of the one that is made
-abbrev pub reclass_of : List (List ℕ) → List (List ℕ) → Result (ℕ × List ℕ) ScriptKind
+abbrev pub reclass_of : List (List ℕ) → List (List ℕ) → Result (ℕ × List ℕ) OptionFault
 reclass_of known words = and_then (from_to known) (options_of form.Reclass words)
 
 -- a map that is known, and one that is new
-abbrev pub clump_with : List (List ℕ) → Given → Result Command ScriptKind
+abbrev pub clump_with : List (List ℕ) → Given → Result Command OptionFault
 clump_with known given = and_then (λ maps. Ok (Clump maps.0 maps.1 (joining_of given))) (from_to known given)
 
 -- the areas that words ask for
-abbrev pub clump_of : List (List ℕ) → List (List ℕ) → Result Command ScriptKind
+abbrev pub clump_of : List (List ℕ) → List (List ℕ) → Result Command OptionFault
 clump_of known words = and_then (clump_with known) (options_of form.Clump words)
 
 -- the combination after which a table goes on, where one is given
@@ -68,26 +71,24 @@ after_of width (Some text) = combined (combo_of width text)
     combined (Ok combo) = Ok (Some combo)
     combined (Err fault) = Err (Combo fault)
 
--- the table of the maps at these places, where all maps are known
-abbrev pub stats_at : Given → Option (List ℕ) → Result Command ScriptKind
-stats_at given None = Err UnknownMap
-stats_at given (Some places) = and_then (λ after. Ok (Stats places (printed_with given after))) (after_of (length places) given.after)
+-- the table of the maps at these places
+abbrev pub stats_at : Given → List ℕ → Result Command ScriptKind
+stats_at given places = and_then (λ after. Ok (Stats places (printed_with given after))) (after_of (length places) given.after)
 
 -- inputs, then flags that go together, then known maps, then a combination of their number
 abbrev pub stats_with : List (List ℕ) → Given → Result Command ScriptKind
-stats_with known given = needed given.inputs (λ names. if is_torn given then Err BadOption else stats_at given (places_of known names))
+stats_with known given = and_then (stats_at given) (in_script (input_places known given))
 
 -- the table that words ask for
 abbrev pub stats_of : List (List ℕ) → List (List ℕ) → Result Command ScriptKind
-stats_of known words = and_then (stats_with known) (options_of form.Stats words)
+stats_of known words = and_then (stats_with known) (in_script (options_of form.Stats words))
 
 -- an input that is known; null is an asterisk where no text is given
-abbrev pub out_ascii_with : List (List ℕ) → Given → Result Command ScriptKind
-out_ascii_with known given =
-    needed given.input (λ input. known_place (place_of input known) (λ place. Ok (OutAscii place (unwrap_or given.null_text usual_null))))
+abbrev pub out_ascii_with : List (List ℕ) → Given → Result Command OptionFault
+out_ascii_with known given = and_then (λ place. Ok (OutAscii place (unwrap_or given.null_text usual_null))) (input_place known given)
 
 -- the grid text that words ask for
-abbrev pub out_ascii_of : List (List ℕ) → List (List ℕ) → Result Command ScriptKind
+abbrev pub out_ascii_of : List (List ℕ) → List (List ℕ) → Result Command OptionFault
 out_ascii_of known words = and_then (out_ascii_with known) (options_of form.OutAscii words)
 
 -- a command that is whole with its line
@@ -104,9 +105,9 @@ as_opened (Err kind) = Err kind
 abbrev pub head_named : List (List ℕ) → List ℕ → List (List ℕ) → Result Head ScriptKind
 head_named known name words =
     if bytes_eq name (codes "r.stats") then as_whole (stats_of known words)
-    else (if bytes_eq name (codes "r.out.ascii") then as_whole (out_ascii_of known words)
-    else (if bytes_eq name (codes "r.clump") then as_whole (clump_of known words)
-    else (if bytes_eq name (codes "r.reclass") then as_opened (reclass_of known words)
+    else (if bytes_eq name (codes "r.out.ascii") then as_whole (in_script (out_ascii_of known words))
+    else (if bytes_eq name (codes "r.clump") then as_whole (in_script (clump_of known words))
+    else (if bytes_eq name (codes "r.reclass") then as_opened (in_script (reclass_of known words))
     else Err UnknownCommand)))
 
 -- a line of blanks and a comment are skipped; in any other line the first word is the command

@@ -1,8 +1,5 @@
 -- Scripts: their lines, the options of a command, which texts are scripts; how they are read, and which faults they have.
 pub mod Lines
-pub mod NullText
-pub mod Options
-pub mod OptionWords
 pub mod RMapcalc
 pub mod RReclass
 pub mod RClump
@@ -11,7 +8,7 @@ pub mod ROutAscii
 pub mod Known
 pub mod Scripts
 pub mod Fitting
-pub mod OptionReading
+pub mod Faults
 pub mod Commands
 pub mod Reading
 pub mod ReadScripts

@@ -3,10 +3,10 @@ use Rattle.std.specs.Prelude.{if◌then◌else◌, ℕ, ◌≡◌, List, ◌∷�
 use Rattle.cell_text.specs.Words.{words_of}
 use Rattle.cell_clump.specs.declared.clump.Joining.{Joining}
 use Rattle.cell_clump.specs.declared.clump.Joining.TheVariants.{Edges, EdgesAndCorners}
-use Rattle.cell_script.specs.OptionWords.{AreOptions}
-use Rattle.cell_script.specs.Options.{Given, has_flag}
+use Rattle.cell_options.specs.OptionWords.{AreOptions}
+use Rattle.cell_options.specs.Options.{Given, has_flag}
 use Rattle.cell_script.specs.RReclass.{AreFromTo}
-use Rattle.cell_script.specs.declared.options.Form.TheVariants as form
+use Rattle.cell_options.specs.declared.options.Form.TheVariants as form
 
 -- with the flag `d` cells that touch at a corner are joined too
 abbrev pub joining_of : Given → Joining

@@ -3,9 +3,9 @@ use Rattle.std.specs.Prelude.{ℕ, ◌≡◌, List, ◌∷◌, Some, codes, unwr
 use Rattle.cell_ascii_text.specs.GridWords.{usual_null}
 use Rattle.cell_core.specs.Name.{place_of}
 use Rattle.cell_text.specs.Words.{words_of}
-use Rattle.cell_script.specs.OptionWords.{AreOptions}
-use Rattle.cell_script.specs.Options.{Given}
-use Rattle.cell_script.specs.declared.options.Form.TheVariants as form
+use Rattle.cell_options.specs.OptionWords.{AreOptions}
+use Rattle.cell_options.specs.Options.{Given}
+use Rattle.cell_options.specs.declared.options.Form.TheVariants as form
 
 -- r.out.ascii: null is an asterisk where no text is given
 pub record SpellsOutAscii (known : List (List ℕ)) (line : List ℕ) (place : ℕ) (null_text : List ℕ) : Type 0 where

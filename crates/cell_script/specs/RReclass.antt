@@ -6,9 +6,9 @@ use Rattle.cell_core.specs.Name.{place_of}
 use Rattle.cell_text.specs.Blanks.{trimmed}
 use Rattle.cell_text.specs.Words.{words_of}
 use Rattle.cell_script.specs.Lines.{Line, IsSkipped}
-use Rattle.cell_script.specs.OptionWords.{AreOptions}
-use Rattle.cell_script.specs.Options.{Given}
-use Rattle.cell_script.specs.declared.options.Form.TheVariants as form
+use Rattle.cell_options.specs.OptionWords.{AreOptions}
+use Rattle.cell_options.specs.Options.{Given}
+use Rattle.cell_options.specs.declared.options.Form.TheVariants as form
 
 -- options name a known map as `input`, and a new one as `output`
 pub record AreFromTo (known : List (List ℕ)) (given : Given) (place : ℕ) (target : List ℕ) : Type 0 where

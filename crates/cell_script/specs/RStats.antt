@@ -1,30 +1,20 @@
 -- r.stats: the table that its options ask for (r.stats manual; `after` is the profile's).
-use Rattle.std.specs.Prelude.{ℕ, Bool, ◌&&◌, ◌||◌, List, [], ◌∷◌, Option, Some, is_some, if◌then◌else◌, unwrap_or, ◌≡◌, ⊤, false, length, None, Ok, codes}
-use Rattle.std.specs.Option.{option_map, option_and_then}
+use Rattle.std.specs.Prelude.{ℕ, List, ◌∷◌, Option, Some, if◌then◌else◌, unwrap_or, ◌≡◌, ⊤, false, length, None, Ok, codes}
 use Rattle.cell_ascii_text.specs.GridWords.{usual_null}
-use Rattle.cell_core.specs.Name.{place_of}
 use Rattle.cell_counts.specs.Combinations.{Combination}
 use Rattle.cell_counts.specs.ComboText.{combo_of}
 use Rattle.cell_text.specs.Words.{words_of}
 use Rattle.cell_counts.specs.declared.skip.Skip.{Skip}
 use Rattle.cell_counts.specs.declared.skip.Skip.TheVariants.{Nothing, AnyNull, AllNull}
-use Rattle.cell_script.specs.OptionWords.{AreOptions}
-use Rattle.cell_script.specs.Options.{Given, has_flag}
-use Rattle.cell_script.specs.declared.options.Form.TheVariants as form
+use Rattle.cell_options.specs.OptionWords.{AreOptions}
+use Rattle.cell_options.specs.Places.{places_of}
+use Rattle.cell_options.specs.Options.{Given, has_flag, is_torn}
+use Rattle.cell_options.specs.declared.options.Form.TheVariants as form
 use Rattle.cell_script.specs.declared.statement.StatsOptions.{StatsOptions}
-
--- the places of names among the known ones, where all are known
-abbrev pub places_of : List (List ℕ) → List (List ℕ) → Option (List ℕ)
-places_of known [] = Some []
-places_of known (name ∷ names) = option_and_then (λ place. option_map (λ places. place ∷ places) (places_of known names)) (place_of name known)
 
 -- what is left out: `n` decides over `N`
 abbrev pub skip_of : Given → Skip
 skip_of given = if has_flag 110 given then AnyNull else (if has_flag 78 given then AllNull else Nothing)
-
--- a line for each cell goes with no count and no `after`
-abbrev pub is_torn : Given → Bool
-is_torn given = has_flag 49 given && (has_flag 99 given || is_some given.after)
 
 -- how a table is printed, and what of it: fields are separated by a space and null is an asterisk where nothing else is given
 abbrev pub printed_with : Given → Option Combination → StatsOptions

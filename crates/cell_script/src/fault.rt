@@ -2,6 +2,8 @@
 
 use cell_calc::CalcFault;
 use cell_cats::rules::RuleFault;
+use cell_core::memory::Memory;
+use cell_options::fault::OptionFault;
 use cell_counts::reading::ComboFault;
 use thiserror::Error;
 
@@ -45,6 +47,35 @@ pub enum ScriptKind {
     /// Memory was refused.
     #[error("no memory")]
     Memory,
+}
+
+impl From<OptionFault> for ScriptKind {
+    ghost use Rattle.std.specs.Prelude.{◌≡◌};
+    ghost use Rattle.cell_script.specs.Faults.{kind_of};
+
+    ghost from_gives = { λ fault kind. kind ≡ kind_of fault };
+
+    fn from(fault: OptionFault) -> ScriptKind {
+        match fault {
+            OptionFault::BadOption => ScriptKind::BadOption,
+            OptionFault::MissingOption => ScriptKind::MissingOption,
+            OptionFault::UnknownMap => ScriptKind::UnknownMap,
+            OptionFault::MapExists => ScriptKind::MapExists,
+            OptionFault::BadName => ScriptKind::BadName,
+            OptionFault::Memory => ScriptKind::Memory,
+        }
+    }
+}
+
+impl From<Memory> for ScriptKind {
+    ghost use Rattle.std.specs.Prelude.{◌≡◌};
+    ghost use Rattle.cell_script.specs.declared.fault.ScriptKind.TheVariants.{Memory};
+
+    ghost from_gives = { λ _ kind. kind ≡ Memory };
+
+    fn from(_e: Memory) -> ScriptKind {
+        ScriptKind::Memory
+    }
 }
 
 fn text_of_rule(fault: RuleFault) -> &'static str {

@@ -1,7 +1,7 @@
 //! The command of a line.
 
 ghost use Rattle.std.specs.Prelude.{◌≡◌, ◌≢◌, IfOk, IfErr, Ok, Err, map};
-ghost use Rattle.cell_script.specs.Commands.{as_whole, head_named, head_of_words, is_mapcalc, IsHead};
+ghost use Rattle.cell_script.specs.Commands.{head_named, head_of_words, is_mapcalc, IsHead};
 ghost use Rattle.cell_script.specs.parts.Sound.{FitsHead};
 
 use crate::fault::ScriptKind;
@@ -30,16 +30,8 @@ pub(crate) enum Head {
     Opened { place: usize, target: Name },
 }
 
-fn as_whole(command: Result<Command, ScriptKind>) -> Result<Head, ScriptKind>
-    ensures { result ≡ as_whole command }
-{
-    match command {
-        Ok(command) => Ok(Head::Whole(command)),
-        Err(kind) => Err(kind),
-    }
-}
-
 // What a name of a command and the words after it begin.
+#[tactic(auto, using(crate::proofs::FaultLemmas::told))]
 fn head_named(
     alloc: Global,
     known: &Names,
@@ -51,16 +43,14 @@ fn head_named(
     ensures err { IfErr result (λ kind. kind ≢ ScriptKind.Memory → head_named known.now name.now (map (λ w. w.now) words.now) ≡ Err kind) }
 {
     if name == b"r.stats".as_slice() {
-        as_whole(stats_of(alloc, known, words))
+        Ok(Head::Whole(stats_of(alloc, known, words)?))
     } else if name == b"r.out.ascii".as_slice() {
-        as_whole(out_ascii_of(alloc, known, words))
+        Ok(Head::Whole(out_ascii_of(alloc, known, words)?))
     } else if name == b"r.clump".as_slice() {
-        as_whole(clump_of(alloc, known, words))
+        Ok(Head::Whole(clump_of(alloc, known, words)?))
     } else if name == b"r.reclass".as_slice() {
-        match reclass_of(alloc, known, words) {
-            Ok((place, target)) => Ok(Head::Opened { place, target }),
-            Err(kind) => Err(kind),
-        }
+        let (place, target) = reclass_of(alloc, known, words)?;
+        Ok(Head::Opened { place, target })
     } else {
         Err(ScriptKind::UnknownCommand)
     }

@@ -5,8 +5,6 @@
 pub mod fault;
 mod heads;
 pub mod law;
-pub mod null_text;
-mod options;
 pub mod parsing;
 mod r_clump;
 mod r_mapcalc;
@@ -16,3 +14,5 @@ mod r_stats;
 mod reading;
 pub mod statement;
 mod text;
+
+pub use cell_options::null_text;

@@ -5,12 +5,12 @@ ghost use Rattle.cell_script.specs.RClump.{joining_of};
 ghost use Rattle.cell_script.specs.Commands.{clump_of};
 ghost use Rattle.cell_script.specs.Fitting.{FitsCommand};
 
-use crate::fault::ScriptKind;
-use crate::options::{Form, Options, options_of};
-use crate::r_reclass::from_to;
 use crate::statement::Command;
 use cell_clump::clump::Joining;
 use cell_core::name::Names;
+use cell_options::fault::OptionFault;
+use cell_options::maps::from_to;
+use cell_options::options::{Form, Options, options_of};
 use std::alloc::Global;
 
 fn joining_of(options: &Options) -> Joining
@@ -27,24 +27,23 @@ fn joining_of(options: &Options) -> Joining
 ///
 /// # Errors
 ///
-/// The fault of the first word that has one, then [`ScriptKind::MissingOption`], [`ScriptKind::UnknownMap`] and
-/// [`ScriptKind::MapExists`]; [`ScriptKind::Memory`] where memory was refused.
-pub(crate) fn clump_of(alloc: Global, known: &Names, words: &[&[u8]]) -> Result<Command, ScriptKind>
+/// The fault of the first word that has one, then [`OptionFault::MissingOption`], [`OptionFault::UnknownMap`] and
+/// [`OptionFault::MapExists`]; [`OptionFault::Memory`] where memory was refused.
+pub(crate) fn clump_of(
+    alloc: Global,
+    known: &Names,
+    words: &[&[u8]],
+) -> Result<Command, OptionFault>
     ensures ok { IfOk result (λ command. clump_of known.now (map (λ w. w.now) words.now) ≡ Ok command) }
     ensures fits { IfOk result (FitsCommand known.now) }
-    ensures err { IfErr result (λ kind. kind ≢ ScriptKind.Memory → clump_of known.now (map (λ w. w.now) words.now) ≡ Err kind) }
+    ensures err { IfErr result (λ fault. fault ≢ OptionFault.Memory → clump_of known.now (map (λ w. w.now) words.now) ≡ Err fault) }
 {
-    let options = match options_of(alloc, Form::Clump, words) {
-        Ok(options) => options,
-        Err(kind) => return Err(kind),
-    };
+    let options = options_of(alloc, Form::Clump, words)?;
     let joining = joining_of(&options);
-    match from_to(known, options) {
-        Ok((place, target)) => Ok(Command::Clump {
-            place,
-            target,
-            joining,
-        }),
-        Err(kind) => Err(kind),
-    }
+    let (place, target) = from_to(known, options)?;
+    Ok(Command::Clump {
+        place,
+        target,
+        joining,
+    })
 }

@@ -2,46 +2,17 @@
 
 ghost use Rattle.std.specs.Prelude.{◌≡◌, OnOk, OnErr, ◌++◌, [], ◌∷◌};
 
-use crate::null_text::{NullText, TableNullText};
 use cell_calc::bound::Bound;
 use cell_cats::rules::Rules;
 use cell_clump::clump::Joining;
 use cell_core::memory::Memory;
 use cell_core::name::Name;
+pub use cell_options::maps::Places;
+use cell_options::null_text::{NullText, TableNullText};
 use cell_counts::combination::Combo;
 use cell_counts::skip::Skip;
 use std::alloc::Global;
 use std::marker::Model;
-
-/// Places of maps on a shelf, in order; a place may stand twice.
-#[derive(Drop)]
-pub struct Places {
-    places: Vec<usize>,
-}
-
-impl Model for Places {
-    ghost use Rattle.std.specs.Prelude.{List, ℕ};
-
-    ghost Value = { List ℕ };
-
-    ghost view = { λ p. p.places.items };
-}
-
-impl Places {
-    // The places of a vector.
-    pub(crate) fn from_vec(places: Vec<usize>) -> Places
-        ensures { result ≡ places.items }
-    {
-        Places { places }
-    }
-
-    /// The places as a slice.
-    pub fn as_slice(&self) -> &[usize]
-        ensures { result.now ≡ self.now }
-    {
-        &self.places
-    }
-}
 
 /// How r.stats prints a table, and what of it.
 #[derive(Drop)]

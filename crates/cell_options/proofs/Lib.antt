@@ -1,0 +1,4 @@
+pub mod NullTextLemmas
+pub mod NameLemmas
+pub mod OptionLemmas
+pub mod PlaceLemmas
