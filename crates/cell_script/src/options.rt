@@ -4,6 +4,7 @@ ghost use Rattle.std.specs.Prelude.{◌≡◌, ◌≢◌, ◌≤◌, IfOk, IfErr
 ghost use Rattle.std.specs.List.{list_all};
 ghost use Rattle.cell_text.specs.Words.{parts_of};
 ghost use Rattle.cell_script.specs.OptionReading.{no_options, with_flags, with_value, with_pair, with_word, with_words, options_of};
+ghost use Rattle.cell_script.specs.parts.GivenKeys.{is_given};
 ghost use Rattle.cell_script.specs.Options.{is_flag, are_flags, has_flag, maker_key, stats_key, out_ascii_key, key_of, name_of, names_from, names_of, printed_byte, separator_in};
 
 use crate::fault::ScriptKind;
@@ -289,115 +290,18 @@ impl Options {
         }
     }
 
-    fn with_input(self, alloc: Global, value: &[u8]) -> Result<Options, ScriptKind>
-        ensures ok { IfOk result (λ options. with_value self Key.Input value.now ≡ Ok options) }
-        ensures err { IfErr result (λ kind. kind ≢ ScriptKind.Memory → with_value self Key.Input value.now ≡ Err kind) }
+    // Whether a key was given.
+    fn is_given(&self, key: Key) -> bool
+        ensures { result ≡ is_given self.now key }
     {
-        if self.input.is_some() {
-            return Err(ScriptKind::BadOption);
-        }
-        match name_of(alloc, value) {
-            Ok(name) => Ok(Options {
-                input: Some(name),
-                ..self
-            }),
-            Err(kind) => Err(kind),
-        }
-    }
-
-    fn with_inputs(self, alloc: Global, value: &[u8]) -> Result<Options, ScriptKind>
-        ensures ok { IfOk result (λ options. with_value self Key.Inputs value.now ≡ Ok options) }
-        ensures err { IfErr result (λ kind. kind ≢ ScriptKind.Memory → with_value self Key.Inputs value.now ≡ Err kind) }
-    {
-        if self.inputs.is_some() {
-            return Err(ScriptKind::BadOption);
-        }
-        match names_of(alloc, value) {
-            Ok(names) => Ok(Options {
-                inputs: Some(names),
-                ..self
-            }),
-            Err(kind) => Err(kind),
-        }
-    }
-
-    fn with_output(self, alloc: Global, value: &[u8]) -> Result<Options, ScriptKind>
-        ensures ok { IfOk result (λ options. with_value self Key.Output value.now ≡ Ok options) }
-        ensures err { IfErr result (λ kind. kind ≢ ScriptKind.Memory → with_value self Key.Output value.now ≡ Err kind) }
-    {
-        if self.output.is_some() {
-            return Err(ScriptKind::BadOption);
-        }
-        match name_of(alloc, value) {
-            Ok(name) => Ok(Options {
-                output: Some(name),
-                ..self
-            }),
-            Err(kind) => Err(kind),
-        }
-    }
-
-    fn with_separator(self, value: &[u8]) -> Result<Options, ScriptKind>
-        ensures ok { IfOk result (λ options. with_value self Key.Separator value.now ≡ Ok options) }
-        ensures err { IfErr result (λ kind. with_value self Key.Separator value.now ≡ Err kind) }
-    {
-        if self.separator.is_some() {
-            return Err(ScriptKind::BadOption);
-        }
-        match separator_in(value) {
-            Some(byte) => Ok(Options {
-                separator: Some(byte),
-                ..self
-            }),
-            None => Err(ScriptKind::BadOption),
-        }
-    }
-
-    fn with_null_text(self, alloc: Global, value: &[u8]) -> Result<Options, ScriptKind>
-        ensures ok { IfOk result (λ options. with_value self Key.NullText value.now ≡ Ok options) }
-        ensures err { IfErr result (λ kind. kind ≢ ScriptKind.Memory → with_value self Key.NullText value.now ≡ Err kind) }
-    {
-        if self.null_text.is_some() {
-            return Err(ScriptKind::BadOption);
-        }
-        match NullText::read(alloc, value) {
-            Ok(text) => Ok(Options {
-                null_text: Some(text),
-                ..self
-            }),
-            Err(kind) => Err(kind),
-        }
-    }
-
-    fn with_table_null_text(self, alloc: Global, value: &[u8]) -> Result<Options, ScriptKind>
-        ensures ok { IfOk result (λ options. with_value self Key.TableNullText value.now ≡ Ok options) }
-        ensures err { IfErr result (λ kind. kind ≢ ScriptKind.Memory → with_value self Key.TableNullText value.now ≡ Err kind) }
-    {
-        if self.table_null_text.is_some() {
-            return Err(ScriptKind::BadOption);
-        }
-        match TableNullText::read(alloc, value) {
-            Ok(text) => Ok(Options {
-                table_null_text: Some(text),
-                ..self
-            }),
-            Err(kind) => Err(kind),
-        }
-    }
-
-    fn with_after(self, alloc: Global, value: &[u8]) -> Result<Options, ScriptKind>
-        ensures ok { IfOk result (λ options. with_value self Key.After value.now ≡ Ok options) }
-        ensures err { IfErr result (λ kind. kind ≢ ScriptKind.Memory → with_value self Key.After value.now ≡ Err kind) }
-    {
-        if self.after.is_some() {
-            return Err(ScriptKind::BadOption);
-        }
-        match Vec::from_slice(alloc, value) {
-            Ok(text) => Ok(Options {
-                after: Some(text),
-                ..self
-            }),
-            Err(_) => Err(ScriptKind::Memory),
+        match key {
+            Key::Input => self.input.is_some(),
+            Key::Inputs => self.inputs.is_some(),
+            Key::Output => self.output.is_some(),
+            Key::Separator => self.separator.is_some(),
+            Key::NullText => self.null_text.is_some(),
+            Key::TableNullText => self.table_null_text.is_some(),
+            Key::After => self.after.is_some(),
         }
     }
 
@@ -406,14 +310,44 @@ impl Options {
         ensures ok { IfOk result (λ options. with_value self key value.now ≡ Ok options) }
         ensures err { IfErr result (λ kind. kind ≢ ScriptKind.Memory → with_value self key value.now ≡ Err kind) }
     {
+        if self.is_given(key) {
+            return Err(ScriptKind::BadOption);
+        }
         match key {
-            Key::Input => self.with_input(alloc, value),
-            Key::Inputs => self.with_inputs(alloc, value),
-            Key::Output => self.with_output(alloc, value),
-            Key::Separator => self.with_separator(value),
-            Key::NullText => self.with_null_text(alloc, value),
-            Key::TableNullText => self.with_table_null_text(alloc, value),
-            Key::After => self.with_after(alloc, value),
+            Key::Input => {
+                let input = Some(name_of(alloc, value)?);
+                Ok(Options { input, ..self })
+            }
+            Key::Inputs => {
+                let inputs = Some(names_of(alloc, value)?);
+                Ok(Options { inputs, ..self })
+            }
+            Key::Output => {
+                let output = Some(name_of(alloc, value)?);
+                Ok(Options { output, ..self })
+            }
+            Key::Separator => {
+                let separator = Some(separator_in(value).ok_or(ScriptKind::BadOption)?);
+                Ok(Options { separator, ..self })
+            }
+            Key::NullText => {
+                let null_text = Some(NullText::read(alloc, value)?);
+                Ok(Options { null_text, ..self })
+            }
+            Key::TableNullText => {
+                let table_null_text = Some(TableNullText::read(alloc, value)?);
+                Ok(Options {
+                    table_null_text,
+                    ..self
+                })
+            }
+            Key::After => match Vec::from_slice(alloc, value) {
+                Ok(text) => Ok(Options {
+                    after: Some(text),
+                    ..self
+                }),
+                Err(_) => Err(ScriptKind::Memory),
+            },
         }
     }
 
