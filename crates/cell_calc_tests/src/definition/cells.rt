@@ -9,6 +9,7 @@ use cell_language::operator::Operator;
 
 // The least and the greatest category (GRASS: a CELL value).
 const LEAST: i64 = -2147483647;
+
 const GREATEST: i64 = 2147483647;
 
 /// A number as a category, null outside the range.
