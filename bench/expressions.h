@@ -65,13 +65,9 @@ inline int32_t new_category(int32_t category) {
 // By a table from the least category to the greatest where that is short.
 inline void reclass(Map &map) {
     auto made = new_cells(map.size());
-    int32_t least = INT32_MAX, greatest = -INT32_MAX;
-    for (size_t i = 0; i < map.size(); i++) {
-        const int32_t cell = map.cells[i];
-        least = std::min(least, cell == NULL_CELL ? INT32_MAX : cell);
-        greatest = std::max(greatest, cell);
-    }
-    const int64_t length = int64_t(greatest) - least + 1;
+    const CategoryRange range = category_range(map);
+    const int32_t least = range.least;
+    const int64_t length = range.length();
     if (length > 0 && length <= LONGEST_TABLE) {
         std::vector<int32_t> table(size_t(length), 0);
         for (int64_t i = 0; i < length; i++) table[size_t(i)] = new_category(int32_t(least + i));

@@ -1,6 +1,7 @@
 // Grids as they are read and written.
 #pragma once
 
+#include <algorithm>
 #include <array>
 #include <cstdint>
 #include <cstdio>
@@ -33,6 +34,24 @@ struct Map {
 
     size_t size() const { return rows * cols; }
 };
+
+// The least and the greatest category of a map.
+struct CategoryRange {
+    int32_t least = INT32_MAX, greatest = -INT32_MAX;
+
+    // How many categories lie from the one to the other; less than 1 where all cells are null.
+    int64_t length() const { return int64_t(greatest) - least + 1; }
+};
+
+inline CategoryRange category_range(const Map &map) {
+    CategoryRange range;
+    for (size_t i = 0; i < map.size(); i++) {
+        const int32_t cell = map.cells[i];
+        range.least = std::min(range.least, cell == NULL_CELL ? INT32_MAX : cell);
+        range.greatest = std::max(range.greatest, cell);
+    }
+    return range;
+}
 
 inline bool is_blank(char byte) { return byte == ' ' || byte == '\n' || byte == '\r' || byte == '\t'; }
 

@@ -135,13 +135,9 @@ private:
 inline Entries<One> entries_by_array(const Map &map) {
     constexpr int64_t LONGEST = 4096;
     constexpr size_t COLUMNS = 4;
-    int32_t least = INT32_MAX, greatest = -INT32_MAX;
-    for (size_t i = 0; i < map.size(); i++) {
-        const int32_t cell = map.cells[i];
-        least = std::min(least, cell == NULL_CELL ? INT32_MAX : cell);
-        greatest = std::max(greatest, cell);
-    }
-    const int64_t length = int64_t(greatest) - least + 1;
+    const CategoryRange range = category_range(map);
+    const int32_t least = range.least;
+    const int64_t length = range.length();
     if (length < 1 || length > LONGEST) return {};
     std::vector<std::array<uint32_t, COLUMNS>> counts(size_t(length) + 1);
     for (size_t i = 0; i < map.size(); i++) {

@@ -87,16 +87,25 @@ def small_pieces(devices: Devices, made: Made, expected: model.Answer, variable:
     return "", len(sizes)
 
 
-def reads(report: Report, devices: Devices, cases: dict[str, Made], settings) -> None:
-    failed = pieces = 0
+def read_pieces(devices: Devices, made: Made, expected: model.Answer, settings) -> tuple[str, int]:
+    return small_pieces(devices, made, expected, "READ_PIECE", settings)
+
+
+def each_case(report: Report, devices: Devices, cases: dict[str, Made], settings, what: str, failing, pieces) -> None:
+    """The reads or writes of each case: each fails in turn, and then they move pieces."""
+    failed = others = 0
     for name, made in cases.items():
         expected = answer_of_model(made)
-        wrong, count = failing_reads(devices, made, expected, settings)
-        again, more = small_pieces(devices, made, expected, "READ_PIECE", settings)
-        failed, pieces = failed + count, pieces + more
-        report.check(f"reads of {name}", wrong or again)
-    report.runs += failed + pieces
-    print(f"reads: {len(cases)} cases, {failed} reads failed in turn, {pieces} runs by pieces")
+        wrong, count = failing(devices, made, expected, settings)
+        again, more = pieces(devices, made, expected, settings)
+        failed, others = failed + count, others + more
+        report.check(f"{what} of {name}", wrong or again)
+    report.runs += failed + others
+    print(f"{what}: {len(cases)} cases, {failed} {what} failed in turn, {others} other runs")
+
+
+def reads(report: Report, devices: Devices, cases: dict[str, Made], settings) -> None:
+    each_case(report, devices, cases, settings, "reads", failing_reads, read_pieces)
 
 
 # Writes
@@ -121,16 +130,14 @@ def untold(devices: Devices, made: Made, expected: model.Answer) -> str:
     return "" if (got.status, got.output, got.told) == (expected.status, expected.output, b"") else f"untold: {got}"
 
 
+def write_pieces(devices: Devices, made: Made, expected: model.Answer, settings) -> tuple[str, int]:
+    """Pieces, and then standard error that takes nothing."""
+    wrong, count = small_pieces(devices, made, expected, "WRITE_PIECE", settings)
+    return wrong or untold(devices, made, expected), count + 1
+
+
 def writes(report: Report, devices: Devices, cases: dict[str, Made], settings) -> None:
-    failed = pieces = 0
-    for name, made in cases.items():
-        expected = answer_of_model(made)
-        wrong, count = failing_writes(devices, made, expected, settings)
-        again, more = small_pieces(devices, made, expected, "WRITE_PIECE", settings)
-        failed, pieces = failed + count, pieces + more + 1
-        report.check(f"writes of {name}", wrong or again or untold(devices, made, expected))
-    report.runs += failed + pieces
-    print(f"writes: {len(cases)} cases, {failed} writes failed in turn, {pieces} runs by pieces or with standard error failing")
+    each_case(report, devices, cases, settings, "writes", failing_writes, write_pieces)
 
 
 # Outputs

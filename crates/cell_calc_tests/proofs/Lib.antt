@@ -1,4 +1,4 @@
 -- What several proofs share.
-pub mod Fit
+pub mod Wide
 pub mod Lists
-pub mod Sets
+pub mod Reaches

@@ -1,5 +1,4 @@
-//! Maps of values, as a plain program over windows, the value at a cell as the definition says it, and tests of
-//! expressions and windows beside both.
+//! The value of an expression at a cell, as a plain program of its definition, and tests of expressions and windows beside it.
 #![tactic(auto)]
 
 #[cfg(test)]

@@ -1,12 +1,13 @@
 //! Worked values of expressions over a map of three rows.
 
-use crate::evaluation::{evaluate, first_row};
+use crate::evaluation::first_row;
 use cell_calc::{Bound, CalcFault, CalcKind, Expr, parse, resolve};
 use cell_core::cell::Cell;
 use cell_core::map::{CellMap, MapBuilder};
 use cell_core::name::{Name, Names};
 use cell_core::region::Region;
 use cell_core::shelf::Shelf;
+use rcell::evaluate;
 use std::alloc::Global;
 use std::process::Abort;
 use std::test::Fail;

@@ -1,12 +1,11 @@
 //! What the header lines of a text give their keys, and the header that they make.
 
-ghost use Rattle.std.specs.Prelude.{◌≡◌, ◌*◌, Some, is_some, codes, bytes_eq, IfOk};
+ghost use Rattle.std.specs.Prelude.{◌≡◌, ◌*◌, Some, None, is_some, codes, bytes_eq, IfOk, if◌then◌else◌};
 ghost use Rattle.std.specs.Option.{option_and_then, option_copied};
-ghost use Rattle.cell_ascii_text.specs.Numbers.{coordinate, side, whole_in_range};
+ghost use Rattle.cell_ascii_text.specs.Numbers.{coordinate, side, is_in_range, whole_in_range};
 ghost use Rattle.cell_ascii_text.specs.Header.{header_of};
 ghost use Rattle.cell_ascii_text.specs.GridText.{value_of, null_text};
 ghost use Rattle.cell_ascii_text.specs.Cells.{cell_of_number, cell_of_word};
-ghost use Rattle.cell_ascii_header.specs.InRange.{cell_in_range};
 ghost use Rattle.cell_ascii_header.specs.Given.{judged};
 ghost use Rattle.cell_ascii_text.specs.Places.{keys_of, header_in};
 ghost use Rattle.cell_ascii_tests.specs.Seen.{words_of_each};
@@ -164,27 +163,25 @@ pub(crate) fn header_in<'a>(
     Ok(header_of(&keys_of(alloc, &found)?))
 }
 
-// The cell of a number in range.
-fn in_range(number: i64) -> Result<Cell, GridKind>
-    ensures { result ≡ cell_in_range number }
+// A number as a category, none out of range.
+fn category(number: i64) -> Option<Cell>
+    ensures { result ≡ (if is_in_range number then Some (Some number) else None) }
 {
-    if !numbers::is_in_range(number) {
-        return Err(GridKind::CellRange);
-    }
-    match Cell::value(number as i32) {
-        Some(cell) => Ok(cell),
-        None => Err(GridKind::CellRange),
+    if numbers::is_in_range(number) {
+        Cell::value(number as i32)
+    } else {
+        None
     }
 }
 
-// The cell of a number, by the multiplier.
+// The cell of a number: its product with the multiplier, where both are in range.
 fn cell_of_number(multiplier: i32, number: i64) -> Result<Cell, GridKind>
     ensures { result ≡ cell_of_number multiplier (Some number) }
 {
     if !numbers::is_in_range(number) {
         return Err(GridKind::CellRange);
     }
-    in_range(number * multiplier as i64)
+    category(number * multiplier as i64).ok_or(GridKind::CellRange)
 }
 
 impl<'a> Header<'a> {

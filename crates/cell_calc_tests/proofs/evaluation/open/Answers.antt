@@ -1,14 +1,17 @@
-use Rattle.std.proofs.Common.{◌∷◌, [], length, ap, ◌∙◌, arith, length-append}
-use Rattle.cell_calc_tests.proofs.Sets.{set_more}
+use Rattle.std.proofs.Common.{◌≡◌, ◌∷◌, [], length, ap, ◌∙◌, arith, length-append}
+use Rattle.cell_calc.specs.Reach.{up_of, down_of}
+use Rattle.cell_calc_tests.proofs.Reaches.{reach_more}
 use Rattle.cell_calc_tests.proofs.evaluation.open.Goals as goal
 
 pub loop-i-preserved : goal.loop-i-preserved
 loop-i-preserved c =
     let w = c.in_ok-new.field-0 in
-    let reach = c.in_ok-new.ensures.reach in
+    let i = c.loop-i.i in
+    let bound = c.args.bound.now in
+    let up : w.above ≡ up_of i bound = c.in_ok-new.ensures.reach.0 ∙ c.reach-up.ensures.up in
+    let down : w.below ≡ down_of i bound = c.in_ok-new.ensures.reach.1 ∙ c.reach-up.ensures.down in
     record {
       count = let e = ap (λ l. length l) c.in_ok-push.ensures.items in omega (arith, e, length-append c.loop-i.windows.items (w ∷ []), c.loop-i.invariant.count);
-      set = rw c.in_ok-push.ensures.items (set_more c.args.bound.now c.loop-i.windows.items c.args.shelf.now.maps c.loop-i.i w c.map.result.now
-          c.loop-i.invariant.count c.loop-i.invariant.set c.map.ensures.value c.in_ok-new.ensures.centre
-          (reach.0 ∙ c.reach-up.ensures.up, reach.1 ∙ c.reach-up.ensures.down) c.in_ok-new.ensures.window);
+      reach = rw c.in_ok-push.ensures.items (reach_more bound c.loop-i.windows.items i w c.loop-i.invariant.count c.loop-i.invariant.reach
+          (c.in_ok-new.ensures.centre, (omega (arith, up), omega (arith, down))));
     }

@@ -1,10 +1,12 @@
-use Rattle.std.proofs.Common.{◌≡◌, length}
-use Rattle.cell_calc_tests.specs.Windows.{AreSet}
+use Rattle.std.proofs.Common.{◌≡◌, ◌<◌, ℕ, length}
+use Rattle.std.specs.Prelude.{slice_get}
+use Rattle.cell_calc.specs.Reach.{up_of, down_of}
+use Rattle.cell_calc.specs.Window.{HasReach}
 use Rattle.cell_calc_tests.proofs.evaluation.open.Given as goal
 
 abbrev pub invariant-loop-i : goal.invariant-loop-i
 invariant-loop-i l =
     record {
       count : length l.windows.items ≡ l.i;
-      set : AreSet l.bound l.i 0 l.windows.items l.shelf.maps;
+      reach : (i : ℕ) → i < l.i → HasReach 0 (up_of i l.bound) (down_of i l.bound) (slice_get l.windows.items i);
     }

@@ -1,19 +1,27 @@
-use Rattle.std.proofs.Common.{◌≡◌, ℤ, pos, negsuc, true, sym, ◌∙◌, arith, Some, ◌≤◌, w64, refl}
-use Rattle.std.specs.Prelude.{◌*ℤ◌}
+use Rattle.std.proofs.Common.{◌≡◌, ℤ, pos, negsuc, Bool, true, false, sym, ◌∙◌, arith, Option, Some, None, Ok, Err, ◌≤◌, w64, refl}
+use Rattle.std.specs.Prelude.{◌*ℤ◌, if◌then◌else◌}
+use Rattle.std.specs.Option.{ok_or}
 use Rattle.std.specs.Int.RustNames.{FitsSigned, unsigned_abs}
 use Rattle.std.proofs.lemmas.Int.{ints, to_z-of_z, fits_signed_mul}
 use Rattle.std.proofs.lemmas.Bool.Decides.{nat_tests}
+use Rattle.cell_core.specs.Grid.{CellValue}
 use Rattle.cell_ascii_text.specs.Numbers.{is_in_range}
-use Rattle.cell_ascii_header.specs.InRange.{cell_in_range}
 use Rattle.cell_ascii_text.specs.Cells.{cell_of_number}
+use Rattle.cell_ascii_text.specs.declared.fault.GridKind.TheVariants.{CellRange}
 use Rattle.cell_ascii_tests.proofs.definition.keys.cell_of_number.Goals as goal
 
 abs_in : (n : ℤ) → is_in_range n ≡ true → unsigned_abs n ≤ 2147483647
 abs_in (pos k) e = grind (arith, nat_tests)
 abs_in (negsuc k) e = grind (arith, nat_tests)
 
-by_product : (m n : ℤ) → is_in_range n ≡ true → cell_in_range (n *ℤ m) ≡ cell_of_number m (Some n)
-by_product m n e = rw e refl
+-- a cell where there is one, else the fault of the range
+or_range : (b : Bool) (cell : CellValue) → ok_or (if b then Some cell else None) CellRange ≡ (if b then Ok cell else Err CellRange)
+or_range true cell = refl
+or_range false cell = refl
+
+by_product : (m n : ℤ) (product : Option CellValue) → is_in_range n ≡ true → product ≡ (if is_in_range (n *ℤ m) then Some (Some (n *ℤ m)) else None)
+    → ok_or product CellRange ≡ cell_of_number m (Some n)
+by_product m n product near is = rw (near, is) (or_range (is_in_range (n *ℤ m)) (Some (n *ℤ m)))
 
 pub returns : goal.returns
 returns c =
@@ -25,4 +33,4 @@ returns c =
     let small : unsigned_abs m ≤ 2147483648 = omega (arith, ints) in
     let product_fits = fits_signed_mul w64 n m 2147483647 2147483648 (abs_in n near) small (omega arith) in
     let wide : FitsSigned w64 m = record { sfits = omega (arith, multiplier_fits.sfits) } in
-    (simp to_z-of_z at c.in_range.ensures) ∙ by_product m n near
+    c.ok_or.ensures.value ∙ by_product m n c.category.result near (simp to_z-of_z at c.category.ensures)

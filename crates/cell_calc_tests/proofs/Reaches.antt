@@ -1,0 +1,26 @@
+-- Windows that reach as far as an expression reads, one more.
+use Rattle.std.proofs.Common.{◌≡◌, ◌<◌, ◌+◌, ℕ, zero, suc, List, [], ◌∷◌, ◌++◌, length, refl, arith, Some, below_more}
+use Rattle.std.specs.Prelude.{slice_get}
+use Rattle.cell_calc.specs.Formula.{Formula}
+use Rattle.cell_calc.specs.Reach.{up_of, down_of}
+use Rattle.cell_calc.specs.Window.{Window, HasReach}
+
+-- an item before the last, and the last
+before : {A : Type 0} (xs ys : List A) (i : ℕ) → i < length xs → slice_get (xs ++ ys) i ≡ slice_get xs i
+before [] ys i lt = absurd (let no : ⊥ = omega arith in no)
+before (x ∷ xs) ys zero lt = refl
+before (x ∷ xs) ys (suc i) lt = before xs ys i (omega arith)
+
+behind : {A : Type 0} (xs : List A) (x : A) (i : ℕ) → length xs ≡ i → slice_get (xs ++ x ∷ []) i ≡ Some x
+behind [] x zero e = refl
+behind [] x (suc i) e = absurd (let no : ⊥ = omega arith in no)
+behind (y ∷ xs) x zero e = absurd (let no : ⊥ = omega arith in no)
+behind (y ∷ xs) x (suc i) e = behind xs x i (omega arith)
+
+pub reach_more : (f : Formula) (windows : List Window) (n : ℕ) (w : Window) → length windows ≡ n
+    → ((i : ℕ) → i < n → HasReach 0 (up_of i f) (down_of i f) (slice_get windows i)) → HasReach 0 (up_of n f) (down_of n f) (Some w)
+    → (i : ℕ) → i < n + 1 → HasReach 0 (up_of i f) (down_of i f) (slice_get (windows ++ w ∷ []) i)
+reach_more f windows n w count held new =
+    below_more (λ i. HasReach 0 (up_of i f) (down_of i f) (slice_get (windows ++ w ∷ []) i)) n
+    (λ i lt. let short : i < length windows = omega arith in rw (before windows (w ∷ []) i short) (held i lt))
+    (rw (behind windows w n count) new)

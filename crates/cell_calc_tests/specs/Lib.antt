@@ -1,2 +1,0 @@
--- Windows of the maps that an expression reads.
-pub mod Windows
