@@ -2,5 +2,6 @@
 pub mod ItemLawLemmas
 pub mod ItemLemmas
 pub mod LabelLemmas
+pub mod PieceLemmas
 pub mod ReclassLemmas
 pub mod RuleLemmas

@@ -49,22 +49,25 @@ new_row-replicate rules zero cell = refl
 new_row-replicate rules (suc n) cell = ap (λ (l : List CellValue). new_category rules cell ∷ l) (new_row-replicate rules n cell)
 
 -- a run more of a row
-module _ (rules : List RuleValue) (row new all : List CellValue) (at n : ℕ) (cell x : CellValue) (old rest : List RunValue) (next : old ≡ (cell, n) ∷ rest) (applied : x ≡ new_category rules cell) (whole : take at row ++ new_row rules (written_out old) ≡ all) (within : at + length (written_out old) ≡ length row) (filled : new ≡ take at row ++ replicate n x ++ drop (at + n) row) where
-  run : new_row rules (written_out old) ≡ replicate n x ++ new_row rules (written_out rest)
-  run =
-      ap (λ l. new_row rules (written_out l)) next ∙ map-append (new_category rules) (replicate n cell) (written_out rest)
-      ∙ ap (λ l. l ++ new_row rules (written_out rest)) (new_row-replicate rules n cell ∙ ap (replicate n) (sym applied))
-
+module _ (row new : List CellValue) (at n : ℕ) (cell x : CellValue) (old rest : List RunValue) (next : old ≡ (cell, n) ∷ rest) (within : at + length (written_out old) ≡ length row) (filled : new ≡ take at row ++ replicate n x ++ drop (at + n) row) where
   count : length (written_out old) ≡ n + length (written_out rest)
   count = ap (λ l. length (written_out l)) next ∙ length-append (replicate n cell) (written_out rest) ∙ ap (λ k. k + length (written_out rest)) (length-replicate n cell)
 
   done : length (take at row ++ replicate n x) ≡ at + n
   done = length-append (take at row) (replicate n x) ∙ omega (arith, length-take-le at row (omega (arith, within, count)), length-replicate n x)
 
-  pub run-more : (take (at + n) new ++ new_row rules (written_out rest) ≡ all) × (at + n + length (written_out rest) ≡ length new)
-  run-more =
-      let first : take (at + n) new ≡ take at row ++ replicate n x = ap (take (at + n)) filled ∙ take_at (take at row ++ replicate n x) (drop (at + n) row) (at + n) done in
-      let wide : length new ≡ (at + n) + length (drop (at + n) row) = ap length filled ∙ length-append (take at row ++ replicate n x) (drop (at + n) row) ∙ ap (λ k. k + length (drop (at + n) row)) done in (
-        ap (λ l. l ++ new_row rules (written_out rest)) first ∙ append_assoc (take at row) (replicate n x) (new_row rules (written_out rest)) ∙ ap (λ l. take at row ++ l) (sym run) ∙ whole,
-        omega (arith, wide, within, count, length-drop (at + n) row),
-      )
+  pub width-more : at + n + length (written_out rest) ≡ length new
+  width-more =
+      let wide : length new ≡ (at + n) + length (drop (at + n) row) = ap length filled ∙ length-append (take at row ++ replicate n x) (drop (at + n) row) ∙ ap (λ k. k + length (drop (at + n) row)) done in
+      omega (arith, wide, within, count, length-drop (at + n) row)
+
+  module _ (rules : List RuleValue) (all : List CellValue) (applied : x ≡ new_category rules cell) (whole : take at row ++ new_row rules (written_out old) ≡ all) where
+    run : new_row rules (written_out old) ≡ replicate n x ++ new_row rules (written_out rest)
+    run =
+        ap (λ l. new_row rules (written_out l)) next ∙ map-append (new_category rules) (replicate n cell) (written_out rest)
+        ∙ ap (λ l. l ++ new_row rules (written_out rest)) (new_row-replicate rules n cell ∙ ap (replicate n) (sym applied))
+
+    pub run-more : take (at + n) new ++ new_row rules (written_out rest) ≡ all
+    run-more =
+        let first : take (at + n) new ≡ take at row ++ replicate n x = ap (take (at + n)) filled ∙ take_at (take at row ++ replicate n x) (drop (at + n) row) (at + n) done in
+        ap (λ l. l ++ new_row rules (written_out rest)) first ∙ append_assoc (take at row) (replicate n x) (new_row rules (written_out rest)) ∙ ap (λ l. take at row ++ l) (sym run) ∙ whole

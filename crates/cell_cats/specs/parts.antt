@@ -1,2 +1,3 @@
--- Cells that are reclassed by what is known of them.
+-- Cells that are reclassed by what is known of them, and by the pieces that rules cut the number line into.
 pub mod Known
+pub mod Pieces

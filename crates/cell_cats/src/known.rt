@@ -3,8 +3,9 @@
 ghost use Rattle.std.specs.Prelude.{◌≡◌, ◌<◌, List, IfOk, length};
 ghost use Rattle.cell_cats.specs.Rule.{RuleValue, new_category};
 ghost use Rattle.cell_cats.specs.parts.Known.{AreRight};
+ghost use Rattle.cell_cats.specs.parts.Pieces.{AreOfRules};
 
-use crate::rules::Rules;
+use crate::pieces::Pieces;
 use cell_core::cell::Cell;
 use cell_core::memory::Memory;
 use std::alloc::Global;
@@ -55,18 +56,17 @@ pub(crate) fn only_null(alloc: Global) -> Result<Vec<Known>, Memory>
 }
 
 // The new category of a cell, which is known from then on.
-pub(crate) fn look_up(rules: &Rules, known: &mut [Known], cell: Cell) -> Cell
+pub(crate) fn look_up(pieces: &Pieces, known: &mut [Known], cell: Cell) -> Cell
     requires some { 0 < length known.old }
-    requires right { AreRight rules.now known.old }
-    ensures value { result ≡ new_category rules.now cell }
-    ensures right { AreRight rules.now known.new }
+    ensures value { (rules : List RuleValue) → AreOfRules rules pieces.now → AreRight rules known.old → result ≡ new_category rules cell }
+    ensures right { (rules : List RuleValue) → AreOfRules rules pieces.now → AreRight rules known.old → AreRight rules known.new }
 {
     let at = place_of(cell, known.len());
     let found = known[at];
     if found.cell == cell {
         return found.reclassed;
     }
-    let reclassed = rules.apply(cell);
+    let reclassed = pieces.apply(cell);
     known[at] = Known { cell, reclassed };
     reclassed
 }

@@ -4,6 +4,7 @@
 mod known;
 pub mod law;
 mod line;
+mod pieces;
 pub mod reclassing;
 mod rule;
 pub mod rules;

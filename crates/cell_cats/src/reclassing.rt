@@ -1,14 +1,16 @@
 //! Maps by rules.
 
-ghost use Rattle.std.specs.Prelude.{◌≡◌, ◌<◌, ◌≤◌, ◌+◌, length, ℤ, IfOk, OnOk};
+ghost use Rattle.std.specs.Prelude.{◌≡◌, ◌<◌, ◌≤◌, ◌+◌, length, ℤ, List, IfOk, OnOk};
 ghost use Rattle.std.specs.FinMap.{get};
 ghost use Rattle.cell_core.specs.Grid.{no_labels};
 ghost use Rattle.cell_core.specs.Runs.{written_out};
-ghost use Rattle.cell_cats.specs.Rule.{label_of};
+ghost use Rattle.cell_cats.specs.Rule.{RuleValue, label_of};
 ghost use Rattle.cell_cats.specs.Reclass.{new_row, labels_of, reclassed};
 ghost use Rattle.cell_cats.specs.parts.Known.{AreRight};
+ghost use Rattle.cell_cats.specs.parts.Pieces.{AreOfRules};
 
 use crate::known::{Known, look_up, only_null};
+use crate::pieces::Pieces;
 use crate::rules::Rules;
 use cell_core::cell::Cell;
 use cell_core::map::{CellMap, MapBuilder};
@@ -17,16 +19,15 @@ use cell_core::runs::{Runs, fill_run};
 use std::alloc::Global;
 
 // Writes the new categories of a row's runs. The slice is as long as that row.
-fn write_new(rules: &Rules, known: &mut [Known], runs: Runs<'_>, row: &mut [Cell])
+fn write_new(pieces: &Pieces, known: &mut [Known], runs: Runs<'_>, row: &mut [Cell])
     requires width { length row.old ≡ length (written_out runs) }
     requires some { 0 < length known.old }
-    requires right { AreRight rules.now known.old }
-    ensures row { row.new ≡ new_row rules.now (written_out runs.entry) }
-    ensures right { AreRight rules.now known.new }
+    ensures row { (rules : List RuleValue) → AreOfRules rules pieces.now → AreRight rules known.old → row.new ≡ new_row rules (written_out runs.entry) }
+    ensures right { (rules : List RuleValue) → AreOfRules rules pieces.now → AreRight rules known.old → AreRight rules known.new }
 {
     let mut at = 0;
     for (cell, count) in runs {
-        fill_run(row, at, (look_up(rules, known, cell), count));
+        fill_run(row, at, (look_up(pieces, known, cell), count));
         at += count as usize;
     }
 }
@@ -44,8 +45,8 @@ fn set_labels(rules: &Rules, made: &mut CellMap) -> Result<(), Memory>
     Ok(())
 }
 
-/// The map by rules: each cell has its new category, by one look at the rules a run at most; the labels are those of the
-/// rules and no others.
+/// The map by rules: each cell has its new category; the labels are those of the rules and no others. The ranges of the
+/// rules are sorted once, and the new category of a run is found in a time that grows with the logarithm of their number.
 ///
 /// # Errors
 ///
@@ -57,11 +58,12 @@ pub fn reclass(alloc: Global, given: &CellMap, rules: &Rules) -> Result<CellMap,
     let region = given.region();
     let mut buffer = vec![in alloc; Cell::null(); region.cols() as usize]?;
     let row = buffer.as_mut_slice();
+    let pieces = Pieces::of_rules(alloc, rules)?;
     let mut places = only_null(alloc)?;
     let known = places.as_mut_slice();
     let mut builder = MapBuilder::new(alloc, region);
     for r in 0..region.rows() {
-        write_new(rules, known, given.runs(r), row);
+        write_new(&pieces, known, given.runs(r), row);
         builder.push_row(row)?;
     }
     let mut made = builder.finish();

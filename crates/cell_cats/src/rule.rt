@@ -1,6 +1,6 @@
 //! One rule.
 
-ghost use Rattle.std.specs.Prelude.{◌≡◌, ◌≢◌, Some, IfSome};
+ghost use Rattle.std.specs.Prelude.{◌≡◌, ◌≢◌, ℤ, Some, IfSome};
 ghost use Rattle.std.specs.List.{list_any};
 ghost use Rattle.std.specs.Option.{option_map};
 ghost use Rattle.cell_cats.specs.Rule.{is_between, lists, is_star_rule, outcome, labelled};
@@ -78,6 +78,16 @@ impl Rule {
         match &self.listed {
             Some(ranges) => is_in_ranges(ranges, x),
             None => false,
+        }
+    }
+
+    // The ends of the ranges that it lists: none where it is a rule of `*`.
+    pub(crate) fn ranges(&self) -> &[(i32, i32)]
+        ensures { (x : ℤ) → lists x self.now ≡ list_any (λ ends. is_between ends x) result.now }
+    {
+        match &self.listed {
+            Some(ranges) => ranges.as_slice(),
+            None => &[],
         }
     }
 

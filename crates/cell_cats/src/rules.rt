@@ -2,7 +2,7 @@
 
 ghost use Rattle.std.specs.Prelude.{◌≡◌, ◌≢◌, [], Ok, Err, IfOk, IfErr, OnErr, IfSome};
 ghost use Rattle.std.specs.Option.{option_map};
-ghost use Rattle.cell_cats.specs.Rule.{new_category, output_for, outcome};
+ghost use Rattle.cell_cats.specs.Rule.{new_category, output_for, last_output, is_star_rule, outcome};
 ghost use Rattle.cell_cats.specs.RuleLine.{with_line};
 
 use crate::line::{is_skipped, rule_of};
@@ -95,21 +95,30 @@ impl Rules {
         }
     }
 
+    // The output of the last rule of `*`.
+    pub(crate) fn starred(&self) -> Option<Output>
+        ensures { result ≡ last_output is_star_rule self.now }
+    {
+        let mut starred = None;
+        for rule in &self.rules {
+            if rule.is_star() {
+                starred = Some(rule.output());
+            }
+        }
+        starred
+    }
+
     // The output for a category.
     fn output_for(&self, x: i32) -> Option<Output>
         ensures { result ≡ output_for self.now x }
     {
         let mut listing = None;
-        let mut starred = None;
         for rule in &self.rules {
             if rule.lists(x) {
                 listing = Some(rule.output());
             }
-            if rule.is_star() {
-                starred = Some(rule.output());
-            }
         }
-        listing.or(starred)
+        listing.or(self.starred())
     }
 
     /// The new category of a cell.

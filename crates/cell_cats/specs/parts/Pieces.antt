@@ -1,0 +1,34 @@
+-- The number line cut into pieces, each with the output of its categories.
+use Rattle.std.specs.Prelude.{◌≡◌, ℤ, negsuc, ◌≤ℤ◌, ◌<ℤ◌, List, Option, Some, None, if◌then◌else◌}
+use Rattle.std.specs.BTreeMap.{get}
+use Rattle.std.specs.Ordering.{int_cmp}
+use Rattle.cell_cats.specs.Rule.{RuleValue, is_between, lists, output_for}
+use Rattle.cell_cats.specs.declared.rule.Output.{Output}
+use Rattle.cell_cats.specs.declared.pieces.Pieces.{Pieces}
+
+-- the output of the piece that x lies in: of those that begin at x or before it, the one that begins last
+pub record IsOutputAt (starts : ℤ → Option (Option Output)) (x : ℤ) (output : Option Output) : Type 0 where
+  pub start : ℤ
+  pub before : start ≤ℤ x
+  pub begins : starts start ≡ Some output
+  pub last : (q : ℤ) → start <ℤ q → q ≤ℤ x → starts q ≡ None
+
+-- every category, and every whole number after them, has this output
+abbrev pub AreOutputs : (ℤ → Option Output) → (ℤ → Option (Option Output)) → Type 0
+AreOutputs outputs starts = (x : ℤ) → negsuc 2147483647 ≤ℤ x → IsOutputAt starts x (outputs x)
+
+-- the categories of a range get an output, the others keep theirs
+abbrev pub painted : ℤ × ℤ → Output → (ℤ → Option Output) → ℤ → Option Output
+painted ends output outputs x = if is_between ends x then Some output else outputs x
+
+-- the categories that a rule lists get its output, the others keep theirs
+abbrev pub ruled : RuleValue → (ℤ → Option Output) → ℤ → Option Output
+ruled rule outputs x = if lists x rule then Some rule.output else outputs x
+
+-- the pieces have these outputs
+abbrev pub HaveOutputs : (ℤ → Option Output) → Pieces → Type 0
+HaveOutputs outputs pieces = AreOutputs outputs (get int_cmp pieces.starts)
+
+-- the pieces are those of the rules: each category has the output that the rules have for it
+abbrev pub AreOfRules : List RuleValue → Pieces → Type 0
+AreOfRules rules pieces = HaveOutputs (output_for rules) pieces

@@ -1,0 +1,104 @@
+//! The number line cut into pieces, each with the output that rules have for its categories: the new category of a cell is
+//! found in a time that grows with the logarithm of the number of ranges.
+
+ghost use Rattle.std.specs.Prelude.{◌≡◌, ℤ, negsuc, ◌≤ℤ◌, ◌<ℤ◌, List, Option, Some, None, IfOk, OnOk};
+ghost use Rattle.std.specs.BTreeMap.{get};
+ghost use Rattle.std.specs.Ordering.{int_cmp};
+ghost use Rattle.cell_cats.specs.Rule.{RuleValue, new_category, outcome};
+ghost use Rattle.cell_cats.specs.parts.Pieces.{HaveOutputs, AreOfRules, painted, ruled};
+
+use crate::rule::{Output, Rule};
+use crate::rules::Rules;
+use cell_core::cell::Cell;
+use cell_core::memory::Memory;
+use std::alloc::Global;
+use std::collections::BTreeMap;
+
+// The output of each piece by the place where it begins. The last may begin after the greatest category.
+#[derive(Drop)]
+pub(crate) struct Pieces {
+    starts: BTreeMap<i64, Option<Output>>,
+}
+
+impl Pieces {
+    // The pieces into which rules cut the line: at most two for each range, and one more.
+    pub(crate) fn of_rules(alloc: Global, rules: &Rules) -> Result<Pieces, Memory>
+        ensures { IfOk result (λ pieces. AreOfRules rules.now pieces) }
+    {
+        let mut pieces = Pieces::whole(alloc, rules.starred())?;
+        for rule in rules.as_slice() {
+            pieces.add(rule)?;
+        }
+        Ok(pieces)
+    }
+
+    // One piece of the whole line.
+    fn whole(alloc: Global, output: Option<Output>) -> Result<Pieces, Memory>
+        ensures { IfOk result (λ pieces. HaveOutputs (λ _. output) pieces) }
+    {
+        let mut starts = BTreeMap::new(alloc);
+        starts.insert(i64::from(i32::MIN), output)?;
+        Ok(Pieces { starts })
+    }
+
+    // Gives the output of a rule to the categories that it lists.
+    fn add(&mut self, rule: &Rule) -> Result<(), Memory>
+        ensures { OnOk result ((outputs : ℤ → Option Output) → HaveOutputs outputs self.old → HaveOutputs (ruled rule.now outputs) self.new) }
+    {
+        for ends in rule.ranges() {
+            self.paint(*ends, rule.output())?;
+        }
+        Ok(())
+    }
+
+    // Gives an output to the categories of a range. Each beginning in it is taken out, once for all: so the ranges take
+    // n log n steps, whatever they are.
+    fn paint(&mut self, ends: (i32, i32), output: Output) -> Result<(), Memory>
+        ensures { OnOk result ((outputs : ℤ → Option Output) → HaveOutputs outputs self.old → HaveOutputs (painted ends output outputs) self.new) }
+    {
+        let from = i64::from(ends.0.min(ends.1));
+        let to = i64::from(ends.0.max(ends.1));
+        let after = self.at(to + 1);
+        self.starts.insert(to + 1, after)?;
+        self.clear(from, to);
+        self.starts.insert(from, Some(output))?;
+        Ok(())
+    }
+
+    // Takes out what begins from one place up to another.
+    fn clear(&mut self, from: i64, to: i64)
+        requires { from ≤ℤ to }
+        ensures before { (q : ℤ) → q <ℤ from → get int_cmp self.new.starts q ≡ get int_cmp self.old.starts q }
+        ensures after { (q : ℤ) → to <ℤ q → get int_cmp self.new.starts q ≡ get int_cmp self.old.starts q }
+        ensures cleared { (q : ℤ) → from ≤ℤ q → q ≤ℤ to → get int_cmp self.new.starts q ≡ None }
+    {
+        while let Some((start, _)) = self.starts.range(from..=to).next() {
+            let start = *start;
+            self.starts.remove(&start);
+        }
+    }
+
+    // The output at a place.
+    fn at(&self, place: i64) -> Option<Output>
+        requires { negsuc 2147483647 ≤ℤ place }
+        ensures { (outputs : ℤ → Option Output) → HaveOutputs outputs self.now → result ≡ outputs place }
+    {
+        match self.starts.range(..=place).next_back() {
+            Some((_, output)) => *output,
+            None => None,
+        }
+    }
+
+    // The new category of a cell.
+    pub(crate) fn apply(&self, cell: Cell) -> Cell
+        ensures { (rules : List RuleValue) → AreOfRules rules self.now → result ≡ new_category rules cell }
+    {
+        let Some(x) = cell.get() else {
+            return Cell::null();
+        };
+        match self.at(i64::from(x)) {
+            Some(output) => output.of(cell),
+            None => Cell::null(),
+        }
+    }
+}
