@@ -12,4 +12,3 @@ pub mod Pieces
 pub mod SpellingLemmas
 pub mod OnlyLemmas
 pub mod PostfixLemmas
-pub mod WaitingLemmas
