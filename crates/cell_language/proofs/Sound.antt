@@ -199,14 +199,13 @@ sound_unary f s ts rule _ h = tt
 
 sound_called : (name : List ℕ) (c d : ℕ) (ts : List Placed) (f : Function) → function_of name ≡ Some f → (o : Outcome) → IsSound (Called ts) o
     → IsSound (Operand (name_at name c ∷ sign_at OpenParenthesis d ∷ ts)) (call f (name_at name c ∷ sign_at OpenParenthesis d ∷ ts) o)
-sound_called name c d ts f e (Got a rest) h = tt
-sound_called name c d ts f e (Stops kind rest) h = tt
 sound_called name c d ts f e (GotAll xs rest) h = go (accepts f (count xs)) refl
   where
     go : (b : Bool) → accepts f (count xs) ≡ b → IsSound (Operand (name_at name c ∷ sign_at OpenParenthesis d ∷ ts)) (judged b f xs (name_at name c ∷ sign_at OpenParenthesis d ∷ ts) rest)
     go true a =
         (name_at name c ∷ sign_at OpenParenthesis d ∷ h.0, ap (λ l. name_at name c ∷ sign_at OpenParenthesis d ∷ l) h.1, grammar.called f e a h.2, next_zero rest)
     go false a = tt
+sound_called name c d ts f e _ h = tt
 
 sound_moved : (name : List ℕ) (c d : ℕ) (ts : List Placed) (p : Part (ℤ × ℤ)) → IsPartOf AreBoth ts p → IsSound (Operand (name_at name c ∷ sign_at OpenBracket d ∷ ts)) (move name c p)
 sound_moved name c d ts (Err e) h = tt

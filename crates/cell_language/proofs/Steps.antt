@@ -148,12 +148,6 @@ not_closed : (t : Option Token) (a : Term) (ts : List Placed) → IsNot ClosePar
 not_closed (Some (token.Sign CloseParenthesis)) a ts n = absurd (n refl)
 not_closed _ a ts n = refl
 
-regroup : (w x y z : List Step) → ((w ++ x) ++ y) ++ z ≡ w ++ (x ++ (y ++ z))
-regroup w x y z = simp append_assoc
-
-regroup_chosen : (w x y z v : List Step) → ((w ++ (x ++ y)) ++ z) ++ v ≡ w ++ ((x ++ (y ++ (z ++ []))) ++ v)
-regroup_chosen w x y z v = simp (append_assoc, append-nil)
-
 -- after an operand, or more
 module _ (s : State) (fs : List Frame) (steps : List Step) (ts : List Placed) where
   pub negated : IsRead s (frame.Negated ∷ fs) steps ts → IsRead s fs (steps ++ step.Negated ∷ []) ts
@@ -165,12 +159,12 @@ module _ (s : State) (fs : List Frame) (steps : List Step) (ts : List Placed) wh
   pub joined : (k : ℕ) (op : Operator) → IsRead s (frame.Joined k op ∷ fs) steps ts → IsRead s (frame.Level k ∷ fs) (steps ++ step.Binary op ∷ []) ts
   joined k op h =
       let f = h.3 in
-      (Binary op f.0 h.0, f.1, ap (λ l. l ++ step.Binary op ∷ []) (h.2 ∙ ap (λ l. l ++ postfix h.0) f.2) ∙ regroup f.1 (postfix f.0) (postfix h.0) (step.Binary op ∷ []), f.3)
+      (Binary op f.0 h.0, f.1, ap (λ l. l ++ step.Binary op ∷ []) (h.2 ∙ ap (λ l. l ++ postfix h.0) f.2) ∙ simp append_assoc, f.3)
 
   pub chosen : IsRead s (frame.AfterColon ∷ fs) steps ts → IsRead s fs (steps ++ step.Call If 3 ∷ []) ts
   chosen h =
       let f = h.3 in
-      (Call If (Then f.0 (Then f.1 (Then h.0 NoTerms))), f.2, ap (λ l. l ++ step.Call If 3 ∷ []) (h.2 ∙ ap (λ l. l ++ postfix h.0) f.3) ∙ regroup_chosen f.2 (postfix f.0) (postfix f.1) (postfix h.0) (step.Call If 3 ∷ []), f.4)
+      (Call If (Then f.0 (Then f.1 (Then h.0 NoTerms))), f.2, ap (λ l. l ++ step.Call If 3 ∷ []) (h.2 ∙ ap (λ l. l ++ postfix h.0) f.3) ∙ simp (append_assoc, append-nil), f.4)
 
   pub no_more : (k : ℕ) → IsRead s (frame.Level k ∷ fs) steps ts → next k ts ≡ None → IsRead s fs steps ts
   no_more k h e = (h.0, h.1, h.2, h.3 (Got h.0 ts) (done e))
