@@ -30,40 +30,26 @@ no_some x a e e' = let h : ⊥ = cc in absurd h
 -- reading has one outcome
 pub one_outcome : {s : State} {o p : Outcome} → Reads s o → Reads s p → o ≡ p
 one_outcome reading.number reading.number = refl
-one_outcome reading.number (nothing b) = absurd b
 one_outcome (reading.map n) (reading.map n') = refl
 one_outcome (reading.map n) reading.moved = absurd (n.1 refl)
 one_outcome (reading.map n) (reading.unknown e) = absurd (n.0 refl)
 one_outcome (reading.map n) (reading.called f e q) = absurd (n.0 refl)
-one_outcome (reading.map n) (nothing b) = absurd b
 one_outcome reading.moved (reading.map n) = absurd (n.1 refl)
 one_outcome reading.moved reading.moved = refl
-one_outcome reading.moved (nothing b) = absurd b
 one_outcome (reading.unknown e) (reading.map n) = absurd (n.0 refl)
 one_outcome (reading.unknown e) (reading.unknown e') = refl
 one_outcome (reading.unknown e) (reading.called f e' q) = no_some _ f e e'
-one_outcome (reading.unknown e) (nothing b) = absurd b
 one_outcome (reading.called f e r) (reading.map n) = absurd (n.0 refl)
 one_outcome (reading.called f e r) (reading.unknown e') = no_some _ f e' e
 one_outcome (reading.called {name = name} {c = c} {d = d} {ts = ts} {o = o} f e r) (reading.called {o = o'} f' e' q) =
     let from : List Placed = name_at name c ∷ sign_at OpenParenthesis d ∷ ts in
     ap (λ x. call x from o) (same_some (function_of name) f f' e e') ∙ ap (call f' from) (one_outcome r q)
-one_outcome (reading.called f e r) (nothing b) = absurd b
 one_outcome (reading.negated r) (reading.negated q) = ap negate (one_outcome r q)
-one_outcome (reading.negated r) (nothing b) = absurd b
 one_outcome (reading.not r) (reading.not q) = ap invert (one_outcome r q)
-one_outcome (reading.not r) (nothing b) = absurd b
 one_outcome (reading.inside r) (reading.inside q) = ap close (one_outcome r q)
-one_outcome (reading.inside r) (nothing b) = absurd b
-one_outcome (nothing b) reading.number = absurd b
-one_outcome (nothing b) (reading.map n) = absurd b
-one_outcome (nothing b) reading.moved = absurd b
-one_outcome (nothing b) (reading.unknown e) = absurd b
-one_outcome (nothing b) (reading.called f e q) = absurd b
-one_outcome (nothing b) (reading.negated q) = absurd b
-one_outcome (nothing b) (reading.not q) = absurd b
-one_outcome (nothing b) (reading.inside q) = absurd b
 one_outcome (nothing b) (nothing b') = refl
+one_outcome (nothing b) _ = absurd b
+one_outcome _ (nothing b) = absurd b
 one_outcome (whole {k = k} {o = o} {p = p} r m) (whole {o = o'} {p = p'} q n) =
     one_outcome m (subst (λ x. Reads (More k x) p') (sym (one_outcome r q)) n)
 one_outcome stopped stopped = refl

@@ -27,25 +27,11 @@ use Rattle.cell_language.proofs.Sound.{sound_all, front_is}
 use Rattle.cell_language.proofs.Steps.{after_is}
 use Rattle.cell_language.proofs.Told.{ToldAt, told}
 
--- no name is at the front
-abbrev pub NoName : Option Token → Type 0
-NoName t = (name : List ℕ) → t ≡ Some (token.Name name) → ⊥
-
-none_without_name : (ts : List Placed) → NoName (head ts) → IsNone ts
-none_without_name ts n = λ a h. n a.target (ap head h.3)
-
 none_without_assign : (s : Placed) (ts : List Placed) → IsNot Assign (head ts) → IsNone (s ∷ ts)
 none_without_assign s ts n = λ a h. n (ap (λ l. head (tail l)) h.3)
 
 none_of_expression : (s t : Placed) (ts : List Placed) → ((a : Term) → IsExpression ts a → ⊥) → IsNone (s ∷ t ∷ ts)
 none_of_expression s t ts n = λ a h. n a.expr (subst (λ l. IsExpression l a.expr) (sym (ap (λ l. tail (tail l)) h.3)) h.4)
-
-unexpected_without_name : (ts : List Placed) → NoName (head ts) → IsUnexpected [] ts
-unexpected_without_name [] n = none_without_name [] n
-unexpected_without_name (s ∷ rest) n = λ after. none_without_name (s ∷ after) n
-
-pub no_name : (end : ℕ) (ts : List Placed) → NoName (head ts) → IsGrammarFault end ts (record { kind = Expected; column = column_of end ts })
-no_name end ts n = ([], ts, refl, refl, unexpected_without_name ts n, none_without_name ts n)
 
 unexpected_without_assign : (s : Placed) (ts : List Placed) → IsNot Assign (head ts) → IsUnexpected (s ∷ []) ts
 unexpected_without_assign s [] n = none_without_assign s [] n

@@ -80,8 +80,7 @@ read_grammatical name ts us a left all h f r =
 
 spells_category : (bytes : List ℕ) (t : Token) → Spells bytes t → IsCategory t
 spells_category bytes (token.Number n) is = is.3
-spells_category bytes (token.Name name) is = tt
-spells_category bytes (token.Sign s) is = tt
+spells_category bytes _ is = tt
 
 -- the numbers that a text spells are categories
 pub spelled_categories : {c : ℕ} {text : List ℕ} {ts : List Placed} → AreSpelled c text ts → AreCategories ts

@@ -5,6 +5,7 @@ use Rattle.std.proofs.lemmas.List.{append_cancel_right}
 use Rattle.cell_tokens.specs.declared.fault.CalcKind.{CalcKind}
 use Rattle.cell_tokens.specs.declared.fault.CalcKind.TheVariants.{Expected, BadOffset}
 use Rattle.cell_tokens.specs.declared.function.Function.{Function}
+use Rattle.cell_tokens.specs.declared.function.Function.TheVariants.{If}
 use Rattle.cell_tokens.specs.declared.operator.Operator.{Operator}
 use Rattle.cell_tokens.specs.declared.token.Placed.{Placed}
 use Rattle.cell_tokens.specs.declared.token.Sign.TheVariants.{Plus, Minus, OpenParenthesis, CloseParenthesis, OpenBracket, CloseBracket, Comma}
@@ -16,9 +17,9 @@ use Rattle.cell_language.specs.GrammarFault as grammar_fault
 use Rattle.cell_language.specs.GrammarFault.{IsOffsetSign, IsBeforeNumber, IsInBrackets}
 use Rattle.cell_language.specs.Reading as reading
 use Rattle.cell_language.specs.Reading.{Part, tail, and_then, distance_at, distance, signed, offset_at, offset, comma_at, bracket_at, to_bracket, Outcome, Got, GotAll, Stops, State, Operand, Whole, More, Expression, Choice, AfterQuestion, Called, Arguments, Onward, negate, invert, closed, close, join, choose, move, judged, call, add, Reads, nothing, whole, stopped, done, more, expression, unread, unchosen, asked, unasked, no_colon, otherwise, arguments, halted, unended}
-use Rattle.cell_language.specs.Term.{Term, count}
+use Rattle.cell_language.specs.Term.{Term, Negated, Not, Binary, Call, NoTerms, Then, count}
 use Rattle.cell_tokens.specs.Token.{name_at, sign_at, head}
-use Rattle.cell_language.proofs.Sound.{IsPartOf, IsSign, AreBoth, front_is, sound_offset, sound_offsets, sound_comma, sound_bracket}
+use Rattle.cell_language.proofs.Sound.{mapped, IsPartOf, IsSign, AreBoth, front_is, sound_offset, sound_offsets, sound_comma, sound_bracket}
 
 -- a number that is too far, after tokens of which this holds
 abbrev IsFarIn : (List Placed → Type 0) → CalcKind → List Placed → List Placed → Type 0
@@ -50,14 +51,12 @@ abbrev IsNothing : List Placed → Type 0
 IsNothing ts = ts ≡ []
 
 far_distance_at : (t : Option Token) (ts : List Placed) → IsFarPart IsNothing ts (distance_at t ts)
-far_distance_at None ts = unexpected IsNothing ts ts
-far_distance_at (Some (token.Name n)) ts = unexpected IsNothing ts ts
-far_distance_at (Some (token.Sign s)) ts = unexpected IsNothing ts ts
 far_distance_at (Some (token.Number n)) ts = go (nat_le n 255)
   where
     go : (b : Bool) → IsFarPart {A = ℕ} IsNothing ts (if b then Ok (n, tail ts) else Err (BadOffset, ts))
     go true = tt
     go false = λ k. ([], refl, refl)
+far_distance_at _ ts = unexpected IsNothing ts ts
 
 far_signed : (f : ℕ → ℤ) (before ts us : List Placed) → ts ≡ before ++ us → IsOffsetSign before → (p : Part ℕ) → IsFarPart IsNothing us p → IsFarPart IsOffsetSign ts (signed f p)
 far_signed f before ts us e r (Ok x) h = tt
@@ -149,15 +148,9 @@ fine_call f from ts (GotAll xs rest) h = go (accepts f (count xs))
     go true = h
     go false = λ k. absurd (let n : ⊥ = cc in n)
 
-fine_negate : (ts : List Placed) (o : Outcome) → IsFine ts o → IsFine ts (negate o)
-fine_negate ts (Got a rest) h = h
-fine_negate ts (GotAll xs rest) h = unexpected IsInBrackets ts rest
-fine_negate ts (Stops kind rest) h = h
-
-fine_invert : (ts : List Placed) (o : Outcome) → IsFine ts o → IsFine ts (invert o)
-fine_invert ts (Got a rest) h = h
-fine_invert ts (GotAll xs rest) h = unexpected IsInBrackets ts rest
-fine_invert ts (Stops kind rest) h = h
+fine_mapped : (f : Term → Term) (ts : List Placed) (o : Outcome) → IsFine ts o → IsFine ts (mapped f o)
+fine_mapped f ts (GotAll xs rest) h = unexpected IsInBrackets ts rest
+fine_mapped f ts _ h = h
 
 fine_closed : (t : Option Token) (a : Term) (ts rest : List Placed) → IsSuffix ts rest → IsFine ts (closed t a rest)
 fine_closed (Some (token.Sign CloseParenthesis)) a ts rest h = after_tail ts rest h
@@ -168,20 +161,9 @@ fine_close ts (Got a rest) h = fine_closed (head rest) a ts rest h
 fine_close ts (GotAll xs rest) h = unexpected IsInBrackets ts rest
 fine_close ts (Stops kind rest) h = h
 
-fine_join : (op : Operator) (a : Term) (ts : List Placed) (o : Outcome) → IsFine ts o → IsFine ts (join op a o)
-fine_join op a ts (Got b rest) h = h
-fine_join op a ts (GotAll xs rest) h = unexpected IsInBrackets ts rest
-fine_join op a ts (Stops kind rest) h = h
-
-fine_choose : (x a : Term) (ts : List Placed) (o : Outcome) → IsFine ts o → IsFine ts (choose x a o)
-fine_choose x a ts (Got b rest) h = h
-fine_choose x a ts (GotAll xs rest) h = unexpected IsInBrackets ts rest
-fine_choose x a ts (Stops kind rest) h = h
-
 fine_add : (a : Term) (ts : List Placed) (o : Outcome) → IsFine ts o → IsFine ts (add a o)
 fine_add a ts (Got b rest) h = unexpected IsInBrackets ts rest
-fine_add a ts (GotAll xs rest) h = h
-fine_add a ts (Stops kind rest) h = h
+fine_add a ts _ h = h
 
 fine : {s : State} {o : Outcome} → Reads s o → (ts : List Placed) → IsLeft ts s → IsFine ts o
 fine (reading.number {ts = us}) ts h = after_one ts us _ h
@@ -190,28 +172,23 @@ fine (reading.moved {name = name} {c = c} {d = d} {ts = us}) ts h = fine_move na
 fine (reading.unknown e) ts h = λ k. absurd (let n : ⊥ = cc in n)
 fine (reading.called {name = name} {c = c} {d = d} {ts = us} {o = o} f e r) ts h =
     fine_call f (name_at name c ∷ sign_at OpenParenthesis d ∷ us) ts o (fine r ts (after_one ts us _ (after_one ts (sign_at OpenParenthesis d ∷ us) _ h)))
-fine (reading.negated {ts = us} {o = o} r) ts h = fine_negate ts o (fine r ts (after_one ts us _ h))
-fine (reading.not {ts = us} {o = o} r) ts h = fine_invert ts o (fine r ts (after_one ts us _ h))
+fine (reading.negated {ts = us} {o = o} r) ts h = fine_mapped Negated ts o (fine r ts (after_one ts us _ h))
+fine (reading.not {ts = us} {o = o} r) ts h = fine_mapped Not ts o (fine r ts (after_one ts us _ h))
 fine (reading.inside {ts = us} {o = o} r) ts h = fine_close ts o (fine r ts (after_one ts us _ h))
 fine (nothing {ts = us} b) ts h = unexpected IsInBrackets ts us
 fine (whole r m) ts h = fine m ts (fine r ts h)
-fine stopped ts h = h
-fine (done e) ts h = h
-fine (more {s = s} {ts = us} {a = a} {o = o} op e r m) ts h = fine m ts (fine_join op a ts o (fine r ts (after_one ts us s h)))
+fine (more {s = s} {ts = us} {a = a} {o = o} op e r m) ts h = fine m ts (fine_mapped (Binary op a) ts o (fine r ts (after_one ts us s h)))
 fine (expression r m) ts h = fine m ts (fine r ts h)
-fine unread ts h = h
-fine (unchosen n) ts h = h
 fine (asked {ts = us} r m) ts h = fine m ts (fine r ts (after_one ts us _ h))
-fine unasked ts h = h
 fine (no_colon {ts = us} n) ts h = unexpected IsInBrackets ts us
-fine (otherwise {x = x} {a = a} {ts = us} {o = o} r) ts h = fine_choose x a ts o (fine r ts (after_one ts us _ h))
+fine (otherwise {x = x} {a = a} {ts = us} {o = o} r) ts h = fine_mapped (λ b. Call If (Then x (Then a (Then b NoTerms)))) ts o (fine r ts (after_one ts us _ h))
 fine (reading.none {ts = us}) ts h = after_one ts us _ h
 fine (reading.some n r) ts h = fine r ts h
 fine (arguments r m) ts h = fine m ts (fine r ts h)
-fine halted ts h = h
 fine (reading.last {ts = us}) ts h = after_one ts us _ h
 fine (reading.another {a = a} {ts = us} {o = o} r) ts h = fine_add a ts o (fine r ts (after_one ts us _ h))
 fine (unended {ts = us} n m) ts h = unexpected IsInBrackets ts us
+fine _ ts h = h
 
 -- more tokens before change nothing
 in_brackets_after : (us before : List Placed) → IsInBrackets before → IsInBrackets (us ++ before)

@@ -8,4 +8,3 @@ pub mod Faults
 pub mod Grammatical
 pub mod InBrackets
 pub mod PostfixLemmas
-pub mod WaitingLemmas

@@ -13,9 +13,9 @@ use Rattle.cell_tokens.specs.Function.{function_of, accepts}
 use Rattle.cell_tokens.specs.Operator.{level_of, top}
 use Rattle.cell_language.specs.Reading as reading
 use Rattle.cell_language.specs.Reading.{Part, tail, and_then, distance_at, distance, signed, offset_at, offset, comma_at, bracket_at, to_bracket, Outcome, Got, GotAll, Stops, State, Operand, Whole, More, Expression, Choice, AfterQuestion, Called, Arguments, Onward, goes_on, next, IsNot, IsAlone, BeginsNone, negate, invert, closed, close, join, choose, move, judged, call, add, Reads, nothing, whole, stopped, done, more, expression, unread, unchosen, asked, unasked, no_colon, otherwise, arguments, halted, unended}
-use Rattle.cell_language.specs.Term.{Term, count}
+use Rattle.cell_language.specs.Term.{Term, Negated, Not, count}
 use Rattle.cell_tokens.specs.Token.{number_at, name_at, sign_at, head}
-use Rattle.cell_language.proofs.Sound.{front_is}
+use Rattle.cell_language.proofs.Sound.{mapped, front_is}
 
 -- what is left of the tokens
 abbrev pub left : Outcome → List Placed
@@ -56,10 +56,12 @@ Looks (Got a rest) = Unit {0}
 Looks (GotAll xs rest) = Unit {0}
 Looks (Stops kind rest) = kind ≡ Expected
 
--- after the same tokens, with the same one next, the same is read
+-- after the same tokens, with the same one next, the same is read of the state that begins with the tokens
+abbrev IsLocalAs : (List Placed → State) → List Placed → Outcome → Type 0
+IsLocalAs f ts o = (before : List Placed) × (ts ≡ before ++ left o) × (Looks o → (rest : List Placed) → head (left o) ≡ head rest → Reads (f (before ++ rest)) (with_left o rest))
+
 abbrev pub IsLocal : State → Outcome → Type 0
-IsLocal s o =
-    (before : List Placed) × (tokens s ≡ before ++ left o) × (Looks o → (rest : List Placed) → head (left o) ≡ head rest → Reads (with_tokens s (before ++ rest)) (with_left o rest))
+IsLocal s o = IsLocalAs (with_tokens s) (tokens s) o
 
 head_append : (before ts us : List Placed) → head ts ≡ head us → head (before ++ ts) ≡ head (before ++ us)
 head_append [] ts us h = h
@@ -75,7 +77,6 @@ told_here : {A : Type 0} (f : List Placed → Part A) (ts : List Placed) → ((r
 told_here f ts h = ([], refl, λ k rest e. h rest e)
 
 local_distance_at : (t : Option Token) (ts : List Placed) → head ts ≡ t → IsLocalPart distance ts (distance_at t ts)
-local_distance_at None ts e = told_here distance ts (λ rest e'. ap (λ t. distance_at t rest) (sym e' ∙ e))
 local_distance_at (Some (token.Number n)) ts e = go (nat_le n 255) refl
   where
     go : (b : Bool) → nat_le n 255 ≡ b → IsLocalPart distance ts (if b then Ok (n, tail ts) else Err (BadOffset, ts))
@@ -83,8 +84,7 @@ local_distance_at (Some (token.Number n)) ts e = go (nat_le n 255) refl
         let f = front_is ts (token.Number n) e in
         (number_at n f.0 ∷ [], f.1, λ rest. rw le)
     go false le = ([], refl, λ k. absurd (let h : ⊥ = cc in h))
-local_distance_at (Some (token.Name n)) ts e = told_here distance ts (λ rest e'. ap (λ t. distance_at t rest) (sym e' ∙ e))
-local_distance_at (Some (token.Sign s)) ts e = told_here distance ts (λ rest e'. ap (λ t. distance_at t rest) (sym e' ∙ e))
+local_distance_at _ ts e = told_here distance ts (λ rest e'. ap (λ t. distance_at t rest) (sym e' ∙ e))
 
 local_distance : (ts : List Placed) → IsLocalPart distance ts (distance ts)
 local_distance ts = local_distance_at (head ts) ts refl
@@ -97,7 +97,6 @@ local_signed s g c ts us e f (Err x) h = (sign_at s c ∷ h.0, e ∙ ap (λ l. s
 
 -- a distance with no sign
 local_plain : (t : Option Token) (ts : List Placed) → head ts ≡ t → ((rest : List Placed) → offset_at t rest ≡ signed pos (distance rest)) → IsLocalPart offset ts (signed pos (distance_at t ts))
-local_plain None ts e f = told_here offset ts (λ rest e'. let p = sym e' ∙ e in ap (λ u. offset_at u rest) p ∙ f rest ∙ ap (λ u. signed pos (distance_at u rest)) p)
 local_plain (Some (token.Number n)) ts e f = go (nat_le n 255) refl
   where
     go : (b : Bool) → nat_le n 255 ≡ b → IsLocalPart offset ts (signed pos (if b then Ok (n, tail ts) else Err (BadOffset, ts)))
@@ -105,8 +104,7 @@ local_plain (Some (token.Number n)) ts e f = go (nat_le n 255) refl
         let g = front_is ts (token.Number n) e in
         (number_at n g.0 ∷ [], g.1, λ rest. rw le)
     go false le = ([], refl, λ k. absurd (let h : ⊥ = cc in h))
-local_plain (Some (token.Name n)) ts e f = told_here offset ts (λ rest e'. let p = sym e' ∙ e in ap (λ u. offset_at u rest) p ∙ f rest ∙ ap (λ u. signed pos (distance_at u rest)) p)
-local_plain (Some (token.Sign s)) ts e f = told_here offset ts (λ rest e'. let p = sym e' ∙ e in ap (λ u. offset_at u rest) p ∙ f rest ∙ ap (λ u. signed pos (distance_at u rest)) p)
+local_plain _ ts e f = told_here offset ts (λ rest e'. let p = sym e' ∙ e in ap (λ u. offset_at u rest) p ∙ f rest ∙ ap (λ u. signed pos (distance_at u rest)) p)
 
 local_offset_at : (t : Option Token) (ts : List Placed) → head ts ≡ t → IsLocalPart offset ts (offset_at t ts)
 local_offset_at (Some (token.Sign Minus)) ts e =
@@ -184,15 +182,9 @@ local_called name c d ts f e (GotAll xs rest) h = go (accepts f (count xs)) refl
     )
     go false a = ([], refl, λ l. absurd (let n : ⊥ = cc in n))
 
-local_negated : (c : ℕ) (ts : List Placed) (o : Outcome) → IsLocal (Operand ts) o → IsLocal (Operand (sign_at Minus c ∷ ts)) (negate o)
-local_negated c ts (Got a rest) h = (sign_at Minus c ∷ h.0, ap (λ l. sign_at Minus c ∷ l) h.1, λ l r e. reading.negated (h.2 tt r e))
-local_negated c ts (GotAll xs rest) h = (sign_at Minus c ∷ h.0, ap (λ l. sign_at Minus c ∷ l) h.1, λ l r e. reading.negated (h.2 tt r e))
-local_negated c ts (Stops kind rest) h = (sign_at Minus c ∷ h.0, ap (λ l. sign_at Minus c ∷ l) h.1, λ l r e. reading.negated (h.2 l r e))
-
-local_not : (c : ℕ) (ts : List Placed) (o : Outcome) → IsLocal (Operand ts) o → IsLocal (Operand (sign_at Exclamation c ∷ ts)) (invert o)
-local_not c ts (Got a rest) h = (sign_at Exclamation c ∷ h.0, ap (λ l. sign_at Exclamation c ∷ l) h.1, λ l r e. reading.not (h.2 tt r e))
-local_not c ts (GotAll xs rest) h = (sign_at Exclamation c ∷ h.0, ap (λ l. sign_at Exclamation c ∷ l) h.1, λ l r e. reading.not (h.2 tt r e))
-local_not c ts (Stops kind rest) h = (sign_at Exclamation c ∷ h.0, ap (λ l. sign_at Exclamation c ∷ l) h.1, λ l r e. reading.not (h.2 l r e))
+local_unary : (f : Term → Term) (s : Placed) (ts : List Placed) → ((us : List Placed) (o : Outcome) → Reads (Operand us) o → Reads (Operand (s ∷ us)) (mapped f o)) → (o : Outcome) → IsLocal (Operand ts) o → IsLocal (Operand (s ∷ ts)) (mapped f o)
+local_unary f s ts rule (GotAll xs rest) h = (s ∷ h.0, ap (λ l. s ∷ l) h.1, λ l r e. rule (h.0 ++ r) (GotAll xs r) (h.2 tt r e))
+local_unary f s ts rule o h = (s ∷ h.0, ap (λ l. s ∷ l) h.1, λ l r e. rule (h.0 ++ r) (with_left o r) (h.2 l r e))
 
 -- no parenthesis closes
 not_closed : (c : ℕ) (ts : List Placed) (a : Term) (rest : List Placed) (t : Option Token) → head rest ≡ t → ((r : List Placed) → closed t a r ≡ Stops Expected r) → IsLocal (Expression ts) (Got a rest) → IsLocal (Operand (sign_at OpenParenthesis c ∷ ts)) (Stops Expected rest)
@@ -220,63 +212,34 @@ local_inside c ts (Stops kind rest) h = (sign_at OpenParenthesis c ∷ h.0, ap (
 -- where the whole looks no further, nor does its first part
 looks_more : {k : ℕ} {o p : Outcome} → Reads (More k o) p → Looks p → Looks o
 looks_more stopped l = l
-looks_more (done e) l = tt
-looks_more (more op e r m) l = tt
+looks_more _ l = tt
 
 looks_choice : {o p : Outcome} → Reads (Choice o) p → Looks p → Looks o
 looks_choice unread l = l
-looks_choice (unchosen e) l = tt
-looks_choice (asked r m) l = tt
+looks_choice _ l = tt
 
 looks_after : {x : Term} {o p : Outcome} → Reads (AfterQuestion x o) p → Looks p → Looks o
 looks_after unasked l = l
-looks_after (no_colon e) l = tt
-looks_after (otherwise r) l = tt
+looks_after _ l = tt
 
 looks_onward : {o p : Outcome} → Reads (Onward o) p → Looks p → Looks o
 looks_onward halted l = l
-looks_onward reading.last l = tt
-looks_onward (reading.another r) l = tt
-looks_onward (unended e f) l = tt
+looks_onward _ l = tt
+
+-- after the next token
+local_next : (f : List Placed → State) (s : Placed) (ts : List Placed) (o : Outcome) → IsLocalAs (λ us. f (s ∷ us)) ts o → IsLocalAs f (s ∷ ts) o
+local_next f s ts o h = (s ∷ h.0, ap (λ l. s ∷ l) h.1, h.2)
 
 -- the second part goes on where the first one ended
-both_before : (s t : State) (o p : Outcome) → tokens t ≡ left o → (h : IsLocal s o) → (m : IsLocal t p) → tokens s ≡ (h.0 ++ m.0) ++ left p
-both_before s t o p e h m = h.1 ∙ ap (λ l. h.0 ++ l) (sym e ∙ m.1) ∙ sym (append_assoc h.0 m.0 (left p))
-
-local_whole : (k : ℕ) (ts : List Placed) (o p : Outcome) → (Looks p → Looks o) → IsLocal (Operand ts) o → IsLocal (More k o) p → IsLocal (Whole k ts) p
-local_whole k ts o p looks h m = (
+local_both : (f g : List Placed → State) (t : Outcome → State) (ts : List Placed) (o q p : Outcome) → left q ≡ left o → (Looks p → Looks o)
+    → ((us vs rest : List Placed) → Reads (f us) (with_left o vs) → Reads (t (with_left q vs)) (with_left p rest) → Reads (g us) (with_left p rest))
+    → IsLocalAs f ts o → IsLocalAs (λ us. t (with_left q us)) (left q) p → IsLocalAs g ts p
+local_both f g t ts o q p same looks rule h m = (
   h.0 ++ m.0,
-  both_before (Operand ts) (More k o) o p refl h m,
+  h.1 ∙ ap (λ l. h.0 ++ l) (sym same ∙ m.1) ∙ sym (append_assoc h.0 m.0 (left p)),
   λ l r e.
-      let front = h.2 (looks l) (m.0 ++ r) (ap head m.1 ∙ head_append m.0 (left p) r e) in
-      subst (λ x. Reads (Whole k x) (with_left p r)) (sym (append_assoc h.0 m.0 r)) (whole front (m.2 l r e)),
-)
-
-local_expression : (ts : List Placed) (o p : Outcome) → (Looks p → Looks o) → IsLocal (Whole top ts) o → IsLocal (Choice o) p → IsLocal (Expression ts) p
-local_expression ts o p looks h m = (
-  h.0 ++ m.0,
-  both_before (Whole top ts) (Choice o) o p refl h m,
-  λ l r e.
-      let front = h.2 (looks l) (m.0 ++ r) (ap head m.1 ∙ head_append m.0 (left p) r e) in
-      subst (λ x. Reads (Expression x) (with_left p r)) (sym (append_assoc h.0 m.0 r)) (expression front (m.2 l r e)),
-)
-
-local_arguments : (ts : List Placed) (o p : Outcome) → (Looks p → Looks o) → IsLocal (Expression ts) o → IsLocal (Onward o) p → IsLocal (Arguments ts) p
-local_arguments ts o p looks h m = (
-  h.0 ++ m.0,
-  both_before (Expression ts) (Onward o) o p refl h m,
-  λ l r e.
-      let front = h.2 (looks l) (m.0 ++ r) (ap head m.1 ∙ head_append m.0 (left p) r e) in
-      subst (λ x. Reads (Arguments x) (with_left p r)) (sym (append_assoc h.0 m.0 r)) (arguments front (m.2 l r e)),
-)
-
-local_asked : (c : ℕ) (x : Term) (ts : List Placed) (o p : Outcome) → (Looks p → Looks o) → IsLocal (Expression ts) o → IsLocal (AfterQuestion x o) p → IsLocal (Choice (Got x (sign_at Question c ∷ ts))) p
-local_asked c x ts o p looks h m = (
-  sign_at Question c ∷ (h.0 ++ m.0),
-  ap (λ l. sign_at Question c ∷ l) (both_before (Expression ts) (AfterQuestion x o) o p refl h m),
-  λ l r e.
-      let front = h.2 (looks l) (m.0 ++ r) (ap head m.1 ∙ head_append m.0 (left p) r e) in
-      subst (λ us. Reads (Choice (Got x (sign_at Question c ∷ us))) (with_left p r)) (sym (append_assoc h.0 m.0 r)) (asked front (m.2 l r e)),
+      let front = h.2 (looks l) (m.0 ++ r) (ap head (sym same ∙ m.1) ∙ head_append m.0 (left p) r e) in
+      subst (λ x. Reads (g x) (with_left p r)) (sym (append_assoc h.0 m.0 r)) (rule (h.0 ++ (m.0 ++ r)) (m.0 ++ r) r front (m.2 l r e)),
 )
 
 join_left : (op : Operator) (a : Term) (o : Outcome) → left (join op a o) ≡ left o
@@ -290,24 +253,12 @@ join_with op a (GotAll xs rest) r = refl
 join_with op a (Stops kind rest) r = refl
 
 join_looks : (op : Operator) (a : Term) (o : Outcome) → Looks (join op a o) → Looks o
-join_looks op a (Got b rest) l = tt
-join_looks op a (GotAll xs rest) l = tt
 join_looks op a (Stops kind rest) l = l
-
-local_more : (k : ℕ) (s : Placed) (ts : List Placed) (a : Term) (o p : Outcome) (op : Operator) → next k (s ∷ ts) ≡ Some op → (Looks p → Looks (join op a o)) → IsLocal (Whole (level_of op) ts) o → IsLocal (More k (join op a o)) p → IsLocal (More k (Got a (s ∷ ts))) p
-local_more k s ts a o p op e looks h m = (
-  s ∷ (h.0 ++ m.0),
-  ap (λ l. s ∷ l) (both_before (Whole (level_of op) ts) (More k (join op a o)) o p (join_left op a o) h m),
-  λ l r e'.
-      let front = h.2 (join_looks op a o (looks l)) (m.0 ++ r) (ap head (sym (join_left op a o) ∙ m.1) ∙ head_append m.0 (left p) r e') in
-      let back = subst (λ x. Reads (More k x) (with_left p r)) (join_with op a o (m.0 ++ r)) (m.2 l r e') in
-      subst (λ x. Reads (More k (Got a (s ∷ x))) (with_left p r)) (sym (append_assoc h.0 m.0 r)) (more op e front back),
-)
+join_looks op a _ l = tt
 
 local_otherwise : (c : ℕ) (x a : Term) (ts : List Placed) (o : Outcome) → IsLocal (Expression ts) o → IsLocal (AfterQuestion x (Got a (sign_at Colon c ∷ ts))) (choose x a o)
-local_otherwise c x a ts (Got b rest) h = (sign_at Colon c ∷ h.0, ap (λ l. sign_at Colon c ∷ l) h.1, λ l r e. otherwise (h.2 tt r e))
 local_otherwise c x a ts (GotAll xs rest) h = (sign_at Colon c ∷ h.0, ap (λ l. sign_at Colon c ∷ l) h.1, λ l r e. otherwise (h.2 tt r e))
-local_otherwise c x a ts (Stops kind rest) h = (sign_at Colon c ∷ h.0, ap (λ l. sign_at Colon c ∷ l) h.1, λ l r e. otherwise (h.2 l r e))
+local_otherwise c x a ts _ h = (sign_at Colon c ∷ h.0, ap (λ l. sign_at Colon c ∷ l) h.1, λ l r e. otherwise (h.2 l r e))
 
 local_some : (ts : List Placed) (o : Outcome) → IsNot CloseParenthesis (head ts) → IsLocal (Arguments ts) o → IsLocal (Called ts) o
 local_some ts o n h =
@@ -315,8 +266,7 @@ local_some ts o n h =
 
 local_another : (c : ℕ) (a : Term) (ts : List Placed) (o : Outcome) → IsLocal (Arguments ts) o → IsLocal (Onward (Got a (sign_at Comma c ∷ ts))) (add a o)
 local_another c a ts (Got b rest) h = (sign_at Comma c ∷ h.0, ap (λ l. sign_at Comma c ∷ l) h.1, λ l r e. reading.another (h.2 tt r e))
-local_another c a ts (GotAll xs rest) h = (sign_at Comma c ∷ h.0, ap (λ l. sign_at Comma c ∷ l) h.1, λ l r e. reading.another (h.2 tt r e))
-local_another c a ts (Stops kind rest) h = (sign_at Comma c ∷ h.0, ap (λ l. sign_at Comma c ∷ l) h.1, λ l r e. reading.another (h.2 l r e))
+local_another c a ts _ h = (sign_at Comma c ∷ h.0, ap (λ l. sign_at Comma c ∷ l) h.1, λ l r e. reading.another (h.2 l r e))
 
 pub is_local : {s : State} {o : Outcome} → Reads s o → IsLocal s o
 is_local (reading.number {n = n} {c = c} {ts = ts}) = (number_at n c ∷ [], refl, λ l r e. reading.number)
@@ -324,24 +274,29 @@ is_local (reading.map {name = name} {c = c} {ts = ts} f) = (name_at name c ∷ [
 is_local (reading.moved {name = name} {c = c} {d = d} {ts = ts}) = local_moved name c d ts (reading.offsets ts) (local_offsets ts)
 is_local (reading.unknown {name = name} {c = c} {d = d} {ts = ts} e) = ([], refl, λ l. absurd (let n : ⊥ = cc in n))
 is_local (reading.called {name = name} {c = c} {d = d} {ts = ts} {o = o} f e r) = local_called name c d ts f e o (is_local r)
-is_local (reading.negated {c = c} {ts = ts} {o = o} r) = local_negated c ts o (is_local r)
-is_local (reading.not {c = c} {ts = ts} {o = o} r) = local_not c ts o (is_local r)
+is_local (reading.negated {c = c} {ts = ts} {o = o} r) = local_unary Negated (sign_at Minus c) ts (λ us p q. reading.negated q) o (is_local r)
+is_local (reading.not {c = c} {ts = ts} {o = o} r) = local_unary Not (sign_at Exclamation c) ts (λ us p q. reading.not q) o (is_local r)
 is_local (reading.inside {c = c} {ts = ts} {o = o} r) = local_inside c ts o (is_local r)
 is_local (nothing {ts = ts} b) = ([], refl, λ l r e. nothing (subst BeginsNone e b))
-is_local (whole {k = k} {ts = ts} {o = o} {p = p} r m) = local_whole k ts o p (looks_more m) (is_local r) (is_local m)
+is_local (whole {k = k} {ts = ts} {o = o} {p = p} r m) = local_both Operand (Whole k) (More k) ts o o p refl (looks_more m) (λ us vs t q n. whole q n) (is_local r) (is_local m)
 is_local (stopped {k = k} {ts = ts}) = ([], refl, λ l r e. stopped)
 is_local (done {k = k} {ts = ts} {a = a} e) = ([], refl, λ l r f. done (sym (ap (goes_on k) f) ∙ e))
-is_local (more {k = k} {s = s} {ts = ts} {a = a} {o = o} {p = p} op e r m) = local_more k s ts a o p op e (looks_more m) (is_local r) (is_local m)
-is_local (expression {ts = ts} {o = o} {p = p} r m) = local_expression ts o p (looks_choice m) (is_local r) (is_local m)
+is_local (more {k = k} {s = s} {ts = ts} {a = a} {o = o} {p = p} op e r m) =
+    local_next (λ us. More k (Got a us)) s ts p
+    (local_both (Whole (level_of op)) (λ us. More k (Got a (s ∷ us))) (More k) ts o (join op a o) p (join_left op a o) (λ l. join_looks op a o (looks_more m l))
+    (λ us vs t q n. more op e q (subst (λ x. Reads (More k x) (with_left p t)) (join_with op a o vs) n)) (is_local r) (is_local m))
+is_local (expression {ts = ts} {o = o} {p = p} r m) = local_both (Whole top) Expression Choice ts o o p refl (looks_choice m) (λ us vs t q n. expression q n) (is_local r) (is_local m)
 is_local unread = ([], refl, λ l r e. unread)
 is_local (unchosen {a = a} {ts = ts} n) = ([], refl, λ l r e. unchosen (subst (IsNot Question) e n))
-is_local (asked {c = c} {x = x} {ts = ts} {o = o} {p = p} r m) = local_asked c x ts o p (looks_after m) (is_local r) (is_local m)
+is_local (asked {c = c} {x = x} {ts = ts} {o = o} {p = p} r m) =
+    local_next (λ us. Choice (Got x us)) (sign_at Question c) ts p
+    (local_both Expression (λ us. Choice (Got x (sign_at Question c ∷ us))) (AfterQuestion x) ts o o p refl (looks_after m) (λ us vs t q n. asked q n) (is_local r) (is_local m))
 is_local unasked = ([], refl, λ l r e. unasked)
 is_local (no_colon {x = x} {a = a} {ts = ts} n) = ([], refl, λ l r e. no_colon (subst (IsNot Colon) e n))
 is_local (otherwise {c = c} {x = x} {a = a} {ts = ts} {o = o} r) = local_otherwise c x a ts o (is_local r)
 is_local (reading.none {c = c} {ts = ts}) = (sign_at CloseParenthesis c ∷ [], refl, λ l r e. reading.none)
 is_local (reading.some {ts = ts} {o = o} n r) = local_some ts o n (is_local r)
-is_local (arguments {ts = ts} {o = o} {p = p} r m) = local_arguments ts o p (looks_onward m) (is_local r) (is_local m)
+is_local (arguments {ts = ts} {o = o} {p = p} r m) = local_both Expression Arguments Onward ts o o p refl (looks_onward m) (λ us vs t q n. arguments q n) (is_local r) (is_local m)
 is_local halted = ([], refl, λ l r e. halted)
 is_local (reading.last {c = c} {a = a} {ts = ts}) = (sign_at CloseParenthesis c ∷ [], refl, λ l r e. reading.last)
 is_local (reading.another {c = c} {a = a} {ts = ts} {o = o} r) = local_another c a ts o (is_local r)

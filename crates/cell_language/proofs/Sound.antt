@@ -2,7 +2,7 @@
 use Rattle.std.proofs.Common.{◌≡◌, ℕ, zero, suc, pred, ◌<◌, ◌≤◌, ℤ, pos, neg_ℤ, List, [], ◌∷◌, ◌++◌, Option, Some, None, Ok, Err, Bool, true, false, refl, sym, ap, ◌∙◌, subst, arith, append_assoc, append-nil, ◌⊎◌, inl, inr}
 use Rattle.std.specs.Prelude.{nat_le, if◌then◌else◌}
 use Rattle.std.proofs.lemmas.Bool.Decides.{nat_tests}
-use Rattle.cell_tokens.specs.declared.fault.CalcKind.TheVariants.{BadOffset}
+use Rattle.cell_tokens.specs.declared.fault.CalcKind.TheVariants.{Expected, BadOffset}
 use Rattle.cell_tokens.specs.declared.function.Function.{Function}
 use Rattle.cell_tokens.specs.declared.operator.Operator.{Operator}
 use Rattle.cell_tokens.specs.declared.token.Placed.{Placed}
@@ -16,7 +16,7 @@ use Rattle.cell_language.specs.Grammar.{IsOffset, AreOffsets, Stands, IsExpressi
 use Rattle.cell_tokens.specs.Operator.{operator_of, level_of, top}
 use Rattle.cell_language.specs.Reading as reading
 use Rattle.cell_language.specs.Reading.{Part, tail, and_then, distance_at, distance, signed, offset_at, offset, comma_at, bracket_at, to_bracket, Outcome, Got, GotAll, Stops, State, Operand, Whole, More, Expression, Choice, AfterQuestion, Called, Arguments, Onward, below_level, next, IsNot, IsAlone, BeginsNone, negate, invert, closed, close, join, choose, move, judged, call, add, Reads, nothing, whole, stopped, done, more, expression, unread, unchosen, asked, unasked, no_colon, otherwise, arguments, halted, unended}
-use Rattle.cell_language.specs.Term.{Term, count}
+use Rattle.cell_language.specs.Term.{Term, Negated, Not, count}
 use Rattle.cell_tokens.specs.Token.{number_at, name_at, sign_at, head}
 
 -- one of a level is one of each level above
@@ -58,7 +58,6 @@ abbrev IsDistance : List Placed → ℕ → Type 0
 IsDistance ts n = (c : ℕ) × (ts ≡ number_at n c ∷ []) × (n ≤ 255)
 
 sound_distance_at : (t : Option Token) (ts : List Placed) → head ts ≡ t → IsPartOf IsDistance ts (distance_at t ts)
-sound_distance_at None ts e = tt
 sound_distance_at (Some (token.Number n)) ts e = go (nat_le n 255) refl
   where
     go : (b : Bool) → nat_le n 255 ≡ b → IsPartOf IsDistance ts (if b then Ok (n, tail ts) else Err (BadOffset, ts))
@@ -67,8 +66,7 @@ sound_distance_at (Some (token.Number n)) ts e = go (nat_le n 255) refl
         let small : n ≤ 255 = grind (arith, nat_tests) in
         (number_at n f.0 ∷ [], f.1, (f.0, refl, small))
     go false le = tt
-sound_distance_at (Some (token.Name n)) ts e = tt
-sound_distance_at (Some (token.Sign s)) ts e = tt
+sound_distance_at _ ts e = tt
 
 sound_distance : (ts : List Placed) → IsPartOf IsDistance ts (distance ts)
 sound_distance ts = sound_distance_at (head ts) ts refl
@@ -170,6 +168,12 @@ sound_offsets ts =
         subst (λ l. AreBoth (front ++ l) y) (sym (g.2 ∙ ap (λ l. sign_at Comma g.0 ∷ l) g.3.2))
         (grammar.offsets g.0 g.3.1 (subst (IsOffset front) (sym g.3.4) h) g.3.3)
 
+-- after what was read: a fault goes on
+abbrev pub mapped : (Term → Term) → Outcome → Outcome
+mapped f (Got a rest) = Got (f a) rest
+mapped f (GotAll xs rest) = Stops Expected rest
+mapped f (Stops kind rest) = Stops kind rest
+
 -- the front of the tokens stands for the expression, and does not go on
 abbrev Fronts : ℕ → List Placed → Term → List Placed → Type 0
 Fronts k ts a rest = (front : List Placed) × (ts ≡ front ++ rest) × Stands k front a × (next k rest ≡ None)
@@ -189,26 +193,19 @@ IsSound (Arguments ts) (GotAll xs rest) = (front : List Placed) × (ts ≡ front
 IsSound (Onward (Got a ts)) (GotAll xs rest) = (front : List Placed) → IsExpression front a → (mid : List Placed) × (ts ≡ mid ++ rest) × AreArguments (front ++ mid) xs
 IsSound s o = ⊥
 
-sound_negated : (c : ℕ) (ts : List Placed) (o : Outcome) → IsSound (Operand ts) o → IsSound (Operand (sign_at Minus c ∷ ts)) (negate o)
-sound_negated c ts (Got a rest) h = (sign_at Minus c ∷ h.0, ap (λ l. sign_at Minus c ∷ l) h.1, grammar.negated h.2, h.3)
-sound_negated c ts (GotAll xs rest) h = tt
-sound_negated c ts (Stops kind rest) h = tt
-
-sound_not : (c : ℕ) (ts : List Placed) (o : Outcome) → IsSound (Operand ts) o → IsSound (Operand (sign_at Exclamation c ∷ ts)) (invert o)
-sound_not c ts (Got a rest) h = (sign_at Exclamation c ∷ h.0, ap (λ l. sign_at Exclamation c ∷ l) h.1, grammar.not h.2, h.3)
-sound_not c ts (GotAll xs rest) h = tt
-sound_not c ts (Stops kind rest) h = tt
+sound_unary : (f : Term → Term) (s : Placed) (ts : List Placed) → ((us : List Placed) (a : Term) → Stands zero us a → Stands zero (s ∷ us) (f a)) → (o : Outcome) → IsSound (Operand ts) o → IsSound (Operand (s ∷ ts)) (mapped f o)
+sound_unary f s ts rule (Got a rest) h = (s ∷ h.0, ap (λ l. s ∷ l) h.1, rule h.0 a h.2, h.3)
+sound_unary f s ts rule _ h = tt
 
 sound_called : (name : List ℕ) (c d : ℕ) (ts : List Placed) (f : Function) → function_of name ≡ Some f → (o : Outcome) → IsSound (Called ts) o
     → IsSound (Operand (name_at name c ∷ sign_at OpenParenthesis d ∷ ts)) (call f (name_at name c ∷ sign_at OpenParenthesis d ∷ ts) o)
-sound_called name c d ts f e (Got a rest) h = tt
-sound_called name c d ts f e (Stops kind rest) h = tt
 sound_called name c d ts f e (GotAll xs rest) h = go (accepts f (count xs)) refl
   where
     go : (b : Bool) → accepts f (count xs) ≡ b → IsSound (Operand (name_at name c ∷ sign_at OpenParenthesis d ∷ ts)) (judged b f xs (name_at name c ∷ sign_at OpenParenthesis d ∷ ts) rest)
     go true a =
         (name_at name c ∷ sign_at OpenParenthesis d ∷ h.0, ap (λ l. name_at name c ∷ sign_at OpenParenthesis d ∷ l) h.1, grammar.called f e a h.2, next_zero rest)
     go false a = tt
+sound_called name c d ts f e _ h = tt
 
 sound_moved : (name : List ℕ) (c d : ℕ) (ts : List Placed) (p : Part (ℤ × ℤ)) → IsPartOf AreBoth ts p → IsSound (Operand (name_at name c ∷ sign_at OpenBracket d ∷ ts)) (move name c p)
 sound_moved name c d ts (Err e) h = tt
@@ -227,28 +224,18 @@ sound_closed c ts a rest (Some (token.Sign CloseParenthesis)) e h =
 sound_closed c ts a rest _ e h = tt
 
 sound_inside : (c : ℕ) (ts : List Placed) (o : Outcome) → IsSound (Expression ts) o → IsSound (Operand (sign_at OpenParenthesis c ∷ ts)) (close o)
-sound_inside c ts (Stops kind rest) h = tt
-sound_inside c ts (GotAll xs rest) h = tt
 sound_inside c ts (Got a rest) h = sound_closed c ts a rest (head rest) refl h
+sound_inside c ts _ h = tt
 
 sound_whole : (k : ℕ) (ts : List Placed) (o p : Outcome) → IsSound (Operand ts) o → IsSound (More k o) p → IsSound (Whole k ts) p
 sound_whole k ts o (Stops kind rest) h m = tt
 sound_whole k ts (Got a rest') (Got b rest) h m =
     let n = m zero h.0 (omega arith) (next_zero rest') h.2 in
     (h.0 ++ n.0, h.1 ∙ ap (λ l. h.0 ++ l) n.1 ∙ sym (append_assoc h.0 n.0 rest), n.2, n.3)
-sound_whole k ts (Got a rest') (GotAll xs rest) h m = absurd m
-sound_whole k ts (GotAll ys rest') (Got a rest) h m = absurd m
-sound_whole k ts (GotAll ys rest') (GotAll xs rest) h m = absurd m
-sound_whole k ts (Stops kind rest') (Got a rest) h m = absurd m
-sound_whole k ts (Stops kind rest') (GotAll xs rest) h m = absurd m
+sound_whole k ts _ _ h m = absurd m
 
 sound_more : (k : ℕ) (s : Placed) (ts : List Placed) (a : Term) (o p : Outcome) (op : Operator) → next k (s ∷ ts) ≡ Some op → IsSound (Whole (level_of op) ts) o → IsSound (More k (join op a o)) p → IsSound (More k (Got a (s ∷ ts))) p
 sound_more k s ts a o (Stops kind rest) op e h m = tt
-sound_more k s ts a (Got b rest') (GotAll xs rest) op e h m = absurd m
-sound_more k s ts a (GotAll ys rest') (GotAll xs rest) op e h m = absurd m
-sound_more k s ts a (Stops kind rest') (GotAll xs rest) op e h m = absurd m
-sound_more k s ts a (GotAll ys rest') (Got c rest) op e h m = absurd m
-sound_more k s ts a (Stops kind rest') (Got c rest) op e h m = absurd m
 sound_more k s ts a (Got b rest') (Got c rest) op e h m = λ j front le stop st.
     let here = below_some k (operator_of s.token) op e in
     let high = above_none (pred j) op (sym (ap (below_level (pred j)) here.0) ∙ stop) in
@@ -257,34 +244,26 @@ sound_more k s ts a (Got b rest') (Got c rest) op e h m = λ j front le stop st.
     let both = joined s op here.0 refl left h.2 in
     let n = m (suc (level_of op)) (front ++ s ∷ h.0) (omega arith) h.3 both in
     (s ∷ (h.0 ++ n.0), ap (λ l. s ∷ l) (h.1 ∙ ap (λ l. h.0 ++ l) n.1 ∙ sym (append_assoc h.0 n.0 rest)), subst (λ l. Stands k l c) (append_assoc front (s ∷ h.0) n.0) n.2, n.3)
+sound_more k s ts a _ _ op e h m = absurd m
 
 sound_expression : (ts : List Placed) (o p : Outcome) → IsSound (Whole top ts) o → IsSound (Choice o) p → IsSound (Expression ts) p
 sound_expression ts o (Stops kind rest) h m = tt
 sound_expression ts (Got a rest') (Got b rest) h m =
     let n = m h.0 h.2 in
     (h.0 ++ n.0, h.1 ∙ ap (λ l. h.0 ++ l) n.1 ∙ sym (append_assoc h.0 n.0 rest), n.2)
-sound_expression ts (Got a rest') (GotAll xs rest) h m = absurd m
-sound_expression ts (GotAll ys rest') (Got a rest) h m = absurd m
-sound_expression ts (GotAll ys rest') (GotAll xs rest) h m = absurd m
-sound_expression ts (Stops kind rest') (Got a rest) h m = absurd m
-sound_expression ts (Stops kind rest') (GotAll xs rest) h m = absurd m
+sound_expression ts _ _ h m = absurd m
 
 sound_asked : (c : ℕ) (x : Term) (ts : List Placed) (o p : Outcome) → IsSound (Expression ts) o → IsSound (AfterQuestion x o) p → IsSound (Choice (Got x (sign_at Question c ∷ ts))) p
 sound_asked c x ts o (Stops kind rest) h m = tt
 sound_asked c x ts (Got a rest') (Got b rest) h m = λ front st.
     let n = m front h.0 c st h.2 in
     (sign_at Question c ∷ (h.0 ++ n.0), ap (λ l. sign_at Question c ∷ l) (h.1 ∙ ap (λ l. h.0 ++ l) n.1 ∙ sym (append_assoc h.0 n.0 rest)), n.2)
-sound_asked c x ts (Got a rest') (GotAll xs rest) h m = absurd m
-sound_asked c x ts (GotAll ys rest') (Got a rest) h m = absurd m
-sound_asked c x ts (GotAll ys rest') (GotAll xs rest) h m = absurd m
-sound_asked c x ts (Stops kind rest') (Got a rest) h m = absurd m
-sound_asked c x ts (Stops kind rest') (GotAll xs rest) h m = absurd m
+sound_asked c x ts _ _ h m = absurd m
 
 sound_otherwise : (d : ℕ) (x a : Term) (ts : List Placed) (o : Outcome) → IsSound (Expression ts) o → IsSound (AfterQuestion x (Got a (sign_at Colon d ∷ ts))) (choose x a o)
 sound_otherwise d x a ts (Got b rest) h = λ front us c st ex.
     (sign_at Colon d ∷ h.0, ap (λ l. sign_at Colon d ∷ l) h.1, choice c d st ex h.2)
-sound_otherwise d x a ts (GotAll xs rest) h = tt
-sound_otherwise d x a ts (Stops kind rest) h = tt
+sound_otherwise d x a ts _ h = tt
 
 sound_some : (ts : List Placed) (o : Outcome) → IsSound (Arguments ts) o → IsSound (Called ts) o
 sound_some ts (Got a rest) h = absurd h
@@ -296,46 +275,34 @@ sound_arguments ts o (Stops kind rest) h m = tt
 sound_arguments ts (Got a rest') (GotAll xs rest) h m =
     let n = m h.0 h.2 in
     (h.0 ++ n.0, h.1 ∙ ap (λ l. h.0 ++ l) n.1 ∙ sym (append_assoc h.0 n.0 rest), n.2)
-sound_arguments ts (Got b rest') (Got a rest) h m = absurd m
-sound_arguments ts (GotAll ys rest') (Got a rest) h m = absurd m
-sound_arguments ts (Stops kind rest') (Got a rest) h m = absurd m
-sound_arguments ts (GotAll ys rest') (GotAll xs rest) h m = absurd m
-sound_arguments ts (Stops kind rest') (GotAll xs rest) h m = absurd m
+sound_arguments ts _ _ h m = absurd m
 
 sound_another : (c : ℕ) (a : Term) (ts : List Placed) (o : Outcome) → IsSound (Arguments ts) o → IsSound (Onward (Got a (sign_at Comma c ∷ ts))) (add a o)
-sound_another c a ts (Got b rest) h = tt
 sound_another c a ts (GotAll xs rest) h = λ front st. (sign_at Comma c ∷ h.0, ap (λ l. sign_at Comma c ∷ l) h.1, grammar.another c st h.2)
-sound_another c a ts (Stops kind rest) h = tt
+sound_another c a ts _ h = tt
 
 pub sound : {s : State} {o : Outcome} → Reads s o → IsSound s o
 sound (reading.number {n = n} {c = c} {ts = ts}) = (number_at n c ∷ [], refl, grammar.number, next_zero ts)
 sound (reading.map {name = name} {c = c} {ts = ts} f) = (name_at name c ∷ [], refl, grammar.map, next_zero ts)
 sound (reading.moved {name = name} {c = c} {d = d} {ts = ts}) = sound_moved name c d ts (reading.offsets ts) (sound_offsets ts)
-sound (reading.unknown e) = tt
 sound (reading.called {name = name} {c = c} {d = d} {ts = ts} {o = o} f e r) = sound_called name c d ts f e o (sound r)
-sound (reading.negated {c = c} {ts = ts} {o = o} r) = sound_negated c ts o (sound r)
-sound (reading.not {c = c} {ts = ts} {o = o} r) = sound_not c ts o (sound r)
+sound (reading.negated {c = c} {ts = ts} {o = o} r) = sound_unary Negated (sign_at Minus c) ts (λ us a st. grammar.negated st) o (sound r)
+sound (reading.not {c = c} {ts = ts} {o = o} r) = sound_unary Not (sign_at Exclamation c) ts (λ us a st. grammar.not st) o (sound r)
 sound (reading.inside {c = c} {ts = ts} {o = o} r) = sound_inside c ts o (sound r)
-sound (nothing b) = tt
 sound (whole {k = k} {ts = ts} {o = o} {p = p} r m) = sound_whole k ts o p (sound r) (sound m)
-sound stopped = tt
 sound (done {k = k} {ts = ts} {a = a} e) = λ j front le stop st.
     ([], refl, subst (λ l. Stands k l a) (sym (append-nil front)) (raise j k front a le st), e)
 sound (more {k = k} {s = s} {ts = ts} {a = a} {o = o} {p = p} op e r m) = sound_more k s ts a o p op e (sound r) (sound m)
 sound (expression {ts = ts} {o = o} {p = p} r m) = sound_expression ts o p (sound r) (sound m)
-sound unread = tt
 sound (unchosen {a = a} {ts = ts} e) = λ front st. ([], refl, subst (λ l. IsExpression l a) (sym (append-nil front)) (grammar.IsExpression.plain st))
 sound (asked {c = c} {x = x} {ts = ts} {o = o} {p = p} r m) = sound_asked c x ts o p (sound r) (sound m)
-sound unasked = tt
-sound (no_colon e) = tt
 sound (otherwise {c = c} {x = x} {a = a} {ts = ts} {o = o} r) = sound_otherwise c x a ts o (sound r)
 sound (reading.none {c = c} {ts = ts}) = (sign_at CloseParenthesis c ∷ [], refl, grammar.none)
 sound (reading.some {ts = ts} {o = o} e r) = sound_some ts o (sound r)
 sound (arguments {ts = ts} {o = o} {p = p} r m) = sound_arguments ts o p (sound r) (sound m)
-sound halted = tt
 sound (reading.last {c = c} {a = a} {ts = ts}) = λ front st. (sign_at CloseParenthesis c ∷ [], refl, grammar.last c st)
 sound (reading.another {c = c} {a = a} {ts = ts} {o = o} r) = sound_another c a ts o (sound r)
-sound (unended e f) = tt
+sound _ = tt
 
 -- what is read to the end stands for its expression
 pub sound_all : (ts : List Placed) (a : Term) → Reads (Expression ts) (Got a []) → IsExpression ts a

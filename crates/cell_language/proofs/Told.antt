@@ -5,6 +5,7 @@ use Rattle.std.proofs.lemmas.Bool.Decides.{nat_tests}
 use Rattle.cell_tokens.specs.declared.fault.CalcKind.{CalcKind}
 use Rattle.cell_tokens.specs.declared.fault.CalcKind.TheVariants.{Expected, UnknownFunction, Arguments as BadArguments, BadOffset}
 use Rattle.cell_tokens.specs.declared.function.Function.{Function}
+use Rattle.cell_tokens.specs.declared.function.Function.TheVariants.{If}
 use Rattle.cell_tokens.specs.declared.operator.Operator.{Operator}
 use Rattle.cell_tokens.specs.declared.token.Placed.{Placed}
 use Rattle.cell_tokens.specs.declared.token.Sign.TheVariants.{Plus, Minus, OpenParenthesis, CloseParenthesis, CloseBracket, Comma}
@@ -14,9 +15,9 @@ use Rattle.cell_tokens.specs.Function.{function_of, accepts}
 use Rattle.cell_language.specs.GrammarFault.{IsUnknown, IsMiscounted, IsFar}
 use Rattle.cell_language.specs.Reading as reading
 use Rattle.cell_language.specs.Reading.{Part, tail, and_then, distance_at, distance, signed, offset_at, offset, comma_at, bracket_at, to_bracket, Outcome, Got, GotAll, Stops, State, Operand, Whole, More, Expression, Choice, AfterQuestion, Called, Arguments, Onward, negate, invert, closed, close, join, choose, move, judged, call, add, Reads, nothing, whole, stopped, done, more, expression, unread, unchosen, asked, unasked, no_colon, otherwise, arguments, halted, unended}
-use Rattle.cell_language.specs.Term.{Term, count}
+use Rattle.cell_language.specs.Term.{Term, Negated, Not, Binary, Call, NoTerms, Then, count}
 use Rattle.cell_tokens.specs.Token.{name_at, sign_at, head}
-use Rattle.cell_language.proofs.Sound.{IsSound, sound, front_is}
+use Rattle.cell_language.proofs.Sound.{mapped, IsSound, sound, front_is}
 
 -- what a kind says of the tokens from where it is told
 abbrev pub ToldAt : CalcKind → List Placed → Type 0
@@ -44,9 +45,6 @@ IsToldPart (Ok x) = Unit {0}
 IsToldPart (Err e) = ToldAt e.0 e.1
 
 told_distance_at : (t : Option Token) (ts : List Placed) → head ts ≡ t → IsToldPart (distance_at t ts)
-told_distance_at None ts e = tt
-told_distance_at (Some (token.Name n)) ts e = tt
-told_distance_at (Some (token.Sign s)) ts e = tt
 told_distance_at (Some (token.Number n)) ts e = go (nat_le n 255) refl
   where
     go : (b : Bool) → nat_le n 255 ≡ b → IsToldPart {A = ℕ} (if b then Ok (n, tail ts) else Err (BadOffset, ts))
@@ -55,6 +53,7 @@ told_distance_at (Some (token.Number n)) ts e = go (nat_le n 255) refl
         let f = front_is ts (token.Number n) e in
         let far : 255 < n = grind (arith, nat_tests) in
         (n, f.0, tail ts, f.1, far)
+told_distance_at _ ts e = tt
 
 told_distance : (ts : List Placed) → IsToldPart (distance ts)
 told_distance ts = told_distance_at (head ts) ts refl
@@ -104,15 +103,9 @@ told_call name c d ts f e (GotAll xs rest) h t = go (accepts f (count xs)) refl
     go true a = tt
     go false a = (name, f, xs, c, d, h.0, rest, ap (λ l. name_at name c ∷ sign_at OpenParenthesis d ∷ l) h.1, e, h.2, a)
 
-told_negate : (o : Outcome) → IsTold o → IsTold (negate o)
-told_negate (Got a rest) h = tt
-told_negate (GotAll xs rest) h = tt
-told_negate (Stops kind rest) h = h
-
-told_invert : (o : Outcome) → IsTold o → IsTold (invert o)
-told_invert (Got a rest) h = tt
-told_invert (GotAll xs rest) h = tt
-told_invert (Stops kind rest) h = h
+told_mapped : (f : Term → Term) (o : Outcome) → IsTold o → IsTold (mapped f o)
+told_mapped f (Stops kind rest) h = h
+told_mapped f _ h = tt
 
 told_closed : (t : Option Token) (a : Term) (rest : List Placed) → IsTold (closed t a rest)
 told_closed (Some (token.Sign CloseParenthesis)) a rest = tt
@@ -123,46 +116,27 @@ told_close (Got a rest) h = told_closed (head rest) a rest
 told_close (GotAll xs rest) h = tt
 told_close (Stops kind rest) h = h
 
-told_join : (op : Operator) (a : Term) (o : Outcome) → IsTold o → IsTold (join op a o)
-told_join op a (Got b rest) h = tt
-told_join op a (GotAll xs rest) h = tt
-told_join op a (Stops kind rest) h = h
-
-told_choose : (x a : Term) (o : Outcome) → IsTold o → IsTold (choose x a o)
-told_choose x a (Got b rest) h = tt
-told_choose x a (GotAll xs rest) h = tt
-told_choose x a (Stops kind rest) h = h
-
 told_add : (a : Term) (o : Outcome) → IsTold o → IsTold (add a o)
-told_add a (Got b rest) h = tt
-told_add a (GotAll xs rest) h = tt
 told_add a (Stops kind rest) h = h
+told_add a _ h = tt
 
 pub told : {s : State} {o : Outcome} → Reads s o → WasTold s → IsTold o
-told reading.number w = tt
-told (reading.map f) w = tt
 told (reading.moved {name = name} {c = c} {ts = ts}) w = told_move name c (reading.offsets ts) (told_offsets ts)
 told (reading.unknown {name = name} {c = c} {d = d} {ts = ts} e) w = (name, c, d, ts, refl, e)
 told (reading.called {name = name} {c = c} {d = d} {ts = ts} {o = o} f e r) w = told_call name c d ts f e o (sound r) (told r tt)
-told (reading.negated {o = o} r) w = told_negate o (told r tt)
-told (reading.not {o = o} r) w = told_invert o (told r tt)
+told (reading.negated {o = o} r) w = told_mapped Negated o (told r tt)
+told (reading.not {o = o} r) w = told_mapped Not o (told r tt)
 told (reading.inside {o = o} r) w = told_close o (told r tt)
-told (nothing b) w = tt
 told (whole r m) w = told m (told r tt)
 told stopped w = w
-told (done e) w = tt
-told (more {a = a} {o = o} op e r m) w = told m (told_join op a o (told r tt))
+told (more {a = a} {o = o} op e r m) w = told m (told_mapped (Binary op a) o (told r tt))
 told (expression r m) w = told m (told r tt)
 told unread w = w
-told (unchosen n) w = tt
 told (asked r m) w = told m (told r tt)
 told unasked w = w
-told (no_colon n) w = tt
-told (otherwise {x = x} {a = a} {o = o} r) w = told_choose x a o (told r tt)
-told reading.none w = tt
+told (otherwise {x = x} {a = a} {o = o} r) w = told_mapped (λ b. Call If (Then x (Then a (Then b NoTerms)))) o (told r tt)
 told (reading.some n r) w = told r tt
 told (arguments r m) w = told m (told r tt)
 told halted w = w
-told reading.last w = tt
 told (reading.another {a = a} {o = o} r) w = told_add a o (told r tt)
-told (unended n m) w = tt
+told _ w = tt

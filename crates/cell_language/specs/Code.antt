@@ -1,12 +1,16 @@
--- How an expression is stored: as steps that build it on a stack.
-use Rattle.std.specs.Prelude.{◌≡◌, ℕ, zero, suc, ℤ, pos, List, [], ◌∷◌, ◌++◌, refl}
-use Rattle.std.proofs.Common.{sym, ap, ◌∙◌, append_assoc, append-nil}
+-- How an expression is stored: as its steps in postfix order, which build it on a stack.
+use Rattle.std.specs.Prelude.{◌≡◌, ℕ, zero, suc, ◌+◌, ℤ, pos, List, [], ◌∷◌, ◌++◌, refl}
+use Rattle.std.proofs.Common.{sym, ap, ◌∙◌, append_assoc, append-nil, suc-add, add-suc, add-zero, zero-add}
 use Rattle.std.specs.Coded.{Coded, code_by, coded_list, coded×, coded_ℕ, coded_ℤ}
 use Rattle.cell_tokens.specs.declared.function.Function.{Function}
 use Rattle.cell_tokens.specs.declared.function.Function.TheVariants.{If, IsNull, Null, Abs, Min, Max, Mode, Row, Column, RowCount, ColumnCount, Eval, KnownMin, KnownMax, KnownMode}
 use Rattle.cell_tokens.specs.declared.operator.Operator.{Operator}
 use Rattle.cell_tokens.specs.declared.operator.Operator.TheVariants.{Times, Divide, Modulo, Plus, Minus, Less, LessEqual, Greater, GreaterEqual, Equal, NotEqual, And, Or, KnownAnd, KnownOr}
-use Rattle.cell_language.specs.Term.{Term, Number, Map, Negated, Not, Binary, Call, Terms, NoTerms, Then}
+use Rattle.cell_language.specs.declared.step.Step as declared
+use Rattle.cell_language.specs.declared.step.Step.TheVariants as steps
+use Rattle.cell_language.specs.Postfix.{postfix, postfix_all}
+use Rattle.cell_language.specs.Term.{Term, Number, Map, Negated, Not, Binary, Call, Terms, NoTerms, Then, count}
+use Rattle.cell_language.specs.parts.Built.{gathered, below, put, after, built, topmost}
 
 -- what stands at a place of a list
 abbrev pub place_in : {A : Type 0} → A → List A → ℕ → A
@@ -92,7 +96,7 @@ function_back KnownMin = refl
 function_back KnownMax = refl
 function_back KnownMode = refl
 
--- what a step does, and what it takes: a name, two offsets, a number
+-- what a step does, and what it takes: a name or the number of a function, two offsets, a number
 abbrev pub Step : Type 0
 Step = ℕ × (List ℕ × (ℤ × (ℤ × ℕ)))
 
@@ -100,79 +104,101 @@ Step = ℕ × (List ℕ × (ℤ × (ℤ × ℕ)))
 abbrev pub step : ℕ → ℕ → Step
 step kind n = (kind, ([], (pos 0, (pos 0, n))))
 
-abbrev mutual
-  -- the steps that build a term
-  pub steps_of : Term → List Step
-  steps_of (Number n) = step 0 n ∷ []
-  steps_of (Map name down right column) = (1, (name, (down, (right, column)))) ∷ []
-  steps_of (Negated a) = steps_of a ++ step 2 0 ∷ []
-  steps_of (Not a) = steps_of a ++ step 3 0 ∷ []
-  steps_of (Binary op a b) = steps_of a ++ (steps_of b ++ step 4 (operator_place op) ∷ [])
-  steps_of (Call f xs) = steps_of_all xs ++ step 5 (function_place f) ∷ []
+-- a step, stored
+abbrev pub stored : declared.Step → Step
+stored (steps.Number n) = step 0 n
+stored (steps.Map name down right column) = (1, (name, (down, (right, column))))
+stored steps.Negated = step 2 0
+stored steps.Not = step 3 0
+stored (steps.Binary op) = step 4 (operator_place op)
+stored (steps.Call f n) = (5, (function_place f ∷ [], (pos 0, (pos 0, n))))
 
-  -- arguments are built as those of a call of `if`
-  pub steps_of_all : Terms → List Step
-  steps_of_all NoTerms = step 6 0 ∷ []
-  steps_of_all (Then a xs) = steps_of_all xs ++ (steps_of a ++ step 7 0 ∷ [])
+-- the step of what is stored
+abbrev pub restored : ℕ → List ℕ × (ℤ × (ℤ × ℕ)) → declared.Step
+restored zero x = steps.Number x.1.1.1
+restored (suc zero) x = steps.Map x.0 x.1.0 x.1.1.0 x.1.1.1
+restored (suc (suc zero)) x = steps.Negated
+restored (suc (suc (suc zero))) x = steps.Not
+restored (suc (suc (suc (suc zero)))) x = steps.Binary (operator_at x.1.1.1)
+restored (suc (suc (suc (suc (suc n))))) x = steps.Call (function_at (place_in 0 x.0 0)) x.1.1.1
 
--- the stack after a step
-abbrev pub built : ℕ → List ℕ × (ℤ × (ℤ × ℕ)) → List Term → List Term
-built zero x stack = Number x.1.1.1 ∷ stack
-built (suc zero) x stack = Map x.0 x.1.0 x.1.1.0 x.1.1.1 ∷ stack
-built (suc (suc zero)) x (a ∷ stack) = Negated a ∷ stack
-built (suc (suc (suc zero))) x (a ∷ stack) = Not a ∷ stack
-built (suc (suc (suc (suc zero)))) x (b ∷ a ∷ stack) = Binary (operator_at x.1.1.1) a b ∷ stack
-built (suc (suc (suc (suc (suc zero))))) x (Call f xs ∷ stack) = Call (function_at x.1.1.1) xs ∷ stack
-built (suc (suc (suc (suc (suc (suc zero)))))) x stack = Call If NoTerms ∷ stack
-built (suc (suc (suc (suc (suc (suc (suc n))))))) x (a ∷ Call f xs ∷ stack) = Call f (Then a xs) ∷ stack
-built _ x stack = stack
+pub restored_back : (s : declared.Step) → restored (stored s).0 (stored s).1 ≡ s
+restored_back (steps.Number n) = refl
+restored_back (steps.Map name down right column) = refl
+restored_back steps.Negated = refl
+restored_back steps.Not = refl
+restored_back (steps.Binary op) = ap (λ o. steps.Binary o) (operator_back op)
+restored_back (steps.Call f n) = ap (λ g. steps.Call g n) (function_back f)
 
--- the stack after steps
-abbrev pub run : List Step → List Term → List Term
-run [] stack = stack
-run (s ∷ steps) stack = run steps (built s.0 s.1 stack)
+-- arguments on the stack, the last on top
+pushed : Terms → List Term → List Term
+pushed NoTerms stack = stack
+pushed (Then a xs) stack = pushed xs (a ∷ stack)
 
--- the term on top of the stack
-abbrev pub topmost : List Term → Term
-topmost [] = Number 0
-topmost (a ∷ stack) = a
+-- arguments and then others
+joined : Terms → Terms → Terms
+joined NoTerms ys = ys
+joined (Then a xs) ys = Then a (joined xs ys)
 
--- the last step of those that build a term
-last_step : (steps rest : List Step) (s : Step) (stack : List Term) → run ((steps ++ s ∷ []) ++ rest) stack ≡ run (steps ++ s ∷ rest) stack
-last_step steps rest s stack = ap (λ l. run l stack) (append_assoc steps (s ∷ []) rest)
+gathered_pushed : (xs : Terms) (n : ℕ) (stack : List Term) (ys : Terms) → gathered (count xs + n) (pushed xs stack) ys ≡ gathered n stack (joined xs ys)
+unfolding pushed joined
+gathered_pushed NoTerms n stack ys = ap (λ k. gathered k stack ys) (zero-add n)
+gathered_pushed (Then a xs) n stack ys =
+    ap (λ k. gathered k (pushed xs (a ∷ stack)) ys) (suc-add (count xs) n ∙ sym (add-suc (count xs) n)) ∙ gathered_pushed xs (suc n) (a ∷ stack) ys
+
+below_pushed : (xs : Terms) (n : ℕ) (stack : List Term) → below (count xs + n) (pushed xs stack) ≡ below n stack
+unfolding pushed
+below_pushed NoTerms n stack = ap (λ k. below k stack) (zero-add n)
+below_pushed (Then a xs) n stack =
+    ap (λ k. below k (pushed xs (a ∷ stack))) (suc-add (count xs) n ∙ sym (add-suc (count xs) n)) ∙ below_pushed xs (suc n) (a ∷ stack)
+
+joined_none : (xs : Terms) → joined xs NoTerms ≡ xs
+unfolding joined
+joined_none NoTerms = refl
+joined_none (Then a xs) = ap (λ ys. Then a ys) (joined_none xs)
+
+-- a call takes its arguments from the stack
+called : (f : Function) (xs : Terms) (stack : List Term) → put (steps.Call f (count xs)) (pushed xs stack) ≡ Call f xs ∷ stack
+called f xs stack =
+    let n = sym (add-zero (count xs)) in
+    let above : gathered (count xs) (pushed xs stack) NoTerms ≡ xs =
+    ap (λ k. gathered k (pushed xs stack) NoTerms) n ∙ gathered_pushed xs 0 stack NoTerms ∙ joined_none xs in
+    let under : below (count xs) (pushed xs stack) ≡ stack = ap (λ k. below k (pushed xs stack)) n ∙ below_pushed xs 0 stack in
+    ap (λ ys. Call f ys ∷ below (count xs) (pushed xs stack)) above ∙ ap (λ l. Call f xs ∷ l) under
+
+-- the last step of those of a term
+last_step : (before rest : List declared.Step) (s : declared.Step) (stack : List Term) → after ((before ++ s ∷ []) ++ rest) stack ≡ after (before ++ s ∷ rest) stack
+last_step before rest s stack = ap (λ l. after l stack) (append_assoc before (s ∷ []) rest)
 
 mutual
-  run_steps : (a : Term) (rest : List Step) (stack : List Term) → run (steps_of a ++ rest) stack ≡ run rest (a ∷ stack)
-  run_steps (Number n) rest stack = refl
-  run_steps (Map name down right column) rest stack = refl
-  run_steps (Negated a) rest stack = last_step (steps_of a) rest (step 2 0) stack ∙ run_steps a (step 2 0 ∷ rest) stack
-  run_steps (Not a) rest stack = last_step (steps_of a) rest (step 3 0) stack ∙ run_steps a (step 3 0 ∷ rest) stack
-  run_steps (Binary op a b) rest stack =
-      let s : Step = step 4 (operator_place op) in
-      ap (λ l. run l stack) (append_assoc (steps_of a) (steps_of b ++ s ∷ []) rest)
-      ∙ run_steps a ((steps_of b ++ s ∷ []) ++ rest) stack
-      ∙ last_step (steps_of b) rest s (a ∷ stack)
-      ∙ run_steps b (s ∷ rest) (a ∷ stack)
-      ∙ ap (λ o. run rest (Binary o a b ∷ stack)) (operator_back op)
-  run_steps (Call f xs) rest stack =
-      let s : Step = step 5 (function_place f) in
-      last_step (steps_of_all xs) rest s stack
-      ∙ run_all xs (s ∷ rest) stack
-      ∙ ap (λ g. run rest (Call g xs ∷ stack)) (function_back f)
+  unfolding pushed
 
-  run_all : (xs : Terms) (rest : List Step) (stack : List Term) → run (steps_of_all xs ++ rest) stack ≡ run rest (Call If xs ∷ stack)
-  run_all NoTerms rest stack = refl
-  run_all (Then a xs) rest stack =
-      ap (λ l. run l stack) (append_assoc (steps_of_all xs) (steps_of a ++ step 7 0 ∷ []) rest)
-      ∙ run_all xs ((steps_of a ++ step 7 0 ∷ []) ++ rest) stack
-      ∙ last_step (steps_of a) rest (step 7 0) (Call If xs ∷ stack)
-      ∙ run_steps a (step 7 0 ∷ rest) (Call If xs ∷ stack)
+  after_postfix : (a : Term) (rest : List declared.Step) (stack : List Term) → after (postfix a ++ rest) stack ≡ after rest (a ∷ stack)
+  after_postfix (Number n) rest stack = refl
+  after_postfix (Map name down right column) rest stack = refl
+  after_postfix (Negated a) rest stack = last_step (postfix a) rest steps.Negated stack ∙ after_postfix a (steps.Negated ∷ rest) stack
+  after_postfix (Not a) rest stack = last_step (postfix a) rest steps.Not stack ∙ after_postfix a (steps.Not ∷ rest) stack
+  after_postfix (Binary op a b) rest stack =
+      let s = steps.Binary op in
+      ap (λ l. after l stack) (append_assoc (postfix a) (postfix b ++ s ∷ []) rest)
+      ∙ after_postfix a ((postfix b ++ s ∷ []) ++ rest) stack
+      ∙ last_step (postfix b) rest s (a ∷ stack)
+      ∙ after_postfix b (s ∷ rest) (a ∷ stack)
+  after_postfix (Call f xs) rest stack =
+      let s = steps.Call f (count xs) in
+      last_step (postfix_all xs) rest s stack ∙ after_all xs (s ∷ rest) stack ∙ ap (λ l. after rest l) (called f xs stack)
 
--- the steps that build a term give that term
-pub from_steps : (a : Term) → topmost (run (steps_of a) []) ≡ a
-from_steps a = ap (λ l. topmost (run l [])) (sym (append-nil (steps_of a))) ∙ ap topmost (run_steps a [] [])
+  after_all : (xs : Terms) (rest : List declared.Step) (stack : List Term) → after (postfix_all xs ++ rest) stack ≡ after rest (pushed xs stack)
+  after_all NoTerms rest stack = refl
+  after_all (Then a xs) rest stack =
+      ap (λ l. after l stack) (append_assoc (postfix a) (postfix_all xs) rest) ∙ after_postfix a (postfix_all xs ++ rest) stack ∙ after_all xs rest (a ∷ stack)
+
+-- the steps of a term build it
+pub built_postfix : (a : Term) → built (postfix a) ≡ a
+built_postfix a = ap (λ l. topmost (after l [])) (sym (append-nil (postfix a))) ∙ ap topmost (after_postfix a [] [])
 
 -- an expression is stored as the steps that build it
 abbrev pub term_code : Coded Term
 term_code =
-    code_by (List Step) (coded_list (coded× coded_ℕ (coded× (coded_list coded_ℕ) (coded× coded_ℤ (coded× coded_ℤ coded_ℕ))))) steps_of (λ l. topmost (run l [])) from_steps
+    code_by (List declared.Step)
+    (coded_list (code_by Step (coded× coded_ℕ (coded× (coded_list coded_ℕ) (coded× coded_ℤ (coded× coded_ℤ coded_ℕ)))) stored (λ x. restored x.0 x.1) restored_back)) postfix built built_postfix

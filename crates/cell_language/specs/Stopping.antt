@@ -18,11 +18,6 @@ abbrev pub StopsAt : State → Stop → Type 0
 StopsAt s Memory = Unit {0}
 StopsAt s (At kind rest) = Reads s (Stops kind rest.now)
 
--- the outcome is that stop, if memory lasts
-abbrev pub IsStop : Outcome → Stop → Type 0
-IsStop o Memory = Unit {0}
-IsStop o (At kind rest) = o ≡ Stops kind rest.now
-
 -- the part is that stop
 abbrev pub IsPartStop : {A : Type 0} → Part A → Stop → Type 0
 IsPartStop p Memory = ⊥

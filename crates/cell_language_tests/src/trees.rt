@@ -3,7 +3,7 @@
 use cell_language::assignment::parse;
 use cell_language::function::Function;
 use cell_language::operator::Operator;
-use cell_language::tree::{Arguments, Tree};
+use cell_language::step::Step;
 use std::alloc::Global;
 use std::test::Fail;
 
@@ -53,62 +53,94 @@ fn write_number(alloc: Global, n: i64, out: &mut Vec<u8>) -> Result<(), Fail> {
     Ok(())
 }
 
-// A tree with a parenthesis for each operator.
-#[cycle(written)]
-fn write(alloc: Global, tree: &Tree, out: &mut Vec<u8>) -> Result<(), Fail> {
-    match tree {
-        Tree::Number(n) => write_number(alloc, i64::from(*n), out)?,
-        Tree::Map {
-            name,
-            down,
-            right,
-            column,
-        } => {
-            out.extend_from_slice(name.bytes())?;
-            out.push(b'[')?;
-            write_number(alloc, i64::from(*down), out)?;
-            out.push(b',')?;
-            write_number(alloc, i64::from(*right), out)?;
-            out.extend_from_slice(b"]@")?;
-            write_number(alloc, i64::from(*column), out)?;
-        }
-        Tree::Negated(a) => {
-            out.extend_from_slice(b"(-")?;
-            write(alloc, a, out)?;
-            out.push(b')')?;
-        }
-        Tree::Not(a) => {
-            out.extend_from_slice(b"(!")?;
-            write(alloc, a, out)?;
-            out.push(b')')?;
-        }
-        Tree::Binary(operator, a, b) => {
-            out.push(b'(')?;
-            write(alloc, a, out)?;
-            out.extend_from_slice(sign_of(*operator))?;
-            write(alloc, b, out)?;
-            out.push(b')')?;
-        }
-        Tree::Call(function, arguments) => {
-            out.extend_from_slice(name_of(*function))?;
-            out.push(b'(')?;
-            write_all(alloc, arguments, out)?;
-            out.push(b')')?;
-        }
-    }
+fn write_map(
+    alloc: Global,
+    name: &[u8],
+    offset: (i32, i32),
+    column: u32,
+    out: &mut Vec<u8>,
+) -> Result<(), Fail> {
+    out.extend_from_slice(name)?;
+    out.push(b'[')?;
+    write_number(alloc, i64::from(offset.0), out)?;
+    out.push(b',')?;
+    write_number(alloc, i64::from(offset.1), out)?;
+    out.extend_from_slice(b"]@")?;
+    write_number(alloc, i64::from(column), out)
+}
+
+// A sign before the operand on top of the stack.
+fn write_unary(sign: u8, stack: &mut Vec<Vec<u8>>, out: &mut Vec<u8>) -> Result<(), Fail> {
+    let operand = stack.pop().ok_or("no operand")?;
+    out.push(b'(')?;
+    out.push(sign)?;
+    out.extend_from_slice(&operand)?;
+    out.push(b')')?;
     Ok(())
 }
 
-// Each argument and a semicolon.
-#[cycle(written)]
-fn write_all(alloc: Global, arguments: &Arguments, out: &mut Vec<u8>) -> Result<(), Fail> {
-    match arguments {
-        Arguments::Empty => Ok(()),
-        Arguments::Then(a, others) => {
-            write(alloc, a, out)?;
-            out.push(b';')?;
-            write_all(alloc, others, out)
+fn write_binary(
+    operator: Operator,
+    stack: &mut Vec<Vec<u8>>,
+    out: &mut Vec<u8>,
+) -> Result<(), Fail> {
+    let right = stack.pop().ok_or("no right operand")?;
+    let left = stack.pop().ok_or("no left operand")?;
+    out.push(b'(')?;
+    out.extend_from_slice(&left)?;
+    out.extend_from_slice(sign_of(operator))?;
+    out.extend_from_slice(&right)?;
+    out.push(b')')?;
+    Ok(())
+}
+
+// Each of so many arguments, and a semicolon.
+fn write_call(
+    alloc: Global,
+    function: Function,
+    count: usize,
+    stack: &mut Vec<Vec<u8>>,
+    out: &mut Vec<u8>,
+) -> Result<(), Fail> {
+    let mut last_first = Vec::new(alloc);
+    for _ in 0..count {
+        last_first.push(stack.pop().ok_or("no argument")?)?;
+    }
+    out.extend_from_slice(name_of(function))?;
+    out.push(b'(')?;
+    for argument in last_first.iter().rev() {
+        out.extend_from_slice(argument)?;
+        out.push(b';')?;
+    }
+    out.push(b')')?;
+    Ok(())
+}
+
+// The tree that steps build, with a parenthesis for each operator.
+fn tree_of(alloc: Global, steps: &[Step]) -> Result<Vec<u8>, Fail> {
+    let mut stack = Vec::new(alloc);
+    for step in steps {
+        let mut out = Vec::new(alloc);
+        match step {
+            Step::Number(n) => write_number(alloc, i64::from(*n), &mut out)?,
+            Step::Map {
+                name,
+                down,
+                right,
+                column,
+            } => write_map(alloc, name.bytes(), (*down, *right), *column, &mut out)?,
+            Step::Negated => write_unary(b'-', &mut stack, &mut out)?,
+            Step::Not => write_unary(b'!', &mut stack, &mut out)?,
+            Step::Binary(operator) => write_binary(*operator, &mut stack, &mut out)?,
+            Step::Call(f, count) => write_call(alloc, *f, *count, &mut stack, &mut out)?,
         }
+        stack.push(out)?;
+    }
+    let tree = stack.pop().ok_or("no step")?;
+    if stack.is_empty() {
+        Ok(tree)
+    } else {
+        Err("steps of more than one tree".into())
     }
 }
 
@@ -120,9 +152,7 @@ fn written(alloc: Global, expression: &[u8]) -> Result<Vec<u8>, Fail> {
         return Err("too long".into());
     }
     let read = parse(alloc, &text).map_err(|_| "refused")?;
-    let mut out = Vec::new(alloc);
-    write(alloc, read.expr.tree(), &mut out)?;
-    Ok(out)
+    tree_of(alloc, read.expr.steps())
 }
 
 #[test]

@@ -1,7 +1,7 @@
 use Rattle.std.proofs.lemmas.Result.{err_from_is_err_and}
 use Rattle.cell_language.specs.Reading.{Expression}
 use Rattle.cell_language.specs.parts.Waiting.{IsTurn}
-use Rattle.cell_language.proofs.WaitingLemmas.{begins, resumes, ends_reads}
+use Rattle.cell_language.proofs.Steps.{begins, resumes, ends}
 use Rattle.cell_language.proofs.reader.expression.Goals as goal
 
 pub returns-in_err-turn-clause-err : goal.returns-in_err-turn-clause-err
@@ -21,11 +21,11 @@ returns-in_err-turn-in-Some-clause-err c =
 
 pub returns-in-None-clause-ok : goal.returns-in-None-clause-ok
 returns-in-None-clause-ok c =
-    (ends_reads (Expression c.args.tokens.now) c.turns.reader.frames c.turns.reader.steps.items c.in-After.tokens.now c.in-None.ensures.cases.0 (rw c.in-After.is at c.turns.invariant)).0
+    (ends (Expression c.args.tokens.now) c.turns.reader.frames c.turns.reader.steps.items c.in-After.tokens.now c.in-None.ensures.cases.0 (rw c.in-After.is at c.turns.invariant)).0
 
 pub returns-in-None-clause-steps : goal.returns-in-None-clause-steps
 returns-in-None-clause-steps c =
-    (ends_reads (Expression c.args.tokens.now) c.turns.reader.frames c.turns.reader.steps.items c.in-After.tokens.now c.in-None.ensures.cases.0 (rw c.in-After.is at c.turns.invariant)).1
+    (ends (Expression c.args.tokens.now) c.turns.reader.frames c.turns.reader.steps.items c.in-After.tokens.now c.in-None.ensures.cases.0 (rw c.in-After.is at c.turns.invariant)).1
 
 pub turns-preserved : goal.turns-preserved
 turns-preserved c =

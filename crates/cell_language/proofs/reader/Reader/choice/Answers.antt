@@ -1,9 +1,9 @@
 use Rattle.cell_language.specs.parts.Waiting.{waiting}
-use Rattle.cell_language.proofs.WaitingLemmas.{unasked_read, asked}
+use Rattle.cell_language.proofs.Steps.{not_asked, asked}
 use Rattle.cell_language.proofs.reader.Reader.choice.Goals as goal
 
 pub returns-in_default-clause-goes : goal.returns-in_default-clause-goes
-returns-in_default-clause-goes c = λ s h. unasked_read s (waiting c.args.self.now) c.args.self.now.steps.items c.args.tokens.now h c.in_default.ensures.none
+returns-in_default-clause-goes c = λ s h. not_asked s (waiting c.args.self.now) c.args.self.now.steps.items c.args.tokens.now h c.in_default.ensures.none
 
 pub returns-clause-goes : goal.returns-clause-goes
 returns-clause-goes c = λ s h.

@@ -1,5 +1,5 @@
 use Rattle.cell_language.specs.parts.Waiting.{waiting}
-use Rattle.cell_language.proofs.WaitingLemmas.{entered}
+use Rattle.cell_language.proofs.Steps.{entered}
 use Rattle.cell_language.proofs.reader.Reader.enter.Goals as goal
 
 pub returns-clause-goes : goal.returns-clause-goes

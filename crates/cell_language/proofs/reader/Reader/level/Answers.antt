@@ -1,5 +1,5 @@
 use Rattle.cell_language.specs.parts.Waiting.{waiting}
-use Rattle.cell_language.proofs.WaitingLemmas.{no_more, more}
+use Rattle.cell_language.proofs.Steps.{no_more, more}
 use Rattle.cell_language.proofs.reader.Reader.level.Goals as goal
 
 pub returns-in_default-clause-goes : goal.returns-in_default-clause-goes

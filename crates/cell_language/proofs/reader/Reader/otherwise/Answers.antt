@@ -1,5 +1,5 @@
 use Rattle.cell_language.specs.parts.Waiting.{waiting}
-use Rattle.cell_language.proofs.WaitingLemmas.{colon_missing, colon}
+use Rattle.cell_language.proofs.Steps.{colon_missing, colon}
 use Rattle.cell_language.proofs.reader.Reader.otherwise.Goals as goal
 
 pub returns-in_default-clause-goes : goal.returns-in_default-clause-goes

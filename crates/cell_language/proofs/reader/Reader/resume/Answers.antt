@@ -1,5 +1,5 @@
 use Rattle.cell_language.specs.parts.Waiting.{waiting}
-use Rattle.cell_language.proofs.WaitingLemmas.{negated, inverted, joined, chosen, unclosed, closed_read}
+use Rattle.cell_language.proofs.Steps.{negated, inverted, joined, chosen, unclosed}
 use Rattle.cell_language.proofs.reader.Reader.resume.Goals as goal
 
 pub returns-in-Negated-clause-goes : goal.returns-in-Negated-clause-goes
