@@ -1,5 +1,5 @@
 -- The maps that an expression reads are below its top.
-use Rattle.std.proofs.Common.{◌<◌, ℕ, List, get_or, arith, max, ◌⊎◌, inl, inr}
+use Rattle.std.proofs.Common.{◌≡◌, ◌<◌, ℕ, zero, suc, List, [], ◌∷◌, ◌++◌, get_or, arith, max, ◌⊎◌, inl, inr}
 use Rattle.std.proofs.lemmas.Option.{slice_get-get_or}
 use Rattle.std.specs.Prelude.{All}
 use Rattle.cell_calc.specs.Compact.{Reads, AreReading, AreRead}
@@ -29,3 +29,10 @@ mutual
 -- places that are read
 pub read_below : (f : Formula) (places : List ℕ) → AreRead places f → All (λ i. i < top_of f) places
 read_below f places read = λ k d lt. reads_below (get_or places k d) f (read k (get_or places k d) (slice_get-get_or places k d lt))
+
+-- a place that is read, put last
+pub read_push : (f : Formula) (places : List ℕ) (place : ℕ) → Reads place f → AreRead places f → AreRead (places ++ place ∷ []) f
+read_push f [] place here there zero i h = let e : place ≡ i = cc in rw e at here
+read_push f [] place here there (suc k) i h = absurd (let no : ⊥ = cc in no)
+read_push f (p ∷ places) place here there zero i h = there zero i h
+read_push f (p ∷ places) place here there (suc k) i h = read_push f places place here (λ k i h. there (suc k) i h) k i h

@@ -1,10 +1,8 @@
 -- Rows that are written strip by strip, and parts of rows.
 use Rattle.std.proofs.Common.{◌≡◌, ◌<◌, ◌≤◌, ◌+◌, ◌-◌, ◌+ℤ◌, ◌<ℤ◌, ◌≤ℤ◌, ℕ, ℤ, pos, negsuc, List, ◌++◌, length, take, drop, get_or, refl, sym, ap, ◌∙◌, arith, None, Bool, true, false}
 use Rattle.std.specs.Prelude.{nat_lt}
-use Rattle.std.proofs.lemmas.List.{get_or-drop, get_or-take, get_or_append_left, get_or-append_right, get_or_past, length-append, length-take-le, length-drop}
+use Rattle.std.proofs.lemmas.List.{get_or-drop, get_or-take, get_or_append_left, get_or-append_right, get_or_past, length-append}
 use Rattle.std.proofs.lemmas.Int.{ints}
-use Rattle.std.proofs.lemmas.Slice.{take-put_mid}
-use borrow.Rule.Slice.PartMut.{put_mid, mid_of}
 use Rattle.cell_core.specs.Grid.{CellValue}
 use Rattle.cell_tokens.specs.declared.operator.Operator.{Operator}
 use Rattle.cell_calc.specs.Value.{applied, item_at}
@@ -22,19 +20,6 @@ after_front P a front ys count before there c lt false h =
     let above : a ≤ c = grind arith in
     let place : a + (c - a) ≡ c = omega arith in
     rw (get_or-append_right front ys a c None count above) (rw place at (there (c - a) (omega arith)))
-
--- one more strip of a row
-pub strip_more : (P : ℕ → CellValue → Type 0) (a k : ℕ) (xs ys : List CellValue) → a + k ≤ length xs → length ys ≡ length (mid_of a k xs)
-    → ((c : ℕ) → c < a → P c (at xs c)) → ((c : ℕ) → c < length ys → P (a + c) (at ys c))
-    → (c : ℕ) → c < a + k → P c (at (put_mid a k xs ys) c)
-strip_more P a k xs ys fits same before there c lt =
-    let count : length ys ≡ k = same ∙ length-take-le k (drop a xs) (omega (arith, length-drop a xs)) in
-    let within : c < a + length ys = omega arith in
-    let all : take (a + k) (put_mid a k xs ys) ≡ take a xs ++ ys = take-put_mid a k xs ys (a + k) (omega arith) (omega arith) in
-    let cell : at (put_mid a k xs ys) c ≡ at (take a xs ++ ys) c =
-    sym (get_or-take (a + k) (put_mid a k xs ys) c None lt) ∙ ap (λ l. get_or l c None) all in
-    let front : length (take a xs) ≡ a = length-take-le a xs (omega arith) in
-    rw cell (after_front P a (take a xs) ys front (λ i li. rw (get_or-take a xs i None li) (before i li)) there c within (nat_lt c a) refl)
 
 -- a part of a row, so many columns to the right of a strip
 pub part_at : (source part : List CellValue) (first width from c : ℕ) (right : ℤ) → part ≡ take width (drop first source)

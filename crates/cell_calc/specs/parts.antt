@@ -1,8 +1,11 @@
 -- What only bodies and proofs speak of.
-pub mod Along
 pub mod Code
 pub mod Held
 pub mod Joins
 pub mod Modes
+pub mod Operands
+pub mod Placing
+pub mod Postfix
 pub mod Rows
-pub mod Tree
+pub mod Steps
+pub mod Windows

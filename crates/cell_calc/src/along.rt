@@ -1,250 +1,202 @@
-//! Values along strips.
+//! Values along strips: the steps of an expression, one after another, with a stack of operands.
 
-ghost use Rattle.std.specs.Prelude.{◌≡◌, ◌≤◌, ◌<◌, ◌+◌, length, OnOk, IfOk, map, All, true, false};
-ghost use Rattle.cell_calc.specs.Formula.{Call, NoFormulas};
-ghost use Rattle.cell_calc.specs.Reach.{IsProper, AreProper};
-ghost use Rattle.cell_calc.specs.parts.Along.{AreReady, AreAllReady, AreValues, AreJoined, AreChosen, AreColumns};
-ghost use Rattle.cell_calc.specs.parts.Tree.{formula_of, formulas_of};
-ghost use Rattle.cell_tokens.specs.declared.function.Function.TheVariants.{If};
+ghost use Rattle.std.specs.Prelude.{◌≡◌, ◌≤◌, ◌<◌, ◌-◌, ℕ, [], ◌∷◌, length, take, drop, map, All, IfOk, OnOk};
+ghost use Rattle.cell_calc.specs.Value.{called};
+ghost use Rattle.cell_calc.specs.parts.Operands.{IsStrip, IsReadyStep, IsReady, operand_at, cells_at, seen, spot_at};
+ghost use Rattle.cell_calc.specs.parts.Postfix.{arity, after, AreEnough};
+ghost use Rattle.cell_calc.specs.parts.Rows.{at, column};
 
-use crate::calls::{call, call_of_one};
-use crate::formula::{Node, Nodes};
+use crate::calls::call;
+use crate::operand::{chosen, joined, popped, row_of, taken};
+use crate::rows;
+use crate::step::Step;
+use crate::strip::{Operand, Spare, Strip};
 use crate::window::RowWindow;
-use crate::{cells, rows};
 use cell_core::cell::Cell;
 use cell_core::memory::Memory;
-use cell_core::region::Region;
 use cell_language::function::Function;
-use cell_language::operator::Operator;
 use std::alloc::Global;
 
 /// The values of an expression along a strip, from windows that stand at its row.
-#[cycle(along)]
 pub(crate) fn along(
     alloc: Global,
-    node: &Node,
-    region: Region,
-    row: u32,
-    from: usize,
+    steps: &[Step],
+    strip: &Strip,
     windows: &[RowWindow],
-    cells: &mut [Cell],
-) -> Result<(), Memory>
-    requires proper { IsProper (formula_of node.now) }
-    requires ready { AreReady (formula_of node.now) row windows.now }
-    requires row { row < region.rows }
-    requires width { from + length cells.old ≤ region.cols }
-    ensures width { length cells.new ≡ length cells.old }
-    ensures each { OnOk result (AreValues (formula_of node.now) windows.now region row from cells.new) }
+    operands: &mut Vec<Operand>,
+    spare: &mut Spare,
+) -> Result<Vec<Cell>, Memory>
+    requires strip { IsStrip strip.now }
+    requires ready { All (IsReadyStep windows.now) steps.now }
+    requires enough { AreEnough steps.now 0 }
+    ensures width { IfOk result (λ row. length row.items ≡ strip.now.width) }
+    ensures each { IfOk result (λ row. (c : ℕ) → c < strip.now.width → at row.items c ∷ [] ≡ after (seen windows.now (spot_at strip.now c)) steps.now []) }
 {
-    match node {
-        Node::Number(n) => {
-            rows::fill(cells, cells::number(*n));
-            Ok(())
+    operands.clear();
+    for step in steps {
+        let operand = made(alloc, *step, operands, strip, windows, spare)?;
+        operands.push(operand)?;
+    }
+    let last = popped(operands);
+    let row = row_of(alloc, last, strip, windows, &mut spare.free)?;
+    Ok(row)
+}
+
+// What a step makes of the last operands.
+fn made(
+    alloc: Global,
+    step: Step,
+    operands: &mut Vec<Operand>,
+    strip: &Strip,
+    windows: &[RowWindow],
+    spare: &mut Spare,
+) -> Result<Operand, Memory>
+    requires strip { IsStrip strip.now }
+    requires step { IsReadyStep windows.now step }
+    requires enough { arity step ≤ length operands.old.items }
+    requires ready { All (IsReady windows.now strip.now) operands.old.items }
+    ensures rest { OnOk result (operands.new.items ≡ take (length operands.old.items - arity step) operands.old.items) }
+    ensures ready { IfOk result (λ o. IsReady windows.now strip.now o) }
+    ensures each { IfOk result (λ o. (c : ℕ) → c < strip.now.width → operand_at windows.now strip.now c o
+        ≡ seen windows.now (spot_at strip.now c) step (cells_at windows.now strip.now c (drop (length operands.old.items - arity step) operands.old.items))) }
+{
+    match step {
+        Step::Number(n) => Ok(Operand::Number(n)),
+        Step::Map { place, down, right } => Ok(Operand::Map { place, down, right }),
+        Step::Negated => {
+            let mut row = row_of(alloc, popped(operands), strip, windows, &mut spare.free)?;
+            rows::negate(row.as_mut_slice());
+            Ok(Operand::Row(row))
         }
-        Node::Map { place, down, right } => {
-            rows::shift(windows[*place].row(*down), from, *right, cells);
-            Ok(())
+        Step::Not => {
+            let mut row = row_of(alloc, popped(operands), strip, windows, &mut spare.free)?;
+            rows::invert(row.as_mut_slice());
+            Ok(Operand::Row(row))
         }
-        Node::Negated(a) => {
-            along(alloc, a, region, row, from, windows, cells)?;
-            rows::negate(cells);
-            Ok(())
+        Step::Binary(operator) => {
+            let right = popped(operands);
+            let left = popped(operands);
+            let row = joined(
+                alloc,
+                operator,
+                left,
+                right,
+                strip,
+                windows,
+                &mut spare.free,
+            )?;
+            Ok(Operand::Row(row))
         }
-        Node::Not(a) => {
-            along(alloc, a, region, row, from, windows, cells)?;
-            rows::invert(cells);
-            Ok(())
-        }
-        Node::Binary(operator, a, b) => {
-            along(alloc, a, region, row, from, windows, cells)?;
-            if joined(*operator, b, region, row, from, windows, cells) {
-                return Ok(());
-            }
-            let mut others = Vec::from_slice(alloc, cells)?;
-            along(alloc, b, region, row, from, windows, others.as_mut_slice())?;
-            rows::apply(*operator, cells, others.as_slice());
-            Ok(())
-        }
-        Node::Call(function, xs) => {
-            along_call(alloc, *function, xs, region, row, from, windows, cells)
+        Step::Call(function, count) => {
+            let row = called(alloc, function, count, operands, strip, windows, spare)?;
+            Ok(Operand::Row(row))
         }
     }
 }
 
-// Joins a second operand that needs no row of its own: a number, or a map's row where it lies. Whether it was one.
-fn joined(
-    operator: Operator,
-    node: &Node,
-    region: Region,
-    row: u32,
-    from: usize,
-    windows: &[RowWindow],
-    cells: &mut [Cell],
-) -> bool
-    requires proper { IsProper (formula_of node.now) }
-    requires ready { AreReady (formula_of node.now) row windows.now }
-    requires row { row < region.rows }
-    requires width { from + length cells.old ≤ region.cols }
-    ensures width { length cells.new ≡ length cells.old }
-    ensures yes { result ≡ true → AreJoined operator (formula_of node.now) windows.now region row from cells.old cells.new }
-    ensures no { result ≡ false → cells.new ≡ cells.old }
-{
-    match node {
-        Node::Number(n) => {
-            rows::apply_one(operator, cells, cells::number(*n));
-            true
-        }
-        Node::Map { place, down, right } => {
-            let source = windows[*place].row(*down);
-            rows::apply_shifted(operator, cells, source, *right, from);
-            true
-        }
-        _ => false,
-    }
-}
-
-// Those of a call. The argument of a function that takes one is worked out where its value is to stand, and so is the last
-// one of an `if` of three.
-#[cycle(along)]
-fn along_call(
+// The values of a function of the last operands, so many. The argument of a function that takes one is changed where it is.
+fn called(
     alloc: Global,
     function: Function,
-    xs: &Nodes,
-    region: Region,
-    row: u32,
-    from: usize,
+    count: usize,
+    operands: &mut Vec<Operand>,
+    strip: &Strip,
     windows: &[RowWindow],
-    cells: &mut [Cell],
-) -> Result<(), Memory>
-    requires proper { AreProper (formulas_of xs.now) }
-    requires ready { AreAllReady (formulas_of xs.now) row windows.now }
-    requires row { row < region.rows }
-    requires width { from + length cells.old ≤ region.cols }
-    ensures width { length cells.new ≡ length cells.old }
-    ensures each { OnOk result (AreValues (Call function (formulas_of xs.now)) windows.now region row from cells.new) }
+    spare: &mut Spare,
+) -> Result<Vec<Cell>, Memory>
+    requires strip { IsStrip strip.now }
+    requires enough { count ≤ length operands.old.items }
+    requires ready { All (IsReady windows.now strip.now) operands.old.items }
+    ensures rest { OnOk result (operands.new.items ≡ take (length operands.old.items - count) operands.old.items) }
+    ensures width { IfOk result (λ row. length row.items ≡ strip.now.width) }
+    ensures each { IfOk result (λ row. (c : ℕ) → c < strip.now.width → at row.items c
+        ≡ called function (spot_at strip.now c) (cells_at windows.now strip.now c (drop (length operands.old.items - count) operands.old.items))) }
 {
-    if let Nodes::Then(x, others) = xs {
-        match &**others {
-            Nodes::Empty => {
-                along(alloc, x, region, row, from, windows, cells)?;
-                if call_of_one(function, cells) {
-                    return Ok(());
-                }
-            }
-            Nodes::Then(a, others) => {
-                if let Nodes::Then(b, others) = &**others {
-                    if is_choice(function, others) {
-                        along(alloc, b, region, row, from, windows, cells)?;
-                        let mut conditions = Vec::from_slice(alloc, cells)?;
-                        along(
-                            alloc,
-                            x,
-                            region,
-                            row,
-                            from,
-                            windows,
-                            conditions.as_mut_slice(),
-                        )?;
-                        if chosen(a, region, row, from, windows, conditions.as_slice(), cells) {
-                            return Ok(());
-                        }
-                        let mut yes = Vec::from_slice(alloc, cells)?;
-                        along(alloc, a, region, row, from, windows, yes.as_mut_slice())?;
-                        rows::choose(cells, conditions.as_slice(), yes.as_slice());
-                        return Ok(());
-                    }
-                }
-            }
+    match (function, count) {
+        (Function::If, 1) => {
+            let mut row = row_of(alloc, popped(operands), strip, windows, &mut spare.free)?;
+            rows::truth(row.as_mut_slice());
+            Ok(row)
         }
+        (Function::IsNull, 1) => {
+            let mut row = row_of(alloc, popped(operands), strip, windows, &mut spare.free)?;
+            rows::nullness(row.as_mut_slice());
+            Ok(row)
+        }
+        (Function::Abs, 1) => {
+            let mut row = row_of(alloc, popped(operands), strip, windows, &mut spare.free)?;
+            rows::size(row.as_mut_slice());
+            Ok(row)
+        }
+        (Function::If, 3) => {
+            let no = popped(operands);
+            let yes = popped(operands);
+            let condition = popped(operands);
+            chosen(alloc, condition, yes, no, strip, windows, &mut spare.free)
+        }
+        _ => by_rows(alloc, function, count, operands, strip, windows, spare),
     }
-    let arguments = along_all(alloc, xs, region, row, from, windows, cells)?;
+}
+
+// The same by a row for each argument.
+fn by_rows(
+    alloc: Global,
+    function: Function,
+    count: usize,
+    operands: &mut Vec<Operand>,
+    strip: &Strip,
+    windows: &[RowWindow],
+    spare: &mut Spare,
+) -> Result<Vec<Cell>, Memory>
+    requires strip { IsStrip strip.now }
+    requires enough { count ≤ length operands.old.items }
+    requires ready { All (IsReady windows.now strip.now) operands.old.items }
+    ensures rest { OnOk result (operands.new.items ≡ take (length operands.old.items - count) operands.old.items) }
+    ensures width { IfOk result (λ row. length row.items ≡ strip.now.width) }
+    ensures each { IfOk result (λ row. (c : ℕ) → c < strip.now.width → at row.items c
+        ≡ called function (spot_at strip.now c) (cells_at windows.now strip.now c (drop (length operands.old.items - count) operands.old.items))) }
+{
+    gather(alloc, count, operands, strip, windows, spare)?;
+    let (number, from, width) = (strip.row, strip.from, strip.width);
+    let mut row = taken(alloc, width, &mut spare.free)?;
+    let arguments = spare.arguments.as_slice();
+    let cells = row.as_mut_slice();
     call(
         alloc,
         function,
-        region,
-        row,
+        strip.region,
+        number,
         from,
-        arguments.as_slice(),
+        arguments,
         cells,
-    )
+    )?;
+    spare.free.append(&mut spare.arguments)?;
+    Ok(row)
 }
 
-// It is `if`, and no further arguments follow the three.
-fn is_choice(function: Function, others: &Nodes) -> bool
-    ensures function { result ≡ true → function ≡ If }
-    ensures three { result ≡ true → formulas_of others.now ≡ NoFormulas }
-{
-    match (function, others) {
-        (Function::If, Nodes::Empty) => true,
-        _ => false,
-    }
-}
-
-// Puts the values of an operand that needs no row of its own, a number or a map's row where it lies, where conditions hold.
-// Whether it was one.
-fn chosen(
-    node: &Node,
-    region: Region,
-    row: u32,
-    from: usize,
-    windows: &[RowWindow],
-    conditions: &[Cell],
-    cells: &mut [Cell],
-) -> bool
-    requires proper { IsProper (formula_of node.now) }
-    requires ready { AreReady (formula_of node.now) row windows.now }
-    requires row { row < region.rows }
-    requires width { from + length cells.old ≤ region.cols }
-    requires conditions { length conditions.now ≡ length cells.old }
-    ensures width { length cells.new ≡ length cells.old }
-    ensures yes { result ≡ true → AreChosen (formula_of node.now) windows.now region row from conditions.now cells.old cells.new }
-    ensures no { result ≡ false → cells.new ≡ cells.old }
-{
-    match node {
-        Node::Number(n) => {
-            rows::choose_one(cells, conditions, cells::number(*n));
-            true
-        }
-        Node::Map { place, down, right } => {
-            let source = windows[*place].row(*down);
-            match rows::inside(source, from, *right, cells.len()) {
-                Some(part) => {
-                    rows::choose(cells, conditions, part);
-                    true
-                }
-                None => false,
-            }
-        }
-        _ => false,
-    }
-}
-
-// Those of arguments. Rows are copies of a row of that width, since a copy is made faster than a blank row.
-#[cycle(along)]
-fn along_all(
+// Moves the last operands, so many, to the arguments of a call, as rows.
+fn gather(
     alloc: Global,
-    nodes: &Nodes,
-    region: Region,
-    row: u32,
-    from: usize,
+    count: usize,
+    operands: &mut Vec<Operand>,
+    strip: &Strip,
     windows: &[RowWindow],
-    like: &[Cell],
-) -> Result<Vec<Vec<Cell>>, Memory>
-    requires proper { AreProper (formulas_of nodes.now) }
-    requires ready { AreAllReady (formulas_of nodes.now) row windows.now }
-    requires row { row < region.rows }
-    requires width { from + length like.now ≤ region.cols }
-    ensures width { IfOk result (λ rows. All (λ cells. length cells.items ≡ length like.now) rows.items) }
-    ensures each { IfOk result (λ rows. AreColumns (formulas_of nodes.now) windows.now region row from (length like.now) (map (λ cells. cells.items) rows.items)) }
+    spare: &mut Spare,
+) -> Result<(), Memory>
+    requires strip { IsStrip strip.now }
+    requires enough { count ≤ length operands.old.items }
+    requires ready { All (IsReady windows.now strip.now) operands.old.items }
+    ensures rest { OnOk result (operands.new.items ≡ take (length operands.old.items - count) operands.old.items) }
+    ensures width { OnOk result (All (λ cells. length cells.items ≡ strip.now.width) spare.new.arguments.items) }
+    ensures each { OnOk result ((c : ℕ) → c < strip.now.width → column c (map (λ cells. cells.items) spare.new.arguments.items)
+        ≡ cells_at windows.now strip.now c (drop (length operands.old.items - count) operands.old.items)) }
 {
-    match nodes {
-        Nodes::Empty => Ok(Vec::new(alloc)),
-        Nodes::Then(a, xs) => {
-            let mut first = Vec::from_slice(alloc, like)?;
-            along(alloc, a, region, row, from, windows, first.as_mut_slice())?;
-            let mut rows = along_all(alloc, xs, region, row, from, windows, like)?;
-            rows.insert(0, first)?;
-            Ok(rows)
-        }
+    spare.arguments.clear();
+    'operands: for _ in 0..count {
+        let row = row_of(alloc, popped(operands), strip, windows, &mut spare.free)?;
+        spare.arguments.push(row)?;
     }
+    // the last one came first
+    spare.arguments.reverse();
+    Ok(())
 }

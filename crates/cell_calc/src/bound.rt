@@ -1,16 +1,18 @@
 //! Expressions over places of maps.
 
-ghost use Rattle.std.specs.Prelude.{◌≡◌, ◌<◌, ◌≤◌, ◌^◌, ℕ, List, length, slice_get, slice_index_or, None, OnOk, OnErr};
+ghost use Rattle.std.specs.Prelude.{◌≡◌, ◌<◌, ◌≤◌, ℕ, List, [], ◌∷◌, length, slice_get, slice_index_or, All, None, IfOk, OnOk, OnErr};
 ghost use Rattle.cell_core.specs.Grid.{Grid};
-ghost use Rattle.cell_calc.specs.Reach.{top_of, top_of_all, up_of, up_of_all, down_of, down_of_all, IsProper, AreProper};
+ghost use Rattle.cell_calc.specs.Reach.{top_of, up_of, down_of};
 ghost use Rattle.cell_calc.specs.Value.{value, spot};
 ghost use Rattle.cell_calc.specs.Window.{IsOver, HasReach};
-ghost use Rattle.cell_calc.specs.parts.Along.{AreReady, AreOver};
+ghost use Rattle.cell_calc.specs.parts.Operands.{IsReadyStep, seen};
+ghost use Rattle.cell_calc.specs.parts.Postfix.{after, AreEnough};
 ghost use Rattle.cell_calc.specs.parts.Rows.{at};
-ghost use Rattle.cell_calc.specs.parts.Tree.{formula_of, formulas_of};
+ghost use Rattle.cell_calc.specs.parts.Steps.{greatest, top_step, up_step, down_step, IsProperStep};
 
 use crate::along::along;
-use crate::formula::{Node, Nodes};
+use crate::step::Step;
+use crate::strip::{Spare, Strip};
 use crate::window::RowWindow;
 use cell_core::cell::Cell;
 use cell_core::memory::Memory;
@@ -21,116 +23,100 @@ use std::marker::Model;
 /// An expression whose maps are places in a list of maps.
 #[derive(Drop)]
 pub struct Bound {
-    pub(crate) tree: Node,
+    pub(crate) steps: Vec<Step>,
 }
 
 impl Model for Bound {
     ghost use Rattle.cell_calc.specs.parts.Code.{formula_code};
     ghost use Rattle.cell_calc.specs.Formula.{Formula};
-    ghost use Rattle.cell_calc.specs.Reach.{IsProper};
-    ghost use Rattle.cell_calc.specs.parts.Tree.{formula_of};
+    ghost use Rattle.cell_calc.specs.parts.Postfix.{formula_of, AreBound};
 
     ghost Value = { Formula };
 
     ghost coded = { formula_code };
 
-    ghost view = { λ b. formula_of b.tree };
+    ghost view = { λ b. formula_of b.steps.items };
 
-    ghost invariant = { λ b. IsProper (formula_of b.tree) };
+    ghost invariant = { λ b. AreBound b.steps.items };
 }
 
-#[cycle(top)]
-fn top(node: &Node) -> usize
-    requires { IsProper (formula_of node.now) }
-    ensures { result ≡ top_of (formula_of node.now) }
+fn top_of_step(step: Step) -> usize
+    requires { IsProperStep step }
+    ensures { result ≡ top_step step }
 {
-    match node {
-        Node::Number(_) => 0,
-        Node::Map { place, .. } => *place + 1,
-        Node::Negated(a) => top(a),
-        Node::Not(a) => top(a),
-        Node::Binary(_, a, b) => top(a).max(top(b)),
-        Node::Call(_, xs) => top_of_all(xs),
+    match step {
+        Step::Map { place, .. } => place + 1,
+        _ => 0,
     }
 }
 
-#[cycle(top)]
-fn top_of_all(nodes: &Nodes) -> usize
-    requires { AreProper (formulas_of nodes.now) }
-    ensures { result ≡ top_of_all (formulas_of nodes.now) }
+fn top(steps: &[Step]) -> usize
+    requires { All IsProperStep steps.now }
+    ensures { result ≡ greatest top_step steps.now }
 {
-    match nodes {
-        Nodes::Empty => 0,
-        Nodes::Then(a, xs) => top(a).max(top_of_all(xs)),
+    let mut top = 0;
+    for step in steps {
+        top = top.max(top_of_step(*step));
     }
+    top
 }
 
-#[cycle(up)]
-fn up(i: usize, node: &Node) -> u32
-    requires { IsProper (formula_of node.now) }
-    ensures value { result ≡ up_of i (formula_of node.now) }
+fn up_of_step(i: usize, step: Step) -> u32
+    requires { IsProperStep step }
+    ensures value { result ≡ up_step i step }
     ensures bound { result ≤ 255 }
 {
-    match node {
-        Node::Number(_) => 0,
-        Node::Map { place, down, .. } => {
-            if i == *place && *down < 0 {
-                -(*down as i64) as u32
+    match step {
+        Step::Map { place, down, .. } => {
+            if i == place && down < 0 {
+                -(down as i64) as u32
             } else {
                 0
             }
         }
-        Node::Negated(a) => up(i, a),
-        Node::Not(a) => up(i, a),
-        Node::Binary(_, a, b) => up(i, a).max(up(i, b)),
-        Node::Call(_, xs) => up_of_all(i, xs),
+        _ => 0,
     }
 }
 
-#[cycle(up)]
-fn up_of_all(i: usize, nodes: &Nodes) -> u32
-    requires { AreProper (formulas_of nodes.now) }
-    ensures value { result ≡ up_of_all i (formulas_of nodes.now) }
+fn up(i: usize, steps: &[Step]) -> u32
+    requires { All IsProperStep steps.now }
+    ensures value { result ≡ greatest (up_step i) steps.now }
     ensures bound { result ≤ 255 }
 {
-    match nodes {
-        Nodes::Empty => 0,
-        Nodes::Then(a, xs) => up(i, a).max(up_of_all(i, xs)),
+    let mut up = 0;
+    for step in steps {
+        up = up.max(up_of_step(i, *step));
     }
+    up
 }
 
-#[cycle(down)]
-fn down(i: usize, node: &Node) -> u32
-    requires { IsProper (formula_of node.now) }
-    ensures value { result ≡ down_of i (formula_of node.now) }
+fn down_of_step(i: usize, step: Step) -> u32
+    requires { IsProperStep step }
+    ensures value { result ≡ down_step i step }
     ensures bound { result ≤ 255 }
 {
-    match node {
-        Node::Number(_) => 0,
-        Node::Map { place, down, .. } => {
-            if i == *place && *down > 0 {
-                *down as u32
+    match step {
+        Step::Map { place, down, .. } => {
+            if i == place && down > 0 {
+                down as u32
             } else {
                 0
             }
         }
-        Node::Negated(a) => down(i, a),
-        Node::Not(a) => down(i, a),
-        Node::Binary(_, a, b) => down(i, a).max(down(i, b)),
-        Node::Call(_, xs) => down_of_all(i, xs),
+        _ => 0,
     }
 }
 
-#[cycle(down)]
-fn down_of_all(i: usize, nodes: &Nodes) -> u32
-    requires { AreProper (formulas_of nodes.now) }
-    ensures value { result ≡ down_of_all i (formulas_of nodes.now) }
+fn down(i: usize, steps: &[Step]) -> u32
+    requires { All IsProperStep steps.now }
+    ensures value { result ≡ greatest (down_step i) steps.now }
     ensures bound { result ≤ 255 }
 {
-    match nodes {
-        Nodes::Empty => 0,
-        Nodes::Then(a, xs) => down(i, a).max(down_of_all(i, xs)),
+    let mut down = 0;
+    for step in steps {
+        down = down.max(down_of_step(i, *step));
     }
+    down
 }
 
 impl Bound {
@@ -138,7 +124,7 @@ impl Bound {
     pub fn top(&self) -> usize
         ensures { result ≡ top_of self.now }
     {
-        top(&self.tree)
+        top(self.steps.as_slice())
     }
 
     /// The most rows up and down that an offset for the map at a place asks for. Takes no memory.
@@ -148,44 +134,50 @@ impl Bound {
         ensures down { result.1 ≡ down_of i self.now }
         ensures bound { (result.0 ≤ 255) × (result.1 ≤ 255) }
     {
-        (up(i, &self.tree), down(i, &self.tree))
+        let steps = self.steps.as_slice();
+        (up(i, steps), down(i, steps))
     }
 }
 
 // The columns whose values are worked out at a time, so that the rows that a value needs stay near.
 const STRIP: usize = 1024;
 
-fn along_strips(
+// The values of an expression along a row, strip by strip.
+fn along_row(
     alloc: Global,
-    node: &Node,
+    steps: &[Step],
     region: Region,
     row: u32,
     windows: &[RowWindow],
-    cells: &mut [Cell],
-) -> Result<(), Memory>
-    requires proper { IsProper (formula_of node.now) }
-    requires ready { AreReady (formula_of node.now) row windows.now }
+) -> Result<Vec<Cell>, Memory>
     requires row { row < region.rows }
-    requires width { length cells.old ≡ region.cols }
-    ensures width { length cells.new ≡ length cells.old }
-    ensures each { OnOk result ((maps : List Grid) → AreOver (formula_of node.now) windows.now maps → (c : ℕ) → c < region.cols → at cells.new c ≡ value (formula_of node.now) maps (spot region row c)) }
+    requires ready { All (IsReadyStep windows.now) steps.now }
+    requires enough { AreEnough steps.now 0 }
+    ensures width { IfOk result (λ cells. length cells.items ≡ region.cols) }
+    ensures each { IfOk result (λ cells. (c : ℕ) → c < region.cols → at cells.items c ∷ [] ≡ after (seen windows.now (spot region row c)) steps.now []) }
 {
-    let width = cells.len();
+    let cols = region.cols() as usize;
+    let mut cells = Vec::with_capacity(alloc, cols)?;
+    let mut operands = Vec::new(alloc);
+    let mut spare = Spare {
+        free: Vec::new(alloc),
+        arguments: Vec::new(alloc),
+    };
     let mut from = 0;
-    'strips: while from < width {
-        let to = (from + STRIP).min(width);
-        along(
-            alloc,
-            node,
+    'strips: while from < cols {
+        let width = STRIP.min(cols - from);
+        let strip = Strip {
             region,
             row,
             from,
-            windows,
-            &mut cells[from..to],
-        )?;
-        from = to;
+            width,
+        };
+        let values = along(alloc, steps, &strip, windows, &mut operands, &mut spare)?;
+        cells.extend_from_slice(values.as_slice())?;
+        spare.free.push(values)?;
+        from += width;
     }
-    Ok(())
+    Ok(cells)
 }
 
 /// Writes the values of an expression along a row into a slice, from windows that stand at the row.
@@ -209,15 +201,7 @@ pub fn eval_row(
         → (c : ℕ) → c < region.now.cols → slice_index_or cells.new c None ≡ value bound.now maps (spot region.now row c)) }
     ensures err { OnErr result (cells.new ≡ cells.old) }
 {
-    let mut fresh = Vec::from_slice(alloc, cells)?;
-    along_strips(
-        alloc,
-        &bound.tree,
-        *region,
-        row,
-        windows,
-        fresh.as_mut_slice(),
-    )?;
-    cells.copy_from_slice(fresh.as_slice());
+    let values = along_row(alloc, bound.steps.as_slice(), *region, row, windows)?;
+    cells.copy_from_slice(values.as_slice());
     Ok(())
 }

@@ -1,8 +1,8 @@
 //! What functions do with rows of arguments.
 
-ghost use Rattle.std.specs.Prelude.{◌≡◌, ◌≤◌, ◌<◌, ◌+◌, ℕ, [], ◌∷◌, true, length, map, All, OnOk};
+ghost use Rattle.std.specs.Prelude.{◌≡◌, ◌≤◌, ◌<◌, ◌+◌, ℕ, length, map, All, OnOk};
 ghost use Rattle.cell_calc.specs.Cells.{if_of, least, greatest, known, first_of, last_of, truth, is_null};
-ghost use Rattle.cell_calc.specs.Value.{Spot, spot, size_of, called};
+ghost use Rattle.cell_calc.specs.Value.{spot, size_of, called};
 ghost use Rattle.cell_calc.specs.parts.Rows.{at, column};
 
 use crate::{cells, modes, rows};
@@ -124,20 +124,6 @@ fn size(arguments: &[Vec<Cell>], row: &mut [Cell])
 {
     first(arguments, row);
     rows::size(row);
-}
-
-/// The values of a function of one argument, in the place of those of the argument. Whether it is one.
-pub(crate) fn call_of_one(function: Function, row: &mut [Cell]) -> bool
-    ensures width { length row.new ≡ length row.old }
-    ensures each { result ≡ true → (s : Spot) → (c : ℕ) → c < length row.old → at row.new c ≡ called function s (at row.old c ∷ []) }
-{
-    match function {
-        Function::If => rows::truth(row),
-        Function::IsNull => rows::nullness(row),
-        Function::Abs => rows::size(row),
-        _ => return false,
-    }
-    true
 }
 
 /// The values of a function along a strip, of those of its arguments.

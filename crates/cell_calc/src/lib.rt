@@ -7,10 +7,12 @@ pub mod bound;
 mod calls;
 mod cells;
 pub mod compacting;
-pub mod formula;
 mod held;
 mod modes;
+mod operand;
 mod rows;
+mod step;
+mod strip;
 pub mod window;
 
 pub use binding::resolve;

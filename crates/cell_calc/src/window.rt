@@ -1,9 +1,10 @@
 //! Windows of rows that move down a map.
 
-ghost use Rattle.std.specs.Prelude.{◌≡◌, ◌≤◌, ◌<◌, ◌+◌, ◌+ℤ◌, ℤ, pos, length, None, IfOk, IfSome, IfNone, ◌<ℤ◌};
+ghost use Rattle.std.specs.Prelude.{◌≡◌, ◌≤◌, ◌<◌, ◌+◌, ◌+ℤ◌, ℤ, pos, length, None, Some, IfOk, IfSome, IfNone, ◌<ℤ◌};
 ghost use Rattle.cell_core.specs.Grid.{Grid};
 ghost use Rattle.cell_calc.specs.Value.{row_of, cell_of, item_at};
 ghost use Rattle.cell_calc.specs.Window.{IsWindowOf, Reaches};
+ghost use Rattle.cell_calc.specs.parts.Windows.{row_below};
 
 use crate::held::Held;
 use cell_core::cell::Cell;
@@ -111,7 +112,8 @@ impl RowWindow {
     // The cells of the row so many below the centre, none outside the map.
     pub(crate) fn row(&self, down: i32) -> &[Cell]
         requires { Reaches self.now down }
-        ensures { (m : Grid) → IsWindowOf self.now m → result.now ≡ row_of m (pos self.now.centre +ℤ down) }
+        ensures held { result.now ≡ row_below down (Some self.now) }
+        ensures map { (m : Grid) → IsWindowOf self.now m → result.now ≡ row_of m (pos self.now.centre +ℤ down) }
     {
         let first = self.centre.saturating_sub(self.above);
         match place_of(self.centre, first, down) {

@@ -1,20 +1,32 @@
-use Rattle.std.proofs.Common.{rules, ◌≡◌, length, ap, ◌∙◌, None}
+use Rattle.std.proofs.Common.{[], ap, ◌∙◌, None}
 use Rattle.std.specs.Prelude.{slice_index_or}
-use Rattle.cell_calc.specs.parts.Tree.{formula_of}
-use Rattle.cell_calc.proofs.Ready.{all_ready, all_over}
-use Rattle.cell_calc.proofs.Rings.{written}
+use Rattle.std.proofs.lemmas.List.Elements.{All-same}
+use Rattle.cell_calc.specs.Value.{spot}
+use Rattle.cell_calc.specs.parts.Operands.{IsReadyStep, seen}
+use Rattle.cell_calc.specs.parts.Postfix.{postfix, formula_of, after}
+use Rattle.cell_calc.proofs.Postfix.{enough_steps}
+use Rattle.cell_calc.proofs.Values.{ready_steps, value_seen, only_value}
 use Rattle.cell_calc.proofs.bound.eval_row.Goals as goal
 
-pub along_strips-requires-clause-ready : goal.along_strips-requires-clause-ready
-along_strips-requires-clause-ready c =
+pub along_row-requires-clause-ready : goal.along_row-requires-clause-ready
+along_row-requires-clause-ready c =
+    let f = formula_of c.bound.inside.steps.items in
     let windows = rw (← c.bound.view_is) at c.requires.windows in
-    all_ready (formula_of c.bound.inside.tree) c.args.row c.args.windows.now windows
+    All-same (IsReadyStep c.args.windows.now) c.as_slice.result.now (postfix f) (c.as_slice.ensures.value ∙ c.bound.invariant.postfix)
+    (ready_steps f c.args.row c.args.windows.now c.bound.invariant.proper windows)
+
+pub along_row-requires-clause-enough : goal.along_row-requires-clause-enough
+along_row-requires-clause-enough c =
+    let f = formula_of c.bound.inside.steps.items in
+    rw (c.as_slice.ensures.value ∙ c.bound.invariant.postfix) (enough_steps f)
 
 pub returns-clause-ok : goal.returns-clause-ok
 returns-clause-ok c =
-    let fresh = c.in_ok-fresh.fresh in
-    let all : fresh.len ≡ length fresh.items = search rules in
-    let width = c.along_strips.ensures.width ∙ ap (λ l. length l) c.as_mut_slice.ensures.value in
-    let same = c.copy_from_slice.ensures.after ∙ c.as_slice.ensures.value ∙ written fresh.len c.along_strips.new.cells fresh.items all width in
+    let f = formula_of c.bound.inside.steps.items in
+    let windows = rw (← c.bound.view_is) at c.requires.windows in
+    let steps = c.as_slice.ensures.value ∙ c.bound.invariant.postfix in
+    let same = c.copy_from_slice.ensures.after ∙ c.as_slice-2.ensures.value in
     rw (← c.bound.view_is) (λ maps over k h.
-    ap (λ l. slice_index_or l k None) same ∙ c.in_ok-along_strips.ensures.each maps (all_over (formula_of c.bound.inside.tree) c.args.windows.now maps over) k h)
+    let s = spot c.args.region.now c.args.row k in
+    ap (λ l. slice_index_or l k None) same
+    ∙ only_value _ _ (c.in_ok-values.ensures.each k h ∙ ap (λ l. after (seen c.args.windows.now s) l []) steps ∙ value_seen f c.args.windows.now maps s windows over))

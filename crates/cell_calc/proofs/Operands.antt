@@ -1,0 +1,128 @@
+-- Operands that steps take from the end of a list.
+use Rattle.std.proofs.Common.{◌≡◌, ◌<◌, ◌≤◌, ◌+◌, ◌-◌, ℕ, List, [], ◌∷◌, ◌++◌, length, take, drop, get_or, map, refl, sym, ap, ◌∙◌, arith, append_assoc, length-append, add-one}
+use Rattle.std.proofs.Math.Seq.{take-append_seam, drop-append_seam, drop-cons}
+use Rattle.std.proofs.lemmas.List.{length-map, length-take-le, length-drop, map-append, take-append-drop, nil_from_length, reverse-append, reverse-reverse}
+use Rattle.std.specs.Prelude.{reverse}
+use Rattle.cell_core.specs.Grid.{CellValue}
+use Rattle.cell_calc.specs.declared.step.Step.{Step}
+use Rattle.cell_calc.specs.declared.strip.Operand.{Operand}
+use Rattle.cell_calc.specs.declared.strip.Strip.{Strip}
+use Rattle.cell_calc.specs.Window.{Window}
+use Rattle.cell_calc.specs.parts.Operands.{operand_at, cells_at, seen, spot_at}
+use Rattle.cell_calc.specs.parts.Postfix.{arity, after, AreEnough}
+use Rattle.cell_calc.specs.parts.Rows.{at, column}
+use Rattle.cell_calc.proofs.Postfix.{one_step}
+
+-- what stands before the last operands, and those
+pub front_is : {X : Type 0} (old new ys : List X) (n : ℕ) → old ≡ new ++ ys → length ys ≡ n → new ≡ take (length old - n) old
+front_is old new ys n is count =
+    let e : length (new ++ ys) - n ≡ length new = omega (arith, length-append new ys) in
+    rw (is, e) (sym (take-append_seam new ys))
+
+pub back_is : {X : Type 0} (old new ys : List X) (n : ℕ) → old ≡ new ++ ys → length ys ≡ n → ys ≡ drop (length old - n) old
+back_is old new ys n is count =
+    let e : length (new ++ ys) - n ≡ length new = omega (arith, length-append new ys) in
+    rw (is, e) (sym (drop-append_seam new ys))
+
+-- two that were taken one after another, and three
+pub two_popped : {X : Type 0} (old middle new : List X) (a b : X) → old ≡ middle ++ b ∷ [] → middle ≡ new ++ a ∷ [] → old ≡ new ++ (a ∷ b ∷ [])
+two_popped old middle new a b first second = first ∙ ap (λ l. l ++ b ∷ []) second ∙ append_assoc new (a ∷ []) (b ∷ [])
+
+pub three_popped : {X : Type 0} (old more middle new : List X) (x a b : X) → old ≡ more ++ b ∷ [] → more ≡ middle ++ a ∷ [] → middle ≡ new ++ x ∷ []
+    → old ≡ new ++ (x ∷ a ∷ b ∷ [])
+three_popped old more middle new x a b first second third =
+    first ∙ ap (λ l. l ++ b ∷ []) (two_popped more middle new x a second third) ∙ append_assoc new (x ∷ a ∷ []) (b ∷ [])
+
+-- one more of the last operands
+one_more : {X : Type 0} (old before new : List X) (a : X) (j : ℕ) → j ≤ length old → before ≡ take (length old - j) old → before ≡ new ++ a ∷ []
+    → old ≡ new ++ (a ∷ drop (length old - j) old)
+one_more old before new a j le is popped =
+    sym (take-append-drop (length old - j) old) ∙ ap (λ l. l ++ drop (length old - j) old) (sym is ∙ popped) ∙ append_assoc new (a ∷ []) (drop (length old - j) old)
+
+pub front_more : {X : Type 0} (old before new : List X) (a : X) (j : ℕ) → j ≤ length old → before ≡ take (length old - j) old → before ≡ new ++ a ∷ []
+    → new ≡ take (length old - (j + 1)) old
+front_more old before new a j le is popped =
+    front_is old new (a ∷ drop (length old - j) old) (j + 1) (one_more old before new a j le is popped) (omega (arith, length-drop (length old - j) old))
+
+pub back_more : {X : Type 0} (old before new : List X) (a : X) (j : ℕ) → j ≤ length old → before ≡ take (length old - j) old → before ≡ new ++ a ∷ []
+    → a ∷ drop (length old - j) old ≡ drop (length old - (j + 1)) old
+back_more old before new a j le is popped =
+    back_is old new (a ∷ drop (length old - j) old) (j + 1) (one_more old before new a j le is popped) (omega (arith, length-drop (length old - j) old))
+
+-- the only one
+pub only_one : {X : Type 0} (old new : List X) (x : X) → length old ≡ 1 → old ≡ new ++ x ∷ [] → old ≡ x ∷ []
+only_one old new x one is =
+    let none : length new ≡ 0 = omega (arith, ap length is, length-append new (x ∷ [])) in
+    is ∙ ap (λ l. l ++ x ∷ []) (nil_from_length new none)
+
+-- the steps from one on
+pub steps_from : (steps : List Step) (i : ℕ) (d : Step) → i < length steps → drop i steps ≡ get_or steps i d ∷ drop (i + 1) steps
+steps_from steps i d lt = rw add-one (drop-cons steps i d lt)
+
+pub no_steps : (steps : List Step) (i : ℕ) → length steps ≤ i → drop i steps ≡ []
+no_steps steps i le = nil_from_length (drop i steps) (omega (arith, length-drop i steps))
+
+-- the next step has its operands, and so have those after it
+pub enough_at : (steps : List Step) (i n : ℕ) (d : Step) → i < length steps → AreEnough (drop i steps) n → arity (get_or steps i d) ≤ n
+enough_at steps i n d lt h = let all = rw (steps_from steps i d lt) at h in all.0
+
+pub enough_more : (steps : List Step) (i : ℕ) (d : Step) {X : Type 0} (old new : List X) (o : X) → i < length steps → AreEnough (drop i steps) (length old)
+    → new ≡ take (length old - arity (get_or steps i d)) old ++ o ∷ [] → AreEnough (drop (i + 1) steps) (length new)
+enough_more steps i d old new o lt h is =
+    let all = rw (steps_from steps i d lt) at h in
+    let n = length old - arity (get_or steps i d) in
+    let count : length new ≡ length old - arity (get_or steps i d) + 1 =
+    ap (λ l. length l) is ∙ length-append (take n old) (o ∷ []) ∙ ap (λ k. k + 1) (length-take-le n old (omega arith)) in
+    rw count all.1
+
+-- one step more along a strip
+pub step_more : (windows : List Window) (strip : Strip) (steps : List Step) (i c : ℕ) (d : Step) (old new : List Operand) (o : Operand) (end : List CellValue)
+    → i < length steps → arity (get_or steps i d) ≤ length old → new ≡ take (length old - arity (get_or steps i d)) old ++ o ∷ []
+    → operand_at windows strip c o ≡ seen windows (spot_at strip c) (get_or steps i d) (cells_at windows strip c (drop (length old - arity (get_or steps i d)) old))
+    → after (seen windows (spot_at strip c)) (drop i steps) (cells_at windows strip c old) ≡ end
+    → after (seen windows (spot_at strip c)) (drop (i + 1) steps) (cells_at windows strip c new) ≡ end
+step_more windows strip steps i c d old new o end lt le is made before =
+    let f = λ (p : Operand). operand_at windows strip c p in
+    let g = λ (s : Step) (xs : List CellValue). seen windows (spot_at strip c) s xs in
+    let s = get_or steps i d in
+    let n = length old - arity s in
+    let split : map f old ≡ map f (take n old) ++ map f (drop n old) = ap (λ l. map f l) (sym (take-append-drop n old)) ∙ map-append f (take n old) (drop n old) in
+    let taken : length (drop n old) ≡ arity s = omega (arith, length-drop n old, le) in
+    ap (λ l. after g (drop (i + 1) steps) l)
+    (ap (λ l. map f l) is ∙ map-append f (take n old) (o ∷ []) ∙ ap (λ v. map f (take n old) ++ v ∷ []) made)
+    ∙ sym (one_step g s (drop (i + 1) steps) (map f (take n old)) (map f (drop n old)) (length-map (drop n old) f ∙ taken))
+    ∙ ap (λ l. after g (s ∷ drop (i + 1) steps) l) (sym split)
+    ∙ ap (λ l. after g l (map f old)) (sym (steps_from steps i d lt)) ∙ before
+
+-- the value of the only operand that is left
+pub end_value : (windows : List Window) (strip : Strip) (steps : List Step) (i c : ℕ) (old : List Operand) (o : Operand) (end : List CellValue)
+    → drop i steps ≡ [] → old ≡ o ∷ [] → after (seen windows (spot_at strip c)) (drop i steps) (cells_at windows strip c old) ≡ end
+    → operand_at windows strip c o ∷ [] ≡ end
+end_value windows strip steps i c old o end none only is =
+    let g = λ (s : Step) (xs : List CellValue). seen windows (spot_at strip c) s xs in
+    ap (λ l. after g l (operand_at windows strip c o ∷ [])) (sym none)
+    ∙ ap (λ l. after g (drop i steps) (cells_at windows strip c l)) (sym only) ∙ is
+
+-- one more row of the arguments of a call, of which the last one comes first
+pub gather_more : {V : Type 0} (f : V → List CellValue) (windows : List Window) (strip : Strip) (c : ℕ) (old before new : List Operand) (a : Operand) (j : ℕ) (rows : List V) (row : V)
+    → j ≤ length old → before ≡ take (length old - j) old → before ≡ new ++ a ∷ []
+    → column c (map f rows) ≡ reverse (cells_at windows strip c (drop (length old - j) old)) → at (f row) c ≡ operand_at windows strip c a
+    → column c (map f (rows ++ row ∷ [])) ≡ reverse (cells_at windows strip c (drop (length old - (j + 1)) old))
+gather_more f windows strip c old before new a j rows row le is popped so_far here =
+    let cells = cells_at windows strip c (drop (length old - j) old) in
+    ap (λ l. column c l) (map-append f rows (row ∷ [])) ∙ map-append (λ r. at r c) (map f rows) (f row ∷ [])
+    ∙ ap (λ l. l ++ at (f row) c ∷ []) so_far ∙ ap (λ v. reverse cells ++ v ∷ []) here
+    ∙ sym (reverse-append (operand_at windows strip c a ∷ []) cells)
+    ∙ ap (λ l. reverse (cells_at windows strip c l)) (back_more old before new a j le is popped)
+
+map-reverse : {X Y : Type 0} (f : X → Y) (xs : List X) → map f (reverse xs) ≡ reverse (map f xs)
+map-reverse f [] = refl
+map-reverse f (x ∷ xs) =
+    ap (λ l. map f l) (reverse-append (x ∷ []) xs) ∙ map-append f (reverse xs) (x ∷ []) ∙ ap (λ l. l ++ f x ∷ []) (map-reverse f xs)
+    ∙ sym (reverse-append (f x ∷ []) (map f xs))
+
+-- they are put in order
+pub gathered : {V : Type 0} (f : V → List CellValue) (c : ℕ) (rows : List V) (cells : List CellValue)
+    → column c (map f rows) ≡ reverse cells → column c (map f (reverse rows)) ≡ cells
+gathered f c rows cells is =
+    ap (λ l. column c l) (map-reverse f rows) ∙ map-reverse (λ r. at r c) (map f rows) ∙ ap (λ l. reverse l) is ∙ reverse-reverse cells

@@ -1,0 +1,148 @@
+-- What the steps of an expression make of the rows that windows hold is its value.
+use Rattle.std.proofs.Common.{◌≡◌, ◌<◌, ◌≤◌, ◌-◌, ℕ, ℤ, pos, negsuc, ◌+ℤ◌, ◌-ℤ◌, ◌<ℤ◌, List, [], ◌∷◌, ◌++◌, length, map, get_or, take, drop, refl, sym, ap, ◌∙◌, arith, append-nil, Option, Some, None, Bool, true, false}
+use Rattle.std.specs.Prelude.{All, slice_get, slice_index_or, ◌==◌, if◌then◌else◌}
+use Rattle.std.proofs.lemmas.Int.{ints}
+use Rattle.std.proofs.lemmas.List.Elements.{All-head, All-tail}
+use Rattle.cell_core.specs.Grid.{Grid, CellValue}
+use Rattle.cell_language.specs.Grammatical.{up_by, down_by}
+use Rattle.cell_calc.specs.declared.step.Step.{Step}
+use Rattle.cell_calc.specs.declared.step.Step.TheVariants as step
+use Rattle.cell_calc.specs.Formula.{Formula, Formulas, NoFormulas, Then}
+use Rattle.cell_calc.specs.Reach.{IsProper, top_of, up_of, down_of}
+use Rattle.cell_calc.specs.Value.{Spot, value, values, applied, called, negated, inverted, cell_in, item_at, row_of}
+use Rattle.cell_calc.specs.Window.{Window, IsWindowOf, Reaches, IsOver, HasReach}
+use Rattle.cell_calc.specs.parts.Operands.{IsReadyStep, seen}
+use Rattle.cell_calc.specs.parts.Postfix.{postfix, arity, after}
+use Rattle.cell_calc.specs.parts.Steps.{top_step, up_step, down_step, IsProperStep}
+use Rattle.cell_calc.specs.parts.Windows.{IsInReach, row_below}
+use Rattle.cell_calc.proofs.Postfix.{listed, IsMeaning, after_postfix}
+use Rattle.cell_calc.proofs.Rings.{held_row}
+use Rattle.cell_calc.proofs.Steps.{proper_steps, below_greatest, top-postfix, up-postfix, down-postfix}
+
+-- what a step makes of cells over maps
+abbrev over_maps : List Grid → Spot → Step → List CellValue → CellValue
+over_maps maps s (step.Number n) xs = Some (pos n)
+over_maps maps s (step.Map i down right) xs = cell_in (slice_get maps i) (pos s.row +ℤ down) (pos s.col +ℤ right)
+over_maps maps s step.Negated xs = negated (slice_index_or xs 0 None)
+over_maps maps s step.Not xs = inverted (slice_index_or xs 0 None)
+over_maps maps s (step.Binary op) xs = applied op (slice_index_or xs 0 None) (slice_index_or xs 1 None)
+over_maps maps s (step.Call f n) xs = called f s xs
+
+values-listed : (maps : List Grid) (s : Spot) (xs : Formulas) → map (λ a. value a maps s) (listed xs) ≡ values xs maps s
+values-listed maps s NoFormulas = refl
+values-listed maps s (Then a xs) = ap (λ l. value a maps s ∷ l) (values-listed maps s xs)
+
+-- the steps of an expression make its value
+value_after : (maps : List Grid) (s : Spot) (f : Formula) → after (over_maps maps s) (postfix f) [] ≡ value f maps s ∷ []
+value_after maps s f =
+    let is : IsMeaning CellValue (over_maps maps s) (λ a. value a maps s) =
+    record {
+      number = λ n. refl;
+      place = λ i down right. refl;
+      negated = λ a. refl;
+      inverted = λ a. refl;
+      binary = λ op a b. refl;
+      call = λ g xs. ap (λ l. called g s l) (values-listed maps s xs);
+    } in
+    ap (λ l. after (over_maps maps s) l []) (sym (append-nil (postfix f))) ∙ after_postfix (over_maps maps s) (λ a. value a maps s) is f [] []
+
+-- no row of a map is above its first one
+none_above : {A : Type 0} (xs : List (List A)) (z : ℤ) → z <ℤ pos 0 → [] ≡ item_at [] xs z
+none_above xs (pos n) lt = absurd (let no : ⊥ = omega (arith, ints, lt) in no)
+none_above xs (negsuc n) lt = refl
+
+-- the row that a window holds so far below its centre is the map's
+window_row : (w : Window) (m : Grid) (down : ℤ) → IsWindowOf w m → Reaches w down → row_below down (Some w) ≡ row_of m (pos w.centre +ℤ down)
+window_row w m down over reaches = by_case ((pos w.centre +ℤ down) -ℤ pos (w.centre - w.above)) refl
+  where
+    by_case : (z : ℤ) → (pos w.centre +ℤ down) -ℤ pos (w.centre - w.above) ≡ z → item_at [] w.held z ≡ row_of m (pos w.centre +ℤ down)
+    by_case (pos i) e = held_row w m down i (get_or w.held i []) over reaches (omega (arith, ints, e)) refl
+    by_case (negsuc n) e = none_above m.rows (pos w.centre +ℤ down) (omega (arith, ints, e, reaches.up))
+
+-- what is asked of a window for a step
+reaches_offset : (down : ℤ) (row : ℕ) (w : Window) → HasReach row (up_by down) (down_by down) (Some w) → Reaches w down
+reaches_offset (pos n) row w h = record { up = omega (arith, ints); down = omega (arith, ints, h.1.1) }
+reaches_offset (negsuc n) row w h = record { up = omega (arith, ints, h.1.0); down = omega (arith, ints) }
+
+weaken : (row u v d e : ℕ) (o : Option Window) → u ≤ v → d ≤ e → HasReach row v e o → HasReach row u d o
+weaken row u v d e None lu ld h = h
+weaken row u v d e (Some w) lu ld h = (h.0, (omega (arith, h.1.0), omega (arith, h.1.1)))
+
+at_place : (i n : ℕ) → (if i == i then n else 0) ≡ n
+at_place i n = by_case (i == i) refl
+  where
+    by_case : (b : Bool) → (i == i) ≡ b → (if b then n else 0) ≡ n
+    by_case true e = refl
+    by_case false e = grind arith
+
+-- the window of a place that a step of an expression reads
+has_reach : (f : Formula) (row : ℕ) (windows : List Window) → ((i : ℕ) → i < top_of f → HasReach row (up_of i f) (down_of i f) (slice_get windows i))
+    → (k : ℕ) (d : Step) → k < length (postfix f) → (i : ℕ) (down right : ℤ) → get_or (postfix f) k d ≡ step.Map i down right
+    → (i < top_of f) × HasReach row (up_by down) (down_by down) (slice_get windows i)
+has_reach f row windows h k d lt i down right is =
+    let top : i < top_of f = omega (arith, rw is at (below_greatest top_step (postfix f) k d lt), top-postfix f) in
+    let up : up_by down ≤ up_of i f = omega (arith, rw (is, at_place i (up_by down)) at (below_greatest (up_step i) (postfix f) k d lt), up-postfix i f) in
+    let below : down_by down ≤ down_of i f = omega (arith, rw (is, at_place i (down_by down)) at (below_greatest (down_step i) (postfix f) k d lt), down-postfix i f) in
+    (top, weaken row (up_by down) (up_of i f) (down_by down) (down_of i f) (slice_get windows i) up below (h i top))
+
+-- the windows are ready for each step
+in_reach : (down : ℤ) (row : ℕ) (o : Option Window) → HasReach row (up_by down) (down_by down) o → IsInReach down o
+in_reach down row None h = h
+in_reach down row (Some w) h = reaches_offset down row w h
+
+ready_step : (windows : List Window) (row : ℕ) (s : Step) → IsProperStep s
+    → ((i : ℕ) (down right : ℤ) → s ≡ step.Map i down right → HasReach row (up_by down) (down_by down) (slice_get windows i)) → IsReadyStep windows s
+ready_step windows row (step.Number n) p reach = p
+ready_step windows row (step.Map i down right) p reach = in_reach down row (slice_get windows i) (reach i down right refl)
+ready_step windows row step.Negated p reach = tt
+ready_step windows row step.Not p reach = tt
+ready_step windows row (step.Binary op) p reach = tt
+ready_step windows row (step.Call g n) p reach = tt
+
+pub ready_steps : (f : Formula) (row : ℕ) (windows : List Window) → IsProper f
+    → ((i : ℕ) → i < top_of f → HasReach row (up_of i f) (down_of i f) (slice_get windows i)) → All (IsReadyStep windows) (postfix f)
+ready_steps f row windows proper h = λ k d lt.
+    ready_step windows row (get_or (postfix f) k d) (proper_steps f proper k d lt) (λ i down right is. (has_reach f row windows h k d lt i down right is).1)
+
+-- a cell of a row that a window holds is the map's
+over_window : (row c : ℕ) (down right : ℤ) (o : Option Window) (m : Option Grid) → IsOver o m → HasReach row (up_by down) (down_by down) o
+    → item_at None (row_below down o) (pos c +ℤ right) ≡ cell_in m (pos row +ℤ down) (pos c +ℤ right)
+over_window row c down right None m over h = absurd over
+over_window row c down right (Some w) None over h = absurd over
+over_window row c down right (Some w) (Some m) over h =
+    ap (λ l. item_at None l (pos c +ℤ right)) (window_row w m down over (reaches_offset down row w h) ∙ ap (λ r. row_of m (pos r +ℤ down)) h.0)
+
+same_step : (windows : List Window) (maps : List Grid) (s : Spot) (t : Step)
+    → ((i : ℕ) (down right : ℤ) → t ≡ step.Map i down right → IsOver (slice_get windows i) (slice_get maps i) × HasReach s.row (up_by down) (down_by down) (slice_get windows i))
+    → (xs : List CellValue) → seen windows s t xs ≡ over_maps maps s t xs
+same_step windows maps s (step.Number n) reach xs = refl
+same_step windows maps s (step.Map i down right) reach xs =
+    let there = reach i down right refl in
+    over_window s.row s.col down right (slice_get windows i) (slice_get maps i) there.0 there.1
+same_step windows maps s step.Negated reach xs = refl
+same_step windows maps s step.Not reach xs = refl
+same_step windows maps s (step.Binary op) reach xs = refl
+same_step windows maps s (step.Call g n) reach xs = refl
+
+-- steps that make the same of operands
+after_same : {X : Type 0} (g h : Step → List X → X) (steps : List Step) → All (λ s. (xs : List X) → g s xs ≡ h s xs) steps
+    → (xs : List X) → after g steps xs ≡ after h steps xs
+after_same g h [] all xs = refl
+after_same {X} g h (s ∷ steps) all xs =
+    let n = length xs - arity s in
+    after_same g h steps (All-tail (λ s. (xs : List X) → g s xs ≡ h s xs) s steps all) (take n xs ++ g s (drop n xs) ∷ [])
+    ∙ ap (λ v. after h steps (take n xs ++ v ∷ [])) (All-head (λ s. (xs : List X) → g s xs ≡ h s xs) s steps all (drop n xs))
+
+-- the value of an expression from windows that are of the maps
+pub value_seen : (f : Formula) (windows : List Window) (maps : List Grid) (s : Spot)
+    → ((i : ℕ) → i < top_of f → HasReach s.row (up_of i f) (down_of i f) (slice_get windows i))
+    → ((i : ℕ) → i < top_of f → IsOver (slice_get windows i) (slice_get maps i)) → after (seen windows s) (postfix f) [] ≡ value f maps s ∷ []
+value_seen f windows maps s h over =
+    after_same (seen windows s) (over_maps maps s) (postfix f)
+    (λ k d lt xs. same_step windows maps s (get_or (postfix f) k d)
+    (λ i down right is. let there = has_reach f s.row windows h k d lt i down right is in (over i there.0, there.1)) xs) []
+    ∙ value_after maps s f
+
+-- the one value of a list
+pub only_value : (v w : CellValue) → v ∷ [] ≡ w ∷ [] → v ≡ w
+only_value v w e = cc

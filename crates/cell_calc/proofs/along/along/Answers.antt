@@ -1,0 +1,33 @@
+use Rattle.std.proofs.Common.{◌++◌, [], ◌∷◌, length, ap, ◌∙◌}
+use Rattle.std.proofs.lemmas.List.Elements.{All-same, All-push, All-take}
+use Rattle.cell_calc.specs.parts.Operands.{IsReady}
+use Rattle.cell_calc.proofs.Operands.{enough_at, enough_more, step_more, no_steps, only_one, end_value}
+use Rattle.cell_calc.proofs.along.along.Goals as goal
+
+pub loop-step-preserved : goal.loop-step-preserved
+loop-step-preserved c =
+    let so_far = c.loop-step.invariant in
+    let i = c.loop-step.step-index in
+    let steps = c.args.steps.now in
+    let old = c.loop-step.operands.items in
+    let made = c.in_ok-operand.ensures in
+    let o = c.in_ok-operand.operand in
+    let is = c.in_ok-push.ensures.items ∙ ap (λ l. l ++ o ∷ []) made.rest in
+    let lt = c.loop-step-test.true in
+    record {
+      ready = All-same (IsReady c.args.windows.now c.args.strip.now) c.push.new.self.items _ is
+          (All-push (IsReady c.args.windows.now c.args.strip.now) _ o (All-take (IsReady c.args.windows.now c.args.strip.now) _ old so_far.ready) made.ready);
+      enough = enough_more steps i _ old c.push.new.self.items o lt so_far.enough is;
+      each = λ k h. step_more c.args.windows.now c.args.strip.now steps i k _ old c.push.new.self.items o _ lt (enough_at steps i (length old) _ lt so_far.enough) is
+          (made.each k h) (so_far.each k h);
+    }
+
+pub returns-clause-each : goal.returns-clause-each
+returns-clause-each c =
+    let so_far = c.loop-step.invariant in
+    let i = c.loop-step.step-index in
+    let none = no_steps c.args.steps.now i c.loop-step-test.false in
+    let one = rw none at so_far.enough in
+    let only = only_one c.loop-step.operands.items c.popped-last.new.operands.items c.popped-last.result one c.popped-last.ensures in
+    λ k h. ap (λ v. v ∷ []) (c.in_ok-row.ensures.each k h)
+    ∙ end_value c.args.windows.now c.args.strip.now c.args.steps.now i k c.loop-step.operands.items c.popped-last.result _ none only (so_far.each k h)

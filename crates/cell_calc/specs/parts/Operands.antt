@@ -1,0 +1,56 @@
+-- Values along a strip: some columns of a row, from one on.
+use Rattle.std.specs.Prelude.{◌≡◌, ◌≤◌, ◌<◌, ◌+◌, ◌+ℤ◌, ℕ, pos, List, Some, None, length, map, slice_get, slice_index_or}
+use Rattle.cell_core.specs.Grid.{CellValue}
+use Rattle.cell_calc.specs.Value.{Spot, spot, applied, called, negated, inverted, item_at}
+use Rattle.cell_calc.specs.Window.{Window}
+use Rattle.cell_calc.specs.declared.step.Step.{Step}
+use Rattle.cell_calc.specs.declared.step.Step.TheVariants as step
+use Rattle.cell_calc.specs.declared.strip.Operand.{Operand}
+use Rattle.cell_calc.specs.declared.strip.Operand.TheVariants as operand
+use Rattle.cell_calc.specs.declared.strip.Strip.{Strip}
+use Rattle.cell_calc.specs.parts.Rows.{at}
+use Rattle.cell_calc.specs.parts.Windows.{IsInReach, row_below}
+
+-- it lies in a region
+pub record IsStrip (strip : Strip) : Type 0 where
+  pub row : strip.row < strip.region.rows
+  pub columns : strip.from + strip.width ≤ strip.region.cols
+  pub most : strip.region.cols ≤ 65535
+
+-- a number that is a category, or a map whose window reaches the offset
+abbrev pub IsReadyStep : List Window → Step → Type 0
+IsReadyStep windows (step.Number n) = n ≤ 2147483647
+IsReadyStep windows (step.Map i down right) = IsInReach down (slice_get windows i)
+IsReadyStep windows step.Negated = Unit {0}
+IsReadyStep windows step.Not = Unit {0}
+IsReadyStep windows (step.Binary op) = Unit {0}
+IsReadyStep windows (step.Call f n) = Unit {0}
+
+-- the same of an operand; its row is as wide as the strip
+abbrev pub IsReady : List Window → Strip → Operand → Type 0
+IsReady windows strip (operand.Number n) = n ≤ 2147483647
+IsReady windows strip (operand.Map i down right) = IsInReach down (slice_get windows i)
+IsReady windows strip (operand.Row cells) = length cells.items ≡ strip.width
+
+-- the cell of an operand at a column of a strip
+abbrev pub operand_at : List Window → Strip → ℕ → Operand → CellValue
+operand_at windows strip c (operand.Number n) = Some (pos n)
+operand_at windows strip c (operand.Map i down right) = item_at None (row_below down (slice_get windows i)) (pos (strip.from + c) +ℤ right)
+operand_at windows strip c (operand.Row cells) = at cells.items c
+
+-- those of operands
+abbrev pub cells_at : List Window → Strip → ℕ → List Operand → List CellValue
+cells_at windows strip c operands = map (operand_at windows strip c) operands
+
+-- what a step makes of cells, with the rows that windows hold for those of maps
+abbrev pub seen : List Window → Spot → Step → List CellValue → CellValue
+seen windows s (step.Number n) xs = Some (pos n)
+seen windows s (step.Map i down right) xs = item_at None (row_below down (slice_get windows i)) (pos s.col +ℤ right)
+seen windows s step.Negated xs = negated (slice_index_or xs 0 None)
+seen windows s step.Not xs = inverted (slice_index_or xs 0 None)
+seen windows s (step.Binary op) xs = applied op (slice_index_or xs 0 None) (slice_index_or xs 1 None)
+seen windows s (step.Call f n) xs = called f s xs
+
+-- the place of a column of a strip
+abbrev pub spot_at : Strip → ℕ → Spot
+spot_at strip c = spot strip.region strip.row (strip.from + c)

@@ -1,0 +1,175 @@
+//! Operands of the steps of an expression, along strips.
+
+ghost use Rattle.std.specs.Prelude.{◌≡◌, ◌<◌, ◌++◌, [], ◌∷◌, ℕ, length, IfOk, OnOk};
+ghost use Rattle.cell_calc.specs.Value.{applied};
+ghost use Rattle.cell_calc.specs.Cells.{chosen};
+ghost use Rattle.cell_calc.specs.parts.Operands.{IsStrip, IsReady, operand_at};
+ghost use Rattle.cell_calc.specs.parts.Rows.{at};
+
+use crate::strip::{Operand, Strip};
+use crate::window::RowWindow;
+use crate::{cells, rows};
+use cell_core::cell::Cell;
+use cell_core::memory::Memory;
+use cell_language::operator::Operator;
+use std::alloc::Global;
+
+/// The last operand.
+pub(crate) fn popped(operands: &mut Vec<Operand>) -> Operand
+    requires { 0 < length operands.old.items }
+    ensures { operands.old.items ≡ operands.new.items ++ result ∷ [] }
+{
+    operands.pop().unwrap()
+}
+
+/// A row of so many cells, whatever they are: one that is free, or a new one.
+pub(crate) fn taken(
+    alloc: Global,
+    width: usize,
+    free: &mut Vec<Vec<Cell>>,
+) -> Result<Vec<Cell>, Memory>
+    ensures { IfOk result (λ row. length row.items ≡ width) }
+{
+    if let Some(mut row) = free.pop() {
+        if width <= row.len() {
+            row.truncate(width);
+            return Ok(row);
+        }
+    }
+    Ok(Vec::from_elem(alloc, Cell::null(), width)?)
+}
+
+/// The cells of an operand, in a row that may be written over.
+pub(crate) fn row_of(
+    alloc: Global,
+    operand: Operand,
+    strip: &Strip,
+    windows: &[RowWindow],
+    free: &mut Vec<Vec<Cell>>,
+) -> Result<Vec<Cell>, Memory>
+    requires strip { IsStrip strip.now }
+    requires ready { IsReady windows.now strip.now operand }
+    ensures width { IfOk result (λ row. length row.items ≡ strip.now.width) }
+    ensures each { IfOk result (λ row. (c : ℕ) → c < strip.now.width → at row.items c ≡ operand_at windows.now strip.now c operand) }
+{
+    let (from, width) = (strip.from, strip.width);
+    match operand {
+        Operand::Row(row) => Ok(row),
+        Operand::Number(n) => {
+            let mut row = taken(alloc, width, free)?;
+            rows::fill(row.as_mut_slice(), cells::number(n));
+            Ok(row)
+        }
+        Operand::Map { place, down, right } => {
+            let mut row = taken(alloc, width, free)?;
+            let source = windows[place].row(down);
+            rows::shift(source, from, right, row.as_mut_slice());
+            Ok(row)
+        }
+    }
+}
+
+/// The values of an operator. Its right operand needs no row of its own where it is a number, or a map's row where that lies.
+pub(crate) fn joined(
+    alloc: Global,
+    operator: Operator,
+    left: Operand,
+    right: Operand,
+    strip: &Strip,
+    windows: &[RowWindow],
+    free: &mut Vec<Vec<Cell>>,
+) -> Result<Vec<Cell>, Memory>
+    requires strip { IsStrip strip.now }
+    requires left { IsReady windows.now strip.now left }
+    requires right { IsReady windows.now strip.now right }
+    ensures width { IfOk result (λ row. length row.items ≡ strip.now.width) }
+    ensures each { IfOk result (λ row. (c : ℕ) → c < strip.now.width → at row.items c ≡ applied operator (operand_at windows.now strip.now c left) (operand_at windows.now strip.now c right)) }
+{
+    let from = strip.from;
+    let mut row = row_of(alloc, left, strip, windows, free)?;
+    match right {
+        Operand::Number(n) => {
+            rows::apply_one(operator, row.as_mut_slice(), cells::number(n));
+            Ok(row)
+        }
+        Operand::Map { place, down, right } => {
+            let source = windows[place].row(down);
+            rows::apply_shifted(operator, row.as_mut_slice(), source, right, from);
+            Ok(row)
+        }
+        Operand::Row(others) => {
+            rows::apply(operator, row.as_mut_slice(), others.as_slice());
+            free.push(others)?;
+            Ok(row)
+        }
+    }
+}
+
+/// The values of `if` of three arguments. The first choice needs no row of its own where it is a number, or a map's row where
+/// that lies.
+pub(crate) fn chosen(
+    alloc: Global,
+    condition: Operand,
+    yes: Operand,
+    no: Operand,
+    strip: &Strip,
+    windows: &[RowWindow],
+    free: &mut Vec<Vec<Cell>>,
+) -> Result<Vec<Cell>, Memory>
+    requires strip { IsStrip strip.now }
+    requires condition { IsReady windows.now strip.now condition }
+    requires yes { IsReady windows.now strip.now yes }
+    requires no { IsReady windows.now strip.now no }
+    ensures width { IfOk result (λ row. length row.items ≡ strip.now.width) }
+    ensures each { IfOk result (λ row. (c : ℕ) → c < strip.now.width → at row.items c ≡ chosen (operand_at windows.now strip.now c condition) (operand_at windows.now strip.now c yes) (operand_at windows.now strip.now c no)) }
+{
+    let mut row = row_of(alloc, no, strip, windows, free)?;
+    let conditions = row_of(alloc, condition, strip, windows, free)?;
+    let others = conditions.as_slice();
+    choose(alloc, yes, strip, windows, others, row.as_mut_slice(), free)?;
+    free.push(conditions)?;
+    Ok(row)
+}
+
+// Puts the cells of an operand into a row where conditions hold.
+fn choose(
+    alloc: Global,
+    yes: Operand,
+    strip: &Strip,
+    windows: &[RowWindow],
+    conditions: &[Cell],
+    row: &mut [Cell],
+    free: &mut Vec<Vec<Cell>>,
+) -> Result<(), Memory>
+    requires strip { IsStrip strip.now }
+    requires yes { IsReady windows.now strip.now yes }
+    requires width { length row.old ≡ strip.now.width }
+    requires conditions { length conditions.now ≡ strip.now.width }
+    ensures width { length row.new ≡ strip.now.width }
+    ensures each { OnOk result ((c : ℕ) → c < strip.now.width → at row.new c ≡ chosen (at conditions.now c) (operand_at windows.now strip.now c yes) (at row.old c)) }
+{
+    let (from, width) = (strip.from, strip.width);
+    match yes {
+        Operand::Number(n) => {
+            rows::choose_one(row, conditions, cells::number(n));
+            Ok(())
+        }
+        Operand::Map { place, down, right } => {
+            let source = windows[place].row(down);
+            if let Some(part) = rows::inside(source, from, right, width) {
+                rows::choose(row, conditions, part);
+                return Ok(());
+            }
+            let over_the_edge = Operand::Map { place, down, right };
+            let others = row_of(alloc, over_the_edge, strip, windows, free)?;
+            rows::choose(row, conditions, others.as_slice());
+            free.push(others)?;
+            Ok(())
+        }
+        Operand::Row(others) => {
+            rows::choose(row, conditions, others.as_slice());
+            free.push(others)?;
+            Ok(())
+        }
+    }
+}

@@ -1,0 +1,29 @@
+//! What is worked on along a strip: some columns of a row.
+
+use cell_core::cell::Cell;
+use cell_core::region::Region;
+
+/// So many columns of a row, from one on.
+#[derive(Clone, Copy)]
+pub(crate) struct Strip {
+    pub(crate) region: Region,
+    pub(crate) row: u32,
+    pub(crate) from: usize,
+    pub(crate) width: usize,
+}
+
+/// The values that an operand has along a strip. Those of a number and of a map get a row only where one is needed.
+#[derive(Drop)]
+pub(crate) enum Operand {
+    Number(u32),
+    /// The cells of the map at a place, so many rows below and columns to the right.
+    Map { place: usize, down: i32, right: i32 },
+    Row(Vec<Cell>),
+}
+
+/// Rows that may be written over, and room for the arguments of a call.
+#[derive(Drop)]
+pub(crate) struct Spare {
+    pub(crate) free: Vec<Vec<Cell>>,
+    pub(crate) arguments: Vec<Vec<Cell>>,
+}
