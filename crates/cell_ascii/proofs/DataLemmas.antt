@@ -1,7 +1,7 @@
 -- The whole data, from its rows and its end, and the whole text, from its header and its data.
 use Rattle.std.proofs.Common.{◌≡◌, ℕ, ◌-◌, ◌<◌, [], List, Option, Some, None, Result, Ok, Err, Bool, refl, ap, sym, ◌∙◌, false}
 use Rattle.std.specs.Option.{option_map, IfSome}
-use Rattle.cell_core.specs.Device.{Coming}
+use Rattle.cell_devices.specs.Device.{Coming}
 use Rattle.cell_core.specs.Grid.{CellValue, Grid, no_labels}
 use Rattle.cell_ascii_text.specs.Words.{start_of}
 use Rattle.cell_ascii_text.specs.Header.{◌>>=◌, At, at_line, Header, Keys, no_keys, header_of, header_from, header_of_text}

@@ -1,6 +1,6 @@
 -- An open grid reader, and what its calls answer.
 use Rattle.std.specs.Prelude.{ℕ, ◌≡◌, ◌<◌, Bool, List, length, take, drop, Option, Some, None, Result, Ok, Err}
-use Rattle.cell_core.specs.Device.{Coming}
+use Rattle.cell_devices.specs.Device.{Coming}
 use Rattle.cell_core.specs.Grid.{CellValue}
 use Rattle.cell_ascii_text.specs.Header.{At, Header, Opened}
 use Rattle.cell_ascii_text.specs.Cells.{cell_from, many}

@@ -1,7 +1,7 @@
 -- A cell whose bytes are held: a space, a word and a byte that ends it.
 use Rattle.std.specs.Prelude.{ℕ, zero, suc, ◌-◌, ◌≡◌, ◌<◌, ◌≤◌, true, List, drop, take, length, slice_index_or, Ok}
 use Rattle.std.specs.List.{list_all}
-use Rattle.cell_core.specs.Device.{Coming}
+use Rattle.cell_devices.specs.Device.{Coming}
 use Rattle.cell_core.specs.Grid.{CellValue}
 use Rattle.cell_ascii_header.specs.Ahead.{before_coming}
 use Rattle.cell_ascii_text.specs.Words.{is_space}

@@ -1,6 +1,6 @@
 -- What a reader is at, and what its calls answer.
 use Rattle.std.specs.Prelude.{ℕ, ◌≡◌, ◌+◌, ◌*◌, ◌^◌, ◌<◌, Bool, false, List, [], Option, None, Result, Ok, Err, IfSome}
-use Rattle.cell_core.specs.Device.{Coming}
+use Rattle.cell_devices.specs.Device.{Coming}
 use Rattle.cell_core.specs.Grid.{CellValue}
 use Rattle.cell_ascii_header.specs.Ahead.{Ahead, to_come}
 use Rattle.cell_ascii_text.specs.Words.{Start, Begins, Ends, Stops, word_from, fault}

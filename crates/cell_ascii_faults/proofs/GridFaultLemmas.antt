@@ -1,6 +1,6 @@
 -- The law of the faults of a grid text.
 use Rattle.std.proofs.Common.{◌≡◌, ◌↔◌, Bool, true, false, [], Option, Some, refl, ap, sym, ◌∙◌, arith, Result, Ok, Err, ◌⊎◌, inl, inr}
-use Rattle.cell_core.specs.Device.{Coming}
+use Rattle.cell_devices.specs.Device.{Coming}
 use Rattle.cell_core.specs.Grid.{Grid}
 use Rattle.cell_ascii_text.specs.Header.{Opened, no_keys, header_of_text, ◌>>=◌}
 use Rattle.cell_ascii_text.specs.Words.{start_of}

@@ -5,7 +5,7 @@ use Rattle.std.specs.Option.{option_map}
 use Rattle.std.specs.List.{filter, before_first, after_first}
 use Rattle.std.proofs.lemmas.Bool.{cases_Bool}
 use Rattle.std.proofs.lemmas.Bool.Decides.{nat_tests}
-use Rattle.cell_core.specs.Device.{Coming}
+use Rattle.cell_devices.specs.Device.{Coming}
 use Rattle.cell_ascii_text.specs.Words.{Begins, is_space, fault, start_of, word_from}
 use Rattle.cell_ascii_text.specs.KeyNames.{key_of}
 use Rattle.cell_ascii_text.specs.Header.{At, Header, Opened, Keys, no_keys, with_key, header_of, is_colon, has_colon, Gap, Word, Feed, Last, Fault, gap_of, value_from, LineEnd, line_end, at_line, key_line, ended, opened, after_line, line_from, header_from, ◌>>=◌}

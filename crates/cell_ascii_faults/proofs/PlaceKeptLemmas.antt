@@ -3,7 +3,7 @@ use Rattle.std.proofs.Common.{◌≡◌, ℕ, zero, suc, ◌+◌, ◌-◌, ◌<�
 use Rattle.std.specs.List.{list_all}
 use Rattle.std.proofs.lemmas.Bool.{cases_Bool, cases_lt}
 use Rattle.std.proofs.lemmas.Bool.Decides.{nat_tests}
-use Rattle.cell_core.specs.Device.{Coming}
+use Rattle.cell_devices.specs.Device.{Coming}
 use Rattle.cell_core.specs.Grid.{CellValue}
 use Rattle.cell_ascii_text.specs.Words.{Start, Begins, Ends, Stops, is_space, is_word, newlines, fault, start_of, word_from}
 use Rattle.cell_ascii_text.specs.Header.{At, Header, Opened, Keys, header_of, has_colon, LineEnd, at_line, key_line, ended, opened, after_line, line_from, header_from, ◌>>=◌}

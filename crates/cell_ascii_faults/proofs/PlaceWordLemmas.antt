@@ -3,7 +3,7 @@ use Rattle.std.proofs.Common.{◌≡◌, ℕ, ◌+◌, ◌<◌, ◌≤◌, List,
 use Rattle.std.specs.Option.{option_map}
 use Rattle.std.proofs.lemmas.Bool.{cases_Bool, cases_lt}
 use Rattle.std.proofs.lemmas.Bool.Decides.{nat_tests}
-use Rattle.cell_core.specs.Device.{Coming}
+use Rattle.cell_devices.specs.Device.{Coming}
 use Rattle.cell_ascii_text.specs.Words.{Start, Begins, Ends, Stops, start_of, is_space, fault, word_from}
 use Rattle.cell_ascii_text.specs.Header.{Header, Gap, Word, Feed, Last, Fault, gap_of}
 use Rattle.cell_ascii_text.specs.GridText.{data_words}

@@ -1,6 +1,6 @@
 -- What the reading of a grid text, or of a part of it, answers: a fault exactly where the first place that tells one tells it.
 use Rattle.std.specs.Prelude.{ℕ, ◌≡◌, ◌<◌, List, ◌↔◌, ◌⊎◌, Some, None, Ok, Err}
-use Rattle.cell_core.specs.Device.{Coming}
+use Rattle.cell_devices.specs.Device.{Coming}
 use Rattle.cell_core.specs.Grid.{CellValue, Grid}
 use Rattle.cell_ascii_text.specs.Words.{start_of}
 use Rattle.cell_ascii_text.specs.Header.{At, Header, Opened, header_of_text}

@@ -6,7 +6,7 @@ use Rattle.std.proofs.lemmas.Bool.Decides.{nat_tests}
 use Rattle.std.proofs.lemmas.Int.{ints}
 use Rattle.cell_ascii_text.specs.Numbers.{is_in_range, whole_number, digits_of}
 use Rattle.cell_text.specs.Capped.{capped, capped_number}
-use Rattle.cell_core.proofs.NameLemmas.{bytes_eq-differ}
+use Rattle.cell_base.proofs.NameLemmas.{bytes_eq-differ}
 use Rattle.cell_ascii_header.specs.InRange.{cell_in_range}
 use Rattle.cell_ascii_text.specs.Header.{Header}
 use Rattle.cell_ascii_text.specs.Cells.{cell_of_word, cell_of_number}

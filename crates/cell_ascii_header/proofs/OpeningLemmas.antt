@@ -2,7 +2,7 @@
 use Rattle.std.proofs.Common.{◌≡◌, ℕ, suc, ◌+◌, ◌-◌, ◌<◌, ◌≤◌, List, [], ◌∷◌, Option, Some, None, Result, Ok, Err, Bool, true, false, if◌then◌else◌, length, drop, take, refl, ap, sym, ◌∙◌, arith, take_all, length-drop, cond, not}
 use Rattle.std.specs.Option.{option_map}
 use Rattle.std.specs.List.{before_first, after_first, list_any, position_or_len}
-use Rattle.cell_core.specs.Device.{Coming}
+use Rattle.cell_devices.specs.Device.{Coming}
 use Rattle.cell_ascii_text.specs.Words.{Start, Begins, Ends, Stops, start_of, word_from, fault}
 use Rattle.cell_ascii_text.specs.Header.{◌>>=◌, Keys, LineEnd, is_colon, at_line, with_key, value_from, line_end, gap_of, key_line, after_line, line_from, header_from, Opened, opened, ended}
 use Rattle.cell_ascii_header.specs.Ahead.{IsAtEnd}

@@ -1,7 +1,7 @@
 -- What a buffered source still gives: the bytes held, and then those of the source.
 use Rattle.std.specs.Prelude.{ℕ, ◌≡◌, Bool, List, [], ◌++◌, Option, IfSome}
 use Rattle.std.specs.Option.{option_map}
-use Rattle.cell_core.specs.Device.{Coming}
+use Rattle.cell_devices.specs.Device.{Coming}
 
 -- the bytes that a buffer holds, what its source still gives, where that is known, and whether it has told its end
 pub record Ahead : Type 0 where

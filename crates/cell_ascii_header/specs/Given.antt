@@ -1,7 +1,7 @@
 -- What a key that is given comes to.
 use Rattle.std.specs.Prelude.{ℕ, ℤ, Bool, unwrap_or, true, List, Option, Some, None, Result, Ok, Err, if◌then◌else◌}
-use Rattle.cell_core.specs.Region.{RegionValue}
-use Rattle.cell_core.specs.declared.region.RegionFault.{RegionFault}
+use Rattle.cell_base.specs.Region.{RegionValue}
+use Rattle.cell_base.specs.declared.region.RegionFault.{RegionFault}
 use Rattle.cell_ascii_text.specs.Header.{Header, has_colon, is_int, usual_null, usual_multiplier}
 use Rattle.cell_ascii_text.specs.declared.fault.GridKind.{GridKind}
 use Rattle.cell_ascii_text.specs.declared.fault.GridKind.TheVariants.{BadHeader, TwiceKey, BadNumber, BadType, Region}

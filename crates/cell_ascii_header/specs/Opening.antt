@@ -1,7 +1,7 @@
 -- A header, one line at a time.
 use Rattle.std.specs.Prelude.{ℕ, ◌+◌, Bool, List, [], drop, Option, Some, None, Result, Ok, Err, if◌then◌else◌}
 use Rattle.std.specs.List.{list_any}
-use Rattle.cell_core.specs.Device.{Coming}
+use Rattle.cell_devices.specs.Device.{Coming}
 use Rattle.cell_ascii_text.specs.Words.{Start, Begins, Ends, Stops, word_from}
 use Rattle.cell_ascii_text.specs.Header.{◌>>=◌, Keys, LineEnd, is_colon, key_line, Opened, opened, ended}
 use Rattle.cell_ascii_text.specs.declared.fault.GridFault.{GridFault}

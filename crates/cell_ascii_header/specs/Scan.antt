@@ -1,6 +1,6 @@
 -- What a scanner is at, and what its calls answer.
 use Rattle.std.specs.Prelude.{ℕ, ◌+◌, Bool, true, false, List, Result, Ok, Err}
-use Rattle.cell_core.specs.Device.{Coming}
+use Rattle.cell_devices.specs.Device.{Coming}
 use Rattle.cell_ascii_header.specs.Ahead.{Ahead}
 use Rattle.cell_ascii_text.specs.Words.{Start, Begins, Ends, Stops, word_from}
 use Rattle.cell_ascii_text.specs.Header.{Gap, Word, Feed, Last, Fault}

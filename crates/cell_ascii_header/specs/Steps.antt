@@ -1,6 +1,6 @@
 -- What a step over blanks and line feeds says of the next word, and of the line.
 use Rattle.std.specs.Prelude.{ℕ, ◌+◌, Result, Ok, Err}
-use Rattle.cell_core.specs.Device.{Coming}
+use Rattle.cell_devices.specs.Device.{Coming}
 use Rattle.cell_ascii_text.specs.Words.{Start, Begins, Ends, Stops, start_of}
 use Rattle.cell_ascii_text.specs.Header.{Gap, Word, Feed, Last, Fault, gap_of}
 use Rattle.cell_ascii_text.specs.declared.fault.GridFault.{GridFault}

@@ -1,7 +1,7 @@
 -- The law of the reading of a grid text.
 use Rattle.std.proofs.Common.{◌≡◌, [], Option, Some, None, Bool, refl, ap, sym, ◌∙◌, Result, Ok, Err, subst}
 use Rattle.std.specs.Option.{option_and_then}
-use Rattle.cell_core.specs.Device.{Coming}
+use Rattle.cell_devices.specs.Device.{Coming}
 use Rattle.cell_core.specs.Grid.{Grid}
 use Rattle.cell_ascii_text.specs.Header.{no_keys}
 use Rattle.cell_ascii_text.specs.Cells.{grid_of}

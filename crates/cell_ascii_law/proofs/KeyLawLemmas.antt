@@ -3,9 +3,9 @@ use Rattle.std.proofs.Common.{◌≡◌, ℕ, suc, ◌+◌, ◌<◌, ℤ, List, 
 use Rattle.std.specs.Prelude.{nat_le, unwrap_or, if◌then◌else◌}
 use Rattle.std.specs.Option.{option_map}
 use Rattle.std.proofs.lemmas.Bool.{leb-true, and_parts}
-use Rattle.cell_core.specs.Region.{RegionValue, region_fault, is_side, is_rectangle, is_countable}
-use Rattle.cell_core.specs.declared.region.RegionFault.{RegionFault}
-use Rattle.cell_core.specs.declared.region.RegionFault.TheVariants.{BadExtent, BadRows, BadCols, TooManyCells}
+use Rattle.cell_base.specs.Region.{RegionValue, region_fault, is_side, is_rectangle, is_countable}
+use Rattle.cell_base.specs.declared.region.RegionFault.{RegionFault}
+use Rattle.cell_base.specs.declared.region.RegionFault.TheVariants.{BadExtent, BadRows, BadCols, TooManyCells}
 use Rattle.cell_ascii_text.specs.Numbers.{coordinate, side, whole_in_range}
 use Rattle.cell_ascii_text.specs.Header.{Keys, Header, judged, given, with_key, header_of, has_colon, is_int, usual_null, usual_multiplier}
 use Rattle.cell_ascii_text.specs.GridText.{null_text, int_type}

@@ -6,7 +6,7 @@ use Rattle.std.proofs.lemmas.List.Sums.{sum_by-append}
 use Rattle.std.proofs.lemmas.Bool.{cases_Bool, cases_lt}
 use Rattle.std.proofs.lemmas.Bool.Decides.{nat_tests}
 use Rattle.std.specs.Prelude.{nat_lt}
-use Rattle.cell_core.specs.Device.{Coming}
+use Rattle.cell_devices.specs.Device.{Coming}
 use Rattle.cell_ascii_text.specs.Words.{Start, Begins, Ends, Stops, start_of, start_at, is_space, is_word, newlines, fault, word_from, word_end}
 use Rattle.cell_ascii_text.specs.Header.{Gap, Word, Feed, Last, Fault, gap_of, gap_at, is_blank}
 use Rattle.cell_ascii_text.specs.declared.fault.GridKind.TheVariants.{Read, ReaderStuck, LongToken}

@@ -1,6 +1,6 @@
 -- What the reading of a grid text answers: the map that the text denotes.
 use Rattle.std.specs.Prelude.{◌≡◌, ◌↔◌, Ok}
-use Rattle.cell_core.specs.Device.{Coming}
+use Rattle.cell_devices.specs.Device.{Coming}
 use Rattle.cell_core.specs.Grid.{Grid}
 use Rattle.cell_ascii_text.specs.Cells.{grid_of}
 use Rattle.cell_ascii_text.specs.GridText.{Denotes}

@@ -1,7 +1,7 @@
 -- The data of a grid text, from the bytes to come: one word after another, and the end (r.in.ascii manual).
 pub use Rattle.cell_ascii_text.specs.GridWords.{cell_of_number, cell_of_word}
 use Rattle.std.specs.Prelude.{ℕ, zero, suc, List, [], ◌∷◌, Option, Some, None, Result, Ok, Err}
-use Rattle.cell_core.specs.Device.{Coming}
+use Rattle.cell_devices.specs.Device.{Coming}
 use Rattle.cell_core.specs.Grid.{CellValue, Grid, no_labels}
 use Rattle.cell_ascii_text.specs.Words.{Start, Begins, Ends, Stops, start_of, word_from, fault}
 use Rattle.cell_ascii_text.specs.Header.{At, Header, header_of_text, ◌>>=◌}

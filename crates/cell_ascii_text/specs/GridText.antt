@@ -2,8 +2,8 @@
 use Rattle.std.specs.Prelude.{ℕ, ◌≡◌, ◌+◌, ◌*◌, ◌<◌, ◌≤◌, Bool, true, false, not, ◌==◌, List, [], ◌∷◌, ◌++◌, length, map, drop, All, Option, Some, None, Ok, IsTrue, IsSome, bytes_eq, codes, slice_get, if◌then◌else◌}
 use Rattle.std.specs.List.{slice_split, filter, flat_map, list_all, find, take_while, prefix_len, before_first, after_first, IsDistinct}
 use Rattle.std.specs.Option.{option_and_then, option_map}
-use Rattle.cell_core.specs.Device.{Coming}
-use Rattle.cell_core.specs.Region.{region_fault}
+use Rattle.cell_devices.specs.Device.{Coming}
+use Rattle.cell_base.specs.Region.{region_fault}
 use Rattle.cell_core.specs.Grid.{Grid, IsFilled, cell_at, no_labels}
 use Rattle.cell_ascii_text.specs.Numbers.{coordinate, side, whole_in_range}
 use Rattle.cell_ascii_text.specs.KeyNames.{key_of}

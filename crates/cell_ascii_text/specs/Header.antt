@@ -2,9 +2,9 @@
 pub use Rattle.cell_ascii_text.specs.GridWords.{Header, is_colon, has_colon, is_int, usual_null, usual_multiplier}
 use Rattle.std.specs.Prelude.{ℕ, ℤ, zero, suc, ◌+◌, Bool, true, false, ◌&&◌, ◌==◌, not, nat_lt, List, [], ◌∷◌, drop, Option, Some, None, Result, Ok, Err, if◌then◌else◌, unwrap_or}
 use Rattle.std.specs.List.{prefix_len, before_first, after_first}
-use Rattle.cell_core.specs.Device.{Coming}
-use Rattle.cell_core.specs.Region.{RegionValue, region_fault}
-use Rattle.cell_core.specs.declared.region.RegionFault.{RegionFault}
+use Rattle.cell_devices.specs.Device.{Coming}
+use Rattle.cell_base.specs.Region.{RegionValue, region_fault}
+use Rattle.cell_base.specs.declared.region.RegionFault.{RegionFault}
 use Rattle.cell_ascii_text.specs.Words.{is_space, Start, Begins, Ends, Stops, start_of, word_from, fault}
 use Rattle.cell_ascii_text.specs.Numbers.{coordinate, side, whole_in_range}
 use Rattle.cell_ascii_text.specs.KeyNames.{key_of}

@@ -2,7 +2,7 @@
 use Rattle.std.specs.Prelude.{ℕ, ◌+◌, ◌*◌, Bool, true, false, ◌&&◌, ◌||◌, ◌==◌, not, nat_lt, nat_le, is_some, List, [], ◌∷◌, ◌++◌, length, Option, Some, None, Result, Ok, Err, if◌then◌else◌, bytes_eq, codes}
 use Rattle.std.specs.List.{slice_split, suffix_len, list_any}
 use Rattle.std.specs.Option.{option_map, option_and_then}
-use Rattle.cell_core.specs.Device.{Coming}
+use Rattle.cell_devices.specs.Device.{Coming}
 use Rattle.cell_ascii_text.specs.Words.{is_space, is_word, newlines, fault}
 use Rattle.cell_ascii_text.specs.Numbers.{coordinate, side, whole_in_range}
 use Rattle.cell_ascii_text.specs.KeyNames.{key_of}

@@ -2,7 +2,7 @@
 pub use Rattle.cell_ascii_text.specs.GridWords.{is_space}
 use Rattle.std.specs.Prelude.{ℕ, ◌+◌, ◌-◌, Bool, true, false, ◌==◌, not, nat_lt, List, [], ◌∷◌, ◌++◌, length, take, drop, count_by, Result, Ok, Err, if◌then◌else◌}
 use Rattle.std.specs.List.{prefix_len}
-use Rattle.cell_core.specs.Device.{Coming}
+use Rattle.cell_devices.specs.Device.{Coming}
 use Rattle.cell_ascii_text.specs.declared.fault.GridKind.{GridKind}
 use Rattle.cell_ascii_text.specs.declared.fault.GridKind.TheVariants.{Read, ReaderStuck, LongToken}
 use Rattle.cell_ascii_text.specs.declared.fault.GridFault.{GridFault}

@@ -1,7 +1,7 @@
 -- The grid text of a map (r.out.ascii manual: header lines, then the cells row by row; how numbers are printed, the line of a null text and rows without a space at the end are the profile's).
 use Rattle.std.specs.Prelude.{ℕ, ℤ, pos, negsuc, suc, ◌≡◌, ◌+◌, ◌-◌, ◌/◌, ◌%◌, ◌≤◌, false, ◌==◌, List, [], ◌∷◌, ◌++◌, length, map, flat_map, drop, take, reverse, IsTrue, bytes_eq, codes, decimal, if◌then◌else◌}
 use Rattle.std.specs.List.{list_all, join_with_byte, prefix_len}
-use Rattle.cell_core.specs.Region.{RegionValue}
+use Rattle.cell_base.specs.Region.{RegionValue}
 use Rattle.cell_core.specs.Grid.{CellValue, Grid}
 use Rattle.cell_core.specs.Text.{cell_text}
 use Rattle.cell_ascii_text.specs.Words.{is_word}

@@ -1,6 +1,6 @@
 -- Where a sink fails, it took less than the whole text.
 use Rattle.std.proofs.Common.{ℕ, ◌+◌, ◌<◌, ◌≤◌, List, [], ◌∷◌, ◌++◌, length, flat_map, Option, ap, arith, append_assoc, length-append}
-use Rattle.cell_core.specs.Blocks.{BlockValue, CutsOff, Gathered, Gathers, IsCut, counted}
+use Rattle.cell_devices.specs.Blocks.{BlockValue, CutsOff, Gathered, Gathers, IsCut, counted}
 use Rattle.cell_core.specs.Grid.{CellValue}
 use Rattle.cell_ascii_text.specs.Writing.{row_text}
 use Rattle.cell_ascii_writer.specs.WrittenRuns.{FallsShort, joined_cells}

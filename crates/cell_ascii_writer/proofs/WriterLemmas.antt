@@ -2,9 +2,9 @@
 use Rattle.std.proofs.Common.{◌≡◌, ◌≢◌, ℕ, ℤ, pos, negsuc, ◌+◌, ◌==◌, ◌||◌, Bool, true, false, List, [], ◌∷◌, ◌++◌, drop, Option, codes, decimal, unsigned_abs, refl, arith}
 use Rattle.std.specs.Prelude.{int_lt}
 use Rattle.std.proofs.lemmas.Bool.Decides.{nat_tests}
-use Rattle.cell_core.specs.Blocks.{BlockValue, CutsOff}
-use Rattle.cell_core.specs.Region.{RegionValue}
-use Rattle.cell_core.proofs.GatherLemmas.{CutsOff-first}
+use Rattle.cell_devices.specs.Blocks.{BlockValue, CutsOff}
+use Rattle.cell_base.specs.Region.{RegionValue}
+use Rattle.cell_devices.proofs.GatherLemmas.{CutsOff-first}
 use Rattle.cell_ascii_text.specs.Writing.{coordinate_text, fraction_text, line_of_key, region_text, units_text, without_zeros}
 
 pub fraction_text-some : (part : ℕ) → part ≢ 0 → fraction_text part ≡ (46 ∷ []) ++ without_zeros (drop 1 (decimal (100000000 + part)))

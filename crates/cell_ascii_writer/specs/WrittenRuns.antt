@@ -1,7 +1,7 @@
 -- The cells of a row as they are written, run by run.
 use Rattle.std.specs.Prelude.{ℕ, ◌<◌, List, ◌∷◌, ◌++◌, length, map, flat_map, replicate, Option}
 use Rattle.std.specs.List.{join_with_byte}
-use Rattle.cell_core.specs.Blocks.{BlockValue, Gathered}
+use Rattle.cell_devices.specs.Blocks.{BlockValue, Gathered}
 use Rattle.cell_core.specs.Grid.{CellValue}
 use Rattle.cell_core.specs.Text.{cell_text}
 

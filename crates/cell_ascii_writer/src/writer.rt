@@ -2,8 +2,8 @@
 
 ghost use Rattle.std.specs.Prelude.{◌≡◌, ◌+◌, ◌*◌, ◌<◌, ◌≤◌, ◌||◌, ◌==◌, [], ◌∷◌, ◌++◌, codes, decimal, drop, flat_map, length, replicate, reverse, take, OnOk, IfOk, IfErr, is_err};
 ghost use Rattle.std.specs.List.{prefix_len};
-ghost use Rattle.cell_core.specs.Blocks.{Gathers, CutsOff, counted};
-ghost use Rattle.cell_core.specs.Device.{append_known};
+ghost use Rattle.cell_devices.specs.Blocks.{Gathers, CutsOff, counted};
+ghost use Rattle.cell_devices.specs.Device.{append_known};
 ghost use Rattle.cell_core.specs.Grid.{row_at};
 ghost use Rattle.cell_core.specs.Runs.{AreRuns, written_out};
 ghost use Rattle.cell_ascii_writer.specs.WrittenRuns.{FallsShort, cells_text, joined_cells, times};

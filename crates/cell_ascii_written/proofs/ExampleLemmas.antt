@@ -3,7 +3,7 @@ use Rattle.std.proofs.Common.{◌≡◌, Bool, true, false, ℕ, List, [], ◌�
 use Rattle.std.specs.Prelude.{codes}
 use Rattle.std.specs.List.{flat_map}
 use Rattle.cell_core.specs.Grid.{Grid, no_labels}
-use Rattle.cell_core.specs.declared.region.RegionFault.TheVariants.{BadExtent, BadRows}
+use Rattle.cell_base.specs.declared.region.RegionFault.TheVariants.{BadExtent, BadRows}
 use Rattle.cell_ascii_text.specs.Words.{start_of, word_from, fault}
 use Rattle.cell_ascii_text.specs.Header.{At, Header, header_from, gap_of}
 use Rattle.cell_ascii_text.specs.Cells.{cell_from, grid_of}

@@ -7,7 +7,7 @@ use Rattle.std.proofs.Math.IntN.{one, *ℤ-one}
 use Rattle.std.proofs.lemmas.Slice.Eq.{bytes_eq-Decides}
 use Rattle.std.proofs.lemmas.List.Elements.{All-head, All-tail}
 use Rattle.cell_core.specs.Grid.{CellValue}
-use Rattle.cell_core.proofs.NameLemmas.{bytes_eq-differ}
+use Rattle.cell_base.proofs.NameLemmas.{bytes_eq-differ}
 use Rattle.cell_ascii_text.specs.Numbers.{whole_number, is_in_range}
 use Rattle.cell_ascii_text.specs.Header.{Header, usual_multiplier}
 use Rattle.cell_ascii_text.specs.Cells.{cell_of_number, cell_of_word}

@@ -4,8 +4,8 @@ use Rattle.std.specs.Prelude.{nat_le, nat_lt, bytes_eq}
 use Rattle.std.specs.List.{filter, list_all, before_first, after_first}
 use Rattle.std.proofs.lemmas.Bool.{and_parts, leb-true, ltb-true}
 use Rattle.std.proofs.lemmas.Slice.Eq.{bytes_eq-Decides}
-use Rattle.cell_core.specs.Region.{RegionValue, IsRegion, region_fault, is_above, is_rectangle, is_side, is_countable}
-use Rattle.cell_core.specs.declared.region.RegionFault.TheVariants.{BadExtent, BadRows, BadCols, TooManyCells}
+use Rattle.cell_base.specs.Region.{RegionValue, IsRegion, region_fault, is_above, is_rectangle, is_side, is_countable}
+use Rattle.cell_base.specs.declared.region.RegionFault.TheVariants.{BadExtent, BadRows, BadCols, TooManyCells}
 use Rattle.cell_ascii_text.specs.Words.{is_word}
 use Rattle.cell_ascii_text.specs.KeyNames.{key_of}
 use Rattle.cell_ascii_text.specs.Header.{Header, Keys, no_keys, with_key, given, header_of, is_colon, has_colon, usual_null, usual_multiplier}

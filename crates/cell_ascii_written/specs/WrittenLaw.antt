@@ -1,7 +1,7 @@
 -- What is written of a map is read again as the same region and rows.
 use Rattle.std.specs.Prelude.{ℕ, ◌≢◌, false, List, All, IfSome, IsTrue}
 use Rattle.std.specs.Fmt.{signed_decimal}
-use Rattle.cell_core.specs.Region.{IsRegion}
+use Rattle.cell_base.specs.Region.{IsRegion}
 use Rattle.cell_core.specs.Grid.{Grid, IsFilled, no_labels}
 use Rattle.cell_ascii_text.specs.Numbers.{is_in_range}
 use Rattle.cell_ascii_text.specs.GridText.{Denotes}

@@ -11,7 +11,7 @@ use Rattle.std.proofs.lemmas.List.{take_more, take_more_set, take-set}
 use Rattle.std.proofs.lemmas.List.Elements.{All-nil, All-cons, All-head, All-tail, All-weaker, All-get_or, filter-append}
 use Rattle.std.proofs.lemmas.List.Sorted.{sum_by-IsPermutation, All-permutation, IsPermutation-sym, length_permutation}
 use Rattle.std.proofs.lemmas.List.Sums.{sum_by_push, sum_by-cons, list_all-from_AllPass, length-filter, count_by-le-length}
-use Rattle.cell_core.specs.Cell.{cell_cmp, cell_eq, cell_eq-Decides}
+use Rattle.cell_base.specs.Cell.{cell_cmp, cell_eq, cell_eq-Decides}
 use Rattle.cell_core.specs.Grid.{CellValue}
 use Rattle.cell_calc.specs.Cells.{lesser, least, known, is_null, occurrences, is_most_frequent, most_frequent, mode}
 use Rattle.cell_calc.specs.parts.Modes.{IsLongest, HaveLongest}

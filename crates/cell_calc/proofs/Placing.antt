@@ -4,7 +4,7 @@ use Rattle.std.specs.Option.{unwrap_or}
 use Rattle.std.specs.Prelude.{cond}
 use Rattle.std.specs.List.{position_from}
 use Rattle.std.proofs.lemmas.List.{map-append}
-use Rattle.cell_core.specs.Name.{place_of}
+use Rattle.cell_base.specs.Name.{place_of}
 use Rattle.cell_calc.specs.Binding.{placed, placed_all}
 use Rattle.cell_calc.specs.Formula as formula
 use Rattle.cell_calc.specs.Reach.{IsProper, AreProper}

@@ -1,7 +1,7 @@
 -- Names of maps and their places (profile).
 use Rattle.std.specs.Prelude.{◌≡◌, ℕ, List, Some, ◌⊎◌}
 use Rattle.std.specs.Option.{unwrap_or}
-use Rattle.cell_core.specs.Name.{place_of}
+use Rattle.cell_base.specs.Name.{place_of}
 use Rattle.cell_calc.specs.Formula as formula
 use Rattle.cell_calc.specs.Formula.{Formula, Formulas}
 use Rattle.cell_tokens.specs.declared.fault.CalcFault.{CalcFault}

@@ -2,7 +2,7 @@
 use Rattle.std.specs.Prelude.{ℕ, ℤ, pos, negsuc, int_le, Bool, true, false, not, ◌&&◌, ◌||◌, ◌==◌, nat_le, List, [], ◌∷◌, Some, None, slice_index_or, length, ◌-◌, if◌then◌else◌, filter, fold, count_by}
 use Rattle.std.specs.Int.{int_min, int_max}
 use Rattle.std.specs.List.{list_any, list_all}
-use Rattle.cell_core.specs.Cell.{cell_eq}
+use Rattle.cell_base.specs.Cell.{cell_eq}
 use Rattle.cell_core.specs.Grid.{CellValue}
 
 -- in the range of the categories

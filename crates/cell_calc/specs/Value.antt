@@ -1,7 +1,7 @@
 -- The value of an expression at a cell (r.mapcalc manual; the range, division by zero and cells outside the region are the profile's).
 use Rattle.std.specs.Prelude.{ℕ, ℤ, pos, negsuc, ◌+◌, ◌+ℤ◌, ◌-ℤ◌, ◌*ℤ◌, neg_ℤ, unsigned_abs, int_div, int_lt, int_le, not, ◌&&◌, ◌||◌, List, [], ◌∷◌, Option, Some, None, slice_index_or, slice_get, if◌then◌else◌}
 use Rattle.cell_core.specs.Grid.{Grid, CellValue}
-use Rattle.cell_core.specs.Region.{RegionValue}
+use Rattle.cell_base.specs.Region.{RegionValue}
 use Rattle.cell_calc.specs.Cells.{fit, is_zero, is_null, truth, of_one, of_both, known_and, known_or, first_of, last_of, if_of, least, greatest, mode, most_frequent, known}
 use Rattle.cell_calc.specs.Formula.{Formula, Number, Map, Negated, Not, Binary, Call, Formulas, NoFormulas, Then}
 use Rattle.cell_tokens.specs.declared.function.Function.{Function}

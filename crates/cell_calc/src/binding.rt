@@ -2,7 +2,7 @@
 
 ghost use Rattle.std.specs.Prelude.{◌≡◌, map, None, IfOk, IfErr, IfSome, IsErrOf, OnOk};
 ghost use Rattle.std.specs.Option.{unwrap_or};
-ghost use Rattle.cell_core.specs.Name.{place_of};
+ghost use Rattle.cell_base.specs.Name.{place_of};
 ghost use Rattle.cell_calc.specs.Binding.{placed, IsBindingFault};
 ghost use Rattle.cell_calc.specs.parts.Placing.{placed_step};
 ghost use Rattle.cell_language.specs.Unknown.{first_unknown};

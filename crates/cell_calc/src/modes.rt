@@ -2,7 +2,7 @@
 //! equal ones is found.
 
 ghost use Rattle.std.specs.Prelude.{◌≡◌, ◌≤◌, ◌<◌, ◌+◌, ℕ, List, length, map, take, All, IsPermutation, IsSorted, OnOk, nat_lt, if◌then◌else◌, false};
-ghost use Rattle.cell_core.specs.Cell.{cell_cmp, cell_eq};
+ghost use Rattle.cell_base.specs.Cell.{cell_cmp, cell_eq};
 ghost use Rattle.cell_core.specs.Grid.{CellValue};
 ghost use Rattle.cell_calc.specs.Cells.{most_frequent, mode, known, is_null};
 ghost use Rattle.cell_calc.specs.parts.Rows.{at, column};

@@ -5,7 +5,7 @@ use Rattle.std.proofs.lemmas.List.{get_or_read, get_or_default, get_or-drop, len
 use Rattle.std.proofs.lemmas.List.Elements.{All-get_or}
 use Rattle.std.specs.FinMap as finmap
 use Rattle.std.specs.Ordering.{int_cmp}
-use Rattle.cell_core.specs.Region.{RegionValue}
+use Rattle.cell_base.specs.Region.{RegionValue}
 use Rattle.std.proofs.lemmas.Bool.{cases_order}
 use Rattle.cell_core.specs.Grid.{Grid, CellValue, IsFilled}
 use Rattle.cell_clump.specs.declared.clump.Joining.{Joining}

@@ -2,7 +2,7 @@
 use Rattle.std.proofs.Common.{◌≡◌, ℕ, suc, ℤ, ◌+◌, ◌<◌, Bool, true, false, not, List, Option, Some, None, length, refl, ap, sym, ◌∙◌, arith, subst, inl, inr, ⊎_elim, ◌⊎◌}
 use Rattle.cell_core.specs.Grid.{Grid, CellValue}
 use Rattle.std.specs.Option.{IfSome}
-use Rattle.cell_core.specs.Cell.{cell_eq}
+use Rattle.cell_base.specs.Cell.{cell_eq}
 use Rattle.std.proofs.lemmas.Bool.{both_ways}
 use Rattle.cell_clump.specs.declared.clump.Joining.{Joining}
 use Rattle.cell_clump.specs.declared.clump.Joining.TheVariants.{Edges, EdgesAndCorners}

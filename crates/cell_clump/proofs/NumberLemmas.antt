@@ -3,7 +3,7 @@ use Rattle.std.proofs.Common.{◌≡◌, ℕ, zero, suc, ℤ, true, false, ◌+�
 use Rattle.std.proofs.lemmas.List.{length-set, length_push, get_or_push, get_or_append_left, get_or_past}
 use Rattle.std.proofs.lemmas.Bool.{cases_lt, cases_order, cases_Bool, ne_eqb, cond-true, cond-false}
 use Rattle.cell_core.specs.Grid.{Grid, CellValue}
-use Rattle.cell_core.specs.Region.{IsRegion}
+use Rattle.cell_base.specs.Region.{IsRegion}
 use Rattle.cell_clump.specs.declared.clump.Joining.{Joining}
 use Rattle.cell_clump.specs.Areas.{Position, at, AreAdjacent}
 use Rattle.cell_clump.specs.parts.Labels.{PointDown}

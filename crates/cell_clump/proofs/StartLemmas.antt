@@ -5,7 +5,7 @@ use Rattle.std.proofs.lemmas.Bool.{cases_lt, cases_Bool, cond-true, cond-false, 
 use Rattle.std.proofs.lemmas.List.{length_push, get_or_push, get_or_append_left, get_or_past}
 use Rattle.std.proofs.lemmas.List.Elements.{All-get_or}
 use Rattle.std.proofs.lemmas.Nat.{div-mul-add, mod-mul-add, div-add-mod', mul-add-lt}
-use Rattle.cell_core.specs.Cell.{cell_eq, cell_eq-Decides}
+use Rattle.cell_base.specs.Cell.{cell_eq, cell_eq-Decides}
 use Rattle.cell_core.specs.Grid.{Grid, CellValue, IsFilled, cell_at, row_at}
 use Rattle.cell_clump.specs.declared.clump.Joining.{Joining}
 use Rattle.cell_clump.specs.declared.clump.Joining.TheVariants.{Edges, EdgesAndCorners}

@@ -4,7 +4,7 @@ use Rattle.std.proofs.lemmas.List.{get_or-map, length-map, get_or-replicate, get
 use Rattle.std.proofs.Math.Seq.{drop-cons}
 use Rattle.std.proofs.lemmas.List.Elements.{All-push}
 use Rattle.std.proofs.lemmas.List.Concat.{flat_map-append}
-use Rattle.cell_core.specs.Region.{RegionValue}
+use Rattle.cell_base.specs.Region.{RegionValue}
 use Rattle.cell_core.specs.Grid.{CellValue, IsFilled}
 use Rattle.cell_core.specs.Runs.{RunValue, written_out, AreApart, AreRuns}
 

@@ -1,3 +1,2 @@
 -- What only private functions and proofs speak of.
-pub mod Places
 pub mod Rows

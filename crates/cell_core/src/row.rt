@@ -1,11 +1,11 @@
 //! A row of a map as it is kept.
 
 ghost use Rattle.std.specs.Prelude.{◌≡◌, ◌<◌, ◌^◌, length, All, None, IfOk, slice_index_or};
-ghost use Rattle.cell_core.specs.Cell.{IsCell};
+ghost use Rattle.cell_base.specs.Cell.{IsCell};
 ghost use Rattle.cell_core.specs.Runs.{AreRuns, written_out};
 
-use crate::cell::Cell;
-use crate::memory::Memory;
+use cell_base::cell::Cell;
+use cell_base::memory::Memory;
 use crate::runs::{Runs, cell_in, count_runs, runs_of, write_out};
 use std::alloc::Global;
 use std::marker::Model;

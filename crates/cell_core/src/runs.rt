@@ -2,14 +2,22 @@
 
 ghost use Rattle.std.specs.Prelude.{◌≡◌, ◌<◌, ◌≤◌, ◌+◌, ◌-◌, ◌++◌, ◌^◌, length, take, drop, replicate, All, None, IfOk, slice_index_or};
 ghost use Rattle.std.specs.Iterator.{YieldsFirst, item_count};
-ghost use Rattle.cell_core.specs.Cell.{IsCell};
+ghost use Rattle.cell_base.specs.Cell.{IsCell};
 ghost use Rattle.cell_core.specs.Runs.{RunValue, AreRuns, written_out};
 ghost use Rattle.cell_core.specs.parts.Rows.{alike, runs_in};
 
-use crate::cell::{Cell, category_of};
-use crate::memory::Memory;
+use cell_base::cell::Cell;
+use cell_base::memory::Memory;
 use std::alloc::Global;
 use std::marker::Model;
+
+// Its category, or None for null: it is one of them.
+fn category_of(cell: Cell) -> Option<i32>
+    ensures value { result ≡ cell }
+    ensures cell { IsCell cell }
+{
+    cell.get()
+}
 
 // How many runs a row has. Its cells are null or categories.
 pub(crate) fn count_runs(row: &[Cell]) -> usize

@@ -1,7 +1,7 @@
 //! How often each combination occurs.
 
 ghost use Rattle.std.specs.Prelude.{◌≡◌, ◌+◌, ◌<◌, ◌≤◌, ◌^◌, All, OnOk, IfOk, length, map};
-ghost use Rattle.cell_core.specs.Region.{IsRegion};
+ghost use Rattle.cell_base.specs.Region.{IsRegion};
 ghost use Rattle.cell_core.specs.Runs.{written_out};
 ghost use Rattle.cell_counts.specs.Combinations.{Combination, all_combinations};
 ghost use Rattle.cell_counts.specs.Counts.{count_of};

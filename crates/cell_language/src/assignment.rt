@@ -10,7 +10,7 @@ use crate::expr::Expr;
 use cell_tokens::fault::CalcFault;
 use crate::parsing::assignment;
 use cell_tokens::tokens::tokens;
-use cell_core::name::Name;
+use cell_base::name::Name;
 use std::alloc::Global;
 
 /// `NAME = EXPRESSION`: what r.mapcalc makes, and of what.

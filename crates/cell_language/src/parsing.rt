@@ -15,7 +15,7 @@ use cell_tokens::fault::{CalcFault, CalcKind};
 use cell_tokens::operator::{Operator, level_of, operator_of};
 use crate::reader::expression;
 use cell_tokens::token::{Placed, Sign, Token};
-use cell_core::name::Name;
+use cell_base::name::Name;
 use std::alloc::Global;
 
 /// Why reading stops.

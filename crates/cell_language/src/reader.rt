@@ -17,7 +17,7 @@ use cell_tokens::operator::{Operator, TOP_LEVEL, level_of};
 use crate::parsing::{Stop, after_sign, copied, first, next, offsets};
 use crate::step::Step;
 use cell_tokens::token::{Placed, Sign, Token};
-use cell_core::name::Name;
+use cell_base::name::Name;
 use std::alloc::Global;
 
 /// What waits for the operand or the expression that is being read.

@@ -2,7 +2,7 @@
 
 use cell_tokens::function::Function;
 use cell_tokens::operator::Operator;
-use cell_core::name::Name;
+use cell_base::name::Name;
 
 /// A step of an expression in postfix order: what it takes stands before it.
 #[derive(Drop)]

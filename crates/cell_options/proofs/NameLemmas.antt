@@ -5,7 +5,7 @@ use Rattle.std.proofs.lemmas.List.Splits.{length-slice_split}
 use Rattle.cell_text.specs.Words.{parts_of}
 use Rattle.std.specs.Prelude.{◌&&◌}
 use Rattle.std.specs.List.{list_all}
-use Rattle.cell_core.specs.Name.{is_name}
+use Rattle.cell_base.specs.Name.{is_name}
 use Rattle.cell_options.specs.declared.fault.OptionFault.TheVariants.{BadName}
 use Rattle.cell_options.specs.Options.{names_from}
 

@@ -1,6 +1,6 @@
 -- The maps that options name, over known ones (the order of the faults is the profile's).
 use Rattle.std.specs.Prelude.{ℕ, List, Option, Some, None, Result, Ok, Err, if◌then◌else◌}
-use Rattle.cell_core.specs.Name.{place_of}
+use Rattle.cell_base.specs.Name.{place_of}
 use Rattle.cell_options.specs.Options.{Given, is_torn}
 use Rattle.cell_options.specs.Places.{places_of}
 use Rattle.cell_options.specs.declared.fault.OptionFault.{OptionFault}

@@ -1,7 +1,7 @@
 -- The texts that may stand for null in a table (r.stats manual) and in a grid text that is written (r.out.ascii manual); which texts is the profile's.
 use Rattle.std.specs.Prelude.{ℕ, Bool, not, ◌&&◌, ◌==◌, nat_le, List, length, Result, Ok, Err, if◌then◌else◌}
 use Rattle.std.specs.List.{list_all}
-use Rattle.cell_core.specs.Name.{is_between}
+use Rattle.cell_base.specs.Name.{is_between}
 use Rattle.cell_options.specs.declared.fault.OptionFault.{OptionFault}
 use Rattle.cell_options.specs.declared.fault.OptionFault.TheVariants.{BadOption}
 

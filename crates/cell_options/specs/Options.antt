@@ -1,7 +1,7 @@
 -- The flags and keys of each command, and the values that keys take (r.stats, r.clump, r.reclass and r.out.ascii manuals; the limits are the profile's).
 use Rattle.std.specs.Prelude.{ℕ, Bool, false, not, ◌&&◌, ◌||◌, ◌==◌, nat_lt, List, [], ◌∷◌, length, Option, Some, None, is_some, Result, Ok, Err, if◌then◌else◌, bytes_eq, codes}
 use Rattle.std.specs.List.{list_all, list_any}
-use Rattle.cell_core.specs.Name.{is_between, is_name}
+use Rattle.cell_base.specs.Name.{is_between, is_name}
 use Rattle.cell_options.specs.declared.fault.OptionFault.{OptionFault}
 use Rattle.cell_options.specs.declared.fault.OptionFault.TheVariants.{BadOption, BadName}
 use Rattle.cell_options.specs.declared.options.Form.{Form}

@@ -1,7 +1,7 @@
 -- The places of several names.
 use Rattle.std.specs.Prelude.{ℕ, List, [], ◌∷◌, Option, Some}
 use Rattle.std.specs.Option.{option_map, option_and_then}
-use Rattle.cell_core.specs.Name.{place_of}
+use Rattle.cell_base.specs.Name.{place_of}
 
 -- the places of names among the known ones, where all are known
 abbrev pub places_of : List (List ℕ) → List (List ℕ) → Option (List ℕ)

@@ -1,7 +1,7 @@
 //! The maps that options name, over known ones.
 
 ghost use Rattle.std.specs.Prelude.{◌≡◌, ◌≢◌, ◌<◌, ◌≤◌, IfOk, IfErr, Ok, Err, Some, None, All, length};
-ghost use Rattle.cell_core.specs.Name.{place_of};
+ghost use Rattle.cell_base.specs.Name.{place_of};
 ghost use Rattle.cell_options.specs.Options.{is_torn};
 ghost use Rattle.cell_options.specs.Maps.{from_to, input_place, input_places};
 ghost use Rattle.cell_options.specs.Places.{places_of};

@@ -1,7 +1,7 @@
 -- What the line of an r.mapcalc comes to.
 use Rattle.std.proofs.Common.{◌≡◌, ◌≢◌, ℕ, ◌+◌, ◌≤◌, List, length, Option, Some, None, Result, Err, inl, inr, refl, ap, sym, subst, arith}
 use Rattle.std.specs.Option.{unwrap_or}
-use Rattle.cell_core.specs.Name.{place_of}
+use Rattle.cell_base.specs.Name.{place_of}
 use Rattle.cell_calc.specs.Binding.{placed, placed_all, IsBindingFault}
 use Rattle.cell_calc.specs.Formula.{Formula}
 use Rattle.cell_calc.specs.Reach.{top_of, top_of_all}

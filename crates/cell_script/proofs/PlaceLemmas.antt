@@ -3,7 +3,7 @@ use Rattle.std.proofs.Common.{◌≡◌, ℕ, zero, suc, ◌+◌, Bool, true, fa
 use Rattle.std.specs.List.{position_from}
 use Rattle.std.proofs.lemmas.List.{take_more}
 use Rattle.std.proofs.lemmas.Option.{slice_get_within, get_or_from_slice_get}
-use Rattle.cell_core.specs.Name.{place_of}
+use Rattle.cell_base.specs.Name.{place_of}
 
 -- a name is not among those before its first place
 position_from-before : {K : Type 0} (t : K → Bool) (i : ℕ) (xs : List K) (p : ℕ) → position_from t i xs ≡ Some (i + p) → position_from t i (take p xs) ≡ None

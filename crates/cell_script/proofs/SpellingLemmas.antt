@@ -5,7 +5,7 @@ use Rattle.std.specs.Cmp.Lexicographic.{bytes_decides}
 use Rattle.std.proofs.lemmas.Bool.{ltb-false, le-ltb}
 use Rattle.cell_ascii_text.specs.Header.{usual_null}
 use Rattle.cell_calc.specs.Binding.{placed}
-use Rattle.cell_core.specs.Name.{place_of}
+use Rattle.cell_base.specs.Name.{place_of}
 use Rattle.cell_language.specs.Assignment.{IsAssignmentText}
 use Rattle.cell_language.specs.Unknown.{first_unknown}
 use Rattle.cell_language.specs.declared.assignment.Assignment.{Assignment}

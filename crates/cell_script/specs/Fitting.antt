@@ -1,7 +1,7 @@
 -- Commands that fit the maps known before them.
 use Rattle.std.specs.Prelude.{ℕ, ◌≡◌, ◌≤◌, ◌<◌, List, [], ◌∷◌, length, All, IfSome, None}
 use Rattle.cell_calc.specs.Reach.{top_of}
-use Rattle.cell_core.specs.Name.{place_of}
+use Rattle.cell_base.specs.Name.{place_of}
 use Rattle.cell_script.specs.Known.{known_after}
 use Rattle.cell_script.specs.declared.statement.Command.{Command}
 use Rattle.cell_script.specs.declared.statement.Command.TheVariants.{Mapcalc, Reclass, Clump, Stats, OutAscii}

@@ -2,7 +2,7 @@
 use Rattle.std.specs.Prelude.{ℕ, ◌-◌, List, [], ◌∷◌, ◌++◌, length, replicate, if◌then◌else◌, ◌≡◌, None, codes}
 use Rattle.cell_calc.specs.Binding.{placed}
 use Rattle.cell_calc.specs.Formula.{Formula}
-use Rattle.cell_core.specs.Name.{place_of}
+use Rattle.cell_base.specs.Name.{place_of}
 use Rattle.cell_language.specs.Assignment.{IsAssignmentText}
 use Rattle.cell_language.specs.Unknown.{first_unknown}
 use Rattle.cell_text.specs.Blanks.{is_blank, after_blanks}

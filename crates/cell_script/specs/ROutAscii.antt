@@ -1,7 +1,7 @@
 -- r.out.ascii: the grid text that its options ask for (r.out.ascii manual).
 use Rattle.std.specs.Prelude.{ℕ, ◌≡◌, List, ◌∷◌, Some, codes, unwrap_or}
 use Rattle.cell_ascii_text.specs.GridWords.{usual_null}
-use Rattle.cell_core.specs.Name.{place_of}
+use Rattle.cell_base.specs.Name.{place_of}
 use Rattle.cell_text.specs.Words.{words_of}
 use Rattle.cell_options.specs.OptionWords.{AreOptions}
 use Rattle.cell_options.specs.Options.{Given}

@@ -2,7 +2,7 @@
 use Rattle.std.specs.Prelude.{ℕ, ◌≡◌, List, ◌∷◌, Some, None, codes, false, [], Ok}
 use Rattle.cell_cats.specs.Rule.{RuleValue}
 use Rattle.cell_cats.specs.RuleLine.{is_skipped, rule_of}
-use Rattle.cell_core.specs.Name.{place_of}
+use Rattle.cell_base.specs.Name.{place_of}
 use Rattle.cell_text.specs.Blanks.{trimmed}
 use Rattle.cell_text.specs.Words.{words_of}
 use Rattle.cell_script.specs.Lines.{Line, IsSkipped}

@@ -1,7 +1,7 @@
 //! The words of r.reclass.
 
 ghost use Rattle.std.specs.Prelude.{◌≡◌, ◌≢◌, ◌<◌, IfOk, IfErr, Ok, Err, None, length, map};
-ghost use Rattle.cell_core.specs.Name.{place_of};
+ghost use Rattle.cell_base.specs.Name.{place_of};
 ghost use Rattle.cell_script.specs.Commands.{reclass_of};
 
 use cell_core::name::{Name, Names};

@@ -6,9 +6,9 @@ use Rattle.std.proofs.lemmas.Slice.Zip.{get_or-zip, length-zip}
 use Rattle.std.proofs.lemmas.Result.{IfErr-weaker, IfOk-weaker}
 use Rattle.std.proofs.lemmas.List.{get_or-drop}
 use Rattle.std.specs.Result.{IfErr, OnOk}
-use Rattle.cell_core.specs.declared.sink.WriteFault.{WriteFault}
-use Rattle.cell_core.specs.Blocks.{BlockValue, Gathers, CutsOff}
-use Rattle.cell_core.proofs.GatherLemmas.{CutsOff-first, CutsOff-second, Gathers-then}
+use Rattle.cell_devices.specs.declared.sink.WriteFault.{WriteFault}
+use Rattle.cell_devices.specs.Blocks.{BlockValue, Gathers, CutsOff}
+use Rattle.cell_devices.proofs.GatherLemmas.{CutsOff-first, CutsOff-second, Gathers-then}
 use Rattle.cell_core.specs.Grid.{Grid, CellValue}
 use Rattle.cell_core.specs.Text.{cell_text}
 use Rattle.cell_counts.specs.Combinations.{Combination}

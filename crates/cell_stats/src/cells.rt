@@ -1,8 +1,8 @@
 //! The printed form of cells, line by line.
 
 ghost use Rattle.std.specs.Prelude.{◌≡◌, ◌<◌, ◌≤◌, ◌||◌, [], All, length, flat_map, replicate, OnOk, IfOk, IfErr, is_err};
-ghost use Rattle.cell_core.specs.Blocks.{Gathers, CutsOff};
-ghost use Rattle.cell_core.specs.Region.{IsRegion};
+ghost use Rattle.cell_devices.specs.Blocks.{Gathers, CutsOff};
+ghost use Rattle.cell_base.specs.Region.{IsRegion};
 ghost use Rattle.cell_counts.specs.Combinations.{row_combinations};
 ghost use Rattle.cell_counts.specs.LeftOut.{kept};
 ghost use Rattle.cell_stats.specs.TableText.{cell_line, cells_text};

@@ -7,7 +7,7 @@ ghost use Rattle.cell_text.specs.Blanks.{is_blank};
 ghost use Rattle.cell_text.specs.Words.{is_word, words_of, is_list_gap, list_words_of, parts_of, pair_of};
 
 use crate::blanks::is_blank;
-use cell_core::memory::Memory;
+use cell_base::memory::Memory;
 use std::alloc::{AllocError, Global};
 
 // The pieces between blanks, empty ones too.

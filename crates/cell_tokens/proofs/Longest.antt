@@ -6,7 +6,7 @@ use Rattle.std.proofs.lemmas.Slice.Eq.{bytes_eq-Decides, starts_is}
 use Rattle.std.specs.List.{list_all, prefix_len, starts_with}
 use Rattle.std.specs.Option.{is_some, option_map, option_map_or}
 use Rattle.std.specs.Prelude.{find, map, not, nat_eq, bytes_eq}
-use Rattle.cell_core.specs.Name.{is_name_byte}
+use Rattle.cell_base.specs.Name.{is_name_byte}
 use Rattle.cell_tokens.specs.Spelling.{is_piece, IsLongest}
 use Rattle.cell_tokens.specs.Tokens.{triple_signs, double_signs, single_signs, signs, sign_of, mark_length, piece_length}
 use Rattle.cell_tokens.specs.declared.token.Sign.{Sign}

@@ -4,7 +4,7 @@ use Rattle.std.proofs.lemmas.Bool.Decides.{nat_tests}
 use Rattle.std.proofs.Math.Seq.{take-append_seam, drop-append_seam}
 use Rattle.std.specs.List.{list_all}
 use Rattle.std.specs.Prelude.{nat_lt, not}
-use Rattle.cell_core.specs.Name.{is_name, is_name_byte, is_name_start, starts_name}
+use Rattle.cell_base.specs.Name.{is_name, is_name_byte, is_name_start, starts_name}
 use Rattle.cell_tokens.proofs.Longest.{both_true, not_true, sign-passes, word-longest, sign-longest}
 use Rattle.cell_tokens.proofs.Pieces.{pieces-blank, pieces-first, tokens_of-cons}
 use Rattle.cell_text.specs.Blanks.{is_blank}

@@ -4,7 +4,7 @@ use Rattle.std.specs.List.{list_all}
 use Rattle.std.specs.Prelude.{nat_lt, if◌then◌else◌}
 use Rattle.std.proofs.lemmas.Bool.Decides.{nat_tests}
 use Rattle.std.specs.Option.{option_map, ok_or}
-use Rattle.cell_core.specs.Name.{is_name, is_name_byte, starts_name}
+use Rattle.cell_base.specs.Name.{is_name, is_name_byte, starts_name}
 use Rattle.cell_tokens.proofs.Longest.{piece_length-within, piece-longest}
 use Rattle.cell_tokens.proofs.Pieces.{pieces-blank, pieces-opened, tokens_of-cons}
 use Rattle.cell_text.specs.Blanks.{is_blank}

@@ -2,7 +2,7 @@
 use Rattle.std.specs.Prelude.{◌≡◌, ℕ, ◌+◌, ◌<◌, ◌≤◌, Bool, false, ◌||◌, IsTrue, List, [], ◌∷◌, ◌++◌, length, Some, Ok, ◌↔◌}
 use Rattle.std.specs.List.{list_all}
 use Rattle.std.specs.Option.{is_some}
-use Rattle.cell_core.specs.Name.{is_name, is_name_byte}
+use Rattle.cell_base.specs.Name.{is_name, is_name_byte}
 use Rattle.cell_text.specs.Blanks.{is_blank}
 use Rattle.cell_text.specs.Digits.{is_digit, value_of_digits}
 use Rattle.cell_tokens.specs.Tokens.{sign_of, token_list}

@@ -2,7 +2,7 @@
 use Rattle.std.specs.Prelude.{◌≡◌, ◌⊎◌, ℕ, zero, suc, ◌+◌, ◌-◌, Bool, ◌++◌, ◌||◌, ◌==◌, nat_le, nat_lt, List, [], ◌∷◌, length, take, map, find, codes, bytes_eq, nat_eq, Option, Result, Ok, Err, if◌then◌else◌}
 use Rattle.std.specs.List.{prefix_len, list_all, list_any, starts_with}
 use Rattle.std.specs.Option.{option_map, option_map_or, ok_or}
-use Rattle.cell_core.specs.Name.{is_name_byte, starts_name}
+use Rattle.cell_base.specs.Name.{is_name_byte, starts_name}
 use Rattle.cell_text.specs.Blanks.{is_blank}
 use Rattle.cell_text.specs.Digits.{is_digit, value_of_digits}
 use Rattle.cell_tokens.specs.declared.fault.CalcFault.{CalcFault}

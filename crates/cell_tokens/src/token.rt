@@ -1,6 +1,6 @@
 //! The tokens of an assignment.
 
-use cell_core::name::Name;
+use cell_base::name::Name;
 
 /// A sign of the language: an operator, a bracket or a separator.
 #[derive(Clone, Copy, Debug, PartialEq, Eq)]

@@ -2,14 +2,14 @@
 
 ghost use Rattle.std.specs.Prelude.{◌≡◌, ◌+◌, ◌<◌, ◌≤◌, IfOk, IfErr, IsTrue, Ok, true, length, false, nat_eq, [], ◌∷◌, ◌||◌, ◌==◌};
 ghost use Rattle.std.specs.List.{list_all, list_any, prefix_len, starts_with};
-ghost use Rattle.cell_core.specs.Name.{is_name_byte, starts_name};
+ghost use Rattle.cell_base.specs.Name.{is_name_byte, starts_name};
 ghost use Rattle.cell_tokens.specs.Spelling.{AreSpelled, ListIsSpelled};
 ghost use Rattle.cell_tokens.specs.Tokens.{sign_of, triple_signs, double_signs, mark_length, piece_length, is_float_byte, not_whole, name_of, number_of, word_of, mark_of, token_of, next_token, token_list, fault, IsTold};
 ghost use Rattle.cell_tokens.specs.declared.fault.CalcKind.TheVariants.{FloatNumber, BadNumber};
 
 use crate::fault::{CalcFault, CalcKind};
 use crate::token::{Placed, Sign, Token};
-use cell_core::name::{Name, NameFault, is_name_byte, starts_name};
+use cell_base::name::{Name, NameFault, is_name_byte, starts_name};
 use cell_text::blanks::is_blank;
 use cell_text::numbers::{are_digits, value_of_digits};
 use std::alloc::Global;

@@ -9,7 +9,7 @@ use Rattle.cell_calc.specs.Formula.{Formula}
 use Rattle.cell_clump.specs.ClumpLaw.{ClumpingIsOne}
 use Rattle.cell_clump.specs.declared.clump.Joining.{Joining}
 use Rattle.cell_core.specs.Grid.{Grid, CellValue, IsFilled, cell_at}
-use Rattle.cell_core.specs.Region.{RegionValue}
+use Rattle.cell_base.specs.Region.{RegionValue}
 use Rattle.cell_core.specs.Shelf.{ShelfValue}
 use Rattle.cell_script.specs.declared.statement.Command.{Command}
 use Rattle.cell_script.specs.declared.statement.Command.TheVariants.{Mapcalc, Reclass, Clump, Stats, OutAscii}

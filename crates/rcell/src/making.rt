@@ -2,7 +2,7 @@
 
 ghost use Rattle.std.specs.Prelude.{◌≡◌, ◌≤◌, ◌<◌, None, length, OnOk, OnErr};
 ghost use Rattle.cell_calc.specs.Reach.{top_of};
-ghost use Rattle.cell_core.specs.Name.{place_of};
+ghost use Rattle.cell_base.specs.Name.{place_of};
 ghost use Rattle.cell_script.specs.Known.{known_after};
 ghost use Rattle.cell_script.specs.declared.statement.Command.TheVariants.{Mapcalc, Reclass, Clump};
 ghost use Rattle.rcell.specs.Making.{IsAfter, with_map};

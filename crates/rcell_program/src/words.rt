@@ -1,7 +1,7 @@
 //! The words of the command line.
 
 ghost use Rattle.std.specs.Prelude.{◌≡◌, ◌≢◌, ◌++◌, ◌∷◌, [], ◌<◌, true, IfOk};
-ghost use Rattle.cell_core.specs.Name.{is_name};
+ghost use Rattle.cell_base.specs.Name.{is_name};
 
 use crate::refusal::Refusal;
 use cell_core::name::{Name, NameFault};

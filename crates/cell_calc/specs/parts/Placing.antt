@@ -1,7 +1,7 @@
 -- Names in the steps of an expression replaced by their places.
 use Rattle.std.specs.Prelude.{ℕ, List}
 use Rattle.std.specs.Option.{unwrap_or}
-use Rattle.cell_core.specs.Name.{place_of}
+use Rattle.cell_base.specs.Name.{place_of}
 use Rattle.cell_calc.specs.declared.step.Step.{Step}
 use Rattle.cell_calc.specs.declared.step.Step.TheVariants as step
 use Rattle.cell_language.specs.declared.step.Step as named

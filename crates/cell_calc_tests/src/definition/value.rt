@@ -3,7 +3,7 @@
 ghost use Rattle.std.specs.Prelude.{◌≡◌, ◌<◌, None, length, slice_get, IfOk};
 ghost use Rattle.std.specs.Option.{unwrap_or};
 ghost use Rattle.cell_core.specs.Grid.{row_at};
-ghost use Rattle.cell_core.specs.Name.{place_of};
+ghost use Rattle.cell_base.specs.Name.{place_of};
 ghost use Rattle.cell_calc.specs.Binding.{placed, placed_all};
 ghost use Rattle.cell_calc.specs.Value.{item_at, row_of, cell_in, spot, called, value, values};
 ghost use Rattle.cell_language.specs.Grammatical.{IsGrammatical, AreGrammatical};

@@ -1,6 +1,6 @@
 -- The cells of a map that get a label of their own, in row order.
 use Rattle.std.specs.Prelude.{ℕ, zero, suc, Bool, not, ◌||◌, ◌&&◌, ◌+◌, ◌*◌, ◌≡◌, ◌⊎◌, List, [], ◌∷◌, ◌++◌, length, None, is_some, slice_index_or, if◌then◌else◌}
-use Rattle.cell_core.specs.Cell.{cell_eq}
+use Rattle.cell_base.specs.Cell.{cell_eq}
 use Rattle.cell_core.specs.Grid.{Grid, CellValue, cell_at}
 use Rattle.cell_clump.specs.declared.clump.Joining.{Joining}
 use Rattle.cell_clump.specs.declared.clump.Joining.TheVariants.{Edges, EdgesAndCorners}

@@ -1,6 +1,6 @@
 -- How a row is kept, as its runs or as its cells, and the runs that are still to come from either.
 use Rattle.std.specs.Prelude.{ℕ, suc, ◌+◌, ◌<◌, ◌^◌, List, [], ◌∷◌, length, if◌then◌else◌}
-use Rattle.cell_core.specs.Cell.{cell_eq}
+use Rattle.cell_base.specs.Cell.{cell_eq}
 use Rattle.cell_core.specs.Grid.{CellValue}
 use Rattle.cell_core.specs.Runs.{RunValue, AreRuns, written_out}
 use Rattle.cell_core.specs.declared.row.Kept.{Kept}

@@ -1,6 +1,6 @@
 -- The first map name of steps in postfix order that is not among some names.
 use Rattle.std.specs.Prelude.{ℕ, List, [], ◌∷◌, Option, None}
-use Rattle.cell_core.specs.Name.{place_of}
+use Rattle.cell_base.specs.Name.{place_of}
 use Rattle.cell_language.specs.declared.step.Step.{Step}
 use Rattle.cell_language.specs.declared.step.Step.TheVariants as step
 use Rattle.cell_language.specs.Unknown.{first_of, unplaced}

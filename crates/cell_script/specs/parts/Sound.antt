@@ -1,6 +1,6 @@
 -- What is kept while a script is read: each statement fits the maps before it, and the known names are those after the statements.
 use Rattle.std.specs.Prelude.{ℕ, ◌≡◌, ◌<◌, List, [], ◌∷◌, All, Option, Some, None, length}
-use Rattle.cell_core.specs.Name.{place_of}
+use Rattle.cell_base.specs.Name.{place_of}
 use Rattle.cell_script.specs.Known.{known_after}
 use Rattle.cell_script.specs.Fitting.{FitsCommand, Fits}
 use Rattle.cell_script.specs.declared.heads.Head.{Head}

@@ -4,10 +4,10 @@ use Rattle.std.specs.Prelude.{slice_get}
 use Rattle.std.proofs.Math.Seq.{drop-cons}
 use Rattle.std.proofs.lemmas.List.{take_more}
 use Rattle.cell_ascii_text.specs.Writing.{grid_text}
-use Rattle.cell_core.specs.Device.{append_known}
+use Rattle.cell_devices.specs.Device.{append_known}
 use Rattle.cell_core.specs.Grid.{Grid}
 use Rattle.cell_core.specs.Shelf.{ShelfValue}
-use Rattle.cell_core.specs.Blocks.{BlockValue, Gathered, IsPut, Gathers, PutsAll, CutsOff, capped}
+use Rattle.cell_devices.specs.Blocks.{BlockValue, Gathered, IsPut, Gathers, PutsAll, CutsOff, capped}
 use Rattle.cell_script.specs.Known.{known_after}
 use Rattle.cell_script.specs.Fitting.{Fits, FitsCommand}
 use Rattle.cell_script.specs.declared.statement.Command.{Command}

@@ -1,11 +1,11 @@
 -- One grid more on the shelf.
 use Rattle.std.proofs.Common.{◌≡◌, ◌≢◌, ℕ, zero, suc, ◌+◌, Bool, true, false, cond, List, [], ◌∷◌, ◌++◌, length, take, Option, Some, None, Result, Ok, Err, IsSome, IfErr, slice_get, refl, ap, sym, ◌∙◌, arith, add-one}
 use Rattle.std.specs.List.{position_from}
-use Rattle.cell_core.specs.Device.{Coming}
+use Rattle.cell_devices.specs.Device.{Coming}
 use Rattle.cell_core.specs.Grid.{Grid}
-use Rattle.cell_core.specs.Name.{place_of}
-use Rattle.cell_core.specs.Region.{RegionValue}
-use Rattle.cell_core.specs.SameRegion.{is_same_region, is_same_region-Decides}
+use Rattle.cell_base.specs.Name.{place_of}
+use Rattle.cell_base.specs.Region.{RegionValue}
+use Rattle.cell_base.specs.SameRegion.{is_same_region, is_same_region-Decides}
 use Rattle.cell_core.specs.Shelf.{ShelfValue}
 use Rattle.cell_ascii_text.specs.Cells.{grid_of}
 use Rattle.rcell.specs.runs.Sources.{AllKnown, known_of, coming_of}

@@ -3,8 +3,8 @@ use Rattle.std.proofs.Common.{◌≡◌, ℕ, ◌+◌, ◌≤◌, ◌<◌, true,
 use Rattle.std.specs.Prelude.{nat_lt}
 use Rattle.std.specs.Option.{option_map}
 use Rattle.std.proofs.lemmas.Bool.Decides.{nat_tests}
-use Rattle.cell_core.specs.declared.device.DeviceFault.{DeviceFault}
-use Rattle.cell_core.specs.Device.{Coming, Takes, after_bytes}
+use Rattle.cell_devices.specs.declared.device.DeviceFault.{DeviceFault}
+use Rattle.cell_devices.specs.Device.{Coming, Takes, after_bytes}
 use Rattle.rcell.specs.runs.Endings.{script_text}
 use Rattle.rcell.specs.declared.runs.outcome.RunFault.{RunFault}
 use Rattle.rcell.specs.declared.runs.outcome.RunFault.TheVariants.{ScriptRead, ScriptSize}

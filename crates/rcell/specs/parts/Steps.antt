@@ -1,6 +1,6 @@
 -- One statement of an execution, and the bytes around it.
 use Rattle.std.specs.Prelude.{ℕ, ◌≡◌, Bool, true, false, List, ◌++◌, Option, Result, Ok, Err}
-use Rattle.cell_core.specs.Blocks.{BlockValue, IsPut, IsCut}
+use Rattle.cell_devices.specs.Blocks.{BlockValue, IsPut, IsCut}
 use Rattle.cell_core.specs.Shelf.{ShelfValue}
 use Rattle.cell_script.specs.declared.statement.Statement.{Statement}
 use Rattle.rcell.specs.Output.{Executes}

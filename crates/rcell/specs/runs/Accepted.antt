@@ -1,8 +1,8 @@
 -- An accepted script over grids of one region (r.in.ascii manual, r.stats manual, r.out.ascii manual; names, the one region and the form of a script are the profile's).
 use Rattle.std.specs.Prelude.{◌≡◌, ◌<◌, ◌≤◌, ⊤, false, List, [], ◌∷◌, length, map, All}
-use Rattle.cell_core.specs.Device.{Coming}
+use Rattle.cell_devices.specs.Device.{Coming}
 use Rattle.cell_core.specs.Grid.{Grid}
-use Rattle.cell_core.specs.Name.{AreDistinct}
+use Rattle.cell_base.specs.Name.{AreDistinct}
 use Rattle.cell_core.specs.Shelf.{ShelfValue}
 use Rattle.cell_ascii_text.specs.GridText.{Denotes}
 use Rattle.rcell.specs.runs.Sources.{Named}

@@ -1,6 +1,6 @@
 -- How a run ends: done, refused at the first fault of what it is given, or stopped in execution (the limit of a script and the order of the faults are the profile's).
 use Rattle.std.specs.Prelude.{ℕ, ◌≡◌, nat_lt, List, length, Option, Some, None, Result, Ok, Err, if◌then◌else◌}
-use Rattle.cell_core.specs.Device.{Coming}
+use Rattle.cell_devices.specs.Device.{Coming}
 use Rattle.cell_core.specs.Shelf.{ShelfValue}
 use Rattle.cell_script.specs.ReadScripts.{IsScriptFault}
 use Rattle.cell_script.specs.Scripts.{IsScript}

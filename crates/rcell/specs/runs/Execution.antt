@@ -1,8 +1,8 @@
 -- What has been written when the execution of statements stops (profile).
 use Rattle.std.specs.Prelude.{ℕ, ◌≡◌, List, ◌∷◌, ◌++◌, length, Option}
-use Rattle.cell_core.specs.Device.{append_known}
+use Rattle.cell_devices.specs.Device.{append_known}
 use Rattle.cell_core.specs.Shelf.{ShelfValue}
-use Rattle.cell_core.specs.Blocks.{capped}
+use Rattle.cell_devices.specs.Blocks.{capped}
 use Rattle.cell_script.specs.declared.statement.Statement.{Statement}
 use Rattle.rcell.specs.Output.{Executes}
 use Rattle.rcell.specs.declared.runs.execution.Stop.{Stop}

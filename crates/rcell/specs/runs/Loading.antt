@@ -1,8 +1,8 @@
 -- The shelf that grids give, in their order, or the first fault (profile).
 use Rattle.std.specs.Prelude.{ℕ, ◌+◌, List, [], ◌∷◌, Option, Some, None, Result, Ok, Err, if◌then◌else◌}
 use Rattle.cell_core.specs.Grid.{Grid}
-use Rattle.cell_core.specs.Name.{place_of}
-use Rattle.cell_core.specs.SameRegion.{is_same_region}
+use Rattle.cell_base.specs.Name.{place_of}
+use Rattle.cell_base.specs.SameRegion.{is_same_region}
 use Rattle.cell_core.specs.Shelf.{ShelfValue}
 use Rattle.cell_ascii_text.specs.Cells.{grid_of}
 use Rattle.cell_ascii_text.specs.declared.fault.GridFault.{GridFault}

@@ -1,7 +1,7 @@
 -- What a run of an accepted script answers: the whole output.
 use Rattle.std.specs.Prelude.{ℕ, ◌≡◌, Bool, false, List, length, Option, None, IfSome}
-use Rattle.cell_core.specs.Blocks.{capped}
-use Rattle.cell_core.specs.Device.{append_known}
+use Rattle.cell_devices.specs.Blocks.{capped}
+use Rattle.cell_devices.specs.Device.{append_known}
 use Rattle.cell_core.specs.Shelf.{ShelfValue}
 use Rattle.cell_script.specs.declared.statement.Statement.{Statement}
 use Rattle.rcell.specs.Output.{IsOutput}

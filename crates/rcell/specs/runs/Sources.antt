@@ -1,7 +1,7 @@
 -- What named sources still give, where that is known (profile).
 use Rattle.std.specs.Prelude.{ℕ, false, List, [], ◌∷◌, map, Option, IsSome}
 use Rattle.std.specs.Option.{unwrap_or}
-use Rattle.cell_core.specs.Device.{Coming}
+use Rattle.cell_devices.specs.Device.{Coming}
 
 -- a name and what its source still gives
 abbrev pub Named : Type 0

@@ -2,8 +2,8 @@
 
 ghost use Rattle.std.specs.Prelude.{◌≡◌, ◌||◌, [], length, OnOk, IfOk, IfErr, true};
 ghost use Rattle.cell_ascii_text.specs.Writing.{grid_text, IsNullText};
-ghost use Rattle.cell_core.specs.Device.{append_known};
-ghost use Rattle.cell_core.specs.Blocks.{capped};
+ghost use Rattle.cell_devices.specs.Device.{append_known};
+ghost use Rattle.cell_devices.specs.Blocks.{capped};
 ghost use Rattle.cell_script.specs.Known.{known_after};
 ghost use Rattle.cell_script.specs.Fitting.{Fits, FitsCommand};
 ghost use Rattle.rcell.specs.Making.{IsAfter};

@@ -1,7 +1,7 @@
 //! The shelf of the grids.
 
 ghost use Rattle.std.specs.Prelude.{ℕ, ◌≡◌, ◌+◌, ◌<◌, IsSome, IfOk, IfErr, Ok, Err, Some, length, vec_len};
-ghost use Rattle.cell_core.specs.Name.{place_of};
+ghost use Rattle.cell_base.specs.Name.{place_of};
 ghost use Rattle.cell_ascii_text.specs.Cells.{grid_of};
 ghost use Rattle.rcell.specs.runs.Faults.{IsOfInput, IsBeforeExecution, IsTold};
 ghost use Rattle.rcell.specs.runs.Loading.{added, placed, with_grid, shelf_of};

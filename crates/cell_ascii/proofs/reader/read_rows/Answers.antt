@@ -1,6 +1,6 @@
 use Rattle.std.proofs.lemmas.Result.{err_from_is_err_and}
 use Rattle.std.proofs.Common.{◌≡◌, ◌<◌, ◌+◌, ◌∙◌, zero, suc, ℕ, arith, true, Ok, Err, refl, ap, length, length-append, ◌++◌, ◌∷◌, [], rules}
-use Rattle.cell_core.specs.Device.{Coming}
+use Rattle.cell_devices.specs.Device.{Coming}
 use Rattle.cell_ascii_text.specs.Cells.{cell_from, many}
 use Rattle.cell_ascii.specs.Reader.{rows_from}
 use Rattle.cell_ascii.specs.GridReaders.{place_in, IsCutRow}

@@ -1,7 +1,7 @@
 use Rattle.std.proofs.Common.{◌≡◌, ◌∷◌, List, arith}
 use Rattle.std.proofs.lemmas.Result.{err_from_is_err_and, IfErr-weaker, IfOk-weaker}
 use Rattle.cell_core.specs.Runs.{RunValue}
-use Rattle.cell_core.proofs.GatherLemmas.{CutsOff-first, CutsOff-second, Gathers-then}
+use Rattle.cell_devices.proofs.GatherLemmas.{CutsOff-first, CutsOff-second, Gathers-then}
 use Rattle.cell_ascii_writer.proofs.RunWritingLemmas.{first-some, joined-runs}
 use Rattle.cell_ascii_writer.proofs.writer.write_cells.Goals as goal
 

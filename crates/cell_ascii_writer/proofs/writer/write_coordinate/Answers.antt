@@ -1,7 +1,7 @@
 use Rattle.std.proofs.Common.{◌≡◌, to_z, of_z, w64}
 use Rattle.std.proofs.lemmas.Int.{to_z-of_z}
 use Rattle.std.proofs.lemmas.Result.{err_from_is_err_and, IfErr-weaker, IfOk-weaker}
-use Rattle.cell_core.proofs.GatherLemmas.{CutsOff-first, CutsOff-second, Gathers-then}
+use Rattle.cell_devices.proofs.GatherLemmas.{CutsOff-first, CutsOff-second, Gathers-then}
 use Rattle.cell_ascii_writer.proofs.WriterLemmas.{coordinate_text-negative, coordinate_text-positive}
 use Rattle.cell_ascii_writer.proofs.writer.write_coordinate.Goals as goal
 use Rattle.cell_ascii_writer.proofs.writer.write_coordinate.Goals.{then-units-lt0+in_ok-push, else-units-lt0}

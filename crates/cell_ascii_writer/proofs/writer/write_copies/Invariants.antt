@@ -1,5 +1,5 @@
 use Rattle.std.proofs.Common.{◌≡◌, ◌≤◌, ◌+◌, ◌*◌}
-use Rattle.cell_core.specs.Blocks.{Gathers, counted}
+use Rattle.cell_devices.specs.Blocks.{Gathers, counted}
 use Rattle.cell_ascii_writer.specs.WrittenRuns.{times}
 use Rattle.cell_ascii_writer.proofs.writer.write_copies.Given as goal
 

@@ -1,5 +1,5 @@
 use Rattle.std.proofs.lemmas.Result.{err_from_is_err_and, IfErr-weaker, IfOk-weaker}
-use Rattle.cell_core.proofs.GatherLemmas.{CutsOff-first, CutsOff-second, Gathers-then}
+use Rattle.cell_devices.proofs.GatherLemmas.{CutsOff-first, CutsOff-second, Gathers-then}
 use Rattle.cell_ascii_writer.proofs.WriterLemmas.{fraction_text-some}
 use Rattle.cell_ascii_writer.proofs.writer.write_fraction.Goals as goal
 

@@ -1,5 +1,5 @@
 use Rattle.std.proofs.lemmas.Result.{err_from_is_err_and, IfErr-weaker}
-use Rattle.cell_core.proofs.GatherLemmas.{CutsOff-first, CutsOff-second}
+use Rattle.cell_devices.proofs.GatherLemmas.{CutsOff-first, CutsOff-second}
 use Rattle.cell_ascii_writer.proofs.writer.write_key.Goals as goal
 
 pub returns-in_err-push-clause-err : goal.returns-in_err-push-clause-err

@@ -1,5 +1,5 @@
 use Rattle.std.proofs.lemmas.Result.{err_from_is_err_and, IfErr-weaker}
-use Rattle.cell_core.proofs.GatherLemmas.{CutsOff-first, CutsOff-second, Gathers-then}
+use Rattle.cell_devices.proofs.GatherLemmas.{CutsOff-first, CutsOff-second, Gathers-then}
 use Rattle.cell_ascii_writer.proofs.writer.write_line.Goals as goal
 
 pub returns-in_err-write_key-clause-err : goal.returns-in_err-write_key-clause-err

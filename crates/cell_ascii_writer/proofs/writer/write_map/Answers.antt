@@ -1,9 +1,9 @@
 use Rattle.std.proofs.Common.{◌≡◌, ◌-◌, ◌^◌, ◌<◌, ◌++◌, [], flat_map, ap, arith}
 use Rattle.std.proofs.lemmas.Result.{err_from_is_err_and}
-use Rattle.cell_core.specs.Blocks.{counted}
-use Rattle.cell_core.specs.Region.{RegionValue}
-use Rattle.cell_core.proofs.BlockLemmas.{IsCut-more}
-use Rattle.cell_core.proofs.GatherLemmas.{IsCut-exact, IsPut-exact}
+use Rattle.cell_devices.specs.Blocks.{counted}
+use Rattle.cell_base.specs.Region.{RegionValue}
+use Rattle.cell_devices.proofs.BlockLemmas.{IsCut-more}
+use Rattle.cell_devices.proofs.GatherLemmas.{IsCut-exact, IsPut-exact}
 use Rattle.cell_ascii_text.specs.Writing.{grid_text, null_line, region_text, row_text}
 use Rattle.cell_ascii_writer.proofs.ShortLemmas.{counted-le, cut_before, cut_first, rows-some}
 use Rattle.cell_ascii_writer.proofs.writer.write_map.Goals as goal

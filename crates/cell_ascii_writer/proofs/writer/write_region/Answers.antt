@@ -1,8 +1,8 @@
 use Rattle.std.proofs.Common.{◌≡◌, ◌∙◌, ◌||◌, Bool, ap, is_err, rules, codes, to_z, of_z, w64, SFits}
 use Rattle.std.proofs.lemmas.Int.{to_z-of_z}
 use Rattle.std.proofs.lemmas.Result.{err_from_is_err_and, IfErr-weaker, IfOk-weaker}
-use Rattle.cell_core.specs.Region.{RegionValue}
-use Rattle.cell_core.proofs.GatherLemmas.{CutsOff-second, Gathers-then}
+use Rattle.cell_base.specs.Region.{RegionValue}
+use Rattle.cell_devices.proofs.GatherLemmas.{CutsOff-second, Gathers-then}
 use Rattle.cell_ascii_writer.proofs.WriterLemmas.{edge_line, side_line, one_line, two_lines, three_lines, four_lines, five_lines, cut_in_one, cut_in_two, cut_in_three, cut_in_four, cut_in_five, still_failed}
 use Rattle.cell_ascii_writer.proofs.writer.write_region.Goals as goal
 

@@ -1,6 +1,6 @@
 use Rattle.std.proofs.Common.{arith}
 use Rattle.std.proofs.lemmas.Result.{err_from_is_err_and, IfErr-weaker, IfOk-weaker}
-use Rattle.cell_core.proofs.GatherLemmas.{CutsOff-first, CutsOff-second, Gathers-then}
+use Rattle.cell_devices.proofs.GatherLemmas.{CutsOff-first, CutsOff-second, Gathers-then}
 use Rattle.cell_ascii_writer.proofs.ShortLemmas.{FallsShort-cut, FallsShort-last}
 use Rattle.cell_ascii_writer.proofs.writer.write_row.Goals as goal
 

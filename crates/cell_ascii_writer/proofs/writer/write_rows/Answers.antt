@@ -1,8 +1,8 @@
 use Rattle.std.proofs.Common.{◌≡◌, ◌∙◌, ◌<◌, [], length, ap, arith, refl}
 use Rattle.std.proofs.lemmas.Result.{err_from_is_err_and}
 use Rattle.cell_core.specs.Grid.{row_at}
-use Rattle.cell_core.specs.Region.{RegionValue}
-use Rattle.cell_core.proofs.GatherLemmas.{CutsOff-first, CutsOff-second, flat_map-rest}
+use Rattle.cell_base.specs.Region.{RegionValue}
+use Rattle.cell_devices.proofs.GatherLemmas.{CutsOff-first, CutsOff-second, flat_map-rest}
 use Rattle.cell_ascii_text.specs.Writing.{row_text}
 use Rattle.cell_ascii_writer.proofs.ShortLemmas.{FallsShort-first, FallsShort-second}
 use Rattle.cell_ascii_writer.proofs.writer.write_rows.Goals as goal

@@ -1,5 +1,5 @@
 use Rattle.std.proofs.Common.{◌≡◌, ◌≤◌, ◌+◌, ◌*◌, take, flat_map}
-use Rattle.cell_core.specs.Blocks.{Gathers, counted}
+use Rattle.cell_devices.specs.Blocks.{Gathers, counted}
 use Rattle.cell_ascii_text.specs.Writing.{row_text}
 use Rattle.cell_ascii_writer.proofs.writer.write_rows.Given as goal
 

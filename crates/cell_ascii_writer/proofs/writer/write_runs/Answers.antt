@@ -1,7 +1,7 @@
 use Rattle.std.proofs.Common.{◌≡◌, ◌∙◌, ◌++◌, ◌∷◌, List, ap, sym}
 use Rattle.std.proofs.lemmas.Result.{err_from_is_err_and}
 use Rattle.cell_core.specs.Runs.{RunValue}
-use Rattle.cell_core.proofs.GatherLemmas.{CutsOff-first, CutsOff-second}
+use Rattle.cell_devices.proofs.GatherLemmas.{CutsOff-first, CutsOff-second}
 use Rattle.cell_ascii_writer.proofs.RunWritingLemmas.{cells_text-rest}
 use Rattle.cell_ascii_writer.proofs.writer.write_runs.Goals as goal
 

@@ -1,5 +1,5 @@
 use Rattle.std.proofs.Common.{◌≡◌, ◌≤◌, ◌+◌, ◌*◌, ◌++◌, length}
-use Rattle.cell_core.specs.Blocks.{Gathers, counted}
+use Rattle.cell_devices.specs.Blocks.{Gathers, counted}
 use Rattle.cell_core.specs.Runs.{written_out}
 use Rattle.cell_ascii_writer.specs.WrittenRuns.{cells_text}
 use Rattle.cell_ascii_writer.proofs.writer.write_runs.Given as goal

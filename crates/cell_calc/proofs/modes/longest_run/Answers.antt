@@ -1,6 +1,6 @@
 use Rattle.std.proofs.Common.{arith, ◌≡◌, ◌<◌, ◌+◌, length, ap, ◌∙◌}
 use Rattle.std.proofs.lemmas.Grind.{common_steps}
-use Rattle.cell_core.specs.Cell.{cell_eq}
+use Rattle.cell_base.specs.Cell.{cell_eq}
 use Rattle.cell_calc.proofs.Frequent.{none_of, longest_first, longest_step, longest_all, kept_within}
 use Rattle.cell_calc.proofs.modes.longest_run.Goals as goal
 

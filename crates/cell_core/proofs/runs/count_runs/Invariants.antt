@@ -1,5 +1,5 @@
 use Rattle.std.proofs.Common.{◌≡◌, ◌≤◌, ◌+◌, All, take, drop, length}
-use Rattle.cell_core.specs.Cell.{IsCell}
+use Rattle.cell_base.specs.Cell.{IsCell}
 use Rattle.cell_core.specs.parts.Rows.{breaks, runs_in}
 use Rattle.cell_core.proofs.runs.count_runs.Given as goal
 

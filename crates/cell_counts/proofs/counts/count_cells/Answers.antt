@@ -3,7 +3,7 @@ use Rattle.std.proofs.lemmas.Grind.{common_steps}
 use Rattle.std.specs.BTreeMap as tree
 use Rattle.std.specs.BTreeMap.{is_at}
 use Rattle.std.specs.Map.{lookup}
-use Rattle.cell_core.specs.Region.{RegionValue, IsRegion}
+use Rattle.cell_base.specs.Region.{RegionValue, IsRegion}
 use Rattle.cell_counts.specs.Combinations.{Combination, combination_cmp, all_combinations}
 use Rattle.cell_counts.specs.Counts.{count_of}
 use Rattle.cell_counts.specs.Mapped.{mapped_of}

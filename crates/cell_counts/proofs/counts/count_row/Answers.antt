@@ -1,7 +1,7 @@
 use Rattle.std.proofs.Common.{◌≡◌, ◌<◌, ◌≤◌, ◌+◌, ◌++◌, List, length, map, replicate, cond, true, false, arith, ap, sym, ◌∙◌, append-nil, append_assoc, add-one, ℕ}
 use Rattle.std.specs.BTreeMap.{BTreeMap}
 use Rattle.std.specs.List.{range_with_len}
-use Rattle.cell_core.specs.Region.{RegionValue}
+use Rattle.cell_base.specs.Region.{RegionValue}
 use Rattle.cell_counts.specs.Combinations.{Combination, all_combinations, combination_at}
 use Rattle.cell_counts.specs.Counts.{count_of}
 use Rattle.cell_counts.specs.Mapped.{HasNoZero}

@@ -1,7 +1,7 @@
 use Rattle.std.proofs.Common.{◌≡◌, ◌<◌, ◌++◌, [], ◌∷◌, length, map, take, get_or, ap, sym, ◌∙◌, arith, ℕ}
 use Rattle.std.proofs.lemmas.List.{map-append, take_more}
 use Rattle.std.proofs.lemmas.List.Elements.{All-push}
-use Rattle.cell_core.specs.Region.{RegionValue}
+use Rattle.cell_base.specs.Region.{RegionValue}
 use Rattle.cell_counts.specs.Cursors.{to_come, IsReady, row_in}
 use Rattle.cell_counts.proofs.CursorLemmas.{map-take-more}
 use Rattle.cell_counts.proofs.WalkLemmas.{row-of}

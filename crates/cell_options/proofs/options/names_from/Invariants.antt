@@ -1,6 +1,6 @@
 use Rattle.std.proofs.Common.{◌≡◌, take, length, map, IsTrue}
 use Rattle.std.specs.List.{list_all}
-use Rattle.cell_core.specs.Name.{is_name}
+use Rattle.cell_base.specs.Name.{is_name}
 use Rattle.cell_options.proofs.options.names_from.Given as goal
 
 abbrev pub invariant-loop-text : goal.invariant-loop-text

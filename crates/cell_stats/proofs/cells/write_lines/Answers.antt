@@ -1,6 +1,6 @@
 use Rattle.std.proofs.Common.{◌≡◌, ℕ, ◌+◌, ◌-◌, ◌<◌, ◌++◌, false, true, replicate, flat_map, arith, rules, sym, ap, ◌∙◌}
 use Rattle.std.proofs.lemmas.Result.{err_from_is_err_and}
-use Rattle.cell_core.proofs.GatherLemmas.{CutsOff-second, Gathers-none, Gathers-then}
+use Rattle.cell_devices.proofs.GatherLemmas.{CutsOff-second, Gathers-none, Gathers-then}
 use Rattle.cell_stats.specs.TableText.{cell_line}
 use Rattle.cell_counts.specs.LeftOut.{is_left_out, kept}
 use Rattle.cell_stats.proofs.PrintLemmas.{cut-first}

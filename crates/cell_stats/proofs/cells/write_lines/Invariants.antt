@@ -1,5 +1,5 @@
 use Rattle.std.proofs.Common.{◌≡◌, replicate, flat_map}
-use Rattle.cell_core.specs.Blocks.{Gathers}
+use Rattle.cell_devices.specs.Blocks.{Gathers}
 use Rattle.cell_stats.specs.TableText.{cell_line}
 use Rattle.cell_stats.proofs.cells.write_lines.Given as goal
 

@@ -1,8 +1,8 @@
 use Rattle.std.proofs.Common.{◌≡◌, ◌<◌, ◌≤◌, ◌+◌, ◌-◌, ◌++◌, map, replicate, arith, rules, ap, sym, ◌∙◌}
 use Rattle.std.proofs.lemmas.Result.{err_from_is_err_and}
 use Rattle.std.specs.List.{range_with_len}
-use Rattle.cell_core.proofs.GatherLemmas.{CutsOff-second, Gathers-none, Gathers-then}
-use Rattle.cell_core.specs.Region.{RegionValue}
+use Rattle.cell_devices.proofs.GatherLemmas.{CutsOff-second, Gathers-none, Gathers-then}
+use Rattle.cell_base.specs.Region.{RegionValue}
 use Rattle.cell_counts.specs.Combinations.{combination_at, row_combinations}
 use Rattle.cell_stats.proofs.CellsLemmas.{lines, lines-row, lines-stretch}
 use Rattle.cell_stats.proofs.PrintLemmas.{cut-first}

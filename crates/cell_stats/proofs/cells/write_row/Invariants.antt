@@ -1,6 +1,6 @@
 use Rattle.std.proofs.Common.{◌≡◌, ◌+◌, ◌-◌, ◌<◌, ◌≤◌, length, map, drop, All}
 use Rattle.std.specs.List.{range_with_len}
-use Rattle.cell_core.specs.Blocks.{Gathers}
+use Rattle.cell_devices.specs.Blocks.{Gathers}
 use Rattle.cell_counts.specs.Combinations.{combination_at}
 use Rattle.cell_counts.specs.Cursors.{to_come, IsReady, row_in}
 use Rattle.cell_stats.proofs.CellsLemmas.{lines}

@@ -1,6 +1,6 @@
 use Rattle.std.proofs.Common.{[], ◌∷◌}
 use Rattle.std.proofs.lemmas.Result.{err_from_is_err_and, IfErr-weaker}
-use Rattle.cell_core.proofs.GatherLemmas.{CutsOff-first, CutsOff-second}
+use Rattle.cell_devices.proofs.GatherLemmas.{CutsOff-first, CutsOff-second}
 use Rattle.cell_stats.proofs.printing.write_next.Goals as goal
 
 pub returns-in_err-push-clause-err : goal.returns-in_err-push-clause-err

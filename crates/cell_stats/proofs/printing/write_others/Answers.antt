@@ -2,7 +2,7 @@ use Rattle.std.proofs.Common.{◌≡◌, ◌<◌, length, get_or, arith, rules, 
 use Rattle.std.proofs.lemmas.Result.{err_from_is_err_and}
 use Rattle.std.proofs.lemmas.Slice.Zip.{length-zip}
 use Rattle.std.specs.List.{zip}
-use Rattle.cell_core.proofs.GatherLemmas.{CutsOff-second, Gathers-then, flat_map-rest, flat_map-take}
+use Rattle.cell_devices.proofs.GatherLemmas.{CutsOff-second, Gathers-then, flat_map-rest, flat_map-take}
 use Rattle.cell_stats.specs.parts.Preceded.{next_text}
 use Rattle.cell_stats.proofs.PrintLemmas.{cut-first, zip-at, zip-within}
 use Rattle.cell_stats.proofs.printing.write_others.Goals as goal

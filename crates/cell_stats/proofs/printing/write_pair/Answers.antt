@@ -1,7 +1,7 @@
 use Rattle.std.proofs.Common.{[], ◌∷◌, ◌++◌, sym, ◌∙◌, append_assoc}
 use Rattle.std.proofs.lemmas.Result.{err_from_is_err_and}
 use Rattle.std.specs.List.{join_with_byte}
-use Rattle.cell_core.proofs.GatherLemmas.{Gathers-then, CutsOff-second}
+use Rattle.cell_devices.proofs.GatherLemmas.{Gathers-then, CutsOff-second}
 use Rattle.cell_stats.specs.parts.Preceded.{preceded}
 use Rattle.cell_stats.specs.TableText.{combination_fields, count_fields, pair_line}
 use Rattle.cell_stats.proofs.PrintLemmas.{cut-first, cut-second, ok-second, pair-parts}

@@ -1,8 +1,8 @@
 use Rattle.std.proofs.Common.{ℕ, ℤ, ◌≡◌, ◌∙◌, ap, rules, refl, Some, Ok, Err, Result, w64}
 use Rattle.std.specs.Int.RustNames.{FitsSigned}
 use Rattle.std.proofs.lemmas.Int.{to_z-of_z}
-use Rattle.cell_core.specs.Region.{RegionValue, region_fault}
-use Rattle.cell_core.specs.declared.region.RegionFault.{RegionFault}
+use Rattle.cell_base.specs.Region.{RegionValue, region_fault}
+use Rattle.cell_base.specs.declared.region.RegionFault.{RegionFault}
 use Rattle.cell_ascii_text.specs.Header.{Keys, header_of, judged}
 use Rattle.cell_ascii_header.specs.Given.{judged as judged_parts}
 use Rattle.cell_ascii_header.proofs.keys.Keys.header.Goals as goal

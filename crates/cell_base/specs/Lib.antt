@@ -1,0 +1,6 @@
+-- Cells, regions, names.
+pub mod Cell
+pub mod Name
+pub mod Region
+pub mod SameRegion
+pub mod parts

@@ -1,0 +1,3 @@
+-- Sources and sinks, output in blocks.
+pub mod Blocks
+pub mod Device
