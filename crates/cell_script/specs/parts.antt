@@ -1,3 +1,2 @@
 -- What only private functions and proofs speak of.
 pub mod Sound
-pub mod GivenKeys
