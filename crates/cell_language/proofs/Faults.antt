@@ -20,12 +20,11 @@ use Rattle.cell_language.specs.Term.{Term}
 use Rattle.cell_language.specs.Token.{name_at, sign_at, head}
 use Rattle.cell_language.specs.Tokens.{token_list}
 use Rattle.cell_language.proofs.Complete.{one_outcome, read_all}
-use Rattle.cell_language.proofs.InBrackets.{far_in_brackets}
 use Rattle.cell_language.proofs.Law.{one}
 use Rattle.cell_language.proofs.Local.{left, with_left, Looks, IsLocal, is_local}
 use Rattle.cell_language.proofs.Sound.{sound_all, front_is}
 use Rattle.cell_language.proofs.Steps.{after_is}
-use Rattle.cell_language.proofs.Told.{ToldAt, told}
+use Rattle.cell_language.proofs.Told.{ToldAt, told, far_in_brackets}
 
 none_without_assign : (s : Placed) (ts : List Placed) → IsNot Assign (head ts) → IsNone (s ∷ ts)
 none_without_assign s ts n = λ a h. n (ap (λ l. head (tail l)) h.3)
@@ -85,7 +84,7 @@ stops end s t ts kind rest r =
       rest,
       ap (λ l. s ∷ t ∷ l) h.1,
       refl,
-      says kind (s ∷ t ∷ h.0) rest (λ l. unexpected s t ts (Stops kind rest) r n l h rest refl) (far_in_brackets s t ts h.0 kind rest r h.1) (told r tt),
+      says kind (s ∷ t ∷ h.0) rest (λ l. unexpected s t ts (Stops kind rest) r n l h rest refl) (far_in_brackets s t ts h.0 kind rest r h.1) (told r),
       none_of_expression s t ts (no_expression ts (Stops kind rest) r n),
     )
 

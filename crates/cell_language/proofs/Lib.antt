@@ -6,7 +6,6 @@ pub mod Told
 pub mod Steps
 pub mod Faults
 pub mod Grammatical
-pub mod InBrackets
 pub mod Longest
 pub mod Pieces
 pub mod SpellingLemmas
