@@ -1,5 +1,5 @@
 -- Where reading ends too early, the tokens are no assignment's.
-use Rattle.std.proofs.Common.{◌≡◌, ℕ, List, [], ◌∷◌, ◌++◌, Option, Some, refl, sym, ap, ◌∙◌, subst, append-nil, inl, inr}
+use Rattle.std.proofs.Common.{◌≡◌, ℕ, List, [], ◌∷◌, ◌++◌, Some, refl, sym, ap, ◌∙◌, subst, append-nil, inl, inr}
 use Rattle.std.specs.Prelude.{◌+◌, length, Result, Ok, Err, IfErr, MatchResult}
 use Rattle.cell_language.specs.declared.assignment.Assignment.{Assignment}
 use Rattle.cell_language.specs.declared.fault.CalcFault.{CalcFault}
@@ -9,7 +9,6 @@ use Rattle.cell_language.specs.declared.parsing.Stop.{Stop}
 use Rattle.cell_language.specs.declared.parsing.Stop.TheVariants.{Memory, At}
 use Rattle.cell_language.specs.declared.token.Placed.{Placed}
 use Rattle.cell_language.specs.declared.token.Sign.TheVariants.{Assign}
-use Rattle.cell_language.specs.declared.token.Token.{Token}
 use Rattle.cell_language.specs.declared.token.Token.TheVariants as token
 use Rattle.cell_language.specs.Assignment.{IsAssignment}
 use Rattle.cell_language.specs.Grammar.{IsExpression}

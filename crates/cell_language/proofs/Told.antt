@@ -1,5 +1,5 @@
 -- Each fault is told at the tokens that it speaks of, and a number that is too far inside brackets alone.
-use Rattle.std.proofs.Common.{◌≡◌, ◌<◌, ℕ, ℤ, pos, neg_ℤ, List, [], ◌∷◌, ◌++◌, Option, Some, None, Ok, Err, Bool, true, false, refl, sym, ap, ◌∙◌, subst, append_assoc, arith}
+use Rattle.std.proofs.Common.{◌≡◌, ◌<◌, ℕ, ℤ, pos, neg_ℤ, List, [], ◌∷◌, ◌++◌, Option, Some, Ok, Err, Bool, true, false, refl, sym, ap, ◌∙◌, subst, append_assoc, arith}
 use Rattle.std.specs.Prelude.{nat_le, if◌then◌else◌}
 use Rattle.std.proofs.lemmas.Bool.Decides.{nat_tests}
 use Rattle.std.proofs.lemmas.List.{append_cancel_right}
@@ -7,7 +7,6 @@ use Rattle.cell_language.specs.declared.fault.CalcKind.{CalcKind}
 use Rattle.cell_language.specs.declared.fault.CalcKind.TheVariants.{Expected, UnknownFunction, Arguments as BadArguments, BadOffset}
 use Rattle.cell_language.specs.declared.function.Function.{Function}
 use Rattle.cell_language.specs.declared.function.Function.TheVariants.{If}
-use Rattle.cell_language.specs.declared.operator.Operator.{Operator}
 use Rattle.cell_language.specs.declared.token.Placed.{Placed}
 use Rattle.cell_language.specs.declared.token.Sign.TheVariants.{Plus, Minus, OpenParenthesis, CloseParenthesis, OpenBracket, CloseBracket, Comma}
 use Rattle.cell_language.specs.declared.token.Token.{Token}
@@ -146,10 +145,13 @@ fine_move : (name : List ℕ) (c d : ℕ) (us ts : List Placed) → IsSuffix ts 
 fine_move name c d us ts h (Ok x) s f =
     let opened = after_one ts us (sign_at OpenBracket d) (after_one ts (sign_at OpenBracket d ∷ us) (name_at name c) h) in
     (opened.0 ++ s.0, opened.1 ∙ ap (λ l. opened.0 ++ l) s.1 ∙ sym (append_assoc opened.0 s.0 x.1))
-fine_move name c d us ts h (Err e) s f = (f.0, λ k.
-    let b = f.1 k in
-    let inside : List Placed = name_at name c ∷ sign_at OpenBracket d ∷ b.0 in
-    (h.0 ++ inside, h.1 ∙ ap (λ l. h.0 ++ name_at name c ∷ sign_at OpenBracket d ∷ l) b.1 ∙ sym (append_assoc h.0 inside e.1), (h.0, b.0, name, c, d, refl, b.2)))
+fine_move name c d us ts h (Err e) s f = (
+  f.0,
+  λ k.
+      let b = f.1 k in
+      let inside : List Placed = name_at name c ∷ sign_at OpenBracket d ∷ b.0 in
+      (h.0 ++ inside, h.1 ∙ ap (λ l. h.0 ++ name_at name c ∷ sign_at OpenBracket d ∷ l) b.1 ∙ sym (append_assoc h.0 inside e.1), (h.0, b.0, name, c, d, refl, b.2)),
+)
 
 fine_call : (name : List ℕ) (c d : ℕ) (us : List Placed) (f : Function) → function_of name ≡ Some f → (ts : List Placed) (o : Outcome) → IsSound (Called us) o → IsFine ts o
     → IsFine ts (call f (name_at name c ∷ sign_at OpenParenthesis d ∷ us) o)
