@@ -1,5 +1,5 @@
 -- Where reading ends too early, the tokens are no assignment's.
-use Rattle.std.proofs.Common.{◌≡◌, ℕ, List, [], ◌∷◌, ◌++◌, Option, Some, refl, sym, ap, ◌∙◌, subst, append-nil, inl, inr}
+use Rattle.std.proofs.Common.{◌≡◌, ℕ, List, [], ◌∷◌, ◌++◌, Some, refl, sym, ap, ◌∙◌, subst, append-nil, inl, inr}
 use Rattle.std.specs.Prelude.{◌+◌, length, Result, Ok, Err, IfErr, MatchResult}
 use Rattle.cell_language.specs.declared.assignment.Assignment.{Assignment}
 use Rattle.cell_tokens.specs.declared.fault.CalcFault.{CalcFault}
@@ -9,7 +9,6 @@ use Rattle.cell_language.specs.declared.parsing.Stop.{Stop}
 use Rattle.cell_language.specs.declared.parsing.Stop.TheVariants.{Memory, At}
 use Rattle.cell_tokens.specs.declared.token.Placed.{Placed}
 use Rattle.cell_tokens.specs.declared.token.Sign.TheVariants.{Assign}
-use Rattle.cell_tokens.specs.declared.token.Token.{Token}
 use Rattle.cell_tokens.specs.declared.token.Token.TheVariants as token
 use Rattle.cell_language.specs.Assignment.{IsAssignment}
 use Rattle.cell_language.specs.Grammar.{IsExpression}
@@ -20,12 +19,11 @@ use Rattle.cell_language.specs.Term.{Term}
 use Rattle.cell_tokens.specs.Token.{name_at, sign_at, head}
 use Rattle.cell_tokens.specs.Tokens.{token_list}
 use Rattle.cell_language.proofs.Complete.{one_outcome, read_all}
-use Rattle.cell_language.proofs.InBrackets.{far_in_brackets}
 use Rattle.cell_language.proofs.Law.{one}
 use Rattle.cell_language.proofs.Local.{left, with_left, Looks, IsLocal, is_local}
 use Rattle.cell_language.proofs.Sound.{sound_all, front_is}
 use Rattle.cell_language.proofs.Steps.{after_is}
-use Rattle.cell_language.proofs.Told.{ToldAt, told}
+use Rattle.cell_language.proofs.Told.{ToldAt, told, far_in_brackets}
 
 none_without_assign : (s : Placed) (ts : List Placed) → IsNot Assign (head ts) → IsNone (s ∷ ts)
 none_without_assign s ts n = λ a h. n (ap (λ l. head (tail l)) h.3)
@@ -85,7 +83,7 @@ stops end s t ts kind rest r =
       rest,
       ap (λ l. s ∷ t ∷ l) h.1,
       refl,
-      says kind (s ∷ t ∷ h.0) rest (λ l. unexpected s t ts (Stops kind rest) r n l h rest refl) (far_in_brackets s t ts h.0 kind rest r h.1) (told r tt),
+      says kind (s ∷ t ∷ h.0) rest (λ l. unexpected s t ts (Stops kind rest) r n l h rest refl) (far_in_brackets s t ts h.0 kind rest r h.1) (told r),
       none_of_expression s t ts (no_expression ts (Stops kind rest) r n),
     )
 

@@ -6,5 +6,4 @@ pub mod Told
 pub mod Steps
 pub mod Faults
 pub mod Grammatical
-pub mod InBrackets
 pub mod PostfixLemmas

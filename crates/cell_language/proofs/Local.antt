@@ -1,8 +1,9 @@
 -- Reading depends on the tokens read and on the one at the front of the rest.
-use Rattle.std.proofs.Common.{◌≡◌, ℕ, ℤ, pos, neg_ℤ, List, [], ◌∷◌, ◌++◌, Option, Some, None, Ok, Err, Bool, true, false, refl, sym, ap, ◌∙◌, subst, append_assoc}
+use Rattle.std.proofs.Common.{◌≡◌, ℕ, ℤ, pos, neg_ℤ, List, [], ◌∷◌, ◌++◌, Option, Some, Ok, Err, Bool, true, false, refl, sym, ap, ◌∙◌, subst, append_assoc}
 use Rattle.std.specs.Prelude.{nat_le, if◌then◌else◌}
 use Rattle.cell_tokens.specs.declared.fault.CalcKind.TheVariants.{Expected, BadOffset}
 use Rattle.cell_tokens.specs.declared.function.Function.{Function}
+use Rattle.cell_tokens.specs.declared.function.Function.TheVariants.{If}
 use Rattle.cell_tokens.specs.declared.operator.Operator.{Operator}
 use Rattle.cell_tokens.specs.declared.token.Placed.{Placed}
 use Rattle.cell_tokens.specs.declared.token.Sign.{Sign}
@@ -13,7 +14,7 @@ use Rattle.cell_tokens.specs.Function.{function_of, accepts}
 use Rattle.cell_tokens.specs.Operator.{level_of, top}
 use Rattle.cell_language.specs.Reading as reading
 use Rattle.cell_language.specs.Reading.{Part, tail, and_then, distance_at, distance, signed, offset_at, offset, comma_at, bracket_at, to_bracket, Outcome, Got, GotAll, Stops, State, Operand, Whole, More, Expression, Choice, AfterQuestion, Called, Arguments, Onward, goes_on, next, IsNot, IsAlone, BeginsNone, negate, invert, closed, close, join, choose, move, judged, call, add, Reads, nothing, whole, stopped, done, more, expression, unread, unchosen, asked, unasked, no_colon, otherwise, arguments, halted, unended}
-use Rattle.cell_language.specs.Term.{Term, Negated, Not, count}
+use Rattle.cell_language.specs.Term.{Term, Negated, Not, Call, NoTerms, Then, count}
 use Rattle.cell_tokens.specs.Token.{number_at, name_at, sign_at, head}
 use Rattle.cell_language.proofs.Sound.{mapped, front_is}
 
@@ -182,9 +183,13 @@ local_called name c d ts f e (GotAll xs rest) h = go (accepts f (count xs)) refl
     )
     go false a = ([], refl, λ l. absurd (let n : ⊥ = cc in n))
 
-local_unary : (f : Term → Term) (s : Placed) (ts : List Placed) → ((us : List Placed) (o : Outcome) → Reads (Operand us) o → Reads (Operand (s ∷ us)) (mapped f o)) → (o : Outcome) → IsLocal (Operand ts) o → IsLocal (Operand (s ∷ ts)) (mapped f o)
-local_unary f s ts rule (GotAll xs rest) h = (s ∷ h.0, ap (λ l. s ∷ l) h.1, λ l r e. rule (h.0 ++ r) (GotAll xs r) (h.2 tt r e))
-local_unary f s ts rule o h = (s ∷ h.0, ap (λ l. s ∷ l) h.1, λ l r e. rule (h.0 ++ r) (with_left o r) (h.2 l r e))
+-- after the next token
+local_next : (f : List Placed → State) (s : Placed) (ts : List Placed) (o : Outcome) → IsLocalAs (λ us. f (s ∷ us)) ts o → IsLocalAs f (s ∷ ts) o
+local_next f s ts o h = (s ∷ h.0, ap (λ l. s ∷ l) h.1, h.2)
+
+local_mapped : (f : Term → Term) (g h : List Placed → State) (ts : List Placed) → ((us : List Placed) (o : Outcome) → Reads (g us) o → Reads (h us) (mapped f o)) → (o : Outcome) → IsLocalAs g ts o → IsLocalAs h ts (mapped f o)
+local_mapped f g h ts rule (GotAll xs rest) q = (q.0, q.1, λ l r e. rule (q.0 ++ r) (GotAll xs r) (q.2 tt r e))
+local_mapped f g h ts rule o q = (q.0, q.1, λ l r e. rule (q.0 ++ r) (with_left o r) (q.2 l r e))
 
 -- no parenthesis closes
 not_closed : (c : ℕ) (ts : List Placed) (a : Term) (rest : List Placed) (t : Option Token) → head rest ≡ t → ((r : List Placed) → closed t a r ≡ Stops Expected r) → IsLocal (Expression ts) (Got a rest) → IsLocal (Operand (sign_at OpenParenthesis c ∷ ts)) (Stops Expected rest)
@@ -226,10 +231,6 @@ looks_onward : {o p : Outcome} → Reads (Onward o) p → Looks p → Looks o
 looks_onward halted l = l
 looks_onward _ l = tt
 
--- after the next token
-local_next : (f : List Placed → State) (s : Placed) (ts : List Placed) (o : Outcome) → IsLocalAs (λ us. f (s ∷ us)) ts o → IsLocalAs f (s ∷ ts) o
-local_next f s ts o h = (s ∷ h.0, ap (λ l. s ∷ l) h.1, h.2)
-
 -- the second part goes on where the first one ended
 local_both : (f g : List Placed → State) (t : Outcome → State) (ts : List Placed) (o q p : Outcome) → left q ≡ left o → (Looks p → Looks o)
     → ((us vs rest : List Placed) → Reads (f us) (with_left o vs) → Reads (t (with_left q vs)) (with_left p rest) → Reads (g us) (with_left p rest))
@@ -244,21 +245,15 @@ local_both f g t ts o q p same looks rule h m = (
 
 join_left : (op : Operator) (a : Term) (o : Outcome) → left (join op a o) ≡ left o
 join_left op a (Got b rest) = refl
-join_left op a (GotAll xs rest) = refl
-join_left op a (Stops kind rest) = refl
+join_left op a _ = refl
 
 join_with : (op : Operator) (a : Term) (o : Outcome) (r : List Placed) → with_left (join op a o) r ≡ join op a (with_left o r)
 join_with op a (Got b rest) r = refl
-join_with op a (GotAll xs rest) r = refl
-join_with op a (Stops kind rest) r = refl
+join_with op a _ r = refl
 
 join_looks : (op : Operator) (a : Term) (o : Outcome) → Looks (join op a o) → Looks o
 join_looks op a (Stops kind rest) l = l
 join_looks op a _ l = tt
-
-local_otherwise : (c : ℕ) (x a : Term) (ts : List Placed) (o : Outcome) → IsLocal (Expression ts) o → IsLocal (AfterQuestion x (Got a (sign_at Colon c ∷ ts))) (choose x a o)
-local_otherwise c x a ts (GotAll xs rest) h = (sign_at Colon c ∷ h.0, ap (λ l. sign_at Colon c ∷ l) h.1, λ l r e. otherwise (h.2 tt r e))
-local_otherwise c x a ts _ h = (sign_at Colon c ∷ h.0, ap (λ l. sign_at Colon c ∷ l) h.1, λ l r e. otherwise (h.2 l r e))
 
 local_some : (ts : List Placed) (o : Outcome) → IsNot CloseParenthesis (head ts) → IsLocal (Arguments ts) o → IsLocal (Called ts) o
 local_some ts o n h =
@@ -274,8 +269,8 @@ is_local (reading.map {name = name} {c = c} {ts = ts} f) = (name_at name c ∷ [
 is_local (reading.moved {name = name} {c = c} {d = d} {ts = ts}) = local_moved name c d ts (reading.offsets ts) (local_offsets ts)
 is_local (reading.unknown {name = name} {c = c} {d = d} {ts = ts} e) = ([], refl, λ l. absurd (let n : ⊥ = cc in n))
 is_local (reading.called {name = name} {c = c} {d = d} {ts = ts} {o = o} f e r) = local_called name c d ts f e o (is_local r)
-is_local (reading.negated {c = c} {ts = ts} {o = o} r) = local_unary Negated (sign_at Minus c) ts (λ us p q. reading.negated q) o (is_local r)
-is_local (reading.not {c = c} {ts = ts} {o = o} r) = local_unary Not (sign_at Exclamation c) ts (λ us p q. reading.not q) o (is_local r)
+is_local (reading.negated {c = c} {ts = ts} {o = o} r) = local_next Operand (sign_at Minus c) ts (negate o) (local_mapped Negated Operand (λ us. Operand (sign_at Minus c ∷ us)) ts (λ us p q. reading.negated q) o (is_local r))
+is_local (reading.not {c = c} {ts = ts} {o = o} r) = local_next Operand (sign_at Exclamation c) ts (invert o) (local_mapped Not Operand (λ us. Operand (sign_at Exclamation c ∷ us)) ts (λ us p q. reading.not q) o (is_local r))
 is_local (reading.inside {c = c} {ts = ts} {o = o} r) = local_inside c ts o (is_local r)
 is_local (nothing {ts = ts} b) = ([], refl, λ l r e. nothing (subst BeginsNone e b))
 is_local (whole {k = k} {ts = ts} {o = o} {p = p} r m) = local_both Operand (Whole k) (More k) ts o o p refl (looks_more m) (λ us vs t q n. whole q n) (is_local r) (is_local m)
@@ -293,7 +288,9 @@ is_local (asked {c = c} {x = x} {ts = ts} {o = o} {p = p} r m) =
     (local_both Expression (λ us. Choice (Got x (sign_at Question c ∷ us))) (AfterQuestion x) ts o o p refl (looks_after m) (λ us vs t q n. asked q n) (is_local r) (is_local m))
 is_local unasked = ([], refl, λ l r e. unasked)
 is_local (no_colon {x = x} {a = a} {ts = ts} n) = ([], refl, λ l r e. no_colon (subst (IsNot Colon) e n))
-is_local (otherwise {c = c} {x = x} {a = a} {ts = ts} {o = o} r) = local_otherwise c x a ts o (is_local r)
+is_local (otherwise {c = c} {x = x} {a = a} {ts = ts} {o = o} r) =
+    local_next (λ us. AfterQuestion x (Got a us)) (sign_at Colon c) ts (choose x a o)
+    (local_mapped (λ b. Call If (Then x (Then a (Then b NoTerms)))) Expression (λ us. AfterQuestion x (Got a (sign_at Colon c ∷ us))) ts (λ us p q. otherwise q) o (is_local r))
 is_local (reading.none {c = c} {ts = ts}) = (sign_at CloseParenthesis c ∷ [], refl, λ l r e. reading.none)
 is_local (reading.some {ts = ts} {o = o} n r) = local_some ts o n (is_local r)
 is_local (arguments {ts = ts} {o = o} {p = p} r m) = local_both Expression Arguments Onward ts o o p refl (looks_onward m) (λ us vs t q n. arguments q n) (is_local r) (is_local m)

@@ -92,7 +92,7 @@ impl<'a> Reader<'a> {
         push(&mut self.frames, Frame::Level(TOP_LEVEL))?;
         Ok(Turn::Operand(tokens))
     }
-    // A step ends what is being read.
+    // What is being read ends with the step.
     fn end(&mut self, step: Step, tokens: &'a [Placed]) -> Result<Turn<'a>, Stop<'a>>
         ensures goes { (s : State) → IsRead s (waiting self.old) (self.old.steps.items ++ step ∷ []) tokens.now → Goes s self.new result }
         ensures weight { IfOk result (λ turn. 4 * length (tokens_of turn) + vec_len self.new.frames ≤ 4 * length tokens.now + vec_len self.old.frames) }
@@ -201,21 +201,18 @@ impl<'a> Reader<'a> {
                 }
             }
             None => {
-                let from = tokens;
-                push(
-                    &mut self.frames,
-                    Frame::Call {
-                        function,
-                        from,
-                        count: 0,
-                    },
-                )?;
+                let waits = Frame::Call {
+                    function,
+                    from: tokens,
+                    count: 0,
+                };
+                push(&mut self.frames, waits)?;
                 self.enter(inside)
             }
         }
     }
 
-    // What waited longest for what has been read goes on.
+    // The frame that waited for what has been read goes on.
     fn resume(&mut self, frame: Frame<'a>, tokens: &'a [Placed]) -> Result<Turn<'a>, Stop<'a>>
         ensures goes { (s : State) → IsRead s (frame.entry ∷ waiting self.old) self.old.steps.items tokens.now → Goes s self.new result }
         ensures weight { IfOk result (λ turn. 4 * length (tokens_of turn) + vec_len self.new.frames ≤ 4 * length tokens.now + vec_len self.old.frames) }

@@ -1,5 +1,5 @@
 -- What waits for an operand, while an expression is read.
-use Rattle.std.specs.Prelude.{◌≡◌, ℕ, List, [], ◌∷◌, ◌++◌, reverse, Result, Ok, Err}
+use Rattle.std.specs.Prelude.{◌≡◌, List, [], ◌∷◌, ◌++◌, reverse, Result, Ok, Err}
 use Rattle.cell_language.specs.declared.parsing.Stop.{Stop}
 use Rattle.cell_language.specs.declared.reader.Frame.{Frame}
 use Rattle.cell_language.specs.declared.reader.Frame.TheVariants as frame
