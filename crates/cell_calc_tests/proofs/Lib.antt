@@ -2,3 +2,4 @@
 pub mod Fit
 pub mod Lists
 pub mod Sets
+pub mod Steps
