@@ -1,4 +1,5 @@
 -- What several proofs share.
-pub mod Wide
 pub mod Lists
 pub mod Reaches
+pub mod Steps
+pub mod Wide

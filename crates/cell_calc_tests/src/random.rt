@@ -110,7 +110,7 @@ fn expect_cells<R: Abort + AllocGlobal>(
     let region = shelf.region();
     for row in 0..region.rows() {
         for col in 0..region.cols() {
-            let wanted = value(rt.alloc(), expr.tree(), names, shelf, row, col);
+            let wanted = value(rt.alloc(), expr, names, shelf, row, col);
             let wanted = wanted.map_err(|_| "no memory")?;
             assert_eq!(rt; at(map, row, col), number_of(wanted), "{text} {row} {col}");
         }

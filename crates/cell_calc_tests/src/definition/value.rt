@@ -4,10 +4,9 @@ ghost use Rattle.std.specs.Prelude.{◌≡◌, ◌<◌, None, length, slice_get,
 ghost use Rattle.std.specs.Option.{unwrap_or};
 ghost use Rattle.cell_core.specs.Grid.{row_at};
 ghost use Rattle.cell_base.specs.Name.{place_of};
-ghost use Rattle.cell_calc.specs.Binding.{placed, placed_all};
-ghost use Rattle.cell_calc.specs.Value.{item_at, row_of, cell_in, spot, called, value, values};
-ghost use Rattle.cell_language.specs.Grammatical.{IsGrammatical, AreGrammatical};
-ghost use Rattle.cell_language.specs.Tree.{term_of, terms_of};
+ghost use Rattle.cell_calc.specs.Binding.{placed};
+ghost use Rattle.cell_calc.specs.Value.{item_at, row_of, cell_in, spot, called, value};
+ghost use Rattle.cell_calc_tests.specs.Steps.{arity, step_value, IsProperStep};
 
 use crate::definition::{cells, lists};
 use cell_core::cell::Cell;
@@ -16,8 +15,9 @@ use cell_core::memory::Memory;
 use cell_core::name::{Name, Names};
 use cell_core::region::Region;
 use cell_core::shelf::Shelf;
+use cell_language::expr::Expr;
 use cell_language::function::Function;
-use cell_language::tree::{Arguments, Tree};
+use cell_language::step::Step;
 use std::alloc::Global;
 
 fn item_at(cells: &[Cell], i: i64) -> Cell
@@ -115,28 +115,38 @@ fn called(
     }
 }
 
-/// The value of an expression over a shelf's maps, which have these names, at a row and a column from 0.
-///
-/// # Errors
-///
-/// [`Memory`] where memory was refused.
-#[cycle(value)]
-pub(crate) fn value(
+// How many operands a step takes.
+fn arity(step: &Step) -> usize
+    ensures { result ≡ arity step.now }
+{
+    match step {
+        Step::Number(_) => 0,
+        Step::Map { .. } => 0,
+        Step::Negated => 1,
+        Step::Not => 1,
+        Step::Binary(_) => 2,
+        Step::Call(_, count) => *count,
+    }
+}
+
+// The value of a step, of those of its operands.
+fn step_value(
     alloc: Global,
-    tree: &Tree,
+    step: &Step,
     names: &Names,
     shelf: &Shelf,
     row: u32,
     col: u32,
+    operands: &[Cell],
 ) -> Result<Cell, Memory>
-    requires grammatical { IsGrammatical (term_of tree.now) }
+    requires step { IsProperStep step.now }
     requires row { row < shelf.now.region.rows }
     requires col { col < shelf.now.region.cols }
-    ensures { IfOk result (λ v. v ≡ value (placed names.now (term_of tree.now)) shelf.now.maps (spot shelf.now.region row col)) }
+    ensures { IfOk result (λ v. v ≡ step_value names.now shelf.now.maps (spot shelf.now.region row col) step.now operands.now) }
 {
-    match tree {
-        Tree::Number(n) => Ok(cells::number(*n)),
-        Tree::Map {
+    match step {
+        Step::Number(n) => Ok(cells::number(*n)),
+        Step::Map {
             name,
             down,
             right,
@@ -148,49 +158,42 @@ pub(crate) fn value(
             row as i64 + *down as i64,
             col as i64 + *right as i64,
         ),
-        Tree::Negated(a) => Ok(cells::negated(value(alloc, a, names, shelf, row, col)?)),
-        Tree::Not(a) => Ok(cells::inverted(value(alloc, a, names, shelf, row, col)?)),
-        Tree::Binary(operator, a, b) => {
-            let a = value(alloc, a, names, shelf, row, col)?;
-            let b = value(alloc, b, names, shelf, row, col)?;
+        Step::Negated => Ok(cells::negated(item_at(operands, 0))),
+        Step::Not => Ok(cells::inverted(item_at(operands, 0))),
+        Step::Binary(operator) => {
+            let a = item_at(operands, 0);
+            let b = item_at(operands, 1);
             Ok(cells::applied(*operator, a, b))
         }
-        Tree::Call(function, xs) => {
-            let arguments = values(alloc, xs, names, shelf, row, col)?;
-            called(
-                alloc,
-                *function,
-                shelf.region(),
-                row,
-                col,
-                arguments.as_slice(),
-            )
-        }
+        Step::Call(function, _) => called(alloc, *function, shelf.region(), row, col, operands),
     }
 }
 
-// Those of arguments, in order.
-#[cycle(value)]
-fn values(
+/// The value of an expression over a shelf's maps, which have these names, at a row and a column from 0.
+///
+/// # Errors
+///
+/// [`Memory`] where memory was refused.
+pub(crate) fn value(
     alloc: Global,
-    arguments: &Arguments,
+    expr: &Expr,
     names: &Names,
     shelf: &Shelf,
     row: u32,
     col: u32,
-) -> Result<Vec<Cell>, Memory>
-    requires grammatical { AreGrammatical (terms_of arguments.now) }
+) -> Result<Cell, Memory>
     requires row { row < shelf.now.region.rows }
     requires col { col < shelf.now.region.cols }
-    ensures { IfOk result (λ found. found.items ≡ values (placed_all names.now (terms_of arguments.now)) shelf.now.maps (spot shelf.now.region row col)) }
+    ensures { IfOk result (λ v. v ≡ value (placed names.now expr.now) shelf.now.maps (spot shelf.now.region row col)) }
 {
-    match arguments {
-        Arguments::Empty => Ok(Vec::new(alloc)),
-        Arguments::Then(a, others) => {
-            let first = value(alloc, a, names, shelf, row, col)?;
-            let mut found = values(alloc, others, names, shelf, row, col)?;
-            found.insert(0, first)?;
-            Ok(found)
-        }
+    let steps = expr.steps();
+    let mut operands = Vec::new(alloc);
+    for step in steps {
+        let first = operands.len().saturating_sub(arity(step));
+        let taken = &operands.as_slice()[first..];
+        let found = step_value(alloc, step, names, shelf, row, col, taken)?;
+        operands.truncate(first);
+        operands.push(found)?;
     }
+    Ok(item_at(operands.as_slice(), 0))
 }

@@ -1,0 +1,2 @@
+-- What the slow program of values cites of steps.
+pub mod Steps
