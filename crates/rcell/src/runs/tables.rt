@@ -39,75 +39,6 @@ fn after_of<'a>(options: &'a StatsOptions) -> Option<&'a Combo>
     }
 }
 
-// Writes the table of the maps at the places, or its rest.
-fn put_table<W: Sink>(
-    alloc: Global,
-    shelf: &Shelf,
-    places: &[usize],
-    options: &StatsOptions,
-    line: u64,
-    block: &mut Block,
-    out: &mut W,
-) -> Result<(), Stopped>
-    requires within { All (λ place. place < length shelf.now.maps) places.now }
-    requires some { 1 ≤ length places.now }
-    requires most { length places.now ≤ 16 }
-    requires width { IfSome options.now.after (λ k. length k ≡ length places.now) }
-    requires table { options.now.cells ≡ false }
-    requires held { block.old.held ≡ [] }
-    ensures ok { OnOk result (Puts (W.taken out.old) block.old (stats_text shelf.now places.now options.now) (W.taken out.new) block.new) }
-    ensures held { OnOk result (block.new.held ≡ []) }
-    ensures err { IfErr result (λ s. IsStopped line (stats_text shelf.now places.now options.now) (W.taken out.old) block.old (W.taken out.new) s.written s.stop) }
-    ensures failed { W.failed out.new ≡ (W.failed out.old || stops_write result) }
-{
-    let Ok(table) = tally(alloc, shelf, places, options.skip) else {
-        return Err(out_of_memory(line, block.written()));
-    };
-    let format = format_of(options);
-    let after = after_of(options);
-    match write_table(out, block, &table, after, shelf, places, &format) {
-        Ok(()) => {}
-        Err(fault) => return Err(stopped_by(fault)),
-    }
-    match block.empty(out) {
-        Ok(()) => Ok(()),
-        Err(fault) => Err(stopped_by(fault)),
-    }
-}
-
-// Writes a line for each cell of the maps at the places.
-fn put_cells<W: Sink>(
-    alloc: Global,
-    shelf: &Shelf,
-    places: &[usize],
-    options: &StatsOptions,
-    line: u64,
-    block: &mut Block,
-    out: &mut W,
-) -> Result<(), Stopped>
-    requires within { All (λ place. place < length shelf.now.maps) places.now }
-    requires some { 1 ≤ length places.now }
-    requires cells { options.now.cells ≡ true }
-    requires held { block.old.held ≡ [] }
-    ensures ok { OnOk result (Puts (W.taken out.old) block.old (stats_text shelf.now places.now options.now) (W.taken out.new) block.new) }
-    ensures held { OnOk result (block.new.held ≡ []) }
-    ensures err { IfErr result (λ s. IsStopped line (stats_text shelf.now places.now options.now) (W.taken out.old) block.old (W.taken out.new) s.written s.stop) }
-    ensures failed { W.failed out.new ≡ (W.failed out.old || stops_write result) }
-{
-    let Ok(walk) = CellWalk::new(alloc, shelf, places) else {
-        return Err(out_of_memory(line, block.written()));
-    };
-    let format = format_of(options);
-    match write_cells(out, block, walk, shelf, places, options.skip, &format) {
-        Ok(()) => {}
-        Err(fault) => return Err(stopped_by(fault)),
-    }
-    match block.empty(out) {
-        Ok(()) => Ok(()),
-        Err(fault) => Err(stopped_by(fault)),
-    }
-}
-
 /// Writes what r.stats asks for. All that it needs of memory it has before its first byte.
 ///
 /// # Errors
@@ -132,9 +63,25 @@ pub fn put_stats<W: Sink>(
     ensures err { IfErr result (λ s. IsStopped line (stats_text shelf.now places.now options.now) (W.taken out.old) block.old (W.taken out.new) s.written s.stop) }
     ensures failed { W.failed out.new ≡ (W.failed out.old || stops_write result) }
 {
-    if options.cells {
-        put_cells(alloc, shelf, places, options, line, block, out)
+    let format = format_of(options);
+    let written = if options.cells {
+        let Ok(walk) = CellWalk::new(alloc, shelf, places) else {
+            return Err(out_of_memory(line, block.written()));
+        };
+        write_cells(out, block, walk, shelf, places, options.skip, &format)
     } else {
-        put_table(alloc, shelf, places, options, line, block, out)
+        let Ok(table) = tally(alloc, shelf, places, options.skip) else {
+            return Err(out_of_memory(line, block.written()));
+        };
+        let after = after_of(options);
+        write_table(out, block, &table, after, shelf, places, &format)
+    };
+    match written {
+        Ok(()) => {}
+        Err(fault) => return Err(stopped_by(fault)),
+    }
+    match block.empty(out) {
+        Ok(()) => Ok(()),
+        Err(fault) => Err(stopped_by(fault)),
     }
 }
