@@ -1,5 +1,5 @@
 use Rattle.std.proofs.Common.{◌++◌, sym, ap, ◌∙◌}
-use Rattle.cell_core.specs.Blocks.{Gathers, CutsOff}
+use Rattle.cell_devices.specs.Blocks.{Gathers, CutsOff}
 use Rattle.rcell.specs.Output.{stats_text}
 use Rattle.rcell.specs.parts.Steps.{PutsCut}
 use Rattle.rcell.specs.declared.runs.execution.Stopped.{Stopped}
