@@ -188,6 +188,12 @@ def rules_and_categories(count: int):
     return of_script([b"r.reclass input=g output=r"], many, [b"end", b"r.stats -c input=r"], in_rows(count, lambda at: at))
 
 
+def ranges_in_ranges(count: int):
+    """Each range lies in the one before; then the other way round."""
+    inward = [b"%d thru %d=%d" % (at, 2 * count - at, at % 9) for at in range(count // 2)]
+    return of_script([b"r.reclass input=g output=r"], inward + inward[::-1], [b"end", b"r.stats -c input=r"], in_rows(count, lambda at: at))
+
+
 def ranges_of_a_rule(count: int):
     line = b" ".join(b"%d" % at for at in range(min(count, 11000))) + b"=1"
     made, words, _ = of_script([b"r.reclass input=g output=r", line], [], [b"end"], in_rows(1000, lambda at: at))
@@ -212,12 +218,9 @@ def combinations(count: int):
     return of_grid(in_rows(count, lambda at: at * 7919 % 1000003), script, count)
 
 
-# A product of two kinds, whose times are shown and not judged.
-PRODUCTS = ("rules and categories",)
-
 KINDS: dict[str, Kind] = {kind.__name__.replace("_", " "): kind for kind in (
-    grids, statements, names, names_in_a_chain, rules, rules_and_categories, ranges_of_a_rule, labels, categories, areas,
-    combinations)}
+    grids, statements, names, names_in_a_chain, rules, rules_and_categories, ranges_in_ranges, ranges_of_a_rule, labels, categories,
+    areas, combinations)}
 
 
 def time_of(program: Program, shim: str, kind: Kind, size: int) -> tuple[int, Spent]:
@@ -241,8 +244,7 @@ def growing(report: Report, program: Program, shim: str) -> None:
         print(f"{name:24} {cells[0]:>18} {cells[1]:>18} {cells[2]:>18}", flush=True)
         bad = [f"status {one.status}, {one.told!r}" for _, one in times if one.status not in (0, OUT_OF_TIME)]
         report.runs += len(times)
-        if name not in PRODUCTS:
-            report.check(f"times of {name}", bad[0] if bad else "more than linear" if is_steep(times) else "")
+        report.check(f"times of {name}", bad[0] if bad else "more than linear" if is_steep(times) else "")
 
 
 # The greatest inputs

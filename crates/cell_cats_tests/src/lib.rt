@@ -1,6 +1,8 @@
-//! Tests of the rules of r.reclass: each form of a line, and worked maps.
+//! Tests of the rules of r.reclass: each form of a line, worked maps, and maps by random rules.
 #![tactic(auto)]
 
+#[cfg(test)]
+mod compared;
 #[cfg(test)]
 mod growths;
 #[cfg(test)]

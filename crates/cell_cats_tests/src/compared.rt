@@ -1,0 +1,120 @@
+//! Maps by random rules beside a plain look at every rule: ranges in either order that overlap, rules of `*` in any place,
+//! the least and the greatest category.
+
+use cell_cats::reclassing::reclass;
+use cell_cats::rules::Rules;
+use cell_core::cell::Cell;
+use cell_test_maps::maps::{NULL, categories_of, map_of};
+use std::alloc::{AllocGlobal, Global};
+use std::process::Abort;
+use std::test::Fail;
+
+// The ends of the ranges, and the cells of the map.
+const NUMBERS: [i32; 16] = [
+    -2147483647,
+    -2147483646,
+    -2147483645,
+    -3,
+    -2,
+    -1,
+    0,
+    1,
+    2,
+    3,
+    7,
+    8,
+    2147483645,
+    2147483646,
+    2147483647,
+    NULL,
+];
+
+// A rule has fewer items.
+const ITEMS: usize = 5;
+
+const MOST_RULES: u32 = 12;
+
+const ROUNDS: u32 = 600;
+
+// The next number of a sequence that looks like chance (Knuth's multiplier).
+fn next_random(seed: &mut u64, count: usize) -> usize {
+    *seed = seed
+        .wrapping_mul(6364136223846793005)
+        .wrapping_add(1442695040888963407);
+    (*seed >> 33) as usize % count.max(1)
+}
+
+// One of the numbers that are categories.
+fn one_category(seed: &mut u64) -> i32 {
+    match NUMBERS.get(next_random(seed, NUMBERS.len() - 1)) {
+        Some(number) => *number,
+        None => 0,
+    }
+}
+
+fn items(alloc: Global, seed: &mut u64) -> Result<String, Fail> {
+    let mut text = String::new(alloc);
+    for _ in 0..next_random(seed, ITEMS).max(1) {
+        let first = one_category(seed);
+        let last = one_category(seed);
+        let item = match next_random(seed, 3) {
+            0 => format!(in alloc; "{first} ")?,
+            _ => format!(in alloc; "{first} thru {last} ")?,
+        };
+        text.push_str(item.as_str())?;
+    }
+    Ok(text)
+}
+
+// The line of a rule, whose output tells it from most others.
+fn rule(alloc: Global, seed: &mut u64) -> Result<String, Fail> {
+    let output = next_random(seed, 100000);
+    let line = match next_random(seed, 10) {
+        0 => format!(in alloc; "* = *")?,
+        1 => format!(in alloc; "* = {output}")?,
+        2 => {
+            let items = items(alloc, seed)?;
+            format!(in alloc; "{items}= NULL")?
+        }
+        _ => {
+            let items = items(alloc, seed)?;
+            format!(in alloc; "{items}= {output}")?
+        }
+    };
+    Ok(line)
+}
+
+fn plainly(rules: &Rules, category: i32) -> i32 {
+    let cell = Cell::value(category).unwrap_or(Cell::null());
+    rules.apply(cell).get().unwrap_or(NULL)
+}
+
+// The map by the rules has at each cell what a look at every rule gives.
+fn expect_as_plainly<R: Abort + AllocGlobal>(rt: &R, rules: &Rules) -> Result<(), Fail> {
+    let alloc = rt.alloc();
+    let map = map_of(alloc, &NUMBERS, 4)?.ok_or("no map")?;
+    let made = reclass(alloc, &map, rules)?;
+    let mut wanted = Vec::new(alloc);
+    for number in &NUMBERS {
+        wanted.push(plainly(rules, *number))?;
+    }
+    assert_eq!(rt; categories_of(alloc, &made)?.as_slice(), wanted.as_slice());
+    Ok(())
+}
+
+#[test]
+fn random_rules(rt: HostRuntime) -> Result<(), Fail> {
+    let mut seed = 2026u64;
+    for _ in 0..ROUNDS {
+        let mut rules = Rules::new(rt.alloc());
+        for _ in 0..RULES {
+            let line = rule(rt.alloc(), &mut seed)?;
+            assert!(rt;
+                rules.add_line(line.as_bytes()).is_ok(),
+                "the line {line:?}"
+            );
+            expect_as_plainly(&rt, &rules)?;
+        }
+    }
+    Ok(())
+}
