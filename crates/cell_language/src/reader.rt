@@ -9,7 +9,7 @@ ghost use Rattle.cell_language.specs.Reading.{State, Operand, Expression, Got, R
 ghost use Rattle.cell_language.specs.Stopping.{StopsAt, IsAfter, IsCallOf};
 ghost use Rattle.cell_tokens.specs.Token.{head, name_at};
 ghost use Rattle.cell_language.specs.parts.Built.{built};
-ghost use Rattle.cell_language.specs.parts.Waiting.{Awaits, IsRead, Goes, waiting, latest_first, tokens_of};
+ghost use Rattle.cell_language.specs.parts.Waiting.{IsAwaited, IsResumed, IsRead, Goes, waiting, latest_first, tokens_of, work};
 
 use cell_tokens::fault::CalcKind;
 use cell_tokens::function::{Function, accepts, function_of};
@@ -85,25 +85,26 @@ fn put<'a>(steps: &mut Vec<Step>, step: Step) -> Result<(), Stop<'a>>
 impl<'a> Reader<'a> {
     // An expression begins.
     fn enter(&mut self, tokens: &'a [Placed]) -> Result<Turn<'a>, Stop<'a>>
-        ensures goes { (s : State) → Awaits s (waiting self.old) self.old.steps.items (Expression tokens.now) → Goes s self.new result }
-        ensures weight { IfOk result (λ turn. 4 * length (tokens_of turn) + vec_len self.new.frames ≤ 4 * length tokens.now + vec_len self.old.frames + 2) }
+        ensures goes { (s : State) → IsAwaited s self.old (Expression tokens.now) → Goes s self.new result }
+        ensures lighter { IfOk result (λ turn. work (tokens_of turn) self.new ≤ work tokens.now self.old + 2) }
     {
         push(&mut self.frames, Frame::Choice)?;
         push(&mut self.frames, Frame::Level(TOP_LEVEL))?;
         Ok(Turn::Operand(tokens))
     }
+
     // What is being read ends with the step.
     fn end(&mut self, step: Step, tokens: &'a [Placed]) -> Result<Turn<'a>, Stop<'a>>
         ensures goes { (s : State) → IsRead s (waiting self.old) (self.old.steps.items ++ step ∷ []) tokens.now → Goes s self.new result }
-        ensures weight { IfOk result (λ turn. 4 * length (tokens_of turn) + vec_len self.new.frames ≤ 4 * length tokens.now + vec_len self.old.frames) }
+        ensures lighter { IfOk result (λ turn. work (tokens_of turn) self.new ≤ work tokens.now self.old) }
     {
         put(&mut self.steps, step)?;
         Ok(Turn::After(tokens))
     }
 
     fn operand(&mut self, alloc: Global, tokens: &'a [Placed]) -> Result<Turn<'a>, Stop<'a>>
-        ensures goes { (s : State) → Awaits s (waiting self.old) self.old.steps.items (Operand tokens.now) → Goes s self.new result }
-        ensures weight { IfOk result (λ turn. 4 * length (tokens_of turn) + vec_len self.new.frames < 4 * length tokens.now + vec_len self.old.frames) }
+        ensures goes { (s : State) → IsAwaited s self.old (Operand tokens.now) → Goes s self.new result }
+        ensures lighter { IfOk result (λ turn. work (tokens_of turn) self.new < work tokens.now self.old) }
     {
         let Some((placed, rest)) = first(tokens) else {
             return Err(Stop::At(CalcKind::Expected, tokens));
@@ -126,8 +127,8 @@ impl<'a> Reader<'a> {
         rest: &'a [Placed],
     ) -> Result<Turn<'a>, Stop<'a>>
         requires { IsAfter sign tokens.now rest.now }
-        ensures goes { (s : State) → Awaits s (waiting self.old) self.old.steps.items (Operand tokens.now) → Goes s self.new result }
-        ensures weight { IfOk result (λ turn. 4 * length (tokens_of turn) + vec_len self.new.frames ≤ 4 * length rest.now + vec_len self.old.frames + 3) }
+        ensures goes { (s : State) → IsAwaited s self.old (Operand tokens.now) → Goes s self.new result }
+        ensures lighter { IfOk result (λ turn. work (tokens_of turn) self.new ≤ work rest.now self.old + 3) }
     {
         match sign {
             Sign::Minus => {
@@ -155,8 +156,8 @@ impl<'a> Reader<'a> {
         tokens: &'a [Placed],
     ) -> Result<Turn<'a>, Stop<'a>>
         requires { IsNot OpenParenthesis (head tokens.now) }
-        ensures goes { (s : State) → Awaits s (waiting self.old) self.old.steps.items (Operand (name_at name.now column ∷ tokens.now)) → Goes s self.new result }
-        ensures weight { IfOk result (λ turn. 4 * length (tokens_of turn) + vec_len self.new.frames ≤ 4 * length tokens.now + vec_len self.old.frames) }
+        ensures goes { (s : State) → IsAwaited s self.old (Operand (name_at name.now column ∷ tokens.now)) → Goes s self.new result }
+        ensures lighter { IfOk result (λ turn. work (tokens_of turn) self.new ≤ work tokens.now self.old) }
     {
         let name = copied(alloc, name)?;
         let Some(after) = after_sign(Sign::OpenBracket, tokens) else {
@@ -186,8 +187,8 @@ impl<'a> Reader<'a> {
         inside: &'a [Placed],
     ) -> Result<Turn<'a>, Stop<'a>>
         requires { IsCallOf name.now tokens.now inside.now }
-        ensures goes { (s : State) → Awaits s (waiting self.old) self.old.steps.items (Operand tokens.now) → Goes s self.new result }
-        ensures weight { IfOk result (λ turn. 4 * length (tokens_of turn) + vec_len self.new.frames ≤ 4 * length inside.now + vec_len self.old.frames + 3) }
+        ensures goes { (s : State) → IsAwaited s self.old (Operand tokens.now) → Goes s self.new result }
+        ensures lighter { IfOk result (λ turn. work (tokens_of turn) self.new ≤ work inside.now self.old + 3) }
     {
         let Some(function) = function_of(name.bytes()) else {
             return Err(Stop::At(CalcKind::UnknownFunction, tokens));
@@ -214,8 +215,8 @@ impl<'a> Reader<'a> {
 
     // The frame that waited for what has been read goes on.
     fn resume(&mut self, frame: Frame<'a>, tokens: &'a [Placed]) -> Result<Turn<'a>, Stop<'a>>
-        ensures goes { (s : State) → IsRead s (frame.entry ∷ waiting self.old) self.old.steps.items tokens.now → Goes s self.new result }
-        ensures weight { IfOk result (λ turn. 4 * length (tokens_of turn) + vec_len self.new.frames ≤ 4 * length tokens.now + vec_len self.old.frames) }
+        ensures goes { (s : State) → IsResumed s self.old frame.entry tokens.now → Goes s self.new result }
+        ensures lighter { IfOk result (λ turn. work (tokens_of turn) self.new ≤ work tokens.now self.old) }
     {
         match frame {
             Frame::Negated => self.end(Step::Negated, tokens),
@@ -242,8 +243,8 @@ impl<'a> Reader<'a> {
 
     // After an expression of the level, which an operator may join to another.
     fn level(&mut self, level: u32, tokens: &'a [Placed]) -> Result<Turn<'a>, Stop<'a>>
-        ensures goes { (s : State) → IsRead s (frame.Level level ∷ waiting self.old) self.old.steps.items tokens.now → Goes s self.new result }
-        ensures weight { IfOk result (λ turn. 4 * length (tokens_of turn) + vec_len self.new.frames ≤ 4 * length tokens.now + vec_len self.old.frames) }
+        ensures goes { (s : State) → IsResumed s self.old (frame.Level level) tokens.now → Goes s self.new result }
+        ensures lighter { IfOk result (λ turn. work (tokens_of turn) self.new ≤ work tokens.now self.old) }
     {
         let Some((operator, rest)) = next(level, tokens) else {
             return Ok(Turn::After(tokens));
@@ -255,8 +256,8 @@ impl<'a> Reader<'a> {
 
     // After a condition, or an expression that is none.
     fn choice(&mut self, tokens: &'a [Placed]) -> Result<Turn<'a>, Stop<'a>>
-        ensures goes { (s : State) → IsRead s (frame.Choice ∷ waiting self.old) self.old.steps.items tokens.now → Goes s self.new result }
-        ensures weight { IfOk result (λ turn. 4 * length (tokens_of turn) + vec_len self.new.frames ≤ 4 * length tokens.now + vec_len self.old.frames) }
+        ensures goes { (s : State) → IsResumed s self.old frame.Choice tokens.now → Goes s self.new result }
+        ensures lighter { IfOk result (λ turn. work (tokens_of turn) self.new ≤ work tokens.now self.old) }
     {
         let Some(rest) = after_sign(Sign::Question, tokens) else {
             return Ok(Turn::After(tokens));
@@ -267,8 +268,8 @@ impl<'a> Reader<'a> {
 
     // After what is chosen where the condition holds.
     fn otherwise(&mut self, tokens: &'a [Placed]) -> Result<Turn<'a>, Stop<'a>>
-        ensures goes { (s : State) → IsRead s (frame.AfterQuestion ∷ waiting self.old) self.old.steps.items tokens.now → Goes s self.new result }
-        ensures weight { IfOk result (λ turn. 4 * length (tokens_of turn) + vec_len self.new.frames ≤ 4 * length tokens.now + vec_len self.old.frames) }
+        ensures goes { (s : State) → IsResumed s self.old frame.AfterQuestion tokens.now → Goes s self.new result }
+        ensures lighter { IfOk result (λ turn. work (tokens_of turn) self.new ≤ work tokens.now self.old) }
     {
         let Some(rest) = after_sign(Sign::Colon, tokens) else {
             return Err(Stop::At(CalcKind::Expected, tokens));
@@ -285,8 +286,8 @@ impl<'a> Reader<'a> {
         before: usize,
         tokens: &'a [Placed],
     ) -> Result<Turn<'a>, Stop<'a>>
-        ensures goes { (s : State) → IsRead s (frame.Call function from.entry before ∷ waiting self.old) self.old.steps.items tokens.now → Goes s self.new result }
-        ensures weight { IfOk result (λ turn. 4 * length (tokens_of turn) + vec_len self.new.frames ≤ 4 * length tokens.now + vec_len self.old.frames) }
+        ensures goes { (s : State) → IsResumed s self.old (frame.Call function from.entry before) tokens.now → Goes s self.new result }
+        ensures lighter { IfOk result (λ turn. work (tokens_of turn) self.new ≤ work tokens.now self.old) }
     {
         // Each argument took a step, so that memory ends before the count does.
         let Some(count) = before.checked_add(1) else {

@@ -1,5 +1,5 @@
 -- What waits for an operand, while an expression is read.
-use Rattle.std.specs.Prelude.{◌≡◌, List, [], ◌∷◌, ◌++◌, reverse, Result, Ok, Err}
+use Rattle.std.specs.Prelude.{◌≡◌, ℕ, List, [], ◌∷◌, ◌++◌, reverse, length, vec_len, ◌+◌, ◌*◌, Result, Ok, Err}
 use Rattle.cell_language.specs.declared.parsing.Stop.{Stop}
 use Rattle.cell_language.specs.declared.reader.Frame.{Frame}
 use Rattle.cell_language.specs.declared.reader.Frame.TheVariants as frame
@@ -51,9 +51,17 @@ latest_first fs = reverse fs
 abbrev pub waiting : Reader → List Frame
 waiting r = latest_first r.frames.items
 
+-- what has been read so far awaits what is read of the second state: with it the first is read
+abbrev pub IsAwaited : State → Reader → State → Type 0
+IsAwaited s r t = Awaits s (waiting r) r.steps.items t
+
+-- the frame, and then the others, wait for what has been read
+abbrev pub IsResumed : State → Reader → Frame → List Placed → Type 0
+IsResumed s r f rest = IsRead s (f ∷ waiting r) r.steps.items rest
+
 -- the state is read, with what the turn says
 abbrev pub IsTurn : State → Reader → Turn → Type 0
-IsTurn s r (turn.Operand ts) = Awaits s (waiting r) r.steps.items (Operand ts.now)
+IsTurn s r (turn.Operand ts) = IsAwaited s r (Operand ts.now)
 IsTurn s r (turn.After ts) = IsRead s (waiting r) r.steps.items ts.now
 
 -- the state is read, with what the turn says, or reading stops
@@ -65,3 +73,7 @@ Goes s r (Err e) = StopsAt s e
 abbrev pub tokens_of : Turn → List Placed
 tokens_of (turn.Operand ts) = ts.now
 tokens_of (turn.After ts) = ts.now
+
+-- the work that is left: a token makes four frames at most
+abbrev pub work : List Placed → Reader → ℕ
+work ts r = 4 * length ts + vec_len r.frames
