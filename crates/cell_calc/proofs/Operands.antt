@@ -24,15 +24,6 @@ back_is old new ys n is count =
     let e : length (new ++ ys) - n ≡ length new = omega (arith, length-append new ys) in
     rw (is, e) (sym (drop-append_seam new ys))
 
--- two that were taken one after another, and three
-pub two_popped : {X : Type 0} (old middle new : List X) (a b : X) → old ≡ middle ++ b ∷ [] → middle ≡ new ++ a ∷ [] → old ≡ new ++ (a ∷ b ∷ [])
-two_popped old middle new a b first second = first ∙ ap (λ l. l ++ b ∷ []) second ∙ append_assoc new (a ∷ []) (b ∷ [])
-
-pub three_popped : {X : Type 0} (old more middle new : List X) (x a b : X) → old ≡ more ++ b ∷ [] → more ≡ middle ++ a ∷ [] → middle ≡ new ++ x ∷ []
-    → old ≡ new ++ (x ∷ a ∷ b ∷ [])
-three_popped old more middle new x a b first second third =
-    first ∙ ap (λ l. l ++ b ∷ []) (two_popped more middle new x a second third) ∙ append_assoc new (x ∷ a ∷ []) (b ∷ [])
-
 -- one more of the last operands
 one_more : {X : Type 0} (old before new : List X) (a : X) (j : ℕ) → j ≤ length old → before ≡ take (length old - j) old → before ≡ new ++ a ∷ []
     → old ≡ new ++ (a ∷ drop (length old - j) old)
