@@ -6,11 +6,11 @@ ghost use Rattle.std.specs.FinMap.{get, insert};
 ghost use Rattle.cell_core.specs.Grid.{Grid, Draft, cell_at, row_at, IsFilled, IsDraft, AreCells, no_labels};
 ghost use Rattle.cell_core.specs.Runs.{AreRuns, written_out};
 
+use crate::row::Row;
+use crate::runs::Runs;
 use cell_base::cell::Cell;
 use cell_base::memory::Memory;
 use cell_base::region::Region;
-use crate::row::Row;
-use crate::runs::Runs;
 use std::alloc::Global;
 use std::collections::BTreeMap;
 use std::marker::Model;

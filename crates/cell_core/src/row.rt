@@ -4,9 +4,9 @@ ghost use Rattle.std.specs.Prelude.{◌≡◌, ◌<◌, ◌^◌, length, All, No
 ghost use Rattle.cell_base.specs.Cell.{IsCell};
 ghost use Rattle.cell_core.specs.Runs.{AreRuns, written_out};
 
+use crate::runs::{Runs, cell_in, count_runs, runs_of, write_out};
 use cell_base::cell::Cell;
 use cell_base::memory::Memory;
-use crate::runs::{Runs, cell_in, count_runs, runs_of, write_out};
 use std::alloc::Global;
 use std::marker::Model;
 

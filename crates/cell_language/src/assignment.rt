@@ -7,10 +7,10 @@ ghost use Rattle.cell_language.specs.Assignment.{IsAssignment, IsAssignmentText}
 ghost use Rattle.cell_language.specs.GrammarFault.{IsTextFault};
 
 use crate::expr::Expr;
-use cell_tokens::fault::CalcFault;
 use crate::parsing::assignment;
-use cell_tokens::tokens::tokens;
 use cell_base::name::Name;
+use cell_tokens::fault::CalcFault;
+use cell_tokens::tokens::tokens;
 use std::alloc::Global;
 
 /// `NAME = EXPRESSION`: what r.mapcalc makes, and of what.

@@ -11,11 +11,11 @@ ghost use Rattle.cell_tokens.specs.Token.{head, AreCategories};
 
 use crate::assignment::Assignment;
 use crate::expr::Expr;
+use crate::reader::expression;
+use cell_base::name::Name;
 use cell_tokens::fault::{CalcFault, CalcKind};
 use cell_tokens::operator::{Operator, level_of, operator_of};
-use crate::reader::expression;
 use cell_tokens::token::{Placed, Sign, Token};
-use cell_base::name::Name;
 use std::alloc::Global;
 
 /// Why reading stops.

@@ -11,13 +11,13 @@ ghost use Rattle.cell_tokens.specs.Token.{head, name_at};
 ghost use Rattle.cell_language.specs.parts.Built.{built};
 ghost use Rattle.cell_language.specs.parts.Waiting.{IsAwaited, IsResumed, IsRead, Goes, waiting, latest_first, tokens_of, work};
 
+use crate::parsing::{Stop, after_sign, copied, first, next, offsets};
+use crate::step::Step;
+use cell_base::name::Name;
 use cell_tokens::fault::CalcKind;
 use cell_tokens::function::{Function, accepts, function_of};
 use cell_tokens::operator::{Operator, TOP_LEVEL, level_of};
-use crate::parsing::{Stop, after_sign, copied, first, next, offsets};
-use crate::step::Step;
 use cell_tokens::token::{Placed, Sign, Token};
-use cell_base::name::Name;
 use std::alloc::Global;
 
 /// What waits for the operand or the expression that is being read.

@@ -1,8 +1,8 @@
 //! The steps of an expression.
 
+use cell_base::name::Name;
 use cell_tokens::function::Function;
 use cell_tokens::operator::Operator;
-use cell_base::name::Name;
 
 /// A step of an expression in postfix order: what it takes stands before it.
 #[derive(Drop)]

@@ -3,8 +3,8 @@
 use cell_calc::CalcFault;
 use cell_cats::rules::RuleFault;
 use cell_core::memory::Memory;
-use cell_options::fault::OptionFault;
 use cell_counts::reading::ComboFault;
+use cell_options::fault::OptionFault;
 use thiserror::Error;
 
 /// What is wrong with a script.

@@ -10,11 +10,11 @@ use crate::fault::ScriptKind;
 use crate::statement::{Command, StatsOptions};
 use cell_core::memory::Memory;
 use cell_core::name::Names;
-use cell_options::maps::input_places;
-use cell_options::options::{Form, Options, options_of};
 use cell_counts::combination::Combo;
 use cell_counts::reading::ComboFault;
 use cell_counts::skip::Skip;
+use cell_options::maps::input_places;
+use cell_options::options::{Form, Options, options_of};
 use std::alloc::Global;
 
 fn skip_of(options: &Options) -> Skip

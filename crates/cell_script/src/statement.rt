@@ -7,10 +7,10 @@ use cell_cats::rules::Rules;
 use cell_clump::clump::Joining;
 use cell_core::memory::Memory;
 use cell_core::name::Name;
-pub use cell_options::maps::Places;
-use cell_options::null_text::{NullText, TableNullText};
 use cell_counts::combination::Combo;
 use cell_counts::skip::Skip;
+pub use cell_options::maps::Places;
+use cell_options::null_text::{NullText, TableNullText};
 use std::alloc::Global;
 use std::marker::Model;
 
