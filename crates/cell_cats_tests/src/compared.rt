@@ -107,7 +107,7 @@ fn random_rules(rt: HostRuntime) -> Result<(), Fail> {
     let mut seed = 2026u64;
     for _ in 0..ROUNDS {
         let mut rules = Rules::new(rt.alloc());
-        for _ in 0..RULES {
+        for _ in 0..MOST_RULES {
             let line = rule(rt.alloc(), &mut seed)?;
             assert!(rt;
                 rules.add_line(line.as_bytes()).is_ok(),
