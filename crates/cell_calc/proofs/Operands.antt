@@ -4,14 +4,14 @@ use Rattle.std.proofs.Math.Seq.{take-append_seam, drop-append_seam, drop-cons}
 use Rattle.std.proofs.lemmas.List.{length-map, length-take-le, length-drop, map-append, take-append-drop, nil_from_length, reverse-append, reverse-reverse}
 use Rattle.std.specs.Prelude.{reverse}
 use Rattle.cell_core.specs.Grid.{CellValue}
-use Rattle.cell_calc.specs.declared.step.Step.{Step}
+use Rattle.cell_formulas.specs.declared.step.Step.{Step}
 use Rattle.cell_calc.specs.declared.strip.Operand.{Operand}
 use Rattle.cell_calc.specs.declared.strip.Strip.{Strip}
 use Rattle.cell_calc.specs.Window.{Window}
 use Rattle.cell_calc.specs.parts.Operands.{operand_at, cells_at, seen, spot_at}
-use Rattle.cell_calc.specs.parts.Postfix.{arity, after, AreEnough}
-use Rattle.cell_calc.specs.parts.Rows.{at, column}
-use Rattle.cell_calc.proofs.Postfix.{one_step}
+use Rattle.cell_formulas.specs.Postfix.{arity, after, AreEnough}
+use Rattle.cell_rows.specs.Rows.{at, column}
+use Rattle.cell_formulas.proofs.Postfix.{one_step}
 
 -- what stands before the last operands, and those
 pub front_is : {X : Type 0} (old new ys : List X) (n : ℕ) → old ≡ new ++ ys → length ys ≡ n → new ≡ take (length old - n) old

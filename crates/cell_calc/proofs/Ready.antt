@@ -3,7 +3,7 @@ use Rattle.std.proofs.Common.{◌≡◌, ◌<◌, ◌+◌, ℕ, zero, suc, ℤ, 
 use Rattle.std.specs.Prelude.{slice_get}
 use Rattle.std.proofs.lemmas.Int.{ints}
 use Rattle.cell_core.specs.Grid.{CellValue}
-use Rattle.cell_calc.specs.Value.{item_at}
+use Rattle.cell_operations.specs.Offsets.{item_at}
 use Rattle.cell_calc.specs.Window.{Window, Reaches}
 use Rattle.cell_calc.specs.parts.Windows.{IsInReach, row_below}
 

@@ -5,19 +5,21 @@ use Rattle.std.proofs.lemmas.Int.{ints}
 use Rattle.std.proofs.lemmas.List.Elements.{All-head, All-tail}
 use Rattle.cell_core.specs.Grid.{Grid, CellValue}
 use Rattle.cell_language.specs.Grammatical.{up_by, down_by}
-use Rattle.cell_calc.specs.declared.step.Step.{Step}
-use Rattle.cell_calc.specs.declared.step.Step.TheVariants as step
-use Rattle.cell_calc.specs.Formula.{Formula, Formulas, NoFormulas, Then}
-use Rattle.cell_calc.specs.Reach.{IsProper, top_of, up_of, down_of}
-use Rattle.cell_calc.specs.Value.{Spot, value, values, applied, called, negated, inverted, cell_in, item_at, row_of}
+use Rattle.cell_formulas.specs.declared.step.Step.{Step}
+use Rattle.cell_formulas.specs.declared.step.Step.TheVariants as step
+use Rattle.cell_formulas.specs.Formula.{Formula, Formulas, NoFormulas, Then}
+use Rattle.cell_formulas.specs.Reach.{IsProper, top_of, up_of, down_of}
+use Rattle.cell_operations.specs.Applied.{Spot, applied, called, negated, inverted}
+use Rattle.cell_operations.specs.Offsets.{cell_in, item_at, row_of}
+use Rattle.cell_formulas.specs.Value.{value, values}
 use Rattle.cell_calc.specs.Window.{Window, IsWindowOf, Reaches, IsOver, HasReach}
 use Rattle.cell_calc.specs.parts.Operands.{IsReadyStep, seen}
-use Rattle.cell_calc.specs.parts.Postfix.{postfix, arity, after}
-use Rattle.cell_calc.specs.parts.Steps.{top_step, up_step, down_step, IsProperStep}
+use Rattle.cell_formulas.specs.Postfix.{postfix, arity, after}
+use Rattle.cell_formulas.specs.parts.Steps.{top_step, up_step, down_step, IsProperStep}
 use Rattle.cell_calc.specs.parts.Windows.{IsInReach, row_below}
-use Rattle.cell_calc.proofs.Postfix.{listed, IsMeaning, after_postfix}
+use Rattle.cell_formulas.proofs.Postfix.{listed, IsMeaning, after_postfix}
 use Rattle.cell_calc.proofs.Rings.{held_row}
-use Rattle.cell_calc.proofs.Steps.{proper_steps, below_greatest, top-postfix, up-postfix, down-postfix}
+use Rattle.cell_formulas.proofs.Steps.{proper_steps, below_greatest, top-postfix, up-postfix, down-postfix}
 
 -- what a step makes of cells over maps
 abbrev over_maps : List Grid → Spot → Step → List CellValue → CellValue

@@ -2,8 +2,8 @@
 use Rattle.std.proofs.Common.{◌≡◌, ◌++◌, ℕ, List, length, take, drop, ap, ◌∙◌}
 use Rattle.cell_core.specs.Grid.{CellValue}
 use Rattle.cell_tokens.specs.declared.operator.Operator.{Operator}
-use Rattle.cell_calc.specs.Value.{applied}
-use Rattle.cell_calc.specs.parts.Rows.{at}
+use Rattle.cell_operations.specs.Applied.{applied}
+use Rattle.cell_rows.specs.Rows.{at}
 use Rattle.cell_calc.proofs.Rings.{written}
 
 -- a cell of a row after a slice of all of it was written

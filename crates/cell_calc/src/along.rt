@@ -1,20 +1,20 @@
 //! Values along strips: the steps of an expression, one after another, with a stack of operands.
 
 ghost use Rattle.std.specs.Prelude.{◌≡◌, ◌≤◌, ◌<◌, ◌-◌, ℕ, [], ◌∷◌, length, take, drop, map, All, IfOk, OnOk};
-ghost use Rattle.cell_calc.specs.Value.{called};
+ghost use Rattle.cell_operations.specs.Applied.{called};
 ghost use Rattle.cell_calc.specs.parts.Operands.{IsStrip, IsReadyStep, IsReady, operand_at, cells_at, seen, spot_at};
-ghost use Rattle.cell_calc.specs.parts.Postfix.{arity, after, AreEnough};
-ghost use Rattle.cell_calc.specs.parts.Rows.{at, column};
+ghost use Rattle.cell_formulas.specs.Postfix.{arity, after, AreEnough};
+ghost use Rattle.cell_rows.specs.Rows.{at, column};
 
-use crate::calls::call;
 use crate::operand::{chosen, joined, popped, row_of, taken};
-use crate::rows;
-use crate::step::Step;
+use cell_formulas::step::Step;
+use cell_rows::calls::call;
+use cell_rows::rows;
 use crate::strip::{Operand, Spare, Strip};
 use crate::window::RowWindow;
 use cell_core::cell::Cell;
 use cell_core::memory::Memory;
-use cell_language::function::Function;
+use cell_tokens::function::Function;
 use std::alloc::Global;
 
 /// The values of an expression along a strip, from windows that stand at its row.

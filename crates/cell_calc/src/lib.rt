@@ -2,22 +2,16 @@
 #![tactic(auto)]
 
 mod along;
-pub mod binding;
-pub mod bound;
-mod calls;
-mod cells;
-pub mod compacting;
+pub mod evaluation;
 mod held;
-mod modes;
 mod operand;
-mod rows;
-mod step;
 mod strip;
 pub mod window;
 
-pub use binding::resolve;
-pub use bound::{Bound, eval_row};
+pub use cell_formulas::binding::resolve;
+pub use cell_formulas::bound::Bound;
 pub use cell_language::assignment::{Assignment, parse};
 pub use cell_language::expr::Expr;
 pub use cell_language::fault::{CalcFault, CalcKind};
+pub use evaluation::eval_row;
 pub use window::RowWindow;

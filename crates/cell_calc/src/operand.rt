@@ -1,17 +1,18 @@
 //! Operands of the steps of an expression, along strips.
 
 ghost use Rattle.std.specs.Prelude.{◌≡◌, ◌<◌, ◌++◌, [], ◌∷◌, ℕ, length, IfOk, OnOk};
-ghost use Rattle.cell_calc.specs.Value.{applied};
-ghost use Rattle.cell_calc.specs.Cells.{chosen};
+ghost use Rattle.cell_operations.specs.Applied.{applied};
+ghost use Rattle.cell_operations.specs.Cells.{chosen};
 ghost use Rattle.cell_calc.specs.parts.Operands.{IsStrip, IsReady, operand_at};
-ghost use Rattle.cell_calc.specs.parts.Rows.{at};
+ghost use Rattle.cell_rows.specs.Rows.{at};
 
 use crate::strip::{Operand, Strip};
 use crate::window::RowWindow;
-use crate::{cells, rows};
 use cell_core::cell::Cell;
 use cell_core::memory::Memory;
-use cell_language::operator::Operator;
+use cell_operations::cells;
+use cell_rows::rows;
+use cell_tokens::operator::Operator;
 use std::alloc::Global;
 
 /// The last operand.

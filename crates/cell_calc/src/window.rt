@@ -2,7 +2,7 @@
 
 ghost use Rattle.std.specs.Prelude.{◌≡◌, ◌≤◌, ◌<◌, ◌+◌, ◌+ℤ◌, ℤ, pos, length, None, Some, IfOk, IfSome, IfNone, ◌<ℤ◌};
 ghost use Rattle.cell_core.specs.Grid.{Grid};
-ghost use Rattle.cell_calc.specs.Value.{row_of, cell_of, item_at};
+ghost use Rattle.cell_operations.specs.Offsets.{row_of, cell_of, item_at};
 ghost use Rattle.cell_calc.specs.Window.{IsWindowOf, Reaches};
 ghost use Rattle.cell_calc.specs.parts.Windows.{row_below};
 

@@ -5,8 +5,9 @@ use Rattle.std.proofs.Math.Seq.{take-append_seam, drop-append_seam}
 use Rattle.std.proofs.lemmas.List.{length-drop, nil_from_length}
 use Rattle.std.proofs.lemmas.List.Elements.{All-nil, All-cons, All-append, All-same}
 use Rattle.cell_core.specs.Grid.{Grid, CellValue}
-use Rattle.cell_calc.specs.Binding.{placed, placed_all}
-use Rattle.cell_calc.specs.Value.{Spot, value, values}
+use Rattle.cell_formulas.specs.Binding.{placed, placed_all}
+use Rattle.cell_operations.specs.Applied.{Spot}
+use Rattle.cell_formulas.specs.Value.{value, values}
 use Rattle.cell_calc_tests.specs.Steps.{arity, step_value, after, IsProperStep}
 use Rattle.cell_language.specs.Grammatical.{IsGrammatical, AreGrammatical}
 use Rattle.cell_language.specs.Postfix.{postfix, postfix_all}

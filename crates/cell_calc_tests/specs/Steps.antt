@@ -3,7 +3,8 @@ use Rattle.std.specs.Prelude.{◌≤◌, ◌-◌, ◌+ℤ◌, ℕ, pos, List, []
 use Rattle.std.specs.Option.{unwrap_or}
 use Rattle.cell_core.specs.Grid.{Grid, CellValue}
 use Rattle.cell_base.specs.Name.{place_of}
-use Rattle.cell_calc.specs.Value.{Spot, cell_in, negated, inverted, applied, called}
+use Rattle.cell_operations.specs.Applied.{Spot, negated, inverted, applied, called}
+use Rattle.cell_operations.specs.Offsets.{cell_in}
 use Rattle.cell_language.specs.declared.step.Step.{Step}
 use Rattle.cell_language.specs.declared.step.Step.TheVariants.{Number, Map, Negated, Not, Binary, Call}
 

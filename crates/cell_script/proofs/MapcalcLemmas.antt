@@ -2,9 +2,9 @@
 use Rattle.std.proofs.Common.{◌≡◌, ◌≢◌, ℕ, ◌+◌, ◌≤◌, List, length, Option, Some, None, Result, Err, inl, inr, refl, ap, sym, subst, arith}
 use Rattle.std.specs.Option.{unwrap_or}
 use Rattle.cell_base.specs.Name.{place_of}
-use Rattle.cell_calc.specs.Binding.{placed, placed_all, IsBindingFault}
-use Rattle.cell_calc.specs.Formula.{Formula}
-use Rattle.cell_calc.specs.Reach.{top_of, top_of_all}
+use Rattle.cell_formulas.specs.Binding.{placed, placed_all, IsBindingFault}
+use Rattle.cell_formulas.specs.Formula.{Formula}
+use Rattle.cell_formulas.specs.Reach.{top_of, top_of_all}
 use Rattle.cell_language.specs.Term.{Term, Number, Map, Negated, Not, Binary, Call, Terms, NoTerms, Then}
 use Rattle.cell_language.specs.Unknown.{first_of, unplaced, first_unknown, first_unknown_all}
 use Rattle.cell_options.proofs.PlaceLemmas.{place_of-within}

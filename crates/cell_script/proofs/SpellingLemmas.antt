@@ -4,7 +4,7 @@ use Rattle.std.specs.Prelude.{◌⊎◌, nat_lt, bytes_eq, unwrap_or}
 use Rattle.std.specs.Cmp.Lexicographic.{bytes_decides}
 use Rattle.std.proofs.lemmas.Bool.{ltb-false, le-ltb}
 use Rattle.cell_ascii_text.specs.Header.{usual_null}
-use Rattle.cell_calc.specs.Binding.{placed}
+use Rattle.cell_formulas.specs.Binding.{placed}
 use Rattle.cell_base.specs.Name.{place_of}
 use Rattle.cell_language.specs.Assignment.{IsAssignmentText}
 use Rattle.cell_language.specs.Unknown.{first_unknown}

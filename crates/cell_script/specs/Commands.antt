@@ -1,7 +1,7 @@
 -- What a line is: skipped, a command that its options ask for, the beginning of an r.reclass, or a fault (the order of the faults is the profile's).
 use Rattle.std.specs.Prelude.{ℕ, ◌≡◌, ◌≢◌, ◌⊎◌, List, Option, Some, None, Result, Ok, Err, length, if◌then◌else◌, unwrap_or, Bool, true, false, [], ◌∷◌, nat_lt, bytes_eq, codes}
 use Rattle.cell_ascii_text.specs.GridWords.{usual_null}
-use Rattle.cell_calc.specs.Binding.{placed}
+use Rattle.cell_formulas.specs.Binding.{placed}
 use Rattle.cell_base.specs.Name.{place_of}
 use Rattle.cell_language.specs.Assignment.{IsAssignmentText}
 use Rattle.cell_language.specs.GrammarFault.{IsTextFault}

@@ -1,6 +1,6 @@
 -- Commands that fit the maps known before them.
 use Rattle.std.specs.Prelude.{ℕ, ◌≡◌, ◌≤◌, ◌<◌, List, [], ◌∷◌, length, All, IfSome, None}
-use Rattle.cell_calc.specs.Reach.{top_of}
+use Rattle.cell_formulas.specs.Reach.{top_of}
 use Rattle.cell_base.specs.Name.{place_of}
 use Rattle.cell_script.specs.Known.{known_after}
 use Rattle.cell_script.specs.declared.statement.Command.{Command}

@@ -1,7 +1,7 @@
 -- r.mapcalc: the assignment of a line (r.mapcalc manual).
 use Rattle.std.specs.Prelude.{ℕ, ◌-◌, List, [], ◌∷◌, ◌++◌, length, replicate, if◌then◌else◌, ◌≡◌, None, codes}
-use Rattle.cell_calc.specs.Binding.{placed}
-use Rattle.cell_calc.specs.Formula.{Formula}
+use Rattle.cell_formulas.specs.Binding.{placed}
+use Rattle.cell_formulas.specs.Formula.{Formula}
 use Rattle.cell_base.specs.Name.{place_of}
 use Rattle.cell_language.specs.Assignment.{IsAssignmentText}
 use Rattle.cell_language.specs.Unknown.{first_unknown}

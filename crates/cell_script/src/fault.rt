@@ -1,6 +1,6 @@
 //! Why a text is no script.
 
-use cell_calc::CalcFault;
+use cell_language::fault::CalcFault;
 use cell_cats::rules::RuleFault;
 use cell_core::memory::Memory;
 use cell_counts::reading::ComboFault;

@@ -8,7 +8,7 @@ ghost use Rattle.cell_script.specs.parts.Sound.{FitsHead};
 use crate::fault::ScriptKind;
 use crate::heads::Head;
 use crate::statement::Command;
-use cell_calc::binding::resolve;
+use cell_formulas::binding::resolve;
 use cell_core::memory::Memory;
 use cell_core::name::Names;
 use cell_language::assignment::{Assignment, parse};

@@ -2,7 +2,7 @@
 
 ghost use Rattle.std.specs.Prelude.{◌≡◌, OnOk, OnErr, ◌++◌, [], ◌∷◌};
 
-use cell_calc::bound::Bound;
+use cell_formulas::bound::Bound;
 use cell_cats::rules::Rules;
 use cell_clump::clump::Joining;
 use cell_core::memory::Memory;
@@ -81,7 +81,7 @@ pub struct Script {
 impl Model for Script {
     ghost use Rattle.std.specs.Prelude.{List};
     ghost use Rattle.std.specs.Coded.{codes};
-    ghost use Rattle.cell_calc.specs.contracts.bound.Bound as bound;
+    ghost use Rattle.cell_formulas.specs.contracts.bound.Bound as bound;
     ghost use Rattle.cell_script.specs.declared.statement.Statement.{Statement};
 
     ghost Value = { List Statement };

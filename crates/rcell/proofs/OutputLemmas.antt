@@ -5,7 +5,7 @@ use Rattle.std.specs.FinMap as finmap
 use Rattle.std.specs.Ordering.{int_cmp}
 use Rattle.std.proofs.lemmas.List.{get_or_default, same_lists}
 use Rattle.std.proofs.lemmas.List.Elements.{All-get_or}
-use Rattle.cell_calc.specs.Formula.{Formula}
+use Rattle.cell_formulas.specs.Formula.{Formula}
 use Rattle.cell_clump.specs.ClumpLaw.{ClumpingIsOne}
 use Rattle.cell_clump.specs.declared.clump.Joining.{Joining}
 use Rattle.cell_core.specs.Grid.{Grid, CellValue, IsFilled, cell_at}

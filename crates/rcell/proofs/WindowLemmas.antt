@@ -6,8 +6,8 @@ use Rattle.std.proofs.lemmas.Option.{slice_get-get_or}
 use Rattle.std.specs.Prelude.{slice_get, slice_index_or, All}
 use Rattle.cell_core.specs.Grid.{Grid, CellValue}
 use Rattle.cell_calc.specs.Window.{IsOver}
-use Rattle.cell_calc.specs.Formula.{Formula}
-use Rattle.cell_calc.specs.Reach.{up_of, down_of}
+use Rattle.cell_formulas.specs.Formula.{Formula}
+use Rattle.cell_formulas.specs.Reach.{up_of, down_of}
 use Rattle.cell_calc.specs.Window.{Window, IsWindowOf}
 use Rattle.rcell.specs.parts.Windows.{IsSet, AreSet, then_maps, picked}
 

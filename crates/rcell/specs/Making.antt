@@ -1,7 +1,8 @@
 -- The maps that statements make, and the shelf after each (r.mapcalc, r.reclass and r.clump manuals; the shelf is the profile's).
 use Rattle.std.specs.Prelude.{ℕ, ◌≡◌, ◌<◌, List, [], ◌∷◌, ◌++◌, Option, Some, None, slice_get}
-use Rattle.cell_calc.specs.Formula.{Formula}
-use Rattle.cell_calc.specs.Value.{value, spot}
+use Rattle.cell_formulas.specs.Formula.{Formula}
+use Rattle.cell_operations.specs.Applied.{spot}
+use Rattle.cell_formulas.specs.Value.{value}
 use Rattle.cell_cats.specs.Reclass.{reclassed}
 use Rattle.cell_clump.specs.Areas.{IsClumping}
 use Rattle.cell_clump.specs.declared.clump.Joining.{Joining}

@@ -2,16 +2,18 @@
 
 ghost use Rattle.std.specs.Prelude.{◌≡◌, ◌<◌, ◌≤◌, ◌+◌, ℕ, length, slice_get, Some, All, IfOk};
 ghost use Rattle.cell_core.specs.Grid.{cell_at, no_labels};
-ghost use Rattle.cell_calc.specs.Reach.{top_of};
-ghost use Rattle.cell_calc.specs.Value.{value, spot};
+ghost use Rattle.cell_formulas.specs.Reach.{top_of};
+ghost use Rattle.cell_operations.specs.Applied.{spot};
+ghost use Rattle.cell_formulas.specs.Value.{value};
 ghost use Rattle.rcell.specs.parts.Windows.{AreSet, picked};
 
-use cell_calc::bound::{Bound, eval_row};
+use cell_calc::evaluation::eval_row;
 use cell_calc::window::RowWindow;
 use cell_core::cell::Cell;
 use cell_core::map::{CellMap, MapBuilder};
 use cell_core::memory::Memory;
 use cell_core::shelf::Shelf;
+use cell_formulas::bound::Bound;
 use std::alloc::Global;
 
 // The map that stands at a place of a list of places.

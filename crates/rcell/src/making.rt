@@ -1,14 +1,14 @@
 //! Statements that make a map put it on the shelf.
 
 ghost use Rattle.std.specs.Prelude.{◌≡◌, ◌≤◌, ◌<◌, None, length, OnOk, OnErr};
-ghost use Rattle.cell_calc.specs.Reach.{top_of};
+ghost use Rattle.cell_formulas.specs.Reach.{top_of};
 ghost use Rattle.cell_base.specs.Name.{place_of};
 ghost use Rattle.cell_script.specs.Known.{known_after};
 ghost use Rattle.cell_script.specs.declared.statement.Command.TheVariants.{Mapcalc, Reclass, Clump};
 ghost use Rattle.rcell.specs.Making.{IsAfter, with_map};
 
 use crate::evaluation::evaluate;
-use cell_calc::bound::Bound;
+use cell_formulas::bound::Bound;
 use cell_cats::reclassing::reclass;
 use cell_cats::rules::Rules;
 use cell_clump::clump::{Joining, clump_with};

@@ -1,14 +1,15 @@
 -- Values along a strip: some columns of a row, from one on.
 use Rattle.std.specs.Prelude.{◌≡◌, ◌≤◌, ◌<◌, ◌+◌, ◌+ℤ◌, ℕ, pos, List, Some, None, length, map, slice_get, slice_index_or}
 use Rattle.cell_core.specs.Grid.{CellValue}
-use Rattle.cell_calc.specs.Value.{Spot, spot, applied, called, negated, inverted, item_at}
+use Rattle.cell_operations.specs.Applied.{Spot, spot, applied, called, negated, inverted}
+use Rattle.cell_operations.specs.Offsets.{item_at}
 use Rattle.cell_calc.specs.Window.{Window}
-use Rattle.cell_calc.specs.declared.step.Step.{Step}
-use Rattle.cell_calc.specs.declared.step.Step.TheVariants as step
+use Rattle.cell_formulas.specs.declared.step.Step.{Step}
+use Rattle.cell_formulas.specs.declared.step.Step.TheVariants as step
 use Rattle.cell_calc.specs.declared.strip.Operand.{Operand}
 use Rattle.cell_calc.specs.declared.strip.Operand.TheVariants as operand
 use Rattle.cell_calc.specs.declared.strip.Strip.{Strip}
-use Rattle.cell_calc.specs.parts.Rows.{at}
+use Rattle.cell_rows.specs.Rows.{at}
 use Rattle.cell_calc.specs.parts.Windows.{IsInReach, row_below}
 
 -- it lies in a region

@@ -1,7 +1,7 @@
 -- Rows that windows hold.
 use Rattle.std.specs.Prelude.{◌-◌, ◌+ℤ◌, ◌-ℤ◌, ℤ, pos, List, [], Option, Some, None}
 use Rattle.cell_core.specs.Grid.{CellValue}
-use Rattle.cell_calc.specs.Value.{item_at}
+use Rattle.cell_operations.specs.Offsets.{item_at}
 use Rattle.cell_calc.specs.Window.{Window, Reaches}
 
 -- there is a window that reaches an offset

@@ -1,8 +1,8 @@
 //! What operators make of cells, in numbers wide enough for what they make of any two categories.
 
 ghost use Rattle.std.specs.Prelude.{◌≡◌, ◌≤◌, pos, ◌-ℤ◌, ◌*ℤ◌, Some, None, int_div, if◌then◌else◌};
-ghost use Rattle.cell_calc.specs.Cells.{fit, truth, chosen, lesser, greater, is_zero, is_null};
-ghost use Rattle.cell_calc.specs.Value.{negated, inverted, size_of, applied};
+ghost use Rattle.cell_operations.specs.Cells.{fit, truth, chosen, lesser, greater, is_zero, is_null};
+ghost use Rattle.cell_operations.specs.Applied.{negated, inverted, size_of, applied};
 
 use cell_core::cell::Cell;
 use cell_language::operator::Operator;

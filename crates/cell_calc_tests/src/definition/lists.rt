@@ -3,7 +3,7 @@
 ghost use Rattle.std.specs.Prelude.{◌≡◌, ◌≤◌, length, fold, filter, nat_le, not, IfOk};
 ghost use Rattle.std.specs.List.{list_any, list_all};
 ghost use Rattle.cell_base.specs.Cell.{cell_eq};
-ghost use Rattle.cell_calc.specs.Cells.{lesser, greater, least, greatest, known, occurrences, is_most_frequent, most_frequent, mode, first_of, last_of, if_of, is_null};
+ghost use Rattle.cell_operations.specs.Cells.{lesser, greater, least, greatest, known, occurrences, is_most_frequent, most_frequent, mode, first_of, last_of, if_of, is_null};
 
 use crate::definition::cells;
 use cell_core::cell::Cell;

@@ -4,8 +4,10 @@ ghost use Rattle.std.specs.Prelude.{◌≡◌, ◌<◌, None, length, slice_get,
 ghost use Rattle.std.specs.Option.{unwrap_or};
 ghost use Rattle.cell_core.specs.Grid.{row_at};
 ghost use Rattle.cell_base.specs.Name.{place_of};
-ghost use Rattle.cell_calc.specs.Binding.{placed};
-ghost use Rattle.cell_calc.specs.Value.{item_at, row_of, cell_in, spot, called, value};
+ghost use Rattle.cell_formulas.specs.Binding.{placed};
+ghost use Rattle.cell_operations.specs.Applied.{spot, called};
+ghost use Rattle.cell_operations.specs.Offsets.{item_at, row_of, cell_in};
+ghost use Rattle.cell_formulas.specs.Value.{value};
 ghost use Rattle.cell_calc_tests.specs.Steps.{arity, step_value, IsProperStep};
 
 use crate::definition::{cells, lists};

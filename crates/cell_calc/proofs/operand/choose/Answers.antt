@@ -1,8 +1,8 @@
 use Rattle.std.proofs.Common.{rules, arith, ◌+◌, ◌+ℤ◌, pos, ap, ◌∙◌, None, w32, FitsSigned}
 use Rattle.std.proofs.lemmas.Int.{to_z-of_z}
-use Rattle.cell_calc.specs.Cells.{chosen}
-use Rattle.cell_calc.specs.Value.{item_at}
-use Rattle.cell_calc.specs.parts.Rows.{at}
+use Rattle.cell_operations.specs.Cells.{chosen}
+use Rattle.cell_operations.specs.Offsets.{item_at}
+use Rattle.cell_rows.specs.Rows.{at}
 use Rattle.cell_calc.proofs.Ready.{row_at}
 use Rattle.cell_calc.proofs.operand.choose.Goals as goal
 

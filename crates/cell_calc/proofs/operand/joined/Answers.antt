@@ -1,6 +1,6 @@
 use Rattle.std.proofs.Common.{rules, arith, ◌≡◌, ◌<◌, ◌+◌, ◌+ℤ◌, pos, length, ap, None, w32, FitsSigned}
 use Rattle.std.proofs.lemmas.Int.{to_z-of_z}
-use Rattle.cell_calc.specs.Value.{item_at}
+use Rattle.cell_operations.specs.Offsets.{item_at}
 use Rattle.cell_calc.proofs.Ready.{row_at}
 use Rattle.cell_calc.proofs.Written.{joined_at}
 use Rattle.cell_calc.proofs.operand.joined.Goals as goal

@@ -1,6 +1,6 @@
 use Rattle.std.proofs.Common.{◌<◌, length, arith}
 use Rattle.std.specs.Prelude.{All}
-use Rattle.cell_calc.specs.Value.{spot}
+use Rattle.cell_operations.specs.Applied.{spot}
 use Rattle.rcell.specs.parts.Windows.{picked}
 use Rattle.rcell.proofs.WindowLemmas.{picked_at}
 use Rattle.rcell.proofs.evaluation.evaluate.Goals as goal

@@ -1,8 +1,8 @@
 use Rattle.std.proofs.Common.{◌≡◌, ◌<◌, ◌+◌, ℕ, ◌∷◌, [], None, length, ap, ◌∙◌, length-append}
 use Rattle.std.specs.Prelude.{slice_index_or, slice_get}
-use Rattle.cell_calc.specs.Value.{spot}
-use Rattle.cell_calc.specs.Reach.{up_of, down_of}
-use Rattle.cell_calc.specs.Value.{value}
+use Rattle.cell_operations.specs.Applied.{spot}
+use Rattle.cell_formulas.specs.Reach.{up_of, down_of}
+use Rattle.cell_formulas.specs.Value.{value}
 use Rattle.rcell.specs.parts.Windows.{picked}
 use Rattle.rcell.proofs.WindowLemmas.{written}
 use Rattle.rcell.proofs.WindowLemmas.{set_over, rows_more}

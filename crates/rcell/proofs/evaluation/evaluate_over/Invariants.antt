@@ -1,8 +1,8 @@
 use Rattle.std.proofs.Common.{◌≡◌, ◌<◌, ℕ, [], length, None}
 use Rattle.std.specs.Prelude.{slice_index_or}
-use Rattle.cell_calc.specs.Value.{spot}
-use Rattle.cell_calc.specs.Reach.{top_of}
-use Rattle.cell_calc.specs.Value.{value}
+use Rattle.cell_operations.specs.Applied.{spot}
+use Rattle.cell_formulas.specs.Reach.{top_of}
+use Rattle.cell_formulas.specs.Value.{value}
 use Rattle.rcell.specs.parts.Windows.{AreSet, picked}
 use Rattle.rcell.proofs.evaluation.evaluate_over.Given as goal
 

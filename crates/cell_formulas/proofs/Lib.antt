@@ -1,0 +1,8 @@
+-- What several proofs share.
+pub mod Compact
+pub mod Index
+pub mod Moved
+pub mod Placing
+pub mod Postfix
+pub mod Steps
+pub mod Worked

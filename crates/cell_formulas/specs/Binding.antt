@@ -1,0 +1,29 @@
+-- Names of maps and their places (profile).
+use Rattle.std.specs.Prelude.{◌≡◌, ℕ, List, Some, ◌⊎◌}
+use Rattle.std.specs.Option.{unwrap_or}
+use Rattle.cell_base.specs.Name.{place_of}
+use Rattle.cell_formulas.specs.Formula as formula
+use Rattle.cell_formulas.specs.Formula.{Formula, Formulas}
+use Rattle.cell_tokens.specs.declared.fault.CalcFault.{CalcFault}
+use Rattle.cell_tokens.specs.declared.fault.CalcKind.TheVariants.{UnknownMap, Memory}
+use Rattle.cell_language.specs.Term.{Term, Number, Map, Negated, Not, Binary, Call, Terms, NoTerms, Then}
+use Rattle.cell_language.specs.Unknown.{first_unknown}
+
+abbrev mutual
+  -- the same tree with each name replaced by its place
+  pub placed : List (List ℕ) → Term → Formula
+  placed names (Number n) = formula.Number n
+  placed names (Map name down right c) = formula.Map (unwrap_or (place_of name names) 0) down right
+  placed names (Negated a) = formula.Negated (placed names a)
+  placed names (Not a) = formula.Not (placed names a)
+  placed names (Binary op a b) = formula.Binary op (placed names a) (placed names b)
+  placed names (Call f xs) = formula.Call f (placed_all names xs)
+
+  pub placed_all : List (List ℕ) → Terms → Formulas
+  placed_all names NoTerms = formula.NoFormulas
+  placed_all names (Then a xs) = formula.Then (placed names a) (placed_all names xs)
+
+-- the fault of an expression with an unknown name, or want of memory
+abbrev pub IsBindingFault : List (List ℕ) → Term → CalcFault → Type 0
+IsBindingFault names e fault =
+    (fault ≡ record { kind = Memory; column = 0 }) ⊎ ((fault.kind ≡ UnknownMap) × (first_unknown names e ≡ Some fault.column))

@@ -1,0 +1,344 @@
+//! Rows of cells.
+
+ghost use Rattle.std.specs.Prelude.{◌≡◌, ◌≤◌, ◌<◌, ◌≤ℤ◌, ◌<ℤ◌, ℕ, pos, length, None, Some, IfSome, ◌+ℤ◌, ◌+◌};
+ghost use Rattle.cell_operations.specs.Cells.{chosen, truth, is_null, lesser, greater};
+ghost use Rattle.cell_operations.specs.Applied.{applied, size_of, negated, inverted};
+ghost use Rattle.cell_operations.specs.Offsets.{item_at};
+ghost use Rattle.cell_operations.specs.Joins.{known_lesser, known_greater};
+ghost use Rattle.cell_rows.specs.Rows.{at};
+
+use cell_core::cell::Cell;
+use cell_operations::cells;
+use cell_tokens::operator::Operator;
+
+/// Writes a cell into each place of a row.
+pub fn fill(row: &mut [Cell], cell: Cell)
+    ensures width { length row.new ≡ length row.old }
+    ensures each { (c : ℕ) → c < length row.old → at row.new c ≡ cell }
+{
+    for i in 0..row.len() {
+        row[i] = cell;
+    }
+}
+
+/// Changes each cell of a row.
+pub(crate) fn each<F: Fn(Cell) -> Cell>(row: &mut [Cell], f: F)
+    requires callable { F.IsAlwaysCallable f }
+    ensures width { length row.new ≡ length row.old }
+    ensures each { (c : ℕ) → c < length row.old → F.post f (at row.old c) (at row.new c) }
+{
+    for i in 0..row.len() {
+        row[i] = f(row[i]);
+    }
+}
+
+/// Changes each cell of a row by that of another.
+pub(crate) fn combine<F: Fn(Cell, Cell) -> Cell>(row: &mut [Cell], other: &[Cell], f: F)
+    requires callable { F.IsAlwaysCallable f }
+    requires width { length other.now ≡ length row.old }
+    ensures width { length row.new ≡ length row.old }
+    ensures each { (c : ℕ) → c < length row.old → F.post f (at row.old c) (at other.now c) (at row.new c) }
+{
+    for i in 0..row.len() {
+        row[i] = f(row[i], other[i]);
+    }
+}
+
+/// Puts the cells of another row where conditions hold, and null where they are null.
+pub fn choose(row: &mut [Cell], conditions: &[Cell], yes: &[Cell])
+    requires width_conditions { length conditions.now ≡ length row.old }
+    requires width_yes { length yes.now ≡ length row.old }
+    ensures width { length row.new ≡ length row.old }
+    ensures each { (c : ℕ) → c < length row.old → at row.new c ≡ chosen (at conditions.now c) (at yes.now c) (at row.old c) }
+{
+    for i in 0..row.len() {
+        row[i] = cells::chosen(conditions[i], yes[i], row[i]);
+    }
+}
+
+/// The same with one cell for a row.
+pub fn choose_one(row: &mut [Cell], conditions: &[Cell], yes: Cell)
+    requires width { length conditions.now ≡ length row.old }
+    ensures width { length row.new ≡ length row.old }
+    ensures each { (c : ℕ) → c < length row.old → at row.new c ≡ chosen (at conditions.now c) yes (at row.old c) }
+{
+    combine(row, conditions, |no, condition| {
+        cells::chosen(condition, yes, no)
+    });
+}
+
+/// The columns' numbers, from 1, of a strip that begins at a column from 0.
+pub(crate) fn number(row: &mut [Cell], from: usize)
+    requires { from + length row.old ≤ 65535 }
+    ensures width { length row.new ≡ length row.old }
+    ensures each { (c : ℕ) → c < length row.old → at row.new c ≡ Some (pos (from + c + 1)) }
+{
+    for i in 0..row.len() {
+        row[i] = cells::number((from + i) as u32 + 1);
+    }
+}
+
+/// Moves a row's cells to the left.
+fn from_right(source: &[Cell], skip: usize, row: &mut [Cell])
+    requires { (c : ℕ) → c < length row.old → at row.old c ≡ None }
+    ensures width { length row.new ≡ length row.old }
+    ensures each { (c : ℕ) → c < length row.old → at row.new c ≡ at source.now (c + skip) }
+{
+    if skip < source.len() {
+        let count = (source.len() - skip).min(row.len());
+        for i in 0..count {
+            row[i] = source[i + skip];
+        }
+    }
+}
+
+/// Moves a row's cells to the right.
+fn from_left(source: &[Cell], skip: usize, row: &mut [Cell])
+    requires { (c : ℕ) → c < length row.old → at row.old c ≡ None }
+    ensures width { length row.new ≡ length row.old }
+    ensures before { (c : ℕ) → c < skip → c < length row.old → at row.new c ≡ None }
+    ensures each { (c : ℕ) → c + skip < length row.old → at row.new (c + skip) ≡ at source.now c }
+{
+    if skip < row.len() {
+        let count = (row.len() - skip).min(source.len());
+        for i in 0..count {
+            row[i + skip] = source[i];
+        }
+    }
+}
+
+/// The part of a row that lies so many columns to the right of a strip, if all of it lies inside.
+pub fn inside<'a>(
+    source: &'a [Cell],
+    from: usize,
+    right: i32,
+    width: usize,
+) -> Option<&'a [Cell]>
+    requires { from ≤ 65535 }
+    ensures width { IfSome result (λ part. length part.now ≡ width) }
+    ensures each { IfSome result (λ part. (c : ℕ) → c < width → at part.now c ≡ item_at None source.now (pos (from + c) +ℤ right)) }
+{
+    let skip = from as i64 + right as i64;
+    if skip < 0 {
+        return None;
+    }
+    let first = skip as usize;
+    if source.len() < first || source.len() - first < width {
+        return None;
+    }
+    Some(&source[first..first + width])
+}
+
+/// The cells of a row so many columns to the right, null outside, of a strip that begins at a column.
+pub fn shift(source: &[Cell], from: usize, right: i32, row: &mut [Cell])
+    requires { from ≤ 65535 }
+    ensures width { length row.new ≡ length row.old }
+    ensures each { (c : ℕ) → c < length row.old → at row.new c ≡ item_at None source.now (pos (from + c) +ℤ right) }
+{
+    match inside(source, from, right, row.len()) {
+        Some(part) => row.copy_from_slice(part),
+        None => shift_over_the_edge(source, from, right, row),
+    }
+}
+
+// The same where some of them are outside.
+fn shift_over_the_edge(source: &[Cell], from: usize, right: i32, row: &mut [Cell])
+    requires { from ≤ 65535 }
+    ensures width { length row.new ≡ length row.old }
+    ensures each { (c : ℕ) → c < length row.old → at row.new c ≡ item_at None source.now (pos (from + c) +ℤ right) }
+{
+    fill(row, Cell::null());
+    let skip = from as i64 + right as i64;
+    if skip >= 0 {
+        from_right(source, skip as usize, row);
+    } else {
+        from_left(source, -skip as usize, row);
+    }
+}
+
+pub fn nullness(row: &mut [Cell])
+    ensures width { length row.new ≡ length row.old }
+    ensures each { (c : ℕ) → c < length row.old → at row.new c ≡ truth (is_null (at row.old c)) }
+{
+    each(row, |a| cells::nullness(a));
+}
+
+pub fn size(row: &mut [Cell])
+    ensures width { length row.new ≡ length row.old }
+    ensures each { (c : ℕ) → c < length row.old → at row.new c ≡ size_of (at row.old c) }
+{
+    each(row, |a| cells::size(a));
+}
+
+pub fn negate(row: &mut [Cell])
+    ensures width { length row.new ≡ length row.old }
+    ensures each { (c : ℕ) → c < length row.old → at row.new c ≡ negated (at row.old c) }
+{
+    each(row, |a| cells::negated(a));
+}
+
+pub fn invert(row: &mut [Cell])
+    ensures width { length row.new ≡ length row.old }
+    ensures each { (c : ℕ) → c < length row.old → at row.new c ≡ inverted (at row.old c) }
+{
+    each(row, |a| cells::inverted(a));
+}
+
+pub fn truth(row: &mut [Cell])
+    ensures width { length row.new ≡ length row.old }
+    ensures each { (c : ℕ) → c < length row.old → at row.new c ≡ chosen (at row.old c) (Some (pos 1)) (Some (pos 0)) }
+{
+    each(
+        row,
+        |a| cells::chosen(a, cells::truth(true), cells::truth(false)),
+    );
+}
+
+pub(crate) fn lesser(row: &mut [Cell], other: &[Cell])
+    requires width { length other.now ≡ length row.old }
+    ensures width { length row.new ≡ length row.old }
+    ensures each { (c : ℕ) → c < length row.old → at row.new c ≡ lesser (at row.old c) (at other.now c) }
+{
+    combine(row, other, |a, b| cells::lesser(a, b));
+}
+
+pub(crate) fn larger(row: &mut [Cell], other: &[Cell])
+    requires width { length other.now ≡ length row.old }
+    ensures width { length row.new ≡ length row.old }
+    ensures each { (c : ℕ) → c < length row.old → at row.new c ≡ greater (at row.old c) (at other.now c) }
+{
+    combine(row, other, |a, b| cells::larger(a, b));
+}
+
+pub(crate) fn known_lesser(row: &mut [Cell], other: &[Cell])
+    requires width { length other.now ≡ length row.old }
+    ensures width { length row.new ≡ length row.old }
+    ensures each { (c : ℕ) → c < length row.old → at row.new c ≡ known_lesser (at row.old c) (at other.now c) }
+{
+    combine(row, other, |a, b| cells::known_lesser(a, b));
+}
+
+pub(crate) fn known_larger(row: &mut [Cell], other: &[Cell])
+    requires width { length other.now ≡ length row.old }
+    ensures width { length row.new ≡ length row.old }
+    ensures each { (c : ℕ) → c < length row.old → at row.new c ≡ known_greater (at row.old c) (at other.now c) }
+{
+    combine(row, other, |a, b| cells::known_larger(a, b));
+}
+
+pub(crate) fn choose_or_zero(row: &mut [Cell], other: &[Cell])
+    requires width { length other.now ≡ length row.old }
+    ensures width { length row.new ≡ length row.old }
+    ensures each { (c : ℕ) → c < length row.old → at row.new c ≡ chosen (at row.old c) (at other.now c) (Some (pos 0)) }
+{
+    combine(row, other, |a, b| cells::chosen(a, b, cells::truth(false)));
+}
+
+/// The values of an operator along a row, which holds its left operands.
+pub fn apply(operator: Operator, row: &mut [Cell], other: &[Cell])
+    requires width { length other.now ≡ length row.old }
+    ensures width { length row.new ≡ length row.old }
+    ensures each { (c : ℕ) → c < length row.old → at row.new c ≡ applied operator (at row.old c) (at other.now c) }
+{
+    match operator {
+        Operator::Times => combine(row, other, |a, b| cells::product(a, b)),
+        Operator::Divide => combine(row, other, |a, b| cells::quotient(a, b)),
+        Operator::Modulo => combine(row, other, |a, b| cells::remainder(a, b)),
+        Operator::Plus => combine(row, other, |a, b| cells::sum(a, b)),
+        Operator::Minus => combine(row, other, |a, b| cells::difference(a, b)),
+        Operator::Less => combine(row, other, |a, b| cells::less(a, b)),
+        Operator::LessEqual => combine(row, other, |a, b| cells::less_equal(a, b)),
+        Operator::Greater => combine(row, other, |a, b| cells::greater(a, b)),
+        Operator::GreaterEqual => combine(row, other, |a, b| cells::greater_equal(a, b)),
+        Operator::Equal => combine(row, other, |a, b| cells::equal(a, b)),
+        Operator::NotEqual => combine(row, other, |a, b| cells::not_equal(a, b)),
+        Operator::And => combine(row, other, |a, b| cells::and(a, b)),
+        Operator::Or => combine(row, other, |a, b| cells::or(a, b)),
+        Operator::KnownAnd => combine(row, other, |a, b| cells::known_and(a, b)),
+        Operator::KnownOr => combine(row, other, |a, b| cells::known_or(a, b)),
+    }
+}
+
+/// The values of an operator along a row, which holds its left operands; the right one is the same cell everywhere.
+pub fn apply_one(operator: Operator, row: &mut [Cell], b: Cell)
+    ensures width { length row.new ≡ length row.old }
+    ensures each { (c : ℕ) → c < length row.old → at row.new c ≡ applied operator (at row.old c) b }
+{
+    match operator {
+        Operator::Times => each(row, |a| cells::product(a, b)),
+        Operator::Divide => each(row, |a| cells::quotient(a, b)),
+        Operator::Modulo => each(row, |a| cells::remainder(a, b)),
+        Operator::Plus => each(row, |a| cells::sum(a, b)),
+        Operator::Minus => each(row, |a| cells::difference(a, b)),
+        Operator::Less => each(row, |a| cells::less(a, b)),
+        Operator::LessEqual => each(row, |a| cells::less_equal(a, b)),
+        Operator::Greater => each(row, |a| cells::greater(a, b)),
+        Operator::GreaterEqual => each(row, |a| cells::greater_equal(a, b)),
+        Operator::Equal => each(row, |a| cells::equal(a, b)),
+        Operator::NotEqual => each(row, |a| cells::not_equal(a, b)),
+        Operator::And => each(row, |a| cells::and(a, b)),
+        Operator::Or => each(row, |a| cells::or(a, b)),
+        Operator::KnownAnd => each(row, |a| cells::known_and(a, b)),
+        Operator::KnownOr => each(row, |a| cells::known_or(a, b)),
+    }
+}
+
+// Where a row lies under a strip: its first cell there, the column of the strip that stands over that cell, and how many
+// cells they share.
+#[derive(Clone, Copy)]
+struct Overlap {
+    first: usize,
+    before: usize,
+    count: usize,
+}
+
+// That of a row of so many cells, moved to the left, under a strip of a width that begins at a column.
+fn overlap_of(cells: usize, right: i32, from: usize, width: usize) -> Overlap
+    requires { from ≤ 65535 }
+    ensures strip { result.before + result.count ≤ width }
+    ensures row { result.first + result.count ≤ cells }
+    ensures before { (c : ℕ) → c < result.before → (pos (from + c) +ℤ right) <ℤ pos 0 }
+    ensures first { 0 < result.count → pos result.first ≡ pos (from + result.before) +ℤ right }
+    ensures after { (c : ℕ) → result.before + result.count ≤ c → c < width → pos cells ≤ℤ (pos (from + c) +ℤ right) }
+{
+    let skip = from as i64 + right as i64;
+    if skip < 0 {
+        let before = (-skip as usize).min(width);
+        let count = cells.min(width - before);
+        Overlap {
+            first: 0,
+            before,
+            count,
+        }
+    } else {
+        let first = (skip as usize).min(cells);
+        let count = (cells - first).min(width);
+        Overlap {
+            first,
+            before: 0,
+            count,
+        }
+    }
+}
+
+/// The values of an operator along a strip, which holds its left operands and begins at a column; the right ones are the
+/// cells of another row so many columns to the right, null outside.
+pub fn apply_shifted(
+    operator: Operator,
+    row: &mut [Cell],
+    source: &[Cell],
+    right: i32,
+    from: usize,
+)
+    requires { from ≤ 65535 }
+    ensures width { length row.new ≡ length row.old }
+    ensures each { (c : ℕ) → c < length row.old → at row.new c ≡ applied operator (at row.old c) (item_at None source.now (pos (from + c) +ℤ right)) }
+{
+    let overlap = overlap_of(source.len(), right, from, row.len());
+    let part = &source[overlap.first..overlap.first + overlap.count];
+    let (left, others) = row.split_at_mut(overlap.before);
+    let (middle, after) = others.split_at_mut(overlap.count);
+    apply_one(operator, left, Cell::null());
+    apply(operator, middle, part);
+    apply_one(operator, after, Cell::null());
+}
