@@ -1,2 +1,3 @@
 -- What only private functions and proofs speak of.
+pub mod Code
 pub mod Rows

@@ -29,7 +29,8 @@ pub struct CellMap {
 impl Model for CellMap {
     ghost use Rattle.std.specs.Prelude.{map};
     ghost use Rattle.std.specs.FinMap.{from_entries};
-    ghost use Rattle.cell_core.specs.Grid.{Grid, grid_code, IsFilled, AreCells};
+    ghost use Rattle.cell_core.specs.Grid.{Grid, IsFilled, AreCells};
+    ghost use Rattle.cell_core.specs.parts.Code.{grid_code};
 
     ghost Value = { Grid };
 

@@ -1,6 +1,5 @@
 -- The printed text of a table and of cells (r.stats manual, flags -c, -l and -1; the null text, `no data` for null, and one separator byte: profile).
-use Rattle.std.specs.Prelude.{ℕ, Bool, List, [], ◌∷◌, ◌++◌, flat_map, slice_get, codes, decimal, Option, Some, None, unwrap_or, if◌then◌else◌, refl}
-use Rattle.std.specs.Coded.{Coded, code_by, coded×, coded_ℕ, coded_bool, coded_list}
+use Rattle.std.specs.Prelude.{ℕ, Bool, List, [], ◌∷◌, ◌++◌, flat_map, slice_get, codes, decimal, Option, Some, None, unwrap_or, if◌then◌else◌}
 use Rattle.std.specs.FinMap as finmap
 use Rattle.std.specs.List.{zip, join_with_byte}
 use Rattle.std.specs.Option.{option_map_or}
@@ -63,9 +62,3 @@ table_text format maps picks pairs = flat_map (pair_line format maps picks) pair
 -- a line for each cell that is not left out, row by row from the top left
 abbrev pub cells_text : FormatValue → Skip → List Grid → List ℕ → ℕ → ℕ → List ℕ
 cells_text format skip maps picks rows cols = flat_map (cell_line format maps picks) (kept skip (all_combinations maps picks rows cols))
-
--- how a format is stored
-abbrev pub format_code : Coded FormatValue
-format_code =
-    code_by (ℕ × (List ℕ × (Bool × Bool))) (coded× coded_ℕ (coded× (coded_list coded_ℕ) (coded× coded_bool coded_bool)))
-    (λ f. (f.separator, (f.null_text, (f.labels, f.counts)))) (λ p. record { separator = p.0; null_text = p.1.0; labels = p.1.1.0; counts = p.1.1.1 }) (λ _. refl)

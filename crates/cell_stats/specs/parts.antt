@@ -1,2 +1,3 @@
 -- Fields of a line.
+pub mod Code
 pub mod Preceded

@@ -15,7 +15,8 @@ pub struct Format<'a> {
 }
 
 impl<'a> Model for Format<'a> {
-    ghost use Rattle.cell_stats.specs.TableText.{FormatValue, format_code};
+    ghost use Rattle.cell_stats.specs.TableText.{FormatValue};
+    ghost use Rattle.cell_stats.specs.parts.Code.{format_code};
 
     ghost Value = { FormatValue };
 

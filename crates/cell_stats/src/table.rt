@@ -23,7 +23,8 @@ impl Model for Table {
     ghost use Rattle.std.specs.Prelude.{◌≡◌, map, All, length};
     ghost use Rattle.std.specs.List.Sorted.{IsStrictlySortedBy};
     ghost use Rattle.cell_counts.specs.Combinations.{combination_cmp};
-    ghost use Rattle.cell_stats.specs.Tables.{TableValue, table_code};
+    ghost use Rattle.cell_stats.specs.Tables.{TableValue};
+    ghost use Rattle.cell_stats.specs.parts.Code.{table_code};
 
     ghost Value = { TableValue };
 
