@@ -32,7 +32,9 @@ import differences
 ROOT = os.path.dirname(os.path.dirname(os.path.abspath(__file__)))
 DOCUMENTS = ["README.md", "docs/GUIDE.md", "docs/COMMANDS.md", "docs/DIFFERENCES.md", "docs/PROOFS.md"]
 FENCE = re.compile(r"```(\S*)(?: file=(\S+))?\n(.*?)^```$", re.MULTILINE | re.DOTALL)
-COUNTED = re.compile(r"^\| (crates/\S+|all) \| (\d+) \|", re.MULTILINE)
+COUNTED = re.compile(r"^\| (crates/\S+\.antt|all) \| (\d+) \| (\d+) \|", re.MULTILINE)
+# A line of a file of definitions that defines nothing: an import, a comment, or nothing at all.
+NO_DEFINITION = re.compile(rb"use |\s*--|\s*$")
 SPEED_ROW = re.compile(r"^\| ([^|]+) \| ([^|]+ cells) \| (.*?) \|$", re.MULTILINE)
 LANGUAGES = {"console", "text", "python", "sh"}
 SECONDS = 60
@@ -191,30 +193,38 @@ def check_messages():
     return len(messages & rows), faults + [f"docs/COMMANDS.md: no such message: '{text}'" for text in sorted(rows - messages)]
 
 
-def check_counts(write):
-    """Whether docs/PROOFS.md has the numbers of lines of the files that it lists, and of each table; `write` mends them."""
-    path, total, counted, faults = f"{ROOT}/docs/PROOFS.md", 0, 0, []
+def check_counts_in(name, write):
+    """Whether a document has the numbers of lines and of definitions of the files that it lists, and of each table; `write` mends them."""
+    path, totals, counted, faults = f"{ROOT}/{name}", (0, 0), 0, []
     with open(path, encoding="utf-8") as file:
         document = file.read()
 
-    def with_count(found):
-        nonlocal total, counted
+    def with_counts(found):
+        nonlocal totals, counted
         if found[1] == "all":
-            lines, total = total, 0
+            counts, totals = totals, (0, 0)
         else:
             with open(f"{ROOT}/{found[1]}", "rb") as listed:
-                lines = listed.read().count(b"\n")
-            total += lines
-        counted += lines == int(found[2])
-        if lines != int(found[2]):
-            faults.append(f"docs/PROOFS.md: {found[1]} has {lines} lines, and not {found[2]} (--write mends it)")
-        return f"| {found[1]} | {lines} |"
+                lines = listed.read().splitlines()
+            counts = len(lines), sum(not NO_DEFINITION.match(line) for line in lines)
+            totals = totals[0] + counts[0], totals[1] + counts[1]
+        is_right = counts == (int(found[2]), int(found[3]))
+        counted += is_right
+        if not is_right:
+            faults.append(f"{name}: {found[1]} has {counts[0]} lines, {counts[1]} of them definitions, and not {found[2]} and {found[3]} (--write mends it)")
+        return f"| {found[1]} | {counts[0]} | {counts[1]} |"
 
-    right = COUNTED.sub(with_count, document)
+    right = COUNTED.sub(with_counts, document)
     if write:
         with open(path, "w", encoding="utf-8") as file:
             file.write(right)
     return counted, faults
+
+
+def check_counts(write):
+    """The same of the documents that count definitions."""
+    told = [check_counts_in(name, write) for name in ("docs/MAP.md", "docs/PROOFS.md")]
+    return sum(counted for counted, _ in told), [fault for _, faults in told for fault in faults]
 
 
 def tables_of_speed():
