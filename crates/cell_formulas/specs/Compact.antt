@@ -26,10 +26,6 @@ AreRead places f = (k i : ℕ) → slice_get places k ≡ Some i → Reads i f
 abbrev pub ArePicked : List ℕ → (maps picked : List Grid) → Type 0
 ArePicked places maps picked = (k i : ℕ) → slice_get places k ≡ Some i → slice_get picked k ≡ slice_get maps i
 
--- the places, and then others
-abbrev pub IsLonger : (old new : List ℕ) → Type 0
-IsLonger old new = (k i : ℕ) → slice_get old k ≡ Some i → slice_get new k ≡ Some i
-
 -- no place is listed twice
 abbrev pub AreDistinct : List ℕ → Type 0
 AreDistinct places = AllPairs (λ a b. a ≢ b) places
