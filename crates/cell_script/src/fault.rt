@@ -3,7 +3,7 @@
 use cell_calc::CalcFault;
 use cell_cats::rules::RuleFault;
 use cell_core::memory::Memory;
-use cell_counts::reading::ComboFault;
+use cell_combinations::reading::ComboFault;
 use cell_options::fault::OptionFault;
 use thiserror::Error;
 

@@ -3,7 +3,7 @@
 use cell_clump::clump::Joining;
 use cell_core::cell::Cell;
 use cell_core::name::{Name, Names};
-use cell_counts::skip::Skip;
+use cell_combinations::skip::Skip;
 use cell_script::parsing::parse_script;
 use cell_script::statement::Command;
 use std::test::Fail;

@@ -14,7 +14,7 @@ use cell_core::cell::Cell;
 use cell_core::shelf::Shelf;
 use cell_core::sink::{Sink, WriteFault};
 use cell_core::text::write_cell;
-use cell_counts::combination::Combo;
+use cell_combinations::combination::Combo;
 use itoa::Buffer;
 
 // The label of a cell of a map.
