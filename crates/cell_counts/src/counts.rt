@@ -10,10 +10,10 @@ ghost use Rattle.cell_counts.specs.parts.Alone.{alone};
 ghost use Rattle.cell_counts.specs.parts.Held.{total_of};
 ghost use Rattle.cell_combinations.specs.LeftOut.{kept};
 
-use cell_combinations::combination::Combo;
 use crate::counting::{Held, add, first_places, flush_all, make_room};
 use crate::cursor::{Cursor, cursors_of, pass_all, restart_all};
 use crate::selection::Selection;
+use cell_combinations::combination::Combo;
 use cell_combinations::skip::{Skip, is_left_out};
 use cell_core::cell::Cell;
 use cell_core::memory::Memory;

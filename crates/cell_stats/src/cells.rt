@@ -9,6 +9,7 @@ ghost use Rattle.cell_stats.specs.TableText.{cell_line, cells_text};
 
 use crate::format::Format;
 use crate::printing::write_cell_line;
+use cell_combinations::skip::{Skip, is_left_out};
 use cell_core::block::Block;
 use cell_core::cell::Cell;
 use cell_core::memory::Memory;
@@ -16,7 +17,6 @@ use cell_core::shelf::Shelf;
 use cell_core::sink::{Sink, WriteFault};
 use cell_counts::cursor::{Cursor, cursors_of, pass_all, restart_all};
 use cell_counts::selection::Selection;
-use cell_combinations::skip::{Skip, is_left_out};
 use std::alloc::Global;
 use std::marker::Model;
 
