@@ -32,9 +32,8 @@ fn place_of(cell: Cell, places: usize) -> usize
     number % places
 }
 
-// So many places, in which only null is known: every list of rules keeps it.
-fn places_of(alloc: Global, many: usize) -> Result<Vec<Known>, Memory>
-    requires { 0 < many }
+// Places in which only null is known: every list of rules keeps it.
+pub(crate) fn only_null(alloc: Global) -> Result<Vec<Known>, Memory>
     ensures some { IfOk result (λ known. 0 < length known.items) }
     ensures right { IfOk result (λ known. (rules : List RuleValue) → AreRight rules known.items) }
 {
@@ -43,16 +42,8 @@ fn places_of(alloc: Global, many: usize) -> Result<Vec<Known>, Memory>
         cell,
         reclassed: cell,
     };
-    let known = vec![in alloc; null; many]?;
+    let known = vec![in alloc; null; PLACES]?;
     Ok(known)
-}
-
-// Places in which only null is known.
-pub(crate) fn only_null(alloc: Global) -> Result<Vec<Known>, Memory>
-    ensures some { IfOk result (λ known. 0 < length known.items) }
-    ensures right { IfOk result (λ known. (rules : List RuleValue) → AreRight rules known.items) }
-{
-    places_of(alloc, PLACES)
 }
 
 // The new category of a cell, which is known from then on.

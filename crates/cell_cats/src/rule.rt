@@ -53,12 +53,6 @@ fn is_between(ends: (i32, i32), x: i32) -> bool
     (ends.0 <= x && x <= ends.1) || (ends.1 <= x && x <= ends.0)
 }
 
-fn is_in_ranges(ranges: &[(i32, i32)], x: i32) -> bool
-    ensures { result ≡ list_any (λ ends. is_between ends x) ranges.now }
-{
-    ranges.iter().any(|ends| is_between(*ends, x))
-}
-
 impl Rule {
     /// A rule of these parts.
     pub fn new(listed: Option<Vec<(i32, i32)>>, output: Output, label: Vec<u8>) -> Rule
@@ -75,10 +69,7 @@ impl Rule {
     pub fn lists(&self, x: i32) -> bool
         ensures { result ≡ lists x self.now }
     {
-        match &self.listed {
-            Some(ranges) => is_in_ranges(ranges, x),
-            None => false,
-        }
+        self.ranges().iter().any(|ends| is_between(*ends, x))
     }
 
     // The ends of the ranges that it lists: none where it is a rule of `*`.

@@ -5,10 +5,10 @@ use Rattle.std.specs.BTreeMap.{BTreeMap}
 use Rattle.std.specs.Cmp.{eq_by_cmp_equiv}
 use Rattle.std.proofs.lemmas.List.Sums.{sum_by-append, sum_by-set, get_or-le-sum_by}
 use Rattle.cell_counts.specs.declared.counting.Held.{Held}
-use Rattle.cell_counts.specs.Combinations.{Combination, combination_cmp, combination_cmp_total}
+use Rattle.cell_combinations.specs.Combinations.{Combination, combination_cmp, combination_cmp_total}
 use Rattle.cell_counts.specs.parts.Held.{is_same, held_by, held_of, total_of, Grows}
 use Rattle.cell_counts.specs.Mapped.{mapped_of}
-use Rattle.cell_counts.proofs.OrderLemmas.{combination_cmp-exact, is_equal}
+use Rattle.cell_combinations.proofs.OrderLemmas.{combination_cmp-exact, is_equal}
 
 pub same-flip : (a b : Combination) → is_same a b ≡ is_same b a
 same-flip a b = (eq_by_cmp_equiv combination_cmp_total).symm a b

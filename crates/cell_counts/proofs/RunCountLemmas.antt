@@ -6,13 +6,13 @@ use Rattle.std.specs.List.{range_with_len}
 use Rattle.std.specs.Prelude.{slice_get}
 use Rattle.cell_core.specs.Grid.{Grid, CellValue, row_at}
 use Rattle.cell_core.specs.Runs.{RunValue, written_out}
-use Rattle.cell_counts.specs.declared.skip.Skip.{Skip}
-use Rattle.cell_counts.specs.Combinations.{Combination, combination_at, all_combinations, row_combinations}
+use Rattle.cell_combinations.specs.declared.skip.Skip.{Skip}
+use Rattle.cell_combinations.specs.Combinations.{Combination, combination_at, all_combinations, row_combinations}
 use Rattle.cell_counts.specs.Counts.{count_of}
 use Rattle.cell_counts.specs.parts.Alone.{alone}
 use Rattle.cell_counts.specs.Cursors.{row_in}
 use Rattle.cell_counts.specs.parts.Held.{is_same}
-use Rattle.cell_counts.specs.LeftOut.{kept, is_left_out}
+use Rattle.cell_combinations.specs.LeftOut.{kept, is_left_out}
 use Rattle.cell_counts.proofs.WalkLemmas.{row-of, cell-row, count-append, count-replicate, kept-replicate, all_combinations_more, count_small}
 
 -- the counts of two parts

@@ -11,12 +11,12 @@ use Rattle.std.specs.Prelude.{slice_get}
 use Rattle.std.specs.Ordering.{eq_by_cmp}
 use Rattle.cell_core.specs.Grid.{Grid, CellValue, cell_at, row_at}
 use Rattle.cell_core.specs.Runs.{RunValue, written_out}
-use Rattle.cell_counts.specs.declared.skip.Skip.{Skip}
-use Rattle.cell_counts.specs.Combinations.{Combination, combination_cmp, cell_in, combination_at, all_combinations, row_combinations}
+use Rattle.cell_combinations.specs.declared.skip.Skip.{Skip}
+use Rattle.cell_combinations.specs.Combinations.{Combination, combination_cmp, cell_in, combination_at, all_combinations, row_combinations}
 use Rattle.cell_counts.specs.Counts.{count_of}
 use Rattle.cell_counts.specs.Cursors.{CursorValue, to_come, IsReady, row_in}
 use Rattle.cell_counts.specs.parts.Held.{is_same}
-use Rattle.cell_counts.specs.LeftOut.{kept, is_left_out}
+use Rattle.cell_combinations.specs.LeftOut.{kept, is_left_out}
 
 -- ---- the cells of a stretch
 

@@ -1,8 +1,5 @@
--- The combinations of categories over several maps, and how often each occurs.
-pub mod Combinations
-pub mod ComboText
+-- How often each combination of categories occurs over several maps.
 pub mod Counts
 pub mod Cursors
-pub mod LeftOut
 pub mod Mapped
 pub mod parts

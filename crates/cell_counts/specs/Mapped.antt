@@ -2,7 +2,7 @@
 use Rattle.std.specs.Prelude.{ℕ, ◌≢◌, Some, unwrap_or}
 use Rattle.std.specs.BTreeMap as tree
 use Rattle.std.specs.BTreeMap.{BTreeMap}
-use Rattle.cell_counts.specs.Combinations.{Combination, combination_cmp}
+use Rattle.cell_combinations.specs.Combinations.{Combination, combination_cmp}
 
 -- how many are in the map
 abbrev pub mapped_of : Combination → BTreeMap Combination ℕ → ℕ

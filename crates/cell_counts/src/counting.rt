@@ -2,11 +2,11 @@
 
 ghost use Rattle.std.specs.Prelude.{ℕ, ◌≡◌, ◌≢◌, ◌+◌, ◌-◌, ◌<◌, ◌≤◌, ◌^◌, ◌↔◌, length, take, All, Some, cond, OnOk, IfOk, IsTrue};
 ghost use Rattle.std.specs.BTreeMap as tree;
-ghost use Rattle.cell_counts.specs.Combinations.{Combination, combination_cmp};
+ghost use Rattle.cell_combinations.specs.Combinations.{Combination, combination_cmp};
 ghost use Rattle.cell_counts.specs.parts.Held.{is_same, held_by, held_of, total_of, Grows};
 ghost use Rattle.cell_counts.specs.Mapped.{mapped_of, HasNoZero};
 
-use crate::combination::Combo;
+use cell_combinations::combination::Combo;
 use cell_core::cell::Cell;
 use cell_core::memory::Memory;
 use cell_core::shelf::Shelf;

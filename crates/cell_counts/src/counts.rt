@@ -3,18 +3,18 @@
 ghost use Rattle.std.specs.Prelude.{◌≡◌, ◌+◌, ◌<◌, ◌≤◌, ◌^◌, All, OnOk, IfOk, length, map};
 ghost use Rattle.cell_base.specs.Region.{IsRegion};
 ghost use Rattle.cell_core.specs.Runs.{written_out};
-ghost use Rattle.cell_counts.specs.Combinations.{Combination, all_combinations};
+ghost use Rattle.cell_combinations.specs.Combinations.{Combination, all_combinations};
 ghost use Rattle.cell_counts.specs.Counts.{count_of};
 ghost use Rattle.cell_counts.specs.Mapped.{mapped_of, HasNoZero};
 ghost use Rattle.cell_counts.specs.parts.Alone.{alone};
 ghost use Rattle.cell_counts.specs.parts.Held.{total_of};
-ghost use Rattle.cell_counts.specs.LeftOut.{kept};
+ghost use Rattle.cell_combinations.specs.LeftOut.{kept};
 
-use crate::combination::Combo;
 use crate::counting::{Held, add, first_places, flush_all, make_room};
 use crate::cursor::{Cursor, cursors_of, pass_all, restart_all};
 use crate::selection::Selection;
-use crate::skip::{Skip, is_left_out};
+use cell_combinations::combination::Combo;
+use cell_combinations::skip::{Skip, is_left_out};
 use cell_core::cell::Cell;
 use cell_core::memory::Memory;
 use cell_core::runs::Runs;

@@ -1,6 +1,6 @@
 //! What of a shelf is looked at.
 
-use crate::skip::Skip;
+use cell_combinations::skip::Skip;
 use cell_core::shelf::Shelf;
 
 /// Maps of a shelf that are looked at together, and which of their combinations are left out.

@@ -9,9 +9,9 @@ use Rattle.cell_base.specs.Name.{place_of}
 use Rattle.cell_language.specs.Assignment.{IsAssignmentText}
 use Rattle.cell_language.specs.Unknown.{first_unknown}
 use Rattle.cell_language.specs.declared.assignment.Assignment.{Assignment}
-use Rattle.cell_counts.specs.Combinations.{Combination}
-use Rattle.cell_counts.specs.ComboText.{combo_of}
-use Rattle.cell_counts.specs.declared.reading.ComboFault.{ComboFault}
+use Rattle.cell_combinations.specs.Combinations.{Combination}
+use Rattle.cell_combinations.specs.ComboText.{combo_of}
+use Rattle.cell_combinations.specs.declared.reading.ComboFault.{ComboFault}
 use Rattle.cell_text.specs.Words.{words_of}
 use Rattle.cell_script.specs.Commands.{as_whole, as_opened, head_named, head_of_words, is_mapcalc, IsShortHead, IsHeadOf, IsHead, clump_of, clump_with, mapcalc_of, IsMapcalc, out_ascii_of, out_ascii_with, reclass_of, after_of, stats_at, stats_with, stats_of}
 use Rattle.cell_script.specs.Faults.{in_script}

@@ -6,13 +6,13 @@ use Rattle.cell_base.specs.Name.{place_of}
 use Rattle.cell_language.specs.Assignment.{IsAssignmentText}
 use Rattle.cell_language.specs.GrammarFault.{IsTextFault}
 use Rattle.cell_language.specs.Unknown.{first_unknown}
-use Rattle.cell_counts.specs.Combinations.{Combination}
-use Rattle.cell_counts.specs.ComboText.{combo_of}
+use Rattle.cell_combinations.specs.Combinations.{Combination}
+use Rattle.cell_combinations.specs.ComboText.{combo_of}
 use Rattle.cell_text.specs.Words.{words_of}
 use Rattle.cell_language.specs.declared.assignment.Assignment.{Assignment}
 use Rattle.cell_tokens.specs.declared.fault.CalcFault.{CalcFault}
 use Rattle.cell_tokens.specs.declared.fault.CalcKind.TheVariants as calc
-use Rattle.cell_counts.specs.declared.reading.ComboFault.{ComboFault}
+use Rattle.cell_combinations.specs.declared.reading.ComboFault.{ComboFault}
 use Rattle.cell_script.specs.Faults.{in_script}
 use Rattle.cell_script.specs.Lines.{is_comment}
 use Rattle.cell_options.specs.Maps.{new_target, from_to, input_place, input_places}

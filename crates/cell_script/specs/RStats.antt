@@ -1,11 +1,11 @@
 -- r.stats: the table that its options ask for (r.stats manual; `after` is the profile's).
 use Rattle.std.specs.Prelude.{ℕ, List, ◌∷◌, Option, Some, if◌then◌else◌, unwrap_or, ◌≡◌, ⊤, false, length, None, Ok, codes}
 use Rattle.cell_ascii_text.specs.GridWords.{usual_null}
-use Rattle.cell_counts.specs.Combinations.{Combination}
-use Rattle.cell_counts.specs.ComboText.{combo_of}
+use Rattle.cell_combinations.specs.Combinations.{Combination}
+use Rattle.cell_combinations.specs.ComboText.{combo_of}
 use Rattle.cell_text.specs.Words.{words_of}
-use Rattle.cell_counts.specs.declared.skip.Skip.{Skip}
-use Rattle.cell_counts.specs.declared.skip.Skip.TheVariants.{Nothing, AnyNull, AllNull}
+use Rattle.cell_combinations.specs.declared.skip.Skip.{Skip}
+use Rattle.cell_combinations.specs.declared.skip.Skip.TheVariants.{Nothing, AnyNull, AllNull}
 use Rattle.cell_options.specs.OptionWords.{AreOptions}
 use Rattle.cell_options.specs.Places.{places_of}
 use Rattle.cell_options.specs.Options.{Given, has_flag, is_torn}

@@ -2,8 +2,8 @@
 
 use cell_language::fault::CalcFault;
 use cell_cats::rules::RuleFault;
+use cell_combinations::reading::ComboFault;
 use cell_core::memory::Memory;
-use cell_counts::reading::ComboFault;
 use cell_options::fault::OptionFault;
 use thiserror::Error;
 

@@ -8,11 +8,11 @@ ghost use Rattle.cell_script.specs.Fitting.{FitsCommand};
 
 use crate::fault::ScriptKind;
 use crate::statement::{Command, StatsOptions};
+use cell_combinations::combination::Combo;
+use cell_combinations::reading::ComboFault;
+use cell_combinations::skip::Skip;
 use cell_core::memory::Memory;
 use cell_core::name::Names;
-use cell_counts::combination::Combo;
-use cell_counts::reading::ComboFault;
-use cell_counts::skip::Skip;
 use cell_options::maps::input_places;
 use cell_options::options::{Form, Options, options_of};
 use std::alloc::Global;

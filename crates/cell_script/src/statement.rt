@@ -5,10 +5,10 @@ ghost use Rattle.std.specs.Prelude.{◌≡◌, OnOk, OnErr, ◌++◌, [], ◌∷
 use cell_formulas::bound::Bound;
 use cell_cats::rules::Rules;
 use cell_clump::clump::Joining;
+use cell_combinations::combination::Combo;
+use cell_combinations::skip::Skip;
 use cell_core::memory::Memory;
 use cell_core::name::Name;
-use cell_counts::combination::Combo;
-use cell_counts::skip::Skip;
 pub use cell_options::maps::Places;
 use cell_options::null_text::{NullText, TableNullText};
 use std::alloc::Global;

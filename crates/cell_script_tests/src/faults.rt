@@ -1,8 +1,8 @@
 //! Which fault of a script is told, and where.
 
 use cell_cats::rules::RuleFault;
+use cell_combinations::reading::ComboFault;
 use cell_core::name::{Name, Names};
-use cell_counts::reading::ComboFault;
 use cell_language::fault::{CalcFault, CalcKind};
 use cell_script::fault::{ScriptFault, ScriptKind};
 use cell_script::parsing::parse_script;

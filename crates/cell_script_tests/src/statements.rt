@@ -1,9 +1,9 @@
 //! Which statements a script has.
 
 use cell_clump::clump::Joining;
+use cell_combinations::skip::Skip;
 use cell_core::cell::Cell;
 use cell_core::name::{Name, Names};
-use cell_counts::skip::Skip;
 use cell_script::parsing::parse_script;
 use cell_script::statement::Command;
 use std::test::Fail;

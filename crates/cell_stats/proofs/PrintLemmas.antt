@@ -11,7 +11,7 @@ use Rattle.cell_devices.specs.Blocks.{BlockValue, Gathers, CutsOff}
 use Rattle.cell_devices.proofs.GatherLemmas.{CutsOff-first, CutsOff-second, Gathers-then}
 use Rattle.cell_core.specs.Grid.{Grid, CellValue}
 use Rattle.cell_core.specs.Text.{cell_text}
-use Rattle.cell_counts.specs.Combinations.{Combination}
+use Rattle.cell_combinations.specs.Combinations.{Combination}
 use Rattle.cell_stats.specs.parts.Preceded.{preceded, pick_text, next_text, others_text}
 use Rattle.cell_stats.specs.TableText.{FormatValue, cell_fields, combination_fields, count_fields, label_in, pair_line}
 

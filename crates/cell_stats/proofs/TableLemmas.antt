@@ -10,13 +10,13 @@ use Rattle.std.specs.Map.{lookup}
 use Rattle.std.specs.BTreeMap.{BTreeMap, IsOrdered, is_at}
 use Rattle.std.specs.FinMap as finmap
 use Rattle.std.specs.FinMap.Entries.{find, is_sorted, below_all, same_entries}
-use Rattle.cell_counts.specs.Combinations.{Combination, combination_cmp}
+use Rattle.cell_combinations.specs.Combinations.{Combination, combination_cmp}
 use Rattle.cell_counts.specs.Counts.{count_of}
 use Rattle.cell_counts.specs.Mapped.{mapped_of, HasNoZero}
-use Rattle.cell_counts.specs.declared.skip.Skip.{Skip}
+use Rattle.cell_combinations.specs.declared.skip.Skip.{Skip}
 use Rattle.cell_stats.specs.Tables.{Pairs, IsTable, counts_of, table_of}
-use Rattle.cell_counts.specs.LeftOut.{kept, is_left_out}
-use Rattle.cell_counts.proofs.OrderLemmas.{combination_cmp-total, combination_cmp-exact, is_equal}
+use Rattle.cell_combinations.specs.LeftOut.{kept, is_left_out}
+use Rattle.cell_combinations.proofs.OrderLemmas.{combination_cmp-total, combination_cmp-exact, is_equal}
 use Rattle.cell_stats.proofs.SortedLemmas.{both_true, is_less, each_found}
 
 -- ---- the table as what is found in it

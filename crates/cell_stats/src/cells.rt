@@ -3,12 +3,13 @@
 ghost use Rattle.std.specs.Prelude.{◌≡◌, ◌<◌, ◌≤◌, ◌||◌, [], All, length, flat_map, replicate, OnOk, IfOk, IfErr, is_err};
 ghost use Rattle.cell_devices.specs.Blocks.{Gathers, CutsOff};
 ghost use Rattle.cell_base.specs.Region.{IsRegion};
-ghost use Rattle.cell_counts.specs.Combinations.{row_combinations};
-ghost use Rattle.cell_counts.specs.LeftOut.{kept};
+ghost use Rattle.cell_combinations.specs.Combinations.{row_combinations};
+ghost use Rattle.cell_combinations.specs.LeftOut.{kept};
 ghost use Rattle.cell_stats.specs.TableText.{cell_line, cells_text};
 
 use crate::format::Format;
 use crate::printing::write_cell_line;
+use cell_combinations::skip::{Skip, is_left_out};
 use cell_core::block::Block;
 use cell_core::cell::Cell;
 use cell_core::memory::Memory;
@@ -16,7 +17,6 @@ use cell_core::shelf::Shelf;
 use cell_core::sink::{Sink, WriteFault};
 use cell_counts::cursor::{Cursor, cursors_of, pass_all, restart_all};
 use cell_counts::selection::Selection;
-use cell_counts::skip::{Skip, is_left_out};
 use std::alloc::Global;
 use std::marker::Model;
 

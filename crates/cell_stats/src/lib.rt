@@ -8,4 +8,4 @@ pub mod printing;
 pub mod table;
 pub mod tallying;
 
-pub use cell_counts::{combination, reading, skip};
+pub use cell_combinations::{combination, reading, skip};

@@ -9,12 +9,12 @@ ghost use Rattle.cell_stats.specs.parts.Preceded.{next_text, others_text, pick_t
 
 use crate::format::Format;
 use crate::table::Table;
+use cell_combinations::combination::Combo;
 use cell_core::block::Block;
 use cell_core::cell::Cell;
 use cell_core::shelf::Shelf;
 use cell_core::sink::{Sink, WriteFault};
 use cell_core::text::write_cell;
-use cell_counts::combination::Combo;
 use itoa::Buffer;
 
 // The label of a cell of a map.

@@ -7,7 +7,7 @@ use Rattle.cell_script.specs.declared.statement.StatsOptions.{StatsOptions}
 use Rattle.cell_stats.specs.TableLaw.{TableAgrees, CountsAddUp}
 use Rattle.cell_stats.specs.TableText.{FormatValue, table_text, printed_pairs, line_text, combination_fields}
 use Rattle.cell_stats.specs.Tables.{Pairs, table_of}
-use Rattle.cell_counts.specs.declared.skip.Skip.TheVariants.{Nothing}
+use Rattle.cell_combinations.specs.declared.skip.Skip.TheVariants.{Nothing}
 use Rattle.rcell.specs.Output.{combinations_of, format_of, stats_text}
 use Rattle.rcell.specs.StatsLaw.{IsTableOf, TablesArePrinted, CountsCoverTheRegion}
 

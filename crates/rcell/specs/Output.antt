@@ -7,7 +7,7 @@ use Rattle.cell_script.specs.declared.statement.Command.{Command}
 use Rattle.cell_script.specs.declared.statement.Command.TheVariants.{Mapcalc, Reclass, Clump, Stats, OutAscii}
 use Rattle.cell_script.specs.declared.statement.Statement.{Statement}
 use Rattle.cell_script.specs.declared.statement.StatsOptions.{StatsOptions}
-use Rattle.cell_counts.specs.Combinations.{Combination, all_combinations}
+use Rattle.cell_combinations.specs.Combinations.{Combination, all_combinations}
 use Rattle.cell_stats.specs.TableText.{FormatValue, table_text, printed_pairs, cells_text}
 use Rattle.cell_stats.specs.Tables.{table_of}
 use Rattle.rcell.specs.Making.{IsAfter}

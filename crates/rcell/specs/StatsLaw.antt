@@ -6,7 +6,7 @@ use Rattle.cell_script.specs.declared.statement.Command.TheVariants.{Stats}
 use Rattle.cell_script.specs.declared.statement.StatsOptions.{StatsOptions}
 use Rattle.cell_stats.specs.Tables.{Pairs, IsTable}
 use Rattle.cell_stats.specs.TableText.{table_text, printed_pairs, line_text, combination_fields}
-use Rattle.cell_counts.specs.declared.skip.Skip.TheVariants.{Nothing}
+use Rattle.cell_combinations.specs.declared.skip.Skip.TheVariants.{Nothing}
 use Rattle.rcell.specs.Output.{combinations_of, format_of, command_text}
 
 -- the pairs are a table of the maps at the places

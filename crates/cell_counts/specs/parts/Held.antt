@@ -3,7 +3,7 @@ use Rattle.std.specs.Prelude.{ℕ, ◌≡◌, ◌+◌, List, take, cond, Bool, s
 use Rattle.std.specs.BTreeMap.{BTreeMap}
 use Rattle.std.specs.Ordering.{eq_by_cmp}
 use Rattle.cell_counts.specs.declared.counting.Held.{Held}
-use Rattle.cell_counts.specs.Combinations.{Combination, combination_cmp}
+use Rattle.cell_combinations.specs.Combinations.{Combination, combination_cmp}
 use Rattle.cell_counts.specs.Mapped.{mapped_of}
 
 -- whether two combinations are equal

@@ -1,5 +1,5 @@
 use Rattle.std.proofs.Common.{◌≡◌, ◌+◌, length, take}
-use Rattle.cell_counts.specs.Combinations.{Combination}
+use Rattle.cell_combinations.specs.Combinations.{Combination}
 use Rattle.cell_counts.specs.Mapped.{mapped_of, HasNoZero}
 use Rattle.cell_counts.specs.parts.Held.{held_of}
 use Rattle.cell_counts.proofs.counting.flush_all.Given as goal

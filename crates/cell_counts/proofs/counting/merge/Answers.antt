@@ -1,7 +1,7 @@
 use Rattle.std.proofs.Common.{◌+◌, ◌≡◌, None, Some, Option, cond, ℕ, ap, sym, ◌∙◌, rules, unwrap_or, subst}
 use Rattle.std.specs.BTreeMap as tree
 use Rattle.std.specs.Option.{IsSome}
-use Rattle.cell_counts.specs.Combinations.{combination_cmp}
+use Rattle.cell_combinations.specs.Combinations.{combination_cmp}
 use Rattle.cell_counts.specs.parts.Held.{is_same}
 use Rattle.cell_counts.proofs.HeldLemmas.{Grows-from, Grows-new}
 use Rattle.cell_counts.proofs.counting.merge.Goals as goal

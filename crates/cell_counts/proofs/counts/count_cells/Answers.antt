@@ -4,11 +4,11 @@ use Rattle.std.specs.BTreeMap as tree
 use Rattle.std.specs.BTreeMap.{is_at}
 use Rattle.std.specs.Map.{lookup}
 use Rattle.cell_base.specs.Region.{RegionValue, IsRegion}
-use Rattle.cell_counts.specs.Combinations.{Combination, combination_cmp, all_combinations}
+use Rattle.cell_combinations.specs.Combinations.{Combination, combination_cmp, all_combinations}
 use Rattle.cell_counts.specs.Counts.{count_of}
 use Rattle.cell_counts.specs.Mapped.{mapped_of}
 use Rattle.cell_counts.specs.parts.Held.{total_of}
-use Rattle.cell_counts.specs.LeftOut.{kept}
+use Rattle.cell_combinations.specs.LeftOut.{kept}
 use Rattle.cell_counts.specs.declared.counting.Held.{Held}
 use Rattle.cell_counts.proofs.WalkLemmas.{count_small}
 use Rattle.cell_counts.proofs.counts.count_cells.Goals as goal

@@ -1,9 +1,9 @@
 use Rattle.std.proofs.Common.{◌≡◌, ◌<◌, length}
-use Rattle.cell_counts.specs.Combinations.{Combination, all_combinations}
+use Rattle.cell_combinations.specs.Combinations.{Combination, all_combinations}
 use Rattle.cell_counts.specs.Counts.{count_of}
 use Rattle.cell_counts.specs.Mapped.{HasNoZero}
 use Rattle.cell_counts.specs.parts.Held.{total_of}
-use Rattle.cell_counts.specs.LeftOut.{kept}
+use Rattle.cell_combinations.specs.LeftOut.{kept}
 use Rattle.cell_counts.proofs.counts.count_cells.Given as goal
 
 abbrev pub invariant-loop-row : goal.invariant-loop-row

@@ -2,11 +2,11 @@ use Rattle.std.proofs.Common.{◌≡◌, ◌<◌, ◌≤◌, ◌+◌, ◌++◌, 
 use Rattle.std.specs.BTreeMap.{BTreeMap}
 use Rattle.std.specs.List.{range_with_len}
 use Rattle.cell_base.specs.Region.{RegionValue}
-use Rattle.cell_counts.specs.Combinations.{Combination, all_combinations, combination_at}
+use Rattle.cell_combinations.specs.Combinations.{Combination, all_combinations, combination_at}
 use Rattle.cell_counts.specs.Counts.{count_of}
 use Rattle.cell_counts.specs.Mapped.{HasNoZero}
 use Rattle.cell_counts.specs.parts.Held.{total_of, is_same}
-use Rattle.cell_counts.specs.LeftOut.{kept, is_left_out}
+use Rattle.cell_combinations.specs.LeftOut.{kept, is_left_out}
 use Rattle.cell_counts.specs.declared.counting.Held.{Held}
 use Rattle.cell_counts.proofs.RunCountLemmas.{single, counted-alone, fits-alone}
 use Rattle.cell_counts.proofs.WalkLemmas.{alike, alive, passed-on, stretch, count-left, count-more, count_small, all_combinations_more}

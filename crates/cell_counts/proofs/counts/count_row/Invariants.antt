@@ -1,11 +1,11 @@
 use Rattle.std.proofs.Common.{◌≡◌, ◌+◌, ◌-◌, ◌<◌, ◌≤◌, ◌++◌, length, map, drop, All}
 use Rattle.std.specs.List.{range_with_len}
-use Rattle.cell_counts.specs.Combinations.{Combination, all_combinations, combination_at}
+use Rattle.cell_combinations.specs.Combinations.{Combination, all_combinations, combination_at}
 use Rattle.cell_counts.specs.Counts.{count_of}
 use Rattle.cell_counts.specs.Mapped.{HasNoZero}
 use Rattle.cell_counts.specs.Cursors.{to_come, IsReady, row_in}
 use Rattle.cell_counts.specs.parts.Held.{total_of}
-use Rattle.cell_counts.specs.LeftOut.{kept}
+use Rattle.cell_combinations.specs.LeftOut.{kept}
 use Rattle.cell_counts.proofs.counts.count_row.Given as goal
 
 abbrev pub invariant-loop-col : goal.invariant-loop-col

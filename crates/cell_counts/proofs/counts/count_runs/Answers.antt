@@ -1,9 +1,9 @@
 use Rattle.std.proofs.Common.{◌≡◌, ℕ, ◌+◌, ◌^◌, List, ◌∷◌, true, false, cond, arith, ap, sym, ◌∙◌}
 use Rattle.cell_core.specs.Runs.{RunValue}
-use Rattle.cell_counts.specs.Combinations.{Combination}
+use Rattle.cell_combinations.specs.Combinations.{Combination}
 use Rattle.cell_counts.specs.parts.Alone.{alone}
 use Rattle.cell_counts.specs.parts.Held.{total_of, is_same}
-use Rattle.cell_counts.specs.LeftOut.{is_left_out}
+use Rattle.cell_combinations.specs.LeftOut.{is_left_out}
 use Rattle.cell_counts.proofs.RunCountLemmas.{run-left, run-more, room-left, room-more, room-first}
 use Rattle.cell_counts.proofs.counts.count_runs.Goals as goal
 

@@ -1,11 +1,11 @@
 use Rattle.std.proofs.Common.{◌≡◌, ◌+◌, ◌^◌, ◌<◌, length, map}
 use Rattle.cell_core.specs.Runs.{written_out}
-use Rattle.cell_counts.specs.Combinations.{Combination}
+use Rattle.cell_combinations.specs.Combinations.{Combination}
 use Rattle.cell_counts.specs.Counts.{count_of}
 use Rattle.cell_counts.specs.Mapped.{HasNoZero}
 use Rattle.cell_counts.specs.parts.Alone.{alone}
 use Rattle.cell_counts.specs.parts.Held.{total_of}
-use Rattle.cell_counts.specs.LeftOut.{kept}
+use Rattle.cell_combinations.specs.LeftOut.{kept}
 use Rattle.cell_counts.proofs.counts.count_runs.Given as goal
 
 abbrev pub invariant-loop-cell : goal.invariant-loop-cell

@@ -3,7 +3,7 @@ use Rattle.std.proofs.lemmas.Result.{err_from_is_err_and}
 use Rattle.std.specs.List.{range_with_len}
 use Rattle.cell_devices.proofs.GatherLemmas.{CutsOff-second, Gathers-then}
 use Rattle.cell_base.specs.Region.{RegionValue}
-use Rattle.cell_counts.specs.Combinations.{all_combinations, row_combinations}
+use Rattle.cell_combinations.specs.Combinations.{all_combinations, row_combinations}
 use Rattle.cell_stats.proofs.CellsLemmas.{lines, lines-all, lines-more}
 use Rattle.cell_stats.proofs.PrintLemmas.{cut-first}
 use Rattle.cell_stats.proofs.cells.write_cells.Goals as goal

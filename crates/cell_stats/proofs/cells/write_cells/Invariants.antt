@@ -1,6 +1,6 @@
 use Rattle.std.proofs.Common.{◌≡◌, length}
 use Rattle.cell_devices.specs.Blocks.{Gathers}
-use Rattle.cell_counts.specs.Combinations.{all_combinations}
+use Rattle.cell_combinations.specs.Combinations.{all_combinations}
 use Rattle.cell_stats.proofs.CellsLemmas.{lines}
 use Rattle.cell_stats.proofs.cells.write_cells.Given as goal
 

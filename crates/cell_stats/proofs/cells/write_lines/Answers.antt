@@ -2,7 +2,7 @@ use Rattle.std.proofs.Common.{◌≡◌, ℕ, ◌+◌, ◌-◌, ◌<◌, ◌++�
 use Rattle.std.proofs.lemmas.Result.{err_from_is_err_and}
 use Rattle.cell_devices.proofs.GatherLemmas.{CutsOff-second, Gathers-none, Gathers-then}
 use Rattle.cell_stats.specs.TableText.{cell_line}
-use Rattle.cell_counts.specs.LeftOut.{is_left_out, kept}
+use Rattle.cell_combinations.specs.LeftOut.{is_left_out, kept}
 use Rattle.cell_stats.proofs.PrintLemmas.{cut-first}
 use Rattle.cell_stats.proofs.CellsLemmas.{lines-left, lines-kept, flat_map-replicate-more, flat_map-replicate-rest}
 use Rattle.cell_stats.proofs.cells.write_lines.Goals as goal

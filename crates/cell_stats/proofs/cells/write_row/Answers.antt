@@ -3,7 +3,7 @@ use Rattle.std.proofs.lemmas.Result.{err_from_is_err_and}
 use Rattle.std.specs.List.{range_with_len}
 use Rattle.cell_devices.proofs.GatherLemmas.{CutsOff-second, Gathers-none, Gathers-then}
 use Rattle.cell_base.specs.Region.{RegionValue}
-use Rattle.cell_counts.specs.Combinations.{combination_at, row_combinations}
+use Rattle.cell_combinations.specs.Combinations.{combination_at, row_combinations}
 use Rattle.cell_stats.proofs.CellsLemmas.{lines, lines-row, lines-stretch}
 use Rattle.cell_stats.proofs.PrintLemmas.{cut-first}
 use Rattle.cell_counts.proofs.WalkLemmas.{alike, alive, passed-on}

@@ -1,7 +1,7 @@
 use Rattle.std.proofs.Common.{◌≡◌, ◌+◌, ◌-◌, ◌<◌, ◌≤◌, length, map, drop, All}
 use Rattle.std.specs.List.{range_with_len}
 use Rattle.cell_devices.specs.Blocks.{Gathers}
-use Rattle.cell_counts.specs.Combinations.{combination_at}
+use Rattle.cell_combinations.specs.Combinations.{combination_at}
 use Rattle.cell_counts.specs.Cursors.{to_come, IsReady, row_in}
 use Rattle.cell_stats.proofs.CellsLemmas.{lines}
 use Rattle.cell_stats.proofs.cells.write_row.Given as goal

@@ -1,7 +1,7 @@
 use Rattle.std.proofs.Common.{◌≡◌, ℕ, ◌+◌, ◌<◌, ◌++◌, length, take, drop, get_or, flat_map, arith, ap, sym, ◌∙◌}
 use Rattle.std.proofs.lemmas.Result.{err_from_is_err_and}
 use Rattle.cell_devices.proofs.GatherLemmas.{CutsOff-second, flat_map-rest}
-use Rattle.cell_counts.specs.Combinations.{Combination}
+use Rattle.cell_combinations.specs.Combinations.{Combination}
 use Rattle.cell_stats.specs.TableText.{pair_line}
 use Rattle.cell_stats.proofs.PrintLemmas.{cut-first}
 use Rattle.cell_stats.proofs.printing.write_table.Goals as goal

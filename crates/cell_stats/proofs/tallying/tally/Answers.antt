@@ -1,5 +1,5 @@
 use Rattle.std.proofs.Common.{◌≡◌, rules}
-use Rattle.cell_counts.specs.Combinations.{all_combinations}
+use Rattle.cell_combinations.specs.Combinations.{all_combinations}
 use Rattle.cell_stats.proofs.TableLemmas.{IsTable-mapped, one_table_kept, table_is}
 use Rattle.cell_stats.proofs.WidthLemmas.{table-wide}
 use Rattle.cell_stats.proofs.tallying.tally.Goals as goal

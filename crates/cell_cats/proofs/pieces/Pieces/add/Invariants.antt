@@ -1,4 +1,4 @@
-use Rattle.std.proofs.Common.{◌≡◌, ℤ, take, Option, Some, if◌then◌else◌}
+use Rattle.std.proofs.Common.{ℤ, take, Option, Some, if◌then◌else◌}
 use Rattle.std.specs.List.{list_any}
 use Rattle.cell_cats.specs.Rule.{is_between}
 use Rattle.cell_cats.specs.parts.Pieces.{HaveOutputs}

@@ -1,4 +1,4 @@
-use Rattle.std.proofs.Common.{◌≡◌, take}
+use Rattle.std.proofs.Common.{take}
 use Rattle.std.specs.Option.{option_or}
 use Rattle.cell_cats.specs.Rule.{last_output, lists, is_star_rule}
 use Rattle.cell_cats.specs.parts.Pieces.{HaveOutputs}

@@ -1,5 +1,5 @@
 use Rattle.std.proofs.Common.{◌≡◌, ℕ, All, length, ◌-◌, subst, sym}
-use Rattle.cell_counts.specs.Combinations.{Combination}
+use Rattle.cell_combinations.specs.Combinations.{Combination}
 use Rattle.cell_stats.specs.Tables.{Pairs}
 use Rattle.cell_stats.proofs.WidthLemmas.{All-part}
 use Rattle.cell_stats.proofs.table.Table.printed.Goals as goal

@@ -2,9 +2,9 @@
 use Rattle.std.specs.Prelude.{Bool, false, not, List, filter}
 use Rattle.std.specs.List.{list_any, list_all}
 use Rattle.std.specs.Option.{is_none}
-use Rattle.cell_counts.specs.declared.skip.Skip.{Skip}
-use Rattle.cell_counts.specs.declared.skip.Skip.TheVariants.{Nothing, AnyNull, AllNull}
-use Rattle.cell_counts.specs.Combinations.{Combination}
+use Rattle.cell_combinations.specs.declared.skip.Skip.{Skip}
+use Rattle.cell_combinations.specs.declared.skip.Skip.TheVariants.{Nothing, AnyNull, AllNull}
+use Rattle.cell_combinations.specs.Combinations.{Combination}
 
 -- which combinations are left out: none, those with a null, those of nulls only
 abbrev pub is_left_out : Skip → Combination → Bool

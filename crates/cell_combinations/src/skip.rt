@@ -3,7 +3,7 @@
 ghost use Rattle.std.specs.Prelude.{◌≡◌};
 ghost use Rattle.std.specs.List.{list_any, list_all};
 ghost use Rattle.std.specs.Option.{is_none};
-ghost use Rattle.cell_counts.specs.LeftOut.{is_left_out};
+ghost use Rattle.cell_combinations.specs.LeftOut.{is_left_out};
 
 use cell_core::cell::Cell;
 
@@ -19,6 +19,7 @@ pub enum Skip {
 }
 
 // Whether it is null.
+#[inline(always)]
 fn is_null(cell: &Cell) -> bool
     ensures { result ≡ is_none cell.now }
 {
@@ -26,6 +27,7 @@ fn is_null(cell: &Cell) -> bool
 }
 
 // Whether there is a null.
+#[inline(always)]
 fn has_null(cells: &[Cell]) -> bool
     ensures { result ≡ list_any is_none cells.now }
 {
@@ -33,13 +35,15 @@ fn has_null(cells: &[Cell]) -> bool
 }
 
 // Whether there are nulls only.
+#[inline(always)]
 fn has_nulls_only(cells: &[Cell]) -> bool
     ensures { result ≡ list_all is_none cells.now }
 {
     cells.iter().all(|cell| is_null(cell))
 }
 
-/// Whether the combination is left out.
+/// Whether the combination is left out. It is inlined, as it is called for each run.
+#[inline(always)]
 pub fn is_left_out(skip: Skip, cells: &[Cell]) -> bool
     ensures { result ≡ is_left_out skip cells.now }
 {

@@ -1,7 +1,7 @@
 //! A cell of each of several maps.
 
 ghost use Rattle.std.specs.Prelude.{◌≡◌, ◌<◌, ◌↔◌, IfOk, IsTrue, Some, length, slice_get};
-ghost use Rattle.cell_counts.specs.Combinations.{combination_cmp};
+ghost use Rattle.cell_combinations.specs.Combinations.{combination_cmp};
 
 use cell_core::cell::Cell;
 use cell_core::memory::Memory;
@@ -17,7 +17,7 @@ pub struct Combo {
 }
 
 impl Model for Combo {
-    ghost use Rattle.cell_counts.specs.Combinations.{Combination};
+    ghost use Rattle.cell_combinations.specs.Combinations.{Combination};
 
     ghost Value = { Combination };
 
@@ -32,8 +32,12 @@ impl Combo {
         Combo { cells }
     }
 
-    // A copy of the cells.
-    pub(crate) fn from_cells(alloc: Global, cells: &[Cell]) -> Result<Combo, Memory>
+    /// The combination of a copy of the cells.
+    ///
+    /// # Errors
+    ///
+    /// `Memory`, where memory is refused.
+    pub fn from_cells(alloc: Global, cells: &[Cell]) -> Result<Combo, Memory>
         ensures { IfOk result (λ combo. combo ≡ cells.now) }
     {
         let cells = Vec::from_slice(alloc, cells)?;
@@ -56,14 +60,16 @@ impl Combo {
     }
 
     /// Its cells in order.
+    #[inline(always)]
     pub fn cells(&self) -> &[Cell]
         ensures { result.now ≡ self.now }
     {
         &self.cells
     }
 
-    // Writes other cells over its own, as many as it has.
-    pub(crate) fn write(&mut self, cells: &[Cell])
+    /// Writes other cells over its own, as many as it has.
+    #[inline(always)]
+    pub fn write(&mut self, cells: &[Cell])
         requires { length cells.now ≡ length self.old }
         ensures { self.new ≡ cells.now }
     {
@@ -74,7 +80,7 @@ impl Combo {
 impl PartialEq for Combo {
     ghost use Rattle.std.specs.Ordering.{eq_by_cmp};
     ghost use Rattle.std.specs.Cmp.{partial_equiv_from_equiv, eq_by_cmp_equiv};
-    ghost use Rattle.cell_counts.specs.Combinations.{combination_cmp, combination_cmp_total};
+    ghost use Rattle.cell_combinations.specs.Combinations.{combination_cmp, combination_cmp_total};
 
     ghost eq = { eq_by_cmp combination_cmp };
 
@@ -87,7 +93,7 @@ impl PartialEq for Combo {
 
 impl Eq for Combo {
     ghost use Rattle.std.specs.Cmp.{eq_by_cmp_equiv};
-    ghost use Rattle.cell_counts.specs.Combinations.{combination_cmp_total};
+    ghost use Rattle.cell_combinations.specs.Combinations.{combination_cmp_total};
 
     ghost laws = { eq_by_cmp_equiv combination_cmp_total };
 }
@@ -96,7 +102,7 @@ impl PartialOrd for Combo {
     ghost use Rattle.std.specs.Prelude.{refl};
     ghost use Rattle.std.specs.Ordering.{as_partial_cmp};
     ghost use Rattle.std.specs.Cmp.{po};
-    ghost use Rattle.cell_counts.specs.Combinations.{combination_cmp, combination_cmp_total};
+    ghost use Rattle.cell_combinations.specs.Combinations.{combination_cmp, combination_cmp_total};
 
     ghost partial_cmp = { as_partial_cmp combination_cmp };
 
@@ -109,7 +115,7 @@ impl PartialOrd for Combo {
 
 impl Ord for Combo {
     ghost use Rattle.std.specs.Prelude.{refl};
-    ghost use Rattle.cell_counts.specs.Combinations.{combination_cmp, combination_cmp_total};
+    ghost use Rattle.cell_combinations.specs.Combinations.{combination_cmp, combination_cmp_total};
 
     ghost cmp = { combination_cmp };
 
@@ -119,6 +125,7 @@ impl Ord for Combo {
 
     ghost matches_eq = { λ x y. refl };
 
+    #[inline(always)]
     fn cmp(&self, other: &Combo) -> Ordering {
         self.cells().cmp(other.cells())
     }

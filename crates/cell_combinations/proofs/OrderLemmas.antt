@@ -7,7 +7,7 @@ use Rattle.std.specs.Cmp.{IsTotalOrder}
 use Rattle.std.specs.Cmp.Lexicographic.{lists_total}
 use Rattle.std.specs.FinMap.{IsAntisymmetric, int_cmp-IsAntisymmetric, slice_cmp-IsAntisymmetric}
 use Rattle.cell_base.specs.Cell.{cell_cmp, cell_cmp_total}
-use Rattle.cell_counts.specs.Combinations.{combination_cmp}
+use Rattle.cell_combinations.specs.Combinations.{combination_cmp}
 
 pub combination_cmp-total : IsTotalOrder combination_cmp
 combination_cmp-total = lists_total cell_cmp_total

@@ -4,9 +4,9 @@ use Rattle.std.specs.Option.{option_map, option_and_then}
 use Rattle.cell_core.specs.Grid.{CellValue}
 use Rattle.cell_text.specs.WholeNumbers.{whole_in_range}
 use Rattle.cell_text.specs.Words.{parts_of}
-use Rattle.cell_counts.specs.Combinations.{Combination}
-use Rattle.cell_counts.specs.declared.reading.ComboFault.{ComboFault}
-use Rattle.cell_counts.specs.declared.reading.ComboFault.TheVariants.{BadCombo, BadWidth}
+use Rattle.cell_combinations.specs.Combinations.{Combination}
+use Rattle.cell_combinations.specs.declared.reading.ComboFault.{ComboFault}
+use Rattle.cell_combinations.specs.declared.reading.ComboFault.TheVariants.{BadCombo, BadWidth}
 
 -- the cell of a part: null of an asterisk, else a whole number in range
 abbrev pub cell_of_part : List ℕ → Option CellValue

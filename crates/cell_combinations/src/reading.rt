@@ -1,8 +1,8 @@
 //! A combination read from a text.
 
 ghost use Rattle.std.specs.Prelude.{◌≡◌, ◌≢◌, ◌≤◌, Ok, IfOk, IfErr, Err};
-ghost use Rattle.cell_counts.specs.ComboText.{cell_of_part, combo_of};
-ghost use Rattle.cell_counts.specs.declared.reading.ComboFault.TheVariants.{Memory};
+ghost use Rattle.cell_combinations.specs.ComboText.{cell_of_part, combo_of};
+ghost use Rattle.cell_combinations.specs.declared.reading.ComboFault.TheVariants.{Memory};
 
 use crate::combination::Combo;
 use cell_core::cell::Cell;

@@ -1,0 +1,4 @@
+-- The combinations of categories over several maps.
+pub mod Combinations
+pub mod ComboText
+pub mod LeftOut
