@@ -5,13 +5,13 @@ ghost use Rattle.cell_commands.specs.Commands.{head_named, head_of_words, is_map
 ghost use Rattle.cell_commands.specs.Fitting.{FitsHead};
 ghost use Rattle.cell_commands.specs.Skipped.{is_comment};
 
+use crate::command::Command;
 use crate::fault::ScriptKind;
 use crate::r_clump::clump_of;
 use crate::r_mapcalc::mapcalc_of;
 use crate::r_out_ascii::out_ascii_of;
 use crate::r_reclass::reclass_of;
 use crate::r_stats::stats_of;
-use crate::command::Command;
 use cell_core::name::{Name, Names};
 use cell_text::words::words_of;
 use std::alloc::Global;

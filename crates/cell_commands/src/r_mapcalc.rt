@@ -5,9 +5,9 @@ ghost use Rattle.cell_commands.specs.RMapcalc.{after_word, after_command, assign
 ghost use Rattle.cell_commands.specs.Commands.{mapcalc_of, IsMapcalc};
 ghost use Rattle.cell_commands.specs.Fitting.{FitsHead};
 
+use crate::command::Command;
 use crate::fault::ScriptKind;
 use crate::heads::Head;
-use crate::command::Command;
 use cell_calc::binding::resolve;
 use cell_core::memory::Memory;
 use cell_core::name::Names;

@@ -6,8 +6,8 @@ ghost use Rattle.cell_commands.specs.RStats.{skip_of, printed_with};
 ghost use Rattle.cell_commands.specs.Commands.{after_of, stats_of};
 ghost use Rattle.cell_commands.specs.Fitting.{FitsCommand};
 
-use crate::fault::ScriptKind;
 use crate::command::{Command, StatsOptions};
+use crate::fault::ScriptKind;
 use cell_core::memory::Memory;
 use cell_core::name::Names;
 use cell_counts::combination::Combo;

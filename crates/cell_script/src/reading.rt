@@ -7,11 +7,11 @@ ghost use Rattle.cell_script.specs.Reading.{start, with_statement, after_head, a
 ghost use Rattle.cell_commands.specs.Fitting.{FitsCommand, FitsHead};
 ghost use Rattle.cell_script.specs.parts.Sound.{IsSound, FitsBlock};
 
+use crate::statement::{Script, Statement};
+use cell_cats::rules::{LineKind, RuleFault, Rules};
+use cell_commands::command::Command;
 use cell_commands::fault::{ScriptFault, ScriptKind};
 use cell_commands::heads::{Head, MOST_LINE, head_of};
-use crate::statement::{Script, Statement};
-use cell_commands::command::Command;
-use cell_cats::rules::{LineKind, RuleFault, Rules};
 use cell_core::memory::Memory;
 use cell_core::name::{Name, Names};
 use std::alloc::Global;
