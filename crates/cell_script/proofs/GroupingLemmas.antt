@@ -11,23 +11,26 @@ use Rattle.cell_cats.specs.declared.rules.LineKind.{LineKind}
 use Rattle.cell_cats.specs.declared.rules.LineKind.TheVariants as line_kind
 use Rattle.cell_cats.specs.declared.rules.RuleFault.{RuleFault}
 use Rattle.cell_text.specs.Blanks.{trimmed}
-use Rattle.cell_script.specs.Commands.{IsHead}
-use Rattle.cell_script.specs.Lines.{Line, numbered, IsSkipped, script_lines}
-use Rattle.cell_script.specs.RReclass.{IsEnd, SpellsRule, AreRules, SpellsReclass}
-use Rattle.cell_script.specs.Scripts.{Group, IsGrouped, Spells}
-use Rattle.cell_script.specs.RReclass as reclass_rules
+use Rattle.cell_commands.specs.Commands.{IsHead}
+use Rattle.cell_commands.specs.Skipped.{IsSkipped}
+use Rattle.cell_script.specs.Lines.{Line, numbered, script_lines}
+use Rattle.cell_commands.specs.RReclass.{SpellsReclass}
+use Rattle.cell_script.specs.ReclassRules.{IsEnd, SpellsRule, AreRules}
+use Rattle.cell_commands.specs.Spelling.{Spells}
+use Rattle.cell_script.specs.Scripts.{Group, IsGrouped}
+use Rattle.cell_script.specs.ReclassRules as reclass_rules
 use Rattle.cell_script.specs.Scripts as grouping
 use Rattle.cell_script.specs.Known.{known_after}
 use Rattle.cell_script.specs.Reading.{start, after_head, after_rule, as_rule, rule_line, IsReading}
-use Rattle.cell_script.specs.declared.fault.ScriptKind.{ScriptKind}
-use Rattle.cell_script.specs.declared.fault.ScriptKind.TheVariants.{LongLine}
-use Rattle.cell_script.specs.declared.heads.Head.{Head}
-use Rattle.cell_script.specs.declared.heads.Head.TheVariants.{Skipped, Whole, Opened}
+use Rattle.cell_commands.specs.declared.fault.ScriptKind.{ScriptKind}
+use Rattle.cell_commands.specs.declared.fault.ScriptKind.TheVariants.{LongLine}
+use Rattle.cell_commands.specs.declared.heads.Head.{Head}
+use Rattle.cell_commands.specs.declared.heads.Head.TheVariants.{Skipped, Whole, Opened}
 use Rattle.cell_script.specs.declared.reading.Block.{Block}
 use Rattle.cell_script.specs.declared.reading.Progress.{Progress}
-use Rattle.cell_script.specs.declared.statement.Command.TheVariants.{Reclass}
+use Rattle.cell_commands.specs.declared.command.Command.TheVariants.{Reclass}
 use Rattle.cell_script.specs.declared.statement.Statement.{Statement}
-use Rattle.cell_script.proofs.SpellingLemmas.{head-says, says-head}
+use Rattle.cell_commands.proofs.SpellingLemmas.{head-says, says-head}
 
 -- ---- a line among rules
 

@@ -2,17 +2,17 @@
 use Rattle.std.proofs.Common.{◌≡◌, ℕ, ◌+◌, List, [], ◌∷◌, Option, Some, None, Result, Ok, Err, MatchResult, ap, sym, ◌∙◌, subst}
 use Rattle.std.specs.Prelude.{nat_lt, length, Bool, true, false}
 use Rattle.cell_text.specs.Words.{words_of}
-use Rattle.cell_script.specs.Commands.{is_mapcalc, IsShortHead, IsHeadOf, IsHead}
+use Rattle.cell_commands.specs.Commands.{is_mapcalc, IsShortHead, IsHeadOf, IsHead}
 use Rattle.cell_script.specs.Reading.{IsNextTo, IsReading, after_head, start}
 use Rattle.cell_script.specs.Lines.{script_lines}
 use Rattle.cell_script.specs.Scripts.{IsScript}
 use Rattle.cell_script.specs.ReadScripts.{IsReadAs, IsScriptFault}
 use Rattle.cell_script.specs.ScriptLaw.{OneScript, NoFaultOfAScript, ReadingDenotes}
-use Rattle.cell_script.proofs.CalcLemmas.{OneAssignment, one_mapcalc}
+use Rattle.cell_commands.proofs.CalcLemmas.{OneAssignment, one_mapcalc}
 use Rattle.cell_script.proofs.GroupingLemmas.{read-grouped}
-use Rattle.cell_script.specs.declared.fault.ScriptFault.{ScriptFault}
-use Rattle.cell_script.specs.declared.fault.ScriptKind.{ScriptKind}
-use Rattle.cell_script.specs.declared.heads.Head.{Head}
+use Rattle.cell_commands.specs.declared.fault.ScriptFault.{ScriptFault}
+use Rattle.cell_commands.specs.declared.fault.ScriptKind.{ScriptKind}
+use Rattle.cell_commands.specs.declared.heads.Head.{Head}
 use Rattle.cell_script.specs.declared.reading.Block.{Block}
 use Rattle.cell_script.specs.declared.reading.Progress.{Progress}
 use Rattle.cell_script.specs.declared.statement.Statement.{Statement}

@@ -1,10 +1,5 @@
-pub mod FaultLemmas
-pub mod CalcLemmas
 pub mod LawLemmas
-pub mod MapcalcLemmas
 pub mod PlaceLemmas
 pub mod ReadingLemmas
 pub mod SoundLemmas
-pub mod SkippedLemmas
-pub mod SpellingLemmas
 pub mod GroupingLemmas

@@ -6,8 +6,8 @@ use Rattle.cell_script.specs.Lines.{script_lines}
 use Rattle.cell_script.specs.Reading.{start, at_end, IsNext, IsReading}
 use Rattle.cell_script.specs.Scripts.{IsScript}
 use Rattle.cell_script.specs.ReadScripts.{IsScriptFault}
-use Rattle.cell_script.specs.declared.fault.ScriptFault.{ScriptFault}
-use Rattle.cell_script.specs.declared.fault.ScriptKind.TheVariants.{Memory}
+use Rattle.cell_commands.specs.declared.fault.ScriptFault.{ScriptFault}
+use Rattle.cell_commands.specs.declared.fault.ScriptKind.TheVariants.{Memory}
 use Rattle.cell_script.specs.declared.reading.Progress.{Progress}
 use Rattle.cell_script.specs.declared.statement.Statement.{Statement}
 use Rattle.cell_script.proofs.GroupingLemmas.{read-grouped}

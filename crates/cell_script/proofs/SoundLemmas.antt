@@ -6,17 +6,18 @@ use Rattle.cell_cats.specs.declared.rules.LineKind.{LineKind}
 use Rattle.cell_cats.specs.declared.rules.LineKind.TheVariants as line_kind
 use Rattle.cell_script.specs.Known.{known_after}
 use Rattle.cell_script.specs.Reading.{start, with_statement, after_head, after_rule}
-use Rattle.cell_script.specs.Fitting.{FitsCommand, Fits}
-use Rattle.cell_script.specs.declared.fault.ScriptFault.{ScriptFault}
-use Rattle.cell_script.specs.declared.fault.ScriptKind.{ScriptKind}
-use Rattle.cell_script.specs.declared.heads.Head.{Head}
-use Rattle.cell_script.specs.declared.heads.Head.TheVariants.{Skipped, Whole, Opened}
+use Rattle.cell_commands.specs.Fitting.{FitsCommand, FitsHead}
+use Rattle.cell_script.specs.Fitting.{Fits}
+use Rattle.cell_commands.specs.declared.fault.ScriptFault.{ScriptFault}
+use Rattle.cell_commands.specs.declared.fault.ScriptKind.{ScriptKind}
+use Rattle.cell_commands.specs.declared.heads.Head.{Head}
+use Rattle.cell_commands.specs.declared.heads.Head.TheVariants.{Skipped, Whole, Opened}
 use Rattle.cell_script.specs.declared.reading.Block.{Block}
 use Rattle.cell_script.specs.declared.reading.Progress.{Progress}
-use Rattle.cell_script.specs.declared.statement.Command.{Command}
-use Rattle.cell_script.specs.declared.statement.Command.TheVariants.{Reclass}
+use Rattle.cell_commands.specs.declared.command.Command.{Command}
+use Rattle.cell_commands.specs.declared.command.Command.TheVariants.{Reclass}
 use Rattle.cell_script.specs.declared.statement.Statement.{Statement}
-use Rattle.cell_script.specs.parts.Sound.{FitsHead, FitsBlock, known_after_all, IsSound}
+use Rattle.cell_script.specs.parts.Sound.{FitsBlock, known_after_all, IsSound}
 
 -- the names after one more statement
 known_after_all-more : (known : List (List ℕ)) (xs : List Statement) (s : Statement) → known_after_all known (xs ++ s ∷ []) ≡ known_after (known_after_all known xs) s.command

@@ -1,7 +1,7 @@
 -- The maps that are known after a command.
 use Rattle.std.specs.Prelude.{ℕ, List, [], ◌∷◌, ◌++◌, Option, Some, None}
-use Rattle.cell_script.specs.declared.statement.Command.{Command}
-use Rattle.cell_script.specs.declared.statement.Command.TheVariants.{Mapcalc, Reclass, Clump, Stats, OutAscii}
+use Rattle.cell_commands.specs.declared.command.Command.{Command}
+use Rattle.cell_commands.specs.declared.command.Command.TheVariants.{Mapcalc, Reclass, Clump, Stats, OutAscii}
 
 -- the name of the map that a command makes, where it makes one
 abbrev pub made_by : Command → Option (List ℕ)

@@ -1,17 +1,10 @@
 -- The lines of a script, with their numbers (profile).
-use Rattle.std.specs.Prelude.{ℕ, Bool, false, ◌==◌, List, [], ◌∷◌, map, ◌≡◌, ◌+◌, true}
+use Rattle.std.specs.Prelude.{ℕ, List, [], ◌∷◌, map, ◌+◌}
 use Rattle.bstr.specs.Text.{lines_of, without_terminator}
-use Rattle.cell_cats.specs.RuleLine.{is_skipped}
-use Rattle.cell_text.specs.Blanks.{trimmed}
 
 -- a script is cut at line feeds; a carriage return just before one does not belong to the line
 abbrev pub script_lines : List ℕ → List (List ℕ)
 script_lines text = map without_terminator (lines_of text)
-
--- a word that begins a comment: its first byte is `#`
-abbrev pub is_comment : List ℕ → Bool
-is_comment [] = false
-is_comment (b ∷ bs) = b == 35
 
 -- a line and its number
 pub record Line : Type 0 where
@@ -22,7 +15,3 @@ pub record Line : Type 0 where
 abbrev pub numbered : ℕ → List (List ℕ) → List Line
 numbered first [] = []
 numbered first (l ∷ ls) = record { number = first; bytes = l } ∷ numbered (first + 1) ls
-
--- a line that says nothing: blanks alone, or a comment
-abbrev pub IsSkipped : List ℕ → Type 0
-IsSkipped bytes = is_skipped (trimmed bytes) ≡ true

@@ -5,17 +5,17 @@ use Rattle.cell_cats.specs.RuleLine.{with_line}
 use Rattle.cell_cats.specs.declared.rules.LineKind.{LineKind}
 use Rattle.cell_cats.specs.declared.rules.LineKind.TheVariants as line_kind
 use Rattle.cell_cats.specs.declared.rules.RuleFault.{RuleFault}
-use Rattle.cell_script.specs.Commands.{IsHead}
+use Rattle.cell_commands.specs.Commands.{IsHead}
 use Rattle.cell_script.specs.Known.{known_after}
-use Rattle.cell_script.specs.declared.fault.ScriptFault.{ScriptFault}
-use Rattle.cell_script.specs.declared.fault.ScriptKind.{ScriptKind}
-use Rattle.cell_script.specs.declared.fault.ScriptKind.TheVariants.{LongLine, MissingEnd, Rule}
-use Rattle.cell_script.specs.declared.heads.Head.{Head}
-use Rattle.cell_script.specs.declared.heads.Head.TheVariants.{Skipped, Whole, Opened}
+use Rattle.cell_commands.specs.declared.fault.ScriptFault.{ScriptFault}
+use Rattle.cell_commands.specs.declared.fault.ScriptKind.{ScriptKind}
+use Rattle.cell_commands.specs.declared.fault.ScriptKind.TheVariants.{LongLine, MissingEnd, Rule}
+use Rattle.cell_commands.specs.declared.heads.Head.{Head}
+use Rattle.cell_commands.specs.declared.heads.Head.TheVariants.{Skipped, Whole, Opened}
 use Rattle.cell_script.specs.declared.reading.Block.{Block}
 use Rattle.cell_script.specs.declared.reading.Progress.{Progress}
-use Rattle.cell_script.specs.declared.statement.Command.{Command}
-use Rattle.cell_script.specs.declared.statement.Command.TheVariants.{Reclass}
+use Rattle.cell_commands.specs.declared.command.Command.{Command}
+use Rattle.cell_commands.specs.declared.command.Command.TheVariants.{Reclass}
 use Rattle.cell_script.specs.declared.statement.Statement.{Statement}
 
 -- nothing was read yet

@@ -2,7 +2,7 @@
 use Rattle.std.specs.Prelude.{ℕ, ◌≡◌, ◌↔◌, List}
 use Rattle.cell_script.specs.Scripts.{IsScript}
 use Rattle.cell_script.specs.ReadScripts.{IsReadAs, IsScriptFault}
-use Rattle.cell_script.specs.declared.fault.ScriptFault.{ScriptFault}
+use Rattle.cell_commands.specs.declared.fault.ScriptFault.{ScriptFault}
 use Rattle.cell_script.specs.declared.statement.Statement.{Statement}
 
 -- a text is a script of one list of statements at most

@@ -2,23 +2,14 @@
 use Rattle.std.specs.Prelude.{ℕ, List, ◌≤◌, [], ◌∷◌, ◌++◌, length, All}
 use Rattle.cell_cats.specs.Rule.{RuleValue}
 use Rattle.cell_script.specs.Known.{known_after}
-use Rattle.cell_script.specs.Lines.{script_lines, Line, numbered, IsSkipped}
-use Rattle.cell_script.specs.RClump.{SpellsClump}
-use Rattle.cell_script.specs.RMapcalc.{SpellsMapcalc}
-use Rattle.cell_script.specs.ROutAscii.{SpellsOutAscii}
-use Rattle.cell_script.specs.RReclass.{SpellsReclass, IsEnd, AreRules}
-use Rattle.cell_script.specs.RStats.{SpellsStats}
-use Rattle.cell_script.specs.declared.statement.Command.{Command}
-use Rattle.cell_script.specs.declared.statement.Command.TheVariants.{Mapcalc, Reclass, Clump, Stats, OutAscii}
+use Rattle.cell_script.specs.Lines.{script_lines, Line, numbered}
+use Rattle.cell_commands.specs.Skipped.{IsSkipped}
+use Rattle.cell_commands.specs.RReclass.{SpellsReclass}
+use Rattle.cell_commands.specs.Spelling.{Spells}
+use Rattle.cell_script.specs.ReclassRules.{IsEnd, AreRules}
+use Rattle.cell_commands.specs.declared.command.Command.{Command}
+use Rattle.cell_commands.specs.declared.command.Command.TheVariants.{Reclass}
 use Rattle.cell_script.specs.declared.statement.Statement.{Statement}
-
--- a line spells a command that is whole with it
-abbrev pub Spells : List (List ℕ) → List ℕ → Command → Type 0
-Spells known line (Mapcalc target bound) = SpellsMapcalc known line target bound
-Spells known line (Reclass place target rules) = ⊥
-Spells known line (Clump place target joining) = SpellsClump known line place target joining
-Spells known line (Stats places options) = SpellsStats known line places options
-Spells known line (OutAscii place null_text) = SpellsOutAscii known line place null_text
 
 -- lines group into statements over known maps: a command is a line, and an r.reclass its line, those of its rules and `end`; each map made is known after its statement
 pub data Group : List (List ℕ) → List Line → List Statement → Type 0 where

@@ -2,17 +2,10 @@
 //! r.stats, r.out.ascii).
 #![tactic(auto)]
 
-pub mod fault;
-mod heads;
 pub mod law;
 pub mod parsing;
-mod r_clump;
-mod r_mapcalc;
-mod r_out_ascii;
-mod r_reclass;
-mod r_stats;
 mod reading;
 pub mod statement;
 mod text;
 
-pub use cell_options::null_text;
+pub use cell_commands::{fault, null_text};

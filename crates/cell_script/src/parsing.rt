@@ -5,10 +5,10 @@ ghost use Rattle.cell_script.specs.Scripts.{IsScript};
 ghost use Rattle.cell_script.specs.ReadScripts.{IsScriptFault};
 ghost use Rattle.cell_script.specs.Fitting.{Fits};
 
-use crate::fault::{ScriptFault, ScriptKind};
 use crate::reading::{NO_MEMORY, Progress};
 use crate::statement::Script;
 use crate::text::lines_of;
+use cell_commands::fault::{ScriptFault, ScriptKind};
 use cell_core::name::Names;
 use std::alloc::Global;
 

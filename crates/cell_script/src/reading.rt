@@ -4,13 +4,14 @@ ghost use Rattle.std.specs.Prelude.{◌≡◌, ◌≢◌, ◌<◌, ℕ, List, If
 ghost use Rattle.std.specs.Option.{option_map};
 ghost use Rattle.cell_script.specs.Known.{made_by};
 ghost use Rattle.cell_script.specs.Reading.{start, with_statement, after_head, after_rule, rule_line, IsNext, at_end};
-ghost use Rattle.cell_script.specs.Fitting.{FitsCommand};
-ghost use Rattle.cell_script.specs.parts.Sound.{IsSound, FitsHead, FitsBlock};
+ghost use Rattle.cell_commands.specs.Fitting.{FitsCommand, FitsHead};
+ghost use Rattle.cell_script.specs.parts.Sound.{IsSound, FitsBlock};
 
-use crate::fault::{ScriptFault, ScriptKind};
-use crate::heads::{Head, MOST_LINE, head_of};
-use crate::statement::{Command, Script, Statement};
+use crate::statement::{Script, Statement};
 use cell_cats::rules::{LineKind, RuleFault, Rules};
+use cell_commands::command::Command;
+use cell_commands::fault::{ScriptFault, ScriptKind};
+use cell_commands::heads::{Head, MOST_LINE, head_of};
 use cell_core::memory::Memory;
 use cell_core::name::{Name, Names};
 use std::alloc::Global;

@@ -1,7 +1,7 @@
 //! The lines of a script.
 
 ghost use Rattle.std.specs.Prelude.{◌≡◌, IfOk, map};
-ghost use Rattle.cell_script.specs.Lines.{script_lines, is_comment};
+ghost use Rattle.cell_script.specs.Lines.{script_lines};
 
 use bstr::ByteSlice;
 use std::alloc::{AllocError, Global};
@@ -11,14 +11,4 @@ pub(crate) fn lines_of<'a>(alloc: Global, text: &'a [u8]) -> Result<Vec<&'a [u8]
     ensures { IfOk result (λ lines. map (λ line. line.now) lines.items ≡ script_lines text.now) }
 {
     text.lines().collect(alloc)
-}
-
-// Whether a word begins a comment.
-pub(crate) fn is_comment(word: &[u8]) -> bool
-    ensures { result ≡ is_comment word.now }
-{
-    match word {
-        [] => false,
-        [first, ..] => *first == b'#',
-    }
 }

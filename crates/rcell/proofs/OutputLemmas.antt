@@ -11,8 +11,8 @@ use Rattle.cell_clump.specs.declared.clump.Joining.{Joining}
 use Rattle.cell_core.specs.Grid.{Grid, CellValue, IsFilled, cell_at}
 use Rattle.cell_base.specs.Region.{RegionValue}
 use Rattle.cell_core.specs.Shelf.{ShelfValue}
-use Rattle.cell_script.specs.declared.statement.Command.{Command}
-use Rattle.cell_script.specs.declared.statement.Command.TheVariants.{Mapcalc, Reclass, Clump, Stats, OutAscii}
+use Rattle.cell_commands.specs.declared.command.Command.{Command}
+use Rattle.cell_commands.specs.declared.command.Command.TheVariants.{Mapcalc, Reclass, Clump, Stats, OutAscii}
 use Rattle.cell_script.specs.declared.statement.Statement.{Statement}
 use Rattle.rcell.specs.Making.{AreValues, AreNumbers, IsOfMap, IsAfter, with_map}
 use Rattle.rcell.specs.Output.{Executes, command_text}

@@ -1,7 +1,7 @@
 -- What r.stats writes.
 use Rattle.std.proofs.Common.{◌≡◌, ℕ, true, false, List, Option, refl}
 use Rattle.cell_core.specs.Shelf.{ShelfValue}
-use Rattle.cell_script.specs.declared.statement.StatsOptions.{StatsOptions}
+use Rattle.cell_commands.specs.declared.command.StatsOptions.{StatsOptions}
 use Rattle.cell_combinations.specs.Combinations.{Combination}
 use Rattle.cell_stats.specs.Tables.{Pairs, table_of}
 use Rattle.cell_stats.specs.TableText.{FormatValue, table_text, printed_pairs, cells_text}

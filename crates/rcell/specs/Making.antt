@@ -8,8 +8,8 @@ use Rattle.cell_clump.specs.Areas.{IsClumping}
 use Rattle.cell_clump.specs.declared.clump.Joining.{Joining}
 use Rattle.cell_core.specs.Grid.{Grid, IsFilled, cell_at, no_labels}
 use Rattle.cell_core.specs.Shelf.{ShelfValue}
-use Rattle.cell_script.specs.declared.statement.Command.{Command}
-use Rattle.cell_script.specs.declared.statement.Command.TheVariants.{Mapcalc, Reclass, Clump, Stats, OutAscii}
+use Rattle.cell_commands.specs.declared.command.Command.{Command}
+use Rattle.cell_commands.specs.declared.command.Command.TheVariants.{Mapcalc, Reclass, Clump, Stats, OutAscii}
 
 -- r.mapcalc: a map of the shelf's region without labels, with the value of the expression at each cell
 pub record AreValues (bound : Formula) (shelf : ShelfValue) (made : Grid) : Type 0 where

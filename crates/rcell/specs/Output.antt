@@ -3,10 +3,10 @@ use Rattle.std.specs.Prelude.{ℕ, ◌≡◌, List, [], ◌∷◌, ◌++◌, sli
 use Rattle.std.specs.Option.{option_map_or}
 use Rattle.cell_ascii_text.specs.Writing.{grid_text}
 use Rattle.cell_core.specs.Shelf.{ShelfValue}
-use Rattle.cell_script.specs.declared.statement.Command.{Command}
-use Rattle.cell_script.specs.declared.statement.Command.TheVariants.{Mapcalc, Reclass, Clump, Stats, OutAscii}
+use Rattle.cell_commands.specs.declared.command.Command.{Command}
+use Rattle.cell_commands.specs.declared.command.Command.TheVariants.{Mapcalc, Reclass, Clump, Stats, OutAscii}
 use Rattle.cell_script.specs.declared.statement.Statement.{Statement}
-use Rattle.cell_script.specs.declared.statement.StatsOptions.{StatsOptions}
+use Rattle.cell_commands.specs.declared.command.StatsOptions.{StatsOptions}
 use Rattle.cell_combinations.specs.Combinations.{Combination, all_combinations}
 use Rattle.cell_stats.specs.TableText.{FormatValue, table_text, printed_pairs, cells_text}
 use Rattle.cell_stats.specs.Tables.{table_of}

@@ -4,7 +4,7 @@ ghost use Rattle.std.specs.Prelude.{◌≡◌, ◌≤◌, ◌<◌, None, length,
 ghost use Rattle.cell_formulas.specs.Reach.{top_of};
 ghost use Rattle.cell_base.specs.Name.{place_of};
 ghost use Rattle.cell_script.specs.Known.{known_after};
-ghost use Rattle.cell_script.specs.declared.statement.Command.TheVariants.{Mapcalc, Reclass, Clump};
+ghost use Rattle.cell_commands.specs.declared.command.Command.TheVariants.{Mapcalc, Reclass, Clump};
 ghost use Rattle.rcell.specs.Making.{IsAfter, with_map};
 
 use crate::evaluation::evaluate;

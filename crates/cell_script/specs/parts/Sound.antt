@@ -2,18 +2,10 @@
 use Rattle.std.specs.Prelude.{ℕ, ◌≡◌, ◌<◌, List, [], ◌∷◌, All, Option, Some, None, length}
 use Rattle.cell_base.specs.Name.{place_of}
 use Rattle.cell_script.specs.Known.{known_after}
-use Rattle.cell_script.specs.Fitting.{FitsCommand, Fits}
-use Rattle.cell_script.specs.declared.heads.Head.{Head}
-use Rattle.cell_script.specs.declared.heads.Head.TheVariants.{Skipped, Whole, Opened}
+use Rattle.cell_script.specs.Fitting.{Fits}
 use Rattle.cell_script.specs.declared.reading.Block.{Block}
 use Rattle.cell_script.specs.declared.reading.Progress.{Progress}
 use Rattle.cell_script.specs.declared.statement.Statement.{Statement}
-
--- the maps that a line names
-abbrev pub FitsHead : List (List ℕ) → Head → Type 0
-FitsHead known Skipped = Unit {0}
-FitsHead known (Whole command) = FitsCommand known command
-FitsHead known (Opened place target) = (place < length known) × (place_of target known ≡ None)
 
 -- the names known after statements
 abbrev pub known_after_all : List (List ℕ) → List Statement → List (List ℕ)

@@ -9,12 +9,13 @@ use Rattle.cell_core.specs.Grid.{Grid}
 use Rattle.cell_core.specs.Shelf.{ShelfValue}
 use Rattle.cell_devices.specs.Blocks.{BlockValue, Gathered, IsPut, Gathers, PutsAll, CutsOff, capped}
 use Rattle.cell_script.specs.Known.{known_after}
-use Rattle.cell_script.specs.Fitting.{Fits, FitsCommand}
-use Rattle.cell_script.specs.declared.statement.Command.{Command}
-use Rattle.cell_script.specs.declared.statement.Command.TheVariants.{Stats, OutAscii}
+use Rattle.cell_commands.specs.Fitting.{FitsCommand}
+use Rattle.cell_script.specs.Fitting.{Fits}
+use Rattle.cell_commands.specs.declared.command.Command.{Command}
+use Rattle.cell_commands.specs.declared.command.Command.TheVariants.{Stats, OutAscii}
 use Rattle.cell_script.specs.declared.statement.Statement.{Statement}
 use Rattle.rcell.specs.Making.{IsAfter}
-use Rattle.cell_script.specs.declared.statement.StatsOptions.{StatsOptions}
+use Rattle.cell_commands.specs.declared.command.StatsOptions.{StatsOptions}
 use Rattle.rcell.specs.Output.{Executes, command_text, stats_text}
 use Rattle.rcell.specs.parts.Steps.{Puts, PutsCut, IsStopped, HasExecuted, is_write}
 use Rattle.rcell.specs.runs.Execution.{IsBefore, IsWithin, Stops}

@@ -4,7 +4,7 @@ use Rattle.cell_devices.specs.Device.{Coming}
 use Rattle.cell_core.specs.Shelf.{ShelfValue}
 use Rattle.cell_script.specs.ReadScripts.{IsScriptFault}
 use Rattle.cell_script.specs.Scripts.{IsScript}
-use Rattle.cell_script.specs.declared.fault.ScriptFault.{ScriptFault}
+use Rattle.cell_commands.specs.declared.fault.ScriptFault.{ScriptFault}
 use Rattle.cell_script.specs.declared.statement.Statement.{Statement}
 use Rattle.rcell.specs.runs.Execution.{IsBefore, IsWithin}
 use Rattle.rcell.specs.runs.Loading.{shelf_of}

@@ -2,8 +2,8 @@
 use Rattle.std.specs.Prelude.{ℕ, ◌≡◌, ◌≢◌, ◌<◌, ⊤, Option, Some, None}
 use Rattle.cell_ascii_text.specs.declared.fault.GridKind.{GridKind}
 use Rattle.cell_ascii_text.specs.declared.fault.GridKind.TheVariants as grid_kinds
-use Rattle.cell_script.specs.declared.fault.ScriptKind.{ScriptKind}
-use Rattle.cell_script.specs.declared.fault.ScriptKind.TheVariants as script_kinds
+use Rattle.cell_commands.specs.declared.fault.ScriptKind.{ScriptKind}
+use Rattle.cell_commands.specs.declared.fault.ScriptKind.TheVariants as script_kinds
 use Rattle.rcell.specs.declared.runs.outcome.RunFault.{RunFault}
 use Rattle.rcell.specs.declared.runs.outcome.RunFault.TheVariants.{GridTwice, GridRegion, Grid, ScriptRead, ScriptSize, Script, Memory, Write}
 

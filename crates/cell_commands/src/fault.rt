@@ -51,7 +51,7 @@ pub enum ScriptKind {
 
 impl From<OptionFault> for ScriptKind {
     ghost use Rattle.std.specs.Prelude.{◌≡◌};
-    ghost use Rattle.cell_script.specs.Faults.{kind_of};
+    ghost use Rattle.cell_commands.specs.Faults.{kind_of};
 
     ghost from_gives = { λ fault kind. kind ≡ kind_of fault };
 
@@ -69,7 +69,7 @@ impl From<OptionFault> for ScriptKind {
 
 impl From<Memory> for ScriptKind {
     ghost use Rattle.std.specs.Prelude.{◌≡◌};
-    ghost use Rattle.cell_script.specs.declared.fault.ScriptKind.TheVariants.{Memory};
+    ghost use Rattle.cell_commands.specs.declared.fault.ScriptKind.TheVariants.{Memory};
 
     ghost from_gives = { λ _ kind. kind ≡ Memory };
 

@@ -1,10 +1,10 @@
 //! The words of r.out.ascii.
 
 ghost use Rattle.std.specs.Prelude.{◌≡◌, ◌≢◌, IfOk, IfErr, Ok, Err, map};
-ghost use Rattle.cell_script.specs.Commands.{out_ascii_of};
-ghost use Rattle.cell_script.specs.Fitting.{FitsCommand};
+ghost use Rattle.cell_commands.specs.Commands.{out_ascii_of};
+ghost use Rattle.cell_commands.specs.Fitting.{FitsCommand};
 
-use crate::statement::Command;
+use crate::command::Command;
 use cell_core::name::Names;
 use cell_options::fault::OptionFault;
 use cell_options::maps::input_place;

@@ -1,33 +1,43 @@
 //! The command of a line.
 
 ghost use Rattle.std.specs.Prelude.{◌≡◌, ◌≢◌, IfOk, IfErr, Ok, Err, map};
-ghost use Rattle.cell_script.specs.Commands.{head_named, head_of_words, is_mapcalc, IsHead};
-ghost use Rattle.cell_script.specs.parts.Sound.{FitsHead};
+ghost use Rattle.cell_commands.specs.Commands.{head_named, head_of_words, is_mapcalc, IsHead};
+ghost use Rattle.cell_commands.specs.Fitting.{FitsHead};
+ghost use Rattle.cell_commands.specs.Skipped.{is_comment};
 
+use crate::command::Command;
 use crate::fault::ScriptKind;
 use crate::r_clump::clump_of;
 use crate::r_mapcalc::mapcalc_of;
 use crate::r_out_ascii::out_ascii_of;
 use crate::r_reclass::reclass_of;
 use crate::r_stats::stats_of;
-use crate::statement::Command;
-use crate::text::is_comment;
 use cell_core::name::{Name, Names};
 use cell_text::words::words_of;
 use std::alloc::Global;
 
 /// The most bytes of a line.
-pub(crate) const MOST_LINE: usize = 65535;
+pub const MOST_LINE: usize = 65535;
 
 /// What a line is that stands outside the rules of r.reclass.
 #[derive(Drop)]
-pub(crate) enum Head {
+pub enum Head {
     /// Blanks or a comment.
     Skipped,
     /// A command that is whole with the line.
     Whole(Command),
     /// An r.reclass, whose rules follow.
     Opened { place: usize, target: Name },
+}
+
+// Whether a word begins a comment.
+fn is_comment(word: &[u8]) -> bool
+    ensures { result ≡ is_comment word.now }
+{
+    match word {
+        [] => false,
+        [first, ..] => *first == b'#',
+    }
 }
 
 // What a name of a command and the words after it begin.
@@ -87,7 +97,7 @@ fn is_mapcalc(words: &[&[u8]]) -> bool
 ///
 /// [`ScriptKind::LongLine`], then [`ScriptKind::UnknownCommand`], then the fault of the command;
 /// [`ScriptKind::Memory`] where memory was refused.
-pub(crate) fn head_of(alloc: Global, known: &Names, line: &[u8]) -> Result<Head, ScriptKind>
+pub fn head_of(alloc: Global, known: &Names, line: &[u8]) -> Result<Head, ScriptKind>
     ensures ok { IfOk result (λ head. IsHead known.now line.now (Ok head)) }
     ensures fits { IfOk result (FitsHead known.now) }
     ensures err { IfErr result (λ kind. kind ≢ ScriptKind.Memory → IsHead known.now line.now (Err kind)) }

@@ -10,7 +10,7 @@ use Rattle.cell_options.specs.OptionWords.{AreOptions}
 use Rattle.cell_options.specs.Places.{places_of}
 use Rattle.cell_options.specs.Options.{Given, has_flag, is_torn}
 use Rattle.cell_options.specs.declared.options.Form.TheVariants as form
-use Rattle.cell_script.specs.declared.statement.StatsOptions.{StatsOptions}
+use Rattle.cell_commands.specs.declared.command.StatsOptions.{StatsOptions}
 
 -- what is left out: `n` decides over `N`
 abbrev pub skip_of : Given → Skip

@@ -1,11 +1,11 @@
 //! The words of r.clump.
 
 ghost use Rattle.std.specs.Prelude.{◌≡◌, ◌≢◌, IfOk, IfErr, Ok, Err, map};
-ghost use Rattle.cell_script.specs.RClump.{joining_of};
-ghost use Rattle.cell_script.specs.Commands.{clump_of};
-ghost use Rattle.cell_script.specs.Fitting.{FitsCommand};
+ghost use Rattle.cell_commands.specs.RClump.{joining_of};
+ghost use Rattle.cell_commands.specs.Commands.{clump_of};
+ghost use Rattle.cell_commands.specs.Fitting.{FitsCommand};
 
-use crate::statement::Command;
+use crate::command::Command;
 use cell_clump::clump::Joining;
 use cell_core::name::Names;
 use cell_options::fault::OptionFault;

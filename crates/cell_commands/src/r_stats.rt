@@ -2,12 +2,12 @@
 
 ghost use Rattle.std.specs.Prelude.{◌≡◌, ◌≢◌, ◌≤◌, IfOk, IfErr, IfSome, Ok, Err, length, map};
 ghost use Rattle.std.specs.Option.{option_map};
-ghost use Rattle.cell_script.specs.RStats.{skip_of, printed_with};
-ghost use Rattle.cell_script.specs.Commands.{after_of, stats_of};
-ghost use Rattle.cell_script.specs.Fitting.{FitsCommand};
+ghost use Rattle.cell_commands.specs.RStats.{skip_of, printed_with};
+ghost use Rattle.cell_commands.specs.Commands.{after_of, stats_of};
+ghost use Rattle.cell_commands.specs.Fitting.{FitsCommand};
 
+use crate::command::{Command, StatsOptions};
 use crate::fault::ScriptKind;
-use crate::statement::{Command, StatsOptions};
 use cell_combinations::combination::Combo;
 use cell_combinations::reading::ComboFault;
 use cell_combinations::skip::Skip;

@@ -1,13 +1,13 @@
 //! The line of an r.mapcalc.
 
 ghost use Rattle.std.specs.Prelude.{◌≡◌, ◌≢◌, ◌≤◌, IfOk, IfErr, Ok, Err, length};
-ghost use Rattle.cell_script.specs.RMapcalc.{after_word, after_command, assignment_text};
-ghost use Rattle.cell_script.specs.Commands.{mapcalc_of, IsMapcalc};
-ghost use Rattle.cell_script.specs.parts.Sound.{FitsHead};
+ghost use Rattle.cell_commands.specs.RMapcalc.{after_word, after_command, assignment_text};
+ghost use Rattle.cell_commands.specs.Commands.{mapcalc_of, IsMapcalc};
+ghost use Rattle.cell_commands.specs.Fitting.{FitsHead};
 
+use crate::command::Command;
 use crate::fault::ScriptKind;
 use crate::heads::Head;
-use crate::statement::Command;
 use cell_formulas::binding::resolve;
 use cell_core::memory::Memory;
 use cell_core::name::Names;

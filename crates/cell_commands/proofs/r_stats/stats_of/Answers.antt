@@ -1,7 +1,7 @@
 use Rattle.std.proofs.Common.{ap, length, map}
 use Rattle.std.proofs.lemmas.Result.{err_from_is_err_and}
-use Rattle.cell_script.proofs.FaultLemmas.{places_told, after_told}
-use Rattle.cell_script.proofs.r_stats.stats_of.Goals as goal
+use Rattle.cell_commands.proofs.FaultLemmas.{places_told, after_told}
+use Rattle.cell_commands.proofs.r_stats.stats_of.Goals as goal
 
 pub returns-in_err-places-clause-err : goal.returns-in_err-places-clause-err
 returns-in_err-places-clause-err c =

@@ -1,6 +1,6 @@
 use Rattle.std.proofs.Common.{◌≡◌, ◌≤◌, length}
-use Rattle.cell_script.specs.RMapcalc.{after_word}
-use Rattle.cell_script.proofs.r_mapcalc.after_word.Given as goal
+use Rattle.cell_commands.specs.RMapcalc.{after_word}
+use Rattle.cell_commands.proofs.r_mapcalc.after_word.Given as goal
 
 abbrev pub invariant-loop-rest : goal.invariant-loop-rest
 invariant-loop-rest l = record {

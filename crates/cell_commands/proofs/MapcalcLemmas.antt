@@ -13,11 +13,11 @@ use Rattle.cell_language.specs.GrammarFault.{IsTextFault}
 use Rattle.cell_language.specs.declared.assignment.Assignment.{Assignment}
 use Rattle.cell_tokens.specs.declared.fault.CalcFault.{CalcFault}
 use Rattle.cell_tokens.specs.declared.fault.CalcKind.TheVariants as calc
-use Rattle.cell_script.specs.Commands.{mapcalc_of, IsMapcalc}
-use Rattle.cell_script.specs.RMapcalc.{assignment_text}
-use Rattle.cell_script.specs.declared.fault.ScriptKind.{ScriptKind}
-use Rattle.cell_script.specs.declared.fault.ScriptKind.TheVariants.{Calc}
-use Rattle.cell_script.specs.declared.heads.Head.{Head}
+use Rattle.cell_commands.specs.Commands.{mapcalc_of, IsMapcalc}
+use Rattle.cell_commands.specs.RMapcalc.{assignment_text}
+use Rattle.cell_commands.specs.declared.fault.ScriptKind.{ScriptKind}
+use Rattle.cell_commands.specs.declared.fault.ScriptKind.TheVariants.{Calc}
+use Rattle.cell_commands.specs.declared.heads.Head.{Head}
 
 -- the text is an assignment
 pub assigned : (known : List (List ℕ)) (line text : List ℕ) (a : Assignment) (head : Result Head ScriptKind) → text ≡ assignment_text line → IsAssignmentText text a → mapcalc_of known a ≡ head → IsMapcalc known line head

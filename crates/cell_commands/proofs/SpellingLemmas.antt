@@ -13,31 +13,31 @@ use Rattle.cell_combinations.specs.Combinations.{Combination}
 use Rattle.cell_combinations.specs.ComboText.{combo_of}
 use Rattle.cell_combinations.specs.declared.reading.ComboFault.{ComboFault}
 use Rattle.cell_text.specs.Words.{words_of}
-use Rattle.cell_script.specs.Commands.{as_whole, as_opened, head_named, head_of_words, is_mapcalc, IsShortHead, IsHeadOf, IsHead, clump_of, clump_with, mapcalc_of, IsMapcalc, out_ascii_of, out_ascii_with, reclass_of, after_of, stats_at, stats_with, stats_of}
-use Rattle.cell_script.specs.Faults.{in_script}
-use Rattle.cell_script.specs.Lines.{is_comment, IsSkipped}
+use Rattle.cell_commands.specs.Commands.{as_whole, as_opened, head_named, head_of_words, is_mapcalc, IsShortHead, IsHeadOf, IsHead, clump_of, clump_with, mapcalc_of, IsMapcalc, out_ascii_of, out_ascii_with, reclass_of, after_of, stats_at, stats_with, stats_of}
+use Rattle.cell_commands.specs.Faults.{in_script}
+use Rattle.cell_commands.specs.Skipped.{is_comment, IsSkipped}
 use Rattle.cell_options.specs.Options.{Given, is_torn}
 use Rattle.cell_options.specs.Maps.{needed, known_place, known_places, from_to, input_place, input_places}
 use Rattle.cell_options.specs.Places.{places_of}
 use Rattle.cell_options.specs.OptionReading.{and_then, options_of}
-use Rattle.cell_script.specs.RClump.{joining_of, SpellsClump}
-use Rattle.cell_script.specs.RMapcalc.{assignment_text}
-use Rattle.cell_script.specs.RStats.{printed_with, SpellsAfter, SpellsStats}
-use Rattle.cell_script.specs.RReclass.{AreFromTo, SpellsReclass}
-use Rattle.cell_script.specs.ROutAscii.{SpellsOutAscii}
-use Rattle.cell_script.specs.Scripts.{Spells}
-use Rattle.cell_script.specs.declared.fault.ScriptKind.{ScriptKind}
-use Rattle.cell_script.specs.declared.fault.ScriptKind.TheVariants.{UnknownCommand}
-use Rattle.cell_script.specs.declared.heads.Head.{Head}
-use Rattle.cell_script.specs.declared.heads.Head.TheVariants.{Skipped, Whole, Opened}
+use Rattle.cell_commands.specs.RClump.{joining_of, SpellsClump}
+use Rattle.cell_commands.specs.RMapcalc.{assignment_text}
+use Rattle.cell_commands.specs.RStats.{printed_with, SpellsAfter, SpellsStats}
+use Rattle.cell_commands.specs.RReclass.{AreFromTo, SpellsReclass}
+use Rattle.cell_commands.specs.ROutAscii.{SpellsOutAscii}
+use Rattle.cell_commands.specs.Spelling.{Spells}
+use Rattle.cell_commands.specs.declared.fault.ScriptKind.{ScriptKind}
+use Rattle.cell_commands.specs.declared.fault.ScriptKind.TheVariants.{UnknownCommand}
+use Rattle.cell_commands.specs.declared.heads.Head.{Head}
+use Rattle.cell_commands.specs.declared.heads.Head.TheVariants.{Skipped, Whole, Opened}
 use Rattle.cell_options.specs.declared.fault.OptionFault.{OptionFault}
 use Rattle.cell_options.specs.declared.fault.OptionFault.TheVariants.{BadOption}
 use Rattle.cell_options.specs.declared.options.Form.TheVariants as form
-use Rattle.cell_script.specs.declared.statement.Command.{Command}
-use Rattle.cell_script.specs.declared.statement.Command.TheVariants.{Mapcalc, Reclass, Clump, Stats, OutAscii}
-use Rattle.cell_script.specs.declared.statement.StatsOptions.{StatsOptions}
+use Rattle.cell_commands.specs.declared.command.Command.{Command}
+use Rattle.cell_commands.specs.declared.command.Command.TheVariants.{Mapcalc, Reclass, Clump, Stats, OutAscii}
+use Rattle.cell_commands.specs.declared.command.StatsOptions.{StatsOptions}
 use Rattle.cell_options.proofs.OptionLemmas.{options-sound, options-complete}
-use Rattle.cell_script.proofs.SkippedLemmas.{say_nothing, say_nothing-trimmed}
+use Rattle.cell_commands.proofs.SkippedLemmas.{say_nothing, say_nothing-trimmed}
 
 -- one of two, by a test
 either : {A : Type 0} (b : Bool) (x y z : A) → cond b x y ≡ z → ((b ≡ true) × (x ≡ z)) ⊎ ((b ≡ false) × (y ≡ z))

@@ -7,10 +7,10 @@ use Rattle.cell_tokens.specs.Tokens.{token_list}
 use Rattle.cell_language.specs.declared.assignment.Assignment.{Assignment}
 use Rattle.cell_tokens.specs.declared.fault.CalcFault.{CalcFault}
 use Rattle.cell_tokens.specs.declared.token.Placed.{Placed}
-use Rattle.cell_script.specs.Commands.{mapcalc_of, IsMapcalc}
-use Rattle.cell_script.specs.RMapcalc.{assignment_text}
-use Rattle.cell_script.specs.declared.fault.ScriptKind.{ScriptKind}
-use Rattle.cell_script.specs.declared.heads.Head.{Head}
+use Rattle.cell_commands.specs.Commands.{mapcalc_of, IsMapcalc}
+use Rattle.cell_commands.specs.RMapcalc.{assignment_text}
+use Rattle.cell_commands.specs.declared.fault.ScriptKind.{ScriptKind}
+use Rattle.cell_commands.specs.declared.heads.Head.{Head}
 
 -- a list of tokens stands for no second assignment
 abbrev pub OneAssignment : Type 0

@@ -13,22 +13,22 @@ use Rattle.cell_language.specs.declared.assignment.Assignment.{Assignment}
 use Rattle.cell_tokens.specs.declared.fault.CalcFault.{CalcFault}
 use Rattle.cell_tokens.specs.declared.fault.CalcKind.TheVariants as calc
 use Rattle.cell_combinations.specs.declared.reading.ComboFault.{ComboFault}
-use Rattle.cell_script.specs.Faults.{in_script}
-use Rattle.cell_script.specs.Lines.{is_comment}
+use Rattle.cell_commands.specs.Faults.{in_script}
+use Rattle.cell_commands.specs.Skipped.{is_comment}
 use Rattle.cell_options.specs.Maps.{new_target, from_to, input_place, input_places}
 use Rattle.cell_options.specs.OptionReading.{and_then, options_of}
 use Rattle.cell_options.specs.Options.{Given}
-use Rattle.cell_script.specs.RClump.{joining_of}
-use Rattle.cell_script.specs.RMapcalc.{assignment_text}
-use Rattle.cell_script.specs.RStats.{printed_with}
-use Rattle.cell_script.specs.declared.fault.ScriptKind.{ScriptKind}
-use Rattle.cell_script.specs.declared.fault.ScriptKind.TheVariants.{Calc, Combo, UnknownCommand, LongLine}
-use Rattle.cell_script.specs.declared.heads.Head.{Head}
-use Rattle.cell_script.specs.declared.heads.Head.TheVariants.{Whole, Skipped, Opened}
+use Rattle.cell_commands.specs.RClump.{joining_of}
+use Rattle.cell_commands.specs.RMapcalc.{assignment_text}
+use Rattle.cell_commands.specs.RStats.{printed_with}
+use Rattle.cell_commands.specs.declared.fault.ScriptKind.{ScriptKind}
+use Rattle.cell_commands.specs.declared.fault.ScriptKind.TheVariants.{Calc, Combo, UnknownCommand, LongLine}
+use Rattle.cell_commands.specs.declared.heads.Head.{Head}
+use Rattle.cell_commands.specs.declared.heads.Head.TheVariants.{Whole, Skipped, Opened}
 use Rattle.cell_options.specs.declared.fault.OptionFault.{OptionFault}
 use Rattle.cell_options.specs.declared.options.Form.TheVariants as form
-use Rattle.cell_script.specs.declared.statement.Command.{Command}
-use Rattle.cell_script.specs.declared.statement.Command.TheVariants.{Mapcalc, Clump, Stats, OutAscii}
+use Rattle.cell_commands.specs.declared.command.Command.{Command}
+use Rattle.cell_commands.specs.declared.command.Command.TheVariants.{Mapcalc, Clump, Stats, OutAscii}
 
 -- the map that an assignment makes: each map that it reads is known, and the target is new
 abbrev pub mapcalc_of : List (List ℕ) → Assignment → Result Head ScriptKind

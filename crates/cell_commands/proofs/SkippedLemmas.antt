@@ -4,7 +4,7 @@ use Rattle.std.specs.List.{filter, slice_split, onto_first}
 use Rattle.cell_cats.specs.RuleLine.{is_skipped}
 use Rattle.cell_text.specs.Blanks.{is_blank, before_blanks, trimmed}
 use Rattle.cell_text.specs.Words.{is_word, words_of}
-use Rattle.cell_script.specs.Lines.{is_comment}
+use Rattle.cell_commands.specs.Skipped.{is_comment}
 
 -- no words, or a comment
 abbrev pub say_nothing : List (List ℕ) → Bool

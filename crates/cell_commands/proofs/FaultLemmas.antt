@@ -6,12 +6,12 @@ use Rattle.cell_options.specs.Options.{Given}
 use Rattle.cell_options.specs.declared.fault.OptionFault.{OptionFault}
 use Rattle.cell_options.specs.declared.fault.OptionFault.TheVariants as option
 use Rattle.cell_options.specs.declared.options.Form.TheVariants as form
-use Rattle.cell_script.specs.Commands.{after_of, stats_at, stats_of}
-use Rattle.cell_script.specs.RStats.{printed_with}
-use Rattle.cell_script.specs.declared.statement.Command.TheVariants.{Stats}
-use Rattle.cell_script.specs.Faults.{kind_of, in_script}
-use Rattle.cell_script.specs.declared.fault.ScriptKind.{ScriptKind}
-use Rattle.cell_script.specs.declared.fault.ScriptKind.TheVariants as script
+use Rattle.cell_commands.specs.Commands.{after_of, stats_at, stats_of}
+use Rattle.cell_commands.specs.RStats.{printed_with}
+use Rattle.cell_commands.specs.declared.command.Command.TheVariants.{Stats}
+use Rattle.cell_commands.specs.Faults.{kind_of, in_script}
+use Rattle.cell_commands.specs.declared.fault.ScriptKind.{ScriptKind}
+use Rattle.cell_commands.specs.declared.fault.ScriptKind.TheVariants as script
 
 -- what fails by a fault that is no want of memory
 pub told : {A : Type 0} (r : Result A OptionFault) (fault : OptionFault) (kind : ScriptKind) → kind ≡ kind_of fault → kind ≢ script.Memory

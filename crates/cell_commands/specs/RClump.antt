@@ -5,7 +5,7 @@ use Rattle.cell_clump.specs.declared.clump.Joining.{Joining}
 use Rattle.cell_clump.specs.declared.clump.Joining.TheVariants.{Edges, EdgesAndCorners}
 use Rattle.cell_options.specs.OptionWords.{AreOptions}
 use Rattle.cell_options.specs.Options.{Given, has_flag}
-use Rattle.cell_script.specs.RReclass.{AreFromTo}
+use Rattle.cell_commands.specs.RReclass.{AreFromTo}
 use Rattle.cell_options.specs.declared.options.Form.TheVariants as form
 
 -- with the flag `d` cells that touch at a corner are joined too

@@ -2,7 +2,7 @@
 
 ghost use Rattle.std.specs.Prelude.{◌≡◌, ◌≢◌, ◌<◌, IfOk, IfErr, Ok, Err, None, length, map};
 ghost use Rattle.cell_base.specs.Name.{place_of};
-ghost use Rattle.cell_script.specs.Commands.{reclass_of};
+ghost use Rattle.cell_commands.specs.Commands.{reclass_of};
 
 use cell_core::name::{Name, Names};
 use cell_options::fault::OptionFault;

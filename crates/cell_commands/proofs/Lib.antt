@@ -1,0 +1,5 @@
+pub mod FaultLemmas
+pub mod CalcLemmas
+pub mod MapcalcLemmas
+pub mod SkippedLemmas
+pub mod SpellingLemmas
