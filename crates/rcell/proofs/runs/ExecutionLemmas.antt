@@ -13,7 +13,7 @@ use Rattle.cell_script.specs.Fitting.{Fits, FitsCommand}
 use Rattle.cell_script.specs.declared.statement.Command.{Command}
 use Rattle.cell_script.specs.declared.statement.Command.TheVariants.{Stats, OutAscii}
 use Rattle.cell_script.specs.declared.statement.Statement.{Statement}
-use Rattle.rcell.specs.Making.{IsAfter}
+use Rattle.rcell.specs.After.{IsAfter}
 use Rattle.cell_script.specs.declared.statement.StatsOptions.{StatsOptions}
 use Rattle.rcell.specs.Output.{Executes, command_text, stats_text}
 use Rattle.rcell.specs.parts.Steps.{Puts, PutsCut, IsStopped, HasExecuted, is_write}
