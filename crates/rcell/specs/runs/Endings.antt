@@ -1,5 +1,5 @@
--- How a run ends: done, refused at the first fault of what it is given, or stopped in execution (the limit of a script and the order of the faults are the profile's).
-use Rattle.std.specs.Prelude.{ℕ, ◌≡◌, nat_lt, List, length, Option, Some, None, Result, Ok, Err, if◌then◌else◌}
+-- How a run ends: done, refused at the first fault of what it is given, or stopped in execution (the order of the faults is the profile's).
+use Rattle.std.specs.Prelude.{ℕ, ◌≡◌, List, Option, Some, None, Result, Ok, Err}
 use Rattle.cell_devices.specs.Device.{Coming}
 use Rattle.cell_core.specs.Shelf.{ShelfValue}
 use Rattle.cell_script.specs.ReadScripts.{IsScriptFault}
@@ -9,10 +9,10 @@ use Rattle.cell_script.specs.declared.statement.Statement.{Statement}
 use Rattle.cell_loading.specs.Loading.{shelf_of}
 use Rattle.cell_loading.specs.ScriptText.{script_text}
 use Rattle.cell_loading.specs.Sources.{Named}
-use Rattle.rcell.specs.runs.Execution.{IsBefore, IsWithin}
-use Rattle.rcell.specs.runs.Outcomes.{IsDone}
 use Rattle.cell_loading.specs.declared.fault.RunFault.{RunFault}
 use Rattle.cell_loading.specs.declared.fault.RunFault.TheVariants.{GridTwice, GridRegion, Grid, ScriptRead, ScriptSize, Script, Memory, Write}
+use Rattle.rcell.specs.runs.Execution.{IsBefore, IsWithin}
+use Rattle.rcell.specs.runs.Outcomes.{IsDone}
 
 -- the script denotes the statements over maps of these names
 pub record Reads (known : List (List ℕ)) (script : Coming) (statements : List Statement) : Type 0 where

@@ -4,9 +4,8 @@ ghost use Rattle.std.specs.Prelude.{◌≡◌};
 ghost use Rattle.rcell.specs.runs.Statuses.{grid_status, script_status, status_of};
 
 use cell_ascii::fault::GridKind;
-use cell_script::fault::ScriptKind;
-
 pub use cell_loading::fault::RunFault;
+use cell_script::fault::ScriptKind;
 
 /// What a run did.
 #[derive(Clone, Copy, Debug, PartialEq, Eq)]
