@@ -7,13 +7,13 @@ ghost use Rattle.cell_formulas.specs.Postfix.{arity, after, AreEnough};
 ghost use Rattle.cell_rows.specs.Rows.{at, column};
 
 use crate::operand::{chosen, joined, popped, row_of, taken};
-use cell_formulas::step::Step;
-use cell_rows::calls::call;
-use cell_rows::rows;
 use crate::strip::{Operand, Spare, Strip};
 use crate::window::RowWindow;
 use cell_core::cell::Cell;
 use cell_core::memory::Memory;
+use cell_formulas::step::Step;
+use cell_rows::calls::call;
+use cell_rows::rows;
 use cell_tokens::function::Function;
 use std::alloc::Global;
 

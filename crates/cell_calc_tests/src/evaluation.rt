@@ -4,8 +4,8 @@ ghost use Rattle.std.specs.Prelude.{◌≡◌, ◌<◌, ◌≤◌, ℕ, length, 
 ghost use Rattle.cell_formulas.specs.Reach.{top_of, up_of, down_of};
 ghost use Rattle.cell_calc.specs.Window.{HasReach};
 
-use cell_calc::evaluation::eval_row;
 use cell_calc::Bound;
+use cell_calc::evaluation::eval_row;
 use cell_calc::window::RowWindow;
 use cell_core::cell::Cell;
 use cell_core::memory::Memory;

@@ -1,11 +1,11 @@
 //! What a line of a script asks for.
 
-use cell_formulas::bound::Bound;
 use cell_cats::rules::Rules;
 use cell_clump::clump::Joining;
-use cell_core::name::Name;
 use cell_combinations::combination::Combo;
 use cell_combinations::skip::Skip;
+use cell_core::name::Name;
+use cell_formulas::bound::Bound;
 pub use cell_options::maps::Places;
 use cell_options::null_text::{NullText, TableNullText};
 

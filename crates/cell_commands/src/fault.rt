@@ -1,9 +1,9 @@
 //! Why a text is no script.
 
-use cell_language::fault::CalcFault;
 use cell_cats::rules::RuleFault;
 use cell_combinations::reading::ComboFault;
 use cell_core::memory::Memory;
+use cell_language::fault::CalcFault;
 use cell_options::fault::OptionFault;
 use thiserror::Error;
 

@@ -108,12 +108,7 @@ fn from_left(source: &[Cell], skip: usize, row: &mut [Cell])
 }
 
 /// The part of a row that lies so many columns to the right of a strip, if all of it lies inside.
-pub fn inside<'a>(
-    source: &'a [Cell],
-    from: usize,
-    right: i32,
-    width: usize,
-) -> Option<&'a [Cell]>
+pub fn inside<'a>(source: &'a [Cell], from: usize, right: i32, width: usize) -> Option<&'a [Cell]>
     requires { from ≤ 65535 }
     ensures width { IfSome result (λ part. length part.now ≡ width) }
     ensures each { IfSome result (λ part. (c : ℕ) → c < width → at part.now c ≡ item_at None source.now (pos (from + c) +ℤ right)) }
@@ -323,13 +318,7 @@ fn overlap_of(cells: usize, right: i32, from: usize, width: usize) -> Overlap
 
 /// The values of an operator along a strip, which holds its left operands and begins at a column; the right ones are the
 /// cells of another row so many columns to the right, null outside.
-pub fn apply_shifted(
-    operator: Operator,
-    row: &mut [Cell],
-    source: &[Cell],
-    right: i32,
-    from: usize,
-)
+pub fn apply_shifted(operator: Operator, row: &mut [Cell], source: &[Cell], right: i32, from: usize)
     requires { from ≤ 65535 }
     ensures width { length row.new ≡ length row.old }
     ensures each { (c : ℕ) → c < length row.old → at row.new c ≡ applied operator (at row.old c) (item_at None source.now (pos (from + c) +ℤ right)) }

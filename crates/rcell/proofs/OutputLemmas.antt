@@ -14,7 +14,8 @@ use Rattle.cell_core.specs.Shelf.{ShelfValue}
 use Rattle.cell_commands.specs.declared.command.Command.{Command}
 use Rattle.cell_commands.specs.declared.command.Command.TheVariants.{Mapcalc, Reclass, Clump, Stats, OutAscii}
 use Rattle.cell_script.specs.declared.statement.Statement.{Statement}
-use Rattle.rcell.specs.Making.{AreValues, AreNumbers, IsOfMap, IsAfter, with_map}
+use Rattle.cell_making.specs.Making.{AreValues, AreNumbers, IsOfMap, with_map}
+use Rattle.rcell.specs.After.{IsAfter}
 use Rattle.rcell.specs.Output.{Executes, command_text}
 use Rattle.rcell.specs.OutputLaw.{OneOutput, PartsJoin}
 

@@ -1,5 +1,5 @@
--- Maps that statements make, output, runs, laws and fault lines.
-pub mod Making
+-- The shelf after each statement, output, runs, laws and fault lines.
+pub mod After
 pub mod Output
 pub mod OutputLaw
 pub mod StatsLaw

@@ -10,7 +10,7 @@ use Rattle.cell_commands.specs.declared.command.StatsOptions.{StatsOptions}
 use Rattle.cell_combinations.specs.Combinations.{Combination, all_combinations}
 use Rattle.cell_stats.specs.TableText.{FormatValue, table_text, printed_pairs, cells_text}
 use Rattle.cell_stats.specs.Tables.{table_of}
-use Rattle.rcell.specs.Making.{IsAfter}
+use Rattle.rcell.specs.After.{IsAfter}
 
 -- the combinations of all cells of the maps at the places
 abbrev pub combinations_of : ShelfValue → List ℕ → List Combination

@@ -1,7 +1,5 @@
--- A run: the shelf of its grids, its faults and its outcome.
-pub mod Sources
-pub mod Loading
-pub mod Faults
+-- A run: its statuses and its outcome.
+pub mod Statuses
 pub mod Accepted
 pub mod Execution
 pub mod Outcomes

@@ -2,14 +2,12 @@
 //! that the script asks for are written (GRASS manual: r.in.ascii, r.mapcalc, r.reclass, r.clump, r.stats, r.out.ascii).
 #![tactic(auto)]
 
-pub mod evaluation;
 pub mod law;
-mod making;
 pub mod report;
 pub mod runs;
 
+pub use cell_making::evaluation::evaluate;
 pub use cell_script::fault::{ScriptFault, ScriptKind};
 pub use cell_script::parsing::parse_script;
-pub use evaluation::evaluate;
 pub use runs::outcome::{Outcome, RunFault};
 pub use runs::running::run;

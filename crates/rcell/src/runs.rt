@@ -1,8 +1,6 @@
 //! A run: grids are read, a script is parsed, and what it asks for is written.
 
 pub(crate) mod execution;
-pub(crate) mod loading;
 pub mod outcome;
 pub(crate) mod running;
 pub(crate) mod tables;
-pub(crate) mod text;

@@ -11,14 +11,15 @@ use Rattle.cell_core.specs.Shelf.{ShelfValue}
 use Rattle.cell_ascii_text.specs.Cells.{grid_of}
 use Rattle.cell_ascii_text.specs.GridText.{Denotes}
 use Rattle.cell_ascii_law.proofs.GridLawLemmas.{reading_agrees}
-use Rattle.rcell.proofs.runs.LoadingLemmas.{added-same}
+use Rattle.cell_loading.proofs.LoadingLemmas.{added-same}
 use Rattle.rcell.specs.runs.Accepted.{AllDenote, AreGrids, IsAccepted}
-use Rattle.rcell.specs.Making.{with_map}
-use Rattle.rcell.specs.runs.Loading.{with_grid, shelf_of_one, shelf_from, then_grids}
-use Rattle.rcell.specs.runs.Endings.{script_text, IsRead}
+use Rattle.cell_making.specs.Making.{with_map}
+use Rattle.cell_loading.specs.Loading.{with_grid, shelf_of_one, shelf_from, then_grids}
+use Rattle.cell_loading.specs.ScriptText.{script_text}
+use Rattle.rcell.specs.runs.Endings.{IsRead}
 use Rattle.rcell.specs.runs.Outcomes.{Writes}
 use Rattle.rcell.specs.declared.runs.outcome.Outcome.{Outcome}
-use Rattle.rcell.specs.runs.Sources.{Named}
+use Rattle.cell_loading.specs.Sources.{Named}
 use Rattle.cell_script.specs.declared.statement.Statement.{Statement}
 
 differs : (t : Bool) → (t ≡ true → ⊥) → t ≡ false

@@ -14,7 +14,7 @@ use Rattle.cell_script.specs.Fitting.{Fits}
 use Rattle.cell_commands.specs.declared.command.Command.{Command}
 use Rattle.cell_commands.specs.declared.command.Command.TheVariants.{Stats, OutAscii}
 use Rattle.cell_script.specs.declared.statement.Statement.{Statement}
-use Rattle.rcell.specs.Making.{IsAfter}
+use Rattle.rcell.specs.After.{IsAfter}
 use Rattle.cell_commands.specs.declared.command.StatsOptions.{StatsOptions}
 use Rattle.rcell.specs.Output.{Executes, command_text, stats_text}
 use Rattle.rcell.specs.parts.Steps.{Puts, PutsCut, IsStopped, HasExecuted, is_write}

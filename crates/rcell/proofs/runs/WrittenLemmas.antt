@@ -5,14 +5,15 @@ use Rattle.std.proofs.lemmas.Bool.{true≢false}
 use Rattle.cell_devices.specs.Device.{Coming}
 use Rattle.cell_core.specs.Shelf.{ShelfValue}
 use Rattle.cell_script.specs.declared.statement.Statement.{Statement}
-use Rattle.rcell.specs.runs.Faults.{IsOfInput, IsOfMemory, IsBeforeExecution, IsInExecution, status_after}
-use Rattle.rcell.specs.runs.Loading.{shelf_of}
+use Rattle.cell_loading.specs.Faults.{IsOfInput, IsOfMemory, IsBeforeExecution, IsInExecution}
+use Rattle.rcell.specs.runs.Statuses.{status_after}
+use Rattle.cell_loading.specs.Loading.{shelf_of}
 use Rattle.rcell.specs.runs.Endings.{Reads, IsRead}
 use Rattle.rcell.specs.runs.Outcomes.{IsDone, Writes}
-use Rattle.rcell.specs.runs.Sources.{Named}
+use Rattle.cell_loading.specs.Sources.{Named}
 use Rattle.rcell.specs.declared.runs.outcome.Outcome.{Outcome}
-use Rattle.rcell.specs.declared.runs.outcome.RunFault.{RunFault}
-use Rattle.rcell.specs.declared.runs.outcome.RunFault.TheVariants.{GridTwice, GridRegion, Grid, ScriptRead, ScriptSize, Script, Memory, Write}
+use Rattle.cell_loading.specs.declared.fault.RunFault.{RunFault}
+use Rattle.cell_loading.specs.declared.fault.RunFault.TheVariants.{GridTwice, GridRegion, Grid, ScriptRead, ScriptSize, Script, Memory, Write}
 
 -- a fault before execution that is not of memory is of the input
 input_unless_memory : (f : RunFault) → IsBeforeExecution f → (IsOfMemory f → ⊥) → IsOfInput f

@@ -5,7 +5,7 @@ use Rattle.cell_core.specs.Grid.{Grid}
 use Rattle.cell_base.specs.Name.{AreDistinct}
 use Rattle.cell_core.specs.Shelf.{ShelfValue}
 use Rattle.cell_ascii_text.specs.GridText.{Denotes}
-use Rattle.rcell.specs.runs.Sources.{Named}
+use Rattle.cell_loading.specs.Sources.{Named}
 use Rattle.cell_script.specs.Scripts.{IsScript}
 use Rattle.cell_script.specs.declared.statement.Statement.{Statement}
 

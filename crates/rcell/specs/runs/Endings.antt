@@ -1,21 +1,18 @@
--- How a run ends: done, refused at the first fault of what it is given, or stopped in execution (the limit of a script and the order of the faults are the profile's).
-use Rattle.std.specs.Prelude.{ℕ, ◌≡◌, nat_lt, List, length, Option, Some, None, Result, Ok, Err, if◌then◌else◌}
+-- How a run ends: done, refused at the first fault of what it is given, or stopped in execution (the order of the faults is the profile's).
+use Rattle.std.specs.Prelude.{ℕ, ◌≡◌, List, Option, Some, None, Result, Ok, Err}
 use Rattle.cell_devices.specs.Device.{Coming}
 use Rattle.cell_core.specs.Shelf.{ShelfValue}
 use Rattle.cell_script.specs.ReadScripts.{IsScriptFault}
 use Rattle.cell_script.specs.Scripts.{IsScript}
 use Rattle.cell_commands.specs.declared.fault.ScriptFault.{ScriptFault}
 use Rattle.cell_script.specs.declared.statement.Statement.{Statement}
+use Rattle.cell_loading.specs.Loading.{shelf_of}
+use Rattle.cell_loading.specs.ScriptText.{script_text}
+use Rattle.cell_loading.specs.Sources.{Named}
+use Rattle.cell_loading.specs.declared.fault.RunFault.{RunFault}
+use Rattle.cell_loading.specs.declared.fault.RunFault.TheVariants.{GridTwice, GridRegion, Grid, ScriptRead, ScriptSize, Script, Memory, Write}
 use Rattle.rcell.specs.runs.Execution.{IsBefore, IsWithin}
-use Rattle.rcell.specs.runs.Loading.{shelf_of}
 use Rattle.rcell.specs.runs.Outcomes.{IsDone}
-use Rattle.rcell.specs.runs.Sources.{Named}
-use Rattle.rcell.specs.declared.runs.outcome.RunFault.{RunFault}
-use Rattle.rcell.specs.declared.runs.outcome.RunFault.TheVariants.{GridTwice, GridRegion, Grid, ScriptRead, ScriptSize, Script, Memory, Write}
-
--- a script has at most 1048576 bytes, and its reader ends
-abbrev pub script_text : Coming → Result (List ℕ) RunFault
-script_text c = if nat_lt 1048576 (length c.bytes) then Err ScriptSize else (if c.fails then Err ScriptRead else Ok c.bytes)
 
 -- the script denotes the statements over maps of these names
 pub record Reads (known : List (List ℕ)) (script : Coming) (statements : List Statement) : Type 0 where

@@ -5,7 +5,7 @@ use Rattle.cell_devices.specs.Device.{append_known}
 use Rattle.cell_core.specs.Shelf.{ShelfValue}
 use Rattle.cell_script.specs.declared.statement.Statement.{Statement}
 use Rattle.rcell.specs.Output.{IsOutput}
-use Rattle.rcell.specs.runs.Faults.{IsOfMemory}
+use Rattle.cell_loading.specs.Faults.{IsOfMemory}
 use Rattle.rcell.specs.declared.runs.outcome.Outcome.{Outcome}
 
 -- the sink took exactly the output of the statements, and its length is told

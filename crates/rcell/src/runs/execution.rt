@@ -7,19 +7,19 @@ ghost use Rattle.cell_devices.specs.Blocks.{capped};
 ghost use Rattle.cell_script.specs.Known.{known_after};
 ghost use Rattle.cell_commands.specs.Fitting.{FitsCommand};
 ghost use Rattle.cell_script.specs.Fitting.{Fits};
-ghost use Rattle.rcell.specs.Making.{IsAfter};
+ghost use Rattle.rcell.specs.After.{IsAfter};
 ghost use Rattle.rcell.specs.Output.{command_text};
 ghost use Rattle.rcell.specs.parts.Steps.{Puts, PutsCut, IsStopped, is_write, stops_write};
 ghost use Rattle.rcell.specs.runs.Execution.{Stops};
 ghost use Rattle.rcell.specs.runs.Outcomes.{IsDone};
 
-use crate::making::{make_classes, make_numbers, make_values};
 use crate::runs::tables::put_stats;
 use cell_ascii::writer::write_map;
 use cell_core::block::Block;
 use cell_core::map::CellMap;
 use cell_core::shelf::Shelf;
 use cell_core::sink::{Sink, WriteFault};
+use cell_making::making::{make_classes, make_numbers, make_values};
 use cell_script::statement::{Command, Statement};
 use std::alloc::Global;
 

@@ -1,31 +1,11 @@
 //! What a run answers.
 
 ghost use Rattle.std.specs.Prelude.{◌≡◌};
-ghost use Rattle.rcell.specs.runs.Faults.{grid_status, script_status, status_of};
+ghost use Rattle.rcell.specs.runs.Statuses.{grid_status, script_status, status_of};
 
-use cell_ascii::fault::{GridFault, GridKind};
-use cell_script::fault::{ScriptFault, ScriptKind};
-
-/// Why a run did not do its work. `grid` is a place among the grids, from 0.
-#[derive(Clone, Copy, Debug, PartialEq, Eq)]
-pub enum RunFault {
-    /// The name of a grid is on the shelf already.
-    GridTwice { grid: usize },
-    /// A grid has another region than the first.
-    GridRegion { grid: usize },
-    /// A grid could not be read.
-    Grid { grid: usize, fault: GridFault },
-    /// The reader of the script failed.
-    ScriptRead,
-    /// The script has over 1,048,576 bytes.
-    ScriptSize,
-    /// The script was refused.
-    Script(ScriptFault),
-    /// A growth was refused; the line is that of the statement in execution, 0 before execution.
-    Memory { line: u64 },
-    /// A write, or the flush at the end, failed.
-    Write,
-}
+use cell_ascii::fault::GridKind;
+pub use cell_loading::fault::RunFault;
+use cell_script::fault::ScriptKind;
 
 /// What a run did.
 #[derive(Clone, Copy, Debug, PartialEq, Eq)]

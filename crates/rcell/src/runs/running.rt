@@ -4,20 +4,21 @@ ghost use Rattle.std.specs.Prelude.{◌≡◌, ℕ, ◌<◌, List, All, length, 
 ghost use Rattle.cell_core.specs.Shelf.{ShelfValue};
 ghost use Rattle.cell_script.specs.Fitting.{Fits};
 ghost use Rattle.cell_script.specs.declared.statement.Statement.{Statement};
+ghost use Rattle.cell_loading.specs.Faults.{IsOfInput, IsBeforeExecution, IsInExecution, IsTold};
+ghost use Rattle.cell_loading.specs.Sources.{AllKnown, known_of, coming_of};
 ghost use Rattle.rcell.specs.runs.Accepted.{IsAccepted};
-ghost use Rattle.rcell.specs.runs.Faults.{IsOfInput, IsBeforeExecution, IsInExecution, IsTold, status_of, status_after};
+ghost use Rattle.rcell.specs.runs.Statuses.{status_of, status_after};
 ghost use Rattle.rcell.specs.runs.Endings.{Reads, IsScriptRefusal, IsRefusal, IsRead, IsRunDone, StopsAt, IsRunStopped};
 ghost use Rattle.rcell.specs.runs.Outcomes.{IsDone, Writes};
-ghost use Rattle.rcell.specs.runs.Sources.{AllKnown, known_of, coming_of};
 
 use crate::runs::execution::{Stop, execute};
-use crate::runs::loading::{load, names_of};
 use crate::runs::outcome::{Outcome, RunFault, status_of};
-use crate::runs::text::read_script;
 use cell_core::name::Name;
 use cell_core::shelf::Shelf;
 use cell_core::sink::Sink;
 use cell_core::source::Source;
+use cell_loading::loading::{load, names_of};
+use cell_loading::text::read_script;
 use cell_script::law::{no_fault_of_a_script, one_script};
 use cell_script::parsing::parse_script;
 use cell_script::statement::Script;

@@ -1,5 +1,5 @@
 use Rattle.std.proofs.Common.{length, refl, rules}
-use Rattle.rcell.specs.runs.Sources.{known_of, coming_of}
+use Rattle.cell_loading.specs.Sources.{known_of, coming_of}
 use Rattle.rcell.proofs.runs.AcceptedLemmas.{when_accepted}
 use Rattle.rcell.proofs.runs.WrittenLemmas.{read_written, read_refused}
 use Rattle.rcell.proofs.runs.running.run.Goals as goal

@@ -1,0 +1,61 @@
+-- The faults of a run: which of them come when, and what they tell (profile).
+use Rattle.std.specs.Prelude.{ℕ, ◌≡◌, ◌≢◌, ◌<◌, ⊤}
+use Rattle.cell_ascii_text.specs.declared.fault.GridKind.TheVariants as grid_kinds
+use Rattle.cell_commands.specs.declared.fault.ScriptKind.TheVariants as script_kinds
+use Rattle.cell_loading.specs.declared.fault.RunFault.{RunFault}
+use Rattle.cell_loading.specs.declared.fault.RunFault.TheVariants.{GridTwice, GridRegion, Grid, ScriptRead, ScriptSize, Script, Memory, Write}
+
+-- a fault that is neither want of memory nor a failing writer: what the texts and their readers have wrong
+abbrev pub IsOfInput : RunFault → Type 0
+IsOfInput (GridTwice grid) = ⊤
+IsOfInput (GridRegion grid) = ⊤
+IsOfInput (Grid grid fault) = fault.kind ≢ grid_kinds.Memory
+IsOfInput ScriptRead = ⊤
+IsOfInput ScriptSize = ⊤
+IsOfInput (Script fault) = fault.kind ≢ script_kinds.Memory
+IsOfInput (Memory line) = ⊥
+IsOfInput Write = ⊥
+
+-- want of memory
+abbrev pub IsOfMemory : RunFault → Type 0
+IsOfMemory (GridTwice grid) = ⊥
+IsOfMemory (GridRegion grid) = ⊥
+IsOfMemory (Grid grid fault) = fault.kind ≡ grid_kinds.Memory
+IsOfMemory ScriptRead = ⊥
+IsOfMemory ScriptSize = ⊥
+IsOfMemory (Script fault) = fault.kind ≡ script_kinds.Memory
+IsOfMemory (Memory line) = ⊤
+IsOfMemory Write = ⊥
+
+-- a fault that is told before the script was accepted
+abbrev pub IsBeforeExecution : RunFault → Type 0
+IsBeforeExecution (GridTwice grid) = ⊤
+IsBeforeExecution (GridRegion grid) = ⊤
+IsBeforeExecution (Grid grid fault) = ⊤
+IsBeforeExecution ScriptRead = ⊤
+IsBeforeExecution ScriptSize = ⊤
+IsBeforeExecution (Script fault) = ⊤
+IsBeforeExecution (Memory line) = line ≡ 0
+IsBeforeExecution Write = ⊥
+
+-- a fault that is told once the script was accepted
+abbrev pub IsInExecution : RunFault → Type 0
+IsInExecution (GridTwice grid) = ⊥
+IsInExecution (GridRegion grid) = ⊥
+IsInExecution (Grid grid fault) = ⊥
+IsInExecution ScriptRead = ⊥
+IsInExecution ScriptSize = ⊥
+IsInExecution (Script fault) = ⊥
+IsInExecution (Memory line) = 0 < line
+IsInExecution Write = ⊤
+
+-- a fault names one of so many grids, and want of memory for a grid or for the script is told at line 0
+abbrev pub IsTold : ℕ → RunFault → Type 0
+IsTold grids (GridTwice grid) = grid < grids
+IsTold grids (GridRegion grid) = grid < grids
+IsTold grids (Grid grid fault) = (grid < grids) × (fault.kind ≢ grid_kinds.Failed) × (fault.kind ≡ grid_kinds.Memory → fault.line ≡ 0)
+IsTold grids ScriptRead = ⊤
+IsTold grids ScriptSize = ⊤
+IsTold grids (Script fault) = fault.kind ≡ script_kinds.Memory → fault.line ≡ 0
+IsTold grids (Memory line) = ⊤
+IsTold grids Write = ⊤

@@ -1,0 +1,125 @@
+//! The shelf of the grids.
+
+ghost use Rattle.std.specs.Prelude.{ℕ, ◌≡◌, ◌+◌, ◌<◌, IsSome, IfOk, IfErr, Ok, Err, Some, length, vec_len};
+ghost use Rattle.cell_base.specs.Name.{place_of};
+ghost use Rattle.cell_ascii_text.specs.Cells.{grid_of};
+ghost use Rattle.cell_loading.specs.Faults.{IsOfInput, IsBeforeExecution, IsTold};
+ghost use Rattle.cell_loading.specs.Loading.{added, placed, with_grid, shelf_of};
+ghost use Rattle.cell_loading.specs.Sources.{AllKnown, known_of, coming_of};
+
+use crate::fault::RunFault;
+use cell_ascii::reader::read_map;
+use cell_core::map::CellMap;
+use cell_core::memory::Memory;
+use cell_core::name::{Name, Names};
+use cell_core::shelf::{Shelf, ShelfFault};
+use cell_core::source::Source;
+use std::alloc::Global;
+
+// The shelf with one more map.
+fn added(mut shelf: Shelf, grid: usize, name: Name, map: CellMap) -> Result<Shelf, RunFault>
+    ensures ok { IfOk result (λ s. added grid shelf name map (place_of name shelf.names) ≡ Ok s) }
+    ensures fault { IfErr result (λ f. IsOfInput f → added grid shelf name map (place_of name shelf.names) ≡ Err f) }
+    ensures early { IfErr result IsBeforeExecution }
+    ensures told { (count : ℕ) → grid < count → IfErr result (IsTold count) }
+{
+    match shelf.add(name, map) {
+        Ok(()) => Ok(shelf),
+        Err(refused) => match refused.fault {
+            ShelfFault::Exists => Err(RunFault::GridTwice { grid }),
+            ShelfFault::OtherRegion => Err(RunFault::GridRegion { grid }),
+            ShelfFault::Memory => Err(RunFault::Memory { line: 0 }),
+        },
+    }
+}
+
+// The shelf with one more map, or a new one of the map's region.
+fn placed(
+    alloc: Global,
+    shelf: Option<Shelf>,
+    grid: usize,
+    name: Name,
+    map: CellMap,
+) -> Result<Shelf, RunFault>
+    ensures ok { IfOk result (λ s. placed grid shelf name map ≡ Ok s) }
+    ensures fault { IfErr result (λ f. IsOfInput f → placed grid shelf name map ≡ Err f) }
+    ensures early { IfErr result IsBeforeExecution }
+    ensures told { (count : ℕ) → grid < count → IfErr result (IsTold count) }
+{
+    match shelf {
+        Some(shelf) => added(shelf, grid, name, map),
+        None => {
+            let shelf = Shelf::new(alloc, map.region());
+            added(shelf, grid, name, map)
+        }
+    }
+}
+
+// Reads a grid whole, and puts it on the shelf.
+fn with_grid<R: Source + Drop>(
+    alloc: Global,
+    shelf: Option<Shelf>,
+    grid: usize,
+    name: Name,
+    source: R,
+) -> Result<Shelf, RunFault>
+    ensures ok { IsSome (R.coming source) → IfOk result (λ s. with_grid grid shelf name (grid_of (coming_of R.coming source)) ≡ Ok s) }
+    ensures fault { IsSome (R.coming source) → IfErr result (λ f. IsOfInput f → with_grid grid shelf name (grid_of (coming_of R.coming source)) ≡ Err f) }
+    ensures early { IfErr result IsBeforeExecution }
+    ensures told { (count : ℕ) → grid < count → IfErr result (IsTold count) }
+{
+    let map = match read_map(alloc, source) {
+        Ok(map) => map,
+        Err(fault) => return Err(RunFault::Grid { grid, fault }),
+    };
+    match placed(alloc, shelf, grid, name, map) {
+        Ok(shelf) => Ok(shelf),
+        Err(fault) => Err(fault),
+    }
+}
+
+/// Reads the grids, each whole and in order, and puts them on a shelf.
+///
+/// # Errors
+///
+/// That of the first grid that has one: [`RunFault::Grid`] where its text is refused, then [`RunFault::GridTwice`] where
+/// its name stands already, then [`RunFault::GridRegion`] where its region is not the first grid's. Where memory was
+/// refused, [`RunFault::Grid`] of kind `Memory`, or [`RunFault::Memory`], both with line 0.
+pub fn load<R: Source + Drop>(alloc: Global, grids: Vec<(Name, R)>) -> Result<Shelf, RunFault>
+    requires { 0 < vec_len grids }
+    ensures ok { AllKnown R.coming grids.items → IfOk result (λ s. shelf_of (known_of R.coming grids.items) ≡ Ok (Some s)) }
+    ensures fault { AllKnown R.coming grids.items → IfErr result (λ f. IsOfInput f → shelf_of (known_of R.coming grids.items) ≡ Err f) }
+    ensures early { IfErr result IsBeforeExecution }
+    ensures told { IfErr result (IsTold (length grids.items)) }
+{
+    let mut shelf = None;
+    let mut grid = 0;
+    for (name, source) in grids {
+        match with_grid(alloc, shelf, grid, name, source) {
+            Ok(more) => shelf = Some(more),
+            Err(fault) => return Err(fault),
+        }
+        grid += 1;
+    }
+    match shelf {
+        Some(shelf) => Ok(shelf),
+        None => unreachable!(),
+    }
+}
+
+/// The names of the maps on a shelf, in order.
+///
+/// # Errors
+///
+/// [`Memory`] where memory was refused.
+pub fn names_of(alloc: Global, shelf: &Shelf) -> Result<Names, Memory>
+    ensures names { IfOk result (λ names. names ≡ shelf.now.names) }
+    ensures count { IfOk result (λ names. length names ≡ length shelf.now.maps) }
+{
+    let mut names = Names::new(alloc);
+    for i in 0..shelf.len() {
+        let name = shelf.name(i).copy(alloc)?;
+        names.push(name)?;
+    }
+    Ok(names)
+}

@@ -1,0 +1,45 @@
+//! The text of a script.
+
+ghost use Rattle.std.specs.Prelude.{ℕ, ◌≡◌, IfOk, IfErr, IfSome, Ok, Err};
+ghost use Rattle.cell_loading.specs.Faults.{IsOfInput, IsBeforeExecution, IsTold};
+ghost use Rattle.cell_loading.specs.ScriptText.{script_text};
+
+use crate::fault::RunFault;
+use cell_core::source::Source;
+use std::alloc::Global;
+
+/// The most bytes of a script.
+const MOST_BYTES: usize = 1048576;
+
+/// Reads a script whole, up to one byte more than its limit.
+///
+/// # Errors
+///
+/// [`RunFault::ScriptSize`] where it has over 1,048,576 bytes, [`RunFault::ScriptRead`] where its reader fails before,
+/// or [`RunFault::Memory`] with line 0 where memory was refused.
+pub fn read_script<R: Source + Drop>(alloc: Global, mut source: R) -> Result<Vec<u8>, RunFault>
+    ensures ok { IfOk result (λ text. IfSome (R.coming source) (λ c. script_text c ≡ Ok text.items)) }
+    ensures fault { IfErr result (λ f. IsOfInput f → IfSome (R.coming source) (λ c. script_text c ≡ Err f)) }
+    ensures early { IfErr result IsBeforeExecution }
+    ensures told { (grids : ℕ) → IfErr result (IsTold grids) }
+{
+    let mut text = Vec::new(alloc);
+    let mut block = [0u8; 4096];
+    'pieces: loop {
+        let room = (MOST_BYTES - text.len() + 1).min(4096);
+        let count = match source.take(&mut block[..room]) {
+            Ok(count) => count,
+            Err(_) => return Err(RunFault::ScriptRead),
+        };
+        if count == 0 {
+            return Ok(text);
+        }
+        if count > MOST_BYTES - text.len() {
+            return Err(RunFault::ScriptSize);
+        }
+        match text.extend_from_slice(&block[..count]) {
+            Ok(()) => {}
+            Err(_) => return Err(RunFault::Memory { line: 0 }),
+        }
+    }
+}
