@@ -1,8 +1,10 @@
 -- What a put and a push do to what a block gathered.
-use Rattle.std.proofs.Common.{◌≡◌, ℕ, ◌+◌, ◌≤◌, List, [], ◌++◌, length, take, drop, Option, Some, None, refl, ap, sym, ◌∙◌, arith, append_assoc, append-nil, length-append, length-take}
+use Rattle.std.proofs.Common.{◌≡◌, ℕ, ◌+◌, ◌≤◌, List, [], ◌++◌, length, take, drop, Option, Some, None, Result, Ok, Err, OnOk, IfOk, IfErr, refl, ap, sym, ◌∙◌, arith, append_assoc, append-nil, length-append, length-take}
+use Rattle.std.specs.Result.{result_map_both}
 use Rattle.std.proofs.lemmas.List.{take-append-drop}
 use Rattle.cell_devices.specs.Device.{append_known}
 use Rattle.cell_devices.specs.Blocks.{BlockValue, Gathered, IsCut, IsPut, capped, empty_block}
+use Rattle.cell_devices.specs.declared.sink.WriteFault.{WriteFault}
 use Rattle.cell_devices.proofs.DeviceLemmas.{append_known-append}
 
 capped_sum : (a b : ℕ) → capped (capped a + b) ≡ capped (a + b)
@@ -94,3 +96,15 @@ append_known-nil (Some xs) = ap Some (sym (append-nil xs))
 -- a new block gathered nothing
 pub Gathered-none : (before : Option (List ℕ)) → Gathered before [] before empty_block
 Gathered-none before = record { front = []; whole = refl; taken = append_known-nil before; written = refl }
+
+-- a put whose count the block took over, where it counted so many
+pub OnOk-settled : (put : Result ℕ WriteFault) (r : Result Unit WriteFault) (sent now : Option (List ℕ)) (count : ℕ) (new : BlockValue) (P : Option (List ℕ) → BlockValue → Type 0)
+    → r ≡ result_map_both (λ _. tt) (λ fault. fault) put → OnOk put (now ≡ sent) → IfOk put (λ n. n ≡ count) → IfOk put (λ n. new ≡ record { held = []; written = n })
+    → P sent (record { held = []; written = count }) → OnOk r (P now new)
+OnOk-settled (Ok n) r sent now count new P e taken counts settled p = rw (e, taken, settled, counts) p
+OnOk-settled (Err fault) r sent now count new P e taken counts settled p = rw e tt
+
+-- its fault is returned
+pub IfErr-settled : (put : Result ℕ WriteFault) (r : Result Unit WriteFault) (P Q : WriteFault → Type 0) → r ≡ result_map_both (λ _. tt) (λ fault. fault) put → IfErr put P → ((fault : WriteFault) → P fault → Q fault) → IfErr r Q
+IfErr-settled (Ok n) r P Q e p f = rw e tt
+IfErr-settled (Err fault) r P Q e p f = rw e (f fault p)

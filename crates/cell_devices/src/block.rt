@@ -1,6 +1,7 @@
 //! Output gathered in a block, so that each put carries a few KiB.
 
 ghost use Rattle.std.specs.Prelude.{◌≡◌, ℕ, ◌+◌, ◌-◌, ◌<◌, ◌≤◌, ◌||◌, List, [], ◌++◌, length, take, Option, OnOk, IfOk, IfErr, is_err};
+ghost use Rattle.std.specs.Result.{result_map_both};
 ghost use Rattle.cell_devices.specs.Device.{append_known};
 ghost use Rattle.cell_devices.specs.Blocks.{BlockValue, room, Gathered, Gathers, Empties, PutsAll, Cuts, CutsOff, capped, counted, empty_block};
 
@@ -99,6 +100,24 @@ impl Block {
         self.written = written;
     }
 
+    // Holds nothing, and counts what the sink took in all, whether or not it failed.
+    fn settle(&mut self, put: Result<u64, WriteFault>) -> Result<(), WriteFault>
+        ensures ok { IfOk put (λ written. self.new ≡ record { held = []; written = written }) }
+        ensures err { IfErr put (λ fault. self.new ≡ record { held = []; written = fault.written }) }
+        ensures value { result ≡ result_map_both (λ _. tt) (λ fault. fault) put }
+    {
+        match put {
+            Ok(written) => {
+                self.renew(written);
+                Ok(())
+            }
+            Err(fault) => {
+                self.renew(fault.written);
+                Err(fault)
+            }
+        }
+    }
+
     /// Puts what is held on the sink.
     ///
     /// # Errors
@@ -114,16 +133,8 @@ impl Block {
         ensures counted { counted self.new ≤ counted self.old }
         ensures failed { W.failed out.new ≡ (W.failed out.old || is_err result) }
     {
-        match put_counted(out, self.bytes(), self.written()) {
-            Ok(written) => {
-                self.renew(written);
-                Ok(())
-            }
-            Err(fault) => {
-                self.renew(fault.written);
-                Err(fault)
-            }
-        }
+        let put = put_counted(out, self.bytes(), self.written());
+        self.settle(put)
     }
 
     /// Counts bytes that the sink took past the block, which holds nothing.
@@ -148,16 +159,8 @@ impl Block {
         ensures counted { counted self.new ≤ counted self.old + length bytes.now }
         ensures failed { W.failed out.new ≡ (W.failed out.old || is_err result) }
     {
-        match put_counted(out, bytes, self.written()) {
-            Ok(written) => {
-                self.renew(written);
-                Ok(())
-            }
-            Err(fault) => {
-                self.renew(fault.written);
-                Err(fault)
-            }
-        }
+        let put = put_counted(out, bytes, self.written());
+        self.settle(put)
     }
 
     // Puts what is held on the sink, and then gathers the bytes, or puts them too where they are more than a block holds.

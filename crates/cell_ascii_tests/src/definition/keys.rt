@@ -23,12 +23,12 @@ use std::marker::Model;
 /// What header lines give their keys.
 #[derive(Drop)]
 pub(crate) struct Keys<'a> {
-    north: Option<i64>,
-    south: Option<i64>,
-    east: Option<i64>,
-    west: Option<i64>,
     rows: Option<u32>,
     cols: Option<u32>,
+    west: Option<i64>,
+    east: Option<i64>,
+    south: Option<i64>,
+    north: Option<i64>,
     null: Option<&'a [u8]>,
     kind: bool,
     multiplier: Option<i32>,

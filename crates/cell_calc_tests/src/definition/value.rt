@@ -1,6 +1,6 @@
 //! The value of an expression at a cell.
 
-ghost use Rattle.std.specs.Prelude.{◌≡◌, ◌<◌, None, length, slice_get, IfOk};
+ghost use Rattle.std.specs.Prelude.{◌≡◌, ◌<◌, None, slice_get, IfOk};
 ghost use Rattle.std.specs.Option.{unwrap_or};
 ghost use Rattle.cell_core.specs.Grid.{row_at};
 ghost use Rattle.cell_base.specs.Name.{place_of};
@@ -34,25 +34,24 @@ fn item_at(cells: &[Cell], i: i64) -> Cell
     }
 }
 
-fn copied(map: &CellMap, row: u32, mut cells: Vec<Cell>) -> Vec<Cell>
-    requires row_in_range { row < map.now.region.rows }
-    requires width { length cells.items ≡ map.now.region.cols }
-    ensures { result.items ≡ row_at map.now row }
+// The cells of a row that a map has.
+fn row_within(alloc: Global, map: &CellMap, row: u32) -> Result<Vec<Cell>, Memory>
+    requires { row < map.now.region.rows }
+    ensures { IfOk result (λ cells. cells.items ≡ row_at map.now row) }
 {
+    let mut cells = Vec::from_elem(alloc, Cell::null(), map.region().cols() as usize)?;
     map.copy_row(row, cells.as_mut_slice());
-    cells
+    Ok(cells)
 }
 
 // The cells of a map's row, none outside.
 fn row_of(alloc: Global, map: &CellMap, row: i64) -> Result<Vec<Cell>, Memory>
     ensures { IfOk result (λ cells. cells.items ≡ row_of map.now row) }
 {
-    let region = map.region();
-    if row < 0 || row >= region.rows() as i64 {
+    if row < 0 || row >= map.region().rows() as i64 {
         return Ok(Vec::new(alloc));
     }
-    let blank = Vec::from_elem(alloc, Cell::null(), region.cols() as usize)?;
-    Ok(copied(map, row as u32, blank))
+    row_within(alloc, map, row as u32)
 }
 
 // The cell of a shelf's map at any row and column, null outside.
