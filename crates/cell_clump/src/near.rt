@@ -66,7 +66,11 @@ impl Near {
         Near {
             left: self.left,
             upper_left: self.above,
-            above: line[col],
+            // Part by part: copied whole, its two parts are read as one number, which costs a shift at each cell.
+            above: Labelled {
+                cell: line[col].cell,
+                label: line[col].label,
+            },
             upper_right: line[col + 1],
         }
     }
