@@ -8,7 +8,7 @@ use Rattle.cell_clump.specs.declared.near.Labelled.{Labelled}
 use Rattle.cell_clump.specs.declared.near.Near.{Near}
 use Rattle.cell_clump.specs.Areas.{Position, at}
 use Rattle.cell_clump.specs.parts.Places.{position, place_of, IsInside}
-use Rattle.cell_clump.specs.parts.Reading.{AreBeside, AreInside, AreNear, HasRead, HaveCells, IsLine, IsReading, Tells, label_in}
+use Rattle.cell_clump.specs.parts.Reading.{AreBeside, AreInside, AreNear, HasRead, HaveCells, IsLine, IsReading, Tells, label_in, near_at}
 use Rattle.cell_clump.specs.parts.Starts.{IsCell, IsLeft, IsAbove, IsUpperLeft, IsUpperRight}
 use Rattle.cell_clump.proofs.StartLemmas.{same_position, inside_map}
 use Rattle.cell_clump.proofs.NearLemmas.{inside_near}
@@ -46,15 +46,15 @@ tells_here m count f r c x cell label lt = record {
 }
 
 -- the neighbours of the next cell
-pub near_next : (m : Grid) → ((p : Position) (v : ℤ) → at m p ≡ Some v → IsInside m p) → (count : ℕ) (f : Position → ℕ) (r c : ℕ) (line : List Labelled) → IsLine m count f r c line → (near : Near) (x y : Labelled) → AreBeside m count f r c near → c < m.region.cols → x ≡ get_or line c x → y ≡ get_or line (c + 1) y → AreNear m count f r c (record { left = near.left; upper_left = near.above; above = x; upper_right = y })
-near_next m inside count f r c line is_line near x y beside c_in is next = record {
+pub near_next : (m : Grid) → ((p : Position) (v : ℤ) → at m p ≡ Some v → IsInside m p) → (count : ℕ) (f : Position → ℕ) (r c : ℕ) (line : List Labelled) → IsLine m count f r c line → (near : Near) → AreBeside m count f r c near → c < m.region.cols → AreNear m count f r c (near_at line c near)
+near_next m inside count f r c line is_line near beside c_in = record {
   left = beside.left;
   upper_left = beside.upper_left;
-  above = subst (Tells m count f (IsAbove r c)) (sym is) (is_line.above c x (omega arith) c_in);
-  upper_right = ⊎_elim (λ lt. subst (Tells m count f (IsAbove r (c + 1))) (sym next) (is_line.above (c + 1) y (omega arith) lt))
+  above = is_line.above c near.left (omega arith) c_in;
+  upper_right = ⊎_elim (λ lt. is_line.above (c + 1) near.left (omega arith) lt)
       (λ ge. let e : c + 1 ≡ m.region.cols = omega arith in
-      let none : y.cell ≡ None = ap (λ (z : Labelled). z.cell) (next ∙ ap (λ (k : ℕ). get_or line k y) e) ∙ is_line.end y in
-      tells_none m count f (IsUpperRight r c) y none (λ q v lies is. let col = lies.1 in let q_in = (inside q v is).1 in omega arith))
+      let none : (get_or line (c + 1) near.left).cell ≡ None = ap (λ (k : ℕ). (get_or line k near.left).cell) e ∙ is_line.end near.left in
+      tells_none m count f (IsUpperRight r c) (get_or line (c + 1) near.left) none (λ q v lies is. let col = lies.1 in let q_in = (inside q v is).1 in omega arith))
       (cases_lt (c + 1) m.region.cols);
 }
 
@@ -110,17 +110,14 @@ line_first m f line wide none = record {
 
 -- ---- labels in the line
 
-module _ (j : Joining) (m : Grid) (table : List ℕ) (line : List Labelled) (r c : ℕ) (near : Near) (h : IsReading j m table line r c near) (x y : Labelled) (c_in : c < m.region.cols) (is : x ≡ get_or line c x) (next : y ≡ get_or line (c + 1) y) where
-  abbrev pub turned : Near
-  turned = record { left = near.left; upper_left = near.above; above = x; upper_right = y }
+module _ (j : Joining) (m : Grid) (table : List ℕ) (line : List Labelled) (r c : ℕ) (near : Near) (h : IsReading j m table line r c near) (c_in : c < m.region.cols) (after : Near) (moved : after ≡ near_at line c near) where
+  pub reading_near : AreNear m (length h.cells.labels) (label_in m h.cells.labels) r c after
+  reading_near = subst (AreNear m (length h.cells.labels) (label_in m h.cells.labels) r c) (sym moved) (near_next m h.cells.has_read.read.inside (length h.cells.labels) (label_in m h.cells.labels) r c line h.cells.is_line near h.beside c_in)
 
-  pub reading_near : AreNear m (length h.cells.labels) (label_in m h.cells.labels) r c turned
-  reading_near = near_next m h.cells.has_read.read.inside (length h.cells.labels) (label_in m h.cells.labels) r c line h.cells.is_line near x y h.beside c_in is next
+  pub reading_inside : AreInside (length table) after
+  reading_inside = inside_near j m table h.cells.labels h.cells.has_read.open_of r c after h.cells.has_read.read reading_near
 
-  pub reading_inside : AreInside (length table) turned
-  reading_inside = inside_near j m table h.cells.labels h.cells.has_read.open_of r c turned h.cells.has_read.read reading_near
-
-  pub reading_next : (new : List ℕ) (z : Labelled) → z.cell ≡ at m (position r c) → HasRead j m new (h.cells.labels ++ z.label ∷ []) → IsReading j m new (set line c z) r (c + 1) (record turned { left = z })
+  pub reading_next : (new : List ℕ) (z : Labelled) → z.cell ≡ at m (position r c) → HasRead j m new (h.cells.labels ++ z.label ∷ []) → IsReading j m new (set line c z) r (c + 1) (record after { left = z })
   reading_next new z cell has_read =
       let old : List ℕ = h.cells.labels in
       let more : List ℕ = old ++ z.label ∷ [] in
@@ -135,7 +132,7 @@ module _ (j : Joining) (m : Grid) (table : List ℕ) (line : List Labelled) (r c
           count = omega arith;
           is_line = line_next m (length old) (length more) (label_in m old) (label_in m more) (omega arith) same r c z here line c_in h.cells.is_line;
         };
-        beside = beside_next m (length old) (length more) (label_in m old) (label_in m more) (omega arith) same r c z here turned reading_near;
+        beside = beside_next m (length old) (length more) (label_in m old) (label_in m more) (omega arith) same r c z here after reading_near;
       }
 
 pub reading_first : (j : Joining) (m : Grid) (table : List ℕ) (line : List Labelled) (r : ℕ) (near : Near) → HaveCells j m table line r 0 → near.left.cell ≡ None → near.above.cell ≡ None → IsReading j m table line r 0 near

@@ -8,7 +8,7 @@ use Rattle.cell_clump.specs.declared.near.Near.{Near}
 use Rattle.cell_clump.specs.Areas.{at}
 use Rattle.cell_clump.specs.parts.Numbers.{AreWritten, HaveNumbers, cell_number, number_at}
 use Rattle.cell_clump.specs.parts.Places.{position}
-use Rattle.cell_clump.specs.parts.Reading.{AreBeside, AreNear, IsLine}
+use Rattle.cell_clump.specs.parts.Reading.{AreBeside, AreNear, IsLine, near_at}
 use Rattle.cell_clump.specs.parts.Starts.{starts}
 use Rattle.cell_clump.specs.parts.Tables.{AreLabels}
 use Rattle.cell_clump.proofs.LineLemmas.{line_empty, near_next, line_next, beside_next, beside_first, line_down, tells_here}
@@ -27,24 +27,21 @@ module _ (j : Joining) (m : Grid) (labels : List ℕ) (h : AreLabels j m labels)
             (line_down m (r * m.region.cols + c) (number_at j m labels h) r line (subst (λ (k : ℕ). IsLine m (r * m.region.cols + c) (number_at j m labels h) r k line) e have.is_line));
       }
 
-  module _ (next : ℕ) (line : List Labelled) (r c : ℕ) (near : Near) (have : HaveNumbers j m labels h next line r c) (beside : AreBeside m (r * m.region.cols + c) (number_at j m labels h) r c near) (x y : Labelled) (c_in : c < m.region.cols) (is : x ≡ get_or line c x) (right : y ≡ get_or line (c + 1) y) where
-    abbrev pub turned : Near
-    turned = record { left = near.left; upper_left = near.above; above = x; upper_right = y }
-
-    pub numbering_near : AreNear m (r * m.region.cols + c) (number_at j m labels h) r c turned
-    numbering_near = near_next m h.has_read.read.inside (r * m.region.cols + c) (number_at j m labels h) r c line have.is_line near x y beside c_in is right
+  module _ (next : ℕ) (line : List Labelled) (r c : ℕ) (near : Near) (have : HaveNumbers j m labels h next line r c) (beside : AreBeside m (r * m.region.cols + c) (number_at j m labels h) r c near) (c_in : c < m.region.cols) (after : Near) (moved : after ≡ near_at line c near) where
+    pub numbering_near : AreNear m (r * m.region.cols + c) (number_at j m labels h) r c after
+    numbering_near = subst (AreNear m (r * m.region.cols + c) (number_at j m labels h) r c) (sym moved) (near_next m h.has_read.read.inside (r * m.region.cols + c) (number_at j m labels h) r c line have.is_line near beside c_in)
 
     module _ (z : Labelled) (cell : z.cell ≡ at m (position r c)) (label : (v : ℤ) → at m (position r c) ≡ Some v → z.label ≡ number_at j m labels h (position r c)) where
-      pub numbering_next : (after : ℕ) → after ≡ starts j m (r * m.region.cols + (c + 1)) → HaveNumbers j m labels h after (set line c z) r (c + 1)
-      numbering_next after next_is = record {
+      pub numbering_next : (last : ℕ) → last ≡ starts j m (r * m.region.cols + (c + 1)) → HaveNumbers j m labels h last (set line c z) r (c + 1)
+      numbering_next last next_is = record {
         next_is = next_is;
         is_line = line_next m (r * m.region.cols + c) (r * m.region.cols + (c + 1)) (number_at j m labels h) (number_at j m labels h) (omega arith) (λ q lt. refl) r c z
             (tells_here m (r * m.region.cols + (c + 1)) (number_at j m labels h) r c z cell label (omega arith)) line c_in have.is_line;
       }
 
-      pub numbering_beside : AreBeside m (r * m.region.cols + (c + 1)) (number_at j m labels h) r (c + 1) (record turned { left = z })
+      pub numbering_beside : AreBeside m (r * m.region.cols + (c + 1)) (number_at j m labels h) r (c + 1) (record after { left = z })
       numbering_beside = beside_next m (r * m.region.cols + c) (r * m.region.cols + (c + 1)) (number_at j m labels h) (number_at j m labels h) (omega arith) (λ q lt. refl) r c z
-          (tells_here m (r * m.region.cols + (c + 1)) (number_at j m labels h) r c z cell label (omega arith)) turned numbering_near
+          (tells_here m (r * m.region.cols + (c + 1)) (number_at j m labels h) r c z cell label (omega arith)) after numbering_near
 
   -- what was written for a cell
   pub number_written_at : (r c : ℕ) (cell : CellValue) (number : ℕ) (w : CellValue) → length labels < 2147483648 → cell ≡ at m (position r c) → ((v : ℤ) → at m (position r c) ≡ Some v → number ≡ number_at j m labels h (position r c)) → (cell ≡ None → number ≡ 2147483648) → (2147483648 ≤ number → w ≡ None) → (number < 2147483648 → w ≡ Some (pos number)) → w ≡ cell_number j m labels h (position r c)

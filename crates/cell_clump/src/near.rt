@@ -7,7 +7,7 @@ ghost use Rattle.cell_clump.specs.declared.clump.Joining.TheVariants.{Edges, Edg
 ghost use Rattle.cell_clump.specs.Areas.{Position, at};
 ghost use Rattle.cell_clump.specs.parts.Labels.{PointDown};
 ghost use Rattle.cell_clump.specs.parts.Places.{position};
-ghost use Rattle.cell_clump.specs.parts.Reading.{AreInside, AreNear, AreRead, HasRead, Shares, label_in};
+ghost use Rattle.cell_clump.specs.parts.Reading.{AreInside, AreNear, AreRead, HasRead, Shares, label_in, near_at};
 ghost use Rattle.cell_clump.specs.parts.Starts.{IsEarlier, IsAbove, IsLeft};
 
 use crate::clump::Joining;
@@ -39,6 +39,41 @@ pub(crate) struct Near {
     pub(crate) upper_left: Labelled,
     pub(crate) above: Labelled,
     pub(crate) upper_right: Labelled,
+}
+
+impl Near {
+    // The neighbours before the first cell of a row: nothing stands there.
+    #[inline(always)]
+    pub(crate) fn at_the_edge() -> Near
+        ensures left { result.left.cell ≡ None }
+        ensures above { result.above.cell ≡ None }
+    {
+        Near {
+            left: outside(),
+            upper_left: outside(),
+            above: outside(),
+            upper_right: outside(),
+        }
+    }
+
+    // The neighbours of the cell at a column, of those in hand at the one before it, which itself stands on the left by now,
+    // and of the line.
+    #[inline(always)]
+    pub(crate) fn moved(self, line: &[Labelled], col: usize) -> Near
+        requires { col + 1 < length line.now }
+        ensures { result ≡ near_at line.now col self }
+    {
+        Near {
+            left: self.left,
+            upper_left: self.above,
+            // Part by part: copied whole, its two parts are read as one number, which costs a shift at each cell.
+            above: Labelled {
+                cell: line[col].cell,
+                label: line[col].label,
+            },
+            upper_right: line[col + 1],
+        }
+    }
 }
 
 // The label that a cell shares with a neighbour on an edge, if there is one. If there are two and no other cell has joined

@@ -112,16 +112,9 @@ fn number_row(
 {
     map.copy_row(row, cells);
     let mut next = first;
-    let mut near = Near {
-        left: outside(),
-        upper_left: outside(),
-        above: outside(),
-        upper_right: outside(),
-    };
+    let mut near = Near::at_the_edge();
     for col in 0..cells.len() {
-        near.upper_left = near.above;
-        near.above = line[col];
-        near.upper_right = line[col + 1];
+        near = near.moved(line, col);
         let cell = cells[col];
         near.left = Labelled {
             cell,

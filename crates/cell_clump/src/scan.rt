@@ -41,20 +41,13 @@ fn label_row(
     ensures read { OnOk result (HaveCells joining map.now table.new.items line.new (row + 1) 0) }
 {
     map.copy_row(row, cells);
-    let mut near = Near {
-        left: outside(),
-        upper_left: outside(),
-        above: outside(),
-        upper_right: outside(),
-    };
+    let mut near = Near::at_the_edge();
     for col in 0..cells.len() {
-        near.upper_left = near.above;
-        near.above = line[col];
-        near.upper_right = line[col + 1];
+        near = near.moved(line, col);
         let cell = cells[col];
         let label = label_cell(table, joining, cell, &near)?;
         near.left = Labelled { cell, label };
-        line[col] = near.left;
+        line[col] = Labelled { cell, label };
     }
     Ok(())
 }

@@ -59,6 +59,10 @@ pub record HaveCells (j : Joining) (m : Grid) (table : List ℕ) (line : List La
   pub count : length labels ≡ r * m.region.cols + c
   pub is_line : IsLine m (length labels) (label_in m labels) r c line
 
+-- the neighbours of the cell at a column, of those that were in hand at the one before it, and of a line
+abbrev pub near_at : List Labelled → ℕ → Near → Near
+near_at line c near = record { left = near.left; upper_left = near.above; above = slice_index_or line c near.left; upper_right = slice_index_or line (c + 1) near.left }
+
 -- what was read on the left of a cell, while the neighbours of the cell there are in hand
 pub record AreBeside (m : Grid) (count : ℕ) (label_of : Position → ℕ) (r c : ℕ) (near : Near) : Type 0 where
   pub left : Tells m count label_of (IsLeft r c) near.left

@@ -9,13 +9,13 @@ loop-col-init c = record {
   wide = c.requires.read.is_line.wide;
   down = c.requires.down;
   most = omega arith;
-  reading = reading_first c.args.joining c.args.map.now c.args.table.now.items c.args.line.now c.args.row _ c.requires.read c.outside.ensures c.outside-3.ensures;
+  reading = reading_first c.args.joining c.args.map.now c.args.table.now.items c.args.line.now c.args.row _ c.requires.read c.at_the_edge-near.ensures.left c.at_the_edge-near.ensures.above;
 }
 
 pub label_cell-requires-clause-inside : goal.label_cell-requires-clause-inside
 label_cell-requires-clause-inside c =
     let col_in : c.loop-col.col < c.args.map.now.region.cols = omega (arith, c.copy_row.auto.cells, c.requires.wide, c.loop-col-test.true) in
-    reading_inside c.args.joining c.args.map.now c.loop-col.table.items c.loop-col.line c.args.row c.loop-col.col c.loop-col.near c.loop-col.invariant.reading c.index-line-col.result c.index-line-col-in-loop-col.result col_in c.index-line-col.is c.index-line-col-in-loop-col.is
+    reading_inside c.args.joining c.args.map.now c.loop-col.table.items c.loop-col.line c.args.row c.loop-col.col c.loop-col.near c.loop-col.invariant.reading col_in c.moved-near.result c.moved-near.ensures
 
 pub loop-col-preserved : goal.loop-col-preserved
 loop-col-preserved c =
@@ -26,9 +26,9 @@ loop-col-preserved c =
     let h = inv.reading in
     let col_in : col < m.region.cols = omega (arith, c.copy_row.auto.cells, c.requires.wide, c.loop-col-test.true) in
     let here : c.index-cells-col.result ≡ at m (position r col) = copied m r col c.copy_row.new.cells c.index-cells-col.result c.copy_row.ensures c.loop-col-test.true c.index-cells-col.is in
-    let near = reading_near c.args.joining m c.loop-col.table.items c.loop-col.line r col c.loop-col.near h c.index-line-col.result c.index-line-col-in-loop-col.result col_in c.index-line-col.is c.index-line-col-in-loop-col.is in
+    let near = reading_near c.args.joining m c.loop-col.table.items c.loop-col.line r col c.loop-col.near h col_in c.moved-near.result c.moved-near.ensures in
     let read = c.in_ok-label.ensures.read m r col h.cells.labels here col_in h.cells.count near h.cells.has_read in
-    let next = reading_next c.args.joining m c.loop-col.table.items c.loop-col.line r col c.loop-col.near h c.index-line-col.result c.index-line-col-in-loop-col.result col_in c.index-line-col.is c.index-line-col-in-loop-col.is c.label_cell.new.table.items _ here read in
+    let next = reading_next c.args.joining m c.loop-col.table.items c.loop-col.line r col c.loop-col.near h col_in c.moved-near.result c.moved-near.ensures c.label_cell.new.table.items _ here read in
     record {
       wide = next.cells.is_line.wide;
       down = c.in_ok-label.ensures.down;
