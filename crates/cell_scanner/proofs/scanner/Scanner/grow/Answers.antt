@@ -1,11 +1,11 @@
 use Rattle.std.proofs.Common.{◌≡◌, ◌≤◌, ◌+◌, ◌++◌, [], ◌∷◌, ◌∙◌, sym, arith, true, false, Ok, Err, take, set, length, length-take}
 use Rattle.std.proofs.lemmas.List.{take_more_set}
 use Rattle.cell_ascii_text.specs.Words.{word_from, fault}
-use Rattle.cell_ascii_header.specs.Scan.{part_seen}
-use Rattle.cell_ascii_header.specs.Ahead.{to_come}
+use Rattle.cell_scanner.specs.Scan.{part_seen}
+use Rattle.cell_scanner.specs.Ahead.{to_come}
 use Rattle.cell_ascii_text.specs.declared.fault.GridKind.TheVariants.{Read, LongToken}
-use Rattle.cell_ascii_header.proofs.StartLemmas.{at_byte, past_byte, at_end, word-ends, word-fails, word-stops, word-long, word-more}
-use Rattle.cell_ascii_header.proofs.scanner.Scanner.grow.Goals as goal
+use Rattle.cell_scanner.proofs.StartLemmas.{at_byte, past_byte, at_end, word-ends, word-fails, word-stops, word-long, word-more}
+use Rattle.cell_scanner.proofs.scanner.Scanner.grow.Goals as goal
 
 -- the read failed
 pub returns-in_default-clause-word : goal.returns-in_default-clause-word

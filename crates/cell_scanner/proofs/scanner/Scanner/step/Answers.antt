@@ -2,14 +2,14 @@ use Rattle.std.proofs.Common.{◌≡◌, ◌<◌, ◌∙◌, sym, arith, true, f
 use Rattle.std.specs.Prelude.{◌==◌}
 use Rattle.std.proofs.lemmas.Bool.Decides.{nat_tests}
 use Rattle.cell_ascii_text.specs.Words.{start_of, fault}
-use Rattle.cell_ascii_header.specs.Steps.{start_step, gap_step}
-use Rattle.cell_ascii_header.specs.Ahead.{to_come}
-use Rattle.cell_ascii_header.specs.declared.scanner.Step.TheVariants.{Blank, Feed, Word, End}
+use Rattle.cell_scanner.specs.parts.Steps.{start_step, gap_step}
+use Rattle.cell_scanner.specs.Ahead.{to_come}
+use Rattle.cell_scanner.specs.declared.scanner.Step.TheVariants.{Blank, Feed, Word, End}
 use Rattle.cell_ascii_text.specs.declared.fault.GridKind.TheVariants.{Read, ReaderStuck}
-use Rattle.cell_ascii_header.proofs.StartLemmas.{at_byte, past_byte, at_end, start-ends, start-fails, start-begins, start-stuck, start-next}
+use Rattle.cell_scanner.proofs.StartLemmas.{at_byte, past_byte, at_end, start-ends, start-fails, start-begins, start-stuck, start-next}
 use Rattle.cell_ascii_text.specs.Header.{gap_of}
-use Rattle.cell_ascii_header.proofs.GapLemmas.{gap-ends, gap-fails, gap-begins, gap-stuck, gap-feed, gap-more}
-use Rattle.cell_ascii_header.proofs.scanner.Scanner.step.Goals as goal
+use Rattle.cell_scanner.proofs.GapLemmas.{gap-ends, gap-fails, gap-begins, gap-stuck, gap-feed, gap-more}
+use Rattle.cell_scanner.proofs.scanner.Scanner.step.Goals as goal
 
 -- the read failed
 pub returns-in_default-clause-starts : goal.returns-in_default-clause-starts

@@ -3,7 +3,7 @@
 ghost use Rattle.std.specs.Prelude.{true, false, ◌≡◌, ◌+◌, ◌-◌, ◌^◌, ◌<◌, ◌≤◌, [], length, drop, Ok, IfOk, IfErr};
 ghost use Rattle.std.specs.Option.{option_map};
 ghost use Rattle.cell_ascii_text.specs.Kinds.{IsOfText};
-ghost use Rattle.cell_ascii_header.specs.Ahead.{to_come, IsAtEnd};
+ghost use Rattle.cell_scanner.specs.Ahead.{to_come, IsAtEnd};
 ghost use Rattle.cell_ascii_text.specs.Words.{is_space, start_of, word_from};
 ghost use Rattle.cell_ascii_text.specs.Header.{gap_of};
 
@@ -26,7 +26,7 @@ pub struct Scanner<R: Source> {
 
 impl<R: Source> Model for Scanner<R> {
     ghost use Rattle.std.specs.Prelude.{take, ◌≤◌};
-    ghost use Rattle.cell_ascii_header.specs.Scan.{Scan};
+    ghost use Rattle.cell_scanner.specs.Scan.{Scan};
 
     ghost Value = { Scan };
 
@@ -67,8 +67,8 @@ pub enum InLine {
 }
 
 impl<R: Source> Scanner<R> {
-    ghost use Rattle.cell_ascii_header.specs.Steps.{start_step, gap_step, line_step};
-    ghost use Rattle.cell_ascii_header.specs.Scan.{start_seen, gap_seen, line_seen, word_seen, part_seen};
+    ghost use Rattle.cell_scanner.specs.parts.Steps.{start_step, gap_step, line_step};
+    ghost use Rattle.cell_scanner.specs.Scan.{start_seen, gap_seen, line_seen, word_seen, part_seen};
 
     // Passes one blank or line feed, where one comes.
     fn step(&mut self) -> Result<Step, GridFault>
