@@ -19,12 +19,12 @@ use crate::held::cells_in;
 use cell_ascii_header::header::Header;
 use cell_ascii_header::keys::Keys;
 use cell_ascii_header::opening;
-use cell_scanner::scanner::{Next, Scanner};
 use cell_ascii_text::fault::{GridFault, GridKind};
 use cell_core::cell::Cell;
 use cell_core::map::{CellMap, MapBuilder};
 use cell_core::region::Region;
 use cell_core::source::Source;
+use cell_scanner::scanner::{Next, Scanner};
 use std::alloc::Global;
 use std::marker::Model;
 

@@ -10,10 +10,10 @@ ghost use Rattle.cell_ascii_text.specs.Header.{gap_of, value_from, line_end, key
 ghost use Rattle.cell_ascii_header.specs.Opening.{value_seen, ending_seen, key_line_seen, line_read, line_seen, header_seen};
 
 use crate::keys::Keys;
-use cell_scanner::scanner::{InLine, Next, Scanner};
 use crate::{key, number};
 use cell_ascii_text::fault::{GridFault, GridKind};
 use cell_core::source::Source;
+use cell_scanner::scanner::{InLine, Next, Scanner};
 
 // One line more than there are keys.
 const LINES: u32 = 10;
