@@ -3,7 +3,7 @@ use Rattle.std.proofs.Common.{◌≡◌, ℕ, suc, [], ◌∷◌, ◌++◌, appe
 use Rattle.std.specs.Option.{option_map}
 use Rattle.cell_devices.specs.Device.{Coming}
 use Rattle.cell_core.specs.Grid.{CellValue}
-use Rattle.cell_ascii_header.specs.Ahead.{Ahead}
+use Rattle.cell_scanner.specs.Ahead.{Ahead}
 use Rattle.cell_ascii_text.specs.Words.{Start, Begins, Ends, Stops, start_of, word_from}
 use Rattle.cell_ascii_text.specs.Header.{◌>>=◌, At, Header, at_line}
 use Rattle.cell_ascii_text.specs.Cells.{Reading, after_start, after_word, after_cell, cell_from, cell_of_word, at_of, many}

@@ -11,7 +11,7 @@ use Rattle.cell_ascii_text.specs.Places.{opening_fault}
 use Rattle.cell_ascii_text.specs.RowPlaces.{IsPlaceOf, end_fault}
 use Rattle.cell_ascii.specs.GridReaders.{ReaderValue, place_in, opened_in, fault_of}
 use Rattle.cell_ascii_header.specs.Opening.{header_seen}
-use Rattle.cell_ascii_header.specs.Ahead.{to_come}
+use Rattle.cell_scanner.specs.Ahead.{to_come}
 use Rattle.cell_ascii_text.specs.declared.fault.GridFault.{GridFault}
 use Rattle.cell_ascii_header.proofs.MapLemmas.{known}
 use Rattle.cell_ascii.proofs.CellLemmas.{with_front, more_fails}

@@ -5,7 +5,7 @@ use Rattle.std.proofs.Math.Seq.{take-append-add, drop-append-add}
 use Rattle.std.proofs.lemmas.List.{drop_all, drop-drop, take-append-le}
 use Rattle.cell_devices.specs.Device.{Coming}
 use Rattle.cell_core.specs.Grid.{CellValue}
-use Rattle.cell_ascii_header.specs.Ahead.{before_coming}
+use Rattle.cell_scanner.specs.Ahead.{before_coming}
 use Rattle.cell_ascii_text.specs.Header.{◌>>=◌, Header}
 use Rattle.cell_ascii_text.specs.Cells.{Reading, cell_from, at_of, many}
 use Rattle.cell_ascii.specs.Held.{HoldsCell, HoldsCells, run_after}

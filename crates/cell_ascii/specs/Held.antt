@@ -3,7 +3,7 @@ use Rattle.std.specs.Prelude.{ℕ, zero, suc, ◌-◌, ◌≡◌, ◌<◌, ◌�
 use Rattle.std.specs.List.{list_all}
 use Rattle.cell_devices.specs.Device.{Coming}
 use Rattle.cell_core.specs.Grid.{CellValue}
-use Rattle.cell_ascii_header.specs.Ahead.{before_coming}
+use Rattle.cell_scanner.specs.Ahead.{before_coming}
 use Rattle.cell_ascii_text.specs.Words.{is_space}
 use Rattle.cell_ascii_text.specs.Numbers.{is_digit, value_of_digits}
 use Rattle.cell_ascii_text.specs.Header.{Header}

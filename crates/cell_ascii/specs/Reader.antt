@@ -2,7 +2,7 @@
 use Rattle.std.specs.Prelude.{ℕ, ◌≡◌, ◌+◌, ◌*◌, ◌^◌, ◌<◌, Bool, false, List, [], Option, None, Result, Ok, Err, IfSome}
 use Rattle.cell_devices.specs.Device.{Coming}
 use Rattle.cell_core.specs.Grid.{CellValue}
-use Rattle.cell_ascii_header.specs.Ahead.{Ahead, to_come}
+use Rattle.cell_scanner.specs.Ahead.{Ahead, to_come}
 use Rattle.cell_ascii_text.specs.Words.{Start, Begins, Ends, Stops, word_from, fault}
 use Rattle.cell_ascii_text.specs.Header.{◌>>=◌, At, Header, Opened}
 use Rattle.cell_ascii_text.specs.Cells.{Reading, cell_from, many}

@@ -5,8 +5,8 @@ ghost use Rattle.cell_ascii.specs.Held.{HoldsCell, HoldsCells, HoldsWord, IsNume
 ghost use Rattle.cell_ascii_text.specs.Numbers.{whole_number};
 
 use cell_ascii_header::header::Header;
-use cell_ascii_header::scanner::is_space;
 use cell_core::cell::Cell;
+use cell_scanner::scanner::is_space;
 use cell_text::numbers::is_digit;
 
 // So many digits fit 32 bits, whatever they are.

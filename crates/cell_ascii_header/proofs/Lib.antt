@@ -1,6 +1,4 @@
 pub mod MapLemmas
-pub mod StartLemmas
-pub mod GapLemmas
 pub mod DigitLemmas
 pub mod NumberLemmas
 pub mod KindLemmas

@@ -5,19 +5,19 @@ use Rattle.std.specs.List.{before_first, after_first, list_any, position_or_len}
 use Rattle.cell_devices.specs.Device.{Coming}
 use Rattle.cell_ascii_text.specs.Words.{Start, Begins, Ends, Stops, start_of, word_from, fault}
 use Rattle.cell_ascii_text.specs.Header.{◌>>=◌, Keys, LineEnd, is_colon, at_line, with_key, value_from, line_end, gap_of, key_line, after_line, line_from, header_from, Opened, opened, ended}
-use Rattle.cell_ascii_header.specs.Ahead.{IsAtEnd}
+use Rattle.cell_scanner.specs.Ahead.{IsAtEnd}
 use Rattle.cell_ascii_text.specs.KeyNames.{key_of}
 use Rattle.cell_ascii_text.specs.declared.key.Key.{Key}
 use Rattle.cell_ascii_text.specs.declared.fault.GridKind.TheVariants.{BadHeader}
-use Rattle.cell_ascii_header.specs.Scan.{start_seen, word_seen}
+use Rattle.cell_scanner.specs.Scan.{start_seen, word_seen}
 use Rattle.cell_ascii_header.specs.Opening.{value_seen, ending_seen, key_line_seen, AfterLine, More, Stop, after_key, line_read}
 use Rattle.cell_ascii_text.specs.declared.fault.GridKind.{GridKind}
 use Rattle.cell_ascii_text.specs.declared.fault.GridFault.{GridFault}
 use Rattle.cell_ascii_header.specs.declared.opening.Ending.{Ending}
 use Rattle.cell_ascii_header.specs.declared.opening.Ending.TheVariants.{Feed, Text}
-use Rattle.cell_ascii_header.specs.declared.scanner.Next.TheVariants.{Word}
+use Rattle.cell_scanner.specs.declared.scanner.Next.TheVariants.{Word}
 use Rattle.cell_ascii_header.proofs.MapLemmas.{then_map, map_same}
-use Rattle.cell_ascii_header.proofs.StartLemmas.{at_end}
+use Rattle.cell_scanner.proofs.StartLemmas.{at_end}
 
 -- what stands behind the colon is the value
 pub value_here : (line : ℕ) (bs : List ℕ) (c : Coming) → 0 < length bs → value_from line bs c ≡ Ok (bs, c)

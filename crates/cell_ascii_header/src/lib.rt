@@ -1,11 +1,9 @@
-//! The words of a grid text, and its header.
+//! The header of a grid text.
 #![tactic(auto)]
 
 pub mod header;
-mod input;
 pub mod key;
 pub mod keys;
 mod null_text;
 pub mod number;
 pub mod opening;
-pub mod scanner;

@@ -4,16 +4,16 @@ ghost use Rattle.std.specs.Prelude.{◌≡◌, ◌+◌, ◌^◌, ◌<◌, ◌≤
 ghost use Rattle.std.specs.List.{position_or_len};
 ghost use Rattle.std.specs.Option.{option_map};
 ghost use Rattle.cell_ascii_text.specs.Kinds.{IsOfText};
-ghost use Rattle.cell_ascii_header.specs.Ahead.{to_come, IsAtEnd};
+ghost use Rattle.cell_scanner.specs.Ahead.{to_come, IsAtEnd};
 ghost use Rattle.cell_ascii_text.specs.Words.{start_of};
 ghost use Rattle.cell_ascii_text.specs.Header.{gap_of, value_from, line_end, key_line, is_colon, header_from};
 ghost use Rattle.cell_ascii_header.specs.Opening.{value_seen, ending_seen, key_line_seen, line_read, line_seen, header_seen};
 
 use crate::keys::Keys;
-use crate::scanner::{InLine, Next, Scanner};
 use crate::{key, number};
 use cell_ascii_text::fault::{GridFault, GridKind};
 use cell_core::source::Source;
+use cell_scanner::scanner::{InLine, Next, Scanner};
 
 // One line more than there are keys.
 const LINES: u32 = 10;

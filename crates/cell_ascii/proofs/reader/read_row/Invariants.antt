@@ -1,6 +1,6 @@
 use Rattle.std.proofs.Common.{◌≡◌, ◌+◌, ◌-◌, ◌*◌, ◌≤◌, Ok, length, take, drop}
 use Rattle.std.specs.Option.{option_map}
-use Rattle.cell_ascii_header.specs.Ahead.{to_come}
+use Rattle.cell_scanner.specs.Ahead.{to_come}
 use Rattle.cell_ascii_text.specs.Cells.{cell_from, many}
 use Rattle.cell_ascii.specs.Reader.{at_place}
 use Rattle.cell_ascii.proofs.reader.read_row.Given as goal

@@ -1,6 +1,6 @@
 use Rattle.std.proofs.Common.{◌≡◌, ◌-◌, ◌∙◌, arith, rules, Some, None, Err}
 use Rattle.cell_devices.specs.Device.{Coming}
-use Rattle.cell_ascii_header.specs.Ahead.{to_come}
+use Rattle.cell_scanner.specs.Ahead.{to_come}
 use Rattle.cell_ascii_text.specs.Header.{header_from}
 use Rattle.cell_ascii_header.proofs.OpeningLemmas.{header_goes, header_stops, header_fails, header_none}
 use Rattle.cell_ascii_header.proofs.MapLemmas.{map_same}

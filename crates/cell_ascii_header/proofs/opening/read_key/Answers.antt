@@ -1,5 +1,5 @@
 use Rattle.std.proofs.Common.{◌∙◌, ◌-◌, sym, length, take, drop}
-use Rattle.cell_ascii_header.specs.Ahead.{to_come}
+use Rattle.cell_scanner.specs.Ahead.{to_come}
 use Rattle.cell_ascii_header.proofs.OpeningLemmas.{key_done, key_given}
 use Rattle.cell_ascii_header.proofs.KindLemmas.{key_kind}
 use Rattle.cell_ascii_header.proofs.opening.read_key.Goals as goal

@@ -1,6 +1,6 @@
 use Rattle.std.proofs.Common.{◌≡◌, ◌<◌, ◌≤◌, ◌+◌, ◌∙◌, length, ap, true, false, Ok}
 use Rattle.std.specs.List.{list_any, position_or_len}
-use Rattle.cell_ascii_header.specs.Ahead.{to_come}
+use Rattle.cell_scanner.specs.Ahead.{to_come}
 use Rattle.cell_ascii_text.specs.Header.{is_colon}
 use Rattle.cell_ascii_header.proofs.OpeningLemmas.{any_none, any_within, line_data, line_more, line_last, line_fails}
 use Rattle.cell_ascii_header.proofs.opening.read_line.Goals as goal

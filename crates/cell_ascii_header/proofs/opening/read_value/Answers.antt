@@ -1,5 +1,5 @@
 use Rattle.std.proofs.Common.{◌<◌, Ok, arith, length, drop, length-drop}
-use Rattle.cell_ascii_header.specs.Ahead.{to_come}
+use Rattle.cell_scanner.specs.Ahead.{to_come}
 use Rattle.cell_ascii_text.specs.Header.{value_from}
 use Rattle.cell_ascii_header.specs.Opening.{value_seen}
 use Rattle.cell_ascii_header.proofs.MapLemmas.{map_same}

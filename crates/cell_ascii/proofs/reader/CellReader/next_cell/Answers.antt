@@ -1,5 +1,5 @@
 use Rattle.std.proofs.lemmas.Result.{err_from_is_err_and}
-use Rattle.cell_ascii_header.specs.Ahead.{to_come}
+use Rattle.cell_scanner.specs.Ahead.{to_come}
 use Rattle.cell_ascii.proofs.CellLemmas.{cell_pending, cell_read, cell_fails}
 use Rattle.cell_ascii.proofs.reader.CellReader.next_cell.Goals as goal
 

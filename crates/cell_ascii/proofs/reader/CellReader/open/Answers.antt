@@ -1,5 +1,5 @@
 use Rattle.std.proofs.lemmas.Result.{err_from_is_err_and}
-use Rattle.cell_ascii_header.specs.Ahead.{to_come}
+use Rattle.cell_scanner.specs.Ahead.{to_come}
 use Rattle.cell_ascii.proofs.DataLemmas.{open_fails}
 use Rattle.cell_ascii.proofs.reader.CellReader.open.Goals as goal
 

@@ -1,6 +1,6 @@
 use Rattle.std.proofs.Common.{◌≡◌, ◌∙◌, false, ap, sym, subst}
 use Rattle.std.specs.Option.{IfSome}
-use Rattle.cell_ascii_header.specs.Ahead.{to_come}
+use Rattle.cell_scanner.specs.Ahead.{to_come}
 use Rattle.cell_ascii.specs.Reader.{at_place}
 use Rattle.cell_ascii_text.specs.RowPlaces.{end_fault}
 use Rattle.cell_ascii.specs.GridReaders.{ReaderValue, place_in, fault_of}

@@ -1,7 +1,7 @@
 use Rattle.std.proofs.Common.{◌≡◌, ◌-◌, ◌+◌, ◌<◌, ◌∙◌, false, Some, None, length, ap, sym, subst, arith}
 use Rattle.std.specs.Option.{IfSome}
 use Rattle.cell_devices.specs.Device.{Coming}
-use Rattle.cell_ascii_header.specs.Ahead.{to_come}
+use Rattle.cell_scanner.specs.Ahead.{to_come}
 use Rattle.cell_ascii.specs.Reader.{at_place}
 use Rattle.cell_ascii_text.specs.RowPlaces.{cells_fault}
 use Rattle.cell_ascii.specs.GridReaders.{ReaderValue, place_in}

@@ -1,6 +1,6 @@
 use Rattle.std.proofs.lemmas.Result.{err_from_is_err_and}
 use Rattle.std.proofs.Common.{◌≡◌, Some, Err}
-use Rattle.cell_ascii_header.specs.Ahead.{to_come}
+use Rattle.cell_scanner.specs.Ahead.{to_come}
 use Rattle.cell_ascii_text.specs.Header.{header_of_text}
 use Rattle.cell_ascii_text.specs.Places.{opening_fault}
 use Rattle.cell_ascii.specs.Reader.{at_place}

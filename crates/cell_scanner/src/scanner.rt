@@ -1,10 +1,10 @@
 //! Words of a text, with their lines.
 
-ghost use Rattle.std.specs.Prelude.{true, false, ◌≡◌, ◌+◌, ◌-◌, ◌^◌, ◌<◌, ◌≤◌, [], length, drop, Ok, IfOk, IfErr};
+ghost use Rattle.std.specs.Prelude.{true, false, ◌≡◌, ◌+◌, ◌-◌, ◌^◌, ◌<◌, ◌≤◌, [], length, drop, Ok, Some, IfOk, IfErr, OnErr, IfSome, IfNone, slice_get};
 ghost use Rattle.std.specs.Option.{option_map};
 ghost use Rattle.cell_ascii_text.specs.Kinds.{IsOfText};
-ghost use Rattle.cell_ascii_header.specs.Ahead.{to_come, IsAtEnd};
-ghost use Rattle.cell_ascii_text.specs.Words.{is_space, start_of, word_from};
+ghost use Rattle.cell_scanner.specs.Ahead.{to_come, IsAtEnd};
+ghost use Rattle.cell_ascii_text.specs.Words.{fault, is_space, start_of, word_from};
 ghost use Rattle.cell_ascii_text.specs.Header.{gap_of};
 
 use crate::input::Input;
@@ -26,7 +26,7 @@ pub struct Scanner<R: Source> {
 
 impl<R: Source> Model for Scanner<R> {
     ghost use Rattle.std.specs.Prelude.{take, ◌≤◌};
-    ghost use Rattle.cell_ascii_header.specs.Scan.{Scan};
+    ghost use Rattle.cell_scanner.specs.Scan.{Scan};
 
     ghost Value = { Scan };
 
@@ -67,8 +67,29 @@ pub enum InLine {
 }
 
 impl<R: Source> Scanner<R> {
-    ghost use Rattle.cell_ascii_header.specs.Steps.{start_step, gap_step, line_step};
-    ghost use Rattle.cell_ascii_header.specs.Scan.{start_seen, gap_seen, line_seen, word_seen, part_seen};
+    ghost use Rattle.cell_scanner.specs.parts.Steps.{start_step, gap_step, line_step};
+    ghost use Rattle.cell_scanner.specs.Scan.{start_seen, gap_seen, line_seen, word_seen, part_seen};
+
+    // The next byte, or `None` at the end. A device that fails is a fault at the line.
+    #[inline(always)]
+    fn peek(&mut self) -> Result<Option<u8>, GridFault>
+        ensures same { to_come self.new.ahead ≡ to_come self.old.ahead }
+        ensures line { self.new.line ≡ self.old.line }
+        ensures run { self.new.run ≡ self.old.run }
+        ensures word { self.new.word ≡ self.old.word }
+        ensures byte { IfOk result (λ o. IfSome o (λ b. slice_get self.new.ahead.held 0 ≡ Some b)) }
+        ensures end { IfOk result (λ o. IfNone o (IsAtEnd false (to_come self.old.ahead))) }
+        ensures failed { OnErr result (IsAtEnd true (to_come self.old.ahead)) }
+        ensures fault { IfErr result (λ f. f ≡ fault GridKind.Read self.old.line) }
+    {
+        match self.input.peek() {
+            Ok(next) => Ok(next),
+            Err(_) => Err(GridFault {
+                kind: GridKind::Read,
+                line: self.line,
+            }),
+        }
+    }
 
     // Passes one blank or line feed, where one comes.
     fn step(&mut self) -> Result<Step, GridFault>
@@ -88,13 +109,7 @@ impl<R: Source> Scanner<R> {
         ensures end { result ≡ Ok Step.End → IsAtEnd false (to_come self.new.ahead) }
         ensures kind { IfErr result (λ f. IsOfText f.kind) }
     {
-        let Ok(next) = self.input.peek() else {
-            return Err(GridFault {
-                kind: GridKind::Read,
-                line: self.line,
-            });
-        };
-        let Some(b) = next else {
+        let Some(b) = self.peek()? else {
             return Ok(Step::End);
         };
         if !is_space(b) {
@@ -173,13 +188,7 @@ impl<R: Source> Scanner<R> {
         ensures further { result ≡ Ok true → length self.new.word ≡ length self.old.word + 1 }
         ensures kind { IfErr result (λ f. IsOfText f.kind) }
     {
-        let Ok(next) = self.input.peek() else {
-            return Err(GridFault {
-                kind: GridKind::Read,
-                line: self.line,
-            });
-        };
-        let Some(b) = next else {
+        let Some(b) = self.peek()? else {
             return Ok(false);
         };
         if is_space(b) {

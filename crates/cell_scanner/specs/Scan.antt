@@ -1,14 +1,14 @@
 -- What a scanner is at, and what its calls answer.
 use Rattle.std.specs.Prelude.{ℕ, ◌+◌, Bool, true, false, List, Result, Ok, Err}
 use Rattle.cell_devices.specs.Device.{Coming}
-use Rattle.cell_ascii_header.specs.Ahead.{Ahead}
+use Rattle.cell_scanner.specs.Ahead.{Ahead}
 use Rattle.cell_ascii_text.specs.Words.{Start, Begins, Ends, Stops, word_from}
 use Rattle.cell_ascii_text.specs.Header.{Gap, Word, Feed, Last, Fault}
 use Rattle.cell_ascii_text.specs.declared.fault.GridFault.{GridFault}
-use Rattle.cell_ascii_header.specs.declared.scanner.Next.{Next}
-use Rattle.cell_ascii_header.specs.declared.scanner.Next.TheVariants.{Word as NextWord, End as NextEnd}
-use Rattle.cell_ascii_header.specs.declared.scanner.InLine.{InLine}
-use Rattle.cell_ascii_header.specs.declared.scanner.InLine.TheVariants.{Word as LineWord, Feed as LineFeed, End as LineEnd}
+use Rattle.cell_scanner.specs.declared.scanner.Next.{Next}
+use Rattle.cell_scanner.specs.declared.scanner.Next.TheVariants.{Word as NextWord, End as NextEnd}
+use Rattle.cell_scanner.specs.declared.scanner.InLine.{InLine}
+use Rattle.cell_scanner.specs.declared.scanner.InLine.TheVariants.{Word as LineWord, Feed as LineFeed, End as LineEnd}
 
 -- the line, the length of the run of blanks and line feeds, the word read, and the bytes ahead
 pub record Scan : Type 0 where

@@ -1,8 +1,8 @@
 use Rattle.std.proofs.Common.{◌≡◌, ◌+◌, ◌-◌, ◌≤◌}
 use Rattle.std.specs.Option.{option_map}
-use Rattle.cell_ascii_header.specs.Ahead.{to_come}
+use Rattle.cell_scanner.specs.Ahead.{to_come}
 use Rattle.cell_ascii_text.specs.Words.{start_of}
-use Rattle.cell_ascii_header.proofs.scanner.Scanner.skip_spaces.Given as goal
+use Rattle.cell_scanner.proofs.scanner.Scanner.skip_spaces.Given as goal
 
 abbrev pub invariant-spaces : goal.invariant-spaces
 invariant-spaces g l = record {

@@ -1,8 +1,8 @@
 use Rattle.std.proofs.Common.{◌≡◌, ◌-◌, ◌≤◌, [], length}
 use Rattle.std.specs.Option.{option_map}
-use Rattle.cell_ascii_header.specs.Ahead.{to_come}
+use Rattle.cell_scanner.specs.Ahead.{to_come}
 use Rattle.cell_ascii_text.specs.Words.{word_from}
-use Rattle.cell_ascii_header.proofs.scanner.Scanner.read_word.Given as goal
+use Rattle.cell_scanner.proofs.scanner.Scanner.read_word.Given as goal
 
 abbrev pub invariant-word : goal.invariant-word
 invariant-word g l = record {

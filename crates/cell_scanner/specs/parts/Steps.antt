@@ -4,8 +4,8 @@ use Rattle.cell_devices.specs.Device.{Coming}
 use Rattle.cell_ascii_text.specs.Words.{Start, Begins, Ends, Stops, start_of}
 use Rattle.cell_ascii_text.specs.Header.{Gap, Word, Feed, Last, Fault, gap_of}
 use Rattle.cell_ascii_text.specs.declared.fault.GridFault.{GridFault}
-use Rattle.cell_ascii_header.specs.declared.scanner.Step.{Step}
-use Rattle.cell_ascii_header.specs.declared.scanner.Step.TheVariants.{Blank, Feed as FeedStep, Word as WordStep, End}
+use Rattle.cell_scanner.specs.declared.scanner.Step.{Step}
+use Rattle.cell_scanner.specs.declared.scanner.Step.TheVariants.{Blank, Feed as FeedStep, Word as WordStep, End}
 
 -- what a step says of the next word
 abbrev pub start_step : Result Step GridFault → ℕ → ℕ → Coming → Start

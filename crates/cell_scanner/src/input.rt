@@ -1,7 +1,7 @@
 //! Bytes of a source, one at a time.
 
 ghost use Rattle.std.specs.Prelude.{◌≡◌, ◌<◌, ◌≤◌, [], drop, length, OnErr, IfOk, IfSome, IfNone, Ok, Some, None, slice_get, true, false};
-ghost use Rattle.cell_ascii_header.specs.Ahead.{Ahead, to_come, IsAtEnd};
+ghost use Rattle.cell_scanner.specs.Ahead.{Ahead, to_come, IsAtEnd};
 
 use cell_core::device::DeviceFault;
 use cell_core::memory::Memory;
@@ -24,7 +24,7 @@ pub struct Input<R: Source> {
 
 impl<R: Source> Model for Input<R> {
     ghost use Rattle.std.specs.Prelude.{take, drop, length, ◌≡◌, ◌<◌, ◌≤◌, true, false};
-    ghost use Rattle.cell_ascii_header.specs.Ahead.{Ahead, IsAtEnd};
+    ghost use Rattle.cell_scanner.specs.Ahead.{Ahead, IsAtEnd};
 
     ghost Value = { Ahead };
 

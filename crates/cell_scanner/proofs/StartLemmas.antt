@@ -6,7 +6,7 @@ use Rattle.std.proofs.lemmas.List.Sums.{sum_by-append}
 use Rattle.std.specs.Prelude.{nat_lt}
 use Rattle.std.proofs.lemmas.Bool.Decides.{nat_tests}
 use Rattle.cell_devices.specs.Device.{Coming}
-use Rattle.cell_ascii_header.specs.Ahead.{Ahead, to_come, before_coming, IsAtEnd}
+use Rattle.cell_scanner.specs.Ahead.{Ahead, to_come, before_coming, IsAtEnd}
 use Rattle.cell_ascii_text.specs.Words.{Start, Begins, Ends, Stops, start_of, start_at, is_space, is_word, newlines, fault, word_from, word_end}
 use Rattle.cell_ascii_text.specs.declared.fault.GridKind.TheVariants.{Read, ReaderStuck, LongToken}
 
