@@ -22,7 +22,7 @@ LINES_OF_A_LOG = 40
 SECONDS_BETWEEN_NEWS = 60
 # A crate waits for those below it, so that a processor would stand still with no more crates at hand than processors.
 CRATES_THAT_WAIT = 2
-BYTES_OF_A_PROOF = 2_000_000_000
+BYTES_OF_A_PROOF = 3_000_000_000
 
 
 def crates_below():
