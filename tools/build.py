@@ -3,158 +3,219 @@
 
     build.py [--jobs N]
 
-N is how many crates are proved at a time: without it, some more than there are processors, as far as memory allows. It
-says which crates it proves and how long all took so far. A crate that was proved before and has not changed is loaded in
-seconds. Each crate's log is crates/NAME/out/build.log; where a proof fails, the end of the log is printed.
+N is how many processes prove at a time: without it, one for each processor, as far as memory allows. Where fewer crates
+can be proved, they share the processes. It says which crates are proved and how long all took so far. Each is proved by
+the kit's rattle over the statements of the crates below it, and again only where one of them has changed. What is made of
+a crate and the log of its proof lie in crates/NAME/out/build; where a proof fails, the end of its log is printed.
 """
 import argparse
+import concurrent.futures
+import functools
+import hashlib
 import os
+import pathlib
 import re
 import shutil
 import subprocess
 import sys
-import threading
 import time
 
 ROOT = os.path.dirname(os.path.dirname(os.path.abspath(__file__)))
 PROGRAM = "rcell_program"
+TARGET = "x86_64-unknown-linux-gnu"
 LINES_OF_A_LOG = 40
 SECONDS_BETWEEN_NEWS = 60
-# A crate waits for those below it, so that a processor would stand still with no more crates at hand than processors.
-CRATES_THAT_WAIT = 2
-BYTES_OF_A_PROOF = 3_000_000_000
+BYTES_OF_A_PROOF = 1_500_000_000
+# What reading the crates below costs, as if it were lines of source.
+LINES_OF_A_START = 100
 
 
-def crates_below():
-    """The crates that the program stands on and itself, the program last, each with those below it."""
+class Crate:
+    """A crate of the repository: its name, the crates right below it, and the kit's libraries that it uses."""
+
+    def __init__(self, name, uses, crates):
+        self.name, self.folder = name, f"{ROOT}/crates/{name}"
+        self.out = f"{self.folder}/out/build"
+        self.made = f"{self.out}/{name}.{'o' if name == PROGRAM else 'rlib'}"
+        self.below = [crates[it] for it in uses if it in crates]
+        self.of_kit = ["std", *[it for it in uses if it not in crates]]
+
+    @functools.cached_property
+    def all_below(self):
+        return {it.name: it for below in self.below for it in [*below.all_below.values(), below]}
+
+    @functools.cached_property
+    def files(self):
+        parts = [f"{self.folder}/{part}" for part in ("src", "specs", "proofs")]
+        found = [f"{at}/{name}" for part in parts for at, _, names in os.walk(part) for name in names]
+        return {os.path.relpath(it, ROOT): pathlib.Path(it).read_bytes() for it in sorted(found)}
+
+    @functools.cached_property
+    def lines(self):
+        return LINES_OF_A_START + sum(text.count(b"\n") for path, text in self.files.items() if path.endswith(".rt"))
+
+    @functools.cached_property
+    def stamp(self):
+        """A sum of all that the crate's proof depends on."""
+        parts = [kit_version(), self.of_kit, self.files, [it.stamp for it in self.below]]
+        return hashlib.sha256(repr(parts).encode()).hexdigest()
+
+    def is_proved(self):
+        try:
+            with open(f"{self.out}/stamp", encoding="utf-8") as file:
+                return os.path.exists(self.made) and file.read() == self.stamp
+        except OSError:
+            return False
+
+    def command(self, jobs):
+        """What proves the crate, and makes a library's statements or a program's object file."""
+        words = [f"{kit()}/bin/rattle", "build", "--crate-name", self.name, f"src/{'main' if self.name == PROGRAM else 'lib'}.rt"]
+        words += [word for it in self.of_kit for word in ("--extern", f"{it}={kit()}/rlibs/{it}.rlib")]
+        words += [word for it in self.below for word in ("--extern", f"{it.name}={it.made}")]
+        words += ["-L", f"dependency={kit()}/rlibs"]
+        words += [word for it in self.all_below.values() for word in ("-L", f"dependency={it.out}")]
+        words += ["--antt-project", f"{kit()}/rattle/logic/antt-project.json", "--logic-built", f"{kit()}/logic_built"]
+        words += ["--toolchain", f"{kit()}/toolchain"] if self.name == PROGRAM else ["--statements"]
+        return [*words, "--links", f"{self.name}=", "--jobs", str(jobs), "-o", self.made]
+
+    def prove(self, jobs):
+        """Proves the crate if that was not done before, and returns what to say of it, or None where it is not proved."""
+        if self.is_proved():
+            return "proved before"
+        shutil.rmtree(self.out, ignore_errors=True)
+        os.makedirs(self.out)
+        with open(f"{self.out}/log", "w", encoding="utf-8") as log:
+            status = subprocess.call(self.command(jobs), cwd=self.folder, stdin=subprocess.DEVNULL, stdout=log, stderr=log)
+        if status:
+            return None
+        with open(f"{self.out}/stamp", "w", encoding="utf-8") as file:
+            file.write(self.stamp)
+        return "proved"
+
+
+@functools.cache
+def kit():
+    """The kit's folder."""
+    return os.path.dirname(subprocess.check_output(["rt", "doc"], text=True).strip())
+
+
+@functools.cache
+def kit_version():
+    return subprocess.check_output(["rt", "version"], text=True)
+
+
+def crates_of_the_program():
+    """The crates that the program stands on and itself, each after those below it."""
     with open(f"{ROOT}/crates.txt", encoding="utf-8") as file:
         lines = [line.split("#")[0].split(":") for line in file if ":" in line]
-    named = {name.strip(): below.split() for name, below in lines}
-    found = {}
+    uses, crates = {name.strip(): used.split() for name, used in lines}, {}
 
     def visit(name):
-        own = [it for it in named[name] if it in named]
-        for below in own:
-            if below not in found:
-                visit(below)
-        found[name] = own
+        for it in uses[name]:
+            if it in uses and it not in crates:
+                visit(it)
+        crates[name] = Crate(name, uses[name], crates)
 
     visit(PROGRAM)
+    return list(crates.values())
+
+
+def ways(crates):
+    """The lines of source on the longest way from each crate up to the program."""
+    found = {}
+    for crate in reversed(crates):
+        found[crate] = crate.lines + max((found[it] for it in found if crate in it.below), default=0)
     return found
 
 
 def at_once():
-    """How many crates are proved at a time."""
+    """How many processes prove at a time."""
     try:
         with open("/proc/meminfo", encoding="utf-8") as file:
             free = 1024 * int(re.search(r"MemAvailable: *(\d+)", file.read())[1])
     except (OSError, TypeError):
         free = BYTES_OF_A_PROOF
-    return max(1, min(len(os.sched_getaffinity(0)) + CRATES_THAT_WAIT, free // BYTES_OF_A_PROOF))
-
-
-def spelled(seconds):
-    minutes, seconds = divmod(int(seconds), 60)
-    return f"{minutes} min {seconds:02} s" if minutes else f"{seconds} s"
+    return max(1, min(len(os.sched_getaffinity(0)), free // BYTES_OF_A_PROOF))
 
 
 class News:
     """What is proved and what is being proved: a line rewritten each second on a terminal, else one for each crate and each minute."""
 
-    def __init__(self, crates, jobs):
-        self.start, self.crates, self.jobs, self.terminal = time.monotonic(), crates, jobs, sys.stdout.isatty()
-        self.proved, self.lock = [], threading.Lock()
+    def __init__(self):
+        self.start, self.is_terminal = time.monotonic(), sys.stdout.isatty()
+        self.every = 1 if self.is_terminal else SECONDS_BETWEEN_NEWS
 
-    def say(self, text, ended=True):
-        text = f"{text}, {spelled(time.monotonic() - self.start)} so far"
-        if self.terminal:
-            print(f"\r\033[K{text}", end="\n" if ended else "", flush=True)
+    def say(self, text, passes=False):
+        minutes, seconds = divmod(int(time.monotonic() - self.start), 60)
+        text = f"{text}, {f'{minutes} min {seconds:02} s' if minutes else f'{seconds} s'} so far"
+        if self.is_terminal:
+            print(f"\r\033[K{text}", end="" if passes else "\n", flush=True)
         else:
             print(text, flush=True)
 
-    def add(self, name, word):
-        with self.lock:
-            self.proved.append(name)
-            self.say(f"{len(self.proved):2} of {len(self.crates)}  {name}: {word}")
 
-    def under_way(self):
-        """The crates whose turn it is: all below them are proved."""
-        ready = [it for it, below in self.crates.items() if it not in self.proved and set(below) <= set(self.proved)]
-        return "proving " + ", ".join(ready[: self.jobs]) if ready else "building the program"
-
-    def repeat(self, over):
-        """Says what is under way until `over` is set."""
-        while not over.wait(1 if self.terminal else SECONDS_BETWEEN_NEWS):
-            with self.lock:
-                self.say(f"          {self.under_way()}", ended=False)
+def next_of(ready, free):
+    """The first of the crates that can be proved, and as many processes as the others leave it."""
+    return ready[0], -(-free // min(len(ready), free))
 
 
-def log_of(name):
-    return f"{ROOT}/crates/{name}/out/build.log"
+def prove_all(crates, jobs, news):
+    """Proves each crate once all below it are, those first that the longest way stands on. Returns those that are not proved."""
+    way, waiting, running, failed = ways(crates), list(crates), {}, []
+    with concurrent.futures.ThreadPoolExecutor(jobs) as pool:
+        while running or (waiting and not failed):
+            under_way = [crate for crate, _ in running.values()]
+            ready = [it for it in waiting if not {*it.below} & {*waiting, *under_way}]
+            free = jobs - sum(own for _, own in running.values())
+            if ready and free and not failed:
+                crate, own = next_of(sorted(ready, key=way.get, reverse=True), free)
+                waiting.remove(crate)
+                running[pool.submit(crate.prove, own)] = crate, own
+                continue
+            ended, _ = concurrent.futures.wait(running, news.every, concurrent.futures.FIRST_COMPLETED)
+            for run in ended:
+                (crate, _), word = running.pop(run), run.result()
+                failed += [] if word else [crate]
+                news.say(f"{len(crates) - len(waiting) - len(running):2} of {len(crates)}  {crate.name}: {word or 'NOT proved'}")
+            if not ended:
+                news.say("          proving " + ", ".join(it.name for it in under_way), passes=True)
+    return failed
 
 
-def lines_of(words):
-    """The lines that a command says in the folder of the program, and then its status."""
-    how = {"stdin": subprocess.DEVNULL, "stdout": subprocess.PIPE, "stderr": subprocess.STDOUT, "text": True, "errors": "replace"}
-    with subprocess.Popen(words, cwd=f"{ROOT}/crates/{PROGRAM}", **how) as run:
-        yield from run.stdout
-    yield run.returncode
-
-
-def prove(news, jobs):
-    """Proves the crates, and returns what was said of each that is not proved, by its name. There is none where all are."""
-    said, name, status = {PROGRAM: []}, PROGRAM, None
-    for line in lines_of(["rt", "all", "check", "--jobs", str(jobs)]):
-        if isinstance(line, int):
-            status = line
-        # rt says all of a crate when that has ended, after a line with its name, and of one that has not changed nothing.
-        elif begun := re.fullmatch(r"== (\w+)\n", line):
-            for old in [it for it in said if it in news.crates and not said[it] and it not in news.proved and it != PROGRAM]:
-                news.add(old, "proved before")
-            name = begun[1]
-            said[name] = []
-        else:
-            said[name].append(line)
-            if line.startswith("logic=proved") and name in news.crates:
-                news.add(name, "proved")
-                os.makedirs(os.path.dirname(log_of(name)), exist_ok=True)
-                with open(log_of(name), "w", encoding="utf-8") as log:
-                    log.writelines(said[name])
-    return {it: said[it] for it in said if it in news.crates and it not in news.proved} if status else {}
-
-
-def link(news):
-    """Builds the program, runs it once, and returns what was said where that failed."""
-    *said, status = lines_of(["rt", "run", "--", "data/script", "g=data/g.txt"])
-    return {PROGRAM: said} if status else {}
+def link(program):
+    """Links the program to bin/rcell, and returns the linker's status."""
+    words = [f"{kit()}/bin/rattle-link", "--target", TARGET, "--toolchain", f"{kit()}/toolchain", "-o", f"{ROOT}/bin/rcell.new"]
+    words += [program.made, f"{kit()}/c/libos_c.a", f"{kit()}/c/liblibc_c.a"]
+    os.makedirs(f"{ROOT}/bin", exist_ok=True)
+    run = subprocess.run(words, cwd=program.folder, stdout=subprocess.PIPE, stderr=subprocess.STDOUT, text=True, errors="replace")
+    if run.returncode:
+        print(run.stdout, end="")
+    else:
+        os.replace(f"{ROOT}/bin/rcell.new", f"{ROOT}/bin/rcell")
+    return run.returncode
 
 
 def build(jobs):
     """Proves and builds all, and returns the status of the process."""
-    news, over = News(crates_below(), jobs), threading.Event()
-    print(f"Proving {len(news.crates)} crates, {jobs} at a time, then building bin/rcell.", flush=True)
-    thread = threading.Thread(target=news.repeat, args=(over,), daemon=True)
-    thread.start()
-    try:
-        failed = prove(news, jobs) or link(news)
-    finally:
-        over.set()
-        thread.join()
-    for name, said in failed.items():
-        print(f"{name}: NOT proved. The end of what was said:", *[it.rstrip("\n") for it in said[-LINES_OF_A_LOG:]], sep="\n")
+    crates, news = crates_of_the_program(), News()
+    by = "1 process" if jobs == 1 else f"{jobs} processes at a time"
+    print(f"Proving {len(crates)} crates by {by}, and building bin/rcell.", flush=True)
+    failed = prove_all(crates, jobs, news)
+    for crate in failed:
+        with open(f"{crate.out}/log", encoding="utf-8", errors="replace") as log:
+            end = log.readlines()[-LINES_OF_A_LOG:]
+        print(f"{crate.name} is NOT proved. The end of {crate.out}/log:", "".join(end), sep="\n")
     if failed:
         print("Where that says nothing of a fault, memory may have run out: try make JOBS=1.")
         return 1
-    os.makedirs(f"{ROOT}/bin", exist_ok=True)
-    shutil.copy(f"{ROOT}/crates/{PROGRAM}/out/{PROGRAM}", f"{ROOT}/bin/rcell.new")
-    os.replace(f"{ROOT}/bin/rcell.new", f"{ROOT}/bin/rcell")
-    news.say("bin/rcell is built")
-    return 0
+    status = link(crates[-1])
+    news.say("bin/rcell is NOT linked" if status else "bin/rcell is built")
+    return status
 
 
 def main():
     parser = argparse.ArgumentParser(description="Proves the crates that the program is built from, and builds bin/rcell.")
-    parser.add_argument("--jobs", type=int, default=at_once(), help="how many crates are proved at a time")
+    parser.add_argument("--jobs", type=int, default=at_once(), help="how many processes prove at a time")
     sys.exit(build(max(1, parser.parse_args().jobs)))
 
 
