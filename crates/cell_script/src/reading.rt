@@ -39,7 +39,7 @@ pub(crate) const NO_MEMORY: ScriptFault = ScriptFault {
     line: 0,
 };
 
-// A fault at a line, where it is not want of memory.
+// A fault at a line, where it is not out of memory.
 fn fault_at(line: u64, kind: ScriptKind) -> ScriptFault
     ensures other { kind ≢ ScriptKind.Memory → result ≡ record { kind = kind; line = line } }
     ensures kind { result.kind ≡ kind }

@@ -1,2 +1,2 @@
 -- What the program tells where no run was started.
-pub mod Refusals
+pub mod RefusalLines

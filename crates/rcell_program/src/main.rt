@@ -1,15 +1,14 @@
 //! The program `rcell`: runs a script over grids, `rcell SCRIPT NAME=PATH...`.
 #![tactic(auto)]
 
-mod opening;
-mod refusal;
-mod words;
+mod refusal_line;
 
-use crate::opening::open;
-use crate::refusal::Refusal;
-use crate::words::read;
+use crate::refusal_line::refusal_line;
 use cell_core::name::Name;
 use cell_core::sink::WriteSink;
+use cell_request::opening::open;
+use cell_request::refusal::Refusal;
+use cell_request::words::read;
 use rcell::report::fault_line;
 use rcell::run;
 use std::env;
@@ -32,7 +31,7 @@ fn words_given<R: Env + AllocGlobal>(rt: &R) -> Result<Vec<String>, Refusal> {
 
 // Tells a refusal on standard error, and answers its status.
 fn tell<R: Eprint>(rt: &R, refusal: Refusal, names: &[Name]) -> u8 {
-    let line = refusal.line(names);
+    let line = refusal_line(refusal, names);
     let _ = eprintln!(rt; "{line}");
     refusal.status()
 }

@@ -63,7 +63,7 @@ module _ (grids : List Named) (script : Coming) (loaded : ShelfValue) (is_loaded
       subst (λ (s : ShelfValue). Writes s statements before now failed outcome) one_shelf
       (subst (λ (ss : List Statement). Writes loaded ss before now failed outcome) (only statements reads) (written loaded found before now failed outcome done late status write))
 
-  -- what can be read is refused only for want of memory
+  -- what can be read is refused only when out of memory
   pub read_refused : (f : RunFault) → outcome.fault ≡ Some f → IsBeforeExecution f → ((ss : List Statement) → Reads loaded.names script ss → IsOfInput f → ⊥) → Writes shelf statements before now failed outcome
   read_refused f is early none = λ memory good.
       absurd (none statements reads (input_unless_memory f early (let bad : IfSome (Some f) (λ f. IsOfMemory f → ⊥) = rw is at memory in bad)))

@@ -7,13 +7,13 @@ use Rattle.cell_commands.specs.declared.fault.ScriptKind.TheVariants as script_k
 use Rattle.cell_loading.specs.declared.fault.RunFault.{RunFault}
 use Rattle.cell_loading.specs.declared.fault.RunFault.TheVariants.{GridTwice, GridRegion, Grid, ScriptRead, ScriptSize, Script, Memory, Write}
 
--- 4 where a read failed, 3 for want of memory, 1 for what a text has wrong
+-- 4 where a read failed, 3 when out of memory, 1 for what a text has wrong
 abbrev pub grid_status : GridKind → ℕ
 grid_status grid_kinds.Read = 4
 grid_status grid_kinds.Memory = 3
 grid_status kind = 1
 
--- 3 for want of memory, 1 for what a script has wrong
+-- 3 when out of memory, 1 for what a script has wrong
 abbrev pub script_status : ScriptKind → ℕ
 script_status script_kinds.Memory = 3
 script_status kind = 1

@@ -10,7 +10,7 @@ use cell_script::fault::ScriptKind;
 /// What a run did.
 #[derive(Clone, Copy, Debug, PartialEq, Eq)]
 pub struct Outcome {
-    /// 0 where it is done, 1 where a grid or the script was refused, 3 for want of memory, 4 where a read or a write failed.
+    /// 0 where it is done, 1 where a grid or the script was refused, 3 when out of memory, 4 where a read or a write failed.
     pub status: u8,
     /// The number of bytes that the writer took, or the greatest `u64` where it took more.
     pub written: u64,

@@ -1,6 +1,6 @@
 //! The words of the command line.
 
-ghost use Rattle.std.specs.Prelude.{◌≡◌, ◌≢◌, ◌++◌, ◌∷◌, [], ◌<◌, true, IfOk};
+ghost use Rattle.std.specs.Prelude.{◌≡◌, ◌≢◌, ◌++◌, ◌∷◌, [], true, IfOk, vec_len};
 ghost use Rattle.cell_base.specs.Name.{is_name};
 
 use crate::refusal::Refusal;
@@ -15,6 +15,7 @@ pub struct Request<'a> {
     pub script: &'a str,
     pub names: Vec<Name>,
     pub paths: Vec<&'a str>,
+    ghost has_paths: { vec_len names ≡ vec_len paths },
 }
 
 fn of_clap(kind: ErrorKind) -> Refusal {
@@ -44,6 +45,11 @@ fn grid_of<'a>(alloc: Global, word: &'a str, place: u64) -> Result<(Name, &'a st
 }
 
 /// Reads the words, of which the first is the program's own name.
+///
+/// # Errors
+///
+/// [`Refusal::Usage`] where a later word begins with `-`, or fewer than two follow the first; [`Refusal::GridWord`] of
+/// the first word after the script's that is no NAME=PATH; [`Refusal::Memory`].
 pub fn read<'a>(alloc: Global, words: &'a [String]) -> Result<Request<'a>, Refusal> {
     if words
         .iter()

@@ -1,16 +1,8 @@
 -- What is told where no run was started (profile).
 use Rattle.std.specs.Prelude.{ℕ, List, codes}
 use Rattle.rcell.specs.Reports.{name_at}
-use Rattle.rcell_program.specs.declared.refusal.Refusal.{Refusal}
-use Rattle.rcell_program.specs.declared.refusal.Refusal.TheVariants.{Usage, GridWord, Memory, ScriptFile, GridFile}
-
--- the exit status: 2 for the command line, 3 for want of memory, 4 for a file that can't be opened
-abbrev pub status_of : Refusal → ℕ
-status_of Usage = 2
-status_of (GridWord place) = 2
-status_of Memory = 3
-status_of ScriptFile = 4
-status_of (GridFile grid) = 4
+use Rattle.cell_request.specs.declared.refusal.Refusal.{Refusal}
+use Rattle.cell_request.specs.declared.refusal.Refusal.TheVariants.{Usage, GridWord, Memory, ScriptFile, GridFile}
 
 -- what a refusal belongs to: the command line, the script or a grid's name
 abbrev pub source_of : List (List ℕ) → Refusal → List ℕ

@@ -1,6 +1,6 @@
 //! The files that a request names.
 
-ghost use Rattle.std.specs.Prelude.{◌<◌, vec_len};
+ghost use Rattle.std.specs.Prelude.{◌≡◌, ◌<◌, IfOk, map, vec_len};
 
 use crate::refusal::Refusal;
 use crate::words::Request;
@@ -18,7 +18,7 @@ pub struct Opened<F: Read> {
     ghost has_grid: { 0 < vec_len grids },
 }
 
-// Want of memory is told as such, and any other fault of an opening as the file's.
+// Out of memory is told as such, and any other fault of an opening as the file's.
 fn of_opening(kind: ErrorKind, of_file: Refusal) -> Refusal {
     match kind {
         ErrorKind::OutOfMemory => Refusal::Memory,
@@ -27,21 +27,30 @@ fn of_opening(kind: ErrorKind, of_file: Refusal) -> Refusal {
 }
 
 /// Opens the script and then each grid in order.
+///
+/// # Errors
+///
+/// [`Refusal::ScriptFile`] or [`Refusal::GridFile`] of the first that can't be opened; [`Refusal::Usage`] where the request
+/// names no grid; [`Refusal::Memory`].
 pub fn open<R: Files + AllocGlobal>(
     rt: &R,
     request: &Request<'_>,
-) -> Result<Opened<R::File>, Refusal> {
+) -> Result<Opened<R::File>, Refusal>
+    ensures names { IfOk result (λ opened. map (λ grid. grid.0) opened.grids.items ≡ request.now.names.items) }
+{
     let script = fs::open(rt, request.script).map_err(|fault| of_opening(
         fault.kind(),
         Refusal::ScriptFile,
     ))?;
     let mut grids = Vec::new(rt.alloc());
-    for (grid, (name, path)) in request.names.iter().zip(request.paths.iter()).enumerate() {
-        let file = fs::open(rt, *path).map_err(|fault| of_opening(
+    for grid in 0..request.names.len() {
+        let file = fs::open(rt, request.paths[grid]).map_err(|fault| of_opening(
             fault.kind(),
             Refusal::GridFile { grid },
         ))?;
-        let name = name.copy(rt.alloc()).map_err(|_| Refusal::Memory)?;
+        let name = request.names[grid]
+            .copy(rt.alloc())
+            .map_err(|_| Refusal::Memory)?;
         grids
             .push((name, ReadSource::new(file)))
             .map_err(|_| Refusal::Memory)?;

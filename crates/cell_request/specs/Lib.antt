@@ -1,0 +1,2 @@
+-- The statuses of the refusals of a command line.
+pub mod Refusals

@@ -1,0 +1,41 @@
+//! Why no run was started.
+
+ghost use Rattle.std.specs.Prelude.{◌≡◌};
+ghost use Rattle.cell_request.specs.Refusals.{status_of};
+
+use thiserror::Error;
+
+/// Why no run was started.
+#[derive(Clone, Copy, Debug, PartialEq, Eq, Error)]
+pub enum Refusal {
+    /// Fewer than two words, a word that begins with `-`, or one that is no UTF-8.
+    #[error("usage: rcell SCRIPT NAME=PATH...")]
+    Usage,
+    /// The word at this place is no NAME=PATH; SCRIPT has place 1.
+    #[error("bad grid argument")]
+    GridWord { place: u64 },
+    /// A growth was refused.
+    #[error("no memory")]
+    Memory,
+    /// The script can't be opened.
+    #[error("cannot open")]
+    ScriptFile,
+    /// The file of the grid at this place, from 0, can't be opened.
+    #[error("cannot open")]
+    GridFile { grid: usize },
+}
+
+impl Refusal {
+    /// The exit status: 2 for the command line, 3 when out of memory, 4 for a file (profile).
+    pub fn status(self) -> u8
+        ensures { result ≡ status_of self }
+    {
+        match self {
+            Refusal::Usage => 2,
+            Refusal::GridWord { .. } => 2,
+            Refusal::Memory => 3,
+            Refusal::ScriptFile => 4,
+            Refusal::GridFile { .. } => 4,
+        }
+    }
+}
