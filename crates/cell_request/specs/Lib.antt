@@ -1,2 +1,4 @@
--- The statuses of the refusals of a command line.
+-- What a command line asks for, and the statuses of its refusals.
+pub mod CommandLine
 pub mod Refusals
+pub mod parts

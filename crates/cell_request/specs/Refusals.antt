@@ -1,5 +1,5 @@
--- The exit status where no run was started (profile).
-use Rattle.std.specs.Prelude.{ℕ}
+-- Why no run was started, and the exit status (profile).
+use Rattle.std.specs.Prelude.{ℕ, ◌≡◌, ◌<◌, ⊤}
 use Rattle.cell_request.specs.declared.refusal.Refusal.{Refusal}
 use Rattle.cell_request.specs.declared.refusal.Refusal.TheVariants.{Usage, GridWord, Memory, ScriptFile, GridFile}
 
@@ -10,3 +10,11 @@ status_of (GridWord place) = 2
 status_of Memory = 3
 status_of ScriptFile = 4
 status_of (GridFile grid) = 4
+
+-- what the opening of a script and of so many grids may be refused for
+abbrev pub IsOfOpening : ℕ → Refusal → Type 0
+IsOfOpening grids Usage = grids ≡ 0
+IsOfOpening grids (GridWord place) = ⊥
+IsOfOpening grids Memory = ⊤
+IsOfOpening grids ScriptFile = ⊤
+IsOfOpening grids (GridFile grid) = grid < grids

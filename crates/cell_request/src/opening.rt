@@ -1,6 +1,7 @@
 //! The files that a request names.
 
-ghost use Rattle.std.specs.Prelude.{◌≡◌, ◌<◌, IfOk, map, vec_len};
+ghost use Rattle.std.specs.Prelude.{◌≡◌, ◌≢◌, ◌<◌, IfErr, IfOk, map, vec_len};
+ghost use Rattle.cell_request.specs.Refusals.{IsOfOpening};
 
 use crate::refusal::Refusal;
 use crate::words::Request;
@@ -19,7 +20,9 @@ pub struct Opened<F: Read> {
 }
 
 // Out of memory is told as such, and any other fault of an opening as the file's.
-fn of_opening(kind: ErrorKind, of_file: Refusal) -> Refusal {
+fn of_opening(kind: ErrorKind, of_file: Refusal) -> Refusal
+    ensures { result ≢ Refusal.Memory → result ≡ of_file }
+{
     match kind {
         ErrorKind::OutOfMemory => Refusal::Memory,
         _ => of_file,
@@ -37,6 +40,7 @@ pub fn open<R: Files + AllocGlobal>(
     request: &Request<'_>,
 ) -> Result<Opened<R::File>, Refusal>
     ensures names { IfOk result (λ opened. map (λ grid. grid.0) opened.grids.items ≡ request.now.names.items) }
+    ensures told { IfErr result (IsOfOpening (vec_len request.now.names)) }
 {
     let script = fs::open(rt, request.script).map_err(|fault| of_opening(
         fault.kind(),
