@@ -53,11 +53,8 @@ pub fn from_to(known: &Names, options: Options) -> Result<(usize, Name), OptionF
     ensures new { IfOk result (λ maps. place_of maps.1 known.now ≡ None) }
     ensures err { IfErr result (λ fault. from_to known.now options ≡ Err fault) }
 {
-    let Options { input, output, .. } = options;
-    let Some(input) = input else {
-        return Err(OptionFault::MissingOption);
-    };
-    let Some(output) = output else {
+    let (input, output) = options.into_names();
+    let (Some(input), Some(output)) = (input, output) else {
         return Err(OptionFault::MissingOption);
     };
     let Some(place) = known.find(input.bytes()) else {

@@ -327,6 +327,13 @@ impl Options {
         }
     }
 
+    /// The names of the map that is read and of the one that is made, as far as they were given.
+    pub fn into_names(self) -> (Option<Name>, Option<Name>)
+        ensures { result ≡ (self.input, self.output) }
+    {
+        (self.input, self.output)
+    }
+
     fn is_given(&self, key: Key) -> bool
         ensures { result ≡ is_given self.now key }
     {

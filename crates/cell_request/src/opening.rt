@@ -29,6 +29,49 @@ fn of_opening(kind: ErrorKind, of_file: Refusal) -> Refusal
     }
 }
 
+// The file of a path, whose fault is told as the refusal.
+fn open_file<R: Files>(rt: &R, path: &str, of_file: Refusal) -> Result<ReadSource<R::File>, Refusal>
+    ensures { IfErr result (λ refusal. refusal ≢ Refusal.Memory → refusal ≡ of_file) }
+{
+    match fs::open(rt, path) {
+        Ok(file) => Ok(ReadSource::new(file)),
+        Err(fault) => Err(of_opening(fault.kind(), of_file)),
+    }
+}
+
+// A grid of a name, with the source of its path.
+fn open_grid<R: Files + AllocGlobal>(
+    rt: &R,
+    grid: usize,
+    name: &Name,
+    path: &str,
+) -> Result<(Name, ReadSource<R::File>), Refusal>
+    ensures name { IfOk result (λ opened. opened.0 ≡ name.now) }
+    ensures told { IfErr result (λ refusal. refusal ≢ Refusal.Memory → refusal ≡ Refusal.GridFile grid) }
+{
+    let source = open_file(rt, path, Refusal::GridFile { grid })?;
+    match name.copy(rt.alloc()) {
+        Ok(name) => Ok((name, source)),
+        Err(_) => Err(Refusal::Memory),
+    }
+}
+
+// The names and the sources of the grids, in order.
+fn open_grids<R: Files + AllocGlobal>(
+    rt: &R,
+    request: &Request<'_>,
+) -> Result<Vec<(Name, ReadSource<R::File>)>, Refusal>
+    ensures names { IfOk result (λ opened. map (λ grid. grid.0) opened.items ≡ request.now.names.items) }
+    ensures told { IfErr result (IsOfOpening (vec_len request.now.names)) }
+{
+    let mut grids = Vec::new(rt.alloc());
+    for grid in 0..request.names.len() {
+        let opened = open_grid(rt, grid, &request.names[grid], request.paths[grid])?;
+        grids.push(opened).map_err(|_| Refusal::Memory)?;
+    }
+    Ok(grids)
+}
+
 /// Opens the script and then each grid in order.
 ///
 /// # Errors
@@ -42,28 +85,10 @@ pub fn open<R: Files + AllocGlobal>(
     ensures names { IfOk result (λ opened. map (λ grid. grid.0) opened.grids.items ≡ request.now.names.items) }
     ensures told { IfErr result (IsOfOpening (vec_len request.now.names)) }
 {
-    let script = fs::open(rt, request.script).map_err(|fault| of_opening(
-        fault.kind(),
-        Refusal::ScriptFile,
-    ))?;
-    let mut grids = Vec::new(rt.alloc());
-    for grid in 0..request.names.len() {
-        let file = fs::open(rt, request.paths[grid]).map_err(|fault| of_opening(
-            fault.kind(),
-            Refusal::GridFile { grid },
-        ))?;
-        let name = request.names[grid]
-            .copy(rt.alloc())
-            .map_err(|_| Refusal::Memory)?;
-        grids
-            .push((name, ReadSource::new(file)))
-            .map_err(|_| Refusal::Memory)?;
-    }
+    let script = open_file(rt, request.script, Refusal::ScriptFile)?;
+    let grids = open_grids(rt, request)?;
     if grids.is_empty() {
         return Err(Refusal::Usage);
     }
-    Ok(Opened {
-        script: ReadSource::new(script),
-        grids,
-    })
+    Ok(Opened { script, grids })
 }
