@@ -72,10 +72,7 @@ fn with_grid<R: Source + Drop>(
         Ok(map) => map,
         Err(fault) => return Err(RunFault::Grid { grid, fault }),
     };
-    match placed(alloc, shelf, grid, name, map) {
-        Ok(shelf) => Ok(shelf),
-        Err(fault) => Err(fault),
-    }
+    placed(alloc, shelf, grid, name, map)
 }
 
 /// Reads the grids, each whole and in order, and puts them on a shelf.
