@@ -7,9 +7,13 @@ use Rattle.cell_base.specs.Name.{place_of}
 use Rattle.cell_base.specs.Region.{RegionValue}
 use Rattle.cell_base.specs.SameRegion.{is_same_region, is_same_region-Decides}
 use Rattle.cell_core.specs.Shelf.{ShelfValue}
+use Rattle.cell_core.specs.ShelfRefused.{IsRefused}
+use Rattle.cell_core.specs.declared.shelf.ShelfFault.{ShelfFault}
+use Rattle.cell_core.specs.declared.shelf.ShelfFault.TheVariants.{Exists, OtherRegion, Memory}
 use Rattle.cell_ascii_text.specs.Cells.{grid_of}
 use Rattle.cell_loading.specs.Sources.{AllKnown, known_of, coming_of}
 use Rattle.cell_loading.specs.Faults.{IsOfInput}
+use Rattle.cell_loading.specs.parts.Refused.{of_shelf}
 use Rattle.cell_loading.specs.Loading.{added, placed, with_grid, shelf_from, then_grids}
 use Rattle.cell_loading.specs.declared.fault.RunFault.{RunFault}
 use Rattle.cell_loading.specs.declared.fault.RunFault.TheVariants.{GridRegion, GridTwice}
@@ -34,6 +38,13 @@ added-same grid shelf name map free same =
 pub added-twice : (grid : ℕ) (shelf : ShelfValue) (name : List ℕ) (map : Grid) (o : Option ℕ) → IsSome o → added grid shelf name map o ≡ Err (GridTwice grid)
 added-twice grid shelf name map None some = cc
 added-twice grid shelf name map (Some place) some = refl
+
+-- what the shelf refuses is the fault of the grid
+pub added-refused : (grid : ℕ) (shelf : ShelfValue) (name : List ℕ) (map : Grid) (fault : ShelfFault) → IsRefused shelf name map fault → IsOfInput (of_shelf grid fault)
+    → added grid shelf name map (place_of name shelf.names) ≡ Err (of_shelf grid fault)
+added-refused grid shelf name map Exists reason input = added-twice grid shelf name map _ reason
+added-refused grid shelf name map OtherRegion reason input = added-other grid shelf name map reason.0 reason.1
+added-refused grid shelf name map Memory reason input = absurd input
 
 -- the first map makes the shelf
 pub added-first : (grid : ℕ) (region : RegionValue) (name : List ℕ) (map : Grid) → map.region ≡ region → added grid (record { region = region; names = []; maps = [] }) name map None ≡ Ok (record { region = region; names = name ∷ []; maps = map ∷ [] })

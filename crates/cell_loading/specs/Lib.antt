@@ -3,3 +3,4 @@ pub mod Sources
 pub mod Faults
 pub mod Loading
 pub mod ScriptText
+pub mod parts

@@ -6,6 +6,7 @@ ghost use Rattle.cell_ascii_text.specs.Cells.{grid_of};
 ghost use Rattle.cell_loading.specs.Faults.{IsOfInput, IsBeforeExecution, IsTold};
 ghost use Rattle.cell_loading.specs.Loading.{added, placed, with_grid, shelf_of};
 ghost use Rattle.cell_loading.specs.Sources.{AllKnown, known_of, coming_of};
+ghost use Rattle.cell_loading.specs.parts.Refused.{of_shelf};
 
 use crate::fault::RunFault;
 use cell_ascii::reader::read_map;
@@ -16,6 +17,17 @@ use cell_core::shelf::{Shelf, ShelfFault};
 use cell_core::source::Source;
 use std::alloc::Global;
 
+// The fault of a grid that the shelf refuses.
+fn of_shelf(grid: usize, fault: ShelfFault) -> RunFault
+    ensures { result ≡ of_shelf grid fault }
+{
+    match fault {
+        ShelfFault::Exists => RunFault::GridTwice { grid },
+        ShelfFault::OtherRegion => RunFault::GridRegion { grid },
+        ShelfFault::Memory => RunFault::Memory { line: 0 },
+    }
+}
+
 // The shelf with one more map.
 fn added(mut shelf: Shelf, grid: usize, name: Name, map: CellMap) -> Result<Shelf, RunFault>
     ensures ok { IfOk result (λ s. added grid shelf name map (place_of name shelf.names) ≡ Ok s) }
@@ -25,11 +37,7 @@ fn added(mut shelf: Shelf, grid: usize, name: Name, map: CellMap) -> Result<Shel
 {
     match shelf.add(name, map) {
         Ok(()) => Ok(shelf),
-        Err(refused) => match refused.fault {
-            ShelfFault::Exists => Err(RunFault::GridTwice { grid }),
-            ShelfFault::OtherRegion => Err(RunFault::GridRegion { grid }),
-            ShelfFault::Memory => Err(RunFault::Memory { line: 0 }),
-        },
+        Err(refused) => Err(of_shelf(grid, refused.fault)),
     }
 }
 
