@@ -1,8 +1,8 @@
 //! The reading of a script line by line.
 
-ghost use Rattle.std.specs.Prelude.{◌≡◌, ◌≢◌, ◌<◌, ℕ, List, IfOk, IfErr, Ok, Err, Some};
+ghost use Rattle.std.specs.Prelude.{◌≡◌, ◌≢◌, ◌<◌, ℕ, List, IfOk, IfErr, OnOk, Ok, Err, Some};
 ghost use Rattle.std.specs.Option.{option_map};
-ghost use Rattle.cell_script.specs.Known.{made_by};
+ghost use Rattle.cell_script.specs.Known.{known_after, made_by};
 ghost use Rattle.cell_script.specs.Reading.{start, with_statement, after_head, after_rule, rule_line, IsNext, at_end};
 ghost use Rattle.cell_commands.specs.Fitting.{FitsCommand, FitsHead};
 ghost use Rattle.cell_script.specs.parts.Sound.{IsSound, FitsBlock};
@@ -75,6 +75,17 @@ fn made_by(command: &Command) -> Option<&Name>
     }
 }
 
+// Puts the name of the map that a command makes, if it makes one, last among the known names.
+fn add_made(alloc: Global, known: &mut Names, command: &Command) -> Result<(), Memory>
+    requires { FitsCommand known.old command.now }
+    ensures { OnOk result (known.new ≡ known_after known.old command.now) }
+{
+    if let Some(name) = made_by(command) {
+        known.push(name.copy(alloc)?)?;
+    }
+    Ok(())
+}
+
 // A line among rules, and the rules with it.
 fn add_rule(rules: &mut Rules, line: &[u8]) -> Result<LineKind, ScriptKind>
     ensures ok { IfOk result (λ kind. rule_line rules.old line.now ≡ Ok (kind, rules.new)) }
@@ -108,27 +119,19 @@ impl Progress {
     }
 
     // With one more statement.
-    fn with_statement(self, alloc: Global, line: u64, command: Command) -> Result<Progress, Memory>
+    fn with_statement(
+        mut self,
+        alloc: Global,
+        line: u64,
+        command: Command,
+    ) -> Result<Progress, Memory>
         requires { FitsCommand self.known command }
         ensures { IfOk result (λ read. read ≡ with_statement line command self) }
     {
-        let Progress {
-            known,
-            statements,
-            pending: _,
-        } = self;
-        let mut known = known;
-        let mut statements = statements;
-        if let Some(name) = made_by(&command) {
-            let name = name.copy(alloc)?;
-            known.push(name)?;
-        }
-        statements.push(Statement { line, command })?;
-        Ok(Progress {
-            known,
-            statements,
-            pending: None,
-        })
+        add_made(alloc, &mut self.known, &command)?;
+        self.statements.push(Statement { line, command })?;
+        self.pending = None;
+        Ok(self)
     }
 
     // After a line outside the rules of r.reclass.
