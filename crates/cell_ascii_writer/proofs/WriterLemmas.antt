@@ -57,7 +57,7 @@ module _ (taken : Option (List ℕ)) (old : BlockValue) (e : RegionValue) (now :
   pub cut_in_one : CutsOff taken old (one_line e) now written → CutsOff taken old (region_text e) now written
   cut_in_one cuts = cut_in_two (CutsOff-first taken old (one_line e) (edge_line (codes "south") e.south) now written cuts)
 
--- a sink that did not fail in a call failed only before
-pub still_failed : (now before : Bool) → now ≡ (before || false) → now ≡ before
-still_failed now true same = same
-still_failed now false same = same
+-- a sink that did not fail in one call failed in the next one or before both
+pub failed_then : (now between before failed : Bool) → now ≡ (between || failed) → between ≡ (before || false) → now ≡ (before || failed)
+failed_then now between true failed same was = rw was at same
+failed_then now between false failed same was = rw was at same

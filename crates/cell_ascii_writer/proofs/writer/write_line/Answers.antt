@@ -1,5 +1,6 @@
-use Rattle.std.proofs.lemmas.Result.{err_from_is_err_and, IfErr-weaker}
+use Rattle.std.proofs.lemmas.Result.{err_from_is_err_and, IfErr-weaker, IfOk-weaker}
 use Rattle.cell_devices.proofs.GatherLemmas.{CutsOff-first, CutsOff-second, Gathers-then}
+use Rattle.cell_ascii_writer.proofs.WriterLemmas.{failed_then}
 use Rattle.cell_ascii_writer.proofs.writer.write_line.Goals as goal
 
 pub returns-in_err-write_key-clause-err : goal.returns-in_err-write_key-clause-err
@@ -16,3 +17,40 @@ pub returns-clause-err : goal.returns-clause-err
 returns-clause-err g c =
     let sofar = Gathers-then _ _ _ _ _ _ _ _ c.in_ok-write_key.ensures.ok c.in_ok-push.ensures.ok in
     IfErr-weaker c.push-2.result _ _ (λ fault cuts. CutsOff-second _ _ _ _ _ _ _ fault.written sofar cuts) c.push-2.ensures.err
+
+pub returns-in_err-write_key-clause-ok : goal.returns-in_err-write_key-clause-ok
+returns-in_err-write_key-clause-ok g c = let p = err_from_is_err_and c.from_residual.result c.from_residual.ensures.1 in rw (p.1) tt
+
+pub returns-in_err-write_key-clause-lost : goal.returns-in_err-write_key-clause-lost
+returns-in_err-write_key-clause-lost g c =
+    let p = err_from_is_err_and c.from_residual.result c.from_residual.ensures.1 in
+    rw (p.1, p.2) c.in_err-write_key.ensures.lost
+
+pub returns-in_err-write_key-clause-failed : goal.returns-in_err-write_key-clause-failed
+returns-in_err-write_key-clause-failed g c =
+    let p = err_from_is_err_and c.from_residual.result c.from_residual.ensures.1 in
+    rw (p.1) c.in_err-write_key.ensures.failed
+
+pub returns-in_err-push-clause-ok : goal.returns-in_err-push-clause-ok
+returns-in_err-push-clause-ok g c = let p = err_from_is_err_and c.from_residual-in_err-push.result c.from_residual-in_err-push.ensures.1 in rw (p.1) tt
+
+pub returns-in_err-push-clause-lost : goal.returns-in_err-push-clause-lost
+returns-in_err-push-clause-lost g c =
+    let p = err_from_is_err_and c.from_residual-in_err-push.result c.from_residual-in_err-push.ensures.1 in
+    rw (p.1, p.2) c.in_err-push.ensures.lost
+
+pub returns-in_err-push-clause-failed : goal.returns-in_err-push-clause-failed
+returns-in_err-push-clause-failed g c =
+    let p = err_from_is_err_and c.from_residual-in_err-push.result c.from_residual-in_err-push.ensures.1 in
+    rw (p.1) (failed_then _ _ _ _ c.in_err-push.ensures.failed c.in_ok-write_key.ensures.failed)
+
+pub returns-clause-ok : goal.returns-clause-ok
+returns-clause-ok g c =
+    let sofar = Gathers-then _ _ _ _ _ _ _ _ c.in_ok-write_key.ensures.ok c.in_ok-push.ensures.ok in
+    IfOk-weaker c.push-2.result _ _ (λ _ gathers. Gathers-then _ _ _ _ _ _ _ _ sofar gathers) c.push-2.ensures.ok
+
+pub returns-clause-lost : goal.returns-clause-lost
+returns-clause-lost g c = c.push-2.ensures.lost
+
+pub returns-clause-failed : goal.returns-clause-failed
+returns-clause-failed g c = failed_then _ _ _ _ c.push-2.ensures.failed (failed_then _ _ _ _ c.in_ok-push.ensures.failed c.in_ok-write_key.ensures.failed)

@@ -1,9 +1,9 @@
-use Rattle.std.proofs.Common.{◌≡◌, ◌∙◌, ◌||◌, Bool, ap, is_err, rules, codes, to_z, of_z, w64, SFits}
+use Rattle.std.proofs.Common.{◌≡◌, ◌∙◌, rules, codes, to_z, of_z, w64, SFits}
 use Rattle.std.proofs.lemmas.Int.{to_z-of_z}
 use Rattle.std.proofs.lemmas.Result.{err_from_is_err_and, IfErr-weaker, IfOk-weaker}
 use Rattle.cell_base.specs.Region.{RegionValue}
 use Rattle.cell_devices.proofs.GatherLemmas.{CutsOff-second, Gathers-then}
-use Rattle.cell_ascii_writer.proofs.WriterLemmas.{edge_line, side_line, one_line, two_lines, three_lines, four_lines, five_lines, cut_in_one, cut_in_two, cut_in_three, cut_in_four, cut_in_five, still_failed}
+use Rattle.cell_ascii_writer.proofs.WriterLemmas.{edge_line, side_line, one_line, two_lines, three_lines, four_lines, five_lines, cut_in_one, cut_in_two, cut_in_three, cut_in_four, cut_in_five, failed_then}
 use Rattle.cell_ascii_writer.proofs.writer.write_region.Goals as goal
 
 pub returns-in_err-write_edge-clause-err : goal.returns-in_err-write_edge-clause-err
@@ -112,9 +112,75 @@ returns-clause-err g c =
 
 pub returns-clause-failed : goal.returns-clause-failed
 returns-clause-failed g c =
-    let north = still_failed _ _ c.in_ok-write_edge.ensures.failed in
-    let south = still_failed _ _ c.in_ok-write_edge-2.ensures.failed in
-    let east = still_failed _ _ c.in_ok-write_edge-3.ensures.failed in
-    let west = still_failed _ _ c.in_ok-write_edge-4.ensures.failed in
-    let rows = still_failed _ _ c.in_ok-write_side.ensures.failed in
-    c.write_side-2.ensures.failed ∙ ap (λ (before : Bool). before || is_err c.write_side-2.result) (rows ∙ west ∙ east ∙ south ∙ north)
+    let south = failed_then _ _ _ _ c.in_ok-write_edge-2.ensures.failed c.in_ok-write_edge.ensures.failed in
+    let east = failed_then _ _ _ _ c.in_ok-write_edge-3.ensures.failed south in
+    let west = failed_then _ _ _ _ c.in_ok-write_edge-4.ensures.failed east in
+    failed_then _ _ _ _ c.write_side-2.ensures.failed (failed_then _ _ _ _ c.in_ok-write_side.ensures.failed west)
+
+pub returns-in_err-write_edge-clause-ok : goal.returns-in_err-write_edge-clause-ok
+returns-in_err-write_edge-clause-ok g c = let p = err_from_is_err_and c.from_residual.result c.from_residual.ensures.1 in rw (p.1) tt
+
+pub returns-in_err-write_edge-clause-lost : goal.returns-in_err-write_edge-clause-lost
+returns-in_err-write_edge-clause-lost g c =
+    let p = err_from_is_err_and c.from_residual.result c.from_residual.ensures.1 in
+    rw (p.1, p.2) c.in_err-write_edge.ensures.lost
+
+pub returns-in_err-write_edge-clause-failed : goal.returns-in_err-write_edge-clause-failed
+returns-in_err-write_edge-clause-failed g c =
+    let p = err_from_is_err_and c.from_residual.result c.from_residual.ensures.1 in
+    rw (p.1) c.in_err-write_edge.ensures.failed
+
+pub returns-in_err-write_edge-2-clause-ok : goal.returns-in_err-write_edge-2-clause-ok
+returns-in_err-write_edge-2-clause-ok g c = let p = err_from_is_err_and c.from_residual-in_err-write_edge-2.result c.from_residual-in_err-write_edge-2.ensures.1 in rw (p.1) tt
+
+pub returns-in_err-write_edge-2-clause-lost : goal.returns-in_err-write_edge-2-clause-lost
+returns-in_err-write_edge-2-clause-lost g c =
+    let p = err_from_is_err_and c.from_residual-in_err-write_edge-2.result c.from_residual-in_err-write_edge-2.ensures.1 in
+    rw (p.1, p.2) c.in_err-write_edge-2.ensures.lost
+
+pub returns-in_err-write_edge-2-clause-failed : goal.returns-in_err-write_edge-2-clause-failed
+returns-in_err-write_edge-2-clause-failed g c =
+    let p = err_from_is_err_and c.from_residual-in_err-write_edge-2.result c.from_residual-in_err-write_edge-2.ensures.1 in
+    rw (p.1) (failed_then _ _ _ _ c.in_err-write_edge-2.ensures.failed c.in_ok-write_edge.ensures.failed)
+
+pub returns-in_err-write_edge-3-clause-ok : goal.returns-in_err-write_edge-3-clause-ok
+returns-in_err-write_edge-3-clause-ok g c = let p = err_from_is_err_and c.from_residual-in_err-write_edge-3.result c.from_residual-in_err-write_edge-3.ensures.1 in rw (p.1) tt
+
+pub returns-in_err-write_edge-3-clause-lost : goal.returns-in_err-write_edge-3-clause-lost
+returns-in_err-write_edge-3-clause-lost g c =
+    let p = err_from_is_err_and c.from_residual-in_err-write_edge-3.result c.from_residual-in_err-write_edge-3.ensures.1 in
+    rw (p.1, p.2) c.in_err-write_edge-3.ensures.lost
+
+pub returns-in_err-write_edge-3-clause-failed : goal.returns-in_err-write_edge-3-clause-failed
+returns-in_err-write_edge-3-clause-failed g c =
+    let p = err_from_is_err_and c.from_residual-in_err-write_edge-3.result c.from_residual-in_err-write_edge-3.ensures.1 in
+    rw (p.1) (failed_then _ _ _ _ c.in_err-write_edge-3.ensures.failed (failed_then _ _ _ _ c.in_ok-write_edge-2.ensures.failed c.in_ok-write_edge.ensures.failed))
+
+pub returns-in_err-write_edge-4-clause-ok : goal.returns-in_err-write_edge-4-clause-ok
+returns-in_err-write_edge-4-clause-ok g c = let p = err_from_is_err_and c.from_residual-in_err-write_edge-4.result c.from_residual-in_err-write_edge-4.ensures.1 in rw (p.1) tt
+
+pub returns-in_err-write_edge-4-clause-lost : goal.returns-in_err-write_edge-4-clause-lost
+returns-in_err-write_edge-4-clause-lost g c =
+    let p = err_from_is_err_and c.from_residual-in_err-write_edge-4.result c.from_residual-in_err-write_edge-4.ensures.1 in
+    rw (p.1, p.2) c.in_err-write_edge-4.ensures.lost
+
+pub returns-in_err-write_edge-4-clause-failed : goal.returns-in_err-write_edge-4-clause-failed
+returns-in_err-write_edge-4-clause-failed g c =
+    let p = err_from_is_err_and c.from_residual-in_err-write_edge-4.result c.from_residual-in_err-write_edge-4.ensures.1 in
+    rw (p.1) (failed_then _ _ _ _ c.in_err-write_edge-4.ensures.failed (failed_then _ _ _ _ c.in_ok-write_edge-3.ensures.failed (failed_then _ _ _ _ c.in_ok-write_edge-2.ensures.failed c.in_ok-write_edge.ensures.failed)))
+
+pub returns-in_err-write_side-clause-ok : goal.returns-in_err-write_side-clause-ok
+returns-in_err-write_side-clause-ok g c = let p = err_from_is_err_and c.from_residual-in_err-write_side.result c.from_residual-in_err-write_side.ensures.1 in rw (p.1) tt
+
+pub returns-in_err-write_side-clause-lost : goal.returns-in_err-write_side-clause-lost
+returns-in_err-write_side-clause-lost g c =
+    let p = err_from_is_err_and c.from_residual-in_err-write_side.result c.from_residual-in_err-write_side.ensures.1 in
+    rw (p.1, p.2) c.in_err-write_side.ensures.lost
+
+pub returns-in_err-write_side-clause-failed : goal.returns-in_err-write_side-clause-failed
+returns-in_err-write_side-clause-failed g c =
+    let p = err_from_is_err_and c.from_residual-in_err-write_side.result c.from_residual-in_err-write_side.ensures.1 in
+    rw (p.1) (failed_then _ _ _ _ c.in_err-write_side.ensures.failed (failed_then _ _ _ _ c.in_ok-write_edge-4.ensures.failed (failed_then _ _ _ _ c.in_ok-write_edge-3.ensures.failed (failed_then _ _ _ _ c.in_ok-write_edge-2.ensures.failed c.in_ok-write_edge.ensures.failed))))
+
+pub returns-clause-lost : goal.returns-clause-lost
+returns-clause-lost g c = c.write_side-2.ensures.lost

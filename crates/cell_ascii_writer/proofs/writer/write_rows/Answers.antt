@@ -26,3 +26,16 @@ returns-in_err-write_row-clause-short g c =
     let within : row < length rows = omega (arith, c.region.ensures.filled.count, height) in
     rw (p.1, p.2, flat_map-rest (row_text c.args.null_text.now) rows row [] (row_at c.args.map.now row) within refl)
     (FallsShort-first _ _ _ _ _ (FallsShort-second _ _ _ _ _ _ _ c.loop-row.invariant.gathers c.in_err-write_row.ensures.short))
+
+pub returns-in_err-write_row-clause-ok : goal.returns-in_err-write_row-clause-ok
+returns-in_err-write_row-clause-ok g c = let p = err_from_is_err_and c.from_residual.result c.from_residual.ensures.1 in rw (p.1) tt
+
+pub returns-in_err-write_row-clause-lost : goal.returns-in_err-write_row-clause-lost
+returns-in_err-write_row-clause-lost g c =
+    let p = err_from_is_err_and c.from_residual.result c.from_residual.ensures.1 in
+    rw (p.1, p.2) c.in_err-write_row.ensures.lost
+
+pub returns-in_err-write_row-clause-failed : goal.returns-in_err-write_row-clause-failed
+returns-in_err-write_row-clause-failed g c =
+    let p = err_from_is_err_and c.from_residual.result c.from_residual.ensures.1 in
+    rw (p.1) (rw c.loop-row.invariant.failed at c.in_err-write_row.ensures.failed)
