@@ -1,5 +1,5 @@
 -- The fields of a line, one after another.
-use Rattle.std.proofs.Common.{◌≡◌, ℕ, ◌+◌, ◌-◌, ◌<◌, All, take, take_all, length-drop, List, [], ◌∷◌, ◌++◌, Bool, true, length, drop, get_or, Option, Result, refl, ap, subst, sym, ◌∙◌, arith, append_assoc, append-nil, if◌then◌else◌}
+use Rattle.std.proofs.Common.{◌≡◌, ℕ, ◌+◌, ◌-◌, ◌<◌, All, take, take_all, length-drop, List, [], ◌∷◌, ◌++◌, ◌||◌, Bool, true, false, length, drop, get_or, Option, Result, refl, ap, subst, sym, ◌∙◌, arith, append_assoc, append-nil, if◌then◌else◌}
 use Rattle.std.specs.List.{zip, join_with_byte, flat_map}
 use Rattle.std.proofs.lemmas.Grind.{flat_map-append}
 use Rattle.std.proofs.lemmas.Slice.Zip.{get_or-zip, length-zip}
@@ -109,3 +109,8 @@ combination-parts format maps picks k x is some same =
 -- the combination, the count and the line feed
 pub pair-parts : (format : FormatValue) (maps : List Grid) (picks : List ℕ) (k : Combination) (n : ℕ) → 0 < length picks → length k ≡ length picks → (join_with_byte format.separator (combination_fields format maps picks k) ++ preceded format.separator (count_fields format n)) ++ 10 ∷ [] ≡ pair_line format maps picks (k, n)
 pair-parts format maps picks k n some same = ap (λ (l : List ℕ). l ++ 10 ∷ []) (sym (line-more format maps picks k (count_fields format n) some same))
+
+-- a sink that did not fail in one call failed in the next one or before both
+pub failed_then : (now between before failed : Bool) → now ≡ (between || failed) → between ≡ (before || false) → now ≡ (before || failed)
+failed_then now between true failed same was = rw was at same
+failed_then now between false failed same was = rw was at same

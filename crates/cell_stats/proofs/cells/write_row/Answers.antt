@@ -88,3 +88,16 @@ returns-clause-ok g c =
     let inv = c.loop-col.invariant in
     let last : c.loop-col.col ≡ cols = omega (arith, inv.most, c.loop-col-test.false, same_cols) in
     rw last at inv.gathers
+
+pub returns-in_err-write_lines-clause-ok : goal.returns-in_err-write_lines-clause-ok
+returns-in_err-write_lines-clause-ok g c = let p = err_from_is_err_and c.from_residual.result c.from_residual.ensures.1 in rw (p.1) tt
+
+pub returns-in_err-write_lines-clause-lost : goal.returns-in_err-write_lines-clause-lost
+returns-in_err-write_lines-clause-lost g c =
+    let p = err_from_is_err_and c.from_residual.result c.from_residual.ensures.1 in
+    rw (p.1, p.2) c.in_err-write_lines.ensures.lost
+
+pub returns-in_err-write_lines-clause-failed : goal.returns-in_err-write_lines-clause-failed
+returns-in_err-write_lines-clause-failed g c =
+    let p = err_from_is_err_and c.from_residual.result c.from_residual.ensures.1 in
+    rw (p.1) (rw c.loop-col.invariant.failed at c.in_err-write_lines.ensures.failed)

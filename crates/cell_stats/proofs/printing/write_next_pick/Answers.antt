@@ -1,7 +1,7 @@
 use Rattle.std.proofs.Common.{ℕ, [], ◌∷◌, ap}
 use Rattle.std.proofs.lemmas.Result.{err_from_is_err_and}
 use Rattle.cell_stats.specs.parts.Preceded.{pick_text, next_text}
-use Rattle.cell_stats.proofs.PrintLemmas.{cut-first, cut-second}
+use Rattle.cell_stats.proofs.PrintLemmas.{cut-first, cut-second, failed_then, ok-second}
 use Rattle.cell_stats.proofs.printing.write_next_pick.Goals as goal
 
 pub returns-in_err-push-clause-err : goal.returns-in_err-push-clause-err
@@ -14,3 +14,27 @@ pub returns-clause-err : goal.returns-clause-err
 returns-clause-err g c =
     let pick = pick_text c.args.format.now c.args.shelf.now.maps c.args.place c.args.cell in
     cut-second _ _ (c.separator.result ∷ []) pick (next_text c.args.format.now c.args.shelf.now.maps (c.args.place, c.args.cell)) (ap (λ (s : ℕ). s ∷ pick) c.separator.ensures) c.write_pick.result _ _ _ c.in_ok-push.ensures.ok c.write_pick.ensures.err
+
+pub returns-in_err-push-clause-ok : goal.returns-in_err-push-clause-ok
+returns-in_err-push-clause-ok g c = let p = err_from_is_err_and c.from_residual.result c.from_residual.ensures.1 in rw (p.1) tt
+
+pub returns-in_err-push-clause-lost : goal.returns-in_err-push-clause-lost
+returns-in_err-push-clause-lost g c =
+    let p = err_from_is_err_and c.from_residual.result c.from_residual.ensures.1 in
+    rw (p.1, p.2) c.in_err-push.ensures.lost
+
+pub returns-in_err-push-clause-failed : goal.returns-in_err-push-clause-failed
+returns-in_err-push-clause-failed g c =
+    let p = err_from_is_err_and c.from_residual.result c.from_residual.ensures.1 in
+    rw (p.1) c.in_err-push.ensures.failed
+
+pub returns-clause-ok : goal.returns-clause-ok
+returns-clause-ok g c =
+    let pick = pick_text c.args.format.now c.args.shelf.now.maps c.args.place c.args.cell in
+    ok-second _ _ (c.separator.result ∷ []) pick (next_text c.args.format.now c.args.shelf.now.maps (c.args.place, c.args.cell)) (ap (λ (s : ℕ). s ∷ pick) c.separator.ensures) c.write_pick.result _ _ _ _ c.in_ok-push.ensures.ok c.write_pick.ensures.ok
+
+pub returns-clause-lost : goal.returns-clause-lost
+returns-clause-lost g c = c.write_pick.ensures.lost
+
+pub returns-clause-failed : goal.returns-clause-failed
+returns-clause-failed g c = failed_then _ _ _ _ c.write_pick.ensures.failed c.in_ok-push.ensures.failed

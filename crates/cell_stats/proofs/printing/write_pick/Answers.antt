@@ -3,7 +3,7 @@ use Rattle.std.proofs.lemmas.Result.{err_from_is_err_and}
 use Rattle.cell_core.specs.Text.{cell_text}
 use Rattle.cell_stats.specs.parts.Preceded.{pick_text, preceded}
 use Rattle.cell_stats.specs.TableText.{label_in}
-use Rattle.cell_stats.proofs.PrintLemmas.{cut-first, cut-second, pick_text-label, pick_text-with}
+use Rattle.cell_stats.proofs.PrintLemmas.{cut-first, cut-second, failed_then, pick_text-label, pick_text-with}
 use Rattle.cell_stats.proofs.printing.write_pick.Goals as goal
 
 pub returns-in_err-write_cell-clause-err : goal.returns-in_err-write_cell-clause-err
@@ -23,3 +23,22 @@ returns-clause-err g c =
     let whole = pick_text-with format maps c.args.place c.args.cell on in
     let parts : cell_text c.null_text.result.now c.args.cell ++ (c.separator.result ∷ c.label_of.result.now) ≡ pick_text format maps c.args.place c.args.cell = cc in
     cut-second _ _ (cell_text c.null_text.result.now c.args.cell) (c.separator.result ∷ c.label_of.result.now) (pick_text format maps c.args.place c.args.cell) parts c.write_next.result _ _ _ c.in_ok-write_cell.ensures.ok c.write_next.ensures.err
+
+pub returns-in_err-write_cell-clause-ok : goal.returns-in_err-write_cell-clause-ok
+returns-in_err-write_cell-clause-ok g c = let p = err_from_is_err_and c.from_residual.result c.from_residual.ensures.1 in rw (p.1) tt
+
+pub returns-in_err-write_cell-clause-lost : goal.returns-in_err-write_cell-clause-lost
+returns-in_err-write_cell-clause-lost g c =
+    let p = err_from_is_err_and c.from_residual.result c.from_residual.ensures.1 in
+    rw (p.1, p.2) c.in_err-write_cell.ensures.lost
+
+pub returns-in_err-write_cell-clause-failed : goal.returns-in_err-write_cell-clause-failed
+returns-in_err-write_cell-clause-failed g c =
+    let p = err_from_is_err_and c.from_residual.result c.from_residual.ensures.1 in
+    rw (p.1) c.in_err-write_cell.ensures.failed
+
+pub returns-clause-lost : goal.returns-clause-lost
+returns-clause-lost g c = c.write_next.ensures.lost
+
+pub returns-clause-failed : goal.returns-clause-failed
+returns-clause-failed g c = failed_then _ _ _ _ c.write_next.ensures.failed c.in_ok-write_cell.ensures.failed
