@@ -1,9 +1,10 @@
 //! Operands of the steps of an expression, along strips.
 
-ghost use Rattle.std.specs.Prelude.{◌≡◌, ◌<◌, ◌++◌, [], ◌∷◌, ℕ, length, IfOk, OnOk};
+ghost use Rattle.std.specs.Prelude.{◌≡◌, ◌<◌, ◌++◌, [], ◌∷◌, ℕ, length, slice_get, IfOk, OnOk};
 ghost use Rattle.cell_operations.specs.Applied.{applied};
 ghost use Rattle.cell_operations.specs.Cells.{chosen};
 ghost use Rattle.cell_calc.specs.parts.Operands.{IsStrip, IsReady, operand_at};
+ghost use Rattle.cell_calc.specs.parts.Windows.{IsInReach, row_below};
 ghost use Rattle.cell_rows.specs.Rows.{at};
 
 use crate::strip::{Operand, Strip};
@@ -40,6 +41,14 @@ pub(crate) fn taken(
     Ok(Vec::from_elem(alloc, Cell::null(), width)?)
 }
 
+// The row that the window at a place holds, so far below its centre.
+fn map_row<'a>(windows: &'a [RowWindow], place: usize, down: i32) -> &'a [Cell]
+    requires { IsInReach down (slice_get windows.now place) }
+    ensures { result.now ≡ row_below down (slice_get windows.now place) }
+{
+    windows[place].row(down)
+}
+
 /// The cells of an operand, in a row that may be written over.
 pub(crate) fn row_of(
     alloc: Global,
@@ -63,7 +72,7 @@ pub(crate) fn row_of(
         }
         Operand::Map { place, down, right } => {
             let mut row = taken(alloc, width, free)?;
-            let source = windows[place].row(down);
+            let source = map_row(windows, place, down);
             rows::shift(source, from, right, row.as_mut_slice());
             Ok(row)
         }
@@ -86,22 +95,41 @@ pub(crate) fn joined(
     ensures width { IfOk result (λ row. length row.items ≡ strip.now.width) }
     ensures each { IfOk result (λ row. (c : ℕ) → c < strip.now.width → at row.items c ≡ applied operator (operand_at windows.now strip.now c left) (operand_at windows.now strip.now c right)) }
 {
-    let from = strip.from;
     let mut row = row_of(alloc, left, strip, windows, free)?;
+    apply(operator, right, strip, windows, row.as_mut_slice(), free)?;
+    Ok(row)
+}
+
+// Applies an operator to the cells of a row, which are its left operands.
+fn apply(
+    operator: Operator,
+    right: Operand,
+    strip: &Strip,
+    windows: &[RowWindow],
+    row: &mut [Cell],
+    free: &mut Vec<Vec<Cell>>,
+) -> Result<(), Memory>
+    requires strip { IsStrip strip.now }
+    requires right { IsReady windows.now strip.now right }
+    requires width { length row.old ≡ strip.now.width }
+    ensures width { length row.new ≡ strip.now.width }
+    ensures each { OnOk result ((c : ℕ) → c < strip.now.width → at row.new c ≡ applied operator (at row.old c) (operand_at windows.now strip.now c right)) }
+{
+    let from = strip.from;
     match right {
         Operand::Number(n) => {
-            rows::apply_one(operator, row.as_mut_slice(), cells::number(n));
-            Ok(row)
+            rows::apply_one(operator, row, cells::number(n));
+            Ok(())
         }
         Operand::Map { place, down, right } => {
-            let source = windows[place].row(down);
-            rows::apply_shifted(operator, row.as_mut_slice(), source, right, from);
-            Ok(row)
+            let source = map_row(windows, place, down);
+            rows::apply_shifted(operator, row, source, right, from);
+            Ok(())
         }
         Operand::Row(others) => {
-            rows::apply(operator, row.as_mut_slice(), others.as_slice());
+            rows::apply(operator, row, others.as_slice());
             free.push(others)?;
-            Ok(row)
+            Ok(())
         }
     }
 }
@@ -156,21 +184,32 @@ fn choose(
             Ok(())
         }
         Operand::Map { place, down, right } => {
-            let source = windows[place].row(down);
+            let source = map_row(windows, place, down);
             if let Some(part) = rows::inside(source, from, right, width) {
                 rows::choose(row, conditions, part);
                 return Ok(());
             }
             let over_the_edge = Operand::Map { place, down, right };
             let others = row_of(alloc, over_the_edge, strip, windows, free)?;
-            rows::choose(row, conditions, others.as_slice());
-            free.push(others)?;
-            Ok(())
+            choose_row(others, conditions, row, free)
         }
-        Operand::Row(others) => {
-            rows::choose(row, conditions, others.as_slice());
-            free.push(others)?;
-            Ok(())
-        }
+        Operand::Row(others) => choose_row(others, conditions, row, free),
     }
+}
+
+// Puts the cells of another row into a row where conditions hold; the other row is free then.
+fn choose_row(
+    others: Vec<Cell>,
+    conditions: &[Cell],
+    row: &mut [Cell],
+    free: &mut Vec<Vec<Cell>>,
+) -> Result<(), Memory>
+    requires width { length others.items ≡ length row.old }
+    requires conditions { length conditions.now ≡ length row.old }
+    ensures width { length row.new ≡ length row.old }
+    ensures each { (c : ℕ) → c < length row.old → at row.new c ≡ chosen (at conditions.now c) (at others.items c) (at row.old c) }
+{
+    rows::choose(row, conditions, others.as_slice());
+    free.push(others)?;
+    Ok(())
 }

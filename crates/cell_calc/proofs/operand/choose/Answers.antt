@@ -3,16 +3,13 @@ use Rattle.std.proofs.lemmas.Int.{to_z-of_z}
 use Rattle.cell_operations.specs.Cells.{chosen}
 use Rattle.cell_operations.specs.Offsets.{item_at}
 use Rattle.cell_rows.specs.Rows.{at}
-use Rattle.cell_calc.proofs.Ready.{row_at}
 use Rattle.cell_calc.proofs.operand.choose.Goals as goal
 
 pub returns-in-Some-clause-each : goal.returns-in-Some-clause-each
 returns-in-Some-clause-each c =
     let fits : FitsSigned w32 c.in-Map.down = search rules in
     let fits_right : FitsSigned w32 c.in-Map.right = search rules in
-    let ready = rw c.in-Map.is at c.requires.yes in
-    let held = rw (to_z-of_z w32 c.in-Map.down fits) at c.row-source.ensures.held in
-    let source = row_at c.args.windows.now c.in-Map.place c.in-Map.down c.index-windows-place.result c.row-source.result.now ready c.index-windows-place.is held in
+    let source = rw (to_z-of_z w32 c.in-Map.down fits) at c.map_row-source.ensures in
     rw c.in-Map.is (λ k h.
     let part = rw (to_z-of_z w32 c.in-Map.right fits_right) at (c.in-Some.ensures.each k h) in
     c.choose.ensures.each k (omega (arith, c.requires.width, h))

@@ -1,15 +1,8 @@
 use Rattle.std.proofs.Common.{rules, arith, ◌≡◌, ◌<◌, ◌+◌, ◌+ℤ◌, pos, length, ap, ◌∙◌, None, w32, FitsSigned}
 use Rattle.std.proofs.lemmas.Int.{to_z-of_z}
 use Rattle.cell_operations.specs.Offsets.{item_at}
-use Rattle.cell_calc.proofs.Ready.{reach_at, row_at}
 use Rattle.cell_calc.proofs.Written.{at_written}
 use Rattle.cell_calc.proofs.operand.row_of.Goals as goal
-
-pub row-source-requires : goal.row-source-requires
-row-source-requires c =
-    let fits : FitsSigned w32 c.in-Map.down = search rules in
-    let ready = rw c.in-Map.is at c.requires.ready in
-    rw (to_z-of_z w32 c.in-Map.down fits) (reach_at c.args.windows.now c.in-Map.place c.in-Map.down c.index-windows-place.result ready c.index-windows-place.is)
 
 pub returns-in_ok-row-in-Number-clause-each : goal.returns-in_ok-row-in-Number-clause-each
 returns-in_ok-row-in-Number-clause-each c =
@@ -27,9 +20,7 @@ returns-in_ok-row-in-Map-clause-each c =
     let fits_right : FitsSigned w32 c.in-Map.right = search rules in
     let all : row.len ≡ length row.items = search rules in
     let start = ap (λ l. length l) c.as_mut_slice-in-Map.ensures.value in
-    let ready = rw c.in-Map.is at c.requires.ready in
-    let held = rw (to_z-of_z w32 c.in-Map.down fits) at c.row-source.ensures.held in
-    let source = row_at c.args.windows.now c.in-Map.place c.in-Map.down c.index-windows-place.result c.row-source.result.now ready c.index-windows-place.is held in
+    let source = rw (to_z-of_z w32 c.in-Map.down fits) at c.map_row-source.ensures in
     rw c.in-Map.is (λ k h.
     let here : k < length c.as_mut_slice-in-Map.result.now = omega (arith, start, c.in_ok-row-in-Map.ensures, h) in
     let each = rw (to_z-of_z w32 c.in-Map.right fits_right) at (c.shift.ensures.each k here) in
