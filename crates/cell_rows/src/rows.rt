@@ -107,13 +107,21 @@ fn from_left(source: &[Cell], skip: usize, row: &mut [Cell])
     }
 }
 
+// Where a strip that begins at a column begins in a row so many columns to the right, before 0 if it is outside.
+fn moved(from: usize, right: i32) -> i64
+    requires { from ≤ 65535 }
+    ensures { result ≡ pos from +ℤ right }
+{
+    from as i64 + right as i64
+}
+
 /// The part of a row that lies so many columns to the right of a strip, if all of it lies inside.
 pub fn inside<'a>(source: &'a [Cell], from: usize, right: i32, width: usize) -> Option<&'a [Cell]>
     requires { from ≤ 65535 }
     ensures width { IfSome result (λ part. length part.now ≡ width) }
     ensures each { IfSome result (λ part. (c : ℕ) → c < width → at part.now c ≡ item_at None source.now (pos (from + c) +ℤ right)) }
 {
-    let skip = from as i64 + right as i64;
+    let skip = moved(from, right);
     if skip < 0 {
         return None;
     }
@@ -143,7 +151,7 @@ fn shift_over_the_edge(source: &[Cell], from: usize, right: i32, row: &mut [Cell
     ensures each { (c : ℕ) → c < length row.old → at row.new c ≡ item_at None source.now (pos (from + c) +ℤ right) }
 {
     fill(row, Cell::null());
-    let skip = from as i64 + right as i64;
+    let skip = moved(from, right);
     if skip >= 0 {
         from_right(source, skip as usize, row);
     } else {
@@ -296,7 +304,7 @@ fn overlap_of(cells: usize, right: i32, from: usize, width: usize) -> Overlap
     ensures first { 0 < result.count → pos result.first ≡ pos (from + result.before) +ℤ right }
     ensures after { (c : ℕ) → result.before + result.count ≤ c → c < width → pos cells ≤ℤ (pos (from + c) +ℤ right) }
 {
-    let skip = from as i64 + right as i64;
+    let skip = moved(from, right);
     if skip < 0 {
         let before = (-skip as usize).min(width);
         let count = cells.min(width - before);
