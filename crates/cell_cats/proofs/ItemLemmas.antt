@@ -1,9 +1,9 @@
 -- Items and ranges, one more at a time.
-use Rattle.std.proofs.Common.{◌≡◌, ℕ, ◌+◌, ◌-◌, ◌<◌, ◌≤◌, length, take, drop, get_or, arith, take_all, length-drop, drop-drop, Bool, true, false, List, [], ◌∷◌, ◌++◌, map, Bor, Option, Some, None, refl, ap, sym, ◌∙◌, append_assoc, append-nil}
+use Rattle.std.proofs.Common.{◌≡◌, ℕ, ℤ, ◌+◌, ◌-◌, ◌<◌, ◌≤◌, length, take, drop, get_or, arith, take_all, length-drop, drop-drop, Bool, true, false, List, [], ◌∷◌, ◌++◌, map, Bor, Option, Some, None, refl, ap, sym, ◌∙◌, append_assoc, append-nil}
 use Rattle.std.specs.Prelude.{◌&&◌}
 use Rattle.std.specs.Option.{option_map}
 use Rattle.std.proofs.lemmas.List.{map-append, at_drop_more}
-use Rattle.cell_cats.specs.RuleLine.{is_end, with_item, items_of}
+use Rattle.cell_cats.specs.RuleLine.{is_end, with_item, items_of, range_of, ranges_of}
 
 -- what stands before, and then
 abbrev pub after : {X : Type 0} → List X → Option (List X) → Option (List X)
@@ -62,3 +62,17 @@ items-step ws i n d b done new h within first good pushed so_far =
       so_far ∙ ap (after (pairs done)) one ∙ after-one (pairs done) (a, b.now) (items_of (texts (drop (i + 1 + n) ws))) ∙ ap (λ l. after l (items_of (texts (drop (i + 1 + n) ws)))) (sym last),
       omega (arith, length-drop (i + 1) ws, within-rest),
     )
+
+-- one more range of the items, or none
+module _ (items : List (Bor (List ℕ) × Bor (List ℕ))) (i : ℕ) (d : Bor (List ℕ) × Bor (List ℕ)) (done : List (ℤ × ℤ)) (h : i < length items) (so_far : ranges_of (pairs items) ≡ after done (ranges_of (pairs (drop i items)))) where
+  pub ranges-step : (range : ℤ × ℤ) (new : List (ℤ × ℤ)) → range_of ((get_or items i d).0.now, (get_or items i d).1.now) ≡ Some range → new ≡ done ++ range ∷ []
+      → ranges_of (pairs items) ≡ after new (ranges_of (pairs (drop (i + 1) items)))
+  ranges-step range new good pushed =
+      let rest = ranges_of (pairs (drop (i + 1) items)) in
+      let one : ranges_of (pairs (drop i items)) ≡ option_map (λ more. range ∷ more) rest = at_drop_more (λ l. ranges_of (pairs l)) items i d h ∙ rw good refl in
+      so_far ∙ ap (after done) one ∙ after-one done range rest ∙ ap (λ l. after l rest) (sym pushed)
+
+  pub ranges-stop : range_of ((get_or items i d).0.now, (get_or items i d).1.now) ≡ None → ranges_of (pairs items) ≡ None
+  ranges-stop bad =
+      let none : ranges_of (pairs (drop i items)) ≡ None = at_drop_more (λ l. ranges_of (pairs l)) items i d h ∙ rw bad refl in
+      so_far ∙ ap (after done) none
