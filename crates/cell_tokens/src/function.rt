@@ -26,54 +26,33 @@ pub enum Function {
     KnownMode,
 }
 
+// The names of the functions.
+const NAMES: [(&[u8], Function); 15] = [
+    (b"if", Function::If),
+    (b"isnull", Function::IsNull),
+    (b"null", Function::Null),
+    (b"abs", Function::Abs),
+    (b"min", Function::Min),
+    (b"max", Function::Max),
+    (b"mode", Function::Mode),
+    (b"row", Function::Row),
+    (b"col", Function::Column),
+    (b"nrows", Function::RowCount),
+    (b"ncols", Function::ColumnCount),
+    (b"eval", Function::Eval),
+    (b"nmin", Function::KnownMin),
+    (b"nmax", Function::KnownMax),
+    (b"nmode", Function::KnownMode),
+];
+
 /// The function of a name, if there is one.
 pub fn function_of(name: &[u8]) -> Option<Function>
     ensures { result ≡ function_of name.now }
 {
-    if name == b"if".as_slice() {
-        return Some(Function::If);
-    }
-    if name == b"isnull".as_slice() {
-        return Some(Function::IsNull);
-    }
-    if name == b"null".as_slice() {
-        return Some(Function::Null);
-    }
-    if name == b"abs".as_slice() {
-        return Some(Function::Abs);
-    }
-    if name == b"min".as_slice() {
-        return Some(Function::Min);
-    }
-    if name == b"max".as_slice() {
-        return Some(Function::Max);
-    }
-    if name == b"mode".as_slice() {
-        return Some(Function::Mode);
-    }
-    if name == b"row".as_slice() {
-        return Some(Function::Row);
-    }
-    if name == b"col".as_slice() {
-        return Some(Function::Column);
-    }
-    if name == b"nrows".as_slice() {
-        return Some(Function::RowCount);
-    }
-    if name == b"ncols".as_slice() {
-        return Some(Function::ColumnCount);
-    }
-    if name == b"eval".as_slice() {
-        return Some(Function::Eval);
-    }
-    if name == b"nmin".as_slice() {
-        return Some(Function::KnownMin);
-    }
-    if name == b"nmax".as_slice() {
-        return Some(Function::KnownMax);
-    }
-    if name == b"nmode".as_slice() {
-        return Some(Function::KnownMode);
+    for (text, function) in &NAMES {
+        if name == *text {
+            return Some(*function);
+        }
     }
     None
 }
