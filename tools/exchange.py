@@ -3,6 +3,7 @@
 
 GRASS reads what bin/rcell writes, and bin/rcell reads what its r.out.ascii writes; GRASS writes no line for another
 null text than `*`, so that line is put into what it wrote. Each answer of GRASS in docs/DIFFERENCES.md is asked again.
+100 runs of tools/grass_runs.py, on grids and scripts made at random, are compared with its modules.
 GDAL reads what bin/rcell writes, and what it writes as AAIGrid comes back by tools/aaigrid.py. The commands of GRASS and
 GDAL by which README.md and docs/GUIDE.md export a map are run as they are written there. What is not installed is skipped
 with a message. The last line is 'N passed, M failed'.
@@ -16,6 +17,7 @@ import tempfile
 
 import differences
 import documents
+import grass_runs
 
 ROOT = os.path.dirname(os.path.dirname(os.path.abspath(__file__)))
 HEADER = "north: {n}\nsouth: {s}\neast: {e}\nwest: {w}\nrows: {r}\ncols: {c}\n"
@@ -114,6 +116,11 @@ def exports_by_grass():
             yield wrong_export(place, room)
 
 
+def runs_by_grass():
+    """What differs on grids and scripts made at random, one list a run."""
+    return grass_runs.compared(f"{ROOT}/bin/rcell", seed=1, first=0, count=100)
+
+
 def to_gdal(room, text, script, path, form):
     """Has GDAL translate what rcell writes of a grid text."""
     with open(f"{room}/written", "wb") as file:
@@ -149,7 +156,8 @@ def exports_by_gdal():
             yield wrong_export(place, room)
 
 
-CHECKS = {"grass": (grids_by_grass, exports_by_grass, differences_by_grass), "gdal_translate": (grids_by_gdal, exports_by_gdal)}
+CHECKS = {"grass": (grids_by_grass, exports_by_grass, differences_by_grass, runs_by_grass),
+          "gdal_translate": (grids_by_gdal, exports_by_gdal)}
 
 
 def main():

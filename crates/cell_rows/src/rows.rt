@@ -107,7 +107,7 @@ fn from_left(source: &[Cell], skip: usize, row: &mut [Cell])
     }
 }
 
-// Where a strip that begins at a column begins in a row so many columns to the right, before 0 if it is outside.
+// The column that is so many columns to the right of another; below 0 it lies before the row.
 fn moved(from: usize, right: i32) -> i64
     requires { from ≤ 65535 }
     ensures { result ≡ pos from +ℤ right }
