@@ -3,7 +3,7 @@
 
 GRASS reads what bin/rcell writes, and bin/rcell reads what its r.out.ascii writes; GRASS writes no line for another
 null text than `*`, so that line is put into what it wrote. Each answer of GRASS in docs/DIFFERENCES.md is asked again.
-100 runs of tools/grass_runs.py, on grids and scripts made at random, are compared with its modules.
+100 runs of tools/grass_runs.py compare bin/rcell with the modules of GRASS, on grids and scripts made at random.
 GDAL reads what bin/rcell writes, and what it writes as AAIGrid comes back by tools/aaigrid.py. The commands of GRASS and
 GDAL by which README.md and docs/GUIDE.md export a map are run as they are written there. What is not installed is skipped
 with a message. The last line is 'N passed, M failed'.
@@ -29,6 +29,7 @@ GRIDS = {
     "multiplier": HEADER.format(n=2, s=1, e=3, w=0, r=1, c=3) + "multiplier: 3\n1 -2 *\n",
 }
 
+RANDOM_RUNS = 100
 OWN_MAP = f"{ROOT}/examples/land-cover/landuse.txt"
 WRITES, WRITES_NUMBER = b"r.out.ascii input=g\n", b"r.out.ascii input=g null_value=-9999\n"
 
@@ -118,7 +119,7 @@ def exports_by_grass():
 
 def runs_by_grass():
     """What differs on grids and scripts made at random, one list a run."""
-    return grass_runs.compared(f"{ROOT}/bin/rcell", seed=1, first=0, count=100)
+    return grass_runs.compared(f"{ROOT}/bin/rcell", seed=1, first=0, count=RANDOM_RUNS)
 
 
 def to_gdal(room, text, script, path, form):

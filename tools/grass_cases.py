@@ -1,8 +1,8 @@
-"""Grids and scripts made at random for tools/grass_runs.py: those of made_cases.py that rcell and GRASS both take, as far
-as docs/DIFFERENCES.md lists no difference.
+"""Grids and scripts made at random for tools/grass_runs.py, by the makers of made_cases.py: such as rcell and GRASS both
+take, and for which docs/DIFFERENCES.md lists no difference.
 
-`SharedMaker` leaves out the spellings that it lists, and a statement for which `IS_LISTED` says that it lists a difference
-over the maps as they are then is made anew.
+`SharedMaker` leaves out the spellings that the document lists. A statement for which `IS_LISTED` finds a listed difference,
+over the maps known at that point, is made anew.
 """
 import re
 
@@ -11,11 +11,13 @@ from model import Mapcalc, Reclass, ScriptReader, Stats, reclassed
 from model_expressions import FUNCTIONS, Binary, Call, MapCell, Negated, Not, Place
 from model_grids import GREATEST, Refused, read_map
 
-WIDEST_RULES = 4000  # GRASS keeps an entry for each category between; for `* = *` it takes time by the square of them
+# GRASS keeps an entry for each category between, and with `* = *` takes time that grows with the square of their number.
+FARTHEST_CATEGORY = 4000
 NO_FRACTIONS = (b"", b"", b"", b"")
 # Of at most 15 digits: GRASS keeps an edge as a floating-point number.
 REGIONS = [((3, 0, 4, 0), NO_FRACTIONS), ((0, -3, 10, -2), NO_FRACTIONS), ((5812350, 5811000, 660150, 659250), NO_FRACTIONS),
            ((7, 1, 2, 1), (b"5", b"", b"25", b"")), ((51, 50, 9, 8), (b"12345678", b"5", b"00000001", b"75"))]
+SQUARE_WRAPS = 46341  # its square is above 2147483647
 SMALL_NUMBERS = [0, 1, 1, 2, 2, 3, 4, 5, 7, 10, 100]
 RULE_CATEGORIES = [0, 1, 2, 3, 5, 9, 10, -1, -5, 1000, -1000, 4000]
 LABELS = [b"low", b"b", b"two words", b"=", b"# no", b"a\tb", b"no data", b"l\xc3\xa4nge", b"\xff|", b"5", b"end", b"a:b",
@@ -40,9 +42,9 @@ def is_tie(values):
     return counts.count(max(counts, default=0)) > 1
 
 
-def strays(term, place):
+def has_listed_value(term, place):
     """Whether some part of an expression, taken or not, wraps at 32 bits, is % 0, or is a mode with a tie at a cell."""
-    if any(strays(operand, place) for operand in operands(term)):
+    if any(has_listed_value(operand, place) for operand in operands(term)):
         return True
     values = [operand.value(place) for operand in operands(term)]
     if isinstance(term, Call) and term.function in (FUNCTIONS[b"mode"], FUNCTIONS[b"nmode"]):
@@ -60,7 +62,7 @@ def is_listed_of_mapcalc(statement, maps, line):
     region = next(iter(maps.values())).region
     term = statement.expression
     return (bool(TWO_SIGNS.search(line)) or (isinstance(term, MapCell) and bool(maps[term.name].labels))
-            or any(strays(term, Place(maps, region, row, col)) for row, col in region.places()))
+            or any(has_listed_value(term, Place(maps, region, row, col)) for row, col in region.places()))
 
 
 def cells_of(made):
@@ -78,8 +80,9 @@ def is_listed_of_reclass(statement, maps, line):
     stars = [rule for rule in rules if rule.ranges is None]
     if not rules or rules[len(rules) - len(stars) :] != stars:
         return True
-    ends = [end for rule in rules if rule.ranges for pair in rule.ranges for end in pair] + (cells_of(given) if stars else [])
-    if max(map(abs, ends), default=0) > WIDEST_RULES:
+    ends = [end for rule in rules if rule.ranges for pair in rule.ranges for end in pair]
+    ends += cells_of(given) if stars else []
+    if max(map(abs, ends), default=0) > FARTHEST_CATEGORY:
         return True
     if may_be_empty(rules, given) and any(0 in cells_of(made) for made in maps.values()):
         return True
@@ -157,7 +160,7 @@ class SharedMaker(ScriptMaker):
         is_star = self.chance(0.25)
         items = [self.rule_item() for _ in range(self.one([1, 1, 2, 3]))]
         # Not 2147483647: r.stats of GRASS takes it for one of the map as soon as a rule gives it.
-        categories = [category for category in self.categories if category < GREATEST] + [0, 1, 2, 7, 46341]
+        categories = [category for category in self.categories if category < GREATEST] + [0, 1, 2, 7, SQUARE_WRAPS]
         outputs = [b"%d" % self.one(categories) for _ in range(5)]
         outputs += [b"NULL", b"null"] + [b"*", b"*"] * is_star
         label = self.one([b" ", b"\t", b"  "]) + self.one(LABELS) if self.chance(0.5) else b""
@@ -202,7 +205,7 @@ class SharedMaker(ScriptMaker):
                 return texts, maps
 
     def questions(self, made, maps):
-        """What writes each cell of the maps made, and each label."""
+        """What writes each cell of the maps made, with its label where r.stats is asked."""
         for_stats = [name for name in made if GREATEST not in cells_of(maps[name])]
         lines = [b"r.out.ascii input=" + name for name in made if name not in for_stats]
         return lines + ([b"r.stats -1l input=" + b",".join(for_stats)] if for_stats else [])

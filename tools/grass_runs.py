@@ -3,9 +3,9 @@
 
     grass_runs.py --runs N --seed S [--program PATH] [--keep FOLDER] [--first F]
 
-The grids and scripts are those of tools/grass_cases.py, for which docs/DIFFERENCES.md lists no difference but two that
-are undone here: grids of r.out.ascii are written as rcell writes them (`as_here`), and the areas of r.clump are numbered by
-their first cells (`by_first_cells`). GRASS reads the grids by r.in.ascii, and runs the commands one by one, each in its own
+The grids and scripts are those of tools/grass_cases.py, for which docs/DIFFERENCES.md lists no difference but three that
+are undone here: grids of r.out.ascii get no space at the end of a row and a line for another null text (`as_here`), and the
+areas of r.clump are numbered by their first cells (`by_first_cells`). GRASS reads the grids by r.in.ascii, and runs the commands one by one, each in its own
 module. What they write must be what the program writes, byte for byte. Run F of seed S is the same wherever it is made.
 Each difference is printed with its grids, its script and both answers; with --keep it is also written to FOLDER as a case
 whose expected files are those of GRASS, with the program's answer in a folder beside it. The last line is
@@ -24,7 +24,7 @@ from grass_cases import SharedMaker
 from model import is_skipped, script_lines
 from model_grids import BLANKS, Answer
 
-SECONDS = 10
+SECONDS_OF_A_COMMAND = 60
 
 
 def as_here(text, null_text):
@@ -45,7 +45,7 @@ def by_first_cells(text):
 
 
 class RefusedByGrass(Exception):
-    pass
+    """A module reported an error, or did not end in time."""
 
 
 class Grass:
@@ -59,12 +59,12 @@ class Grass:
         paths = {"PATH": f"{base}/bin:{base}/scripts:/usr/bin:/bin", "LD_LIBRARY_PATH": f"{base}/lib"}
         self.environment = {**os.environ, **paths, "GISBASE": base, "GISRC": f"{room}/session",
                             "GIS_LOCK": str(os.getpid()), "GRASS_VERBOSE": "0"}
-        self.mapsets = 0
+        self.room, self.mapsets = room, 0
 
     def ran(self, room, *words):
         try:
             done = subprocess.run(words, cwd=room, env=self.environment, stdin=subprocess.DEVNULL, capture_output=True,
-                                  timeout=SECONDS)
+                                  timeout=SECONDS_OF_A_COMMAND)
         except subprocess.TimeoutExpired:
             raise RefusedByGrass(f"no end: {words}") from None
         if done.returncode:
@@ -73,6 +73,7 @@ class Grass:
 
     def answer(self, made, room):
         """What GRASS writes where the program would write the output of the run."""
+        shutil.rmtree(f"{self.room}/here/run{self.mapsets - 1}", ignore_errors=True)  # not the current one
         self.mapsets += 1
         output = b""
         try:
@@ -125,13 +126,18 @@ def commands_of(script):
 
 
 def program_answer(program, made, room):
-    done = subprocess.run([os.fsencode(program), *made.words], cwd=room, stdin=subprocess.DEVNULL, capture_output=True)
+    words = [os.fsencode(program), *made.words]
+    try:
+        done = subprocess.run(words, cwd=room, stdin=subprocess.DEVNULL, capture_output=True, timeout=SECONDS_OF_A_COMMAND)
+    except subprocess.TimeoutExpired:
+        return Answer(1, b"", b"no end\n")
     return Answer(done.returncode, done.stdout, done.stderr)
 
 
 def report(name, made, expected, got):
     """A run that differs: its files and both answers."""
-    texts = {**made.files, "GRASS": expected.output + expected.told, "rcell": got.output + got.told}
+    texts = {**made.files, "GRASS": expected.output, "GRASS, standard error": expected.told,
+             "rcell": got.output, "rcell, standard error": got.told}
     shown = "".join(f"{title}:\n{text.decode(errors='backslashreplace')}\n" for title, text in texts.items())
     return f"{name} differs\n{shown}"
 
