@@ -53,7 +53,7 @@ pub enum GridKind {
     LongToken,
 }
 
-/// What is wrong, and the line, counted from 1; 0 for out of memory and for a reader that failed
+/// What is wrong, and the line, counted from 1; 0 when out of memory, and of a reader that failed
 /// before.
 #[derive(Clone, Copy, Debug, PartialEq, Eq, Error)]
 #[error("{line}: {kind}")]

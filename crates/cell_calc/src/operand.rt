@@ -41,8 +41,8 @@ pub(crate) fn taken(
     Ok(Vec::from_elem(alloc, Cell::null(), width)?)
 }
 
-// The row that the window at a place holds, so far below its centre.
-fn map_row<'a>(windows: &'a [RowWindow], place: usize, down: i32) -> &'a [Cell]
+// The row so far below the centre of the window at a place.
+fn window_row<'a>(windows: &'a [RowWindow], place: usize, down: i32) -> &'a [Cell]
     requires { IsInReach down (slice_get windows.now place) }
     ensures { result.now ≡ row_below down (slice_get windows.now place) }
 {
@@ -72,14 +72,14 @@ pub(crate) fn row_of(
         }
         Operand::Map { place, down, right } => {
             let mut row = taken(alloc, width, free)?;
-            let source = map_row(windows, place, down);
+            let source = window_row(windows, place, down);
             rows::shift(source, from, right, row.as_mut_slice());
             Ok(row)
         }
     }
 }
 
-/// The values of an operator. Its right operand needs no row of its own where it is a number, or a map's row where that lies.
+/// The values of an operator, in a row that may be written over.
 pub(crate) fn joined(
     alloc: Global,
     operator: Operator,
@@ -100,7 +100,8 @@ pub(crate) fn joined(
     Ok(row)
 }
 
-// Applies an operator to the cells of a row, which are its left operands.
+// Applies an operator to the cells of a row, which are its left operands. The right ones need no row of their own where they
+// are a number, or lie in the row of a map; else their row is free afterwards.
 fn apply(
     operator: Operator,
     right: Operand,
@@ -122,7 +123,7 @@ fn apply(
             Ok(())
         }
         Operand::Map { place, down, right } => {
-            let source = map_row(windows, place, down);
+            let source = window_row(windows, place, down);
             rows::apply_shifted(operator, row, source, right, from);
             Ok(())
         }
@@ -134,8 +135,8 @@ fn apply(
     }
 }
 
-/// The values of `if` of three arguments. The first choice needs no row of its own where it is a number, or a map's row where
-/// that lies.
+/// The values of `if` of three arguments. The first choice needs no row of its own where it is a number, or lies in the row of
+/// a map.
 pub(crate) fn chosen(
     alloc: Global,
     condition: Operand,
@@ -184,7 +185,7 @@ fn choose(
             Ok(())
         }
         Operand::Map { place, down, right } => {
-            let source = map_row(windows, place, down);
+            let source = window_row(windows, place, down);
             if let Some(part) = rows::inside(source, from, right, width) {
                 rows::choose(row, conditions, part);
                 return Ok(());
@@ -197,7 +198,7 @@ fn choose(
     }
 }
 
-// Puts the cells of another row into a row where conditions hold; the other row is free then.
+// Puts the cells of another row into a row where conditions hold; the other row is free afterwards.
 fn choose_row(
     others: Vec<Cell>,
     conditions: &[Cell],

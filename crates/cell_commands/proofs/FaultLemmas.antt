@@ -13,7 +13,7 @@ use Rattle.cell_commands.specs.Faults.{kind_of, in_script}
 use Rattle.cell_commands.specs.declared.fault.ScriptKind.{ScriptKind}
 use Rattle.cell_commands.specs.declared.fault.ScriptKind.TheVariants as script
 
--- what fails by a fault that is not out of memory
+-- what fails by a fault other than being out of memory
 pub told : {A : Type 0} (r : Result A OptionFault) (fault : OptionFault) (kind : ScriptKind) → kind ≡ kind_of fault → kind ≢ script.Memory
     → (fault ≢ option.Memory → r ≡ Err fault) → in_script r ≡ Err kind
 told r fault kind same other fails = rw (fails (λ memory. other (same ∙ ap kind_of memory))) (ap Err (sym same))

@@ -23,7 +23,7 @@ abbrev mutual
   placed_all names NoTerms = formula.NoFormulas
   placed_all names (Then a xs) = formula.Then (placed names a) (placed_all names xs)
 
--- the fault of an expression with an unknown name, or out of memory
+-- the fault of an expression with an unknown name, or being out of memory
 abbrev pub IsBindingFault : List (List ℕ) → Term → CalcFault → Type 0
 IsBindingFault names e fault =
     (fault ≡ record { kind = Memory; column = 0 }) ⊎ ((fault.kind ≡ UnknownMap) × (first_unknown names e ≡ Some fault.column))

@@ -5,7 +5,7 @@ use Rattle.cell_commands.specs.declared.fault.ScriptKind.TheVariants as script_k
 use Rattle.cell_loading.specs.declared.fault.RunFault.{RunFault}
 use Rattle.cell_loading.specs.declared.fault.RunFault.TheVariants.{GridTwice, GridRegion, Grid, ScriptRead, ScriptSize, Script, Memory, Write}
 
--- a fault that is neither out of memory nor a failing writer: what the texts and their readers have wrong
+-- a fault that is neither being out of memory nor a failing writer: what the texts and their readers have wrong
 abbrev pub IsOfInput : RunFault → Type 0
 IsOfInput (GridTwice grid) = ⊤
 IsOfInput (GridRegion grid) = ⊤
@@ -16,7 +16,7 @@ IsOfInput (Script fault) = fault.kind ≢ script_kinds.Memory
 IsOfInput (Memory line) = ⊥
 IsOfInput Write = ⊥
 
--- out of memory
+-- being out of memory
 abbrev pub IsOfMemory : RunFault → Type 0
 IsOfMemory (GridTwice grid) = ⊥
 IsOfMemory (GridRegion grid) = ⊥
@@ -49,7 +49,7 @@ IsInExecution (Script fault) = ⊥
 IsInExecution (Memory line) = 0 < line
 IsInExecution Write = ⊤
 
--- a fault names one of so many grids, and out of memory for a grid or for the script is told at line 0
+-- a fault names one of so many grids, and being out of memory for a grid or for the script is told at line 0
 abbrev pub IsTold : ℕ → RunFault → Type 0
 IsTold grids (GridTwice grid) = grid < grids
 IsTold grids (GridRegion grid) = grid < grids

@@ -328,7 +328,7 @@ impl Options {
     }
 
     /// The names of the map that is read and of the one that is made, as far as they were given.
-    pub fn into_names(self) -> (Option<Name>, Option<Name>)
+    pub(crate) fn into_names(self) -> (Option<Name>, Option<Name>)
         ensures { result ≡ (self.input, self.output) }
     {
         (self.input, self.output)

@@ -19,15 +19,15 @@ grid_words _ _ = []
 abbrev pub is_grid_word : List ℕ → Bool
 is_grid_word word = is_name (before_first (λ byte. byte == 61) word) && nat_lt 0 (length (after_first (λ byte. byte == 61) word))
 
--- the place of the first of these words that is no NAME=PATH, if there is one; the first of them has this place
+-- the place of the first of these words that is not NAME=PATH, if there is one, where they are counted from this place
 abbrev pub first_bad : ℕ → List (List ℕ) → Option ℕ
 first_bad place [] = None
 first_bad place (word ∷ words) = if is_grid_word word then first_bad (place + 1) words else Some place
 
--- one of the words begins with a hyphen, or there are fewer than a script and a grid
+-- one of the words begins with a hyphen, or they are fewer than two, a script and a grid
 abbrev pub is_misuse : List (List ℕ) → Bool
 is_misuse words = list_any begins_with_hyphen words || nat_lt (length words) 2
 
--- why the words after the program's own name ask for no run, if they do not
+-- why these words, which follow the program's own name, are refused; None where they ask for a run
 abbrev pub refusal_of : List (List ℕ) → Option Refusal
 refusal_of words = if is_misuse words then Some Usage else option_map (λ place. GridWord place) (first_bad 2 (drop 1 words))

@@ -14,12 +14,14 @@ use std::rt::Files;
 /// The sources of a script and of its grids.
 #[derive(Drop)]
 pub struct Opened<F: Read> {
+    /// The source of the script.
     pub script: ReadSource<F>,
+    /// The name of each grid and its source, in order; at least one.
     pub grids: Vec<(Name, ReadSource<F>)>,
     ghost has_grid: { 0 < vec_len grids },
 }
 
-// Out of memory is told as such, and any other fault of an opening as the file's.
+// Out of memory is reported as such, and any other fault of an opening as that of the file.
 fn of_opening(kind: ErrorKind, of_file: Refusal) -> Refusal
     ensures { result ≢ Refusal.Memory → result ≡ of_file }
 {
@@ -29,7 +31,7 @@ fn of_opening(kind: ErrorKind, of_file: Refusal) -> Refusal
     }
 }
 
-// The file of a path, whose fault is told as the refusal.
+// The file of a path; where it can't be opened, the refusal of the file is returned, or out of memory.
 fn open_file<R: Files>(rt: &R, path: &str, of_file: Refusal) -> Result<ReadSource<R::File>, Refusal>
     ensures { IfErr result (λ refusal. refusal ≢ Refusal.Memory → refusal ≡ of_file) }
 {

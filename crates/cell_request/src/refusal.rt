@@ -8,13 +8,13 @@ use thiserror::Error;
 /// Why no run was started.
 #[derive(Clone, Copy, Debug, PartialEq, Eq, Error)]
 pub enum Refusal {
-    /// Fewer than two words, a word that begins with `-`, or one that is no UTF-8.
+    /// Fewer than two words after the program's own name, one of them that begins with `-`, or a word that is not UTF-8.
     #[error("usage: rcell SCRIPT NAME=PATH...")]
     Usage,
-    /// The word at this place is no NAME=PATH; SCRIPT has place 1.
+    /// The word at this place is not NAME=PATH; SCRIPT has place 1.
     #[error("bad grid argument")]
     GridWord { place: u64 },
-    /// A growth was refused.
+    /// Memory was refused.
     #[error("no memory")]
     Memory,
     /// The script can't be opened.

@@ -18,14 +18,19 @@ use std::alloc::{AllocError, Global};
 /// What the words ask for: a script over the grids of these names, each in the file of its path.
 #[derive(Drop)]
 pub struct Request<'a> {
+    /// The path of the script.
     pub script: &'a str,
+    /// The names of the grids, in order.
     pub names: Vec<Name>,
+    /// The path of each grid, in the same order.
     pub paths: Vec<&'a str>,
     ghost has_paths: { vec_len names ≡ vec_len paths },
 }
 
+// The place of SCRIPT among the words; the program's own name has place 0.
 const SCRIPT_PLACE: u64 = 1;
 
+// The refusal for a fault of clap.
 fn of_clap(kind: ErrorKind) -> Refusal
     ensures memory { kind ≡ ErrorKind.OutOfMemory → result ≡ Refusal.Memory }
     ensures usage { result ≢ Refusal.Memory → result ≡ Refusal.Usage }
@@ -126,7 +131,7 @@ fn grids_of<'a>(alloc: Global, words: &[&'a str]) -> Result<(Vec<Name>, Vec<&'a 
 /// # Errors
 ///
 /// [`Refusal::Usage`] where a later word begins with `-`, or fewer than two follow the first; [`Refusal::GridWord`] of
-/// the first word after the script's that is no NAME=PATH; [`Refusal::Memory`].
+/// the first word after the script's that is not NAME=PATH; [`Refusal::Memory`].
 pub fn read<'a>(alloc: Global, words: &'a [String]) -> Result<Request<'a>, Refusal>
     ensures asked { IfOk result (λ request. drop 1 (map string_bytes words.now) ≡ request.script.now ∷ grid_words request.names.items (map (λ path. path.now) request.paths.items)) }
     ensures good { OnOk result (refusal_of (drop 1 (map string_bytes words.now)) ≡ None) }

@@ -39,7 +39,7 @@ pub(crate) const NO_MEMORY: ScriptFault = ScriptFault {
     line: 0,
 };
 
-// A fault at a line, where it is not out of memory.
+// A fault at a line; being out of memory is told at line 0.
 fn fault_at(line: u64, kind: ScriptKind) -> ScriptFault
     ensures other { kind ≢ ScriptKind.Memory → result ≡ record { kind = kind; line = line } }
     ensures kind { result.kind ≡ kind }
@@ -159,7 +159,7 @@ impl Progress {
         self,
         alloc: Global,
         line: u64,
-        block: Block,
+        mut block: Block,
         text: &[u8],
     ) -> Result<Progress, ScriptFault>
         requires { FitsBlock self.known (Some block) }
@@ -167,7 +167,6 @@ impl Progress {
         ensures err { IfErr result (λ fault. fault.kind ≢ ScriptKind.Memory → after_rule line self block (rule_line block.rules text.now) ≡ Err fault) }
         ensures memory { IfErr result (λ fault. fault.kind ≡ ScriptKind.Memory → fault.line ≡ 0) }
     {
-        let mut block = block;
         match add_rule(&mut block.rules, text) {
             Ok(LineKind::End) => {
                 let command = Command::Reclass {

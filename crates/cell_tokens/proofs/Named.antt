@@ -9,7 +9,7 @@ abbrev pub entries : List (Bor (List ℕ) × Function) → List (List ℕ × Fun
 entries [] = []
 entries (f ∷ fs) = (f.0.now, f.1) ∷ entries fs
 
--- a name that is not the one at a place is looked for behind it
+-- a name that is not the one at a place is looked for after it
 pub not_here : (fs : List (Bor (List ℕ) × Function)) (name : List ℕ) (i : ℕ) (f : Bor (List ℕ) × Function) → i < length fs → bytes_eq name (get_or fs i f).0.now ≡ false
     → named_among (entries (drop i fs)) name ≡ named_among (entries (drop (suc i) fs)) name
 not_here [] name i f within other = absurd (omega arith)

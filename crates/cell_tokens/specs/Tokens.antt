@@ -18,11 +18,11 @@ use Rattle.cell_tokens.specs.declared.token.Token.TheVariants as token
 abbrev pub fault : CalcKind → ℕ → CalcFault
 fault kind column = record { kind = kind; column = column }
 
--- out of memory has no column
+-- being out of memory has no column
 abbrev pub no_memory : CalcFault
 no_memory = fault Memory 0
 
--- a fault that may be told where this is wanted: its own, or out of memory
+-- a fault that may be told where this is wanted: its own, or being out of memory
 abbrev pub IsTold : {T : Type 0} → Result T CalcFault → CalcFault → Type 0
 IsTold wanted told = (told ≡ no_memory) ⊎ (wanted ≡ Err told)
 

@@ -26,7 +26,7 @@ pub enum Function {
     KnownMode,
 }
 
-// The names of the functions.
+// The functions with their names.
 const NAMES: [(&[u8], Function); 15] = [
     (b"if", Function::If),
     (b"isnull", Function::IsNull),

@@ -29,14 +29,14 @@ fn words_given<R: Env + AllocGlobal>(rt: &R) -> Result<Vec<String>, Refusal> {
     Ok(words)
 }
 
-// Tells a refusal on standard error, and answers its status.
+// Reports a refusal on standard error, and returns its status. Where standard error takes nothing, the status still says it.
 fn tell<R: Eprint>(rt: &R, refusal: Refusal, names: &[Name]) -> u8 {
     let line = refusal_line(refusal, names);
     let _ = eprintln!(rt; "{line}");
     refusal.status()
 }
 
-// Does what the words ask for, and answers the exit status.
+// Does what the words ask for, and returns the exit status.
 fn work<R: Env + Files + Print + Eprint + AllocGlobal>(rt: &R) -> u8 {
     let words = match words_given(rt) {
         Ok(words) => words,

@@ -1,4 +1,4 @@
-//! The line that tells why no run was started.
+//! The line that says why no run was started.
 
 ghost use Rattle.std.specs.Prelude.{◌≡◌};
 ghost use Rattle.rcell_program.specs.RefusalLines.{source_of, line_of};
@@ -31,7 +31,7 @@ fn line_of(refusal: Refusal) -> u64
     }
 }
 
-/// The line that tells a refusal, by the names of the grids.
+/// The line that reports a refusal, by the names of the grids.
 pub fn refusal_line<'a>(refusal: Refusal, names: &'a [Name]) -> FaultLine<'a, Refusal>
     ensures source { result.source.now ≡ source_of names.now refusal }
     ensures line { result.line ≡ line_of refusal }

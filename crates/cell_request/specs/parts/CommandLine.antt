@@ -28,7 +28,7 @@ grid_rule = record (new_rule (codes "GRID")) {
 abbrev pub command_line : App
 command_line = with_rule (with_rule (new_app (codes "rcell")) script_rule) grid_rule
 
--- a script and grids that are found are all words after the first, in their order, and both are found where both are there
+-- a script and grids that are found are all words after the first, in their order; and both are found where the words are no misuse
 pub record FindsAll (words : List Text) (matches : ArgMatches) : Type 0 where
   pub all : (script : Text) (grids : List Text) → list_any begins_with_hyphen (drop 1 words) ≡ false
       → first_value (found_of matches) (codes "SCRIPT") ≡ Some script

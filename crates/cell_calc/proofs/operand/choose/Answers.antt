@@ -9,7 +9,7 @@ pub returns-in-Some-clause-each : goal.returns-in-Some-clause-each
 returns-in-Some-clause-each c =
     let fits : FitsSigned w32 c.in-Map.down = search rules in
     let fits_right : FitsSigned w32 c.in-Map.right = search rules in
-    let source = rw (to_z-of_z w32 c.in-Map.down fits) at c.map_row-source.ensures in
+    let source = rw (to_z-of_z w32 c.in-Map.down fits) at c.window_row-source.ensures in
     rw c.in-Map.is (λ k h.
     let part = rw (to_z-of_z w32 c.in-Map.right fits_right) at (c.in-Some.ensures.each k h) in
     c.choose.ensures.each k (omega (arith, c.requires.width, h))

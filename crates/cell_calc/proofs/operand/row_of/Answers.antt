@@ -20,7 +20,7 @@ returns-in_ok-row-in-Map-clause-each c =
     let fits_right : FitsSigned w32 c.in-Map.right = search rules in
     let all : row.len ≡ length row.items = search rules in
     let start = ap (λ l. length l) c.as_mut_slice-in-Map.ensures.value in
-    let source = rw (to_z-of_z w32 c.in-Map.down fits) at c.map_row-source.ensures in
+    let source = rw (to_z-of_z w32 c.in-Map.down fits) at c.window_row-source.ensures in
     rw c.in-Map.is (λ k h.
     let here : k < length c.as_mut_slice-in-Map.result.now = omega (arith, start, c.in_ok-row-in-Map.ensures, h) in
     let each = rw (to_z-of_z w32 c.in-Map.right fits_right) at (c.shift.ensures.each k here) in
