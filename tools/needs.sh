@@ -1,7 +1,7 @@
 #!/bin/sh
 # Whether all is there that a build needs: rt of the kit, the kit's clang, and Python 3.11 or later.
 # What is missing is said in one line on standard error, and the status is 1.
-kit='rattle-kit-13b logic dac8208d650f15bf'
+kit='rattle-kit-13f logic dac8208d650f15bf'
 
 missing() {
     echo "rcell: $1" >&2

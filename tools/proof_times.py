@@ -1,0 +1,84 @@
+#!/usr/bin/env python3
+"""Says where the time of a crate's proof goes, function by function.
+
+    proof_times.py CRATE [--most N]
+
+It proves the crate by one process from nothing, in a folder of its own, over the crates below as `make` left them, and prints
+the seconds of each function and each file of lemmas, the slowest first: how long its states take (what the prover knows of
+each local at each place where the paths of a function meet, so they grow with both), its goals, and all else. What it tells
+is the time from one kept module to the next, so it wants an idle machine.
+"""
+import argparse
+import collections
+import os
+import subprocess
+import sys
+import tempfile
+
+import build
+
+MOST_ROWS = 30
+# The kinds of a function's modules that are told apart; all others count as the rest.
+STATES, GOALS = {"Lts", "View"}, {"Proof", "Answers", "Goals", "Invariants"}
+
+
+def check(crate, kept):
+    """What proves the crate and keeps each module that it checks in a folder."""
+    words = crate.command(1)
+    words[words.index("build")] = "check"
+    for flag, count in (("-o", 2), ("--statements", 1), ("--toolchain", 2)):
+        if flag in words:
+            at = words.index(flag)
+            del words[at : at + count]
+    return [*words, "--incremental", kept]
+
+
+def modules(kept):
+    """The kept modules in the order in which they were written, each with the seconds since the one before."""
+    found = []
+    for folder, _, names in os.walk(kept):
+        if os.path.basename(folder) != "records":
+            found += [(os.stat(f"{folder}/{it}").st_mtime, it.removesuffix(".oantt")) for it in names if it.endswith(".oantt")]
+    found.sort()
+    return [(now - before, name) for (before, _), (now, name) in zip(found, found[1:])]
+
+
+def times(crate, kept):
+    """The seconds of each function or file of lemmas: of its states, of its goals, and of all else."""
+    rows = collections.defaultdict(lambda: [0.0, 0.0, 0.0])
+    for seconds, name in modules(kept):
+        library, _, path = name.partition(".")
+        parts = [it for it in path.split(".") if it != "contracts"]
+        kinds = [at for at, it in enumerate(parts) if it in STATES | GOALS]
+        place = 2 if not kinds else 0 if parts[kinds[0]] in STATES else 1
+        own = parts[: kinds[0]] if kinds else parts
+        if library != f"Rattle-{crate.name}-proofs":
+            own = [library.removeprefix(f"Rattle-{crate.name}-"), *own[:1]]
+        rows[".".join(own)][place] += seconds
+    return rows
+
+
+def main():
+    parser = argparse.ArgumentParser(description="Says where the time of a crate's proof goes.")
+    parser.add_argument("crate", help="the name of the crate")
+    parser.add_argument("--most", type=int, default=MOST_ROWS, help="how many rows to print")
+    given = parser.parse_args()
+    crates = {it.name: it for it in build.crates_of_the_program()}
+    if given.crate not in crates:
+        parser.error(f"the program does not stand on {given.crate}")
+    crate = crates[given.crate]
+    if not all(it.is_proved() for it in crate.all_below.values()):
+        sys.exit("rcell: run make first, so that the crates below are proved")
+    with tempfile.TemporaryDirectory() as kept:
+        run = subprocess.run(check(crate, kept), cwd=crate.folder, stdin=subprocess.DEVNULL, stdout=subprocess.PIPE, stderr=subprocess.STDOUT, text=True)
+        if run.returncode:
+            sys.exit(run.stdout[-2000:])
+        rows = times(crate, kept)
+    print(" states   goals    rest")
+    for name, seconds in sorted(rows.items(), key=lambda it: -sum(it[1]))[: given.most]:
+        print(" ".join(f"{it:7.2f}" for it in seconds), name)
+    print(" ".join(f"{sum(it):7.2f}" for it in zip(*rows.values())), "all")
+
+
+if __name__ == "__main__":
+    main()
