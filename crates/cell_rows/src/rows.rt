@@ -44,6 +44,17 @@ pub(crate) fn combine<F: Fn(Cell, Cell) -> Cell>(row: &mut [Cell], other: &[Cell
     }
 }
 
+/// Changes each cell of a row by one and the same other.
+pub(crate) fn combine_one<F: Fn(Cell, Cell) -> Cell>(row: &mut [Cell], other: Cell, f: F)
+    requires callable { F.IsAlwaysCallable f }
+    ensures width { length row.new ≡ length row.old }
+    ensures each { (c : ℕ) → c < length row.old → F.post f (at row.old c) other (at row.new c) }
+{
+    for i in 0..row.len() {
+        row[i] = f(row[i], other);
+    }
+}
+
 /// Puts the cells of another row where conditions hold, and null where they are null.
 pub fn choose(row: &mut [Cell], conditions: &[Cell], yes: &[Cell])
     requires width_conditions { length conditions.now ≡ length row.old }
@@ -62,9 +73,9 @@ pub fn choose_one(row: &mut [Cell], conditions: &[Cell], yes: Cell)
     ensures width { length row.new ≡ length row.old }
     ensures each { (c : ℕ) → c < length row.old → at row.new c ≡ chosen (at conditions.now c) yes (at row.old c) }
 {
-    combine(row, conditions, |no, condition| {
-        cells::chosen(condition, yes, no)
-    });
+    for i in 0..row.len() {
+        row[i] = cells::chosen(conditions[i], yes, row[i]);
+    }
 }
 
 /// The columns' numbers, from 1, of a strip that begins at a column from 0.
@@ -163,38 +174,38 @@ pub fn nullness(row: &mut [Cell])
     ensures width { length row.new ≡ length row.old }
     ensures each { (c : ℕ) → c < length row.old → at row.new c ≡ truth (is_null (at row.old c)) }
 {
-    each(row, |a| cells::nullness(a));
+    each(row, cells::nullness);
 }
 
 pub fn size(row: &mut [Cell])
     ensures width { length row.new ≡ length row.old }
     ensures each { (c : ℕ) → c < length row.old → at row.new c ≡ size_of (at row.old c) }
 {
-    each(row, |a| cells::size(a));
+    each(row, cells::size);
 }
 
 pub fn negate(row: &mut [Cell])
     ensures width { length row.new ≡ length row.old }
     ensures each { (c : ℕ) → c < length row.old → at row.new c ≡ negated (at row.old c) }
 {
-    each(row, |a| cells::negated(a));
+    each(row, cells::negated);
 }
 
 pub fn invert(row: &mut [Cell])
     ensures width { length row.new ≡ length row.old }
     ensures each { (c : ℕ) → c < length row.old → at row.new c ≡ inverted (at row.old c) }
 {
-    each(row, |a| cells::inverted(a));
+    each(row, cells::inverted);
 }
 
 pub fn truth(row: &mut [Cell])
     ensures width { length row.new ≡ length row.old }
     ensures each { (c : ℕ) → c < length row.old → at row.new c ≡ chosen (at row.old c) (Some (pos 1)) (Some (pos 0)) }
 {
-    each(
-        row,
-        |a| cells::chosen(a, cells::truth(true), cells::truth(false)),
-    );
+    let (yes, no) = (cells::truth(true), cells::truth(false));
+    for i in 0..row.len() {
+        row[i] = cells::chosen(row[i], yes, no);
+    }
 }
 
 pub(crate) fn lesser(row: &mut [Cell], other: &[Cell])
@@ -202,7 +213,7 @@ pub(crate) fn lesser(row: &mut [Cell], other: &[Cell])
     ensures width { length row.new ≡ length row.old }
     ensures each { (c : ℕ) → c < length row.old → at row.new c ≡ lesser (at row.old c) (at other.now c) }
 {
-    combine(row, other, |a, b| cells::lesser(a, b));
+    combine(row, other, cells::lesser);
 }
 
 pub(crate) fn larger(row: &mut [Cell], other: &[Cell])
@@ -210,7 +221,7 @@ pub(crate) fn larger(row: &mut [Cell], other: &[Cell])
     ensures width { length row.new ≡ length row.old }
     ensures each { (c : ℕ) → c < length row.old → at row.new c ≡ greater (at row.old c) (at other.now c) }
 {
-    combine(row, other, |a, b| cells::larger(a, b));
+    combine(row, other, cells::larger);
 }
 
 pub(crate) fn known_lesser(row: &mut [Cell], other: &[Cell])
@@ -218,7 +229,7 @@ pub(crate) fn known_lesser(row: &mut [Cell], other: &[Cell])
     ensures width { length row.new ≡ length row.old }
     ensures each { (c : ℕ) → c < length row.old → at row.new c ≡ known_lesser (at row.old c) (at other.now c) }
 {
-    combine(row, other, |a, b| cells::known_lesser(a, b));
+    combine(row, other, cells::known_lesser);
 }
 
 pub(crate) fn known_larger(row: &mut [Cell], other: &[Cell])
@@ -226,7 +237,7 @@ pub(crate) fn known_larger(row: &mut [Cell], other: &[Cell])
     ensures width { length row.new ≡ length row.old }
     ensures each { (c : ℕ) → c < length row.old → at row.new c ≡ known_greater (at row.old c) (at other.now c) }
 {
-    combine(row, other, |a, b| cells::known_larger(a, b));
+    combine(row, other, cells::known_larger);
 }
 
 pub(crate) fn choose_or_zero(row: &mut [Cell], other: &[Cell])
@@ -234,7 +245,10 @@ pub(crate) fn choose_or_zero(row: &mut [Cell], other: &[Cell])
     ensures width { length row.new ≡ length row.old }
     ensures each { (c : ℕ) → c < length row.old → at row.new c ≡ chosen (at row.old c) (at other.now c) (Some (pos 0)) }
 {
-    combine(row, other, |a, b| cells::chosen(a, b, cells::truth(false)));
+    let no = cells::truth(false);
+    for i in 0..row.len() {
+        row[i] = cells::chosen(row[i], other[i], no);
+    }
 }
 
 /// The values of an operator along a row, which holds its left operands.
@@ -244,21 +258,21 @@ pub fn apply(operator: Operator, row: &mut [Cell], other: &[Cell])
     ensures each { (c : ℕ) → c < length row.old → at row.new c ≡ applied operator (at row.old c) (at other.now c) }
 {
     match operator {
-        Operator::Times => combine(row, other, |a, b| cells::product(a, b)),
-        Operator::Divide => combine(row, other, |a, b| cells::quotient(a, b)),
-        Operator::Modulo => combine(row, other, |a, b| cells::remainder(a, b)),
-        Operator::Plus => combine(row, other, |a, b| cells::sum(a, b)),
-        Operator::Minus => combine(row, other, |a, b| cells::difference(a, b)),
-        Operator::Less => combine(row, other, |a, b| cells::less(a, b)),
-        Operator::LessEqual => combine(row, other, |a, b| cells::less_equal(a, b)),
-        Operator::Greater => combine(row, other, |a, b| cells::greater(a, b)),
-        Operator::GreaterEqual => combine(row, other, |a, b| cells::greater_equal(a, b)),
-        Operator::Equal => combine(row, other, |a, b| cells::equal(a, b)),
-        Operator::NotEqual => combine(row, other, |a, b| cells::not_equal(a, b)),
-        Operator::And => combine(row, other, |a, b| cells::and(a, b)),
-        Operator::Or => combine(row, other, |a, b| cells::or(a, b)),
-        Operator::KnownAnd => combine(row, other, |a, b| cells::known_and(a, b)),
-        Operator::KnownOr => combine(row, other, |a, b| cells::known_or(a, b)),
+        Operator::Times => combine(row, other, cells::product),
+        Operator::Divide => combine(row, other, cells::quotient),
+        Operator::Modulo => combine(row, other, cells::remainder),
+        Operator::Plus => combine(row, other, cells::sum),
+        Operator::Minus => combine(row, other, cells::difference),
+        Operator::Less => combine(row, other, cells::less),
+        Operator::LessEqual => combine(row, other, cells::less_equal),
+        Operator::Greater => combine(row, other, cells::greater),
+        Operator::GreaterEqual => combine(row, other, cells::greater_equal),
+        Operator::Equal => combine(row, other, cells::equal),
+        Operator::NotEqual => combine(row, other, cells::not_equal),
+        Operator::And => combine(row, other, cells::and),
+        Operator::Or => combine(row, other, cells::or),
+        Operator::KnownAnd => combine(row, other, cells::known_and),
+        Operator::KnownOr => combine(row, other, cells::known_or),
     }
 }
 
@@ -268,21 +282,21 @@ pub fn apply_one(operator: Operator, row: &mut [Cell], b: Cell)
     ensures each { (c : ℕ) → c < length row.old → at row.new c ≡ applied operator (at row.old c) b }
 {
     match operator {
-        Operator::Times => each(row, |a| cells::product(a, b)),
-        Operator::Divide => each(row, |a| cells::quotient(a, b)),
-        Operator::Modulo => each(row, |a| cells::remainder(a, b)),
-        Operator::Plus => each(row, |a| cells::sum(a, b)),
-        Operator::Minus => each(row, |a| cells::difference(a, b)),
-        Operator::Less => each(row, |a| cells::less(a, b)),
-        Operator::LessEqual => each(row, |a| cells::less_equal(a, b)),
-        Operator::Greater => each(row, |a| cells::greater(a, b)),
-        Operator::GreaterEqual => each(row, |a| cells::greater_equal(a, b)),
-        Operator::Equal => each(row, |a| cells::equal(a, b)),
-        Operator::NotEqual => each(row, |a| cells::not_equal(a, b)),
-        Operator::And => each(row, |a| cells::and(a, b)),
-        Operator::Or => each(row, |a| cells::or(a, b)),
-        Operator::KnownAnd => each(row, |a| cells::known_and(a, b)),
-        Operator::KnownOr => each(row, |a| cells::known_or(a, b)),
+        Operator::Times => combine_one(row, b, cells::product),
+        Operator::Divide => combine_one(row, b, cells::quotient),
+        Operator::Modulo => combine_one(row, b, cells::remainder),
+        Operator::Plus => combine_one(row, b, cells::sum),
+        Operator::Minus => combine_one(row, b, cells::difference),
+        Operator::Less => combine_one(row, b, cells::less),
+        Operator::LessEqual => combine_one(row, b, cells::less_equal),
+        Operator::Greater => combine_one(row, b, cells::greater),
+        Operator::GreaterEqual => combine_one(row, b, cells::greater_equal),
+        Operator::Equal => combine_one(row, b, cells::equal),
+        Operator::NotEqual => combine_one(row, b, cells::not_equal),
+        Operator::And => combine_one(row, b, cells::and),
+        Operator::Or => combine_one(row, b, cells::or),
+        Operator::KnownAnd => combine_one(row, b, cells::known_and),
+        Operator::KnownOr => combine_one(row, b, cells::known_or),
     }
 }
 

@@ -1,0 +1,11 @@
+use Rattle.std.proofs.Common.{◌≡◌, ◌<◌, ◌≤◌, ℕ}
+use Rattle.cell_rows.specs.Rows.{at}
+use Rattle.cell_operations.specs.Cells.{chosen}
+use Rattle.cell_rows.proofs.rows.choose_one.Given as goal
+
+abbrev pub invariant-loop-i : goal.invariant-loop-i
+invariant-loop-i l =
+    record {
+      done : (c : ℕ) → c < l.i → at l.row c ≡ chosen (at l.conditions c) l.yes (at l.initial.row c);
+      rest : (c : ℕ) → l.i ≤ c → at l.row c ≡ at l.initial.row c;
+    }
