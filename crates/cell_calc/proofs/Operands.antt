@@ -1,8 +1,9 @@
 -- Operands that steps take from the end of a list.
 use Rattle.std.proofs.Common.{◌≡◌, ◌<◌, ◌≤◌, ◌+◌, ◌-◌, ℕ, List, [], ◌∷◌, ◌++◌, length, take, drop, get_or, map, refl, sym, ap, ◌∙◌, arith, append_assoc, length-append, add-one}
 use Rattle.std.proofs.Math.Seq.{take-append_seam, drop-append_seam, drop-cons}
-use Rattle.std.proofs.lemmas.List.{length-map, length-take-le, length-drop, map-append, take-append-drop, nil_from_length, reverse-append, reverse-reverse}
-use Rattle.std.specs.Prelude.{reverse}
+use Rattle.std.proofs.lemmas.List.{take_all, length-map, length-take-le, length-drop, map-append, take-append-drop, nil_from_length, reverse-append, reverse-reverse}
+use Rattle.std.proofs.lemmas.List.Elements.{All-head, All-push, All-same, All-tail, All-take}
+use Rattle.std.specs.Prelude.{All, reverse}
 use Rattle.cell_core.specs.Grid.{CellValue}
 use Rattle.cell_formulas.specs.declared.step.Step.{Step}
 use Rattle.cell_calc.specs.declared.strip.Operand.{Operand}
@@ -117,3 +118,45 @@ pub gathered : {V : Type 0} (f : V → List CellValue) (c : ℕ) (rows : List V)
     → column c (map f rows) ≡ reverse cells → column c (map f (reverse rows)) ≡ cells
 gathered f c rows cells is =
     ap (λ l. column c l) (map-reverse f rows) ∙ map-reverse (λ r. at r c) (map f rows) ∙ ap (λ l. reverse l) is ∙ reverse-reverse cells
+
+-- nothing is taken yet
+pub none_taken : {X : Type 0} (old : List X) → old ≡ take (length old - 0) old
+none_taken old = sym (take_all (length old - 0) old (omega arith))
+
+pub none_left : {X : Type 0} (old : List X) → drop (length old - 0) old ≡ []
+none_left old = nil_from_length (drop (length old - 0) old) (omega (arith, length-drop (length old - 0) old))
+
+-- there is one more to take
+pub more_left : {X : Type 0} (old before : List X) (j n : ℕ) → j < n → n ≤ length old → before ≡ take (length old - j) old → 0 < length before
+more_left old before j n lt le is = rw (is, length-take-le (length old - j) old (omega arith)) (omega arith)
+
+pub more_before : {X : Type 0} (n : ℕ) (old new : List X) (a : X) → old ≡ new ++ a ∷ [] → n + 1 < length old → n < length new
+more_before n old new a is lt = omega (arith, ap length is, length-append new (a ∷ []))
+
+-- what holds of all holds of the last one and of those before it
+last_of : {X : Type 0} (P : X → Type 0) (new : List X) (a : X) → All P (new ++ a ∷ []) → P a
+last_of P [] a h = h 0 a (omega arith)
+last_of P (x ∷ new) a h = last_of P new a (All-tail P x (new ++ a ∷ []) h)
+
+pub of_last : {X : Type 0} (P : X → Type 0) (old new : List X) (a : X) → old ≡ new ++ a ∷ [] → All P old → P a
+of_last P old new a is h = last_of P new a (rw is at h)
+
+pub of_front : {X : Type 0} (P : X → Type 0) (old new : List X) (a : X) → old ≡ new ++ a ∷ [] → All P old → All P new
+of_front P old new a is h =
+    let e : take (length new) old ≡ new = rw is (take-append_seam new (a ∷ [])) in
+    rw e at (All-take P (length new) old h)
+
+-- two and three of them
+pub two_last : {X : Type 0} (old before new : List X) (a b : X) → old ≡ before ++ b ∷ [] → before ≡ new ++ a ∷ [] → old ≡ new ++ (a ∷ b ∷ [])
+two_last old before new a b is popped = is ∙ ap (λ l. l ++ b ∷ []) popped ∙ append_assoc new (a ∷ []) (b ∷ [])
+
+pub three_last : {X : Type 0} (old before two new : List X) (a b d : X) → old ≡ before ++ d ∷ [] → before ≡ two ++ b ∷ [] → two ≡ new ++ a ∷ []
+    → old ≡ new ++ (a ∷ b ∷ d ∷ [])
+three_last old before two new a b d is second first =
+    is ∙ ap (λ l. l ++ d ∷ []) (two_last before two new a b second first) ∙ append_assoc new (a ∷ b ∷ []) (d ∷ [])
+
+pub all_reversed : {X : Type 0} (P : X → Type 0) (xs : List X) → All P xs → All P (reverse xs)
+all_reversed P [] h = h
+all_reversed P (x ∷ xs) h =
+    All-same P (reverse (x ∷ xs)) (reverse xs ++ x ∷ []) (reverse-append (x ∷ []) xs)
+    (All-push P (reverse xs) x (all_reversed P xs (All-tail P x xs h)) (All-head P x xs h))
