@@ -1,9 +1,9 @@
 -- Operands that steps take from the end of a list.
-use Rattle.std.proofs.Common.{◌≡◌, ◌<◌, ◌≤◌, ◌+◌, ◌-◌, ℕ, List, [], ◌∷◌, ◌++◌, length, take, drop, get_or, map, refl, sym, ap, ◌∙◌, arith, append_assoc, length-append, add-one}
+use Rattle.std.proofs.Common.{◌≡◌, ◌<◌, ◌≤◌, ◌+◌, ◌-◌, ℕ, List, [], ◌∷◌, ◌++◌, length, take, drop, get_or, map, refl, sym, ap, ◌∙◌, arith, append_assoc, length-append, add-one, Result, Ok, Err}
 use Rattle.std.proofs.Math.Seq.{take-append_seam, drop-append_seam, drop-cons}
 use Rattle.std.proofs.lemmas.List.{take_all, length-map, length-take-le, length-drop, map-append, take-append-drop, nil_from_length, reverse-append, reverse-reverse}
 use Rattle.std.proofs.lemmas.List.Elements.{All-head, All-push, All-same, All-tail, All-take}
-use Rattle.std.specs.Prelude.{All, reverse}
+use Rattle.std.specs.Prelude.{All, OnOk, reverse}
 use Rattle.cell_core.specs.Grid.{CellValue}
 use Rattle.cell_formulas.specs.declared.step.Step.{Step}
 use Rattle.cell_calc.specs.declared.strip.Operand.{Operand}
@@ -160,3 +160,8 @@ all_reversed P [] h = h
 all_reversed P (x ∷ xs) h =
     All-same P (reverse (x ∷ xs)) (reverse xs ++ x ∷ []) (reverse-append (x ∷ []) xs)
     (All-push P (reverse xs) x (all_reversed P xs (All-tail P x xs h)) (All-head P x xs h))
+
+-- what holds in any case holds on success
+pub on_ok : {T E P : Type 0} (r : Result T E) → P → OnOk r P
+on_ok (Ok x) h = h
+on_ok (Err e) h = tt
