@@ -1,8 +1,49 @@
-use Rattle.std.proofs.Common.{◌++◌, [], ◌∷◌, length, ap, ◌∙◌}
+use Rattle.std.proofs.Common.{arith, ◌++◌, [], ◌∷◌, length, ap, ◌∙◌}
 use Rattle.std.proofs.lemmas.List.Elements.{All-same, All-push, All-take}
+use Rattle.std.proofs.lemmas.Result.{IfOk-from_err}
 use Rattle.cell_calc.specs.parts.Operands.{IsReady}
-use Rattle.cell_calc.proofs.Operands.{enough_at, enough_more, step_more, no_steps, only_one, end_value}
+use Rattle.cell_calc.proofs.Operands.{enough_at, enough_more, step_more, no_steps, only_one, end_value, of_last}
 use Rattle.cell_calc.proofs.along.along.Goals as goal
+
+pub made-requires-clause-strip : goal.made-requires-clause-strip
+made-requires-clause-strip c = c.requires.strip
+
+pub made-requires-clause-ready : goal.made-requires-clause-ready
+made-requires-clause-ready c = c.loop-step.invariant.ready
+
+pub row_of-requires-clause-strip : goal.row_of-requires-clause-strip
+row_of-requires-clause-strip c = c.requires.strip
+
+pub row_of-requires-clause-ready : goal.row_of-requires-clause-ready
+row_of-requires-clause-ready c =
+    of_last (IsReady c.args.windows.now c.args.strip.now) c.loop-step.operands.items c.popped-last.new.operands.items c.popped-last.result c.popped-last.ensures c.loop-step.invariant.ready
+
+pub returns-in_err-operand-clause-width : goal.returns-in_err-operand-clause-width
+returns-in_err-operand-clause-width c = IfOk-from_err c.from_residual.result _ c.from_residual.ensures.0
+
+pub returns-in_err-operand-clause-each : goal.returns-in_err-operand-clause-each
+returns-in_err-operand-clause-each c = IfOk-from_err c.from_residual.result _ c.from_residual.ensures.0
+
+pub returns-in_err-push-clause-width : goal.returns-in_err-push-clause-width
+returns-in_err-push-clause-width c = IfOk-from_err c.from_residual-in_err-push.result _ c.from_residual-in_err-push.ensures.0
+
+pub returns-in_err-push-clause-each : goal.returns-in_err-push-clause-each
+returns-in_err-push-clause-each c = IfOk-from_err c.from_residual-in_err-push.result _ c.from_residual-in_err-push.ensures.0
+
+pub returns-in_err-row-clause-width : goal.returns-in_err-row-clause-width
+returns-in_err-row-clause-width c = IfOk-from_err c.from_residual-in_err-row.result _ c.from_residual-in_err-row.ensures.0
+
+pub returns-in_err-row-clause-each : goal.returns-in_err-row-clause-each
+returns-in_err-row-clause-each c = IfOk-from_err c.from_residual-in_err-row.result _ c.from_residual-in_err-row.ensures.0
+
+pub popped-last-requires : goal.popped-last-requires
+popped-last-requires c =
+    let none = no_steps c.args.steps.now c.loop-step.step-index c.loop-step-test.false in
+    let one = rw none at c.loop-step.invariant.enough in
+    omega (arith, one)
+
+pub returns-clause-width : goal.returns-clause-width
+returns-clause-width c = c.in_ok-row.ensures.width
 
 pub loop-step-preserved : goal.loop-step-preserved
 loop-step-preserved c =
