@@ -1,8 +1,47 @@
-use Rattle.std.proofs.Common.{rules, arith, ◌≡◌, ◌<◌, ◌+◌, ◌+ℤ◌, pos, length, ap, ◌∙◌, None, w32, FitsSigned}
+use Rattle.std.proofs.Common.{rules, arith, ◌≡◌, ◌<◌, ◌+◌, ◌+ℤ◌, pos, length, ap, ◌∙◌, None, refl, w32, FitsSigned}
 use Rattle.std.proofs.lemmas.Int.{to_z-of_z}
+use Rattle.std.proofs.lemmas.Result.{IfOk-from_err}
 use Rattle.cell_operations.specs.Offsets.{item_at}
-use Rattle.cell_calc.proofs.Written.{at_written}
+use Rattle.cell_calc.proofs.Written.{at_written, changed_width}
 use Rattle.cell_calc.proofs.operand.row_of.Goals as goal
+
+pub returns-in_err-row-in-Number-clause-width : goal.returns-in_err-row-in-Number-clause-width
+returns-in_err-row-in-Number-clause-width c = IfOk-from_err c.from_residual.result _ c.from_residual.ensures.0
+
+pub returns-in_err-row-in-Number-clause-each : goal.returns-in_err-row-in-Number-clause-each
+returns-in_err-row-in-Number-clause-each c = IfOk-from_err c.from_residual.result _ c.from_residual.ensures.0
+
+pub returns-in_err-row-in-Map-clause-width : goal.returns-in_err-row-in-Map-clause-width
+returns-in_err-row-in-Map-clause-width c = IfOk-from_err c.from_residual-in_err-row-in-Map.result _ c.from_residual-in_err-row-in-Map.ensures.0
+
+pub returns-in_err-row-in-Map-clause-each : goal.returns-in_err-row-in-Map-clause-each
+returns-in_err-row-in-Map-clause-each c = IfOk-from_err c.from_residual-in_err-row-in-Map.result _ c.from_residual-in_err-row-in-Map.ensures.0
+
+pub window_row-source-requires : goal.window_row-source-requires
+window_row-source-requires c =
+    let fits : FitsSigned w32 c.in-Map.down = search rules in
+    let ready = rw c.in-Map.is at c.requires.ready in
+    rw (to_z-of_z w32 c.in-Map.down fits) ready
+
+pub returns-in-Row-clause-width : goal.returns-in-Row-clause-width
+returns-in-Row-clause-width c = rw c.in-Row.is at c.requires.ready
+
+pub returns-in-Row-clause-each : goal.returns-in-Row-clause-each
+returns-in-Row-clause-each c = rw c.in-Row.is (λ k h. refl)
+
+pub returns-in_ok-row-in-Number-clause-width : goal.returns-in_ok-row-in-Number-clause-width
+returns-in_ok-row-in-Number-clause-width c =
+    let row = c.in_ok-row-in-Number.row in
+    let all : row.len ≡ length row.items = search rules in
+    changed_width row.len c.args.strip.now.width row.items c.as_mut_slice.result.now c.fill.new.row all
+    c.as_mut_slice.ensures.value c.fill.ensures.width c.in_ok-row-in-Number.ensures
+
+pub returns-in_ok-row-in-Map-clause-width : goal.returns-in_ok-row-in-Map-clause-width
+returns-in_ok-row-in-Map-clause-width c =
+    let row = c.in_ok-row-in-Map.row in
+    let all : row.len ≡ length row.items = search rules in
+    changed_width row.len c.args.strip.now.width row.items c.as_mut_slice-in-Map.result.now c.shift.new.row all
+    c.as_mut_slice-in-Map.ensures.value c.shift.ensures.width c.in_ok-row-in-Map.ensures
 
 pub returns-in_ok-row-in-Number-clause-each : goal.returns-in_ok-row-in-Number-clause-each
 returns-in_ok-row-in-Number-clause-each c =
