@@ -15,7 +15,8 @@ row_of-requires-clause-strip c = c.requires.strip
 
 pub row_of-requires-clause-ready : goal.row_of-requires-clause-ready
 row_of-requires-clause-ready c =
-    of_last (IsReady c.args.windows.now c.args.strip.now) c.args.operands.now.items c.popped.new.operands.items c.popped.result c.popped.ensures c.requires.ready
+    of_last (IsReady c.args.windows.now c.args.strip.now) c.args.operands.now.items c.popped.new.operands.items c.popped.result c.popped.ensures
+    c.requires.ready
 
 pub returns-in_err-row-in-If-eq1-clause-rest : goal.returns-in_err-row-in-If-eq1-clause-rest
 returns-in_err-row-in-If-eq1-clause-rest c = IfOk-from_err c.from_residual.result _ c.from_residual.ensures.0
@@ -34,15 +35,18 @@ pub returns-in_ok-row-in-If-eq1-clause-width : goal.returns-in_ok-row-in-If-eq1-
 returns-in_ok-row-in-If-eq1-clause-width c =
     let row = c.in_ok-row-in-If-eq1.row in
     let all : row.len ≡ length row.items = search rules in
-    changed_width row.len c.args.strip.now.width row.items c.as_mut_slice.result.now c.truth.new.row all c.as_mut_slice.ensures.value c.truth.ensures.width c.in_ok-row-in-If-eq1.ensures.width
+    changed_width row.len c.args.strip.now.width row.items c.as_mut_slice.result.now c.truth.new.row all c.as_mut_slice.ensures.value
+    c.truth.ensures.width c.in_ok-row-in-If-eq1.ensures.width
 
 pub returns-in_ok-row-in-If-eq1-clause-each : goal.returns-in_ok-row-in-If-eq1-clause-each
 returns-in_ok-row-in-If-eq1-clause-each c =
     let row = c.in_ok-row-in-If-eq1.row in
     let all : row.len ≡ length row.items = search rules in
     let last = back_is c.args.operands.now.items c.popped.new.operands.items (c.popped.result ∷ []) 1 c.popped.ensures refl in
-    rw (c.in-If-eq1.is-0, c.in-If-eq1.is-1, ← last) (λ k h. changed (λ v. chosen v (Some (pos 1)) (Some (pos 0))) row.len c.args.strip.now.width k row.items c.as_mut_slice.result.now c.truth.new.row
-    (operand_at c.args.windows.now c.args.strip.now k c.popped.result) all c.as_mut_slice.ensures.value c.truth.ensures.width c.truth.ensures.each c.in_ok-row-in-If-eq1.ensures.width h (c.in_ok-row-in-If-eq1.ensures.each k h))
+    rw (c.in-If-eq1.is-0, c.in-If-eq1.is-1, ← last) (λ k h. changed (λ v. chosen v (Some (pos 1)) (Some (pos 0))) row.len c.args.strip.now.width k
+    row.items c.as_mut_slice.result.now c.truth.new.row
+    (operand_at c.args.windows.now c.args.strip.now k c.popped.result) all c.as_mut_slice.ensures.value c.truth.ensures.width c.truth.ensures.each
+    c.in_ok-row-in-If-eq1.ensures.width h (c.in_ok-row-in-If-eq1.ensures.each k h))
 
 pub popped-requires-in-IsNull-eq1 : goal.popped-requires-in-IsNull-eq1
 popped-requires-in-IsNull-eq1 c = rw c.in-IsNull-eq1.is-1 at c.requires.enough
@@ -52,34 +56,43 @@ row_of-requires-in-IsNull-eq1-clause-strip c = c.requires.strip
 
 pub row_of-requires-in-IsNull-eq1-clause-ready : goal.row_of-requires-in-IsNull-eq1-clause-ready
 row_of-requires-in-IsNull-eq1-clause-ready c =
-    of_last (IsReady c.args.windows.now c.args.strip.now) c.args.operands.now.items c.popped-in-IsNull-eq1.new.operands.items c.popped-in-IsNull-eq1.result c.popped-in-IsNull-eq1.ensures c.requires.ready
+    of_last (IsReady c.args.windows.now c.args.strip.now) c.args.operands.now.items c.popped-in-IsNull-eq1.new.operands.items
+    c.popped-in-IsNull-eq1.result c.popped-in-IsNull-eq1.ensures c.requires.ready
 
 pub returns-in_err-row-in-IsNull-eq1-clause-rest : goal.returns-in_err-row-in-IsNull-eq1-clause-rest
-returns-in_err-row-in-IsNull-eq1-clause-rest c = IfOk-from_err c.from_residual-in_err-row-in-IsNull-eq1.result _ c.from_residual-in_err-row-in-IsNull-eq1.ensures.0
+returns-in_err-row-in-IsNull-eq1-clause-rest c = IfOk-from_err c.from_residual-in_err-row-in-IsNull-eq1.result _
+    c.from_residual-in_err-row-in-IsNull-eq1.ensures.0
 
 pub returns-in_err-row-in-IsNull-eq1-clause-width : goal.returns-in_err-row-in-IsNull-eq1-clause-width
-returns-in_err-row-in-IsNull-eq1-clause-width c = IfOk-from_err c.from_residual-in_err-row-in-IsNull-eq1.result _ c.from_residual-in_err-row-in-IsNull-eq1.ensures.0
+returns-in_err-row-in-IsNull-eq1-clause-width c = IfOk-from_err c.from_residual-in_err-row-in-IsNull-eq1.result _
+    c.from_residual-in_err-row-in-IsNull-eq1.ensures.0
 
 pub returns-in_err-row-in-IsNull-eq1-clause-each : goal.returns-in_err-row-in-IsNull-eq1-clause-each
-returns-in_err-row-in-IsNull-eq1-clause-each c = IfOk-from_err c.from_residual-in_err-row-in-IsNull-eq1.result _ c.from_residual-in_err-row-in-IsNull-eq1.ensures.0
+returns-in_err-row-in-IsNull-eq1-clause-each c = IfOk-from_err c.from_residual-in_err-row-in-IsNull-eq1.result _
+    c.from_residual-in_err-row-in-IsNull-eq1.ensures.0
 
 pub returns-in_ok-row-in-IsNull-eq1-clause-rest : goal.returns-in_ok-row-in-IsNull-eq1-clause-rest
 returns-in_ok-row-in-IsNull-eq1-clause-rest c =
-    rw c.in-IsNull-eq1.is-1 (front_is c.args.operands.now.items c.popped-in-IsNull-eq1.new.operands.items (c.popped-in-IsNull-eq1.result ∷ []) 1 c.popped-in-IsNull-eq1.ensures refl)
+    rw c.in-IsNull-eq1.is-1 (front_is c.args.operands.now.items c.popped-in-IsNull-eq1.new.operands.items (c.popped-in-IsNull-eq1.result ∷ []) 1
+    c.popped-in-IsNull-eq1.ensures refl)
 
 pub returns-in_ok-row-in-IsNull-eq1-clause-width : goal.returns-in_ok-row-in-IsNull-eq1-clause-width
 returns-in_ok-row-in-IsNull-eq1-clause-width c =
     let row = c.in_ok-row-in-IsNull-eq1.row in
     let all : row.len ≡ length row.items = search rules in
-    changed_width row.len c.args.strip.now.width row.items c.as_mut_slice-in-IsNull-eq1.result.now c.nullness.new.row all c.as_mut_slice-in-IsNull-eq1.ensures.value c.nullness.ensures.width c.in_ok-row-in-IsNull-eq1.ensures.width
+    changed_width row.len c.args.strip.now.width row.items c.as_mut_slice-in-IsNull-eq1.result.now c.nullness.new.row all
+    c.as_mut_slice-in-IsNull-eq1.ensures.value c.nullness.ensures.width c.in_ok-row-in-IsNull-eq1.ensures.width
 
 pub returns-in_ok-row-in-IsNull-eq1-clause-each : goal.returns-in_ok-row-in-IsNull-eq1-clause-each
 returns-in_ok-row-in-IsNull-eq1-clause-each c =
     let row = c.in_ok-row-in-IsNull-eq1.row in
     let all : row.len ≡ length row.items = search rules in
-    let last = back_is c.args.operands.now.items c.popped-in-IsNull-eq1.new.operands.items (c.popped-in-IsNull-eq1.result ∷ []) 1 c.popped-in-IsNull-eq1.ensures refl in
-    rw (c.in-IsNull-eq1.is-0, c.in-IsNull-eq1.is-1, ← last) (λ k h. changed (λ v. truth (is_null v)) row.len c.args.strip.now.width k row.items c.as_mut_slice-in-IsNull-eq1.result.now c.nullness.new.row
-    (operand_at c.args.windows.now c.args.strip.now k c.popped-in-IsNull-eq1.result) all c.as_mut_slice-in-IsNull-eq1.ensures.value c.nullness.ensures.width c.nullness.ensures.each c.in_ok-row-in-IsNull-eq1.ensures.width h (c.in_ok-row-in-IsNull-eq1.ensures.each k h))
+    let last = back_is c.args.operands.now.items c.popped-in-IsNull-eq1.new.operands.items (c.popped-in-IsNull-eq1.result ∷ []) 1
+    c.popped-in-IsNull-eq1.ensures refl in
+    rw (c.in-IsNull-eq1.is-0, c.in-IsNull-eq1.is-1, ← last) (λ k h. changed (λ v. truth (is_null v)) row.len c.args.strip.now.width k row.items
+    c.as_mut_slice-in-IsNull-eq1.result.now c.nullness.new.row
+    (operand_at c.args.windows.now c.args.strip.now k c.popped-in-IsNull-eq1.result) all c.as_mut_slice-in-IsNull-eq1.ensures.value
+    c.nullness.ensures.width c.nullness.ensures.each c.in_ok-row-in-IsNull-eq1.ensures.width h (c.in_ok-row-in-IsNull-eq1.ensures.each k h))
 
 pub popped-requires-in-Abs-eq1 : goal.popped-requires-in-Abs-eq1
 popped-requires-in-Abs-eq1 c = rw c.in-Abs-eq1.is-1 at c.requires.enough
@@ -89,7 +102,8 @@ row_of-requires-in-Abs-eq1-clause-strip c = c.requires.strip
 
 pub row_of-requires-in-Abs-eq1-clause-ready : goal.row_of-requires-in-Abs-eq1-clause-ready
 row_of-requires-in-Abs-eq1-clause-ready c =
-    of_last (IsReady c.args.windows.now c.args.strip.now) c.args.operands.now.items c.popped-in-Abs-eq1.new.operands.items c.popped-in-Abs-eq1.result c.popped-in-Abs-eq1.ensures c.requires.ready
+    of_last (IsReady c.args.windows.now c.args.strip.now) c.args.operands.now.items c.popped-in-Abs-eq1.new.operands.items c.popped-in-Abs-eq1.result
+    c.popped-in-Abs-eq1.ensures c.requires.ready
 
 pub returns-in_err-row-in-Abs-eq1-clause-rest : goal.returns-in_err-row-in-Abs-eq1-clause-rest
 returns-in_err-row-in-Abs-eq1-clause-rest c = IfOk-from_err c.from_residual-in_err-row-in-Abs-eq1.result _ c.from_residual-in_err-row-in-Abs-eq1.ensures.0
@@ -102,21 +116,26 @@ returns-in_err-row-in-Abs-eq1-clause-each c = IfOk-from_err c.from_residual-in_e
 
 pub returns-in_ok-row-in-Abs-eq1-clause-rest : goal.returns-in_ok-row-in-Abs-eq1-clause-rest
 returns-in_ok-row-in-Abs-eq1-clause-rest c =
-    rw c.in-Abs-eq1.is-1 (front_is c.args.operands.now.items c.popped-in-Abs-eq1.new.operands.items (c.popped-in-Abs-eq1.result ∷ []) 1 c.popped-in-Abs-eq1.ensures refl)
+    rw c.in-Abs-eq1.is-1 (front_is c.args.operands.now.items c.popped-in-Abs-eq1.new.operands.items (c.popped-in-Abs-eq1.result ∷ []) 1
+    c.popped-in-Abs-eq1.ensures refl)
 
 pub returns-in_ok-row-in-Abs-eq1-clause-width : goal.returns-in_ok-row-in-Abs-eq1-clause-width
 returns-in_ok-row-in-Abs-eq1-clause-width c =
     let row = c.in_ok-row-in-Abs-eq1.row in
     let all : row.len ≡ length row.items = search rules in
-    changed_width row.len c.args.strip.now.width row.items c.as_mut_slice-in-Abs-eq1.result.now c.size.new.row all c.as_mut_slice-in-Abs-eq1.ensures.value c.size.ensures.width c.in_ok-row-in-Abs-eq1.ensures.width
+    changed_width row.len c.args.strip.now.width row.items c.as_mut_slice-in-Abs-eq1.result.now c.size.new.row all
+    c.as_mut_slice-in-Abs-eq1.ensures.value c.size.ensures.width c.in_ok-row-in-Abs-eq1.ensures.width
 
 pub returns-in_ok-row-in-Abs-eq1-clause-each : goal.returns-in_ok-row-in-Abs-eq1-clause-each
 returns-in_ok-row-in-Abs-eq1-clause-each c =
     let row = c.in_ok-row-in-Abs-eq1.row in
     let all : row.len ≡ length row.items = search rules in
-    let last = back_is c.args.operands.now.items c.popped-in-Abs-eq1.new.operands.items (c.popped-in-Abs-eq1.result ∷ []) 1 c.popped-in-Abs-eq1.ensures refl in
-    rw (c.in-Abs-eq1.is-0, c.in-Abs-eq1.is-1, ← last) (λ k h. changed (λ v. size_of v) row.len c.args.strip.now.width k row.items c.as_mut_slice-in-Abs-eq1.result.now c.size.new.row
-    (operand_at c.args.windows.now c.args.strip.now k c.popped-in-Abs-eq1.result) all c.as_mut_slice-in-Abs-eq1.ensures.value c.size.ensures.width c.size.ensures.each c.in_ok-row-in-Abs-eq1.ensures.width h (c.in_ok-row-in-Abs-eq1.ensures.each k h))
+    let last = back_is c.args.operands.now.items c.popped-in-Abs-eq1.new.operands.items (c.popped-in-Abs-eq1.result ∷ []) 1
+    c.popped-in-Abs-eq1.ensures refl in
+    rw (c.in-Abs-eq1.is-0, c.in-Abs-eq1.is-1, ← last) (λ k h. changed (λ v. size_of v) row.len c.args.strip.now.width k row.items
+    c.as_mut_slice-in-Abs-eq1.result.now c.size.new.row
+    (operand_at c.args.windows.now c.args.strip.now k c.popped-in-Abs-eq1.result) all c.as_mut_slice-in-Abs-eq1.ensures.value c.size.ensures.width
+    c.size.ensures.each c.in_ok-row-in-Abs-eq1.ensures.width h (c.in_ok-row-in-Abs-eq1.ensures.each k h))
 
 pub popped-no-requires : goal.popped-no-requires
 popped-no-requires c =
@@ -139,7 +158,8 @@ chosen-requires-clause-strip c = c.requires.strip
 
 pub chosen-requires-clause-no : goal.chosen-requires-clause-no
 chosen-requires-clause-no c =
-    of_last (IsReady c.args.windows.now c.args.strip.now) c.args.operands.now.items c.popped-no.new.operands.items c.popped-no.result c.popped-no.ensures c.requires.ready
+    of_last (IsReady c.args.windows.now c.args.strip.now) c.args.operands.now.items c.popped-no.new.operands.items c.popped-no.result
+    c.popped-no.ensures c.requires.ready
 
 pub chosen-requires-clause-yes : goal.chosen-requires-clause-yes
 chosen-requires-clause-yes c =
@@ -157,7 +177,8 @@ chosen-requires-clause-condition c =
 pub returns-in-If-eq3-clause-rest : goal.returns-in-If-eq3-clause-rest
 returns-in-If-eq3-clause-rest c =
     let last = c.popped-condition.result ∷ c.popped-yes.result ∷ c.popped-no.result ∷ [] in
-    let three = three_last c.args.operands.now.items c.popped-no.new.operands.items c.popped-yes.new.operands.items c.popped-condition.new.operands.items c.popped-condition.result c.popped-yes.result c.popped-no.result
+    let three = three_last c.args.operands.now.items c.popped-no.new.operands.items c.popped-yes.new.operands.items
+    c.popped-condition.new.operands.items c.popped-condition.result c.popped-yes.result c.popped-no.result
     c.popped-no.ensures c.popped-yes.ensures c.popped-condition.ensures in
     rw c.in-If-eq3.is-1 (on_ok c.chosen.result (front_is c.args.operands.now.items c.popped-condition.new.operands.items last 3 three refl))
 
@@ -167,7 +188,8 @@ returns-in-If-eq3-clause-width c = c.chosen.ensures.width
 pub returns-in-If-eq3-clause-each : goal.returns-in-If-eq3-clause-each
 returns-in-If-eq3-clause-each c =
     let last = c.popped-condition.result ∷ c.popped-yes.result ∷ c.popped-no.result ∷ [] in
-    let three = three_last c.args.operands.now.items c.popped-no.new.operands.items c.popped-yes.new.operands.items c.popped-condition.new.operands.items c.popped-condition.result c.popped-yes.result c.popped-no.result
+    let three = three_last c.args.operands.now.items c.popped-no.new.operands.items c.popped-yes.new.operands.items
+    c.popped-condition.new.operands.items c.popped-condition.result c.popped-yes.result c.popped-no.result
     c.popped-no.ensures c.popped-yes.ensures c.popped-condition.ensures in
     let back = back_is c.args.operands.now.items c.popped-condition.new.operands.items last 3 three refl in
     rw (c.in-If-eq3.is-0, c.in-If-eq3.is-1, ← back) c.chosen.ensures.each

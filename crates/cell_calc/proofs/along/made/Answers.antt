@@ -15,7 +15,8 @@ row_of-requires-clause-strip c = c.requires.strip
 
 pub row_of-requires-clause-ready : goal.row_of-requires-clause-ready
 row_of-requires-clause-ready c =
-    of_last (IsReady c.args.windows.now c.args.strip.now) c.args.operands.now.items c.popped.new.operands.items c.popped.result c.popped.ensures c.requires.ready
+    of_last (IsReady c.args.windows.now c.args.strip.now) c.args.operands.now.items c.popped.new.operands.items c.popped.result c.popped.ensures
+    c.requires.ready
 
 pub returns-in_err-row-in-Negated-clause-rest : goal.returns-in_err-row-in-Negated-clause-rest
 returns-in_err-row-in-Negated-clause-rest c = IfOk-from_err c.from_residual.result _ c.from_residual.ensures.0
@@ -34,7 +35,8 @@ pub returns-in_ok-row-in-Negated-clause-ready : goal.returns-in_ok-row-in-Negate
 returns-in_ok-row-in-Negated-clause-ready c =
     let row = c.in_ok-row-in-Negated.row in
     let all : row.len ≡ length row.items = search rules in
-    changed_width row.len c.args.strip.now.width row.items c.as_mut_slice.result.now c.negate.new.row all c.as_mut_slice.ensures.value c.negate.ensures.width c.in_ok-row-in-Negated.ensures.width
+    changed_width row.len c.args.strip.now.width row.items c.as_mut_slice.result.now c.negate.new.row all c.as_mut_slice.ensures.value
+    c.negate.ensures.width c.in_ok-row-in-Negated.ensures.width
 
 pub returns-in_ok-row-in-Negated-clause-each : goal.returns-in_ok-row-in-Negated-clause-each
 returns-in_ok-row-in-Negated-clause-each c =
@@ -42,7 +44,8 @@ returns-in_ok-row-in-Negated-clause-each c =
     let all : row.len ≡ length row.items = search rules in
     let last = back_is c.args.operands.now.items c.popped.new.operands.items (c.popped.result ∷ []) 1 c.popped.ensures refl in
     rw (c.in-Negated.is, ← last) (λ k h. changed (λ v. negated v) row.len c.args.strip.now.width k row.items c.as_mut_slice.result.now c.negate.new.row
-    (operand_at c.args.windows.now c.args.strip.now k c.popped.result) all c.as_mut_slice.ensures.value c.negate.ensures.width c.negate.ensures.each c.in_ok-row-in-Negated.ensures.width h (c.in_ok-row-in-Negated.ensures.each k h))
+    (operand_at c.args.windows.now c.args.strip.now k c.popped.result) all c.as_mut_slice.ensures.value c.negate.ensures.width c.negate.ensures.each
+    c.in_ok-row-in-Negated.ensures.width h (c.in_ok-row-in-Negated.ensures.each k h))
 
 pub popped-requires-in-Not : goal.popped-requires-in-Not
 popped-requires-in-Not c = rw c.in-Not.is at c.requires.enough
@@ -52,7 +55,8 @@ row_of-requires-in-Not-clause-strip c = c.requires.strip
 
 pub row_of-requires-in-Not-clause-ready : goal.row_of-requires-in-Not-clause-ready
 row_of-requires-in-Not-clause-ready c =
-    of_last (IsReady c.args.windows.now c.args.strip.now) c.args.operands.now.items c.popped-in-Not.new.operands.items c.popped-in-Not.result c.popped-in-Not.ensures c.requires.ready
+    of_last (IsReady c.args.windows.now c.args.strip.now) c.args.operands.now.items c.popped-in-Not.new.operands.items c.popped-in-Not.result
+    c.popped-in-Not.ensures c.requires.ready
 
 pub returns-in_err-row-in-Not-clause-rest : goal.returns-in_err-row-in-Not-clause-rest
 returns-in_err-row-in-Not-clause-rest c = IfOk-from_err c.from_residual-in_err-row-in-Not.result _ c.from_residual-in_err-row-in-Not.ensures.0
@@ -71,7 +75,8 @@ pub returns-in_ok-row-in-Not-clause-ready : goal.returns-in_ok-row-in-Not-clause
 returns-in_ok-row-in-Not-clause-ready c =
     let row = c.in_ok-row-in-Not.row in
     let all : row.len ≡ length row.items = search rules in
-    changed_width row.len c.args.strip.now.width row.items c.as_mut_slice-in-Not.result.now c.invert.new.row all c.as_mut_slice-in-Not.ensures.value c.invert.ensures.width c.in_ok-row-in-Not.ensures.width
+    changed_width row.len c.args.strip.now.width row.items c.as_mut_slice-in-Not.result.now c.invert.new.row all c.as_mut_slice-in-Not.ensures.value
+    c.invert.ensures.width c.in_ok-row-in-Not.ensures.width
 
 pub returns-in_ok-row-in-Not-clause-each : goal.returns-in_ok-row-in-Not-clause-each
 returns-in_ok-row-in-Not-clause-each c =
@@ -79,14 +84,16 @@ returns-in_ok-row-in-Not-clause-each c =
     let all : row.len ≡ length row.items = search rules in
     let last = back_is c.args.operands.now.items c.popped-in-Not.new.operands.items (c.popped-in-Not.result ∷ []) 1 c.popped-in-Not.ensures refl in
     rw (c.in-Not.is, ← last) (λ k h. changed (λ v. inverted v) row.len c.args.strip.now.width k row.items c.as_mut_slice-in-Not.result.now c.invert.new.row
-    (operand_at c.args.windows.now c.args.strip.now k c.popped-in-Not.result) all c.as_mut_slice-in-Not.ensures.value c.invert.ensures.width c.invert.ensures.each c.in_ok-row-in-Not.ensures.width h (c.in_ok-row-in-Not.ensures.each k h))
+    (operand_at c.args.windows.now c.args.strip.now k c.popped-in-Not.result) all c.as_mut_slice-in-Not.ensures.value c.invert.ensures.width
+    c.invert.ensures.each c.in_ok-row-in-Not.ensures.width h (c.in_ok-row-in-Not.ensures.each k h))
 
 pub popped-right-requires : goal.popped-right-requires
 popped-right-requires c = let h = rw c.in-Binary.is at c.requires.enough in omega (arith, h)
 
 pub popped-left-requires : goal.popped-left-requires
 popped-left-requires c =
-    more_before 0 c.args.operands.now.items c.popped-right.new.operands.items c.popped-right.result c.popped-right.ensures (rw c.in-Binary.is at c.requires.enough)
+    more_before 0 c.args.operands.now.items c.popped-right.new.operands.items c.popped-right.result c.popped-right.ensures (rw c.in-Binary.is at
+    c.requires.enough)
 
 pub joined-requires-clause-strip : goal.joined-requires-clause-strip
 joined-requires-clause-strip c = c.requires.strip
@@ -100,7 +107,8 @@ joined-requires-clause-left c =
 
 pub joined-requires-clause-right : goal.joined-requires-clause-right
 joined-requires-clause-right c =
-    of_last (IsReady c.args.windows.now c.args.strip.now) c.args.operands.now.items c.popped-right.new.operands.items c.popped-right.result c.popped-right.ensures c.requires.ready
+    of_last (IsReady c.args.windows.now c.args.strip.now) c.args.operands.now.items c.popped-right.new.operands.items c.popped-right.result
+    c.popped-right.ensures c.requires.ready
 
 pub returns-in_err-row-in-Binary-clause-rest : goal.returns-in_err-row-in-Binary-clause-rest
 returns-in_err-row-in-Binary-clause-rest c = IfOk-from_err c.from_residual-in_err-row-in-Binary.result _ c.from_residual-in_err-row-in-Binary.ensures.0
