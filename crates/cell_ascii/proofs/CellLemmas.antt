@@ -1,15 +1,19 @@
 -- The next cell, and n of them, one after another.
-use Rattle.std.proofs.Common.{◌≡◌, ℕ, suc, [], ◌∷◌, ◌++◌, append_assoc, ◌+◌, ◌-◌, ◌<◌, arith, List, Option, Some, None, Result, Ok, Err, refl, ap, sym, ◌∙◌}
+use Rattle.std.proofs.Common.{◌≡◌, ℕ, suc, [], ◌∷◌, ◌++◌, append_assoc, ◌+◌, ◌-◌, ◌<◌, arith, List, Option, Some, None, Result, Ok, Err, Bool, true, false, ℤ, ◌*ℤ◌, if◌then◌else◌, bytes_eq, refl, ap, sym, ◌∙◌}
 use Rattle.std.specs.Option.{option_map}
+use Rattle.std.specs.Result.{IfErr}
 use Rattle.cell_devices.specs.Device.{Coming}
 use Rattle.cell_core.specs.Grid.{CellValue}
 use Rattle.cell_scanner.specs.Ahead.{Ahead}
 use Rattle.cell_ascii_text.specs.Words.{Start, Begins, Ends, Stops, start_of, word_from}
 use Rattle.cell_ascii_text.specs.Header.{◌>>=◌, At, Header, at_line}
-use Rattle.cell_ascii_text.specs.Cells.{Reading, after_start, after_word, after_cell, cell_from, cell_of_word, at_of, many}
+use Rattle.cell_ascii_text.specs.Cells.{Reading, after_start, after_word, after_cell, cell_from, cell_of_number, cell_of_word, at_of, many}
+use Rattle.cell_ascii_text.specs.Kinds.{IsOfText}
+use Rattle.cell_ascii_text.specs.Numbers.{whole_number, is_in_range}
 use Rattle.cell_ascii.specs.Reader.{Place, token_of, token_seen, reading_seen}
 use Rattle.cell_ascii_text.specs.declared.fault.GridFault.{GridFault}
 use Rattle.cell_ascii_text.specs.declared.fault.GridKind.{GridKind}
+use Rattle.cell_ascii_text.specs.declared.fault.GridKind.TheVariants.{CellRange}
 use Rattle.cell_ascii_header.proofs.MapLemmas.{then_map, map_same}
 
 -- where a cell leaves a reader
@@ -61,6 +65,23 @@ pub cell_fails : (h : Header) (line run : ℕ) (a b : Option Coming) (l : ℕ) (
     → option_map (λ c. token_of (start_of line run c)) a ≡ option_map (token_seen (Err f) l word) b
     → option_map (λ c. cell_from h (at_of line run c)) a ≡ option_map (λ c. Err f) b
 cell_fails h line run a b l word f read = token_cell h line run a b (Err f) l word read
+
+number_faults : (line : ℕ) (m : ℤ) (n : Option ℤ) → IfErr (at_line line (cell_of_number m n)) (λ f. IsOfText f.kind)
+number_faults line m None = tt
+number_faults line m (Some n) = by (is_in_range n) (is_in_range (n *ℤ m))
+  where
+    by : (low high : Bool) → IfErr (at_line line (if low then (if high then Ok (Some (n *ℤ m)) else Err CellRange) else Err CellRange)) (λ f. IsOfText f.kind)
+    by true true = tt
+    by true false = tt
+    by false high = tt
+
+-- what is wrong with a word is a fault of the text
+pub cell_faults : (h : Header) (word : List ℕ) (line : ℕ) → IfErr (at_line line (cell_of_word h word)) (λ f. IsOfText f.kind)
+cell_faults h word line = by (bytes_eq word h.null_text)
+  where
+    by : (null : Bool) → IfErr (at_line line (if null then Ok None else cell_of_number h.multiplier (whole_number word))) (λ f. IsOfText f.kind)
+    by true = tt
+    by false = number_faults line h.multiplier (whole_number word)
 
 -- what was read so far stands in front
 abbrev pub with_front : {X : Type 0} → List X → Reading (List X) → Reading (List X)

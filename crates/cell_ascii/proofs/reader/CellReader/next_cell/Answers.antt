@@ -1,6 +1,7 @@
+use Rattle.std.proofs.Common.{ap, arith}
 use Rattle.std.proofs.lemmas.Result.{err_from_is_err_and}
 use Rattle.cell_scanner.specs.Ahead.{to_come}
-use Rattle.cell_ascii.proofs.CellLemmas.{cell_pending, cell_read, cell_fails}
+use Rattle.cell_ascii.proofs.CellLemmas.{cell_pending, cell_read, cell_fails, cell_faults}
 use Rattle.cell_ascii.proofs.reader.CellReader.next_cell.Goals as goal
 
 pub returns-then-self-clause-cell : goal.returns-then-self-clause-cell
@@ -23,3 +24,47 @@ returns-clause-cell g c =
     let t = c.read_token.new.scanner in
     rw (← c.self.view_is, c.if-self.false, c.cell_here-2.ensures, c.in_ok-read_token.ensures.none)
     (cell_read c.self.inside.header s.line s.run (to_come s.ahead) (to_come t.ahead) t.line t.word t.ahead c.in_ok-read_token.ensures.token)
+
+pub invariant_of-self : goal.invariant_of-self
+invariant_of-self g c = rw c.end_run.ensures (omega arith)
+
+pub returns-then-self-clause-header : goal.returns-then-self-clause-header
+returns-then-self-clause-header g c = ap (λ p. p.header) c.self.view_is
+
+pub returns-then-self-clause-lines : goal.returns-then-self-clause-lines
+returns-then-self-clause-lines g c = rw (← c.self.view_is, c.end_run.ensures) (omega arith)
+
+pub returns-then-self-clause-kind : goal.returns-then-self-clause-kind
+returns-then-self-clause-kind g c = rw c.cell_here.ensures (cell_faults c.self.inside.header c.end_run.new.self.word c.end_run.new.self.line)
+
+pub read_token-requires-clause-room : goal.read_token-requires-clause-room
+read_token-requires-clause-room g c = rw (← c.self.view_is) at c.requires.room
+
+pub read_token-requires-clause-run : goal.read_token-requires-clause-run
+read_token-requires-clause-run g c = c.self.invariant
+
+pub invariant_of-self-in_err-read_token : goal.invariant_of-self-in_err-read_token
+invariant_of-self-in_err-read_token g c = c.in_err-read_token.ensures.run
+
+pub returns-in_err-read_token-clause-header : goal.returns-in_err-read_token-clause-header
+returns-in_err-read_token-clause-header g c = ap (λ p. p.header) c.self.view_is
+
+pub returns-in_err-read_token-clause-lines : goal.returns-in_err-read_token-clause-lines
+returns-in_err-read_token-clause-lines g c = rw (← c.self.view_is) c.in_err-read_token.ensures.lines
+
+pub returns-in_err-read_token-clause-kind : goal.returns-in_err-read_token-clause-kind
+returns-in_err-read_token-clause-kind g c =
+    let p = err_from_is_err_and c.from_residual.result c.from_residual.ensures.1 in
+    rw (p.1, p.2) c.in_err-read_token.ensures.kind
+
+pub invariant_of-self-2 : goal.invariant_of-self-2
+invariant_of-self-2 g c = c.in_ok-read_token.ensures.run
+
+pub returns-clause-header : goal.returns-clause-header
+returns-clause-header g c = ap (λ p. p.header) c.self.view_is
+
+pub returns-clause-lines : goal.returns-clause-lines
+returns-clause-lines g c = rw (← c.self.view_is) c.in_ok-read_token.ensures.lines
+
+pub returns-clause-kind : goal.returns-clause-kind
+returns-clause-kind g c = rw c.cell_here-2.ensures (cell_faults c.self.inside.header c.read_token.new.scanner.word c.read_token.new.scanner.line)
