@@ -53,7 +53,7 @@ def times(crate, kept):
         place = 2 if not kinds else 0 if parts[kinds[0]] in STATES else 1
         own = parts[: kinds[0]] if kinds else parts
         if library != f"Rattle-{crate.name}-proofs":
-            own = [library.removeprefix(f"Rattle-{crate.name}-"), *own[:1]]
+            own = [library.removeprefix(f"Rattle-{crate.name}-"), *own[:1]] if path else ["what other crates see"]
         rows[".".join(own)][place] += seconds
     return rows
 
