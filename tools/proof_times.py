@@ -70,7 +70,8 @@ def main():
     if not all(it.is_proved() for it in crate.all_below.values()):
         sys.exit("rcell: run make first, so that the crates below are proved")
     with tempfile.TemporaryDirectory() as kept:
-        run = subprocess.run(check(crate, kept), cwd=crate.folder, stdin=subprocess.DEVNULL, stdout=subprocess.PIPE, stderr=subprocess.STDOUT, text=True)
+        how = {"cwd": crate.folder, "stdin": subprocess.DEVNULL, "stdout": subprocess.PIPE, "stderr": subprocess.STDOUT}
+        run = subprocess.run(check(crate, kept), text=True, **how)
         if run.returncode:
             sys.exit(run.stdout[-2000:])
         rows = times(crate, kept)
