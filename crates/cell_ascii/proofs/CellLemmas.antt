@@ -1,5 +1,5 @@
 -- The next cell, and n of them, one after another.
-use Rattle.std.proofs.Common.{◌≡◌, ℕ, suc, [], ◌∷◌, ◌++◌, append_assoc, ◌+◌, ◌-◌, ◌<◌, arith, List, Option, Some, None, Result, Ok, Err, Bool, true, false, ℤ, ◌*ℤ◌, if◌then◌else◌, bytes_eq, refl, ap, sym, ◌∙◌}
+use Rattle.std.proofs.Common.{◌≡◌, ℕ, suc, [], ◌∷◌, ◌++◌, append_assoc, append-nil, ◌+◌, ◌-◌, ◌<◌, arith, List, length, Option, Some, None, Result, Ok, Err, Bool, true, false, ℤ, ◌*ℤ◌, if◌then◌else◌, bytes_eq, refl, ap, sym, ◌∙◌}
 use Rattle.std.specs.Option.{option_map}
 use Rattle.std.specs.Result.{IfErr}
 use Rattle.cell_devices.specs.Device.{Coming}
@@ -87,6 +87,26 @@ cell_faults h word line = by (bytes_eq word h.null_text)
 abbrev pub with_front : {X : Type 0} → List X → Reading (List X) → Reading (List X)
 with_front front (Ok x) = Ok (front ++ x.0, x.1)
 with_front front (Err f) = Err f
+
+-- nothing was read so far
+pub none_read : {X : Type 0} (one : At → Reading X) (n : ℕ) (here : Coming → At) (a : Option Coming) (front : List X) → front ≡ []
+    → option_map (λ c. many one n (here c)) a ≡ option_map (λ c. with_front front (many one (n - length front) (here c))) a
+none_read {X} one n here a front none =
+    let all : n ≡ n - length front = rw none (omega arith) in
+    map_same (λ c. many one n (here c)) (λ c. with_front [] (many one n (here c))) a (λ c. same (many one n (here c)))
+    ∙ (λ j. option_map (λ c. with_front (sym none j) (many one (all j) (here c))) a)
+  where
+    same : (r : Reading (List X)) → r ≡ with_front [] r
+    same (Ok x) = refl
+    same (Err f) = refl
+
+-- all was read
+pub all_read : {X : Type 0} (one : At → Reading X) (n i : ℕ) (here : Coming → At) (a : Option Coming) (front : List X) → i ≡ n
+    → option_map (λ c. with_front front (many one (n - i) (here c))) a ≡ option_map (λ c. Ok (front, here c)) a
+all_read {X} one n i here a front all =
+    let none : n - i ≡ 0 = omega arith in
+    ap (λ (m : ℕ). option_map (λ c. with_front front (many one m (here c))) a) none
+    ∙ ap (λ (l : List X). option_map (λ c. Ok (l, here c)) a) (append-nil front)
 
 -- one more of many
 abbrev with_next : {X : Type 0} → (At → Reading X) → ℕ → List X → Reading X → Reading (List X)
