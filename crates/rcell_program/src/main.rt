@@ -22,11 +22,7 @@ fn words_given<R: Env + AllocGlobal>(rt: &R) -> Result<Vec<String>, Refusal> {
         ErrorKind::OutOfMemory => Refusal::Memory,
         _ => Refusal::Usage,
     })?;
-    let mut words = Vec::new(rt.alloc());
-    for word in given {
-        words.push(word).map_err(|_| Refusal::Memory)?;
-    }
-    Ok(words)
+    given.collect(rt.alloc()).map_err(|_| Refusal::Memory)
 }
 
 // Reports a refusal on standard error, and returns its status. Where standard error takes nothing, the status still says it.
