@@ -1,10 +1,13 @@
-use Rattle.std.proofs.Common.{◌≡◌, ◌<◌, ◌≤◌, ◌+◌, ◌++◌, List, length, map, replicate, cond, true, false, arith, ap, sym, ◌∙◌, append-nil, append_assoc, add-one, ℕ}
+use Rattle.std.proofs.Common.{◌≡◌, ◌<◌, ◌≤◌, ◌+◌, ◌-◌, ◌^◌, ◌++◌, Fits, w32, List, length, map, replicate, cond, true, false, arith, ap, sym, ◌∙◌, append-nil, append_assoc, add-one, ℕ}
+use Rattle.std.proofs.lemmas.Result.{IfOk-from_err}
+use Rattle.std.proofs.lemmas.List.{length-map}
 use Rattle.std.specs.BTreeMap.{BTreeMap}
 use Rattle.std.specs.List.{range_with_len}
 use Rattle.cell_base.specs.Region.{RegionValue}
 use Rattle.cell_combinations.specs.Combinations.{Combination, all_combinations, combination_at}
 use Rattle.cell_counts.specs.Counts.{count_of}
 use Rattle.cell_counts.specs.Mapped.{HasNoZero}
+use Rattle.cell_counts.specs.Cursors.{CursorValue}
 use Rattle.cell_counts.specs.parts.Held.{total_of, is_same}
 use Rattle.cell_combinations.specs.LeftOut.{kept, is_left_out}
 use Rattle.cell_counts.specs.declared.counting.Held.{Held}
@@ -13,12 +16,54 @@ use Rattle.cell_counts.proofs.WalkLemmas.{alike, alive, passed-on, stretch, coun
 use Rattle.cell_counts.proofs.counts.count_row.Goals as goal
 use Rattle.cell_counts.proofs.counts.count_row.Goals.{then-not-is_left_out+in_ok-add, else-not-is_left_out}
 
+below : {n m most : ℕ} → n < m → m ≡ most → n < most
+below lower same = omega arith
+
+before : {n m most : ℕ} → n < m → m ≤ most → n ≤ most
+before lower high = omega arith
+
+at_most : {n m most : ℕ} → n ≡ m → m ≤ most → n ≤ most
+at_most same high = omega arith
+
+part : (count : ℕ) {col cols most : ℕ} → col + count ≤ cols → cols ≤ most → col ≤ most
+part count within high = omega arith
+
+fit : {n cols : ℕ} → n ≤ cols → cols ≤ 65535 → Fits w32 n
+fit within high = omega arith
+
+least : (n : ℕ) → 0 ≤ n
+least n = omega arith
+
+just_one : {n : ℕ} → 1 ≤ n → n < 2 → n ≡ 1
+just_one some few = omega arith
+
+from_start : {n m : ℕ} → n ≤ m → 0 + n ≤ m
+from_start within = omega arith
+
+some_same : {n m : ℕ} → 0 < n → m ≡ n → 0 < m
+some_same some same = omega arith
+
+some_left : {n m : ℕ} → n < m → 0 < m - n
+some_left lower = omega arith
+
+still_within : {n more most : ℕ} → n ≤ most → more ≤ most - n → n + more ≤ most
+still_within within left = omega arith
+
+fewer : (col : ℕ) {count cols : ℕ} → 0 < count → col + count ≤ cols → cols - (col + count) < cols - col
+fewer col some within = omega arith
+
+at_end : (count : ℕ) {col last cols : ℕ} → col + count ≤ last → last ≤ col → last ≡ cols → col ≡ cols
+at_end count within ended same = omega arith
+
+sum_fits : (col : ℕ) {total counted count more cols : ℕ} → total ≡ counted → counted < 2 ^ 63 → more ≡ count → col + count ≤ cols → cols ≤ 65535 → total + more < 2 ^ 64
+sum_fits col same small is within wide = omega arith
+
 pub count_runs-requires-clause-fits : goal.count_runs-requires-clause-fits
 count_runs-requires-clause-fits c = λ k.
     let picks = c.args.selection.picks.now in
     let region = c.requires.region in
-    let one : length picks ≡ 1 = omega (arith, c.in-len1.len_at_least, c.in-len1.len_below) in
-    let few : c.args.row ≤ 65535 = omega (arith, region.rows_most, c.requires.row_in_range) in
+    let one = just_one c.in-len1.len_at_least c.in-len1.len_below in
+    let few = before c.requires.row_in_range region.rows_most in
     let was = sym (ap (λ w. total_of w k c.args.places.now c.args.counted.now) one) ∙ c.requires.counted k in
     let wide = c.runs-runs.ensures.width ∙ ap (λ (r : RegionValue). r.cols) c.map.ensures.region in
     fits-alone c.args.selection.skip k c.args.selection.shelf.now.maps picks c.args.row c.args.selection.shelf.now.region.cols (total_of 1 k c.args.places.now c.args.counted.now) _ few region.cols_most was wide
@@ -26,7 +71,7 @@ count_runs-requires-clause-fits c = λ k.
 pub returns-in-len1-clause-ok : goal.returns-in-len1-clause-ok
 returns-in-len1-clause-ok c = λ k.
     let picks = c.args.selection.picks.now in
-    let one : length picks ≡ 1 = omega (arith, c.in-len1.len_at_least, c.in-len1.len_below) in
+    let one = just_one c.in-len1.len_at_least c.in-len1.len_below in
     let was = sym (ap (λ w. total_of w k c.args.places.now c.args.counted.now) one) ∙ c.requires.counted k in
     let wide = c.runs-runs.ensures.width ∙ ap (λ (r : RegionValue). r.cols) c.map.ensures.region in
     ap (λ w. total_of w k c.count_runs.new.places c.count_runs.new.counted) one
@@ -51,9 +96,9 @@ loop-col-init c =
       cells = first.ensures.cells;
       least = first.ensures.least;
       some = λ h.
-          let within : 0 < c.args.selection.shelf.now.region.cols = omega (arith, h, same_cols) in
+          let within = below h same_cols in
           first.ensures.some (alive maps row 0 first.new.cursors picks c.args.selection.shelf.now.region.cols here c.restart_all.ensures.width within first.ensures.ready) h;
-      most = omega (arith, first.ensures.most);
+      most = from_start first.ensures.most;
     }
 
 pub add-requires-clause-fits : goal.add-requires-clause-fits
@@ -65,10 +110,11 @@ add-requires-clause-fits c = λ k.
     let inv = c.loop-col.invariant in
     let total = ap (λ w. total_of w k c.loop-col.places c.loop-col.counted) width ∙ inv.counted k in
     let region = c.requires.region in
-    let few_rows : c.args.row ≤ 65535 = omega (arith, region.rows_most, c.requires.row_in_range) in
-    let few : c.loop-col.col ≤ 65535 = omega (arith, region.cols_most, same_cols, inv.most) in
+    let few_rows = before c.requires.row_in_range region.rows_most in
+    let wide = at_most same_cols region.cols_most in
+    let few = part c.loop-col.count inv.most wide in
     let small = count_small c.args.selection.shelf.now.maps picks cols c.args.selection.skip k c.args.row c.loop-col.col few_rows few region.cols_most in
-    omega (arith, total, small, c.from.ensures, inv.most, same_cols, region.cols_most)
+    sum_fits c.loop-col.col total small c.from.ensures inv.most wide
 
 pub loop-col-preserved : goal.loop-col-preserved
 loop-col-preserved c =
@@ -120,15 +166,15 @@ loop-col-preserved c =
       counted = counted;
       no_zero = no_zero;
       spare = spare;
-      places = omega (arith, joined.auto.places, inv.places);
+      places = some_same inv.places joined.auto.places;
       to_come = here;
       ready = next.ensures.ready;
       cells = next.ensures.cells;
       least = next.ensures.least;
       some = λ h.
-          let within : col + count < cols = omega (arith, h, same_cols) in
-          next.ensures.some (alive maps row (col + count) next.new.cursors picks cols here c.restart_all.ensures.width within next.ensures.ready) (omega (arith, h));
-      most = omega (arith, next.ensures.most, inv.most);
+          let within = below h same_cols in
+          next.ensures.some (alive maps row (col + count) next.new.cursors picks cols here c.restart_all.ensures.width within next.ensures.ready) (some_left h);
+      most = still_within inv.most next.ensures.most;
     }
 
 pub returns-clause-ok : goal.returns-clause-ok
@@ -139,6 +185,100 @@ returns-clause-ok c = λ k.
     let cols = c.args.selection.shelf.now.region.cols in
     let same_cols : c.cols-cols.result ≡ cols = c.cols-cols.ensures.value ∙ ap (λ (r : RegionValue). r.cols) c.region.ensures.value in
     let inv = c.loop-col.invariant in
-    let last : c.loop-col.col ≡ cols = omega (arith, inv.most, c.loop-col-test.false, same_cols) in
+    let last = at_end c.loop-col.count inv.most c.loop-col-test.false same_cols in
     inv.counted k ∙ ap (λ n. count_of k (kept c.args.selection.skip (all_combinations maps picks row cols ++ map (combination_at maps picks row) (range_with_len 0 n)))) last
     ∙ ap (λ (l : List Combination). count_of k (kept c.args.selection.skip l)) (sym (all_combinations_more maps picks cols row)) ∙ ap (λ r. count_of k (kept c.args.selection.skip (all_combinations maps picks r cols))) (sym (add-one row))
+
+pub map-requires : goal.map-requires
+map-requires c = c.requires.picked 0 0 c.in-len1.len_at_least
+
+pub runs-runs-requires : goal.runs-runs-requires
+runs-runs-requires c = record { row_in_range = below c.requires.row_in_range (ap (λ (r : RegionValue). r.rows) (sym c.map.ensures.region)) }
+
+pub count_runs-requires-clause-spare : goal.count_runs-requires-clause-spare
+count_runs-requires-clause-spare c = c.requires.spare ∙ just_one c.in-len1.len_at_least c.in-len1.len_below
+
+pub count_runs-requires-clause-places : goal.count_runs-requires-clause-places
+count_runs-requires-clause-places c = c.requires.places
+
+pub count_runs-requires-clause-no_zero : goal.count_runs-requires-clause-no_zero
+count_runs-requires-clause-no_zero c = c.requires.no_zero
+
+pub returns-in_err-count_runs-clause-ok : goal.returns-in_err-count_runs-clause-ok
+returns-in_err-count_runs-clause-ok c = IfOk-from_err c.from_residual.result _ c.from_residual.ensures.0
+
+pub returns-in_err-count_runs-clause-no_zero : goal.returns-in_err-count_runs-clause-no_zero
+returns-in_err-count_runs-clause-no_zero c = IfOk-from_err c.from_residual.result _ c.from_residual.ensures.0
+
+pub returns-in_err-count_runs-clause-spare : goal.returns-in_err-count_runs-clause-spare
+returns-in_err-count_runs-clause-spare c = IfOk-from_err c.from_residual.result _ c.from_residual.ensures.0
+
+pub returns-in-len1-clause-no_zero : goal.returns-in-len1-clause-no_zero
+returns-in-len1-clause-no_zero c = c.in_ok-count_runs.ensures.no_zero
+
+pub returns-in-len1-clause-spare : goal.returns-in-len1-clause-spare
+returns-in-len1-clause-spare c = c.in_ok-count_runs.ensures.spare ∙ sym (just_one c.in-len1.len_at_least c.in-len1.len_below)
+
+pub restart_all-requires-clause-picked : goal.restart_all-requires-clause-picked
+restart_all-requires-clause-picked c = c.requires.picked
+
+pub restart_all-requires-clause-row_in_range : goal.restart_all-requires-clause-row_in_range
+restart_all-requires-clause-row_in_range c = c.requires.row_in_range
+
+pub restart_all-requires-clause-width : goal.restart_all-requires-clause-width
+restart_all-requires-clause-width c = c.requires.cursors
+
+pub pass_all-count-requires-clause-within : goal.pass_all-count-requires-clause-within
+pass_all-count-requires-clause-within c = λ k d within. least _
+
+pub pass_all-count-requires-clause-ready : goal.pass_all-count-requires-clause-ready
+pass_all-count-requires-clause-ready c = c.restart_all.ensures.ready
+
+pub pass_all-count-requires-clause-width : goal.pass_all-count-requires-clause-width
+pass_all-count-requires-clause-width c = c.requires.cells ∙ sym (c.restart_all.auto.cursors ∙ c.requires.cursors)
+
+pub add-requires-clause-width : goal.add-requires-clause-width
+add-requires-clause-width c =
+    let width = c.loop-col.auto.cells ∙ c.pass_all-count.auto.cells ∙ c.requires.cells in
+    (at_most width c.requires.width, c.loop-col.invariant.spare ∙ sym width)
+
+pub add-requires-clause-places : goal.add-requires-clause-places
+add-requires-clause-places c = c.loop-col.invariant.places
+
+pub add-requires-clause-no_zero : goal.add-requires-clause-no_zero
+add-requires-clause-no_zero c = c.loop-col.invariant.no_zero
+
+pub returns-in_err-add-clause-ok : goal.returns-in_err-add-clause-ok
+returns-in_err-add-clause-ok c = IfOk-from_err c.from_residual-in_err-add.result _ c.from_residual-in_err-add.ensures.0
+
+pub returns-in_err-add-clause-no_zero : goal.returns-in_err-add-clause-no_zero
+returns-in_err-add-clause-no_zero c = IfOk-from_err c.from_residual-in_err-add.result _ c.from_residual-in_err-add.ensures.0
+
+pub returns-in_err-add-clause-spare : goal.returns-in_err-add-clause-spare
+returns-in_err-add-clause-spare c = IfOk-from_err c.from_residual-in_err-add.result _ c.from_residual-in_err-add.ensures.0
+
+pub overflow_add-col : goal.overflow_add-col
+overflow_add-col c =
+    let cols = c.cols-cols.ensures.value ∙ ap (λ (r : RegionValue). r.cols) c.region.ensures.value in
+    fit c.loop-col.invariant.most (at_most cols c.requires.region.cols_most)
+
+pub overflow_sub-cols : goal.overflow_sub-cols
+overflow_sub-cols c = c.loop-col.invariant.most
+
+pub pass_all-count-requires-in-loop-col-clause-within : goal.pass_all-count-requires-in-loop-col-clause-within
+pass_all-count-requires-in-loop-col-clause-within c = c.loop-col.invariant.least
+
+pub pass_all-count-requires-in-loop-col-clause-ready : goal.pass_all-count-requires-in-loop-col-clause-ready
+pass_all-count-requires-in-loop-col-clause-ready c = c.loop-col.invariant.ready
+
+pub pass_all-count-requires-in-loop-col-clause-width : goal.pass_all-count-requires-in-loop-col-clause-width
+pass_all-count-requires-in-loop-col-clause-width c = ap length c.loop-col.invariant.cells ∙ length-map c.loop-col.cursors (λ (x : CursorValue). x.cell)
+
+pub loop-col-smaller : goal.loop-col-smaller
+loop-col-smaller c = fewer c.loop-col.col (c.loop-col.invariant.some c.loop-col-test.true) c.loop-col.invariant.most
+
+pub returns-clause-no_zero : goal.returns-clause-no_zero
+returns-clause-no_zero c = c.loop-col.invariant.no_zero
+
+pub returns-clause-spare : goal.returns-clause-spare
+returns-clause-spare c = c.loop-col.invariant.spare
