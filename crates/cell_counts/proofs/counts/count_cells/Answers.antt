@@ -56,6 +56,9 @@ loop-row-init c =
       cursors = ap length c.as_mut_slice-cursors.ensures.value ∙ c.in_ok-started.ensures;
     }
 
+pub cursors_of-requires : goal.cursors_of-requires
+cursors_of-requires c = c.requires.picked
+
 pub make_room-requires-clause-width : goal.make_room-requires-clause-width
 make_room-requires-clause-width c = (c.requires.width.1, c.loop-row.invariant.spare)
 
