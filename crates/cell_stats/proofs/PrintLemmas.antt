@@ -114,3 +114,13 @@ pair-parts format maps picks k n some same = ap (λ (l : List ℕ). l ++ 10 ∷ 
 pub failed_then : (now between before failed : Bool) → now ≡ (between || failed) → between ≡ (before || false) → now ≡ (before || failed)
 failed_then now between true failed same was = rw was at same
 failed_then now between false failed same was = rw was at same
+
+-- a sink that did not fail so far has not failed
+pub failed_not : (now before : Bool) → now ≡ before → now ≡ (before || false)
+failed_not now true same = same
+failed_not now false same = same
+
+-- and one that did not fail in one call more did not either
+pub failed_still : (now between before : Bool) → now ≡ (between || false) → between ≡ before → now ≡ before
+failed_still now true before same was = same ∙ was
+failed_still now false before same was = same ∙ was
