@@ -76,6 +76,9 @@ module _ (taken : Option (List ℕ)) (old : BlockValue) (a b t : List ℕ) (part
 pub pick_text-label : (format : FormatValue) (maps : List Grid) (place : ℕ) (cell : CellValue) → cell_text format.null_text cell ++ preceded format.separator (if format.labels then label_in maps place cell ∷ [] else []) ≡ pick_text format maps place cell
 pick_text-label format maps place cell = sym (join-cons format.separator (cell_text format.null_text cell) (if format.labels then label_in maps place cell ∷ [] else []))
 
+pub pick_text-without : (format : FormatValue) (maps : List Grid) (place : ℕ) (cell : CellValue) → format.labels ≡ false → cell_text format.null_text cell ≡ pick_text format maps place cell
+pick_text-without format maps place cell off = ap (λ (b : Bool). join_with_byte format.separator (cell_text format.null_text cell ∷ (if b then label_in maps place cell ∷ [] else []))) (sym off)
+
 pub pick_text-with : (format : FormatValue) (maps : List Grid) (place : ℕ) (cell : CellValue) → format.labels ≡ true → cell_text format.null_text cell ++ (format.separator ∷ label_in maps place cell) ≡ pick_text format maps place cell
 pick_text-with format maps place cell on =
     ap (λ (l : List ℕ). cell_text format.null_text cell ++ l) (sym (append-nil (format.separator ∷ label_in maps place cell)))
