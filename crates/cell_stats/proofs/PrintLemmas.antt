@@ -98,6 +98,9 @@ module _ (picks : List ℕ) (k : Combination) (i : ℕ) (within : i < length pic
 others-whole : {X : Type 0} (xs : List X) → take (length xs - 1) (drop 1 xs) ≡ drop 1 xs
 others-whole xs = take_all (length xs - 1) (drop 1 xs) (omega (arith, length-drop 1 xs))
 
+pub length-others : {X Y : Type 0} (xs : List X) (ys : List Y) → length xs ≡ length ys → length (take (length xs - 1) (drop 1 xs)) ≡ length (take (length ys - 1) (drop 1 ys))
+length-others xs ys same = ap length (others-whole xs) ∙ length-drop 1 xs ∙ ap (λ n. n - 1) same ∙ sym (ap length (others-whole ys) ∙ length-drop 1 ys)
+
 pub All-others : {X : Type 0} (P : X → Type 0) (xs : List X) → All P xs → All P (take (length xs - 1) (drop 1 xs))
 All-others P xs all = subst (λ l. All P l) (sym (others-whole xs)) (λ i d within. subst P (sym (get_or-drop 1 xs i d)) (all (1 + i) d (omega (arith, within, length-drop 1 xs))))
 

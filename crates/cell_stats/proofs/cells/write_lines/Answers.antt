@@ -1,11 +1,15 @@
-use Rattle.std.proofs.Common.{◌≡◌, ℕ, ◌+◌, ◌-◌, ◌<◌, ◌++◌, false, true, replicate, flat_map, arith, rules, sym, ap, ◌∙◌}
+use Rattle.std.proofs.Common.{◌≡◌, ℕ, ◌+◌, ◌-◌, ◌≤◌, ◌++◌, false, true, replicate, flat_map, arith, refl, sym, ap, ◌∙◌}
+use borrow.Author.Count.{falls}
 use Rattle.std.proofs.lemmas.Result.{err_from_is_err_and}
 use Rattle.cell_devices.proofs.GatherLemmas.{CutsOff-second, Gathers-none, Gathers-then}
 use Rattle.cell_stats.specs.TableText.{cell_line}
 use Rattle.cell_combinations.specs.LeftOut.{is_left_out, kept}
-use Rattle.cell_stats.proofs.PrintLemmas.{cut-first}
+use Rattle.cell_stats.proofs.PrintLemmas.{cut-first, failed_not, failed_still}
 use Rattle.cell_stats.proofs.CellsLemmas.{lines-left, lines-kept, flat_map-replicate-more, flat_map-replicate-rest}
 use Rattle.cell_stats.proofs.cells.write_lines.Goals as goal
+
+at_end : {line count : ℕ} → line ≤ count → count ≤ line → line ≡ count
+at_end within ended = omega arith
 
 pub returns-then-is_left_out-clause-ok : goal.returns-then-is_left_out-clause-ok
 returns-then-is_left_out-clause-ok g c =
@@ -19,7 +23,7 @@ returns-in_err-write_cell_line-clause-err g c =
     let f = cell_line c.args.format.now c.args.selection.shelf.now.maps c.args.selection.picks.now in
     let line = c.loop-line.line in
     let count = c.args.count in
-    let within : line < count = omega arith in
+    let within = c.loop-line-test.true in
     let kept_in : is_left_out c.args.selection.skip cells ≡ false = sym c.is_left_out.ensures ∙ c.if-is_left_out.false in
     let parts = flat_map-replicate-rest f line count cells within ∙ sym (lines-kept c.args.format.now c.args.selection.shelf.now.maps c.args.selection.picks.now c.args.selection.skip cells count kept_in) in
     rw (p.1, p.2) (cut-first _ _ (flat_map f (replicate line cells) ++ f cells) (flat_map f (replicate (count - (line + 1)) cells)) (flat_map f (kept c.args.selection.skip (replicate count cells))) parts _ _
@@ -30,7 +34,7 @@ loop-line-preserved g c =
     let f = cell_line c.args.format.now c.args.selection.shelf.now.maps c.args.selection.picks.now in
     record {
       gathers = rw (flat_map-replicate-more f c.loop-line.line c.args.cells.now) (Gathers-then _ _ _ _ _ _ _ _ c.loop-line.invariant.gathers c.in_ok-write_cell_line.ensures.ok);
-      failed = search rules;
+      failed = failed_still _ _ _ c.in_ok-write_cell_line.ensures.failed c.loop-line.invariant.failed;
     }
 
 pub returns-clause-ok : goal.returns-clause-ok
@@ -39,6 +43,54 @@ returns-clause-ok g c =
     let count = c.args.count in
     let kept_in : is_left_out c.args.selection.skip cells ≡ false = sym c.is_left_out.ensures ∙ c.if-is_left_out.false in
     let f = cell_line c.args.format.now c.args.selection.shelf.now.maps c.args.selection.picks.now in
-    let last : c.loop-line.line ≡ count = omega arith in
+    let last = at_end c.loop-line.auto.line-end c.loop-line-test.false in
     let whole = ap (λ (n : ℕ). flat_map f (replicate n cells)) last ∙ sym (lines-kept c.args.format.now c.args.selection.shelf.now.maps c.args.selection.picks.now c.args.selection.skip cells count kept_in) in
     rw whole at c.loop-line.invariant.gathers
+
+pub returns-then-is_left_out-clause-err : goal.returns-then-is_left_out-clause-err
+returns-then-is_left_out-clause-err g c = tt
+
+pub returns-then-is_left_out-clause-lost : goal.returns-then-is_left_out-clause-lost
+returns-then-is_left_out-clause-lost g c = tt
+
+pub returns-then-is_left_out-clause-failed : goal.returns-then-is_left_out-clause-failed
+returns-then-is_left_out-clause-failed g c = failed_not _ _ refl
+
+pub loop-line-init : goal.loop-line-init
+loop-line-init g c = record { gathers = Gathers-none _ _; failed = refl }
+
+pub write_cell_line-requires-clause-picked : goal.write_cell_line-requires-clause-picked
+write_cell_line-requires-clause-picked g c = c.requires.picked
+
+pub write_cell_line-requires-clause-some : goal.write_cell_line-requires-clause-some
+write_cell_line-requires-clause-some g c = c.requires.some
+
+pub write_cell_line-requires-clause-width : goal.write_cell_line-requires-clause-width
+write_cell_line-requires-clause-width g c = c.requires.width
+
+pub returns-in_err-write_cell_line-clause-ok : goal.returns-in_err-write_cell_line-clause-ok
+returns-in_err-write_cell_line-clause-ok g c =
+    let p = err_from_is_err_and c.from_residual.result c.from_residual.ensures.1 in
+    rw p.1 tt
+
+pub returns-in_err-write_cell_line-clause-lost : goal.returns-in_err-write_cell_line-clause-lost
+returns-in_err-write_cell_line-clause-lost g c =
+    let p = err_from_is_err_and c.from_residual.result c.from_residual.ensures.1 in
+    rw (p.1, p.2) c.in_err-write_cell_line.ensures.lost
+
+pub returns-in_err-write_cell_line-clause-failed : goal.returns-in_err-write_cell_line-clause-failed
+returns-in_err-write_cell_line-clause-failed g c =
+    let p = err_from_is_err_and c.from_residual.result c.from_residual.ensures.1 in
+    rw p.1 (rw c.loop-line.invariant.failed at c.in_err-write_cell_line.ensures.failed)
+
+pub loop-line-smaller : goal.loop-line-smaller
+loop-line-smaller g c = falls _ _ c.loop-line-test.true
+
+pub returns-clause-err : goal.returns-clause-err
+returns-clause-err g c = tt
+
+pub returns-clause-lost : goal.returns-clause-lost
+returns-clause-lost g c = tt
+
+pub returns-clause-failed : goal.returns-clause-failed
+returns-clause-failed g c = failed_not _ _ c.loop-line.invariant.failed

@@ -4,7 +4,7 @@ use Rattle.std.specs.List.{join_with_byte}
 use Rattle.cell_devices.proofs.GatherLemmas.{Gathers-then, CutsOff-second}
 use Rattle.cell_stats.specs.parts.Preceded.{preceded}
 use Rattle.cell_stats.specs.TableText.{combination_fields, count_fields, pair_line}
-use Rattle.cell_stats.proofs.PrintLemmas.{cut-first, cut-second, ok-second, pair-parts}
+use Rattle.cell_stats.proofs.PrintLemmas.{cut-first, cut-second, ok-second, failed_then, pair-parts}
 use Rattle.cell_stats.proofs.printing.write_pair.Goals as goal
 
 pub returns-in_err-write_combination-clause-err : goal.returns-in_err-write_combination-clause-err
@@ -52,3 +52,48 @@ returns-clause-err g c =
     let count = preceded format.separator (count_fields format c.args.count) in
     let parts = pair-parts format maps picks cells c.args.count c.requires.some c.requires.width in
     cut-second _ _ (fields ++ count) (10 ∷ []) (pair_line format maps picks (cells, c.args.count)) parts c.push.result _ _ _ (Gathers-then _ _ fields count _ _ _ _ c.in_ok-write_combination.ensures.ok c.in_ok-write_count.ensures.ok) c.push.ensures.err
+
+pub write_combination-requires-clause-picked : goal.write_combination-requires-clause-picked
+write_combination-requires-clause-picked g c = c.requires.picked
+
+pub write_combination-requires-clause-some : goal.write_combination-requires-clause-some
+write_combination-requires-clause-some g c = c.requires.some
+
+pub write_combination-requires-clause-width : goal.write_combination-requires-clause-width
+write_combination-requires-clause-width g c = c.requires.width
+
+pub returns-in_err-write_combination-clause-ok : goal.returns-in_err-write_combination-clause-ok
+returns-in_err-write_combination-clause-ok g c =
+    let p = err_from_is_err_and c.from_residual.result c.from_residual.ensures.1 in
+    rw p.1 tt
+
+pub returns-in_err-write_combination-clause-lost : goal.returns-in_err-write_combination-clause-lost
+returns-in_err-write_combination-clause-lost g c =
+    let p = err_from_is_err_and c.from_residual.result c.from_residual.ensures.1 in
+    rw (p.1, p.2) c.in_err-write_combination.ensures.lost
+
+pub returns-in_err-write_combination-clause-failed : goal.returns-in_err-write_combination-clause-failed
+returns-in_err-write_combination-clause-failed g c =
+    let p = err_from_is_err_and c.from_residual.result c.from_residual.ensures.1 in
+    rw p.1 c.in_err-write_combination.ensures.failed
+
+pub returns-in_err-write_count-clause-ok : goal.returns-in_err-write_count-clause-ok
+returns-in_err-write_count-clause-ok g c =
+    let p = err_from_is_err_and c.from_residual-in_err-write_count.result c.from_residual-in_err-write_count.ensures.1 in
+    rw p.1 tt
+
+pub returns-in_err-write_count-clause-lost : goal.returns-in_err-write_count-clause-lost
+returns-in_err-write_count-clause-lost g c =
+    let p = err_from_is_err_and c.from_residual-in_err-write_count.result c.from_residual-in_err-write_count.ensures.1 in
+    rw (p.1, p.2) c.in_err-write_count.ensures.lost
+
+pub returns-in_err-write_count-clause-failed : goal.returns-in_err-write_count-clause-failed
+returns-in_err-write_count-clause-failed g c =
+    let p = err_from_is_err_and c.from_residual-in_err-write_count.result c.from_residual-in_err-write_count.ensures.1 in
+    rw p.1 (failed_then _ _ _ _ c.in_err-write_count.ensures.failed c.in_ok-write_combination.ensures.failed)
+
+pub returns-clause-lost : goal.returns-clause-lost
+returns-clause-lost g c = c.push.ensures.lost
+
+pub returns-clause-failed : goal.returns-clause-failed
+returns-clause-failed g c = failed_then _ _ _ _ c.push.ensures.failed (failed_then _ _ _ _ c.in_ok-write_count.ensures.failed c.in_ok-write_combination.ensures.failed)
