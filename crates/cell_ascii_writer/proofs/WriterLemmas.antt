@@ -1,5 +1,5 @@
 -- The parts of a grid text, as they are written.
-use Rattle.std.proofs.Common.{◌≡◌, ◌≢◌, ℕ, ℤ, pos, negsuc, ◌+◌, ◌==◌, ◌||◌, Bool, true, false, List, [], ◌∷◌, ◌++◌, drop, Option, codes, decimal, unsigned_abs, refl, arith}
+use Rattle.std.proofs.Common.{◌≡◌, ◌≢◌, ℕ, ℤ, pos, negsuc, ◌+◌, ◌≤◌, ◌==◌, ◌||◌, Bool, true, false, List, [], ◌∷◌, ◌++◌, drop, Option, codes, decimal, unsigned_abs, refl, arith}
 use Rattle.std.specs.Prelude.{int_lt}
 use Rattle.std.proofs.lemmas.Bool.Decides.{nat_tests}
 use Rattle.cell_devices.specs.Blocks.{BlockValue, CutsOff}
@@ -61,3 +61,13 @@ module _ (taken : Option (List ℕ)) (old : BlockValue) (e : RegionValue) (now :
 pub failed_then : (now between before failed : Bool) → now ≡ (between || failed) → between ≡ (before || false) → now ≡ (before || failed)
 failed_then now between true failed same was = rw was at same
 failed_then now between false failed same was = rw was at same
+
+-- what a block counts, after a part that is no longer than told, and after two parts
+pub counted_most : (now old some most : ℕ) → now ≤ old + some → some ≤ most → now ≤ old + most
+counted_most now old some most grown within = omega arith
+
+pub counted_more : (now old some more : ℕ) → now ≤ old + some → now ≤ old + (some + more)
+counted_more now old some more grown = omega arith
+
+pub counted_then : (now between old first second : ℕ) → now ≤ between + second → between ≤ old + first → now ≤ old + (first + second)
+counted_then now between old first second grown was = omega arith
