@@ -1,6 +1,6 @@
 use Rattle.std.proofs.lemmas.Result.{err_from_is_err_and, IfErr-weaker, IfOk-weaker}
 use Rattle.cell_devices.proofs.GatherLemmas.{CutsOff-first, CutsOff-second, Gathers-then}
-use Rattle.cell_ascii_writer.proofs.WriterLemmas.{failed_then}
+use Rattle.cell_ascii_writer.proofs.WriterLemmas.{counted_more, counted_most, counted_then, failed_then}
 use Rattle.cell_ascii_writer.proofs.writer.write_key.Goals as goal
 
 pub returns-in_err-push-clause-err : goal.returns-in_err-push-clause-err
@@ -33,3 +33,9 @@ returns-clause-lost g c = c.push-2.ensures.lost
 
 pub returns-clause-failed : goal.returns-clause-failed
 returns-clause-failed g c = failed_then _ _ _ _ c.push-2.ensures.failed c.in_ok-push.ensures.failed
+
+pub returns-in_err-push-clause-counted : goal.returns-in_err-push-clause-counted
+returns-in_err-push-clause-counted g c = counted_more _ _ 5 2 (counted_most _ _ _ 5 c.in_err-push.ensures.counted c.requires)
+
+pub returns-clause-counted : goal.returns-clause-counted
+returns-clause-counted g c = counted_then _ _ _ 5 2 c.push-2.ensures.counted (counted_most _ _ _ 5 c.in_ok-push.ensures.counted c.requires)
