@@ -1,6 +1,6 @@
-use Rattle.std.proofs.lemmas.Result.{err_from_is_err_and, IfErr-weaker, IfOk-weaker}
+use Rattle.std.proofs.lemmas.Result.{IfErr-weaker, IfOk-from_err, IfOk-weaker, err_from_is_err_and}
 use Rattle.cell_devices.proofs.GatherLemmas.{CutsOff-first, CutsOff-second, Gathers-then}
-use Rattle.cell_ascii_writer.proofs.WriterLemmas.{fraction_text-some}
+use Rattle.cell_ascii_writer.proofs.WriterLemmas.{counted_more, counted_most, counted_then, failed_then, fraction_text-some}
 use Rattle.cell_ascii_writer.proofs.writer.write_fraction.Goals as goal
 
 pub returns-in_err-push-clause-err : goal.returns-in_err-push-clause-err
@@ -17,3 +17,30 @@ pub returns-clause-err : goal.returns-clause-err
 returns-clause-err g c =
     rw (fraction_text-some c.args.part c.if-part-eq0.false, ← c.eight_digits.ensures.value, ← c.without_zeros.ensures.value)
     (IfErr-weaker c.push-2.result _ _ (λ fault cuts. CutsOff-second _ _ _ _ _ _ _ fault.written c.in_ok-push.ensures.ok cuts) c.push-2.ensures.err)
+
+pub returns-in_err-push-clause-ok : goal.returns-in_err-push-clause-ok
+returns-in_err-push-clause-ok g c = IfOk-from_err c.from_residual.result _ c.from_residual.ensures.0
+
+pub returns-in_err-push-clause-lost : goal.returns-in_err-push-clause-lost
+returns-in_err-push-clause-lost g c =
+    let p = err_from_is_err_and c.from_residual.result c.from_residual.ensures.1 in
+    rw (p.1, p.2) c.in_err-push.ensures.lost
+
+pub returns-in_err-push-clause-counted : goal.returns-in_err-push-clause-counted
+returns-in_err-push-clause-counted g c = counted_more _ _ 1 40 c.in_err-push.ensures.counted
+
+pub returns-in_err-push-clause-failed : goal.returns-in_err-push-clause-failed
+returns-in_err-push-clause-failed g c =
+    let p = err_from_is_err_and c.from_residual.result c.from_residual.ensures.1 in
+    rw (p.1) c.in_err-push.ensures.failed
+
+pub returns-clause-lost : goal.returns-clause-lost
+returns-clause-lost g c = c.push-2.ensures.lost
+
+pub returns-clause-counted : goal.returns-clause-counted
+returns-clause-counted g c =
+    let digits = counted_most _ _ _ _ c.push-2.ensures.counted c.without_zeros.ensures.len in
+    counted_then _ _ _ 1 40 (counted_most _ _ _ 40 digits c.eight_digits.ensures.len) c.in_ok-push.ensures.counted
+
+pub returns-clause-failed : goal.returns-clause-failed
+returns-clause-failed g c = failed_then _ _ _ _ c.push-2.ensures.failed c.in_ok-push.ensures.failed
