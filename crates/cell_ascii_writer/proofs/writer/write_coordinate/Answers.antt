@@ -1,8 +1,8 @@
 use Rattle.std.proofs.Common.{◌≡◌, to_z, of_z, w64}
 use Rattle.std.proofs.lemmas.Int.{to_z-of_z}
-use Rattle.std.proofs.lemmas.Result.{err_from_is_err_and, IfErr-weaker, IfOk-weaker}
+use Rattle.std.proofs.lemmas.Result.{IfErr-weaker, IfOk-from_err, IfOk-weaker, err_from_is_err_and}
 use Rattle.cell_devices.proofs.GatherLemmas.{CutsOff-first, CutsOff-second, Gathers-then}
-use Rattle.cell_ascii_writer.proofs.WriterLemmas.{coordinate_text-negative, coordinate_text-positive}
+use Rattle.cell_ascii_writer.proofs.WriterLemmas.{coordinate_text-negative, coordinate_text-positive, counted_more, counted_then, failed_then}
 use Rattle.cell_ascii_writer.proofs.writer.write_coordinate.Goals as goal
 use Rattle.cell_ascii_writer.proofs.writer.write_coordinate.Goals.{then-units-lt0+in_ok-push, else-units-lt0}
 
@@ -32,4 +32,37 @@ returns-clause-err g c =
           rw (coordinate_text-negative c.args.units (rw same at w.if-units-lt0.true))
           (IfErr-weaker c.write_units.result _ _ (λ fault cuts. CutsOff-second _ _ _ _ _ _ _ fault.written w.in_ok-push.ensures.ok cuts) (rw (w.out-is, w.block-is) at units))
       | else-units-lt0 w ↦ rw (coordinate_text-positive c.args.units (rw same at w.if-units-lt0.false)) (rw (w.out-is, w.block-is) at units)
+    ]
+
+pub returns-in_err-push-clause-ok : goal.returns-in_err-push-clause-ok
+returns-in_err-push-clause-ok g c = IfOk-from_err c.from_residual.result _ c.from_residual.ensures.0
+
+pub returns-in_err-push-clause-lost : goal.returns-in_err-push-clause-lost
+returns-in_err-push-clause-lost g c =
+    let p = err_from_is_err_and c.from_residual.result c.from_residual.ensures.1 in
+    rw (p.1, p.2) c.in_err-push.ensures.lost
+
+pub returns-in_err-push-clause-counted : goal.returns-in_err-push-clause-counted
+returns-in_err-push-clause-counted g c = counted_more _ _ 1 81 c.in_err-push.ensures.counted
+
+pub returns-in_err-push-clause-failed : goal.returns-in_err-push-clause-failed
+returns-in_err-push-clause-failed g c =
+    let p = err_from_is_err_and c.from_residual.result c.from_residual.ensures.1 in
+    rw (p.1) c.in_err-push.ensures.failed
+
+pub returns-clause-lost : goal.returns-clause-lost
+returns-clause-lost g c = c.write_units.ensures.lost
+
+pub returns-clause-counted : goal.returns-clause-counted
+returns-clause-counted g c =
+    elim c.if-units-lt0.branch [
+      | then-units-lt0+in_ok-push w ↦ counted_then _ _ _ 1 81 (rw w.block-is at c.write_units.ensures.counted) w.in_ok-push.ensures.counted
+      | else-units-lt0 w ↦ counted_more _ _ 81 1 (rw w.block-is at c.write_units.ensures.counted)
+    ]
+
+pub returns-clause-failed : goal.returns-clause-failed
+returns-clause-failed g c =
+    elim c.if-units-lt0.branch [
+      | then-units-lt0+in_ok-push w ↦ failed_then _ _ _ _ (rw w.out-is at c.write_units.ensures.failed) w.in_ok-push.ensures.failed
+      | else-units-lt0 w ↦ rw w.out-is at c.write_units.ensures.failed
     ]
