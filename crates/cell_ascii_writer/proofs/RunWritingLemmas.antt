@@ -1,5 +1,6 @@
 -- The cells of a row, run by run.
-use Rattle.std.proofs.Common.{◌≡◌, ℕ, zero, suc, ◌+◌, ◌-◌, ◌<◌, List, [], ◌∷◌, ◌++◌, replicate, refl, ap, sym, ◌∙◌, arith, append_assoc, append-nil}
+use Rattle.std.proofs.Common.{◌≡◌, ℕ, zero, suc, ◌+◌, ◌-◌, ◌*◌, ◌≤◌, ◌<◌, List, [], ◌∷◌, ◌++◌, length, replicate, refl, ap, sym, ◌∙◌, arith, append_assoc, append-nil, length-append}
+use Rattle.std.proofs.lemmas.List.{length-replicate}
 use Rattle.std.proofs.lemmas.List.Concat.{flat_map-append}
 use Rattle.cell_core.specs.Grid.{CellValue}
 use Rattle.cell_core.specs.Runs.{RunValue, AreRuns, written_out}
@@ -29,6 +30,22 @@ times-rest n i text within =
 -- a run has a cell or more
 pub first-some : (runs rest : List RunValue) (cell : CellValue) (n : ℕ) → AreRuns runs → runs ≡ (cell, n) ∷ rest → 0 < n
 first-some runs rest cell n are e = (rw e at are.lengths) 0 (cell, n) (omega arith)
+
+-- how many cells the runs have
+pub length-first : (rest : List RunValue) (cell : CellValue) (n : ℕ) → length (written_out ((cell, n) ∷ rest)) ≡ n + length (written_out rest)
+length-first rest cell n =
+    length-append (replicate n cell) (written_out rest) ∙ ap (λ (k : ℕ). k + length (written_out rest)) (length-replicate n cell)
+
+pub length-rest : (runs rest : List RunValue) (cell : CellValue) (n : ℕ)
+    → length (written_out (runs ++ (cell, n) ∷ rest)) ≡ length (written_out runs) + (n + length (written_out rest))
+length-rest runs rest cell n =
+    ap (λ (l : List CellValue). length l) (flat_map-append (λ (run : RunValue). replicate run.1 run.0) runs ((cell, n) ∷ rest))
+    ∙ length-append (written_out runs) (written_out ((cell, n) ∷ rest))
+    ∙ ap (λ (k : ℕ). length (written_out runs) + k) (length-first rest cell n)
+
+-- what a block counts after so many cells, and so many more
+pub counted_cells : (now between old n done rest : ℕ) → now ≤ between + 65 * n → between ≤ old + 65 * done → now ≤ old + 65 * (done + (n + rest))
+counted_cells now between old n done rest grown was = omega arith
 
 module _ (null : List ℕ) where
   -- a cell, so many times

@@ -1,5 +1,5 @@
 -- The parts of a grid text, as they are written.
-use Rattle.std.proofs.Common.{◌≡◌, ◌≢◌, ℕ, ℤ, pos, negsuc, ◌+◌, ◌≤◌, ◌==◌, ◌||◌, Bool, true, false, List, [], ◌∷◌, ◌++◌, drop, Option, codes, decimal, unsigned_abs, refl, arith}
+use Rattle.std.proofs.Common.{◌≡◌, ◌≢◌, ℕ, ℤ, pos, negsuc, ◌+◌, ◌≤◌, ◌==◌, ◌||◌, Bool, true, false, List, [], ◌∷◌, ◌++◌, drop, Option, codes, decimal, unsigned_abs, refl, ◌∙◌, arith}
 use Rattle.std.specs.Prelude.{int_lt}
 use Rattle.std.proofs.lemmas.Bool.Decides.{nat_tests}
 use Rattle.cell_devices.specs.Blocks.{BlockValue, CutsOff}
@@ -71,3 +71,19 @@ counted_more now old some more grown = omega arith
 
 pub counted_then : (now between old first second : ℕ) → now ≤ between + second → between ≤ old + first → now ≤ old + (first + second)
 counted_then now between old first second grown was = omega arith
+
+pub counted_none : (n : ℕ) → n ≤ n + 0
+counted_none n = omega arith
+
+-- one that has not failed
+pub failed_still : (now between before : Bool) → now ≡ (between || false) → between ≡ before → now ≡ before
+failed_still now true before same was = same ∙ was
+failed_still now false before same was = same ∙ was
+
+pub failed_not : (now before : Bool) → now ≡ before → now ≡ (before || false)
+failed_not now true same = same
+failed_not now false same = same
+
+-- a loop that counts up to its end
+pub at_end : (i end : ℕ) → end ≤ i → i ≤ end → i ≡ end
+at_end i end least most = omega arith

@@ -1,7 +1,16 @@
+use Rattle.std.proofs.Common.{◌≡◌, ℕ, ◌+◌, ◌*◌, ◌≤◌, ◌<◌, refl, arith}
 use Rattle.std.proofs.lemmas.Result.{err_from_is_err_and}
-use Rattle.cell_devices.proofs.GatherLemmas.{CutsOff-first, CutsOff-second}
-use Rattle.cell_ascii_writer.proofs.RunWritingLemmas.{times-rest}
+use Rattle.cell_devices.proofs.GatherLemmas.{CutsOff-first, CutsOff-second, Gathers-none, Gathers-then}
+use Rattle.cell_ascii_writer.proofs.RunWritingLemmas.{times-more, times-rest}
+use Rattle.cell_ascii_writer.proofs.WriterLemmas.{at_end, counted_none, failed_not, failed_still}
 use Rattle.cell_ascii_writer.proofs.writer.write_copies.Goals as goal
+
+-- what the block counts after one field more
+again : (now between old size n : ℕ) → now ≤ between + size → size ≤ 65 → between ≤ old + 65 * n → now ≤ old + 65 * (n + 1)
+again now between old size n grown within was = omega arith
+
+within : (now between old size n all : ℕ) → now ≤ between + size → size ≤ 65 → between ≤ old + 65 * n → n < all → now ≤ old + 65 * all
+within now between old size n all grown fits was below = omega arith
 
 pub returns-in_err-push-clause-err : goal.returns-in_err-push-clause-err
 returns-in_err-push-clause-err g c =
@@ -21,3 +30,30 @@ pub returns-in_err-push-clause-failed : goal.returns-in_err-push-clause-failed
 returns-in_err-push-clause-failed g c =
     let p = err_from_is_err_and c.from_residual.result c.from_residual.ensures.1 in
     rw (p.1) (rw c.loop.invariant.failed at c.in_err-push.ensures.failed)
+
+pub loop-init : goal.loop-init
+loop-init g c = record { gathers = Gathers-none _ _; counted = counted_none _; failed = refl }
+
+pub loop-preserved : goal.loop-preserved
+loop-preserved g c = record {
+  gathers = rw (times-more c.loop.counter c.args.field.now) (Gathers-then _ _ _ _ _ _ _ _ c.loop.invariant.gathers c.in_ok-push.ensures.ok);
+  counted = again _ _ _ _ _ c.in_ok-push.ensures.counted c.requires c.loop.invariant.counted;
+  failed = failed_still _ _ _ c.in_ok-push.ensures.failed c.loop.invariant.failed;
+}
+
+pub returns-clause-ok : goal.returns-clause-ok
+returns-clause-ok g c =
+    let all : c.loop.counter ≡ c.args.count = at_end _ _ c.loop-test.false c.loop.auto.counter-end in
+    rw all at c.loop.invariant.gathers
+
+pub returns-clause-counted : goal.returns-clause-counted
+returns-clause-counted g c =
+    let all : c.loop.counter ≡ c.args.count = at_end _ _ c.loop-test.false c.loop.auto.counter-end in
+    rw all at c.loop.invariant.counted
+
+pub returns-clause-failed : goal.returns-clause-failed
+returns-clause-failed g c = failed_not _ _ c.loop.invariant.failed
+
+pub returns-in_err-push-clause-counted : goal.returns-in_err-push-clause-counted
+returns-in_err-push-clause-counted g c =
+    within _ _ _ _ _ _ c.in_err-push.ensures.counted c.requires c.loop.invariant.counted c.loop-test.true
