@@ -1,21 +1,25 @@
 -- The lines of a header, from their values, their ends and their first words.
 use Rattle.std.proofs.Common.{◌≡◌, ℕ, suc, ◌+◌, ◌-◌, ◌<◌, ◌≤◌, List, [], ◌∷◌, Option, Some, None, Result, Ok, Err, Bool, true, false, if◌then◌else◌, length, drop, take, refl, ap, sym, ◌∙◌, arith, take_all, length-drop, cond, not}
+use Rattle.std.proofs.lemmas.List.{drop_all}
 use Rattle.std.specs.Option.{option_map}
+use Rattle.std.specs.Result.{IsErr}
 use Rattle.std.specs.List.{before_first, after_first, list_any, position_or_len}
 use Rattle.cell_devices.specs.Device.{Coming}
 use Rattle.cell_ascii_text.specs.Words.{Start, Begins, Ends, Stops, start_of, word_from, fault}
-use Rattle.cell_ascii_text.specs.Header.{◌>>=◌, Keys, LineEnd, is_colon, at_line, with_key, value_from, line_end, gap_of, key_line, after_line, line_from, header_from, Opened, opened, ended}
+use Rattle.cell_ascii_text.specs.Header.{◌>>=◌, Keys, LineEnd, is_colon, at_line, with_key, Gap, Word, Feed as FeedGap, Last, Fault, value_from, line_end, gap_of, key_line, after_line, line_from, header_from, Opened, opened, ended}
 use Rattle.cell_scanner.specs.Ahead.{IsAtEnd}
 use Rattle.cell_ascii_text.specs.KeyNames.{key_of}
 use Rattle.cell_ascii_text.specs.declared.key.Key.{Key}
 use Rattle.cell_ascii_text.specs.declared.fault.GridKind.TheVariants.{BadHeader}
-use Rattle.cell_scanner.specs.Scan.{start_seen, word_seen}
+use Rattle.cell_scanner.specs.Scan.{start_seen, word_seen, line_seen as lines_seen}
 use Rattle.cell_ascii_header.specs.Opening.{value_seen, ending_seen, key_line_seen, AfterLine, More, Stop, after_key, line_read}
 use Rattle.cell_ascii_text.specs.declared.fault.GridKind.{GridKind}
 use Rattle.cell_ascii_text.specs.declared.fault.GridFault.{GridFault}
 use Rattle.cell_ascii_header.specs.declared.opening.Ending.{Ending}
 use Rattle.cell_ascii_header.specs.declared.opening.Ending.TheVariants.{Feed, Text}
-use Rattle.cell_scanner.specs.declared.scanner.Next.TheVariants.{Word}
+use Rattle.cell_scanner.specs.declared.scanner.Next.TheVariants.{Word as NextWord}
+use Rattle.cell_scanner.specs.declared.scanner.InLine.{InLine}
+use Rattle.cell_scanner.specs.declared.scanner.InLine.TheVariants.{Word as LineWord, Feed as LineFeed, End as LineEnding}
 use Rattle.cell_ascii_header.proofs.MapLemmas.{then_map, map_same}
 use Rattle.cell_scanner.proofs.StartLemmas.{at_end}
 
@@ -23,6 +27,42 @@ use Rattle.cell_scanner.proofs.StartLemmas.{at_end}
 pub value_here : (line : ℕ) (bs : List ℕ) (c : Coming) → 0 < length bs → value_from line bs c ≡ Ok (bs, c)
 value_here line [] c h = absurd (omega arith)
 value_here line (b ∷ bs) c h = refl
+
+-- what the end of the blanks makes of a value that does not stand in the word
+abbrev after_blanks : ℕ → Gap → Result (List ℕ × Coming) GridFault
+after_blanks line (Word d) = word_from line [] d
+after_blanks line (FeedGap run d) = Err (fault BadHeader line)
+after_blanks line Last = Err (fault BadHeader line)
+after_blanks line (Fault f) = Err f
+
+value_later : (line : ℕ) (c : Coming) (gap : Gap) → gap_of line 0 c ≡ gap → value_from line [] c ≡ after_blanks line gap
+value_later line c (Word d) e = rw e refl
+value_later line c (FeedGap run d) e = rw e refl
+value_later line c Last e = rw e refl
+value_later line c (Fault f) e = rw e refl
+
+pub value_blanks : (line start : ℕ) (word : List ℕ) (seen : Coming → Gap) (a b : Option Coming)
+    → length word ≤ start → option_map (gap_of line 0) a ≡ option_map seen b
+    → option_map (value_from line (drop start word)) a ≡ option_map (λ c. after_blanks line (seen c)) b
+value_blanks line start word seen a b long gaps =
+    rw (drop_all start word long)
+    (map_same (value_from line []) (λ c. after_blanks line (gap_of line 0 c)) a (λ c. value_later line c (gap_of line 0 c) refl)
+    ∙ then_map (after_blanks line) (gap_of line 0) seen a b gaps)
+
+-- the line after the blanks
+pub line_most : (r : Result InLine GridFault) (now line : ℕ) → now ≡ lines_seen r line → now ≤ line + 1
+line_most (Ok LineWord) now line e = omega arith
+line_most (Ok LineFeed) now line e = omega arith
+line_most (Ok LineEnding) now line e = omega arith
+line_most (Err f) now line e = omega arith
+
+-- what fails has no answer, and a line ends in one way
+pub err_no_ok : {T E : Type 0} (P : Type 0) (r : Result T E) (x : T) → IsErr r → r ≡ Ok x → P
+err_no_ok P (Ok y) x err e = cc
+err_no_ok P (Err d) x err e = cc
+
+pub one_ending : (P : Type 0) (r : Result Ending GridFault) → r ≡ Ok Feed → r ≡ Ok Text → P
+one_ending P r feed text = cc
 
 abbrev after_end : Result Keys GridKind → ℕ → Result LineEnd GridFault → Result (Keys × LineEnd) GridFault
 after_end more line r = r >>= (λ end. at_line line more >>= (λ k. Ok (k, end)))
@@ -46,16 +86,48 @@ key_done line keys word w at run e more a b d values ends given =
     ∙ ap (λ (v : Result Keys GridKind). option_map (λ c. after_end v line (ending_seen (Ok e) run c)) d) given
     ∙ map_same (λ c. after_end (Ok more) line (ending_seen (Ok e) run c)) (key_line_seen (Ok e) more run) d (ends_with more line run e)
 
+-- one whose value could not be read
+pub key_unread : (line : ℕ) (keys : Keys) (word w : List ℕ) (run : ℕ) (more : Keys) (f : GridFault) (a b : Option Coming)
+    → option_map (value_from line (after_first is_colon word)) a ≡ option_map (value_seen (Err f) w) b
+    → option_map (key_line line keys word) a ≡ option_map (key_line_seen (Err f) more run) b
+key_unread line keys word w run more f a b values =
+    then_map (after_value line keys word) (value_from line (after_first is_colon word)) (value_seen (Err f) w) a b values
+
+-- one whose end could not be read
+pub key_unended : (line : ℕ) (keys : Keys) (word w : List ℕ) (at run : ℕ) (more : Keys) (f : GridFault) (a b d : Option Coming)
+    → option_map (value_from line (after_first is_colon word)) a ≡ option_map (value_seen (Ok at) w) b
+    → option_map (λ c. line_end line (gap_of line 0 c)) b ≡ option_map (ending_seen (Err f) run) d
+    → option_map (key_line line keys word) a ≡ option_map (key_line_seen (Err f) more run) d
+key_unended line keys word w at run more f a b d values ends =
+    then_map (after_value line keys word) (value_from line (after_first is_colon word)) (value_seen (Ok at) w) a b values
+    ∙ then_map (after_end (with_key keys (key_of (before_first is_colon word)) (drop at w)) line) (λ c. line_end line (gap_of line 0 c)) (ending_seen (Err f) run) b d ends
+
+refused_with : (kind : GridKind) (line run : ℕ) (e : Ending) (c : Coming) → after_end (Err kind) line (ending_seen (Ok e) run c) ≡ Err (fault kind line)
+refused_with kind line run Feed c = refl
+refused_with kind line run Text c = refl
+
+-- one whose key or value is refused
+pub key_refused : (line : ℕ) (keys : Keys) (word w : List ℕ) (at run : ℕ) (e : Ending) (more : Keys) (kind : GridKind) (a b d : Option Coming)
+    → option_map (value_from line (after_first is_colon word)) a ≡ option_map (value_seen (Ok at) w) b
+    → option_map (λ c. line_end line (gap_of line 0 c)) b ≡ option_map (ending_seen (Ok e) run) d
+    → with_key keys (key_of (before_first is_colon word)) (drop at w) ≡ Err kind
+    → option_map (key_line line keys word) a ≡ option_map (key_line_seen (Err (fault kind line)) more run) d
+key_refused line keys word w at run e more kind a b d values ends given =
+    then_map (after_value line keys word) (value_from line (after_first is_colon word)) (value_seen (Ok at) w) a b values
+    ∙ then_map (after_end (with_key keys (key_of (before_first is_colon word)) (drop at w)) line) (λ c. line_end line (gap_of line 0 c)) (ending_seen (Ok e) run) b d ends
+    ∙ ap (λ (v : Result Keys GridKind). option_map (λ c. after_end v line (ending_seen (Ok e) run c)) d) given
+    ∙ map_same (λ c. after_end (Err kind) line (ending_seen (Ok e) run c)) (key_line_seen (Err (fault kind line)) more run) d (refused_with kind line run e)
+
 -- the rest of a list, cut at its own length, is the rest
 whole_rest : (bs : List ℕ) (i : ℕ) → take (length bs - i) (drop i bs) ≡ drop i bs
 whole_rest bs i = take_all (length bs - i) (drop i bs) (omega (arith, length-drop i bs))
 
 -- the key and the value as they are computed
-pub key_given : (keys more : Keys) (word first last end : List ℕ) (colon at : ℕ) (key : Option Key)
+pub key_given : (keys : Keys) (r : Result Keys GridKind) (word first last end : List ℕ) (colon at : ℕ) (key : Option Key)
     → colon ≡ position_or_len is_colon word → first ≡ word → key ≡ key_of (take colon first) → last ≡ end
-    → Ok more ≡ with_key keys key (take (length last - at) (drop at last))
-    → with_key keys (key_of (before_first is_colon word)) (drop at end) ≡ Ok more
-key_given keys more word first last end colon at key place is_first is_key is_last given =
+    → r ≡ with_key keys key (take (length last - at) (drop at last))
+    → with_key keys (key_of (before_first is_colon word)) (drop at end) ≡ r
+key_given keys r word first last end colon at key place is_first is_key is_last given =
     let k : key ≡ key_of (before_first is_colon word) = is_key ∙ (λ i. key_of (take (place i) (is_first i))) in
     let rest : take (length last - at) (drop at last) ≡ drop at end = whole_rest last at ∙ ap (drop at) is_last in
     sym (given ∙ (λ i. with_key keys (k i) (rest i)))
@@ -87,11 +159,11 @@ abbrev after_first_word : Keys → ℕ → Result (List ℕ × Coming) GridFault
 after_first_word keys line r = r >>= (λ w. if list_any is_colon w.0 then key_line line keys w.0 w.1 >>= after_key line else Ok (Stop keys line (Some w.0) w.1))
 
 module _ (keys : Keys) (line run l : ℕ) (word : List ℕ) (a b d : Option Coming)
-    (starts : option_map (start_of line run) a ≡ option_map (start_seen (Ok Word) l) b)
+    (starts : option_map (start_of line run) a ≡ option_map (start_seen (Ok NextWord) l) b)
     (words : option_map (word_from l []) b ≡ option_map (word_seen (Ok tt) word) d) where
   first_word : option_map (λ c. line_read keys (start_of line run c)) a ≡ option_map (λ c. after_first_word keys l (Ok (word, c))) d
   first_word =
-      then_map (line_read keys) (start_of line run) (start_seen (Ok Word) l) a b starts
+      then_map (line_read keys) (start_of line run) (start_seen (Ok NextWord) l) a b starts
       ∙ then_map (after_first_word keys l) (word_from l []) (word_seen (Ok tt) word) b d words
 
   -- the data begins
