@@ -24,7 +24,8 @@ out_ascii_named known name words r first second e = rw (first, second, e) refl
 
 clump_named : (known : List (List ℕ)) (name : List ℕ) (words : List (List ℕ)) (r : Result Command ScriptKind)
     → bytes_eq name (codes "r.stats") ≡ false → bytes_eq name (codes "r.out.ascii") ≡ false
-    → bytes_eq name (codes "r.clump") ≡ true → in_script (clump_of known words) ≡ r → head_named known name words ≡ as_whole r
+    → bytes_eq name (codes "r.clump") ≡ true → in_script (clump_of known words) ≡ r
+    → head_named known name words ≡ as_whole r
 clump_named known name words r first second third e = rw (first, second, third, e) refl
 
 reclass_named : (known : List (List ℕ)) (name : List ℕ) (words : List (List ℕ)) (r : Result (ℕ × List ℕ) ScriptKind)
@@ -73,7 +74,8 @@ returns-in_err-out_ascii_of-clause-fits c =
 
 pub returns-in_err-out_ascii_of-clause-err : goal.returns-in_err-out_ascii_of-clause-err
 returns-in_err-out_ascii_of-clause-err c =
-    let p = err_from_is_err_and c.from_residual-in_err-out_ascii_of.result c.from_residual-in_err-out_ascii_of.ensures.1 in
+    let e = c.from_residual-in_err-out_ascii_of in
+    let p = err_from_is_err_and e.result e.ensures.1 in
     rw p.1 (λ other. out_ascii_named c.args.known.now c.args.name.now (map (λ w. w.now) c.args.words.now) _
     (read _ _ _ _ c.as_slice.ensures c.if-eq.ensures) (read _ _ _ _ c.as_slice-else-eq.ensures c.if-eq-2.ensures)
     (told _ _ _ p.2 other c.in_err-out_ascii_of.ensures.err))
@@ -132,14 +134,16 @@ returns-in_err-place-clause-err c =
     let p = err_from_is_err_and c.from_residual-in_err-place.result c.from_residual-in_err-place.ensures.1 in
     rw p.1 (λ other. reclass_named c.args.known.now c.args.name.now (map (λ w. w.now) c.args.words.now) _
     (read _ _ _ _ c.as_slice.ensures c.if-eq.ensures) (read _ _ _ _ c.as_slice-else-eq.ensures c.if-eq-2.ensures)
-    (read _ _ _ _ c.as_slice-else-eq-2.ensures c.if-eq-3.ensures) (read _ _ _ _ c.as_slice-else-eq-3.ensures c.if-eq-4.ensures)
+    (read _ _ _ _ c.as_slice-else-eq-2.ensures c.if-eq-3.ensures)
+    (read _ _ _ _ c.as_slice-else-eq-3.ensures c.if-eq-4.ensures)
     (told _ _ _ p.2 other c.in_err-place.ensures.err))
 
 pub returns-in_ok-place-clause-ok : goal.returns-in_ok-place-clause-ok
 returns-in_ok-place-clause-ok c =
     reclass_named c.args.known.now c.args.name.now (map (λ w. w.now) c.args.words.now) _
     (read _ _ _ _ c.as_slice.ensures c.if-eq.ensures) (read _ _ _ _ c.as_slice-else-eq.ensures c.if-eq-2.ensures)
-    (read _ _ _ _ c.as_slice-else-eq-2.ensures c.if-eq-3.ensures) (read _ _ _ _ c.as_slice-else-eq-3.ensures c.if-eq-4.ensures)
+    (read _ _ _ _ c.as_slice-else-eq-2.ensures c.if-eq-3.ensures)
+    (read _ _ _ _ c.as_slice-else-eq-3.ensures c.if-eq-4.ensures)
     (given _ _ c.in_ok-place.ensures.ok)
 
 pub returns-in_ok-place-clause-fits : goal.returns-in_ok-place-clause-fits
@@ -158,4 +162,5 @@ pub returns-else-eq-4-clause-err : goal.returns-else-eq-4-clause-err
 returns-else-eq-4-clause-err c _ =
     none_named c.args.known.now c.args.name.now (map (λ w. w.now) c.args.words.now)
     (read _ _ _ _ c.as_slice.ensures c.if-eq.ensures) (read _ _ _ _ c.as_slice-else-eq.ensures c.if-eq-2.ensures)
-    (read _ _ _ _ c.as_slice-else-eq-2.ensures c.if-eq-3.ensures) (read _ _ _ _ c.as_slice-else-eq-3.ensures c.if-eq-4.ensures)
+    (read _ _ _ _ c.as_slice-else-eq-2.ensures c.if-eq-3.ensures)
+    (read _ _ _ _ c.as_slice-else-eq-3.ensures c.if-eq-4.ensures)
