@@ -1,13 +1,97 @@
-use Rattle.std.proofs.Common.{rules}
+use Rattle.std.proofs.Common.{◌≡◌, ◌∙◌, ◌+◌, ◌-◌, ◌*◌, ◌<◌, ◌≤◌, ◌^◌, ◌∷◌, ℕ, List, length, take, drop, sym, ap, subst, arith, length-take, length-drop}
+use Rattle.std.proofs.lemmas.List.{nil_from_length}
+use Rattle.cell_core.specs.Runs.{RunValue}
+use Rattle.cell_core.specs.Grid.{CellValue}
+use Rattle.cell_core.specs.parts.Rows.{runs_in, runs_left, IsShort}
 use Rattle.cell_core.proofs.RowLemmas.{runs_in-rest}
 use Rattle.cell_core.proofs.runs.RunsIterator.next.Goals as goal
 
+fewer : (run : RunValue) (runs all : List RunValue) → all ≡ run ∷ runs → length runs < length all
+fewer run runs all e = rw e (omega arith)
+
+small : {n rest all : ℕ} → n ≤ rest → rest + 1 ≡ all → all < 2 ^ 32 → n < 2 ^ 32
+small within one short = omega arith
+
+small_next : {n rest all : ℕ} → n ≤ rest → rest + 1 ≡ all → all < 2 ^ 32 → 1 + n < 2 ^ 32
+small_next within one short = omega arith
+
+small_bytes : {n : ℕ} → n < 2 ^ 32 → n * 4 < 2 ^ 64
+small_bytes short = omega arith
+
+short_rest : (cells : List CellValue) (n : ℕ) {all : ℕ} → length cells + 1 ≡ all → all < 2 ^ 32
+    → length (take (length cells - n) (drop n cells)) < 2 ^ 32
+short_rest cells n one short = omega (arith, length-take (length cells - n) (drop n cells), length-drop n cells)
+
+pub returns-in_err-first-in-Runs-clause-steps : goal.returns-in_err-first-in-Runs-clause-steps
+returns-in_err-first-in-Runs-clause-steps c =
+    let none = nil_from_length c.in-Runs.runs.now c.in_err-first-in-Runs.ensures.cases in
+    let all = sym c.self.view_is ∙ ap runs_left c.in-Runs.is ∙ none in
+    rw c.from_residual.ensures (all, all)
+
+pub returns-in_err-first-in-Runs-clause-goes : goal.returns-in_err-first-in-Runs-clause-goes
+returns-in_err-first-in-Runs-clause-goes c =
+    rw c.from_residual.ensures (record { on = λ finite. tt; keeps = tt; rests = λ finite. finite })
+
+pub returns-in_err-first-in-Cells-clause-steps : goal.returns-in_err-first-in-Cells-clause-steps
+returns-in_err-first-in-Cells-clause-steps c =
+    let none = nil_from_length c.in-Cells.cells.now c.in_err-first-in-Cells.ensures.cases in
+    let all = sym c.self.view_is ∙ ap runs_left c.in-Cells.is ∙ ap runs_in none in
+    rw c.from_residual-in_err-first-in-Cells.ensures (all, all)
+
+pub returns-in_err-first-in-Cells-clause-goes : goal.returns-in_err-first-in-Cells-clause-goes
+returns-in_err-first-in-Cells-clause-goes c =
+    rw c.from_residual-in_err-first-in-Cells.ensures (record { on = λ finite. tt; keeps = tt; rests = λ finite. finite })
+
+pub offset_bounds-others-alike : goal.offset_bounds-others-alike
+offset_bounds-others-alike c =
+    let short = subst IsShort c.in-Cells.is c.self.invariant in
+    record { fits = small_bytes (small c.count_alike-alike.ensures.within c.in_ok-first-in-Cells.ensures.cases.1 short) }
+
+pub slice_bounds-self-count : goal.slice_bounds-self-count
+slice_bounds-self-count c = c.count_alike-alike.ensures.within
+
+pub overflow_cast-result : goal.overflow_cast-result
+overflow_cast-result c =
+    let short = subst IsShort c.in-Cells.is c.self.invariant in
+    record { fits = small c.count_alike-alike.ensures.within c.in_ok-first-in-Cells.ensures.cases.1 short }
+
+pub overflow_add-result : goal.overflow_add-result
+overflow_add-result c =
+    let short = subst IsShort c.in-Cells.is c.self.invariant in
+    record { fits = small_next c.count_alike-alike.ensures.within c.in_ok-first-in-Cells.ensures.cases.1 short }
+
+pub invariant_of-self-in-Cells : goal.invariant_of-self-in-Cells
+invariant_of-self-in-Cells c =
+    let short = subst IsShort c.in-Cells.is c.self.invariant in
+    short_rest c.in_ok-first-in-Cells.others.now c.count_alike-alike.result c.in_ok-first-in-Cells.ensures.cases.1 short
+
+pub returns-in_ok-first-in-Runs-clause-steps : goal.returns-in_ok-first-in-Runs-clause-steps
+returns-in_ok-first-in-Runs-clause-steps c =
+    sym c.self.view_is ∙ ap runs_left c.in-Runs.is ∙ c.in_ok-first-in-Runs.ensures.cases.0
+
+pub returns-in_ok-first-in-Runs-clause-goes : goal.returns-in_ok-first-in-Runs-clause-goes
+returns-in_ok-first-in-Runs-clause-goes c =
+    let first = sym c.self.view_is ∙ ap runs_left c.in-Runs.is ∙ c.in_ok-first-in-Runs.ensures.cases.0 in
+    record {
+      on = λ finite. (tt, tt, fewer _ _ _ first);
+      keeps = tt;
+      rests = λ finite. tt;
+    }
+
 pub returns-in_ok-first-in-Cells-clause-steps : goal.returns-in_ok-first-in-Cells-clause-steps
 returns-in_ok-first-in-Cells-clause-steps c =
-    let next = runs_in-rest c.in_ok-first-in-Cells.first.now c.in_ok-first-in-Cells.others.now c.count_alike-alike.result c.count_alike-alike.ensures.value in
-    search (rules, next)
+    let arm = c.in_ok-first-in-Cells in
+    sym c.self.view_is ∙ ap runs_left c.in-Cells.is ∙ ap runs_in arm.ensures.cases.0
+    ∙ runs_in-rest arm.first.now arm.others.now c.count_alike-alike.result c.count_alike-alike.ensures.value
 
 pub returns-in_ok-first-in-Cells-clause-goes : goal.returns-in_ok-first-in-Cells-clause-goes
 returns-in_ok-first-in-Cells-clause-goes c =
-    let next = runs_in-rest c.in_ok-first-in-Cells.first.now c.in_ok-first-in-Cells.others.now c.count_alike-alike.result c.count_alike-alike.ensures.value in
-    search (rules, next)
+    let arm = c.in_ok-first-in-Cells in
+    let first =
+    sym c.self.view_is ∙ ap runs_left c.in-Cells.is ∙ ap runs_in arm.ensures.cases.0
+    ∙ runs_in-rest arm.first.now arm.others.now c.count_alike-alike.result c.count_alike-alike.ensures.value in
+    record {
+      on = λ finite. (tt, tt, fewer _ _ _ first);
+      keeps = tt;
+      rests = λ finite. tt;
+    }
