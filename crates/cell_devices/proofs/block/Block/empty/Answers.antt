@@ -1,4 +1,4 @@
-use Rattle.std.proofs.Common.{◌≡◌, ◌+◌, ◌<◌, ◌≤◌, ◌||◌, ◌∙◌, ℕ, [], length, Bool, Result, Ok, Err, IfOk, IfErr, is_err, refl, ap, arith}
+use Rattle.std.proofs.Common.{◌≡◌, ◌+◌, ◌<◌, ◌≤◌, ◌||◌, ℕ, [], length, Bool, Result, Ok, Err, IfOk, IfErr, is_err, refl, arith}
 use Rattle.std.specs.Result.{result_map_both}
 use Rattle.std.proofs.lemmas.Result.{IfOk-weaker, IfErr-weaker}
 use Rattle.cell_devices.specs.Blocks.{BlockValue, Empties, PutsAll, capped, counted}
