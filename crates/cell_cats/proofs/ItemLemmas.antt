@@ -63,6 +63,24 @@ items-step ws i n d b done new h within first good pushed so_far =
       omega (arith, length-drop (i + 1) ws, within-rest),
     )
 
+-- words whose next item is none spell none
+pub items-stop : (ws : List (Bor (List ℕ))) (i n : ℕ) (d b : Bor (List ℕ)) (done : List (Bor (List ℕ) × Bor (List ℕ)))
+    → i < length ws
+    → items_of ((get_or ws i d).now ∷ texts (take (length ws - (i + 1)) (drop (i + 1) ws)))
+    ≡ with_item (get_or ws i d).now b.now (items_of (texts (drop n (take (length ws - (i + 1)) (drop (i + 1) ws)))))
+    → (is_end (get_or ws i d).now && is_end b.now) ≡ false
+    → items_of (texts ws) ≡ after (pairs done) (items_of (texts (drop i ws)))
+    → items_of (texts ws) ≡ None
+items-stop ws i n d b done h first bad so_far =
+    let words = take (length ws - (i + 1)) (drop (i + 1) ws) in
+    let rest : words ≡ drop (i + 1) ws =
+    take_all (length ws - (i + 1)) (drop (i + 1) ws) (omega (arith, length-drop (i + 1) ws)) in
+    let a = (get_or ws i d).now in
+    let none : items_of (texts (drop i ws)) ≡ None =
+    at_drop_more (λ l. items_of (texts l)) ws i d h ∙ ap (λ l. items_of (a ∷ texts l)) (sym rest) ∙ first
+    ∙ with_item-bad a b.now (items_of (texts (drop n words))) bad in
+    so_far ∙ ap (after (pairs done)) none
+
 -- one more range of the items, or none
 module _ (items : List (Bor (List ℕ) × Bor (List ℕ))) (i : ℕ) (d : Bor (List ℕ) × Bor (List ℕ)) (done : List (ℤ × ℤ)) (h : i < length items) (so_far : ranges_of (pairs items) ≡ after done (ranges_of (pairs (drop i items)))) where
   pub ranges-step : (range : ℤ × ℤ) (new : List (ℤ × ℤ)) → range_of ((get_or items i d).0.now, (get_or items i d).1.now) ≡ Some range → new ≡ done ++ range ∷ []
