@@ -20,6 +20,12 @@ column_item f [] i k x lt is = absurd (let no : ⊥ = omega arith in no)
 column_item f (y ∷ xs) zero k x lt is = ap (λ v. at (f v) k) (sym is)
 column_item f (y ∷ xs) (suc i) k x lt is = column_item f xs i k x (omega arith) is
 
+-- a row of cells is as long as each of the arguments
+pub item_width : {V : Type 0} (f : V → List CellValue) (xs : List V) (width i : ℕ) (x : V) (row : List CellValue)
+    → ((k : ℕ) (d : V) → k < length xs → length (f (get_or xs k d)) ≡ width)
+    → i < length xs → x ≡ get_or xs i x → row ≡ f x → length row ≡ width
+item_width f xs width i x row all lt is same = ap (λ l. length l) same ∙ ap (λ v. length (f v)) is ∙ all i x lt
+
 -- one more argument in a fold
 pub fold_step : {V S : Type 0} (f : V → List CellValue) (g : S → CellValue → S) (a : S) (xs : List V) (i k : ℕ) (x : V)
     (b new : S) (other : List CellValue)

@@ -37,7 +37,8 @@ returns-in_err-mode-in-Mode-clause-each c = IfOk-from_err c.from_residual.result
 
 pub returns-in_err-known_mode-in-KnownMode-clause-each : goal.returns-in_err-known_mode-in-KnownMode-clause-each
 returns-in_err-known_mode-in-KnownMode-clause-each c =
-    IfOk-from_err c.from_residual-in_err-known_mode-in-KnownMode.result _ c.from_residual-in_err-known_mode-in-KnownMode.ensures.0
+    let residual = c.from_residual-in_err-known_mode-in-KnownMode in
+    IfOk-from_err residual.result _ residual.ensures.0
 
 pub returns-in-If-clause-each : goal.returns-in-If-clause-each
 returns-in-If-clause-each c = rw c.in-If.is c.choose.ensures.each
@@ -67,12 +68,14 @@ pub returns-in-Column-clause-each : goal.returns-in-Column-clause-each
 returns-in-Column-clause-each c = rw c.in-Column.is c.number-in-Column.ensures.each
 
 pub returns-in-RowCount-clause-each : goal.returns-in-RowCount-clause-each
-returns-in-RowCount-clause-each c = rw c.in-RowCount.is
-    (λ k h. c.fill-in-RowCount.ensures.each k h ∙ c.number-in-RowCount.ensures ∙ ap (λ n. Some (pos n)) c.rows-count.ensures.value)
+returns-in-RowCount-clause-each c =
+    let cell = c.number-in-RowCount.ensures ∙ ap (λ n. Some (pos n)) c.rows-count.ensures.value in
+    rw c.in-RowCount.is (λ k h. c.fill-in-RowCount.ensures.each k h ∙ cell)
 
 pub returns-in-ColumnCount-clause-each : goal.returns-in-ColumnCount-clause-each
-returns-in-ColumnCount-clause-each c = rw c.in-ColumnCount.is
-    (λ k h. c.fill-in-ColumnCount.ensures.each k h ∙ c.number-in-ColumnCount.ensures ∙ ap (λ n. Some (pos n)) c.cols-width.ensures.value)
+returns-in-ColumnCount-clause-each c =
+    let cell = c.number-in-ColumnCount.ensures ∙ ap (λ n. Some (pos n)) c.cols-width.ensures.value in
+    rw c.in-ColumnCount.is (λ k h. c.fill-in-ColumnCount.ensures.each k h ∙ cell)
 
 pub returns-in-Eval-clause-each : goal.returns-in-Eval-clause-each
 returns-in-Eval-clause-each c = rw c.in-Eval.is c.last.ensures.each
@@ -85,4 +88,3 @@ returns-in-KnownMax-clause-each c = rw c.in-KnownMax.is c.known_greatest.ensures
 
 pub returns-in_ok-known_mode-in-KnownMode-clause-each : goal.returns-in_ok-known_mode-in-KnownMode-clause-each
 returns-in_ok-known_mode-in-KnownMode-clause-each c = rw c.in-KnownMode.is c.in_ok-known_mode-in-KnownMode.ensures.each
-
