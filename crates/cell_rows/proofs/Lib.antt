@@ -2,3 +2,4 @@
 pub mod Columns
 pub mod Frequent
 pub mod Strips
+pub mod Places
