@@ -1,47 +1,46 @@
-use Rattle.std.proofs.Common.{rules}
 use Rattle.cell_rows.proofs.rows.apply.Goals as goal
 
 pub returns-in-Times-clause-each : goal.returns-in-Times-clause-each
-returns-in-Times-clause-each c = λ k h. let e = c.combine.ensures.each k h in search rules
+returns-in-Times-clause-each c = rw c.in-Times.is (λ k h. (c.combine.ensures.each k h).2)
 
 pub returns-in-Divide-clause-each : goal.returns-in-Divide-clause-each
-returns-in-Divide-clause-each c = λ k h. let e = c.combine-in-Divide.ensures.each k h in search rules
+returns-in-Divide-clause-each c = rw c.in-Divide.is (λ k h. (c.combine-in-Divide.ensures.each k h).2)
 
 pub returns-in-Modulo-clause-each : goal.returns-in-Modulo-clause-each
-returns-in-Modulo-clause-each c = λ k h. let e = c.combine-in-Modulo.ensures.each k h in search rules
+returns-in-Modulo-clause-each c = rw c.in-Modulo.is (λ k h. (c.combine-in-Modulo.ensures.each k h).2)
 
 pub returns-in-Plus-clause-each : goal.returns-in-Plus-clause-each
-returns-in-Plus-clause-each c = λ k h. let e = c.combine-in-Plus.ensures.each k h in search rules
+returns-in-Plus-clause-each c = rw c.in-Plus.is (λ k h. (c.combine-in-Plus.ensures.each k h).2)
 
 pub returns-in-Minus-clause-each : goal.returns-in-Minus-clause-each
-returns-in-Minus-clause-each c = λ k h. let e = c.combine-in-Minus.ensures.each k h in search rules
+returns-in-Minus-clause-each c = rw c.in-Minus.is (λ k h. (c.combine-in-Minus.ensures.each k h).2)
 
 pub returns-in-Less-clause-each : goal.returns-in-Less-clause-each
-returns-in-Less-clause-each c = λ k h. let e = c.combine-in-Less.ensures.each k h in search rules
+returns-in-Less-clause-each c = rw c.in-Less.is (λ k h. (c.combine-in-Less.ensures.each k h).2)
 
 pub returns-in-LessEqual-clause-each : goal.returns-in-LessEqual-clause-each
-returns-in-LessEqual-clause-each c = λ k h. let e = c.combine-in-LessEqual.ensures.each k h in search rules
+returns-in-LessEqual-clause-each c = rw c.in-LessEqual.is (λ k h. (c.combine-in-LessEqual.ensures.each k h).2)
 
 pub returns-in-Greater-clause-each : goal.returns-in-Greater-clause-each
-returns-in-Greater-clause-each c = λ k h. let e = c.combine-in-Greater.ensures.each k h in search rules
+returns-in-Greater-clause-each c = rw c.in-Greater.is (λ k h. (c.combine-in-Greater.ensures.each k h).2)
 
 pub returns-in-GreaterEqual-clause-each : goal.returns-in-GreaterEqual-clause-each
-returns-in-GreaterEqual-clause-each c = λ k h. let e = c.combine-in-GreaterEqual.ensures.each k h in search rules
+returns-in-GreaterEqual-clause-each c = rw c.in-GreaterEqual.is (λ k h. (c.combine-in-GreaterEqual.ensures.each k h).2)
 
 pub returns-in-Equal-clause-each : goal.returns-in-Equal-clause-each
-returns-in-Equal-clause-each c = λ k h. let e = c.combine-in-Equal.ensures.each k h in search rules
+returns-in-Equal-clause-each c = rw c.in-Equal.is (λ k h. (c.combine-in-Equal.ensures.each k h).2)
 
 pub returns-in-NotEqual-clause-each : goal.returns-in-NotEqual-clause-each
-returns-in-NotEqual-clause-each c = λ k h. let e = c.combine-in-NotEqual.ensures.each k h in search rules
+returns-in-NotEqual-clause-each c = rw c.in-NotEqual.is (λ k h. (c.combine-in-NotEqual.ensures.each k h).2)
 
 pub returns-in-And-clause-each : goal.returns-in-And-clause-each
-returns-in-And-clause-each c = λ k h. let e = c.combine-in-And.ensures.each k h in search rules
+returns-in-And-clause-each c = rw c.in-And.is (λ k h. (c.combine-in-And.ensures.each k h).2)
 
 pub returns-in-Or-clause-each : goal.returns-in-Or-clause-each
-returns-in-Or-clause-each c = λ k h. let e = c.combine-in-Or.ensures.each k h in search rules
+returns-in-Or-clause-each c = rw c.in-Or.is (λ k h. (c.combine-in-Or.ensures.each k h).2)
 
 pub returns-in-KnownAnd-clause-each : goal.returns-in-KnownAnd-clause-each
-returns-in-KnownAnd-clause-each c = λ k h. let e = c.combine-in-KnownAnd.ensures.each k h in search rules
+returns-in-KnownAnd-clause-each c = rw c.in-KnownAnd.is (λ k h. (c.combine-in-KnownAnd.ensures.each k h).2)
 
 pub returns-in-KnownOr-clause-each : goal.returns-in-KnownOr-clause-each
-returns-in-KnownOr-clause-each c = λ k h. let e = c.combine-in-KnownOr.ensures.each k h in search rules
+returns-in-KnownOr-clause-each c = rw c.in-KnownOr.is (λ k h. (c.combine-in-KnownOr.ensures.each k h).2)
