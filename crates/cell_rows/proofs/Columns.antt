@@ -1,12 +1,12 @@
 -- Arguments of functions, column by column.
-use Rattle.std.proofs.Common.{◌≡◌, ◌<◌, ◌≤◌, ◌+◌, ◌-◌, ℕ, ℤ, zero, suc, List, [], ◌∷◌, length, take, drop, map, get_or, refl, sym, ap, ◌∙◌, arith, Some, None}
+use Rattle.std.proofs.Common.{◌≡◌, ◌<◌, ◌≤◌, ◌+◌, ◌-◌, ℕ, ℤ, zero, suc, List, [], ◌∷◌, length, take, drop, map, get_or, refl, sym, ap, subst, ◌∙◌, arith, Some, None}
 use Rattle.std.specs.Prelude.{fold}
 use Rattle.std.specs.Int.{int_min, int_max}
 use Rattle.std.proofs.lemmas.List.{length-map, take_all}
 use Rattle.std.proofs.lemmas.List.Sums.{fold_more}
 use Rattle.cell_core.specs.Grid.{CellValue}
 use Rattle.cell_rows.specs.Rows.{at, column}
-use Rattle.cell_operations.specs.Cells.{lesser, greater, least, greatest, known}
+use Rattle.cell_operations.specs.Cells.{lesser, greater, least, greatest, known, last_of}
 use Rattle.cell_operations.specs.Joins.{known_lesser, known_greater}
 
 -- so many arguments, so many cells
@@ -25,6 +25,20 @@ pub item_width : {V : Type 0} (f : V → List CellValue) (xs : List V) (width i 
     → ((k : ℕ) (d : V) → k < length xs → length (f (get_or xs k d)) ≡ width)
     → i < length xs → x ≡ get_or xs i x → row ≡ f x → length row ≡ width
 item_width f xs width i x row all lt is same = ap (λ l. length l) same ∙ ap (λ v. length (f v)) is ∙ all i x lt
+
+-- none where there are no arguments
+pub no_items : {V : Type 0} (xs : List V) → length xs < 1 → xs ≡ []
+no_items [] few = refl
+no_items (x ∷ xs) few = absurd (let no : ⊥ = omega arith in no)
+
+-- the last argument
+pub last_before : (n : ℕ) → 1 ≤ n → n - 1 < n
+last_before n some = omega arith
+
+pub last_item : {V : Type 0} (f : V → List CellValue) (xs : List V) (k : ℕ) (x : V) → 1 ≤ length xs
+    → x ≡ get_or xs (length xs - 1) x → last_of (column k (map f xs)) ≡ at (f x) k
+last_item f xs k x some is =
+    rw (column_length f xs k) (column_item f xs (length xs - 1) k x (last_before (length xs) some) is)
 
 -- one more argument in a fold
 pub fold_step : {V S : Type 0} (f : V → List CellValue) (g : S → CellValue → S) (a : S) (xs : List V) (i k : ℕ) (x : V)
@@ -46,6 +60,15 @@ fold_all f g a xs i k r le is = is ∙ ap (λ l. fold g a l) (take_all i (column
 -- all but the first
 others_are : {V : Type 0} (y : V) (ys : List V) → take (length (y ∷ ys) - 1) (drop 1 (y ∷ ys)) ≡ ys
 others_are y ys = take_all (length (y ∷ ys) - 1) ys (omega arith)
+
+pub other_width : {V : Type 0} (f : V → List CellValue) (xs : List V) (width i : ℕ) (x : V) (row : List CellValue)
+    → ((k : ℕ) (d : V) → k < length xs → length (f (get_or xs k d)) ≡ width)
+    → i < length (take (length xs - 1) (drop 1 xs)) → x ≡ get_or (take (length xs - 1) (drop 1 xs)) i x → row ≡ f x
+    → length row ≡ width
+other_width f [] width i x row all lt is same = absurd (let no : ⊥ = omega arith in no)
+other_width f (y ∷ ys) width i x row all lt is same =
+    let below : i < length ys = subst (λ l. i < length l) (others_are y ys) lt in
+    item_width f (y ∷ ys) width (suc i) x row all (omega (arith, below)) (subst (λ l. x ≡ get_or l i x) (others_are y ys) is) same
 
 pub least_all : {V : Type 0} (f : V → List CellValue) (args : List V) (i k : ℕ) (first : V) (start : List CellValue) (r : CellValue)
     → 1 ≤ length args → first ≡ get_or args 0 first → start ≡ f first → length (take (length args - 1) (drop 1 args)) ≤ i

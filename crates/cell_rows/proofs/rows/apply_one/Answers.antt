@@ -25,7 +25,8 @@ pub returns-in-Greater-clause-each : goal.returns-in-Greater-clause-each
 returns-in-Greater-clause-each c = rw c.in-Greater.is (λ k h. (c.combine_one-in-Greater.ensures.each k h).2)
 
 pub returns-in-GreaterEqual-clause-each : goal.returns-in-GreaterEqual-clause-each
-returns-in-GreaterEqual-clause-each c = rw c.in-GreaterEqual.is (λ k h. (c.combine_one-in-GreaterEqual.ensures.each k h).2)
+returns-in-GreaterEqual-clause-each c =
+    rw c.in-GreaterEqual.is (λ k h. (c.combine_one-in-GreaterEqual.ensures.each k h).2)
 
 pub returns-in-Equal-clause-each : goal.returns-in-Equal-clause-each
 returns-in-Equal-clause-each c = rw c.in-Equal.is (λ k h. (c.combine_one-in-Equal.ensures.each k h).2)
