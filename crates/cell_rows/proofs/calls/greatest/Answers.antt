@@ -39,6 +39,7 @@ pub returns-clause-each : goal.returns-clause-each
 returns-clause-each c = λ k h.
     let same = c.loop-other.invariant.width ∙ c.copy_from_slice.ensures.len in
     let here = within_same c.loop-other.row c.args.row.now k same h in
-    greatest_all (λ v. v.items) _ c.loop-other.other-index k c.first-item.result _ _ c.in-len1-up.len_at_least c.first-item.is
+    greatest_all (λ v. v.items) _ c.loop-other.other-index k c.first-item.result _ _ c.in-len1-up.len_at_least
+    c.first-item.is
     (c.copy_from_slice.ensures.after ∙ c.as_slice.ensures.value) c.loop-other-test.false
     (c.loop-other.invariant.done k here)
