@@ -4,3 +4,4 @@ pub mod Ready
 pub mod Rings
 pub mod Values
 pub mod Written
+pub mod Waiting
