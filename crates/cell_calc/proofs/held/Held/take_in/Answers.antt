@@ -1,4 +1,4 @@
-use Rattle.std.proofs.Common.{◌≡◌, ◌<◌, ◌≤◌, ◌++◌, ◌∷◌, [], ℕ, length, map, sym, ap, ◌∙◌}
+use Rattle.std.proofs.Common.{◌≡◌, ◌<◌, ◌≤◌, ◌++◌, [], ℕ, length, sym, ap, ◌∙◌}
 use Rattle.std.proofs.lemmas.List.Elements.{All-same, All-push, All-drop}
 use Rattle.cell_calc.proofs.Waiting.{of_front, no_front, as_many, as_many_seen, room_stays, has_room}
 use Rattle.cell_calc.proofs.Waiting.{one_last, next_row, no_more}
