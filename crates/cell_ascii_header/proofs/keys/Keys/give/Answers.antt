@@ -1,7 +1,7 @@
-use Rattle.std.proofs.Common.{◌≡◌, ◌∙◌, refl, ap, List, ℕ, Option, Some, None, Result, Ok, Err, Bool, true, false, if◌then◌else◌, rules, w32, w64, SFits}
+use Rattle.std.proofs.Common.{◌≡◌, ◌∙◌, refl, ap, List, ℕ, Option, Some, None, Ok, Err, Bool, true, false, if◌then◌else◌, rules, w32, w64, SFits}
 use Rattle.std.proofs.lemmas.Int.{to_z-of_z}
 use Rattle.std.proofs.lemmas.Result.{IfOk-from_err, err_from_is_err_and}
-use Rattle.cell_ascii_text.specs.Header.{Keys, given, has_colon, is_int}
+use Rattle.cell_ascii_text.specs.Header.{Keys, given}
 use Rattle.cell_ascii_text.specs.declared.fault.GridKind.{GridKind}
 use Rattle.cell_ascii_text.specs.declared.fault.GridKind.TheVariants.{BadHeader, TwiceKey, BadType}
 use Rattle.cell_ascii_text.specs.declared.key.Key.{Key}
