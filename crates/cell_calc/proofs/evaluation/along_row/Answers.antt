@@ -123,9 +123,12 @@ strips-preserved c =
     let same = c.as_slice.ensures.value in
     record {
       within = within from width c.cols-cols.result so_far.within c.min-width.ensures;
-      width = longer old c.as_slice.result.now values.values.items new from width is same so_far.width values.ensures.width;
-      done = λ k h. one_more old c.as_slice.result.now values.values.items new from width is same so_far.width
-          values.ensures.width (λ i v. v ∷ [] ≡ after (seen c.args.windows.now (spot c.args.region c.args.row i)) c.args.steps.now [])
+      width = longer old c.as_slice.result.now values.values.items new from width is same so_far.width
+          values.ensures.width;
+      done = λ k h.
+          one_more old c.as_slice.result.now values.values.items new from width is same so_far.width
+          values.ensures.width
+          (λ i v. v ∷ [] ≡ after (seen c.args.windows.now (spot c.args.region c.args.row i)) c.args.steps.now [])
           so_far.done values.ensures.each k h (nat_lt k from) refl;
     }
 
