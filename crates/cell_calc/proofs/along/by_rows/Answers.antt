@@ -1,4 +1,10 @@
+use Rattle.std.proofs.Common.{◌≡◌, ◌<◌, ◌≤◌, ◌+◌, length, map, sym, ap, ◌∙◌, subst, rules}
+use Rattle.std.proofs.lemmas.List.Elements.{All-same}
 use Rattle.std.proofs.lemmas.Result.{IfOk-from_err}
+use Rattle.cell_operations.specs.Applied.{called}
+use Rattle.cell_rows.specs.Rows.{column}
+use Rattle.cell_calc.specs.parts.Operands.{spot_at}
+use Rattle.cell_calc.proofs.Written.{at_written, changed_width}
 use Rattle.cell_calc.proofs.along.by_rows.Goals as goal
 
 pub gather-requires-clause-strip : goal.gather-requires-clause-strip
@@ -20,31 +26,76 @@ pub returns-in_err-gather-clause-each : goal.returns-in_err-gather-clause-each
 returns-in_err-gather-clause-each c = IfOk-from_err c.from_residual.result _ c.from_residual.ensures.0
 
 pub returns-in_err-row-clause-rest : goal.returns-in_err-row-clause-rest
-returns-in_err-row-clause-rest c = IfOk-from_err c.from_residual-in_err-row.result _ c.from_residual-in_err-row.ensures.0
+returns-in_err-row-clause-rest c =
+    IfOk-from_err c.from_residual-in_err-row.result _ c.from_residual-in_err-row.ensures.0
 
 pub returns-in_err-row-clause-width : goal.returns-in_err-row-clause-width
-returns-in_err-row-clause-width c = IfOk-from_err c.from_residual-in_err-row.result _ c.from_residual-in_err-row.ensures.0
+returns-in_err-row-clause-width c =
+    IfOk-from_err c.from_residual-in_err-row.result _ c.from_residual-in_err-row.ensures.0
 
 pub returns-in_err-row-clause-each : goal.returns-in_err-row-clause-each
-returns-in_err-row-clause-each c = IfOk-from_err c.from_residual-in_err-row.result _ c.from_residual-in_err-row.ensures.0
+returns-in_err-row-clause-each c =
+    IfOk-from_err c.from_residual-in_err-row.result _ c.from_residual-in_err-row.ensures.0
 
 pub returns-in_err-call-clause-rest : goal.returns-in_err-call-clause-rest
-returns-in_err-call-clause-rest c = IfOk-from_err c.from_residual-in_err-call.result _ c.from_residual-in_err-call.ensures.0
+returns-in_err-call-clause-rest c =
+    IfOk-from_err c.from_residual-in_err-call.result _ c.from_residual-in_err-call.ensures.0
 
 pub returns-in_err-call-clause-width : goal.returns-in_err-call-clause-width
-returns-in_err-call-clause-width c = IfOk-from_err c.from_residual-in_err-call.result _ c.from_residual-in_err-call.ensures.0
+returns-in_err-call-clause-width c =
+    IfOk-from_err c.from_residual-in_err-call.result _ c.from_residual-in_err-call.ensures.0
 
 pub returns-in_err-call-clause-each : goal.returns-in_err-call-clause-each
-returns-in_err-call-clause-each c = IfOk-from_err c.from_residual-in_err-call.result _ c.from_residual-in_err-call.ensures.0
+returns-in_err-call-clause-each c =
+    IfOk-from_err c.from_residual-in_err-call.result _ c.from_residual-in_err-call.ensures.0
 
 pub returns-in_err-append-clause-rest : goal.returns-in_err-append-clause-rest
-returns-in_err-append-clause-rest c = IfOk-from_err c.from_residual-in_err-append.result _ c.from_residual-in_err-append.ensures.0
+returns-in_err-append-clause-rest c =
+    IfOk-from_err c.from_residual-in_err-append.result _ c.from_residual-in_err-append.ensures.0
 
 pub returns-in_err-append-clause-width : goal.returns-in_err-append-clause-width
-returns-in_err-append-clause-width c = IfOk-from_err c.from_residual-in_err-append.result _ c.from_residual-in_err-append.ensures.0
+returns-in_err-append-clause-width c =
+    IfOk-from_err c.from_residual-in_err-append.result _ c.from_residual-in_err-append.ensures.0
 
 pub returns-in_err-append-clause-each : goal.returns-in_err-append-clause-each
-returns-in_err-append-clause-each c = IfOk-from_err c.from_residual-in_err-append.result _ c.from_residual-in_err-append.ensures.0
+returns-in_err-append-clause-each c =
+    IfOk-from_err c.from_residual-in_err-append.result _ c.from_residual-in_err-append.ensures.0
 
 pub returns-clause-rest : goal.returns-clause-rest
 returns-clause-rest c = c.in_ok-gather.ensures.rest
+
+pub call-requires-clause-at_row : goal.call-requires-clause-at_row
+call-requires-clause-at_row c = c.requires.strip.row
+
+pub call-requires-clause-width : goal.call-requires-clause-width
+call-requires-clause-width c =
+    let start = ap (λ l. length l) c.as_mut_slice-cells.ensures.value ∙ c.in_ok-row.ensures in
+    subst (λ n. c.args.strip.now.from + n ≤ c.args.strip.now.region.cols) (sym start) c.requires.strip.columns
+
+pub call-requires-clause-widths : goal.call-requires-clause-widths
+call-requires-clause-widths c =
+    let start = ap (λ l. length l) c.as_mut_slice-cells.ensures.value ∙ c.in_ok-row.ensures in
+    let all = All-same (λ cells. length cells.items ≡ c.args.strip.now.width) c.as_slice-arguments.result.now _
+    c.as_slice-arguments.ensures.value c.in_ok-gather.ensures.width in
+    λ k d lt. all k d lt ∙ sym start
+
+pub returns-clause-width : goal.returns-clause-width
+returns-clause-width c =
+    let row = c.in_ok-row.row in
+    let all : row.len ≡ length row.items = search rules in
+    changed_width row.len c.args.strip.now.width row.items c.as_mut_slice-cells.result.now c.call.new.row all
+    c.as_mut_slice-cells.ensures.value c.in_ok-call.ensures.width c.in_ok-row.ensures
+
+pub returns-clause-each : goal.returns-clause-each
+returns-clause-each c =
+    let row = c.in_ok-row.row in
+    let all : row.len ≡ length row.items = search rules in
+    let strip = c.args.strip.now in
+    let same = ap (λ l. length l) c.as_mut_slice-cells.ensures.value in
+    let start = same ∙ c.in_ok-row.ensures in
+    λ k h.
+    at_written row.len c.call.new.row row.items k all (c.in_ok-call.ensures.width ∙ same)
+    ∙ c.in_ok-call.ensures.each k (subst (λ n. k < n) (sym start) h)
+    ∙ ap (λ l. called c.args.function (spot_at strip k) (column k (map (λ v. v.items) l)))
+    c.as_slice-arguments.ensures.value
+    ∙ ap (λ l. called c.args.function (spot_at strip k) l) (c.in_ok-gather.ensures.each k h)
