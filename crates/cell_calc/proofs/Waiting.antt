@@ -1,7 +1,7 @@
 -- Rows that go from the front of a ring to the back of another.
 use Rattle.std.proofs.Common.{◌≡◌, ◌<◌, ◌≤◌, ◌+◌, ℕ, List, [], ◌∷◌, ◌++◌, length, take, drop}
-use Rattle.std.proofs.Common.{get_or, map, Some, None, sym, ap, ◌∙◌, subst, arith}
-use Rattle.std.specs.Prelude.{All, slice_get}
+use Rattle.std.proofs.Common.{get_or, map, Some, None, true, false, refl, sym, ap, ◌∙◌, subst, arith}
+use Rattle.std.specs.Prelude.{All, slice_get, nat_le, if◌then◌else◌}
 use Rattle.std.proofs.lemmas.List.{append-nil, drop_all, drop_more, length-append, length-map, map_push}
 use Rattle.std.proofs.lemmas.Option.{get_or_from_slice_get, slice_get_within}
 
@@ -53,3 +53,34 @@ next_row rows i d lt = ap (λ l. take 1 l) (drop_more rows i d lt)
 
 pub no_more : {W : Type 0} (seen rows : List W) (i : ℕ) → length rows ≤ i → seen ≡ seen ++ take 1 (drop i rows)
 no_more seen rows i le = sym (ap (λ l. seen ++ take 1 l) (drop_all i rows le) ∙ append-nil seen)
+
+-- the same where the first row is let go to wait
+pub room_swaps : (more rest rows queue n capacity : ℕ) → more + rest ≡ rows + queue → n ≡ capacity
+    → queue + rows ≤ capacity → rest + more ≤ n
+room_swaps more rest rows queue n capacity same is le = omega arith
+
+pub swapped : (rows queue n : ℕ) → queue + rows ≤ n → rows + queue ≤ n
+swapped rows queue n le = omega arith
+
+pub as_many_left : {V W : Type 0} (f : V → W) (rows queue more rest : List V) (seen : List W) (free : ℕ)
+    → length more + length rest ≡ length rows + length queue → map f queue ≡ seen → length rows ≡ free
+    → length (map f rest) + length more ≡ length seen + free
+as_many_left f rows queue more rest seen free same is_seen is_free =
+    rw (← is_seen, ← is_free, length-map rest f, length-map queue f) (omega (arith, same))
+
+map_rest : {V W : Type 0} (f : V → W) (xs : List V) → map f (drop 1 xs) ≡ drop 1 (map f xs)
+map_rest f [] = refl
+map_rest f (x ∷ xs) = refl
+
+-- it is let go where so many rows are above
+pub let_go : {V W : Type 0} (f : V → W) (queue rest : List V) (seen : List W) (above centre : ℕ) → rest ≡ drop 1 queue
+    → map f queue ≡ seen → above ≤ centre → map f rest ≡ (if nat_le above centre then drop 1 seen else seen)
+let_go f queue rest seen above centre is is_seen le =
+    let full : nat_le above centre ≡ true = grind arith in
+    rw (full, is) (map_rest f queue ∙ ap (λ l. drop 1 l) is_seen)
+
+pub not_let_go : {W : Type 0} (seen : List W) (above centre : ℕ) → centre < above
+    → seen ≡ (if nat_le above centre then drop 1 seen else seen)
+not_let_go seen above centre lt =
+    let few : nat_le above centre ≡ false = grind arith in
+    rw few refl
