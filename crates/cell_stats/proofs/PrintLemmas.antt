@@ -76,8 +76,11 @@ module _ (taken : Option (List ℕ)) (old : BlockValue) (a b t : List ℕ) (part
 pub pick_text-label : (format : FormatValue) (maps : List Grid) (place : ℕ) (cell : CellValue) → cell_text format.null_text cell ++ preceded format.separator (if format.labels then label_in maps place cell ∷ [] else []) ≡ pick_text format maps place cell
 pick_text-label format maps place cell = sym (join-cons format.separator (cell_text format.null_text cell) (if format.labels then label_in maps place cell ∷ [] else []))
 
-pub pick_text-without : (format : FormatValue) (maps : List Grid) (place : ℕ) (cell : CellValue) → format.labels ≡ false → cell_text format.null_text cell ≡ pick_text format maps place cell
-pick_text-without format maps place cell off = ap (λ (b : Bool). join_with_byte format.separator (cell_text format.null_text cell ∷ (if b then label_in maps place cell ∷ [] else []))) (sym off)
+pub pick_text-without : (format : FormatValue) (maps : List Grid) (place : ℕ) (cell : CellValue)
+    → format.labels ≡ false → cell_text format.null_text cell ≡ pick_text format maps place cell
+pick_text-without format maps place cell off =
+    ap (λ (b : Bool). join_with_byte format.separator
+    (cell_text format.null_text cell ∷ (if b then label_in maps place cell ∷ [] else []))) (sym off)
 
 pub pick_text-with : (format : FormatValue) (maps : List Grid) (place : ℕ) (cell : CellValue) → format.labels ≡ true → cell_text format.null_text cell ++ (format.separator ∷ label_in maps place cell) ≡ pick_text format maps place cell
 pick_text-with format maps place cell on =
@@ -98,8 +101,11 @@ module _ (picks : List ℕ) (k : Combination) (i : ℕ) (within : i < length pic
 others-whole : {X : Type 0} (xs : List X) → take (length xs - 1) (drop 1 xs) ≡ drop 1 xs
 others-whole xs = take_all (length xs - 1) (drop 1 xs) (omega (arith, length-drop 1 xs))
 
-pub length-others : {X Y : Type 0} (xs : List X) (ys : List Y) → length xs ≡ length ys → length (take (length xs - 1) (drop 1 xs)) ≡ length (take (length ys - 1) (drop 1 ys))
-length-others xs ys same = ap length (others-whole xs) ∙ length-drop 1 xs ∙ ap (λ n. n - 1) same ∙ sym (ap length (others-whole ys) ∙ length-drop 1 ys)
+pub length-others : {X Y : Type 0} (xs : List X) (ys : List Y) → length xs ≡ length ys
+    → length (take (length xs - 1) (drop 1 xs)) ≡ length (take (length ys - 1) (drop 1 ys))
+length-others xs ys same =
+    ap length (others-whole xs) ∙ length-drop 1 xs ∙ ap (λ n. n - 1) same
+    ∙ sym (ap length (others-whole ys) ∙ length-drop 1 ys)
 
 pub All-others : {X : Type 0} (P : X → Type 0) (xs : List X) → All P xs → All P (take (length xs - 1) (drop 1 xs))
 All-others P xs all = subst (λ l. All P l) (sym (others-whole xs)) (λ i d within. subst P (sym (get_or-drop 1 xs i d)) (all (1 + i) d (omega (arith, within, length-drop 1 xs))))

@@ -6,7 +6,8 @@ use Rattle.cell_counts.specs.parts.Held.{held_by}
 use Rattle.cell_counts.proofs.HeldLemmas.{held_by-own, total-held}
 use Rattle.cell_counts.proofs.counting.add.Goals as goal
 
-fit : (mapped count : ℕ) {have held most : ℕ} → held ≡ have → held ≤ most → most + mapped + count < 2 ^ 64 → Fits w64 (have + count)
+fit : (mapped count : ℕ) {have held most : ℕ} → held ≡ have → held ≤ most → most + mapped + count < 2 ^ 64
+    → Fits w64 (have + count)
 fit mapped count same within room = omega arith
 
 pub overflow_add-place : goal.overflow_add-place
@@ -29,7 +30,8 @@ is_held-requires c = c.requires.width.0
 pub returns-then-is_held-clause-ok : goal.returns-then-is_held-clause-ok
 returns-then-is_held-clause-ok c = λ k.
     let same = c.is_held.ensures.0 c.if-is_held.true in
-    total-held (length c.args.cells.now) k c.args.cells.now c.args.count c.args.places.now c.own_place-own.result c.index-places-own.result c.args.counted.now c.own_place-own.ensures
+    total-held (length c.args.cells.now) k c.args.cells.now c.args.count c.args.places.now c.own_place-own.result
+    c.index-places-own.result c.args.counted.now c.own_place-own.ensures
     _ same same refl
 
 pub returns-then-is_held-clause-no_zero : goal.returns-then-is_held-clause-no_zero

@@ -6,7 +6,8 @@ use Rattle.cell_counts.specs.parts.Held.{held_by}
 use Rattle.cell_counts.proofs.HeldLemmas.{held_by-own, total-held, total-turned}
 use Rattle.cell_counts.proofs.counting.add_near.Goals as goal
 
-fit : (mapped count : ℕ) {have held most : ℕ} → held ≡ have → held ≤ most → most + mapped + count < 2 ^ 64 → Fits w64 (have + count)
+fit : (mapped count : ℕ) {have held most : ℕ} → held ≡ have → held ≤ most → most + mapped + count < 2 ^ 64
+    → Fits w64 (have + count)
 fit mapped count same within room = omega arith
 
 room : (mapped count : ℕ) {held most : ℕ} → held ≤ most → most + mapped + count < 2 ^ 64 → mapped + held < 2 ^ 64
@@ -35,7 +36,8 @@ is_held-requires c = c.requires.width.0
 pub returns-then-is_held-clause-ok : goal.returns-then-is_held-clause-ok
 returns-then-is_held-clause-ok c = λ k.
     let same = c.is_held.ensures.0 c.if-is_held.true in
-    total-held (length c.args.cells.now) k c.args.cells.now c.args.count c.args.places.now c.place_near-at.result c.index-places-at.result c.args.counted.now c.place_near-at.ensures
+    total-held (length c.args.cells.now) k c.args.cells.now c.args.count c.args.places.now c.place_near-at.result
+    c.index-places-at.result c.args.counted.now c.place_near-at.ensures
     _ same same refl
 
 pub returns-then-is_held-clause-no_zero : goal.returns-then-is_held-clause-no_zero
@@ -49,7 +51,8 @@ flush-requires-clause-width c = c.requires.width
 
 pub flush-requires-clause-fits : goal.flush-requires-clause-fits
 flush-requires-clause-fits c = λ k.
-    let within = get_or-le-sum_by (held_by (length c.args.cells.now) k) c.args.places.now c.place_near-at.result c.index-places-at.result c.place_near-at.ensures in
+    let within = get_or-le-sum_by (held_by (length c.args.cells.now) k) c.args.places.now c.place_near-at.result
+    c.index-places-at.result c.place_near-at.ensures in
     room (mapped_of k c.args.counted.now) c.args.count within (c.requires.fits k)
 
 pub flush-requires-clause-no_zero : goal.flush-requires-clause-no_zero
@@ -69,7 +72,8 @@ hold-requires c = c.requires.width.0
 
 pub returns-clause-ok : goal.returns-clause-ok
 returns-clause-ok c = λ k.
-    total-turned (length c.args.cells.now) k c.args.cells.now c.args.count c.args.places.now c.place_near-at.result c.index-places-at.result c.args.counted.now c.place_near-at.ensures
+    total-turned (length c.args.cells.now) k c.args.cells.now c.args.count c.args.places.now c.place_near-at.result
+    c.index-places-at.result c.args.counted.now c.place_near-at.ensures
     c.hold.new.held c.flush.new.counted c.hold.ensures.cells c.hold.ensures.count (c.in_ok-flush.ensures.ok k)
 
 pub returns-clause-no_zero : goal.returns-clause-no_zero

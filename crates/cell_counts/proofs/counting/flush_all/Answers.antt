@@ -7,7 +7,8 @@ use Rattle.cell_counts.specs.Mapped.{mapped_of}
 use Rattle.cell_counts.specs.parts.Held.{held_by, held_of}
 use Rattle.cell_counts.proofs.counting.flush_all.Goals as goal
 
-room : (first part : ℕ) {held more most now : ℕ} → now ≡ first + part → part + more ≤ most → held ≡ more → most + first < 2 ^ 64 → now + held < 2 ^ 64
+room : (first part : ℕ) {held more most now : ℕ} → now ≡ first + part → part + more ≤ most → held ≡ more
+    → most + first < 2 ^ 64 → now + held < 2 ^ 64
 room first part counted within same all = omega arith
 
 one_more : (first part more now : ℕ) → now ≡ first + part → now + more ≡ first + (part + more)
@@ -17,7 +18,12 @@ turned : (first all : ℕ) → first + all ≡ all + first
 turned first all = omega arith
 
 pub loop-held-init : goal.loop-held-init
-loop-held-init c = record { counted = λ k. sym (add-zero (mapped_of k c.args.counted.now)); no_zero = c.requires.no_zero; spare = c.requires.width.1 }
+loop-held-init c =
+    record {
+      counted = λ k. sym (add-zero (mapped_of k c.args.counted.now));
+      no_zero = c.requires.no_zero;
+      spare = c.requires.width.1;
+    }
 
 pub flush-requires-clause-width : goal.flush-requires-clause-width
 flush-requires-clause-width c = (c.requires.width.0, c.loop-held.invariant.spare)
@@ -25,8 +31,10 @@ flush-requires-clause-width c = (c.requires.width.0, c.loop-held.invariant.spare
 pub flush-requires-clause-fits : goal.flush-requires-clause-fits
 flush-requires-clause-fits c = λ k.
     let held = held_by c.args.width k in
-    let within = sum_by_more_le held c.args.places.now c.loop-held.held-index c.held-item.result c.loop-held-test.true in
-    room (mapped_of k c.args.counted.now) (held_of c.args.width k (take c.loop-held.held-index c.args.places.now)) (c.loop-held.invariant.counted k) within (ap held c.held-item.is) (c.requires.fits k)
+    let within = sum_by_more_le held c.args.places.now c.loop-held.held-index c.held-item.result
+    c.loop-held-test.true in
+    room (mapped_of k c.args.counted.now) (held_of c.args.width k (take c.loop-held.held-index c.args.places.now))
+    (c.loop-held.invariant.counted k) within (ap held c.held-item.is) (c.requires.fits k)
 
 pub flush-requires-clause-no_zero : goal.flush-requires-clause-no_zero
 flush-requires-clause-no_zero c = c.loop-held.invariant.no_zero
@@ -51,8 +59,10 @@ loop-held-preserved c =
       counted = λ k.
           let held = held_by c.args.width k in
           let first = mapped_of k c.args.counted.now in
-          c.in_ok-flush.ensures.ok k ∙ one_more first (held_of c.args.width k (take i places)) (held c.held-item.result) (mapped_of k c.loop-held.counted) (c.loop-held.invariant.counted k)
-          ∙ ap (λ n. first + (held_of c.args.width k (take i places) + n)) (ap held c.held-item.is) ∙ ap (λ n. first + n) (sym (sum_by_more held places i c.held-item.result c.loop-held-test.true));
+          c.in_ok-flush.ensures.ok k ∙ one_more first (held_of c.args.width k (take i places))
+          (held c.held-item.result) (mapped_of k c.loop-held.counted) (c.loop-held.invariant.counted k)
+          ∙ ap (λ n. first + (held_of c.args.width k (take i places) + n)) (ap held c.held-item.is)
+          ∙ ap (λ n. first + n) (sym (sum_by_more held places i c.held-item.result c.loop-held-test.true));
       no_zero = c.in_ok-flush.ensures.no_zero;
       spare = c.flush.ensures.spare;
     }
@@ -61,7 +71,8 @@ pub returns-clause-ok : goal.returns-clause-ok
 returns-clause-ok c = λ k.
     let first = mapped_of k c.args.counted.now in
     let all = take_all c.loop-held.held-index c.args.places.now c.loop-held-test.false in
-    c.loop-held.invariant.counted k ∙ ap (λ (l : List Held). first + held_of c.args.width k l) all ∙ turned first (held_of c.args.width k c.args.places.now)
+    c.loop-held.invariant.counted k ∙ ap (λ (l : List Held). first + held_of c.args.width k l) all
+    ∙ turned first (held_of c.args.width k c.args.places.now)
 
 pub returns-clause-no_zero : goal.returns-clause-no_zero
 returns-clause-no_zero c = c.loop-held.invariant.no_zero

@@ -5,7 +5,8 @@ use Rattle.cell_counts.specs.Mapped.{mapped_of}
 use Rattle.cell_counts.specs.parts.Held.{total_of}
 use Rattle.cell_counts.proofs.counting.make_room.Goals as goal
 
-some_places : {items size places more most : ℕ} → 0 < items → size ≡ items → places ≡ size → more ≡ min (places * 8) 18446744073709551615 → most ≡ min more 262144 → 0 < most
+some_places : {items size places more most : ℕ} → 0 < items → size ≡ items → places ≡ size
+    → more ≡ min (places * 8) 18446744073709551615 → most ≡ min more 262144 → 0 < most
 some_places some same read grown cut = omega arith
 
 pub returns-clause-ok : goal.returns-clause-ok
@@ -47,19 +48,24 @@ pub returns-in_err-flush_all-clause-spare : goal.returns-in_err-flush_all-clause
 returns-in_err-flush_all-clause-spare c = IfOk-from_err c.from_residual.result _ c.from_residual.ensures.0
 
 pub places_of-requires : goal.places_of-requires
-places_of-requires c = some_places c.requires.places c.args.places.now.ok.0 c.len-3.ensures c.saturating_mul.ensures c.min.ensures
+places_of-requires c =
+    some_places c.requires.places c.args.places.now.ok.0 c.len-3.ensures c.saturating_mul.ensures c.min.ensures
 
 pub returns-in_err-more-clause-ok : goal.returns-in_err-more-clause-ok
-returns-in_err-more-clause-ok c = IfOk-from_err c.from_residual-in_err-more.result _ c.from_residual-in_err-more.ensures.0
+returns-in_err-more-clause-ok c =
+    IfOk-from_err c.from_residual-in_err-more.result _ c.from_residual-in_err-more.ensures.0
 
 pub returns-in_err-more-clause-no_zero : goal.returns-in_err-more-clause-no_zero
-returns-in_err-more-clause-no_zero c = IfOk-from_err c.from_residual-in_err-more.result _ c.from_residual-in_err-more.ensures.0
+returns-in_err-more-clause-no_zero c =
+    IfOk-from_err c.from_residual-in_err-more.result _ c.from_residual-in_err-more.ensures.0
 
 pub returns-in_err-more-clause-places : goal.returns-in_err-more-clause-places
-returns-in_err-more-clause-places c = IfOk-from_err c.from_residual-in_err-more.result _ c.from_residual-in_err-more.ensures.0
+returns-in_err-more-clause-places c =
+    IfOk-from_err c.from_residual-in_err-more.result _ c.from_residual-in_err-more.ensures.0
 
 pub returns-in_err-more-clause-spare : goal.returns-in_err-more-clause-spare
-returns-in_err-more-clause-spare c = IfOk-from_err c.from_residual-in_err-more.result _ c.from_residual-in_err-more.ensures.0
+returns-in_err-more-clause-spare c =
+    IfOk-from_err c.from_residual-in_err-more.result _ c.from_residual-in_err-more.ensures.0
 
 pub returns-clause-no_zero : goal.returns-clause-no_zero
 returns-clause-no_zero c = c.in_ok-flush_all.ensures.no_zero

@@ -55,7 +55,8 @@ fewer col some within = omega arith
 at_end : (count : ℕ) {col last cols : ℕ} → col + count ≤ last → last ≤ col → last ≡ cols → col ≡ cols
 at_end count within ended same = omega arith
 
-sum_fits : (col : ℕ) {total counted count more cols : ℕ} → total ≡ counted → counted < 2 ^ 63 → more ≡ count → col + count ≤ cols → cols ≤ 65535 → total + more < 2 ^ 64
+sum_fits : (col : ℕ) {total counted count more cols : ℕ} → total ≡ counted → counted < 2 ^ 63 → more ≡ count
+    → col + count ≤ cols → cols ≤ 65535 → total + more < 2 ^ 64
 sum_fits col same small is within wide = omega arith
 
 pub count_runs-requires-clause-fits : goal.count_runs-requires-clause-fits
@@ -173,7 +174,8 @@ loop-col-preserved c =
       least = next.ensures.least;
       some = λ h.
           let within = below h same_cols in
-          next.ensures.some (alive maps row (col + count) next.new.cursors picks cols here c.restart_all.ensures.width within next.ensures.ready) (some_left h);
+          next.ensures.some (alive maps row (col + count) next.new.cursors picks cols here c.restart_all.ensures.width
+          within next.ensures.ready) (some_left h);
       most = still_within inv.most next.ensures.most;
     }
 
@@ -193,7 +195,11 @@ pub map-requires : goal.map-requires
 map-requires c = c.requires.picked 0 0 c.in-len1.len_at_least
 
 pub runs-runs-requires : goal.runs-runs-requires
-runs-runs-requires c = record { row_in_range = below c.requires.row_in_range (ap (λ (r : RegionValue). r.rows) (sym c.map.ensures.region)) }
+runs-runs-requires c =
+    record {
+      row_in_range = below c.requires.row_in_range
+          (ap (λ (r : RegionValue). r.rows) (sym c.map.ensures.region));
+    }
 
 pub count_runs-requires-clause-spare : goal.count_runs-requires-clause-spare
 count_runs-requires-clause-spare c = c.requires.spare ∙ just_one c.in-len1.len_at_least c.in-len1.len_below
@@ -217,7 +223,8 @@ pub returns-in-len1-clause-no_zero : goal.returns-in-len1-clause-no_zero
 returns-in-len1-clause-no_zero c = c.in_ok-count_runs.ensures.no_zero
 
 pub returns-in-len1-clause-spare : goal.returns-in-len1-clause-spare
-returns-in-len1-clause-spare c = c.in_ok-count_runs.ensures.spare ∙ sym (just_one c.in-len1.len_at_least c.in-len1.len_below)
+returns-in-len1-clause-spare c =
+    c.in_ok-count_runs.ensures.spare ∙ sym (just_one c.in-len1.len_at_least c.in-len1.len_below)
 
 pub restart_all-requires-clause-picked : goal.restart_all-requires-clause-picked
 restart_all-requires-clause-picked c = c.requires.picked
@@ -252,10 +259,12 @@ pub returns-in_err-add-clause-ok : goal.returns-in_err-add-clause-ok
 returns-in_err-add-clause-ok c = IfOk-from_err c.from_residual-in_err-add.result _ c.from_residual-in_err-add.ensures.0
 
 pub returns-in_err-add-clause-no_zero : goal.returns-in_err-add-clause-no_zero
-returns-in_err-add-clause-no_zero c = IfOk-from_err c.from_residual-in_err-add.result _ c.from_residual-in_err-add.ensures.0
+returns-in_err-add-clause-no_zero c =
+    IfOk-from_err c.from_residual-in_err-add.result _ c.from_residual-in_err-add.ensures.0
 
 pub returns-in_err-add-clause-spare : goal.returns-in_err-add-clause-spare
-returns-in_err-add-clause-spare c = IfOk-from_err c.from_residual-in_err-add.result _ c.from_residual-in_err-add.ensures.0
+returns-in_err-add-clause-spare c =
+    IfOk-from_err c.from_residual-in_err-add.result _ c.from_residual-in_err-add.ensures.0
 
 pub overflow_add-col : goal.overflow_add-col
 overflow_add-col c =
@@ -272,7 +281,8 @@ pub pass_all-count-requires-in-loop-col-clause-ready : goal.pass_all-count-requi
 pass_all-count-requires-in-loop-col-clause-ready c = c.loop-col.invariant.ready
 
 pub pass_all-count-requires-in-loop-col-clause-width : goal.pass_all-count-requires-in-loop-col-clause-width
-pass_all-count-requires-in-loop-col-clause-width c = ap length c.loop-col.invariant.cells ∙ length-map c.loop-col.cursors (λ (x : CursorValue). x.cell)
+pass_all-count-requires-in-loop-col-clause-width c =
+    ap length c.loop-col.invariant.cells ∙ length-map c.loop-col.cursors (λ (x : CursorValue). x.cell)
 
 pub loop-col-smaller : goal.loop-col-smaller
 loop-col-smaller c = fewer c.loop-col.col (c.loop-col.invariant.some c.loop-col-test.true) c.loop-col.invariant.most

@@ -22,8 +22,10 @@ shorter : {X : Type 0} (x : X) (rest : List X) {all : List X} → all ≡ x ∷ 
 shorter x rest steps = omega (arith, ap length steps)
 
 -- no run is left
-all_counted : (skip : Skip) (k : Combination) (runs : List RunValue) (now : ℕ) {all : ℕ} → runs ≡ [] → now + runs-count skip k runs ≡ all → now ≡ all
-all_counted skip k runs now none counted = sym (add-zero now) ∙ ap (λ (l : List RunValue). now + runs-count skip k l) (sym none) ∙ counted
+all_counted : (skip : Skip) (k : Combination) (runs : List RunValue) (now : ℕ) {all : ℕ} → runs ≡ []
+    → now + runs-count skip k runs ≡ all → now ≡ all
+all_counted skip k runs now none counted =
+    sym (add-zero now) ∙ ap (λ (l : List RunValue). now + runs-count skip k l) (sym none) ∙ counted
 
 pub add-requires-clause-fits : goal.add-requires-clause-fits
 add-requires-clause-fits c = λ k.
@@ -74,7 +76,8 @@ pub loop-cell-init : goal.loop-cell-init
 loop-cell-init c =
     let same = c.into_iter-cell-iterator.ensures.into_iter_gives in
     record {
-      counted = λ k. ap (λ (l : List RunValue). total_of 1 k c.args.places.now c.args.counted.now + runs-count c.args.skip k l) same;
+      counted = λ k. ap (λ (l : List RunValue). total_of 1 k c.args.places.now c.args.counted.now + runs-count
+          c.args.skip k l) same;
       room = λ k. rw same (c.requires.fits k);
       no_zero = c.requires.no_zero;
       spare = c.requires.spare;
@@ -106,7 +109,9 @@ pub loop-cell-smaller : goal.loop-cell-smaller
 loop-cell-smaller c = shorter (c.in-Some.cell, c.in-Some.count) c.next.new.self c.in-Some.ensures.steps
 
 pub returns-clause-ok : goal.returns-clause-ok
-returns-clause-ok c = λ k. all_counted c.args.skip k c.loop-cell.cell-iterator (total_of 1 k c.loop-cell.places c.loop-cell.counted) c.in-None.ensures.steps.0 (c.loop-cell.invariant.counted k)
+returns-clause-ok c =
+    λ k. all_counted c.args.skip k c.loop-cell.cell-iterator (total_of 1 k c.loop-cell.places c.loop-cell.counted)
+    c.in-None.ensures.steps.0 (c.loop-cell.invariant.counted k)
 
 pub returns-clause-no_zero : goal.returns-clause-no_zero
 returns-clause-no_zero c = c.loop-cell.invariant.no_zero

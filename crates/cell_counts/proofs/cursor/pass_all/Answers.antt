@@ -60,7 +60,9 @@ loop-i-preserved c =
       rest = drop-set-lt (i + 1) now i new (next i) ∙ same-behind now old i inv.rest;
       width = length-set c.loop-i.cells i inside.cell ∙ inv.width ∙ sym (length-set now i new);
       ready = All-set IsReady now i new c.pass.ensures.ready inv.ready;
-      least = All-take-set (λ (x : CursorValue). c.loop-i.least ≤ x.left) (λ (x : CursorValue). c.lesser-least.result ≤ x.left) now i new within (λ x h. up_to c.lesser-least.ensures.first h) inv.least (same_most c.lesser-least.ensures.second left_is);
+      least = All-take-set (λ (x : CursorValue). c.loop-i.least ≤ x.left)
+          (λ (x : CursorValue). c.lesser-least.result ≤ x.left) now i new within
+          (λ x h. up_to c.lesser-least.ensures.first h) inv.least (same_most c.lesser-least.ensures.second left_is);
       most = up_to c.lesser-least.ensures.first inv.most;
       some = λ all left.
           let front = All-take-front (λ (x : CursorValue). 0 < x.left) now i new within all in
@@ -68,7 +70,8 @@ loop-i-preserved c =
     }
 
 pub pass-requires-clause-ready : goal.pass-requires-clause-ready
-pass-requires-clause-ready c = c.loop-i.invariant.ready c.loop-i.i c.index-cursors-i.result (below c.loop-i-test.true (sym c.loop-i.auto.cursors))
+pass-requires-clause-ready c =
+    c.loop-i.invariant.ready c.loop-i.i c.index-cursors-i.result (below c.loop-i-test.true (sym c.loop-i.auto.cursors))
 
 pub loop-i-init : goal.loop-i-init
 loop-i-init c =
@@ -99,7 +102,8 @@ returns-clause-passed c =
     let i = c.loop-i.i in
     let cursors = take_all i c.loop-i.cursors (at_most c.loop-i.auto.cursors c.loop-i-test.false) in
     let old = take_all i c.args.cursors.now c.loop-i-test.false in
-    ap (map to_come) (sym cursors) ∙ c.loop-i.invariant.passed ∙ ap (map (λ (x : CursorValue). drop c.args.count (to_come x))) old
+    ap (map to_come) (sym cursors) ∙ c.loop-i.invariant.passed
+    ∙ ap (map (λ (x : CursorValue). drop c.args.count (to_come x))) old
 
 pub returns-clause-ready : goal.returns-clause-ready
 returns-clause-ready c = c.loop-i.invariant.ready

@@ -40,7 +40,8 @@ pub returns-clause-cells : goal.returns-clause-cells
 returns-clause-cells c =
     let picks = c.args.picks.now in
     let cursors = c.loop-i.cursors in
-    let all : take c.loop-i.i cursors ≡ cursors = take_all c.loop-i.i cursors (at_most (c.loop-i.auto.cursors ∙ c.requires.width) c.loop-i-test.false) in
+    let all : take c.loop-i.i cursors ≡ cursors = take_all c.loop-i.i cursors
+    (at_most (c.loop-i.auto.cursors ∙ c.requires.width) c.loop-i-test.false) in
     let picked : take c.loop-i.i picks ≡ picks = take_all c.loop-i.i picks c.loop-i-test.false in
     ap (map to_come) (sym all) ∙ c.loop-i.invariant.cells ∙ ap (map (row_in c.args.shelf.now.maps c.args.row)) picked
 
@@ -53,7 +54,8 @@ returns-clause-width c =
 pub returns-clause-ready : goal.returns-clause-ready
 returns-clause-ready c =
     let cursors = c.loop-i.cursors in
-    let all : take c.loop-i.i cursors ≡ cursors = take_all c.loop-i.i cursors (at_most (c.loop-i.auto.cursors ∙ c.requires.width) c.loop-i-test.false) in
+    let all : take c.loop-i.i cursors ≡ cursors = take_all c.loop-i.i cursors
+    (at_most (c.loop-i.auto.cursors ∙ c.requires.width) c.loop-i-test.false) in
     rw all at c.loop-i.invariant.ready
 
 pub map-requires : goal.map-requires

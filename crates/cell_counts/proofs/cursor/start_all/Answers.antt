@@ -58,19 +58,24 @@ pub start-requires : goal.start-requires
 start-requires c = below c.requires.row_in_range (ap (λ (r : RegionValue). r.rows) (sym c.map.ensures.region))
 
 pub returns-in_err-push-clause-cells : goal.returns-in_err-push-clause-cells
-returns-in_err-push-clause-cells c = IfOk-from_err c.from_residual-in_err-push.result _ c.from_residual-in_err-push.ensures.0
+returns-in_err-push-clause-cells c =
+    IfOk-from_err c.from_residual-in_err-push.result _ c.from_residual-in_err-push.ensures.0
 
 pub returns-in_err-push-clause-width : goal.returns-in_err-push-clause-width
-returns-in_err-push-clause-width c = IfOk-from_err c.from_residual-in_err-push.result _ c.from_residual-in_err-push.ensures.0
+returns-in_err-push-clause-width c =
+    IfOk-from_err c.from_residual-in_err-push.result _ c.from_residual-in_err-push.ensures.0
 
 pub returns-in_err-push-clause-ready : goal.returns-in_err-push-clause-ready
-returns-in_err-push-clause-ready c = IfOk-from_err c.from_residual-in_err-push.result _ c.from_residual-in_err-push.ensures.0
+returns-in_err-push-clause-ready c =
+    IfOk-from_err c.from_residual-in_err-push.result _ c.from_residual-in_err-push.ensures.0
 
 pub loop-place-smaller : goal.loop-place-smaller
 loop-place-smaller c = falls _ _ c.loop-place-test.true
 
 pub returns-clause-cells : goal.returns-clause-cells
-returns-clause-cells c = c.loop-place.invariant.cells ∙ ap (map (row_in c.args.shelf.now.maps c.args.row)) (take_all c.loop-place.place-index c.args.picks.now c.loop-place-test.false)
+returns-clause-cells c =
+    c.loop-place.invariant.cells ∙ ap (map (row_in c.args.shelf.now.maps c.args.row))
+    (take_all c.loop-place.place-index c.args.picks.now c.loop-place-test.false)
 
 pub returns-clause-width : goal.returns-clause-width
 returns-clause-width c =

@@ -23,7 +23,8 @@ returns-in_err-write_row-clause-err g c =
     let region = c.args.shelf.now.region in
     let row = c.loop-row.row in
     let text = lines c.args.format.now maps picks c.args.skip in
-    let within = below c.loop-row-test.true (c.rows-row-end.ensures.value ∙ ap (λ (r : RegionValue). r.rows) c.region.ensures.value) in
+    let within = below c.loop-row-test.true
+    (c.rows-row-end.ensures.value ∙ ap (λ (r : RegionValue). r.rows) c.region.ensures.value) in
     let parts = lines-all c.args.format.now maps picks c.args.skip region.cols row region.rows within in
     rw (p.1, p.2) (cut-first _ _ (text (all_combinations maps picks row region.cols) ++ text (row_combinations maps picks region.cols row)) (text (flat_map (row_combinations maps picks region.cols) (range_with_len (row + 1) (region.rows - (row + 1))))) (text (all_combinations maps picks region.rows region.cols)) parts _ _
     (CutsOff-second _ _ _ _ _ _ _ _ c.loop-row.invariant.gathers c.in_err-write_row.ensures.err))
@@ -39,7 +40,8 @@ loop-row-preserved g c =
 
 pub returns-clause-ok : goal.returns-clause-ok
 returns-clause-ok g c =
-    let last = at_end c.loop-row.auto.row-end c.loop-row-test.false (c.rows-row-end.ensures.value ∙ ap (λ (r : RegionValue). r.rows) c.region.ensures.value) in
+    let last = at_end c.loop-row.auto.row-end c.loop-row-test.false
+    (c.rows-row-end.ensures.value ∙ ap (λ (r : RegionValue). r.rows) c.region.ensures.value) in
     rw last at c.loop-row.invariant.gathers
 
 pub loop-row-init : goal.loop-row-init
@@ -59,7 +61,8 @@ pub write_row-requires-clause-some : goal.write_row-requires-clause-some
 write_row-requires-clause-some g c = c.requires.some
 
 pub write_row-requires-clause-row_in_range : goal.write_row-requires-clause-row_in_range
-write_row-requires-clause-row_in_range g c = below c.loop-row-test.true (c.rows-row-end.ensures.value ∙ ap (λ (r : RegionValue). r.rows) c.region.ensures.value)
+write_row-requires-clause-row_in_range g c =
+    below c.loop-row-test.true (c.rows-row-end.ensures.value ∙ ap (λ (r : RegionValue). r.rows) c.region.ensures.value)
 
 pub write_row-requires-clause-cursors : goal.write_row-requires-clause-cursors
 write_row-requires-clause-cursors g c = c.loop-row.invariant.cursors

@@ -57,7 +57,8 @@ loop-col-init g c =
       least = first.ensures.least;
       some = λ h.
           let some = below h same_cols in
-          first.ensures.some (alive maps row 0 first.new.cursors picks cols here c.restart_all.ensures.width some first.ensures.ready) h;
+          first.ensures.some (alive maps row 0 first.new.cursors picks cols here c.restart_all.ensures.width some
+          first.ensures.ready) h;
       most = from_start first.ensures.most;
     }
 
@@ -104,7 +105,8 @@ loop-col-preserved g c =
       least = next.ensures.least;
       some = λ h.
           let some = below h same_cols in
-          next.ensures.some (alive maps row (col + count) next.new.cursors picks cols here c.restart_all.ensures.width some next.ensures.ready) (some_left h);
+          next.ensures.some (alive maps row (col + count) next.new.cursors picks cols here c.restart_all.ensures.width
+          some next.ensures.ready) (some_left h);
       most = still_within inv.most next.ensures.most;
     }
 
@@ -171,7 +173,8 @@ pub pass_all-count-requires-in-loop-col-clause-ready : goal.pass_all-count-requi
 pass_all-count-requires-in-loop-col-clause-ready g c = c.loop-col.invariant.ready
 
 pub pass_all-count-requires-in-loop-col-clause-width : goal.pass_all-count-requires-in-loop-col-clause-width
-pass_all-count-requires-in-loop-col-clause-width g c = ap length c.loop-col.invariant.cells ∙ length-map c.loop-col.cursors (λ (x : CursorValue). x.cell)
+pass_all-count-requires-in-loop-col-clause-width g c =
+    ap length c.loop-col.invariant.cells ∙ length-map c.loop-col.cursors (λ (x : CursorValue). x.cell)
 
 pub loop-col-smaller : goal.loop-col-smaller
 loop-col-smaller g c = fewer c.loop-col.col (c.loop-col.invariant.some c.loop-col-test.true) c.loop-col.invariant.most

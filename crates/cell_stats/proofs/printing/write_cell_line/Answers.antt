@@ -9,13 +9,15 @@ pub returns-in_err-write_combination-clause-err : goal.returns-in_err-write_comb
 returns-in_err-write_combination-clause-err g c =
     let p = err_from_is_err_and c.from_residual.result c.from_residual.ensures.1 in
     let format = c.args.format.now in
-    let fields = join_with_byte format.separator (combination_fields format c.args.shelf.now.maps c.args.picks.now c.args.cells.now) in
+    let fields = join_with_byte format.separator
+    (combination_fields format c.args.shelf.now.maps c.args.picks.now c.args.cells.now) in
     rw (p.1, p.2) (cut-first _ _ fields (10 ∷ []) (cell_line format c.args.shelf.now.maps c.args.picks.now c.args.cells.now) refl _ _ c.in_err-write_combination.ensures.err)
 
 pub returns-clause-err : goal.returns-clause-err
 returns-clause-err g c =
     let format = c.args.format.now in
-    let fields = join_with_byte format.separator (combination_fields format c.args.shelf.now.maps c.args.picks.now c.args.cells.now) in
+    let fields = join_with_byte format.separator
+    (combination_fields format c.args.shelf.now.maps c.args.picks.now c.args.cells.now) in
     cut-second _ _ fields (10 ∷ []) (cell_line format c.args.shelf.now.maps c.args.picks.now c.args.cells.now) refl c.push.result _ _ _ c.in_ok-write_combination.ensures.ok c.push.ensures.err
 
 pub write_combination-requires-clause-picked : goal.write_combination-requires-clause-picked
@@ -51,5 +53,7 @@ returns-clause-failed g c = failed_then _ _ _ _ c.push.ensures.failed c.in_ok-wr
 pub returns-clause-ok : goal.returns-clause-ok
 returns-clause-ok g c =
     let format = c.args.format.now in
-    let fields = join_with_byte format.separator (combination_fields format c.args.shelf.now.maps c.args.picks.now c.args.cells.now) in
-    ok-second _ _ fields (10 ∷ []) (cell_line format c.args.shelf.now.maps c.args.picks.now c.args.cells.now) refl c.push.result _ _ _ _ c.in_ok-write_combination.ensures.ok c.push.ensures.ok
+    let fields = join_with_byte format.separator
+    (combination_fields format c.args.shelf.now.maps c.args.picks.now c.args.cells.now) in
+    ok-second _ _ fields (10 ∷ []) (cell_line format c.args.shelf.now.maps c.args.picks.now c.args.cells.now) refl
+    c.push.result _ _ _ _ c.in_ok-write_combination.ensures.ok c.push.ensures.ok

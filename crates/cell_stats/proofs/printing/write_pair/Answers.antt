@@ -21,7 +21,8 @@ returns-in_err-write_combination-clause-err g c =
 
 pub returns-in_err-write_count-clause-err : goal.returns-in_err-write_count-clause-err
 returns-in_err-write_count-clause-err g c =
-    let p = err_from_is_err_and c.from_residual-in_err-write_count.result c.from_residual-in_err-write_count.ensures.1 in
+    let p = err_from_is_err_and c.from_residual-in_err-write_count.result
+    c.from_residual-in_err-write_count.ensures.1 in
     let format = c.args.format.now in
     let maps = c.args.shelf.now.maps in
     let picks = c.args.picks.now in
@@ -79,21 +80,26 @@ returns-in_err-write_combination-clause-failed g c =
 
 pub returns-in_err-write_count-clause-ok : goal.returns-in_err-write_count-clause-ok
 returns-in_err-write_count-clause-ok g c =
-    let p = err_from_is_err_and c.from_residual-in_err-write_count.result c.from_residual-in_err-write_count.ensures.1 in
+    let p = err_from_is_err_and c.from_residual-in_err-write_count.result
+    c.from_residual-in_err-write_count.ensures.1 in
     rw p.1 tt
 
 pub returns-in_err-write_count-clause-lost : goal.returns-in_err-write_count-clause-lost
 returns-in_err-write_count-clause-lost g c =
-    let p = err_from_is_err_and c.from_residual-in_err-write_count.result c.from_residual-in_err-write_count.ensures.1 in
+    let p = err_from_is_err_and c.from_residual-in_err-write_count.result
+    c.from_residual-in_err-write_count.ensures.1 in
     rw (p.1, p.2) c.in_err-write_count.ensures.lost
 
 pub returns-in_err-write_count-clause-failed : goal.returns-in_err-write_count-clause-failed
 returns-in_err-write_count-clause-failed g c =
-    let p = err_from_is_err_and c.from_residual-in_err-write_count.result c.from_residual-in_err-write_count.ensures.1 in
+    let p = err_from_is_err_and c.from_residual-in_err-write_count.result
+    c.from_residual-in_err-write_count.ensures.1 in
     rw p.1 (failed_then _ _ _ _ c.in_err-write_count.ensures.failed c.in_ok-write_combination.ensures.failed)
 
 pub returns-clause-lost : goal.returns-clause-lost
 returns-clause-lost g c = c.push.ensures.lost
 
 pub returns-clause-failed : goal.returns-clause-failed
-returns-clause-failed g c = failed_then _ _ _ _ c.push.ensures.failed (failed_then _ _ _ _ c.in_ok-write_count.ensures.failed c.in_ok-write_combination.ensures.failed)
+returns-clause-failed g c =
+    failed_then _ _ _ _ c.push.ensures.failed
+    (failed_then _ _ _ _ c.in_ok-write_count.ensures.failed c.in_ok-write_combination.ensures.failed)

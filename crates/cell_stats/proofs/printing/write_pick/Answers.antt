@@ -22,8 +22,10 @@ returns-clause-err g c =
     let maps = c.args.shelf.now.maps in
     let on = sym c.labels.ensures ∙ c.if-not-labels.false in
     let cell = cell_text format.null_text c.args.cell in
-    let parts = ap (λ (t : List ℕ). cell_text t c.args.cell ++ (c.separator.result ∷ c.label_of.result.now)) c.null_text.ensures
-    ∙ ap (λ (s : ℕ). cell ++ (s ∷ c.label_of.result.now)) c.separator.ensures ∙ ap (λ (l : List ℕ). cell ++ (format.separator ∷ l)) c.label_of.ensures
+    let parts = ap (λ (t : List ℕ). cell_text t c.args.cell ++ (c.separator.result ∷ c.label_of.result.now))
+    c.null_text.ensures
+    ∙ ap (λ (s : ℕ). cell ++ (s ∷ c.label_of.result.now)) c.separator.ensures
+    ∙ ap (λ (l : List ℕ). cell ++ (format.separator ∷ l)) c.label_of.ensures
     ∙ pick_text-with format maps c.args.place c.args.cell on in
     cut-second _ _ (cell_text c.null_text.result.now c.args.cell) (c.separator.result ∷ c.label_of.result.now) (pick_text format maps c.args.place c.args.cell) parts c.write_next.result _ _ _ c.in_ok-write_cell.ensures.ok c.write_next.ensures.err
 
@@ -52,10 +54,14 @@ returns-clause-ok g c =
     let maps = c.args.shelf.now.maps in
     let on = sym c.labels.ensures ∙ c.if-not-labels.false in
     let cell = cell_text format.null_text c.args.cell in
-    let parts = ap (λ (t : List ℕ). cell_text t c.args.cell ++ (c.separator.result ∷ c.label_of.result.now)) c.null_text.ensures
-    ∙ ap (λ (s : ℕ). cell ++ (s ∷ c.label_of.result.now)) c.separator.ensures ∙ ap (λ (l : List ℕ). cell ++ (format.separator ∷ l)) c.label_of.ensures
+    let parts = ap (λ (t : List ℕ). cell_text t c.args.cell ++ (c.separator.result ∷ c.label_of.result.now))
+    c.null_text.ensures
+    ∙ ap (λ (s : ℕ). cell ++ (s ∷ c.label_of.result.now)) c.separator.ensures
+    ∙ ap (λ (l : List ℕ). cell ++ (format.separator ∷ l)) c.label_of.ensures
     ∙ pick_text-with format maps c.args.place c.args.cell on in
-    ok-second _ _ (cell_text c.null_text.result.now c.args.cell) (c.separator.result ∷ c.label_of.result.now) (pick_text format maps c.args.place c.args.cell) parts c.write_next.result _ _ _ _ c.in_ok-write_cell.ensures.ok c.write_next.ensures.ok
+    ok-second _ _ (cell_text c.null_text.result.now c.args.cell) (c.separator.result ∷ c.label_of.result.now)
+    (pick_text format maps c.args.place c.args.cell) parts c.write_next.result _ _ _ _
+    c.in_ok-write_cell.ensures.ok c.write_next.ensures.ok
 
 pub label_of-requires : goal.label_of-requires
 label_of-requires g c = c.requires
@@ -63,9 +69,11 @@ label_of-requires g c = c.requires
 pub returns-then-not-labels-clause-ok : goal.returns-then-not-labels-clause-ok
 returns-then-not-labels-clause-ok g c =
     let off = sym c.labels.ensures ∙ c.if-not-labels.true in
-    let whole = ap (λ (t : List ℕ). cell_text t c.args.cell) c.null_text.ensures ∙ pick_text-without c.args.format.now c.args.shelf.now.maps c.args.place c.args.cell off in
+    let whole = ap (λ (t : List ℕ). cell_text t c.args.cell) c.null_text.ensures
+    ∙ pick_text-without c.args.format.now c.args.shelf.now.maps c.args.place c.args.cell off in
     let taken = g.W.Sink.taken in
-    subst (λ (l : List ℕ). Gathers (taken c.args.out.now) c.args.block.now l (taken c.write_cell.new.out) c.write_cell.new.block) whole c.in_ok-write_cell.ensures.ok
+    subst (λ (l : List ℕ). Gathers (taken c.args.out.now) c.args.block.now l (taken c.write_cell.new.out)
+    c.write_cell.new.block) whole c.in_ok-write_cell.ensures.ok
 
 pub returns-then-not-labels-clause-err : goal.returns-then-not-labels-clause-err
 returns-then-not-labels-clause-err g c = tt

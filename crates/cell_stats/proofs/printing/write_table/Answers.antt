@@ -14,7 +14,8 @@ returns-in_err-write_pair-clause-err g c =
     let i = c.loop-combo.combo-index in
     let item = c.loop-combo-item.result in
     let pair : Combination × ℕ = (c.cells.result.now, item.1) in
-    let read : pair ≡ get_or pairs i item = ap (λ (k : Combination). (k, item.1)) c.cells.ensures ∙ c.loop-combo-item.is in
+    let read : pair ≡ get_or pairs i item = ap (λ (k : Combination). (k, item.1)) c.cells.ensures
+    ∙ c.loop-combo-item.is in
     let within = c.loop-combo-test.true in
     let f = pair_line c.args.format.now c.args.shelf.now.maps c.args.picks.now in
     let parts = sym (flat_map-rest f pairs i item pair within read) ∙ ap (flat_map f) c.printed-entries.ensures.value in
@@ -71,14 +72,17 @@ loop-combo-preserved g c =
     let i = c.loop-combo.combo-index in
     let item = c.loop-combo-item.result in
     let pair : Combination × ℕ = (c.cells.result.now, item.1) in
-    let read : pair ≡ get_or pairs i item = ap (λ (k : Combination). (k, item.1)) c.cells.ensures ∙ c.loop-combo-item.is in
+    let read : pair ≡ get_or pairs i item = ap (λ (k : Combination). (k, item.1)) c.cells.ensures
+    ∙ c.loop-combo-item.is in
     let f = pair_line c.args.format.now c.args.shelf.now.maps c.args.picks.now in
     record {
-      gathers = rw (flat_map-take f pairs i item pair c.loop-combo-test.true read) (Gathers-then _ _ _ _ _ _ _ _ c.loop-combo.invariant.gathers c.in_ok-write_pair.ensures.ok);
+      gathers = rw (flat_map-take f pairs i item pair c.loop-combo-test.true read)
+          (Gathers-then _ _ _ _ _ _ _ _ c.loop-combo.invariant.gathers c.in_ok-write_pair.ensures.ok);
       failed = failed_still _ _ _ c.in_ok-write_pair.ensures.failed c.loop-combo.invariant.failed;
     }
 
 pub returns-clause-ok : goal.returns-clause-ok
 returns-clause-ok g c =
-    let all = take_all c.loop-combo.combo-index c.printed-entries.result.now c.loop-combo-test.false ∙ c.printed-entries.ensures.value in
+    let all = take_all c.loop-combo.combo-index c.printed-entries.result.now c.loop-combo-test.false
+    ∙ c.printed-entries.ensures.value in
     rw all at c.loop-combo.invariant.gathers

@@ -47,16 +47,20 @@ pub returns-in_err-counted-clause-value : goal.returns-in_err-counted-clause-val
 returns-in_err-counted-clause-value c = IfOk-from_err c.from_residual.result _ c.from_residual.ensures.0
 
 pub returns-in_err-entries-clause-width : goal.returns-in_err-entries-clause-width
-returns-in_err-entries-clause-width c = IfOk-from_err c.from_residual-in_err-entries.result _ c.from_residual-in_err-entries.ensures.0
+returns-in_err-entries-clause-width c =
+    IfOk-from_err c.from_residual-in_err-entries.result _ c.from_residual-in_err-entries.ensures.0
 
 pub returns-in_err-entries-clause-table : goal.returns-in_err-entries-clause-table
-returns-in_err-entries-clause-table c = IfOk-from_err c.from_residual-in_err-entries.result _ c.from_residual-in_err-entries.ensures.0
+returns-in_err-entries-clause-table c =
+    IfOk-from_err c.from_residual-in_err-entries.result _ c.from_residual-in_err-entries.ensures.0
 
 pub returns-in_err-entries-clause-only : goal.returns-in_err-entries-clause-only
-returns-in_err-entries-clause-only c = IfOk-from_err c.from_residual-in_err-entries.result _ c.from_residual-in_err-entries.ensures.0
+returns-in_err-entries-clause-only c =
+    IfOk-from_err c.from_residual-in_err-entries.result _ c.from_residual-in_err-entries.ensures.0
 
 pub returns-in_err-entries-clause-value : goal.returns-in_err-entries-clause-value
-returns-in_err-entries-clause-value c = IfOk-from_err c.from_residual-in_err-entries.result _ c.from_residual-in_err-entries.ensures.0
+returns-in_err-entries-clause-value c =
+    IfOk-from_err c.from_residual-in_err-entries.result _ c.from_residual-in_err-entries.ensures.0
 
 pub count_cells-requires-clause-width : goal.count_cells-requires-clause-width
 count_cells-requires-clause-width c = c.requires.width

@@ -14,30 +14,38 @@ abbrev behind : Bor (List ℕ)
 behind = record { ref_ptr = (0, 0); now = [] }
 
 -- the parts from a place on: the one there, and those behind it
-rest_first : (items : List (Bor (List ℕ))) (i : ℕ) (d : Bor (List ℕ)) → i < length items → map (λ w. w.now) (drop i items) ≡ (get_or items i d).now ∷ map (λ w. w.now) (drop (i + 1) items)
+rest_first : (items : List (Bor (List ℕ))) (i : ℕ) (d : Bor (List ℕ)) → i < length items
+    → map (λ w. w.now) (drop i items) ≡ (get_or items i d).now ∷ map (λ w. w.now) (drop (i + 1) items)
 rest_first items i d within = rw (add-one, drop-cons items i d) refl
 
 -- none is read at first
-start : (words : List (List ℕ)) {items : List (List ℕ)} {now : Combination} → now ≡ [] → items ≡ words → cells_of words ≡ option_map (λ cells. now ++ cells) (cells_of items)
+start : (words : List (List ℕ)) {items : List (List ℕ)} {now : Combination} → now ≡ [] → items ≡ words
+    → cells_of words ≡ option_map (λ cells. now ++ cells) (cells_of items)
 start words none same = rw (none, same) (by (cells_of words))
   where
     by : (o : Option Combination) → o ≡ option_map (λ cells. [] ++ cells) o
     by None = refl
     by (Some cells) = refl
 
-module _ (now : Combination) {found : Option Combination} {all : List (List ℕ)} (so_far : found ≡ option_map (λ cells. now ++ cells) (cells_of all)) where
+module _ (now : Combination) {found : Option Combination} {all : List (List ℕ)}
+    (so_far : found ≡ option_map (λ cells. now ++ cells) (cells_of all)) where
   module _ (part : List ℕ) (parts : List (List ℕ)) (first : all ≡ part ∷ parts) where
     -- a part has no cell
     cut : cell_of_part part ≡ None → found ≡ None
     cut none = so_far ∙ ap (λ l. option_map (λ cells. now ++ cells) (cells_of l)) first
-        ∙ ap (λ o. option_map (λ cells. now ++ cells) (option_and_then (λ cell. option_map (λ cells. cell ∷ cells) (cells_of parts)) o)) none
+        ∙ ap (λ o. option_map (λ cells. now ++ cells)
+        (option_and_then (λ cell. option_map (λ cells. cell ∷ cells) (cells_of parts)) o)) none
 
     -- or its cell comes behind those before it
-    more : (cell : CellValue) → cell_of_part part ≡ Some cell → found ≡ option_map (λ cells. (now ++ cell ∷ []) ++ cells) (cells_of parts)
+    more : (cell : CellValue) → cell_of_part part ≡ Some cell
+        → found ≡ option_map (λ cells. (now ++ cell ∷ []) ++ cells) (cells_of parts)
     more cell some = so_far ∙ ap (λ l. option_map (λ cells. now ++ cells) (cells_of l)) first
-        ∙ ap (λ o. option_map (λ cells. now ++ cells) (option_and_then (λ cell. option_map (λ cells. cell ∷ cells) (cells_of parts)) o)) some ∙ by (cells_of parts)
+        ∙ ap (λ o. option_map (λ cells. now ++ cells)
+        (option_and_then (λ cell. option_map (λ cells. cell ∷ cells) (cells_of parts)) o)) some
+        ∙ by (cells_of parts)
       where
-        by : (o : Option Combination) → option_map (λ cells. now ++ cells) (option_map (λ cells. cell ∷ cells) o) ≡ option_map (λ cells. (now ++ cell ∷ []) ++ cells) o
+        by : (o : Option Combination) → option_map (λ cells. now ++ cells)
+            (option_map (λ cells. cell ∷ cells) o) ≡ option_map (λ cells. (now ++ cell ∷ []) ++ cells) o
         by None = refl
         by (Some cells) = ap Some (sym (append_assoc now (cell ∷ []) cells))
 
@@ -63,7 +71,9 @@ pub returns-in-Err-push-clause-err : goal.returns-in-Err-push-clause-err
 returns-in-Err-push-clause-err c = λ other. absurd (other refl)
 
 pub loop-part-init : goal.loop-part-init
-loop-part-init c = start _ c.new-cells.ensures.items (ap (map (λ (w : Bor (List ℕ)). w.now)) c.deref-part-items.ensures.value ∙ c.in-Ok.ensures)
+loop-part-init c =
+    start _ c.new-cells.ensures.items
+    (ap (map (λ (w : Bor (List ℕ)). w.now)) c.deref-part-items.ensures.value ∙ c.in-Ok.ensures)
 
 pub loop-part-smaller : goal.loop-part-smaller
 loop-part-smaller c = falls _ _ c.loop-part-test.true
@@ -76,7 +86,8 @@ returns-in-None-clause-err c = λ _.
     let items = c.deref-part-items.result.now in
     let i = c.loop-part.part-index in
     let first = rest_first items i behind c.loop-part-test.true in
-    ap (as_wide c.args.width) (cut c.loop-part.cells.items c.loop-part.invariant (get_or items i behind).now (map (λ (w : Bor (List ℕ)). w.now) (drop (i + 1) items)) first (sym c.in-None.ensures))
+    ap (as_wide c.args.width) (cut c.loop-part.cells.items c.loop-part.invariant (get_or items i behind).now
+    (map (λ (w : Bor (List ℕ)). w.now) (drop (i + 1) items)) first (sym c.in-None.ensures))
 
 pub loop-part-preserved : goal.loop-part-preserved
 loop-part-preserved c =
@@ -84,7 +95,8 @@ loop-part-preserved c =
     let i = c.loop-part.part-index in
     let rest = map (λ (w : Bor (List ℕ)). w.now) (drop (i + 1) items) in
     let first = rest_first items i behind c.loop-part-test.true in
-    more c.loop-part.cells.items c.loop-part.invariant (get_or items i behind).now rest first c.in-Some.cell (sym c.in-Some.ensures)
+    more c.loop-part.cells.items c.loop-part.invariant (get_or items i behind).now rest first c.in-Some.cell
+    (sym c.in-Some.ensures)
     ∙ ap (λ (l : Combination). option_map (λ cells. l ++ cells) (cells_of rest)) (sym c.in-Ok-push.ensures.items)
 
 pub returns-then-len-width-clause-ok : goal.returns-then-len-width-clause-ok
@@ -94,13 +106,16 @@ pub returns-then-len-width-clause-err : goal.returns-then-len-width-clause-err
 returns-then-len-width-clause-err c = λ _.
     let none = drop_all c.loop-part.part-index c.deref-part-items.result.now c.loop-part-test.false in
     let read = all_read c.loop-part.cells.items c.loop-part.invariant (ap (map (λ (w : Bor (List ℕ)). w.now)) none) in
-    ap (as_wide c.args.width) read ∙ narrow c.args.width c.loop-part.cells.items (c.len.ensures ∙ c.loop-part.cells.ok.0) c.if-len-width.true
+    ap (as_wide c.args.width) read
+    ∙ narrow c.args.width c.loop-part.cells.items (c.len.ensures ∙ c.loop-part.cells.ok.0) c.if-len-width.true
 
 pub returns-clause-ok : goal.returns-clause-ok
 returns-clause-ok c =
     let none = drop_all c.loop-part.part-index c.deref-part-items.result.now c.loop-part-test.false in
     let read = all_read c.loop-part.cells.items c.loop-part.invariant (ap (map (λ (w : Bor (List ℕ)). w.now)) none) in
-    ap (as_wide c.args.width) read ∙ wide c.args.width c.loop-part.cells.items (c.len.ensures ∙ c.loop-part.cells.ok.0) c.if-len-width.false ∙ ap Ok (sym c.of.ensures)
+    ap (as_wide c.args.width) read
+    ∙ wide c.args.width c.loop-part.cells.items (c.len.ensures ∙ c.loop-part.cells.ok.0) c.if-len-width.false
+    ∙ ap Ok (sym c.of.ensures)
 
 pub returns-clause-err : goal.returns-clause-err
 returns-clause-err c = tt
