@@ -15,7 +15,8 @@ pub returns-then-self-clause-same : goal.returns-then-self-clause-same
 returns-then-self-clause-same g c = refl
 
 pub returns-then-self-clause-again : goal.returns-then-self-clause-again
-returns-then-self-clause-again g c = λ e. apart _ _ _ c.if-self.true (c.self.invariant.3 (ap (λ (a : Ahead). a.ended) c.self.view_is ∙ e)).0
+returns-then-self-clause-again g c =
+    λ e. apart _ _ _ c.if-self.true (c.self.invariant.3 (ap (λ (a : Ahead). a.ended) c.self.view_is ∙ e)).0
 
 pub returns-in_err-n-clause-byte : goal.returns-in_err-n-clause-byte
 returns-in_err-n-clause-byte g c = IfOk-from_err c.from_residual.result _ c.from_residual.ensures.0
@@ -27,7 +28,8 @@ pub returns-in_err-n-clause-told : goal.returns-in_err-n-clause-told
 returns-in_err-n-clause-told g c = IfOk-from_err c.from_residual.result _ c.from_residual.ensures.0
 
 pub returns-in_err-n-clause-again : goal.returns-in_err-n-clause-again
-returns-in_err-n-clause-again g c = λ e. not_both _ _ c.if-not-self.true (ap (λ (a : Ahead). a.ended) c.self.view_is ∙ e)
+returns-in_err-n-clause-again g c =
+    λ e. not_both _ _ c.if-not-self.true (ap (λ (a : Ahead). a.ended) c.self.view_is ∙ e)
 
 pub returns-then-self-2-clause-told : goal.returns-then-self-2-clause-told
 returns-then-self-2-clause-told g c = c.if-self-2.true
@@ -36,5 +38,6 @@ pub returns-clause-again : goal.returns-clause-again
 returns-clause-again g c =
     λ e. elim c.if-not-self.branch [
       | then-not-self+in_ok-n w ↦ not_both _ _ w.if-not-self.true (ap (λ (a : Ahead). a.ended) c.self.view_is ∙ e)
-      | else-not-self w ↦ not_both _ _ (rw w.self-inside-is at c.if-self-2.false) (ap (λ (a : Ahead). a.ended) c.self.view_is ∙ e)
+      | else-not-self w ↦ not_both _ _ (rw w.self-inside-is at c.if-self-2.false)
+          (ap (λ (a : Ahead). a.ended) c.self.view_is ∙ e)
     ]

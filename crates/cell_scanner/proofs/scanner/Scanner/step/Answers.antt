@@ -116,7 +116,8 @@ returns-then-self-ge1048576-clause-starts g c =
     let held = rw c.in-Some.is at c.in_ok-b.ensures.byte in
     let space = sym c.is_space.ensures ∙ c.if-not-is_space.false in
     rw (line, ← c.in_ok-b.ensures.same)
-    (at_byte (start_of s.line s.run) (start_step (Err (fault ReaderStuck s.line)) t.line t.run) t.ahead c.in-Some.b held (λ bs f. start-stuck s.line s.run c.requires.run c.in-Some.b bs f space (rw run at c.if-self-ge1048576.true)))
+    (at_byte (start_of s.line s.run) (start_step (Err (fault ReaderStuck s.line)) t.line t.run) t.ahead c.in-Some.b
+    held (λ bs f. start-stuck s.line s.run c.requires.run c.in-Some.b bs f space (rw run at c.if-self-ge1048576.true)))
 
 -- a line feed was passed
 pub returns-then-b-eq10-clause-starts : goal.returns-then-b-eq10-clause-starts
@@ -190,7 +191,8 @@ returns-then-self-ge1048576-clause-gap g c =
     let held = rw c.in-Some.is at c.in_ok-b.ensures.byte in
     let space = sym c.is_space.ensures ∙ c.if-not-is_space.false in
     rw (line, ← c.in_ok-b.ensures.same)
-    (at_byte (gap_of s.line s.run) (gap_step (Err (fault ReaderStuck s.line)) t.line t.run) t.ahead c.in-Some.b held (λ bs f. gap-stuck s.line s.run c.requires.run c.in-Some.b bs f space (rw run at c.if-self-ge1048576.true)))
+    (at_byte (gap_of s.line s.run) (gap_step (Err (fault ReaderStuck s.line)) t.line t.run) t.ahead c.in-Some.b held
+    (λ bs f. gap-stuck s.line s.run c.requires.run c.in-Some.b bs f space (rw run at c.if-self-ge1048576.true)))
 
 pub returns-then-b-eq10-clause-gap : goal.returns-then-b-eq10-clause-gap
 returns-then-b-eq10-clause-gap g c =
@@ -340,12 +342,14 @@ returns-then-self-ge1048576-clause-kind g c = tt
 
 pub returns-then-b-eq10-clause-line : goal.returns-then-b-eq10-clause-line
 returns-then-b-eq10-clause-line g c =
-    let line : c.self.inside.line ≡ c.args.self.now.line = ap (λ (v : Scan). v.line) c.self.view_is ∙ c.peek.ensures.line in
+    let line : c.self.inside.line ≡ c.args.self.now.line =
+    ap (λ (v : Scan). v.line) c.self.view_is ∙ c.peek.ensures.line in
     ap (λ (n : ℕ). n + 1) line
 
 pub returns-then-b-eq10-clause-lines : goal.returns-then-b-eq10-clause-lines
 returns-then-b-eq10-clause-lines g c =
-    let line : c.self.inside.line ≡ c.args.self.now.line = ap (λ (v : Scan). v.line) c.self.view_is ∙ c.peek.ensures.line in
+    let line : c.self.inside.line ≡ c.args.self.now.line =
+    ap (λ (v : Scan). v.line) c.self.view_is ∙ c.peek.ensures.line in
     let run : c.self.inside.run ≡ c.args.self.now.run = ap (λ (v : Scan). v.run) c.self.view_is ∙ c.peek.ensures.run in
     feed_lines _ _ _ _ line run
 
@@ -376,12 +380,14 @@ returns-then-b-eq10-clause-kind g c = tt
 
 pub returns-clause-line : goal.returns-clause-line
 returns-clause-line g c =
-    let line : c.self.inside.line ≡ c.args.self.now.line = ap (λ (v : Scan). v.line) c.self.view_is ∙ c.peek.ensures.line in
+    let line : c.self.inside.line ≡ c.args.self.now.line =
+    ap (λ (v : Scan). v.line) c.self.view_is ∙ c.peek.ensures.line in
     line
 
 pub returns-clause-lines : goal.returns-clause-lines
 returns-clause-lines g c =
-    let line : c.self.inside.line ≡ c.args.self.now.line = ap (λ (v : Scan). v.line) c.self.view_is ∙ c.peek.ensures.line in
+    let line : c.self.inside.line ≡ c.args.self.now.line =
+    ap (λ (v : Scan). v.line) c.self.view_is ∙ c.peek.ensures.line in
     let run : c.self.inside.run ≡ c.args.self.now.run = ap (λ (v : Scan). v.run) c.self.view_is ∙ c.peek.ensures.run in
     blank_lines _ _ _ _ line run
 
