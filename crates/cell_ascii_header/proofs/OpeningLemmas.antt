@@ -46,7 +46,8 @@ pub value_blanks : (line start : ℕ) (word : List ℕ) (seen : Coming → Gap) 
     → option_map (value_from line (drop start word)) a ≡ option_map (λ c. after_blanks line (seen c)) b
 value_blanks line start word seen a b long gaps =
     rw (drop_all start word long)
-    (map_same (value_from line []) (λ c. after_blanks line (gap_of line 0 c)) a (λ c. value_later line c (gap_of line 0 c) refl)
+    (map_same (value_from line []) (λ c. after_blanks line (gap_of line 0 c)) a
+    (λ c. value_later line c (gap_of line 0 c) refl)
     ∙ then_map (after_blanks line) (gap_of line 0) seen a b gaps)
 
 -- the line after the blanks
@@ -81,49 +82,62 @@ pub key_done : (line : ℕ) (keys : Keys) (word w : List ℕ) (at run : ℕ) (e 
     → with_key keys (key_of (before_first is_colon word)) (drop at w) ≡ Ok more
     → option_map (key_line line keys word) a ≡ option_map (key_line_seen (Ok e) more run) d
 key_done line keys word w at run e more a b d values ends given =
-    then_map (after_value line keys word) (value_from line (after_first is_colon word)) (value_seen (Ok at) w) a b values
-    ∙ then_map (after_end (with_key keys (key_of (before_first is_colon word)) (drop at w)) line) (λ c. line_end line (gap_of line 0 c)) (ending_seen (Ok e) run) b d ends
+    then_map (after_value line keys word) (value_from line (after_first is_colon word)) (value_seen (Ok at) w) a b
+    values
+    ∙ then_map (after_end (with_key keys (key_of (before_first is_colon word)) (drop at w)) line)
+    (λ c. line_end line (gap_of line 0 c)) (ending_seen (Ok e) run) b d ends
     ∙ ap (λ (v : Result Keys GridKind). option_map (λ c. after_end v line (ending_seen (Ok e) run c)) d) given
     ∙ map_same (λ c. after_end (Ok more) line (ending_seen (Ok e) run c)) (key_line_seen (Ok e) more run) d (ends_with more line run e)
 
 -- one whose value could not be read
-pub key_unread : (line : ℕ) (keys : Keys) (word w : List ℕ) (run : ℕ) (more : Keys) (f : GridFault) (a b : Option Coming)
+pub key_unread : (line : ℕ) (keys : Keys) (word w : List ℕ) (run : ℕ) (more : Keys) (f : GridFault)
+    (a b : Option Coming)
     → option_map (value_from line (after_first is_colon word)) a ≡ option_map (value_seen (Err f) w) b
     → option_map (key_line line keys word) a ≡ option_map (key_line_seen (Err f) more run) b
 key_unread line keys word w run more f a b values =
-    then_map (after_value line keys word) (value_from line (after_first is_colon word)) (value_seen (Err f) w) a b values
+    then_map (after_value line keys word) (value_from line (after_first is_colon word)) (value_seen (Err f) w) a b
+    values
 
 -- one whose end could not be read
-pub key_unended : (line : ℕ) (keys : Keys) (word w : List ℕ) (at run : ℕ) (more : Keys) (f : GridFault) (a b d : Option Coming)
+pub key_unended : (line : ℕ) (keys : Keys) (word w : List ℕ) (at run : ℕ) (more : Keys) (f : GridFault)
+    (a b d : Option Coming)
     → option_map (value_from line (after_first is_colon word)) a ≡ option_map (value_seen (Ok at) w) b
     → option_map (λ c. line_end line (gap_of line 0 c)) b ≡ option_map (ending_seen (Err f) run) d
     → option_map (key_line line keys word) a ≡ option_map (key_line_seen (Err f) more run) d
 key_unended line keys word w at run more f a b d values ends =
-    then_map (after_value line keys word) (value_from line (after_first is_colon word)) (value_seen (Ok at) w) a b values
-    ∙ then_map (after_end (with_key keys (key_of (before_first is_colon word)) (drop at w)) line) (λ c. line_end line (gap_of line 0 c)) (ending_seen (Err f) run) b d ends
+    then_map (after_value line keys word) (value_from line (after_first is_colon word)) (value_seen (Ok at) w) a b
+    values
+    ∙ then_map (after_end (with_key keys (key_of (before_first is_colon word)) (drop at w)) line)
+    (λ c. line_end line (gap_of line 0 c)) (ending_seen (Err f) run) b d ends
 
-refused_with : (kind : GridKind) (line run : ℕ) (e : Ending) (c : Coming) → after_end (Err kind) line (ending_seen (Ok e) run c) ≡ Err (fault kind line)
+refused_with : (kind : GridKind) (line run : ℕ) (e : Ending) (c : Coming)
+    → after_end (Err kind) line (ending_seen (Ok e) run c) ≡ Err (fault kind line)
 refused_with kind line run Feed c = refl
 refused_with kind line run Text c = refl
 
 -- one whose key or value is refused
-pub key_refused : (line : ℕ) (keys : Keys) (word w : List ℕ) (at run : ℕ) (e : Ending) (more : Keys) (kind : GridKind) (a b d : Option Coming)
+pub key_refused : (line : ℕ) (keys : Keys) (word w : List ℕ) (at run : ℕ) (e : Ending) (more : Keys) (kind : GridKind)
+    (a b d : Option Coming)
     → option_map (value_from line (after_first is_colon word)) a ≡ option_map (value_seen (Ok at) w) b
     → option_map (λ c. line_end line (gap_of line 0 c)) b ≡ option_map (ending_seen (Ok e) run) d
     → with_key keys (key_of (before_first is_colon word)) (drop at w) ≡ Err kind
     → option_map (key_line line keys word) a ≡ option_map (key_line_seen (Err (fault kind line)) more run) d
 key_refused line keys word w at run e more kind a b d values ends given =
-    then_map (after_value line keys word) (value_from line (after_first is_colon word)) (value_seen (Ok at) w) a b values
-    ∙ then_map (after_end (with_key keys (key_of (before_first is_colon word)) (drop at w)) line) (λ c. line_end line (gap_of line 0 c)) (ending_seen (Ok e) run) b d ends
+    then_map (after_value line keys word) (value_from line (after_first is_colon word)) (value_seen (Ok at) w) a b
+    values
+    ∙ then_map (after_end (with_key keys (key_of (before_first is_colon word)) (drop at w)) line)
+    (λ c. line_end line (gap_of line 0 c)) (ending_seen (Ok e) run) b d ends
     ∙ ap (λ (v : Result Keys GridKind). option_map (λ c. after_end v line (ending_seen (Ok e) run c)) d) given
-    ∙ map_same (λ c. after_end (Err kind) line (ending_seen (Ok e) run c)) (key_line_seen (Err (fault kind line)) more run) d (refused_with kind line run e)
+    ∙ map_same (λ c. after_end (Err kind) line (ending_seen (Ok e) run c))
+    (key_line_seen (Err (fault kind line)) more run) d (refused_with kind line run e)
 
 -- the rest of a list, cut at its own length, is the rest
 whole_rest : (bs : List ℕ) (i : ℕ) → take (length bs - i) (drop i bs) ≡ drop i bs
 whole_rest bs i = take_all (length bs - i) (drop i bs) (omega (arith, length-drop i bs))
 
 -- the key and the value as they are computed
-pub key_given : (keys : Keys) (r : Result Keys GridKind) (word first last end : List ℕ) (colon at : ℕ) (key : Option Key)
+pub key_given : (keys : Keys) (r : Result Keys GridKind) (word first last end : List ℕ) (colon at : ℕ)
+    (key : Option Key)
     → colon ≡ position_or_len is_colon word → first ≡ word → key ≡ key_of (take colon first) → last ≡ end
     → r ≡ with_key keys key (take (length last - at) (drop at last))
     → with_key keys (key_of (before_first is_colon word)) (drop at end) ≡ r

@@ -13,7 +13,9 @@ returns-in_err-skip_blanks-clause-ending g c =
     let s = c.args.scanner.now in
     let t = c.skip_blanks.new.self in
     let p = err_from_is_err_and c.from_residual.result c.from_residual.ensures.1 in
-    rw (p.1, p.2) (then_map (line_end s.line) (gap_of s.line 0) (gap_seen (Err c.in_err-skip_blanks.field-0.0) t.run) (to_come s.ahead) (to_come t.ahead) (rw c.requires.run at c.in_err-skip_blanks.ensures.gap))
+    rw (p.1, p.2)
+    (then_map (line_end s.line) (gap_of s.line 0) (gap_seen (Err c.in_err-skip_blanks.field-0.0) t.run)
+    (to_come s.ahead) (to_come t.ahead) (rw c.requires.run at c.in_err-skip_blanks.ensures.gap))
 
 pub returns-in_err-skip_blanks-clause-feed : goal.returns-in_err-skip_blanks-clause-feed
 returns-in_err-skip_blanks-clause-feed g c = λ e. err_no_ok _ _ _ c.from_residual.ensures.0 e
@@ -43,7 +45,8 @@ returns-in-Word-clause-ending g c =
     let s = c.args.scanner.now in
     let t = c.skip_blanks.new.self in
     rw (c.bad_header.ensures, c.line-line.ensures)
-    (then_map (line_end s.line) (gap_of s.line 0) (gap_seen (Ok Word) t.run) (to_come s.ahead) (to_come t.ahead) (rw (c.requires.run, c.in-Word.is) at c.in_ok-skip_blanks.ensures.gap))
+    (then_map (line_end s.line) (gap_of s.line 0) (gap_seen (Ok Word) t.run) (to_come s.ahead) (to_come t.ahead)
+    (rw (c.requires.run, c.in-Word.is) at c.in_ok-skip_blanks.ensures.gap))
 
 pub returns-in-Word-clause-feed : goal.returns-in-Word-clause-feed
 returns-in-Word-clause-feed g c = λ e. err_no_ok _ (Err c.bad_header.result) _ refl e
@@ -70,7 +73,8 @@ pub returns-in-Feed-clause-ending : goal.returns-in-Feed-clause-ending
 returns-in-Feed-clause-ending g c =
     let s = c.args.scanner.now in
     let t = c.skip_blanks.new.self in
-    then_map (line_end s.line) (gap_of s.line 0) (gap_seen (Ok Feed) t.run) (to_come s.ahead) (to_come t.ahead) (rw (c.requires.run, c.in-Feed.is) at c.in_ok-skip_blanks.ensures.gap)
+    then_map (line_end s.line) (gap_of s.line 0) (gap_seen (Ok Feed) t.run) (to_come s.ahead) (to_come t.ahead)
+    (rw (c.requires.run, c.in-Feed.is) at c.in_ok-skip_blanks.ensures.gap)
 
 pub returns-in-Feed-clause-feed : goal.returns-in-Feed-clause-feed
 returns-in-Feed-clause-feed g c = λ e. rw c.in-Feed.is at c.in_ok-skip_blanks.ensures.line
@@ -97,7 +101,8 @@ pub returns-in-End-clause-ending : goal.returns-in-End-clause-ending
 returns-in-End-clause-ending g c =
     let s = c.args.scanner.now in
     let t = c.skip_blanks.new.self in
-    then_map (line_end s.line) (gap_of s.line 0) (gap_seen (Ok End) t.run) (to_come s.ahead) (to_come t.ahead) (rw (c.requires.run, c.in-End.is) at c.in_ok-skip_blanks.ensures.gap)
+    then_map (line_end s.line) (gap_of s.line 0) (gap_seen (Ok End) t.run) (to_come s.ahead) (to_come t.ahead)
+    (rw (c.requires.run, c.in-End.is) at c.in_ok-skip_blanks.ensures.gap)
 
 pub returns-in-End-clause-feed : goal.returns-in-End-clause-feed
 returns-in-End-clause-feed g c = λ e. one_ending _ (Ok _) e refl

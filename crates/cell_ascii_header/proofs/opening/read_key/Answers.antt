@@ -10,7 +10,9 @@ returns-in-Ok-clause-key g c =
     let s = c.args.scanner.now in
     let t = c.read_value.new.scanner in
     let u = c.end_line.new.scanner in
-    let given = key_given c.args.keys.now (Ok c.give.new.self) s.word c.word.result.now c.word-2.result.now t.word c.args.colon c.in_ok-start.start c.key_of-key.result
+    let given =
+    key_given c.args.keys.now (Ok c.give.new.self) s.word c.word.result.now c.word-2.result.now t.word
+    c.args.colon c.in_ok-start.start c.key_of-key.result
     c.requires.colon c.word.ensures.value c.key_of-key.ensures (c.word-2.ensures.value ∙ c.end_line.ensures.word) (sym c.in-Ok.ensures.ok) in
     key_done s.line c.args.keys.now s.word t.word c.in_ok-start.start u.run c.in_ok-ending.ending c.give.new.self (to_come s.ahead) (to_come t.ahead) (to_come u.ahead)
     (rw c.requires.colon at c.in_ok-start.ensures.value) (rw c.in_ok-start.ensures.line at c.in_ok-ending.ensures.ending) given
@@ -24,7 +26,8 @@ returns-in_err-start-clause-key g c =
     let t = c.read_value.new.scanner in
     let p = err_from_is_err_and c.from_residual.result c.from_residual.ensures.1 in
     rw (p.1, p.2)
-    (key_unread s.line c.args.keys.now s.word t.word t.run c.args.keys.now c.in_err-start.field-0.0 (to_come s.ahead) (to_come t.ahead)
+    (key_unread s.line c.args.keys.now s.word t.word t.run c.args.keys.now c.in_err-start.field-0.0 (to_come s.ahead)
+    (to_come t.ahead)
     (rw c.requires.colon at c.in_err-start.ensures.value))
 
 pub returns-in_err-start-clause-feed : goal.returns-in_err-start-clause-feed
@@ -54,8 +57,10 @@ returns-in_err-ending-clause-key g c =
     let u = c.end_line.new.scanner in
     let p = err_from_is_err_and c.from_residual-in_err-ending.result c.from_residual-in_err-ending.ensures.1 in
     rw (p.1, p.2)
-    (key_unended s.line c.args.keys.now s.word t.word c.in_ok-start.start u.run c.args.keys.now c.in_err-ending.field-0.0 (to_come s.ahead) (to_come t.ahead) (to_come u.ahead)
-    (rw c.requires.colon at c.in_ok-start.ensures.value) (rw c.in_ok-start.ensures.line at c.in_err-ending.ensures.ending))
+    (key_unended s.line c.args.keys.now s.word t.word c.in_ok-start.start u.run c.args.keys.now
+    c.in_err-ending.field-0.0 (to_come s.ahead) (to_come t.ahead) (to_come u.ahead)
+    (rw c.requires.colon at c.in_ok-start.ensures.value) (rw c.in_ok-start.ensures.line at
+    c.in_err-ending.ensures.ending))
 
 pub returns-in_err-ending-clause-feed : goal.returns-in_err-ending-clause-feed
 returns-in_err-ending-clause-feed g c = λ e. err_no_ok _ _ _ c.from_residual-in_err-ending.ensures.0 e
@@ -64,13 +69,15 @@ pub returns-in_err-ending-clause-text : goal.returns-in_err-ending-clause-text
 returns-in_err-ending-clause-text g c = λ e. err_no_ok _ _ _ c.from_residual-in_err-ending.ensures.0 e
 
 pub returns-in_err-ending-clause-run : goal.returns-in_err-ending-clause-run
-returns-in_err-ending-clause-run g c = IfOk-from_err c.from_residual-in_err-ending.result _ c.from_residual-in_err-ending.ensures.0
+returns-in_err-ending-clause-run g c =
+    IfOk-from_err c.from_residual-in_err-ending.result _ c.from_residual-in_err-ending.ensures.0
 
 pub returns-in_err-ending-clause-end : goal.returns-in_err-ending-clause-end
 returns-in_err-ending-clause-end g c = λ e. err_no_ok _ _ _ c.from_residual-in_err-ending.ensures.0 e
 
 pub returns-in_err-ending-clause-lines : goal.returns-in_err-ending-clause-lines
-returns-in_err-ending-clause-lines g c = IfOk-from_err c.from_residual-in_err-ending.result _ c.from_residual-in_err-ending.ensures.0
+returns-in_err-ending-clause-lines g c =
+    IfOk-from_err c.from_residual-in_err-ending.result _ c.from_residual-in_err-ending.ensures.0
 
 pub returns-in_err-ending-clause-kind : goal.returns-in_err-ending-clause-kind
 returns-in_err-ending-clause-kind g c =
@@ -100,11 +107,16 @@ returns-in-Err-clause-key g c =
     let s = c.args.scanner.now in
     let t = c.read_value.new.scanner in
     let u = c.end_line.new.scanner in
-    let given = key_given c.args.keys.now (Err c.in-Err.kind) s.word c.word.result.now c.word-2.result.now t.word c.args.colon c.in_ok-start.start c.key_of-key.result
-    c.requires.colon c.word.ensures.value c.key_of-key.ensures (c.word-2.ensures.value ∙ c.end_line.ensures.word) (sym c.in-Err.ensures.err) in
+    let given =
+    key_given c.args.keys.now (Err c.in-Err.kind) s.word c.word.result.now c.word-2.result.now t.word c.args.colon
+    c.in_ok-start.start c.key_of-key.result
+    c.requires.colon c.word.ensures.value c.key_of-key.ensures (c.word-2.ensures.value ∙ c.end_line.ensures.word)
+    (sym c.in-Err.ensures.err) in
     rw c.line-line.ensures
-    (key_refused s.line c.args.keys.now s.word t.word c.in_ok-start.start u.run c.in_ok-ending.ending c.give.new.self c.in-Err.kind (to_come s.ahead) (to_come t.ahead) (to_come u.ahead)
-    (rw c.requires.colon at c.in_ok-start.ensures.value) (rw c.in_ok-start.ensures.line at c.in_ok-ending.ensures.ending) given)
+    (key_refused s.line c.args.keys.now s.word t.word c.in_ok-start.start u.run c.in_ok-ending.ending c.give.new.self
+    c.in-Err.kind (to_come s.ahead) (to_come t.ahead) (to_come u.ahead)
+    (rw c.requires.colon at c.in_ok-start.ensures.value) (rw c.in_ok-start.ensures.line at
+    c.in_ok-ending.ensures.ending) given)
 
 pub returns-in-Err-clause-feed : goal.returns-in-Err-clause-feed
 returns-in-Err-clause-feed g c = λ e. err_no_ok _ (Err _) _ refl e

@@ -50,7 +50,9 @@ returns-in_err-skip_blanks-clause-value g c =
     let t = c.skip_blanks.new.self in
     let long : length s.word ≤ c.args.start = rw c.word.ensures.value at c.if-start-word.false in
     let p = err_from_is_err_and c.from_residual.result c.from_residual.ensures.1 in
-    rw (p.1, p.2) (value_blanks s.line c.args.start s.word (gap_seen (Err c.in_err-skip_blanks.field-0.0) t.run) (to_come s.ahead) (to_come t.ahead) long (rw c.requires.run at c.in_err-skip_blanks.ensures.gap))
+    rw (p.1, p.2)
+    (value_blanks s.line c.args.start s.word (gap_seen (Err c.in_err-skip_blanks.field-0.0) t.run) (to_come s.ahead)
+    (to_come t.ahead) long (rw c.requires.run at c.in_err-skip_blanks.ensures.gap))
 
 pub returns-in_err-skip_blanks-clause-line : goal.returns-in_err-skip_blanks-clause-line
 returns-in_err-skip_blanks-clause-line g c = IfOk-from_err c.from_residual.result _ c.from_residual.ensures.0
@@ -75,26 +77,35 @@ returns-in_err-read_word-in-Word-clause-value g c =
     let t = c.skip_blanks.new.self in
     let long : length s.word ≤ c.args.start = rw c.word.ensures.value at c.if-start-word.false in
     let same : t.line ≡ s.line = rw c.in-Word.is at c.in_ok-skip_blanks.ensures.line in
-    let p = err_from_is_err_and c.from_residual-in_err-read_word-in-Word.result c.from_residual-in_err-read_word-in-Word.ensures.1 in
+    let p =
+    err_from_is_err_and c.from_residual-in_err-read_word-in-Word.result
+    c.from_residual-in_err-read_word-in-Word.ensures.1 in
     rw (p.1, p.2)
-    (value_blanks s.line c.args.start s.word (gap_seen (Ok Word) t.run) (to_come s.ahead) (to_come t.ahead) long (rw (c.requires.run, c.in-Word.is) at c.in_ok-skip_blanks.ensures.gap)
+    (value_blanks s.line c.args.start s.word (gap_seen (Ok Word) t.run) (to_come s.ahead) (to_come t.ahead) long
+    (rw (c.requires.run, c.in-Word.is) at c.in_ok-skip_blanks.ensures.gap)
     ∙ (rw same at c.in_err-read_word-in-Word.ensures.word))
 
 pub returns-in_err-read_word-in-Word-clause-line : goal.returns-in_err-read_word-in-Word-clause-line
-returns-in_err-read_word-in-Word-clause-line g c = IfOk-from_err c.from_residual-in_err-read_word-in-Word.result _ c.from_residual-in_err-read_word-in-Word.ensures.0
+returns-in_err-read_word-in-Word-clause-line g c =
+    IfOk-from_err c.from_residual-in_err-read_word-in-Word.result _ c.from_residual-in_err-read_word-in-Word.ensures.0
 
 pub returns-in_err-read_word-in-Word-clause-run : goal.returns-in_err-read_word-in-Word-clause-run
-returns-in_err-read_word-in-Word-clause-run g c = IfOk-from_err c.from_residual-in_err-read_word-in-Word.result _ c.from_residual-in_err-read_word-in-Word.ensures.0
+returns-in_err-read_word-in-Word-clause-run g c =
+    IfOk-from_err c.from_residual-in_err-read_word-in-Word.result _ c.from_residual-in_err-read_word-in-Word.ensures.0
 
 pub returns-in_err-read_word-in-Word-clause-within : goal.returns-in_err-read_word-in-Word-clause-within
-returns-in_err-read_word-in-Word-clause-within g c = IfOk-from_err c.from_residual-in_err-read_word-in-Word.result _ c.from_residual-in_err-read_word-in-Word.ensures.0
+returns-in_err-read_word-in-Word-clause-within g c =
+    IfOk-from_err c.from_residual-in_err-read_word-in-Word.result _ c.from_residual-in_err-read_word-in-Word.ensures.0
 
 pub returns-in_err-read_word-in-Word-clause-lines : goal.returns-in_err-read_word-in-Word-clause-lines
-returns-in_err-read_word-in-Word-clause-lines g c = line_most _ _ _ (c.read_word.ensures.line ∙ c.skip_blanks.ensures.line)
+returns-in_err-read_word-in-Word-clause-lines g c =
+    line_most _ _ _ (c.read_word.ensures.line ∙ c.skip_blanks.ensures.line)
 
 pub returns-in_err-read_word-in-Word-clause-kind : goal.returns-in_err-read_word-in-Word-clause-kind
 returns-in_err-read_word-in-Word-clause-kind g c =
-    let p = err_from_is_err_and c.from_residual-in_err-read_word-in-Word.result c.from_residual-in_err-read_word-in-Word.ensures.1 in
+    let p =
+    err_from_is_err_and c.from_residual-in_err-read_word-in-Word.result
+    c.from_residual-in_err-read_word-in-Word.ensures.1 in
     rw (p.1, p.2) c.in_err-read_word-in-Word.ensures.kind
 
 pub returns-in_ok-read_word-in-Word-clause-value : goal.returns-in_ok-read_word-in-Word-clause-value
@@ -103,11 +114,13 @@ returns-in_ok-read_word-in-Word-clause-value g c =
     let t = c.skip_blanks.new.self in
     let long : length s.word ≤ c.args.start = rw c.word.ensures.value at c.if-start-word.false in
     let same : t.line ≡ s.line = rw c.in-Word.is at c.in_ok-skip_blanks.ensures.line in
-    value_blanks s.line c.args.start s.word (gap_seen (Ok Word) t.run) (to_come s.ahead) (to_come t.ahead) long (rw (c.requires.run, c.in-Word.is) at c.in_ok-skip_blanks.ensures.gap)
+    value_blanks s.line c.args.start s.word (gap_seen (Ok Word) t.run) (to_come s.ahead) (to_come t.ahead) long
+    (rw (c.requires.run, c.in-Word.is) at c.in_ok-skip_blanks.ensures.gap)
     ∙ (rw same at c.in_ok-read_word-in-Word.ensures.word)
 
 pub returns-in_ok-read_word-in-Word-clause-line : goal.returns-in_ok-read_word-in-Word-clause-line
-returns-in_ok-read_word-in-Word-clause-line g c = c.read_word.ensures.line ∙ (rw c.in-Word.is at c.in_ok-skip_blanks.ensures.line)
+returns-in_ok-read_word-in-Word-clause-line g c =
+    c.read_word.ensures.line ∙ (rw c.in-Word.is at c.in_ok-skip_blanks.ensures.line)
 
 pub returns-in_ok-read_word-in-Word-clause-run : goal.returns-in_ok-read_word-in-Word-clause-run
 returns-in_ok-read_word-in-Word-clause-run g c = c.read_word.ensures.run
@@ -116,7 +129,8 @@ pub returns-in_ok-read_word-in-Word-clause-within : goal.returns-in_ok-read_word
 returns-in_ok-read_word-in-Word-clause-within g c = least _
 
 pub returns-in_ok-read_word-in-Word-clause-lines : goal.returns-in_ok-read_word-in-Word-clause-lines
-returns-in_ok-read_word-in-Word-clause-lines g c = line_most _ _ _ (c.read_word.ensures.line ∙ c.skip_blanks.ensures.line)
+returns-in_ok-read_word-in-Word-clause-lines g c =
+    line_most _ _ _ (c.read_word.ensures.line ∙ c.skip_blanks.ensures.line)
 
 pub returns-in_ok-read_word-in-Word-clause-kind : goal.returns-in_ok-read_word-in-Word-clause-kind
 returns-in_ok-read_word-in-Word-clause-kind g c = tt
@@ -127,7 +141,8 @@ returns-in-Feed-clause-value g c =
     let t = c.skip_blanks.new.self in
     let long : length s.word ≤ c.args.start = rw c.word.ensures.value at c.if-start-word.false in
     rw (c.bad_header.ensures, c.line-line.ensures)
-    (value_blanks s.line c.args.start s.word (gap_seen (Ok Feed) t.run) (to_come s.ahead) (to_come t.ahead) long (rw (c.requires.run, c.in-Feed.is) at c.in_ok-skip_blanks.ensures.gap))
+    (value_blanks s.line c.args.start s.word (gap_seen (Ok Feed) t.run) (to_come s.ahead) (to_come t.ahead) long
+    (rw (c.requires.run, c.in-Feed.is) at c.in_ok-skip_blanks.ensures.gap))
 
 pub returns-in-Feed-clause-line : goal.returns-in-Feed-clause-line
 returns-in-Feed-clause-line g c = tt
@@ -150,7 +165,8 @@ returns-in-End-clause-value g c =
     let t = c.skip_blanks.new.self in
     let long : length s.word ≤ c.args.start = rw c.word.ensures.value at c.if-start-word.false in
     rw (c.bad_header-in-End.ensures, c.line-line.ensures)
-    (value_blanks s.line c.args.start s.word (gap_seen (Ok End) t.run) (to_come s.ahead) (to_come t.ahead) long (rw (c.requires.run, c.in-End.is) at c.in_ok-skip_blanks.ensures.gap))
+    (value_blanks s.line c.args.start s.word (gap_seen (Ok End) t.run) (to_come s.ahead) (to_come t.ahead) long
+    (rw (c.requires.run, c.in-End.is) at c.in_ok-skip_blanks.ensures.gap))
 
 pub returns-in-End-clause-line : goal.returns-in-End-clause-line
 returns-in-End-clause-line g c = tt
