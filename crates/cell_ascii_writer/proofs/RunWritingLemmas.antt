@@ -32,9 +32,11 @@ pub first-some : (runs rest : List RunValue) (cell : CellValue) (n : ℕ) → Ar
 first-some runs rest cell n are e = (rw e at are.lengths) 0 (cell, n) (omega arith)
 
 -- how many cells the runs have
-pub length-first : (rest : List RunValue) (cell : CellValue) (n : ℕ) → length (written_out ((cell, n) ∷ rest)) ≡ n + length (written_out rest)
+pub length-first : (rest : List RunValue) (cell : CellValue) (n : ℕ)
+    → length (written_out ((cell, n) ∷ rest)) ≡ n + length (written_out rest)
 length-first rest cell n =
-    length-append (replicate n cell) (written_out rest) ∙ ap (λ (k : ℕ). k + length (written_out rest)) (length-replicate n cell)
+    length-append (replicate n cell) (written_out rest) ∙ ap (λ (k : ℕ). k + length (written_out rest))
+    (length-replicate n cell)
 
 pub length-rest : (runs rest : List RunValue) (cell : CellValue) (n : ℕ)
     → length (written_out (runs ++ (cell, n) ∷ rest)) ≡ length (written_out runs) + (n + length (written_out rest))
@@ -44,7 +46,8 @@ length-rest runs rest cell n =
     ∙ ap (λ (k : ℕ). length (written_out runs) + k) (length-first rest cell n)
 
 -- what a block counts after so many cells, and so many more
-pub counted_cells : (now between old n done rest : ℕ) → now ≤ between + 65 * n → between ≤ old + 65 * done → now ≤ old + 65 * (done + (n + rest))
+pub counted_cells : (now between old n done rest : ℕ) → now ≤ between + 65 * n → between ≤ old + 65 * done
+    → now ≤ old + 65 * (done + (n + rest))
 counted_cells now between old n done rest grown was = omega arith
 
 module _ (null : List ℕ) where

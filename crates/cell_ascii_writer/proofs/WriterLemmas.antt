@@ -69,7 +69,8 @@ counted_most now old some most grown within = omega arith
 pub counted_more : (now old some more : ℕ) → now ≤ old + some → now ≤ old + (some + more)
 counted_more now old some more grown = omega arith
 
-pub counted_then : (now between old first second : ℕ) → now ≤ between + second → between ≤ old + first → now ≤ old + (first + second)
+pub counted_then : (now between old first second : ℕ) → now ≤ between + second → between ≤ old + first
+    → now ≤ old + (first + second)
 counted_then now between old first second grown was = omega arith
 
 pub counted_none : (n : ℕ) → n ≤ n + 0

@@ -9,10 +9,12 @@ use Rattle.cell_ascii_writer.proofs.writer.write_cells.Goals as goal
 after_cell : (now old null cells : ℕ) → now ≤ old + (null + 11) → null ≤ 64 → now ≤ old + (75 + 65 * cells)
 after_cell now old null cells grown short = omega arith
 
-after_run : (now first old null n rest : ℕ) → now ≤ first + 65 * (n - 1) → first ≤ old + (null + 11) → null ≤ 64 → now ≤ old + (75 + 65 * (n + rest))
+after_run : (now first old null n rest : ℕ) → now ≤ first + 65 * (n - 1) → first ≤ old + (null + 11) → null ≤ 64
+    → now ≤ old + (75 + 65 * (n + rest))
 after_run now first old null n rest grown was short = omega arith
 
-after_all : (now between first old null n rest : ℕ) → now ≤ between + 65 * rest → between ≤ first + 65 * (n - 1) → first ≤ old + (null + 11)
+after_all : (now between first old null n rest : ℕ) → now ≤ between + 65 * rest → between ≤ first + 65 * (n - 1)
+    → first ≤ old + (null + 11)
     → null ≤ 64 → now ≤ old + (75 + 65 * (n + rest))
 after_all now between first old null n rest grown run was short = omega arith
 
@@ -76,5 +78,6 @@ returns-clause-counted g c =
     let rest : List RunValue = c.next.new.self in
     let whole : c.args.runs ≡ c.in-Some.first ∷ rest = c.in-Some.ensures.steps in
     rw (whole, length-first rest c.in-Some.first.0 c.in-Some.first.1)
-    (after_all _ _ _ _ _ _ _ c.write_runs.ensures.counted c.in_ok-write_run.ensures.counted c.in_ok-write_cell.ensures.counted
+    (after_all _ _ _ _ _ _ _ c.write_runs.ensures.counted c.in_ok-write_run.ensures.counted
+    c.in_ok-write_cell.ensures.counted
     c.requires.null)

@@ -56,13 +56,15 @@ returns-clause-lost g c = c.write_units.ensures.lost
 pub returns-clause-counted : goal.returns-clause-counted
 returns-clause-counted g c =
     elim c.if-units-lt0.branch [
-      | then-units-lt0+in_ok-push w ↦ counted_then _ _ _ 1 81 (rw w.block-is at c.write_units.ensures.counted) w.in_ok-push.ensures.counted
+      | then-units-lt0+in_ok-push w ↦ counted_then _ _ _ 1 81 (rw w.block-is at c.write_units.ensures.counted)
+          w.in_ok-push.ensures.counted
       | else-units-lt0 w ↦ counted_more _ _ 81 1 (rw w.block-is at c.write_units.ensures.counted)
     ]
 
 pub returns-clause-failed : goal.returns-clause-failed
 returns-clause-failed g c =
     elim c.if-units-lt0.branch [
-      | then-units-lt0+in_ok-push w ↦ failed_then _ _ _ _ (rw w.out-is at c.write_units.ensures.failed) w.in_ok-push.ensures.failed
+      | then-units-lt0+in_ok-push w ↦ failed_then _ _ _ _ (rw w.out-is at c.write_units.ensures.failed)
+          w.in_ok-push.ensures.failed
       | else-units-lt0 w ↦ rw w.out-is at c.write_units.ensures.failed
     ]

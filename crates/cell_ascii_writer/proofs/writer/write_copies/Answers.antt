@@ -6,10 +6,12 @@ use Rattle.cell_ascii_writer.proofs.WriterLemmas.{at_end, counted_none, failed_n
 use Rattle.cell_ascii_writer.proofs.writer.write_copies.Goals as goal
 
 -- what the block counts after one field more
-again : (now between old size n : ℕ) → now ≤ between + size → size ≤ 65 → between ≤ old + 65 * n → now ≤ old + 65 * (n + 1)
+again : (now between old size n : ℕ) → now ≤ between + size → size ≤ 65 → between ≤ old + 65 * n
+    → now ≤ old + 65 * (n + 1)
 again now between old size n grown within was = omega arith
 
-within : (now between old size n all : ℕ) → now ≤ between + size → size ≤ 65 → between ≤ old + 65 * n → n < all → now ≤ old + 65 * all
+within : (now between old size n all : ℕ) → now ≤ between + size → size ≤ 65 → between ≤ old + 65 * n → n < all
+    → now ≤ old + 65 * all
 within now between old size n all grown fits was below = omega arith
 
 pub returns-in_err-push-clause-err : goal.returns-in_err-push-clause-err

@@ -12,7 +12,9 @@ returns-in_err-write_key-clause-err g c =
 
 pub returns-in_err-write_coordinate-clause-err : goal.returns-in_err-write_coordinate-clause-err
 returns-in_err-write_coordinate-clause-err g c =
-    let p = err_from_is_err_and c.from_residual-in_err-write_coordinate.result c.from_residual-in_err-write_coordinate.ensures.1 in
+    let p =
+    err_from_is_err_and c.from_residual-in_err-write_coordinate.result
+    c.from_residual-in_err-write_coordinate.ensures.1 in
     let same : to_z w64 (of_z w64 c.args.edge) ≡ c.args.edge = to_z-of_z w64 c.args.edge c.ranges.edge in
     rw (p.1, p.2) (CutsOff-first _ _ _ _ _ _ (CutsOff-second _ _ _ _ _ _ _ _ c.in_ok-write_key.ensures.ok (rw same at c.in_err-write_coordinate.ensures.err)))
 
@@ -45,26 +47,34 @@ returns-in_err-write_key-clause-failed g c =
     rw (p.1) c.in_err-write_key.ensures.failed
 
 pub returns-in_err-write_coordinate-clause-ok : goal.returns-in_err-write_coordinate-clause-ok
-returns-in_err-write_coordinate-clause-ok g c = IfOk-from_err c.from_residual-in_err-write_coordinate.result _ c.from_residual-in_err-write_coordinate.ensures.0
+returns-in_err-write_coordinate-clause-ok g c =
+    IfOk-from_err c.from_residual-in_err-write_coordinate.result _ c.from_residual-in_err-write_coordinate.ensures.0
 
 pub returns-in_err-write_coordinate-clause-lost : goal.returns-in_err-write_coordinate-clause-lost
 returns-in_err-write_coordinate-clause-lost g c =
-    let p = err_from_is_err_and c.from_residual-in_err-write_coordinate.result c.from_residual-in_err-write_coordinate.ensures.1 in
+    let p =
+    err_from_is_err_and c.from_residual-in_err-write_coordinate.result
+    c.from_residual-in_err-write_coordinate.ensures.1 in
     rw (p.1, p.2) c.in_err-write_coordinate.ensures.lost
 
 pub returns-in_err-write_coordinate-clause-counted : goal.returns-in_err-write_coordinate-clause-counted
-returns-in_err-write_coordinate-clause-counted g c = counted_more _ _ 89 1 (counted_then _ _ _ 7 82 c.in_err-write_coordinate.ensures.counted c.in_ok-write_key.ensures.counted)
+returns-in_err-write_coordinate-clause-counted g c =
+    counted_more _ _ 89 1 (counted_then _ _ _ 7 82 c.in_err-write_coordinate.ensures.counted c.in_ok-write_key.ensures.counted)
 
 pub returns-in_err-write_coordinate-clause-failed : goal.returns-in_err-write_coordinate-clause-failed
 returns-in_err-write_coordinate-clause-failed g c =
-    let p = err_from_is_err_and c.from_residual-in_err-write_coordinate.result c.from_residual-in_err-write_coordinate.ensures.1 in
+    let p =
+    err_from_is_err_and c.from_residual-in_err-write_coordinate.result
+    c.from_residual-in_err-write_coordinate.ensures.1 in
     rw (p.1) (failed_then _ _ _ _ c.in_err-write_coordinate.ensures.failed c.in_ok-write_key.ensures.failed)
 
 pub returns-clause-lost : goal.returns-clause-lost
 returns-clause-lost g c = c.push.ensures.lost
 
 pub returns-clause-counted : goal.returns-clause-counted
-returns-clause-counted g c = counted_then _ _ _ 89 1 c.push.ensures.counted (counted_then _ _ _ 7 82 c.in_ok-write_coordinate.ensures.counted c.in_ok-write_key.ensures.counted)
+returns-clause-counted g c =
+    counted_then _ _ _ 89 1 c.push.ensures.counted (counted_then _ _ _ 7 82 c.in_ok-write_coordinate.ensures.counted c.in_ok-write_key.ensures.counted)
 
 pub returns-clause-failed : goal.returns-clause-failed
-returns-clause-failed g c = failed_then _ _ _ _ c.push.ensures.failed (failed_then _ _ _ _ c.in_ok-write_coordinate.ensures.failed c.in_ok-write_key.ensures.failed)
+returns-clause-failed g c =
+    failed_then _ _ _ _ c.push.ensures.failed (failed_then _ _ _ _ c.in_ok-write_coordinate.ensures.failed c.in_ok-write_key.ensures.failed)

@@ -35,7 +35,9 @@ pub returns-clause-failed : goal.returns-clause-failed
 returns-clause-failed g c = failed_then _ _ _ _ c.push-2.ensures.failed c.in_ok-push.ensures.failed
 
 pub returns-in_err-push-clause-counted : goal.returns-in_err-push-clause-counted
-returns-in_err-push-clause-counted g c = counted_more _ _ 5 2 (counted_most _ _ _ 5 c.in_err-push.ensures.counted c.requires)
+returns-in_err-push-clause-counted g c =
+    counted_more _ _ 5 2 (counted_most _ _ _ 5 c.in_err-push.ensures.counted c.requires)
 
 pub returns-clause-counted : goal.returns-clause-counted
-returns-clause-counted g c = counted_then _ _ _ 5 2 c.push-2.ensures.counted (counted_most _ _ _ 5 c.in_ok-push.ensures.counted c.requires)
+returns-clause-counted g c =
+    counted_then _ _ _ 5 2 c.push-2.ensures.counted (counted_most _ _ _ 5 c.in_ok-push.ensures.counted c.requires)

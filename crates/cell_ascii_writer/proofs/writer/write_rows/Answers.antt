@@ -10,13 +10,16 @@ use Rattle.std.proofs.Math.Seq.{take-length}
 use Rattle.cell_ascii_writer.proofs.writer.write_rows.Goals as goal
 
 -- what the block counts after one row more, and after all
-again : (now between old row : ℕ) → now ≤ between + 76 * 65535 → between ≤ old + 76 * 65535 * row → now ≤ old + 76 * 65535 * (row + 1)
+again : (now between old row : ℕ) → now ≤ between + 76 * 65535 → between ≤ old + 76 * 65535 * row
+    → now ≤ old + 76 * 65535 * (row + 1)
 again now between old row grown was = omega arith
 
-most : (now old row rows high : ℕ) → now ≤ old + 76 * 65535 * row → row ≤ rows → rows ≡ high → high ≤ 65535 → now ≤ old + 76 * 65535 * 65535
+most : (now old row rows high : ℕ) → now ≤ old + 76 * 65535 * row → row ≤ rows → rows ≡ high → high ≤ 65535
+    → now ≤ old + 76 * 65535 * 65535
 most now old row rows high was below same fits = omega arith
 
-more : (now between old row rows high : ℕ) → now ≤ between + 76 * 65535 → between ≤ old + 76 * 65535 * row → row < rows → rows ≡ high
+more : (now between old row rows high : ℕ) → now ≤ between + 76 * 65535 → between ≤ old + 76 * 65535 * row
+    → row < rows → rows ≡ high
     → high ≤ 65535 → now ≤ old + 76 * 65535 * 65535
 more now between old row rows high grown was below same fits = omega arith
 
@@ -28,7 +31,8 @@ returns-in_err-write_row-clause-err g c =
     let p = err_from_is_err_and c.from_residual.result c.from_residual.ensures.1 in
     let rows = c.args.map.now.rows in
     let row = c.loop-row.row in
-    let height : c.rows-row-end.result ≡ c.args.map.now.region.rows = c.rows-row-end.ensures.value ∙ ap (λ (e : RegionValue). e.rows) c.region.ensures.value in
+    let height : c.rows-row-end.result ≡ c.args.map.now.region.rows =
+    c.rows-row-end.ensures.value ∙ ap (λ (e : RegionValue). e.rows) c.region.ensures.value in
     let within : row < length rows = below _ _ _ _ c.loop-row-test.true height c.region.ensures.filled.count in
     rw (p.1, p.2, flat_map-rest (row_text c.args.null_text.now) rows row [] (row_at c.args.map.now row) within refl)
     (CutsOff-first _ _ _ _ _ _ (CutsOff-second _ _ _ _ _ _ _ _ c.loop-row.invariant.gathers c.in_err-write_row.ensures.err))
@@ -38,7 +42,8 @@ returns-in_err-write_row-clause-short g c =
     let p = err_from_is_err_and c.from_residual.result c.from_residual.ensures.1 in
     let rows = c.args.map.now.rows in
     let row = c.loop-row.row in
-    let height : c.rows-row-end.result ≡ c.args.map.now.region.rows = c.rows-row-end.ensures.value ∙ ap (λ (e : RegionValue). e.rows) c.region.ensures.value in
+    let height : c.rows-row-end.result ≡ c.args.map.now.region.rows =
+    c.rows-row-end.ensures.value ∙ ap (λ (e : RegionValue). e.rows) c.region.ensures.value in
     let within : row < length rows = below _ _ _ _ c.loop-row-test.true height c.region.ensures.filled.count in
     rw (p.1, p.2, flat_map-rest (row_text c.args.null_text.now) rows row [] (row_at c.args.map.now row) within refl)
     (FallsShort-first _ _ _ _ _ (FallsShort-second _ _ _ _ _ _ _ c.loop-row.invariant.gathers c.in_err-write_row.ensures.short))
@@ -63,7 +68,8 @@ pub loop-row-preserved : goal.loop-row-preserved
 loop-row-preserved g c =
     let rows = c.args.map.now.rows in
     let row = c.loop-row.row in
-    let height : c.rows-row-end.result ≡ c.args.map.now.region.rows = c.rows-row-end.ensures.value ∙ ap (λ (e : RegionValue). e.rows) c.region.ensures.value in
+    let height : c.rows-row-end.result ≡ c.args.map.now.region.rows =
+    c.rows-row-end.ensures.value ∙ ap (λ (e : RegionValue). e.rows) c.region.ensures.value in
     let within : row < length rows = below _ _ _ _ c.loop-row-test.true height c.region.ensures.filled.count in
     record {
       gathers = rw (flat_map-take (row_text c.args.null_text.now) rows row [] (row_at c.args.map.now row) within refl)
@@ -76,18 +82,22 @@ pub returns-clause-ok : goal.returns-clause-ok
 returns-clause-ok g c =
     let rows = c.args.map.now.rows in
     let row = c.loop-row.row in
-    let height : c.rows-row-end.result ≡ c.args.map.now.region.rows = c.rows-row-end.ensures.value ∙ ap (λ (e : RegionValue). e.rows) c.region.ensures.value in
-    let all : row ≡ length rows = at_end _ _ c.loop-row-test.false c.loop-row.auto.row-end ∙ height ∙ sym c.region.ensures.filled.count in
+    let height : c.rows-row-end.result ≡ c.args.map.now.region.rows =
+    c.rows-row-end.ensures.value ∙ ap (λ (e : RegionValue). e.rows) c.region.ensures.value in
+    let all : row ≡ length rows =
+    at_end _ _ c.loop-row-test.false c.loop-row.auto.row-end ∙ height ∙ sym c.region.ensures.filled.count in
     rw (all, take-length rows) at c.loop-row.invariant.gathers
 
 pub returns-clause-counted : goal.returns-clause-counted
 returns-clause-counted g c =
-    most _ _ _ _ _ c.loop-row.invariant.counted c.loop-row.auto.row-end c.rows-row-end.ensures.value c.rows-row-end.ensures.region.rows_most
+    most _ _ _ _ _ c.loop-row.invariant.counted c.loop-row.auto.row-end c.rows-row-end.ensures.value
+    c.rows-row-end.ensures.region.rows_most
 
 pub returns-clause-failed : goal.returns-clause-failed
 returns-clause-failed g c = failed_not _ _ c.loop-row.invariant.failed
 
 pub returns-in_err-write_row-clause-counted : goal.returns-in_err-write_row-clause-counted
 returns-in_err-write_row-clause-counted g c =
-    more _ _ _ _ _ _ c.in_err-write_row.ensures.counted c.loop-row.invariant.counted c.loop-row-test.true c.rows-row-end.ensures.value
+    more _ _ _ _ _ _ c.in_err-write_row.ensures.counted c.loop-row.invariant.counted c.loop-row-test.true
+    c.rows-row-end.ensures.value
     c.rows-row-end.ensures.region.rows_most

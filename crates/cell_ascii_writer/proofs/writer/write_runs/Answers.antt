@@ -12,7 +12,8 @@ returns-in_err-write_run-clause-err g c =
     let done : List RunValue = c.loop-cell.yielded in
     let rest : List RunValue = c.next.new.self in
     let run : RunValue = (c.in-Some.cell, c.in-Some.count) in
-    let whole : c.args.runs ≡ done ++ run ∷ rest = sym c.loop-cell.invariant.whole ∙ ap (λ (l : List RunValue). done ++ l) c.in-Some.ensures.steps in
+    let whole : c.args.runs ≡ done ++ run ∷ rest =
+    sym c.loop-cell.invariant.whole ∙ ap (λ (l : List RunValue). done ++ l) c.in-Some.ensures.steps in
     rw (p.1, p.2, whole, cells_text-rest c.args.null_text.now done rest c.in-Some.cell c.in-Some.count)
     (CutsOff-first _ _ _ _ _ _ (CutsOff-second _ _ _ _ _ _ _ _ c.loop-cell.invariant.gathers c.in_err-write_run.ensures.err))
 
@@ -56,14 +57,16 @@ pub returns-clause-ok : goal.returns-clause-ok
 returns-clause-ok g c =
     let done : List RunValue = c.loop-cell.yielded in
     let all : done ≡ c.args.runs =
-    sym (append-nil done) ∙ ap (λ (l : List RunValue). done ++ l) (sym c.in-None.ensures.steps.0) ∙ c.loop-cell.invariant.whole in
+    sym (append-nil done) ∙ ap (λ (l : List RunValue). done ++ l) (sym c.in-None.ensures.steps.0) ∙
+    c.loop-cell.invariant.whole in
     rw all at c.loop-cell.invariant.gathers
 
 pub returns-clause-counted : goal.returns-clause-counted
 returns-clause-counted g c =
     let done : List RunValue = c.loop-cell.yielded in
     let all : done ≡ c.args.runs =
-    sym (append-nil done) ∙ ap (λ (l : List RunValue). done ++ l) (sym c.in-None.ensures.steps.0) ∙ c.loop-cell.invariant.whole in
+    sym (append-nil done) ∙ ap (λ (l : List RunValue). done ++ l) (sym c.in-None.ensures.steps.0) ∙
+    c.loop-cell.invariant.whole in
     rw all at c.loop-cell.invariant.counted
 
 pub returns-clause-failed : goal.returns-clause-failed
@@ -74,6 +77,7 @@ returns-in_err-write_run-clause-counted g c =
     let done : List RunValue = c.loop-cell.yielded in
     let rest : List RunValue = c.next.new.self in
     let run : RunValue = (c.in-Some.cell, c.in-Some.count) in
-    let whole : c.args.runs ≡ done ++ run ∷ rest = sym c.loop-cell.invariant.whole ∙ ap (λ (l : List RunValue). done ++ l) c.in-Some.ensures.steps in
+    let whole : c.args.runs ≡ done ++ run ∷ rest =
+    sym c.loop-cell.invariant.whole ∙ ap (λ (l : List RunValue). done ++ l) c.in-Some.ensures.steps in
     rw (whole, length-rest done rest c.in-Some.cell c.in-Some.count)
     (counted_cells _ _ _ _ _ _ c.in_err-write_run.ensures.counted c.loop-cell.invariant.counted)

@@ -40,7 +40,8 @@ returns-clause-lost g c = c.write_fraction.ensures.lost
 
 pub returns-clause-counted : goal.returns-clause-counted
 returns-clause-counted g c =
-    let short = counted_most _ _ _ 40 (rw c.as_bytes.ensures.len at c.in_ok-push.ensures.counted) c.format.ensures.short in
+    let short =
+    counted_most _ _ _ 40 (rw c.as_bytes.ensures.len at c.in_ok-push.ensures.counted) c.format.ensures.short in
     counted_then _ _ _ 40 41 c.write_fraction.ensures.counted short
 
 pub returns-clause-failed : goal.returns-clause-failed
