@@ -1,6 +1,6 @@
 use Rattle.std.proofs.Common.{◌≡◌, ℕ, Bool, true, false, List, map, Result, Err, codes, ap, sym, refl, ◌∙◌}
 use Rattle.std.specs.Prelude.{bytes_eq}
-use Rattle.std.proofs.lemmas.Result.{IfOk-from_err, err_from_is_err_and}
+use Rattle.std.proofs.lemmas.Result.{err_from_is_err_and}
 use Rattle.cell_commands.specs.Commands.{as_whole, as_opened, head_named, stats_of, out_ascii_of, clump_of, reclass_of}
 use Rattle.cell_commands.specs.Faults.{in_script}
 use Rattle.cell_commands.specs.declared.command.Command.{Command}
@@ -40,127 +40,107 @@ none_named : (known : List (List ℕ)) (name : List ℕ) (words : List (List ℕ
     → head_named known name words ≡ Err UnknownCommand
 none_named known name words first second third fourth = rw (first, second, third, fourth) refl
 
-pub returns-in_err-stats_of-clause-ok : goal.returns-in_err-stats_of-clause-ok
-returns-in_err-stats_of-clause-ok c = IfOk-from_err c.from_residual.result _ c.from_residual.ensures.0
+pub returns-in_err-stats_of : goal.returns-in_err-stats_of
+returns-in_err-stats_of c =
+    let e = c.from_residual in
+    let p = err_from_is_err_and e.result e.ensures.1 in
+    rw (p.1, p.2) (record {
+      ok = tt;
+      fits = tt;
+      err = λ other. stats_named c.args.known.now c.args.name.now (map (λ w. w.now) c.args.words.now) _
+          (read _ _ _ _ c.as_slice.ensures c.if-eq.ensures)
+          (c.in_err-stats_of.ensures.err other);
+    })
 
-pub returns-in_err-stats_of-clause-fits : goal.returns-in_err-stats_of-clause-fits
-returns-in_err-stats_of-clause-fits c = IfOk-from_err c.from_residual.result _ c.from_residual.ensures.0
+pub returns-in_ok-stats_of : goal.returns-in_ok-stats_of
+returns-in_ok-stats_of c = record {
+  ok = stats_named c.args.known.now c.args.name.now (map (λ w. w.now) c.args.words.now) _
+      (read _ _ _ _ c.as_slice.ensures c.if-eq.ensures)
+      c.in_ok-stats_of.ensures.ok;
+  fits = c.in_ok-stats_of.ensures.fits;
+  err = tt;
+}
 
-pub returns-in_err-stats_of-clause-err : goal.returns-in_err-stats_of-clause-err
-returns-in_err-stats_of-clause-err c =
-    let p = err_from_is_err_and c.from_residual.result c.from_residual.ensures.1 in
-    rw (p.1, p.2) (λ other. stats_named c.args.known.now c.args.name.now (map (λ w. w.now) c.args.words.now) _
-    (read _ _ _ _ c.as_slice.ensures c.if-eq.ensures) (c.in_err-stats_of.ensures.err other))
-
-pub returns-in_ok-stats_of-clause-ok : goal.returns-in_ok-stats_of-clause-ok
-returns-in_ok-stats_of-clause-ok c =
-    stats_named c.args.known.now c.args.name.now (map (λ w. w.now) c.args.words.now) _
-    (read _ _ _ _ c.as_slice.ensures c.if-eq.ensures)
-    c.in_ok-stats_of.ensures.ok
-
-pub returns-in_ok-stats_of-clause-fits : goal.returns-in_ok-stats_of-clause-fits
-returns-in_ok-stats_of-clause-fits c = c.in_ok-stats_of.ensures.fits
-
-pub returns-in_ok-stats_of-clause-err : goal.returns-in_ok-stats_of-clause-err
-returns-in_ok-stats_of-clause-err c = tt
-
-pub returns-in_err-out_ascii_of-clause-ok : goal.returns-in_err-out_ascii_of-clause-ok
-returns-in_err-out_ascii_of-clause-ok c =
-    IfOk-from_err c.from_residual-in_err-out_ascii_of.result _ c.from_residual-in_err-out_ascii_of.ensures.0
-
-pub returns-in_err-out_ascii_of-clause-fits : goal.returns-in_err-out_ascii_of-clause-fits
-returns-in_err-out_ascii_of-clause-fits c =
-    IfOk-from_err c.from_residual-in_err-out_ascii_of.result _ c.from_residual-in_err-out_ascii_of.ensures.0
-
-pub returns-in_err-out_ascii_of-clause-err : goal.returns-in_err-out_ascii_of-clause-err
-returns-in_err-out_ascii_of-clause-err c =
+pub returns-in_err-out_ascii_of : goal.returns-in_err-out_ascii_of
+returns-in_err-out_ascii_of c =
     let e = c.from_residual-in_err-out_ascii_of in
     let p = err_from_is_err_and e.result e.ensures.1 in
-    rw p.1 (λ other. out_ascii_named c.args.known.now c.args.name.now (map (λ w. w.now) c.args.words.now) _
-    (read _ _ _ _ c.as_slice.ensures c.if-eq.ensures) (read _ _ _ _ c.as_slice-else-eq.ensures c.if-eq-2.ensures)
-    (told _ _ _ p.2 other c.in_err-out_ascii_of.ensures.err))
+    rw p.1 (record {
+      ok = tt;
+      fits = tt;
+      err = λ other. out_ascii_named c.args.known.now c.args.name.now (map (λ w. w.now) c.args.words.now) _
+          (read _ _ _ _ c.as_slice.ensures c.if-eq.ensures) (read _ _ _ _ c.as_slice-else-eq.ensures c.if-eq-2.ensures)
+          (told _ _ _ p.2 other c.in_err-out_ascii_of.ensures.err);
+    })
 
-pub returns-in_ok-out_ascii_of-clause-ok : goal.returns-in_ok-out_ascii_of-clause-ok
-returns-in_ok-out_ascii_of-clause-ok c =
-    out_ascii_named c.args.known.now c.args.name.now (map (λ w. w.now) c.args.words.now) _
-    (read _ _ _ _ c.as_slice.ensures c.if-eq.ensures) (read _ _ _ _ c.as_slice-else-eq.ensures c.if-eq-2.ensures)
-    (given _ _ c.in_ok-out_ascii_of.ensures.ok)
+pub returns-in_ok-out_ascii_of : goal.returns-in_ok-out_ascii_of
+returns-in_ok-out_ascii_of c = record {
+  ok = out_ascii_named c.args.known.now c.args.name.now (map (λ w. w.now) c.args.words.now) _
+      (read _ _ _ _ c.as_slice.ensures c.if-eq.ensures) (read _ _ _ _ c.as_slice-else-eq.ensures c.if-eq-2.ensures)
+      (given _ _ c.in_ok-out_ascii_of.ensures.ok);
+  fits = c.in_ok-out_ascii_of.ensures.fits;
+  err = tt;
+}
 
-pub returns-in_ok-out_ascii_of-clause-fits : goal.returns-in_ok-out_ascii_of-clause-fits
-returns-in_ok-out_ascii_of-clause-fits c = c.in_ok-out_ascii_of.ensures.fits
+pub returns-in_err-clump_of : goal.returns-in_err-clump_of
+returns-in_err-clump_of c =
+    let e = c.from_residual-in_err-clump_of in
+    let p = err_from_is_err_and e.result e.ensures.1 in
+    rw p.1 (record {
+      ok = tt;
+      fits = tt;
+      err = λ other. clump_named c.args.known.now c.args.name.now (map (λ w. w.now) c.args.words.now) _
+          (read _ _ _ _ c.as_slice.ensures c.if-eq.ensures)
+          (read _ _ _ _ c.as_slice-else-eq.ensures c.if-eq-2.ensures)
+          (read _ _ _ _ c.as_slice-else-eq-2.ensures c.if-eq-3.ensures)
+          (told _ _ _ p.2 other c.in_err-clump_of.ensures.err);
+    })
 
-pub returns-in_ok-out_ascii_of-clause-err : goal.returns-in_ok-out_ascii_of-clause-err
-returns-in_ok-out_ascii_of-clause-err c = tt
+pub returns-in_ok-clump_of : goal.returns-in_ok-clump_of
+returns-in_ok-clump_of c = record {
+  ok = clump_named c.args.known.now c.args.name.now (map (λ w. w.now) c.args.words.now) _
+      (read _ _ _ _ c.as_slice.ensures c.if-eq.ensures)
+      (read _ _ _ _ c.as_slice-else-eq.ensures c.if-eq-2.ensures)
+      (read _ _ _ _ c.as_slice-else-eq-2.ensures c.if-eq-3.ensures)
+      (given _ _ c.in_ok-clump_of.ensures.ok);
+  fits = c.in_ok-clump_of.ensures.fits;
+  err = tt;
+}
 
-pub returns-in_err-clump_of-clause-ok : goal.returns-in_err-clump_of-clause-ok
-returns-in_err-clump_of-clause-ok c =
-    IfOk-from_err c.from_residual-in_err-clump_of.result _ c.from_residual-in_err-clump_of.ensures.0
+pub returns-in_err-place : goal.returns-in_err-place
+returns-in_err-place c =
+    let e = c.from_residual-in_err-place in
+    let p = err_from_is_err_and e.result e.ensures.1 in
+    rw p.1 (record {
+      ok = tt;
+      fits = tt;
+      err = λ other. reclass_named c.args.known.now c.args.name.now (map (λ w. w.now) c.args.words.now) _
+          (read _ _ _ _ c.as_slice.ensures c.if-eq.ensures)
+          (read _ _ _ _ c.as_slice-else-eq.ensures c.if-eq-2.ensures)
+          (read _ _ _ _ c.as_slice-else-eq-2.ensures c.if-eq-3.ensures)
+          (read _ _ _ _ c.as_slice-else-eq-3.ensures c.if-eq-4.ensures)
+          (told _ _ _ p.2 other c.in_err-place.ensures.err);
+    })
 
-pub returns-in_err-clump_of-clause-fits : goal.returns-in_err-clump_of-clause-fits
-returns-in_err-clump_of-clause-fits c =
-    IfOk-from_err c.from_residual-in_err-clump_of.result _ c.from_residual-in_err-clump_of.ensures.0
+pub returns-in_ok-place : goal.returns-in_ok-place
+returns-in_ok-place c = record {
+  ok = reclass_named c.args.known.now c.args.name.now (map (λ w. w.now) c.args.words.now) _
+      (read _ _ _ _ c.as_slice.ensures c.if-eq.ensures)
+      (read _ _ _ _ c.as_slice-else-eq.ensures c.if-eq-2.ensures)
+      (read _ _ _ _ c.as_slice-else-eq-2.ensures c.if-eq-3.ensures)
+      (read _ _ _ _ c.as_slice-else-eq-3.ensures c.if-eq-4.ensures)
+      (given _ _ c.in_ok-place.ensures.ok);
+  fits = (c.in_ok-place.ensures.within, c.in_ok-place.ensures.new);
+  err = tt;
+}
 
-pub returns-in_err-clump_of-clause-err : goal.returns-in_err-clump_of-clause-err
-returns-in_err-clump_of-clause-err c =
-    let p = err_from_is_err_and c.from_residual-in_err-clump_of.result c.from_residual-in_err-clump_of.ensures.1 in
-    rw p.1 (λ other. clump_named c.args.known.now c.args.name.now (map (λ w. w.now) c.args.words.now) _
-    (read _ _ _ _ c.as_slice.ensures c.if-eq.ensures) (read _ _ _ _ c.as_slice-else-eq.ensures c.if-eq-2.ensures)
-    (read _ _ _ _ c.as_slice-else-eq-2.ensures c.if-eq-3.ensures)
-    (told _ _ _ p.2 other c.in_err-clump_of.ensures.err))
-
-pub returns-in_ok-clump_of-clause-ok : goal.returns-in_ok-clump_of-clause-ok
-returns-in_ok-clump_of-clause-ok c =
-    clump_named c.args.known.now c.args.name.now (map (λ w. w.now) c.args.words.now) _
-    (read _ _ _ _ c.as_slice.ensures c.if-eq.ensures) (read _ _ _ _ c.as_slice-else-eq.ensures c.if-eq-2.ensures)
-    (read _ _ _ _ c.as_slice-else-eq-2.ensures c.if-eq-3.ensures)
-    (given _ _ c.in_ok-clump_of.ensures.ok)
-
-pub returns-in_ok-clump_of-clause-fits : goal.returns-in_ok-clump_of-clause-fits
-returns-in_ok-clump_of-clause-fits c = c.in_ok-clump_of.ensures.fits
-
-pub returns-in_ok-clump_of-clause-err : goal.returns-in_ok-clump_of-clause-err
-returns-in_ok-clump_of-clause-err c = tt
-
-pub returns-in_err-place-clause-ok : goal.returns-in_err-place-clause-ok
-returns-in_err-place-clause-ok c =
-    IfOk-from_err c.from_residual-in_err-place.result _ c.from_residual-in_err-place.ensures.0
-
-pub returns-in_err-place-clause-fits : goal.returns-in_err-place-clause-fits
-returns-in_err-place-clause-fits c =
-    IfOk-from_err c.from_residual-in_err-place.result _ c.from_residual-in_err-place.ensures.0
-
-pub returns-in_err-place-clause-err : goal.returns-in_err-place-clause-err
-returns-in_err-place-clause-err c =
-    let p = err_from_is_err_and c.from_residual-in_err-place.result c.from_residual-in_err-place.ensures.1 in
-    rw p.1 (λ other. reclass_named c.args.known.now c.args.name.now (map (λ w. w.now) c.args.words.now) _
-    (read _ _ _ _ c.as_slice.ensures c.if-eq.ensures) (read _ _ _ _ c.as_slice-else-eq.ensures c.if-eq-2.ensures)
-    (read _ _ _ _ c.as_slice-else-eq-2.ensures c.if-eq-3.ensures)
-    (read _ _ _ _ c.as_slice-else-eq-3.ensures c.if-eq-4.ensures)
-    (told _ _ _ p.2 other c.in_err-place.ensures.err))
-
-pub returns-in_ok-place-clause-ok : goal.returns-in_ok-place-clause-ok
-returns-in_ok-place-clause-ok c =
-    reclass_named c.args.known.now c.args.name.now (map (λ w. w.now) c.args.words.now) _
-    (read _ _ _ _ c.as_slice.ensures c.if-eq.ensures) (read _ _ _ _ c.as_slice-else-eq.ensures c.if-eq-2.ensures)
-    (read _ _ _ _ c.as_slice-else-eq-2.ensures c.if-eq-3.ensures)
-    (read _ _ _ _ c.as_slice-else-eq-3.ensures c.if-eq-4.ensures)
-    (given _ _ c.in_ok-place.ensures.ok)
-
-pub returns-in_ok-place-clause-fits : goal.returns-in_ok-place-clause-fits
-returns-in_ok-place-clause-fits c = (c.in_ok-place.ensures.within, c.in_ok-place.ensures.new)
-
-pub returns-in_ok-place-clause-err : goal.returns-in_ok-place-clause-err
-returns-in_ok-place-clause-err c = tt
-
-pub returns-else-eq-4-clause-ok : goal.returns-else-eq-4-clause-ok
-returns-else-eq-4-clause-ok c = tt
-
-pub returns-else-eq-4-clause-fits : goal.returns-else-eq-4-clause-fits
-returns-else-eq-4-clause-fits c = tt
-
-pub returns-else-eq-4-clause-err : goal.returns-else-eq-4-clause-err
-returns-else-eq-4-clause-err c _ =
-    none_named c.args.known.now c.args.name.now (map (λ w. w.now) c.args.words.now)
-    (read _ _ _ _ c.as_slice.ensures c.if-eq.ensures) (read _ _ _ _ c.as_slice-else-eq.ensures c.if-eq-2.ensures)
-    (read _ _ _ _ c.as_slice-else-eq-2.ensures c.if-eq-3.ensures)
-    (read _ _ _ _ c.as_slice-else-eq-3.ensures c.if-eq-4.ensures)
+pub returns-else-eq-4 : goal.returns-else-eq-4
+returns-else-eq-4 c = record {
+  ok = tt;
+  fits = tt;
+  err = λ _. none_named c.args.known.now c.args.name.now (map (λ w. w.now) c.args.words.now)
+      (read _ _ _ _ c.as_slice.ensures c.if-eq.ensures)
+      (read _ _ _ _ c.as_slice-else-eq.ensures c.if-eq-2.ensures)
+      (read _ _ _ _ c.as_slice-else-eq-2.ensures c.if-eq-3.ensures)
+      (read _ _ _ _ c.as_slice-else-eq-3.ensures c.if-eq-4.ensures);
+}
