@@ -5,7 +5,7 @@ use Rattle.std.specs.Prelude.{not}
 use Rattle.cell_text.specs.Blanks.{trimmed}
 use Rattle.cell_text.specs.Words.{list_words_of, pair_of}
 use Rattle.cell_cats.specs.RuleLine.{Left, is_star_left, is_output, output_word, label_of_right, left_of, listed_of, output_of, of_numbers, of_shape, of_sides, rule_of}
-use Rattle.cell_cats.specs.declared.rules.RuleFault.TheVariants.{BadRule, BadNumber}
+use Rattle.cell_cats.specs.declared.rules.RuleFault.TheVariants.{BadRule}
 use Rattle.cell_cats.proofs.line.rule_of.Goals as goal
 
 bad_left : (line l r : List ℕ) (words : List (List ℕ))
