@@ -5,8 +5,9 @@
 
 It proves the crate by one process from nothing, in a folder of its own, over the crates below as `make` left them, and prints
 the seconds of each function and each file of lemmas, the slowest first: how long its states take (what the prover knows of
-each local at each place where the paths of a function meet, so they grow with both), its goals, and all else. What it tells
-is the time from one kept module to the next, so it wants an idle machine.
+each local at each place where the paths of a function meet, so they grow with both), the goals that are left to a search, the
+answers that are written, and all else. What it tells is the time from one kept module to the next, so it wants an idle
+machine. The first function that needs a set of lemmas also takes the time of reading the set.
 """
 import argparse
 import collections
@@ -18,8 +19,8 @@ import tempfile
 import build
 
 MOST_ROWS = 30
-# The kinds of a function's modules that are told apart; all others count as the rest.
-STATES, GOALS = {"Lts", "View"}, {"Proof", "Answers", "Goals", "Invariants"}
+# The columns, and a function's modules that count in each; all others count as the rest.
+COLUMNS = {"states": {"Lts", "View"}, "search": {"Proof", "Goals"}, "answers": {"Answers", "Invariants"}, "rest": set()}
 
 
 def check(crate, kept):
@@ -43,18 +44,22 @@ def modules(kept):
     return [(now - before, name) for (before, _), (now, name) in zip(found, found[1:])]
 
 
+def column(part):
+    """The column of a part of a module's name, if it has one."""
+    return next((name for name, parts in COLUMNS.items() if part in parts), None)
+
+
 def times(crate, kept):
-    """The seconds of each function or file of lemmas: of its states, of its goals, and of all else."""
-    rows = collections.defaultdict(lambda: [0.0, 0.0, 0.0])
+    """The seconds of each function or file of lemmas, by column."""
+    rows = collections.defaultdict(lambda: dict.fromkeys(COLUMNS, 0.0))
     for seconds, name in modules(kept):
         library, _, path = name.partition(".")
         parts = [it for it in path.split(".") if it != "contracts"]
-        kinds = [at for at, it in enumerate(parts) if it in STATES | GOALS]
-        place = 2 if not kinds else 0 if parts[kinds[0]] in STATES else 1
+        kinds = [at for at, it in enumerate(parts) if column(it)]
         own = parts[: kinds[0]] if kinds else parts
         if library != f"Rattle-{crate.name}-proofs":
             own = [library.removeprefix(f"Rattle-{crate.name}-"), *own[:1]] if path else ["what other crates see"]
-        rows[".".join(own)][place] += seconds
+        rows[".".join(own)][column(parts[kinds[0]]) if kinds else "rest"] += seconds
     return rows
 
 
@@ -75,9 +80,9 @@ def main():
         if run.returncode:
             sys.exit(run.stdout[-2000:])
         rows = times(crate, kept)
-    print(" states   goals    rest")
-    for name, seconds in sorted(rows.items(), key=lambda it: -sum(it[1]))[: given.most]:
-        print(" ".join(f"{it:7.2f}" for it in seconds), name)
+    print(" ".join(f"{it:>7}" for it in COLUMNS))
+    for name, seconds in sorted(rows.items(), key=lambda it: -sum(it[1].values()))[: given.most]:
+        print(" ".join(f"{it:7.2f}" for it in seconds.values()), name)
     print(" ".join(f"{sum(it):7.2f}" for it in zip(*rows.values())), "all")
 
 
