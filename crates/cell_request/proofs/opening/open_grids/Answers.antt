@@ -1,5 +1,5 @@
 use Rattle.std.proofs.lemmas.Result.{err_from_is_err_and, IfOk-from_err}
-use Rattle.std.proofs.Common.{Bool, true, false, if◌then◌else◌, arith, ap, sym, map, take, length, vec_len, ℕ, is_ok, subst, ◌≡◌, ◌≢◌, ◌<◌, ◌≤◌, ◌∙◌, ◌++◌, ◌∷◌, []}
+use Rattle.std.proofs.Common.{Bool, true, false, if◌then◌else◌, arith, ap, sym, map, take, length, ℕ, is_ok, subst, ◌≡◌, ◌≢◌, ◌<◌, ◌≤◌, ◌∙◌, ◌++◌, ◌∷◌, []}
 use Rattle.std.proofs.lemmas.List.{map-append, take_more, take_all}
 use Rattle.cell_request.specs.Refusals.{IsOfOpening}
 use Rattle.cell_request.specs.declared.refusal.Refusal.{Refusal}

@@ -1,5 +1,5 @@
 use Rattle.std.proofs.lemmas.Result.{err_from_is_err_and, IfOk-from_err}
-use Rattle.std.proofs.Common.{Bor, Bool, Option, Some, true, false, if◌then◌else◌, arith, rules, refl, drop, ap, ap₂, sym, ◌≡◌, ◌≢◌, ◌∙◌, ◌++◌, ◌∷◌, [], ◌+◌, ◌<◌, ◌≤◌, take, length, vec_len, List, ℕ, is_ok}
+use Rattle.std.proofs.Common.{Bor, Bool, Option, Some, true, false, if◌then◌else◌, arith, rules, refl, drop, ap, ap₂, sym, ◌≡◌, ◌∙◌, ◌++◌, ◌∷◌, [], ◌+◌, ◌<◌, take, length, vec_len, List, ℕ, is_ok}
 use Rattle.std.specs.List.{slice_index_or}
 use Rattle.std.specs.Option.{option_map}
 use Rattle.std.proofs.lemmas.List.{drop_all, drop_more, length-map, map-append, take_all, take_more}
