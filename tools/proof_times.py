@@ -83,7 +83,7 @@ def main():
     print(" ".join(f"{it:>7}" for it in COLUMNS))
     for name, seconds in sorted(rows.items(), key=lambda it: -sum(it[1].values()))[: given.most]:
         print(" ".join(f"{it:7.2f}" for it in seconds.values()), name)
-    print(" ".join(f"{sum(it):7.2f}" for it in zip(*rows.values())), "all")
+    print(" ".join(f"{sum(it):7.2f}" for it in zip(*(it.values() for it in rows.values()))), "all")
 
 
 if __name__ == "__main__":
