@@ -24,7 +24,7 @@ use cell_script::statement::{Command, Statement};
 use std::alloc::Global;
 
 /// What stops an execution.
-#[derive(Clone, Copy, Debug, PartialEq, Eq)]
+#[derive(Clone, Copy)]
 pub enum Stop {
     /// Memory was refused; the line is that of the statement.
     Memory { line: u64 },
@@ -33,7 +33,7 @@ pub enum Stop {
 }
 
 /// What stopped an execution, and how many bytes the sink took.
-#[derive(Clone, Copy, Debug, PartialEq, Eq)]
+#[derive(Clone, Copy)]
 pub struct Stopped {
     pub stop: Stop,
     pub written: u64,
