@@ -1,10 +1,11 @@
 -- The parts of a grid text, as they are written.
-use Rattle.std.proofs.Common.{◌≡◌, ◌≢◌, ℕ, ℤ, pos, negsuc, ◌+◌, ◌≤◌, ◌==◌, ◌||◌, Bool, true, false, List, [], ◌∷◌, ◌++◌, drop, Option, codes, decimal, unsigned_abs, refl, ◌∙◌, arith}
+use Rattle.std.proofs.Common.{◌*◌, ◌-◌, ◌^◌, ◌<◌, take, length, Result, Ok, Err, IfErr, IsErrAnd, ◌≡◌, ◌≢◌, ℕ, ℤ, pos, negsuc, ◌+◌, ◌≤◌, ◌==◌, ◌||◌, Bool, true, false, List, [], ◌∷◌, ◌++◌, drop, Option, codes, decimal, unsigned_abs, refl, ap, sym, subst, ◌∙◌, arith}
 use Rattle.std.specs.Prelude.{int_lt}
 use Rattle.std.proofs.lemmas.Bool.Decides.{nat_tests}
-use Rattle.cell_devices.specs.Blocks.{BlockValue, CutsOff}
+use Rattle.cell_devices.specs.Blocks.{BlockValue, CutsOff, Gathers, IsCut, IsPut, counted}
+use Rattle.cell_devices.specs.Device.{append_known}
 use Rattle.cell_base.specs.Region.{RegionValue}
-use Rattle.cell_devices.proofs.GatherLemmas.{CutsOff-first}
+use Rattle.cell_devices.proofs.GatherLemmas.{CutsOff-first, CutsOff-second, Gathers-none, Gathers-then, IsCut-exact, IsPut-exact}
 use Rattle.cell_ascii_text.specs.Writing.{coordinate_text, fraction_text, line_of_key, region_text, units_text, without_zeros}
 
 pub fraction_text-some : (part : ℕ) → part ≢ 0 → fraction_text part ≡ (46 ∷ []) ++ without_zeros (drop 1 (decimal (100000000 + part)))
@@ -88,3 +89,85 @@ failed_not now false same = same
 -- a loop that counts up to its end
 pub at_end : (i end : ℕ) → end ≤ i → i ≤ end → i ≡ end
 at_end i end least most = omega arith
+
+-- what a `?` returns where its call failed
+pub IfErr-passed : {T E : Type 0} (r : Result T E) (e : E) (Q : E → Type 0) → IsErrAnd r (λ y. y ≡ e) → Q e → IfErr r Q
+IfErr-passed (Ok x) e Q passed holds = tt
+IfErr-passed (Err y) e Q passed holds = subst Q (sym passed) holds
+
+pub failed_passed : (now before fails : Bool) → fails ≡ true → now ≡ (before || true) → now ≡ (before || fails)
+failed_passed now before fails is same = same ∙ ap (λ (b : Bool). before || b) (sym is)
+
+-- a text was written as far as this: nothing failed, and the block counts no more than told
+pub record Wrote (taken : Option (List ℕ)) (old : BlockValue) (failed : Bool) (text : List ℕ) (most : ℕ) (now : Option (List ℕ)) (new : BlockValue) (after : Bool) : Type 0 where
+  pub gathers : Gathers taken old text now new
+  pub few : counted new ≤ counted old + most
+  pub same : after ≡ failed
+
+-- the sink failed within a text
+pub record Stopped (taken : Option (List ℕ)) (old : BlockValue) (failed : Bool) (text : List ℕ) (most : ℕ) (now : Option (List ℕ)) (new : BlockValue) (after : Bool) (written : ℕ) : Type 0 where
+  pub cuts : CutsOff taken old text now written
+  pub few : counted new ≤ counted old + most
+  pub fails : after ≡ (failed || true)
+
+module _ (taken : Option (List ℕ)) (old : BlockValue) (failed : Bool) where
+  pub wrote_none : Wrote taken old failed [] 0 taken old failed
+  wrote_none = record { gathers = Gathers-none taken old; few = counted_none (counted old); same = refl }
+
+  module _ (a : List ℕ) (m : ℕ) (mid : Option (List ℕ)) (middle : BlockValue) (between : Bool) (so_far : Wrote taken old failed a m mid middle between) where
+    pub wrote_then : (b : List ℕ) (n : ℕ) (now : Option (List ℕ)) (new : BlockValue) (after : Bool) → Gathers mid middle b now new → counted new ≤ counted middle + n
+        → after ≡ (between || false) → Wrote taken old failed (a ++ b) (m + n) now new after
+    wrote_then b n now new after gathers grown still = record {
+      gathers = Gathers-then taken old a b mid now middle new so_far.gathers gathers;
+      few = counted_then _ _ _ m n grown so_far.few;
+      same = failed_still after between failed still so_far.same;
+    }
+
+    pub stopped_in : (b : List ℕ) (n more : ℕ) (now : Option (List ℕ)) (new : BlockValue) (after : Bool) (written : ℕ) → CutsOff mid middle b now written
+        → counted new ≤ counted middle + n → after ≡ (between || true) → Stopped taken old failed (a ++ b) (m + n + more) now new after written
+    stopped_in b n more now new after written cuts grown fails = record {
+      cuts = CutsOff-second taken old a b mid now middle written so_far.gathers cuts;
+      few = counted_more _ _ (m + n) more (counted_then _ _ _ m n grown so_far.few);
+      fails = fails ∙ ap (λ (f : Bool). f || true) so_far.same;
+    }
+
+    -- the line of an edge
+    pub wrote_edge : (key : List ℕ) (z edge : ℤ) → z ≡ edge → (now : Option (List ℕ)) (new : BlockValue) (after : Bool) → Gathers mid middle (line_of_key key (coordinate_text z)) now new
+        → counted new ≤ counted middle + 90 → after ≡ (between || false) → Wrote taken old failed (a ++ line_of_key key (coordinate_text edge)) (m + 90) now new after
+    wrote_edge key z edge is now new after gathers grown still = wrote_then (line_of_key key (coordinate_text edge)) 90 now new after
+        (subst (λ (t : ℤ). Gathers mid middle (line_of_key key (coordinate_text t)) now new) is gathers) grown still
+
+    pub stopped_at_edge : (key : List ℕ) (more : ℕ) (z edge : ℤ) → z ≡ edge → (now : Option (List ℕ)) (new : BlockValue) (after : Bool) (written : ℕ)
+        → CutsOff mid middle (line_of_key key (coordinate_text z)) now written → counted new ≤ counted middle + 90 → after ≡ (between || true)
+        → Stopped taken old failed (a ++ line_of_key key (coordinate_text edge)) (m + 90 + more) now new after written
+    stopped_at_edge key more z edge is now new after written cuts grown fails = stopped_in (line_of_key key (coordinate_text edge)) 90 more now new after written
+        (subst (λ (t : ℤ). CutsOff mid middle (line_of_key key (coordinate_text t)) now written) is cuts) grown fails
+
+-- after the last call, which may fail
+pub failed_last : (now between before fails : Bool) → now ≡ (between || fails) → between ≡ before → now ≡ (before || fails)
+failed_last now between before fails same was = same ∙ ap (λ (b : Bool). b || fails) was
+
+-- the most that a block counts, of a whole text
+abbrev pub whole_most : ℕ
+whole_most = 576 + 76 * 65535 * 65535
+
+small_most : whole_most < 2 ^ 64 - 1
+small_most = omega arith
+
+pub counted_kept : (now between old most : ℕ) → now ≤ between → between ≤ old + most → now ≤ old + most
+counted_kept now between old most kept few = omega arith
+
+pub some_rows : (count rows height : ℕ) → count ≡ rows → 1 ≤ height → height ≡ rows → 0 < count
+some_rows count rows height filled least same = omega arith
+
+-- a block was empty, and its text was cut off or put
+module _ (old : BlockValue) (none : counted old ≡ 0) (taken now : Option (List ℕ)) (text : List ℕ) (block : BlockValue) (few : counted block ≤ counted old + whole_most) where
+  pub cut_exact : (written : ℕ) → block ≡ record { held = []; written = written } → IsCut taken text now written
+      → (now ≡ append_known taken (take written text)) × (written ≤ length text)
+  cut_exact written lost cut = IsCut-exact taken now text written cut (omega (arith, ap counted lost, small_most))
+
+  pub put_exact : IsPut taken text now block → block.written ≡ length text
+  put_exact put = IsPut-exact taken now text block put (omega (arith, small_most))
+
+pub less_than : (a b c : ℕ) → a < b → b ≤ c → a < c
+less_than a b c first second = omega arith

@@ -1,213 +1,113 @@
-use Rattle.std.proofs.Common.{◌≡◌, ◌∙◌, codes, to_z, of_z, w64}
+use Rattle.std.proofs.Common.{[], ◌∙◌, codes, w64}
 use Rattle.std.proofs.lemmas.Int.{to_z-of_z}
-use Rattle.std.proofs.lemmas.Result.{err_from_is_err_and, IfErr-weaker, IfOk-from_err, IfOk-weaker}
+use Rattle.std.proofs.lemmas.Result.{IfErr-weaker, IfOk-from_err, IfOk-weaker}
+use Rattle.cell_devices.specs.Blocks.{Gathers, CutsOff}
+use Rattle.cell_ascii_text.specs.Writing.{region_text}
 use Rattle.cell_base.specs.Region.{RegionValue}
 use Rattle.cell_devices.proofs.GatherLemmas.{CutsOff-second, Gathers-then}
-use Rattle.cell_ascii_writer.proofs.WriterLemmas.{counted_more, counted_then, cut_in_five, cut_in_four, cut_in_one, cut_in_three, cut_in_two, edge_line, failed_then, five_lines, four_lines, one_line, side_line, three_lines, two_lines}
+use Rattle.cell_ascii_writer.proofs.WriterLemmas.{IfErr-passed, failed_passed, wrote_none, wrote_edge, wrote_then, stopped_at_edge, stopped_in, failed_last, counted_then, cut_in_five, cut_in_four, cut_in_one, cut_in_three, cut_in_two, one_line, two_lines, three_lines, four_lines, five_lines, side_line}
 use Rattle.cell_ascii_writer.proofs.writer.write_region.Goals as goal
 
-pub returns-in_err-write_edge-clause-err : goal.returns-in_err-write_edge-clause-err
-returns-in_err-write_edge-clause-err g c =
+pub returns-in_err-write_edge : goal.returns-in_err-write_edge
+returns-in_err-write_edge g c =
     let e : RegionValue = c.args.region in
-    let p = err_from_is_err_and c.from_residual.result c.from_residual.ensures.1 in
-    let same : to_z w64 (of_z w64 c.north.result) ≡ e.north =
-    to_z-of_z w64 c.north.result (record { sfits = c.north.type_inv }) ∙ c.north.ensures.value in
-    rw (p.1, p.2) (cut_in_one _ _ e _ _ (rw same at c.in_err-write_edge.ensures.err))
+    let north_is = to_z-of_z w64 c.north.result (record { sfits = c.north.type_inv }) ∙ c.north.ensures.value in
+    let stop = stopped_at_edge _ _ _ [] 0 _ _ _ (wrote_none _ _ _) (codes "north") 414 _ e.north north_is _ _ _ _ c.in_err-write_edge.ensures.err c.in_err-write_edge.ensures.counted c.in_err-write_edge.ensures.failed in
+    record {
+      ok = IfOk-from_err _ (λ _. Gathers _ _ (region_text e) _ _) c.from_residual.ensures.0;
+      err = IfErr-passed _ c.in_err-write_edge.field-0.0 (λ fault. CutsOff _ _ (region_text e) _ fault.written) c.from_residual.ensures.1 (cut_in_one _ _ e _ _ stop.cuts);
+      lost = IfErr-passed _ c.in_err-write_edge.field-0.0 _ c.from_residual.ensures.1 c.in_err-write_edge.ensures.lost;
+      counted = stop.few;
+      failed = failed_passed _ _ _ c.from_residual.ensures.0 stop.fails;
+    }
 
-pub returns-in_err-write_edge-2-clause-err : goal.returns-in_err-write_edge-2-clause-err
-returns-in_err-write_edge-2-clause-err g c =
+pub returns-in_err-write_edge-2 : goal.returns-in_err-write_edge-2
+returns-in_err-write_edge-2 g c =
     let e : RegionValue = c.args.region in
-    let p = err_from_is_err_and c.from_residual-in_err-write_edge-2.result c.from_residual-in_err-write_edge-2.ensures.1 in
-    let same : to_z w64 (of_z w64 c.north.result) ≡ e.north =
-    to_z-of_z w64 c.north.result (record { sfits = c.north.type_inv }) ∙ c.north.ensures.value in
-    let g1 = (rw same at c.in_ok-write_edge.ensures.ok) in
-    let same : to_z w64 (of_z w64 c.south.result) ≡ e.south =
-    to_z-of_z w64 c.south.result (record { sfits = c.south.type_inv }) ∙ c.south.ensures.value in
-    rw (p.1, p.2) (cut_in_two _ _ e _ _ (CutsOff-second _ _ (one_line e) (edge_line (codes "south") e.south) _ _ _ _ g1 (rw same at c.in_err-write_edge-2.ensures.err)))
+    let north_is = to_z-of_z w64 c.north.result (record { sfits = c.north.type_inv }) ∙ c.north.ensures.value in
+    let north = wrote_edge _ _ _ [] 0 _ _ _ (wrote_none _ _ _) (codes "north") _ e.north north_is _ _ _ c.in_ok-write_edge.ensures.ok c.in_ok-write_edge.ensures.counted c.in_ok-write_edge.ensures.failed in
+    let south_is = to_z-of_z w64 c.south.result (record { sfits = c.south.type_inv }) ∙ c.south.ensures.value in
+    let stop = stopped_at_edge _ _ _ (one_line e) 90 _ _ _ north (codes "south") 324 _ e.south south_is _ _ _ _ c.in_err-write_edge-2.ensures.err c.in_err-write_edge-2.ensures.counted c.in_err-write_edge-2.ensures.failed in
+    record {
+      ok = IfOk-from_err _ (λ _. Gathers _ _ (region_text e) _ _) c.from_residual-in_err-write_edge-2.ensures.0;
+      err = IfErr-passed _ c.in_err-write_edge-2.field-0.0 (λ fault. CutsOff _ _ (region_text e) _ fault.written) c.from_residual-in_err-write_edge-2.ensures.1 (cut_in_two _ _ e _ _ stop.cuts);
+      lost = IfErr-passed _ c.in_err-write_edge-2.field-0.0 _ c.from_residual-in_err-write_edge-2.ensures.1 c.in_err-write_edge-2.ensures.lost;
+      counted = stop.few;
+      failed = failed_passed _ _ _ c.from_residual-in_err-write_edge-2.ensures.0 stop.fails;
+    }
 
-pub returns-in_err-write_edge-3-clause-err : goal.returns-in_err-write_edge-3-clause-err
-returns-in_err-write_edge-3-clause-err g c =
+pub returns-in_err-write_edge-3 : goal.returns-in_err-write_edge-3
+returns-in_err-write_edge-3 g c =
     let e : RegionValue = c.args.region in
-    let p = err_from_is_err_and c.from_residual-in_err-write_edge-3.result c.from_residual-in_err-write_edge-3.ensures.1 in
-    let same : to_z w64 (of_z w64 c.north.result) ≡ e.north =
-    to_z-of_z w64 c.north.result (record { sfits = c.north.type_inv }) ∙ c.north.ensures.value in
-    let g1 = (rw same at c.in_ok-write_edge.ensures.ok) in
-    let same : to_z w64 (of_z w64 c.south.result) ≡ e.south =
-    to_z-of_z w64 c.south.result (record { sfits = c.south.type_inv }) ∙ c.south.ensures.value in
-    let g2 = Gathers-then _ _ (one_line e) (edge_line (codes "south") e.south) _ _ _ _ g1 (rw same at c.in_ok-write_edge-2.ensures.ok) in
-    let same : to_z w64 (of_z w64 c.east.result) ≡ e.east =
-    to_z-of_z w64 c.east.result (record { sfits = c.east.type_inv }) ∙ c.east.ensures.value in
-    rw (p.1, p.2) (cut_in_three _ _ e _ _ (CutsOff-second _ _ (two_lines e) (edge_line (codes "east") e.east) _ _ _ _ g2 (rw same at c.in_err-write_edge-3.ensures.err)))
+    let north_is = to_z-of_z w64 c.north.result (record { sfits = c.north.type_inv }) ∙ c.north.ensures.value in
+    let north = wrote_edge _ _ _ [] 0 _ _ _ (wrote_none _ _ _) (codes "north") _ e.north north_is _ _ _ c.in_ok-write_edge.ensures.ok c.in_ok-write_edge.ensures.counted c.in_ok-write_edge.ensures.failed in
+    let south_is = to_z-of_z w64 c.south.result (record { sfits = c.south.type_inv }) ∙ c.south.ensures.value in
+    let south = wrote_edge _ _ _ (one_line e) 90 _ _ _ north (codes "south") _ e.south south_is _ _ _ c.in_ok-write_edge-2.ensures.ok c.in_ok-write_edge-2.ensures.counted c.in_ok-write_edge-2.ensures.failed in
+    let east_is = to_z-of_z w64 c.east.result (record { sfits = c.east.type_inv }) ∙ c.east.ensures.value in
+    let stop = stopped_at_edge _ _ _ (two_lines e) 180 _ _ _ south (codes "east") 234 _ e.east east_is _ _ _ _ c.in_err-write_edge-3.ensures.err c.in_err-write_edge-3.ensures.counted c.in_err-write_edge-3.ensures.failed in
+    record {
+      ok = IfOk-from_err _ (λ _. Gathers _ _ (region_text e) _ _) c.from_residual-in_err-write_edge-3.ensures.0;
+      err = IfErr-passed _ c.in_err-write_edge-3.field-0.0 (λ fault. CutsOff _ _ (region_text e) _ fault.written) c.from_residual-in_err-write_edge-3.ensures.1 (cut_in_three _ _ e _ _ stop.cuts);
+      lost = IfErr-passed _ c.in_err-write_edge-3.field-0.0 _ c.from_residual-in_err-write_edge-3.ensures.1 c.in_err-write_edge-3.ensures.lost;
+      counted = stop.few;
+      failed = failed_passed _ _ _ c.from_residual-in_err-write_edge-3.ensures.0 stop.fails;
+    }
 
-pub returns-in_err-write_edge-4-clause-err : goal.returns-in_err-write_edge-4-clause-err
-returns-in_err-write_edge-4-clause-err g c =
+pub returns-in_err-write_edge-4 : goal.returns-in_err-write_edge-4
+returns-in_err-write_edge-4 g c =
     let e : RegionValue = c.args.region in
-    let p = err_from_is_err_and c.from_residual-in_err-write_edge-4.result c.from_residual-in_err-write_edge-4.ensures.1 in
-    let same : to_z w64 (of_z w64 c.north.result) ≡ e.north =
-    to_z-of_z w64 c.north.result (record { sfits = c.north.type_inv }) ∙ c.north.ensures.value in
-    let g1 = (rw same at c.in_ok-write_edge.ensures.ok) in
-    let same : to_z w64 (of_z w64 c.south.result) ≡ e.south =
-    to_z-of_z w64 c.south.result (record { sfits = c.south.type_inv }) ∙ c.south.ensures.value in
-    let g2 = Gathers-then _ _ (one_line e) (edge_line (codes "south") e.south) _ _ _ _ g1 (rw same at c.in_ok-write_edge-2.ensures.ok) in
-    let same : to_z w64 (of_z w64 c.east.result) ≡ e.east =
-    to_z-of_z w64 c.east.result (record { sfits = c.east.type_inv }) ∙ c.east.ensures.value in
-    let g3 = Gathers-then _ _ (two_lines e) (edge_line (codes "east") e.east) _ _ _ _ g2 (rw same at c.in_ok-write_edge-3.ensures.ok) in
-    let same : to_z w64 (of_z w64 c.west.result) ≡ e.west =
-    to_z-of_z w64 c.west.result (record { sfits = c.west.type_inv }) ∙ c.west.ensures.value in
-    rw (p.1, p.2) (cut_in_four _ _ e _ _ (CutsOff-second _ _ (three_lines e) (edge_line (codes "west") e.west) _ _ _ _ g3 (rw same at c.in_err-write_edge-4.ensures.err)))
+    let north_is = to_z-of_z w64 c.north.result (record { sfits = c.north.type_inv }) ∙ c.north.ensures.value in
+    let north = wrote_edge _ _ _ [] 0 _ _ _ (wrote_none _ _ _) (codes "north") _ e.north north_is _ _ _ c.in_ok-write_edge.ensures.ok c.in_ok-write_edge.ensures.counted c.in_ok-write_edge.ensures.failed in
+    let south_is = to_z-of_z w64 c.south.result (record { sfits = c.south.type_inv }) ∙ c.south.ensures.value in
+    let south = wrote_edge _ _ _ (one_line e) 90 _ _ _ north (codes "south") _ e.south south_is _ _ _ c.in_ok-write_edge-2.ensures.ok c.in_ok-write_edge-2.ensures.counted c.in_ok-write_edge-2.ensures.failed in
+    let east_is = to_z-of_z w64 c.east.result (record { sfits = c.east.type_inv }) ∙ c.east.ensures.value in
+    let east = wrote_edge _ _ _ (two_lines e) 180 _ _ _ south (codes "east") _ e.east east_is _ _ _ c.in_ok-write_edge-3.ensures.ok c.in_ok-write_edge-3.ensures.counted c.in_ok-write_edge-3.ensures.failed in
+    let west_is = to_z-of_z w64 c.west.result (record { sfits = c.west.type_inv }) ∙ c.west.ensures.value in
+    let stop = stopped_at_edge _ _ _ (three_lines e) 270 _ _ _ east (codes "west") 144 _ e.west west_is _ _ _ _ c.in_err-write_edge-4.ensures.err c.in_err-write_edge-4.ensures.counted c.in_err-write_edge-4.ensures.failed in
+    record {
+      ok = IfOk-from_err _ (λ _. Gathers _ _ (region_text e) _ _) c.from_residual-in_err-write_edge-4.ensures.0;
+      err = IfErr-passed _ c.in_err-write_edge-4.field-0.0 (λ fault. CutsOff _ _ (region_text e) _ fault.written) c.from_residual-in_err-write_edge-4.ensures.1 (cut_in_four _ _ e _ _ stop.cuts);
+      lost = IfErr-passed _ c.in_err-write_edge-4.field-0.0 _ c.from_residual-in_err-write_edge-4.ensures.1 c.in_err-write_edge-4.ensures.lost;
+      counted = stop.few;
+      failed = failed_passed _ _ _ c.from_residual-in_err-write_edge-4.ensures.0 stop.fails;
+    }
 
-pub returns-in_err-write_side-clause-err : goal.returns-in_err-write_side-clause-err
-returns-in_err-write_side-clause-err g c =
+pub returns-in_err-write_side : goal.returns-in_err-write_side
+returns-in_err-write_side g c =
     let e : RegionValue = c.args.region in
-    let p = err_from_is_err_and c.from_residual-in_err-write_side.result c.from_residual-in_err-write_side.ensures.1 in
-    let same : to_z w64 (of_z w64 c.north.result) ≡ e.north =
-    to_z-of_z w64 c.north.result (record { sfits = c.north.type_inv }) ∙ c.north.ensures.value in
-    let g1 = (rw same at c.in_ok-write_edge.ensures.ok) in
-    let same : to_z w64 (of_z w64 c.south.result) ≡ e.south =
-    to_z-of_z w64 c.south.result (record { sfits = c.south.type_inv }) ∙ c.south.ensures.value in
-    let g2 = Gathers-then _ _ (one_line e) (edge_line (codes "south") e.south) _ _ _ _ g1 (rw same at c.in_ok-write_edge-2.ensures.ok) in
-    let same : to_z w64 (of_z w64 c.east.result) ≡ e.east =
-    to_z-of_z w64 c.east.result (record { sfits = c.east.type_inv }) ∙ c.east.ensures.value in
-    let g3 = Gathers-then _ _ (two_lines e) (edge_line (codes "east") e.east) _ _ _ _ g2 (rw same at c.in_ok-write_edge-3.ensures.ok) in
-    let same : to_z w64 (of_z w64 c.west.result) ≡ e.west =
-    to_z-of_z w64 c.west.result (record { sfits = c.west.type_inv }) ∙ c.west.ensures.value in
-    let g4 = Gathers-then _ _ (three_lines e) (edge_line (codes "west") e.west) _ _ _ _ g3 (rw same at c.in_ok-write_edge-4.ensures.ok) in
-    rw (p.1, p.2) (cut_in_five _ _ e _ _ (CutsOff-second _ _ (four_lines e) (side_line (codes "rows") e.rows) _ _ _ _ g4 (rw c.rows.ensures.value at c.in_err-write_side.ensures.err)))
+    let north_is = to_z-of_z w64 c.north.result (record { sfits = c.north.type_inv }) ∙ c.north.ensures.value in
+    let north = wrote_edge _ _ _ [] 0 _ _ _ (wrote_none _ _ _) (codes "north") _ e.north north_is _ _ _ c.in_ok-write_edge.ensures.ok c.in_ok-write_edge.ensures.counted c.in_ok-write_edge.ensures.failed in
+    let south_is = to_z-of_z w64 c.south.result (record { sfits = c.south.type_inv }) ∙ c.south.ensures.value in
+    let south = wrote_edge _ _ _ (one_line e) 90 _ _ _ north (codes "south") _ e.south south_is _ _ _ c.in_ok-write_edge-2.ensures.ok c.in_ok-write_edge-2.ensures.counted c.in_ok-write_edge-2.ensures.failed in
+    let east_is = to_z-of_z w64 c.east.result (record { sfits = c.east.type_inv }) ∙ c.east.ensures.value in
+    let east = wrote_edge _ _ _ (two_lines e) 180 _ _ _ south (codes "east") _ e.east east_is _ _ _ c.in_ok-write_edge-3.ensures.ok c.in_ok-write_edge-3.ensures.counted c.in_ok-write_edge-3.ensures.failed in
+    let west_is = to_z-of_z w64 c.west.result (record { sfits = c.west.type_inv }) ∙ c.west.ensures.value in
+    let west = wrote_edge _ _ _ (three_lines e) 270 _ _ _ east (codes "west") _ e.west west_is _ _ _ c.in_ok-write_edge-4.ensures.ok c.in_ok-write_edge-4.ensures.counted c.in_ok-write_edge-4.ensures.failed in
+    let stop = stopped_in _ _ _ (four_lines e) 360 _ _ _ west (side_line (codes "rows") e.rows) 72 72 _ _ _ _ (rw c.rows.ensures.value at c.in_err-write_side.ensures.err) c.in_err-write_side.ensures.counted c.in_err-write_side.ensures.failed in
+    record {
+      ok = IfOk-from_err _ (λ _. Gathers _ _ (region_text e) _ _) c.from_residual-in_err-write_side.ensures.0;
+      err = IfErr-passed _ c.in_err-write_side.field-0.0 (λ fault. CutsOff _ _ (region_text e) _ fault.written) c.from_residual-in_err-write_side.ensures.1 (cut_in_five _ _ e _ _ stop.cuts);
+      lost = IfErr-passed _ c.in_err-write_side.field-0.0 _ c.from_residual-in_err-write_side.ensures.1 c.in_err-write_side.ensures.lost;
+      counted = stop.few;
+      failed = failed_passed _ _ _ c.from_residual-in_err-write_side.ensures.0 stop.fails;
+    }
 
-pub returns-clause-ok : goal.returns-clause-ok
-returns-clause-ok g c =
+pub returns : goal.returns
+returns g c =
     let e : RegionValue = c.args.region in
-    let same : to_z w64 (of_z w64 c.north.result) ≡ e.north =
-    to_z-of_z w64 c.north.result (record { sfits = c.north.type_inv }) ∙ c.north.ensures.value in
-    let g1 = (rw same at c.in_ok-write_edge.ensures.ok) in
-    let same : to_z w64 (of_z w64 c.south.result) ≡ e.south =
-    to_z-of_z w64 c.south.result (record { sfits = c.south.type_inv }) ∙ c.south.ensures.value in
-    let g2 = Gathers-then _ _ (one_line e) (edge_line (codes "south") e.south) _ _ _ _ g1 (rw same at c.in_ok-write_edge-2.ensures.ok) in
-    let same : to_z w64 (of_z w64 c.east.result) ≡ e.east =
-    to_z-of_z w64 c.east.result (record { sfits = c.east.type_inv }) ∙ c.east.ensures.value in
-    let g3 = Gathers-then _ _ (two_lines e) (edge_line (codes "east") e.east) _ _ _ _ g2 (rw same at c.in_ok-write_edge-3.ensures.ok) in
-    let same : to_z w64 (of_z w64 c.west.result) ≡ e.west =
-    to_z-of_z w64 c.west.result (record { sfits = c.west.type_inv }) ∙ c.west.ensures.value in
-    let g4 = Gathers-then _ _ (three_lines e) (edge_line (codes "west") e.west) _ _ _ _ g3 (rw same at c.in_ok-write_edge-4.ensures.ok) in
-    let g5 = Gathers-then _ _ (four_lines e) (side_line (codes "rows") e.rows) _ _ _ _ g4 (rw c.rows.ensures.value at c.in_ok-write_side.ensures.ok) in
-    IfOk-weaker c.write_side-2.result _ _ (λ _ gathers. Gathers-then _ _ (five_lines e) (side_line (codes "cols") e.cols) _ _ _ _ g5 gathers) (rw c.cols.ensures.value at c.write_side-2.ensures.ok)
-
-pub returns-clause-err : goal.returns-clause-err
-returns-clause-err g c =
-    let e : RegionValue = c.args.region in
-    let same : to_z w64 (of_z w64 c.north.result) ≡ e.north =
-    to_z-of_z w64 c.north.result (record { sfits = c.north.type_inv }) ∙ c.north.ensures.value in
-    let g1 = (rw same at c.in_ok-write_edge.ensures.ok) in
-    let same : to_z w64 (of_z w64 c.south.result) ≡ e.south =
-    to_z-of_z w64 c.south.result (record { sfits = c.south.type_inv }) ∙ c.south.ensures.value in
-    let g2 = Gathers-then _ _ (one_line e) (edge_line (codes "south") e.south) _ _ _ _ g1 (rw same at c.in_ok-write_edge-2.ensures.ok) in
-    let same : to_z w64 (of_z w64 c.east.result) ≡ e.east =
-    to_z-of_z w64 c.east.result (record { sfits = c.east.type_inv }) ∙ c.east.ensures.value in
-    let g3 = Gathers-then _ _ (two_lines e) (edge_line (codes "east") e.east) _ _ _ _ g2 (rw same at c.in_ok-write_edge-3.ensures.ok) in
-    let same : to_z w64 (of_z w64 c.west.result) ≡ e.west =
-    to_z-of_z w64 c.west.result (record { sfits = c.west.type_inv }) ∙ c.west.ensures.value in
-    let g4 = Gathers-then _ _ (three_lines e) (edge_line (codes "west") e.west) _ _ _ _ g3 (rw same at c.in_ok-write_edge-4.ensures.ok) in
-    let g5 = Gathers-then _ _ (four_lines e) (side_line (codes "rows") e.rows) _ _ _ _ g4 (rw c.rows.ensures.value at c.in_ok-write_side.ensures.ok) in
-    IfErr-weaker c.write_side-2.result _ _ (λ fault cuts. CutsOff-second _ _ (five_lines e) (side_line (codes "cols") e.cols) _ _ _ fault.written g5 cuts) (rw c.cols.ensures.value at c.write_side-2.ensures.err)
-
-pub returns-clause-failed : goal.returns-clause-failed
-returns-clause-failed g c =
-    let south = failed_then _ _ _ _ c.in_ok-write_edge-2.ensures.failed c.in_ok-write_edge.ensures.failed in
-    let east = failed_then _ _ _ _ c.in_ok-write_edge-3.ensures.failed south in
-    let west = failed_then _ _ _ _ c.in_ok-write_edge-4.ensures.failed east in
-    failed_then _ _ _ _ c.write_side-2.ensures.failed (failed_then _ _ _ _ c.in_ok-write_side.ensures.failed west)
-
-pub returns-in_err-write_edge-clause-ok : goal.returns-in_err-write_edge-clause-ok
-returns-in_err-write_edge-clause-ok g c = IfOk-from_err c.from_residual.result _ c.from_residual.ensures.0
-
-pub returns-in_err-write_edge-clause-lost : goal.returns-in_err-write_edge-clause-lost
-returns-in_err-write_edge-clause-lost g c =
-    let p = err_from_is_err_and c.from_residual.result c.from_residual.ensures.1 in
-    rw (p.1, p.2) c.in_err-write_edge.ensures.lost
-
-pub returns-in_err-write_edge-clause-failed : goal.returns-in_err-write_edge-clause-failed
-returns-in_err-write_edge-clause-failed g c =
-    let p = err_from_is_err_and c.from_residual.result c.from_residual.ensures.1 in
-    rw (p.1) c.in_err-write_edge.ensures.failed
-
-pub returns-in_err-write_edge-2-clause-ok : goal.returns-in_err-write_edge-2-clause-ok
-returns-in_err-write_edge-2-clause-ok g c =
-    IfOk-from_err c.from_residual-in_err-write_edge-2.result _ c.from_residual-in_err-write_edge-2.ensures.0
-
-pub returns-in_err-write_edge-2-clause-lost : goal.returns-in_err-write_edge-2-clause-lost
-returns-in_err-write_edge-2-clause-lost g c =
-    let p = err_from_is_err_and c.from_residual-in_err-write_edge-2.result c.from_residual-in_err-write_edge-2.ensures.1 in
-    rw (p.1, p.2) c.in_err-write_edge-2.ensures.lost
-
-pub returns-in_err-write_edge-2-clause-failed : goal.returns-in_err-write_edge-2-clause-failed
-returns-in_err-write_edge-2-clause-failed g c =
-    let p = err_from_is_err_and c.from_residual-in_err-write_edge-2.result c.from_residual-in_err-write_edge-2.ensures.1 in
-    rw (p.1) (failed_then _ _ _ _ c.in_err-write_edge-2.ensures.failed c.in_ok-write_edge.ensures.failed)
-
-pub returns-in_err-write_edge-3-clause-ok : goal.returns-in_err-write_edge-3-clause-ok
-returns-in_err-write_edge-3-clause-ok g c =
-    IfOk-from_err c.from_residual-in_err-write_edge-3.result _ c.from_residual-in_err-write_edge-3.ensures.0
-
-pub returns-in_err-write_edge-3-clause-lost : goal.returns-in_err-write_edge-3-clause-lost
-returns-in_err-write_edge-3-clause-lost g c =
-    let p = err_from_is_err_and c.from_residual-in_err-write_edge-3.result c.from_residual-in_err-write_edge-3.ensures.1 in
-    rw (p.1, p.2) c.in_err-write_edge-3.ensures.lost
-
-pub returns-in_err-write_edge-3-clause-failed : goal.returns-in_err-write_edge-3-clause-failed
-returns-in_err-write_edge-3-clause-failed g c =
-    let p = err_from_is_err_and c.from_residual-in_err-write_edge-3.result c.from_residual-in_err-write_edge-3.ensures.1 in
-    rw (p.1) (failed_then _ _ _ _ c.in_err-write_edge-3.ensures.failed (failed_then _ _ _ _ c.in_ok-write_edge-2.ensures.failed c.in_ok-write_edge.ensures.failed))
-
-pub returns-in_err-write_edge-4-clause-ok : goal.returns-in_err-write_edge-4-clause-ok
-returns-in_err-write_edge-4-clause-ok g c =
-    IfOk-from_err c.from_residual-in_err-write_edge-4.result _ c.from_residual-in_err-write_edge-4.ensures.0
-
-pub returns-in_err-write_edge-4-clause-lost : goal.returns-in_err-write_edge-4-clause-lost
-returns-in_err-write_edge-4-clause-lost g c =
-    let p = err_from_is_err_and c.from_residual-in_err-write_edge-4.result c.from_residual-in_err-write_edge-4.ensures.1 in
-    rw (p.1, p.2) c.in_err-write_edge-4.ensures.lost
-
-pub returns-in_err-write_edge-4-clause-failed : goal.returns-in_err-write_edge-4-clause-failed
-returns-in_err-write_edge-4-clause-failed g c =
-    let p = err_from_is_err_and c.from_residual-in_err-write_edge-4.result c.from_residual-in_err-write_edge-4.ensures.1 in
-    rw (p.1) (failed_then _ _ _ _ c.in_err-write_edge-4.ensures.failed (failed_then _ _ _ _ c.in_ok-write_edge-3.ensures.failed (failed_then _ _ _ _ c.in_ok-write_edge-2.ensures.failed c.in_ok-write_edge.ensures.failed)))
-
-pub returns-in_err-write_side-clause-ok : goal.returns-in_err-write_side-clause-ok
-returns-in_err-write_side-clause-ok g c =
-    IfOk-from_err c.from_residual-in_err-write_side.result _ c.from_residual-in_err-write_side.ensures.0
-
-pub returns-in_err-write_side-clause-lost : goal.returns-in_err-write_side-clause-lost
-returns-in_err-write_side-clause-lost g c =
-    let p = err_from_is_err_and c.from_residual-in_err-write_side.result c.from_residual-in_err-write_side.ensures.1 in
-    rw (p.1, p.2) c.in_err-write_side.ensures.lost
-
-pub returns-in_err-write_side-clause-failed : goal.returns-in_err-write_side-clause-failed
-returns-in_err-write_side-clause-failed g c =
-    let p = err_from_is_err_and c.from_residual-in_err-write_side.result c.from_residual-in_err-write_side.ensures.1 in
-    rw (p.1) (failed_then _ _ _ _ c.in_err-write_side.ensures.failed (failed_then _ _ _ _ c.in_ok-write_edge-4.ensures.failed (failed_then _ _ _ _ c.in_ok-write_edge-3.ensures.failed (failed_then _ _ _ _ c.in_ok-write_edge-2.ensures.failed c.in_ok-write_edge.ensures.failed))))
-
-pub returns-clause-lost : goal.returns-clause-lost
-returns-clause-lost g c = c.write_side-2.ensures.lost
-
-pub returns-in_err-write_edge-clause-counted : goal.returns-in_err-write_edge-clause-counted
-returns-in_err-write_edge-clause-counted g c = counted_more _ _ 90 414 c.in_err-write_edge.ensures.counted
-
-pub returns-in_err-write_edge-2-clause-counted : goal.returns-in_err-write_edge-2-clause-counted
-returns-in_err-write_edge-2-clause-counted g c =
-    counted_more _ _ 180 324 (counted_then _ _ _ 90 90 c.in_err-write_edge-2.ensures.counted c.in_ok-write_edge.ensures.counted)
-
-pub returns-in_err-write_edge-3-clause-counted : goal.returns-in_err-write_edge-3-clause-counted
-returns-in_err-write_edge-3-clause-counted g c =
-    counted_more _ _ 270 234 (counted_then _ _ _ 180 90 c.in_err-write_edge-3.ensures.counted (counted_then _ _ _ 90 90 c.in_ok-write_edge-2.ensures.counted c.in_ok-write_edge.ensures.counted))
-
-pub returns-in_err-write_edge-4-clause-counted : goal.returns-in_err-write_edge-4-clause-counted
-returns-in_err-write_edge-4-clause-counted g c =
-    counted_more _ _ 360 144 (counted_then _ _ _ 270 90 c.in_err-write_edge-4.ensures.counted (counted_then _ _ _ 180 90 c.in_ok-write_edge-3.ensures.counted (counted_then _ _ _ 90 90 c.in_ok-write_edge-2.ensures.counted c.in_ok-write_edge.ensures.counted)))
-
-pub returns-in_err-write_side-clause-counted : goal.returns-in_err-write_side-clause-counted
-returns-in_err-write_side-clause-counted g c =
-    counted_more _ _ 432 72 (counted_then _ _ _ 360 72 c.in_err-write_side.ensures.counted (counted_then _ _ _ 270 90 c.in_ok-write_edge-4.ensures.counted (counted_then _ _ _ 180 90 c.in_ok-write_edge-3.ensures.counted (counted_then _ _ _ 90 90 c.in_ok-write_edge-2.ensures.counted c.in_ok-write_edge.ensures.counted))))
-
-pub returns-clause-counted : goal.returns-clause-counted
-returns-clause-counted g c =
-    counted_then _ _ _ 432 72 c.write_side-2.ensures.counted (counted_then _ _ _ 360 72 c.in_ok-write_side.ensures.counted (counted_then _ _ _ 270 90 c.in_ok-write_edge-4.ensures.counted (counted_then _ _ _ 180 90 c.in_ok-write_edge-3.ensures.counted (counted_then _ _ _ 90 90 c.in_ok-write_edge-2.ensures.counted c.in_ok-write_edge.ensures.counted))))
+    let north_is = to_z-of_z w64 c.north.result (record { sfits = c.north.type_inv }) ∙ c.north.ensures.value in
+    let north = wrote_edge _ _ _ [] 0 _ _ _ (wrote_none _ _ _) (codes "north") _ e.north north_is _ _ _ c.in_ok-write_edge.ensures.ok c.in_ok-write_edge.ensures.counted c.in_ok-write_edge.ensures.failed in
+    let south_is = to_z-of_z w64 c.south.result (record { sfits = c.south.type_inv }) ∙ c.south.ensures.value in
+    let south = wrote_edge _ _ _ (one_line e) 90 _ _ _ north (codes "south") _ e.south south_is _ _ _ c.in_ok-write_edge-2.ensures.ok c.in_ok-write_edge-2.ensures.counted c.in_ok-write_edge-2.ensures.failed in
+    let east_is = to_z-of_z w64 c.east.result (record { sfits = c.east.type_inv }) ∙ c.east.ensures.value in
+    let east = wrote_edge _ _ _ (two_lines e) 180 _ _ _ south (codes "east") _ e.east east_is _ _ _ c.in_ok-write_edge-3.ensures.ok c.in_ok-write_edge-3.ensures.counted c.in_ok-write_edge-3.ensures.failed in
+    let west_is = to_z-of_z w64 c.west.result (record { sfits = c.west.type_inv }) ∙ c.west.ensures.value in
+    let west = wrote_edge _ _ _ (three_lines e) 270 _ _ _ east (codes "west") _ e.west west_is _ _ _ c.in_ok-write_edge-4.ensures.ok c.in_ok-write_edge-4.ensures.counted c.in_ok-write_edge-4.ensures.failed in
+    let five = wrote_then _ _ _ (four_lines e) 360 _ _ _ west (side_line (codes "rows") e.rows) 72 _ _ _ (rw c.rows.ensures.value at c.in_ok-write_side.ensures.ok) c.in_ok-write_side.ensures.counted c.in_ok-write_side.ensures.failed in
+    record {
+      ok = IfOk-weaker c.write_side-2.result _ (λ _. Gathers _ _ (region_text e) _ _) (λ _ gathers. Gathers-then _ _ (five_lines e) (side_line (codes "cols") e.cols) _ _ _ _ five.gathers gathers) (rw c.cols.ensures.value at c.write_side-2.ensures.ok);
+      err = IfErr-weaker c.write_side-2.result _ (λ fault. CutsOff _ _ (region_text e) _ fault.written) (λ fault cuts. CutsOff-second _ _ (five_lines e) (side_line (codes "cols") e.cols) _ _ _ fault.written five.gathers cuts) (rw c.cols.ensures.value at c.write_side-2.ensures.err);
+      lost = c.write_side-2.ensures.lost;
+      counted = counted_then _ _ _ 432 72 c.write_side-2.ensures.counted five.few;
+      failed = failed_last _ _ _ _ c.write_side-2.ensures.failed five.same;
+    }
