@@ -88,3 +88,54 @@ returns-in-KnownMax-clause-each c = rw c.in-KnownMax.is c.known_greatest.ensures
 
 pub returns-in_ok-known_mode-in-KnownMode-clause-each : goal.returns-in_ok-known_mode-in-KnownMode-clause-each
 returns-in_ok-known_mode-in-KnownMode-clause-each c = rw c.in-KnownMode.is c.in_ok-known_mode-in-KnownMode.ensures.each
+
+pub returns-in-If-clause-width : goal.returns-in-If-clause-width
+returns-in-If-clause-width c = c.choose.ensures.width
+
+pub returns-in-IsNull-clause-width : goal.returns-in-IsNull-clause-width
+returns-in-IsNull-clause-width c = c.nullness.ensures.width
+
+pub returns-in-Null-clause-width : goal.returns-in-Null-clause-width
+returns-in-Null-clause-width c = c.fill.ensures.width
+
+pub returns-in-Abs-clause-width : goal.returns-in-Abs-clause-width
+returns-in-Abs-clause-width c = c.size.ensures.width
+
+pub returns-in-Min-clause-width : goal.returns-in-Min-clause-width
+returns-in-Min-clause-width c = c.least.ensures.width
+
+pub returns-in-Max-clause-width : goal.returns-in-Max-clause-width
+returns-in-Max-clause-width c = c.greatest.ensures.width
+
+pub returns-in-Row-clause-width : goal.returns-in-Row-clause-width
+returns-in-Row-clause-width c = c.fill-in-Row.ensures.width
+
+pub returns-in-Column-clause-width : goal.returns-in-Column-clause-width
+returns-in-Column-clause-width c = c.number-in-Column.ensures.width
+
+pub returns-in-RowCount-clause-width : goal.returns-in-RowCount-clause-width
+returns-in-RowCount-clause-width c = c.fill-in-RowCount.ensures.width
+
+pub returns-in-ColumnCount-clause-width : goal.returns-in-ColumnCount-clause-width
+returns-in-ColumnCount-clause-width c = c.fill-in-ColumnCount.ensures.width
+
+pub returns-in-Eval-clause-width : goal.returns-in-Eval-clause-width
+returns-in-Eval-clause-width c = c.last.ensures.width
+
+pub returns-in-KnownMin-clause-width : goal.returns-in-KnownMin-clause-width
+returns-in-KnownMin-clause-width c = c.known_least.ensures.width
+
+pub returns-in-KnownMax-clause-width : goal.returns-in-KnownMax-clause-width
+returns-in-KnownMax-clause-width c = c.known_greatest.ensures.width
+
+pub returns-in_ok-mode-in-Mode-clause-width : goal.returns-in_ok-mode-in-Mode-clause-width
+returns-in_ok-mode-in-Mode-clause-width c = c.in_ok-mode-in-Mode.ensures.width
+
+pub returns-in_err-mode-in-Mode-clause-width : goal.returns-in_err-mode-in-Mode-clause-width
+returns-in_err-mode-in-Mode-clause-width c = c.in_err-mode-in-Mode.ensures.width
+
+pub returns-in_ok-known_mode-in-KnownMode-clause-width : goal.returns-in_ok-known_mode-in-KnownMode-clause-width
+returns-in_ok-known_mode-in-KnownMode-clause-width c = c.in_ok-known_mode-in-KnownMode.ensures.width
+
+pub returns-in_err-known_mode-in-KnownMode-clause-width : goal.returns-in_err-known_mode-in-KnownMode-clause-width
+returns-in_err-known_mode-in-KnownMode-clause-width c = c.in_err-known_mode-in-KnownMode.ensures.width
