@@ -1,3 +1,4 @@
 pub mod StartLemmas
 pub mod GapLemmas
 pub mod InputLemmas
+pub mod StepLemmas
