@@ -3,6 +3,7 @@ use Rattle.std.specs.Prelude.{◌==◌}
 use Rattle.std.specs.Result.{IsErr}
 use Rattle.std.proofs.lemmas.Bool.Decides.{nat_tests}
 use Rattle.std.proofs.lemmas.Result.{err_from_is_err_and}
+use Rattle.std.proofs.lemmas.Option.{slice_get_within}
 use Rattle.cell_ascii_text.specs.Words.{start_of, fault}
 use Rattle.cell_scanner.specs.parts.Steps.{start_step, gap_step}
 use Rattle.cell_scanner.specs.Ahead.{Ahead, to_come}
@@ -415,3 +416,11 @@ returns-clause-end g c = λ e. blank_end _ (Ok _) refl e
 
 pub returns-clause-kind : goal.returns-clause-kind
 returns-clause-kind g c = tt
+
+pub advance-requires : goal.advance-requires
+advance-requires g c =
+    let held = rw c.in-Some.is at c.in_ok-b.ensures.byte in
+    rw (ap (λ (v : Scan). v.ahead.held) c.self.view_is) (slice_get_within c.peek.new.self.ahead.held 0 c.in-Some.b held)
+
+pub invariant_of-self : goal.invariant_of-self
+invariant_of-self g c = (up_to _ _ c.if-self-ge1048576.false, c.self.invariant.1)
