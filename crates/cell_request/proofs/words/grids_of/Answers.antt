@@ -8,6 +8,7 @@ use Rattle.cell_request.specs.declared.refusal.Refusal.{Refusal}
 use Rattle.cell_request.specs.declared.refusal.Refusal.TheVariants.{GridWord}
 use Rattle.cell_request.specs.CommandLine.{first_bad, grid_words, is_grid_word}
 use Rattle.cell_request.proofs.ParseLemmas.{first_bad_next, grid_words_more}
+use borrow.Author.Count.{falls}
 use Rattle.cell_request.proofs.words.grids_of.Goals as goal
 
 when_ok : {X : Type 0} (ok : Bool) {z : X} (x y : X) → true ≡ ok → z ≡ (if ok then x else y) → z ≡ x
@@ -64,6 +65,18 @@ pub returns-in_err-map_err-2-clause-good : goal.returns-in_err-map_err-2-clause-
 returns-in_err-map_err-2-clause-good c =
     let p = err_from_is_err_and c.from_residual-in_err-map_err-2.result c.from_residual-in_err-map_err-2.ensures.1 in
     rw p.1 tt
+
+pub loop-word-init : goal.loop-word-init
+loop-word-init c =
+    record {
+      paths = c.new-names.ensures.len ∙ sym c.new-paths.ensures.len;
+      place = refl;
+      good = refl;
+      words = ap₂ grid_words c.new-names.ensures.items (ap texts c.new-paths.ensures.items);
+    }
+
+pub loop-word-smaller : goal.loop-word-smaller
+loop-word-smaller c = falls _ c.loop-word.word-index c.loop-word-test.true
 
 pub loop-word-preserved : goal.loop-word-preserved
 loop-word-preserved c =
