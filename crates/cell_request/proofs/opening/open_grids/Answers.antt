@@ -1,9 +1,10 @@
 use Rattle.std.proofs.lemmas.Result.{err_from_is_err_and, IfOk-from_err}
-use Rattle.std.proofs.Common.{Bool, true, false, if◌then◌else◌, arith, ap, sym, map, take, length, ℕ, is_ok, subst, ◌≡◌, ◌≢◌, ◌<◌, ◌≤◌, ◌∙◌, ◌++◌, ◌∷◌, []}
+use Rattle.std.proofs.Common.{rules, Bool, true, false, Result, MatchResult, Ok, Err, if◌then◌else◌, arith, ap, sym, map, take, length, ℕ, is_ok, subst, ◌≡◌, ◌≢◌, ◌<◌, ◌≤◌, ◌∙◌, ◌++◌, ◌∷◌, []}
 use Rattle.std.proofs.lemmas.List.{map-append, take_more, take_all}
 use Rattle.cell_request.specs.Refusals.{IsOfOpening}
 use Rattle.cell_request.specs.declared.refusal.Refusal.{Refusal}
 use Rattle.cell_request.specs.declared.refusal.Refusal.TheVariants.{Usage, GridWord, Memory, ScriptFile, GridFile}
+use borrow.Author.Count.{falls}
 use Rattle.cell_request.proofs.opening.open_grids.Goals as goal
 
 when_ok : {X : Type 0} (ok : Bool) {z : X} (x y : X) → true ≡ ok → z ≡ (if ok then x else y) → z ≡ x
@@ -17,6 +18,11 @@ of_grid grids grid (GridWord place) within told = let is : GridWord place ≡ Gr
 of_grid grids grid Memory within told = tt
 of_grid grids grid ScriptFile within told = tt
 of_grid grids grid (GridFile other) within told = subst (IsOfOpening grids) (sym (told (λ same. cc))) within
+
+made_told : {T E F : Type 0} {Q : E → Type 0} {P : Type 0} (r : Result T E) (y : F)
+    → MatchResult r (λ x. ◌≡◌ {A = Result T F} (Err y) (Ok x)) Q → ((e : E) → Q e → P) → P
+made_told (Ok x) y is f = cc
+made_told (Err e) y is f = f e is
 
 below : {grid end n : ℕ} → grid < end → end ≡ n → grid < n
 below lower same = omega arith
@@ -34,6 +40,17 @@ returns-in_err-opened-clause-told g c =
 
 pub returns-in_err-map_err-clause-names : goal.returns-in_err-map_err-clause-names
 returns-in_err-map_err-clause-names g c = IfOk-from_err c.from_residual-in_err-map_err.result _ c.from_residual-in_err-map_err.ensures.0
+
+pub returns-in_err-map_err-clause-told : goal.returns-in_err-map_err-clause-told
+returns-in_err-map_err-clause-told g c =
+    let p = err_from_is_err_and c.from_residual-in_err-map_err.result c.from_residual-in_err-map_err.ensures.1 in
+    rw (p.1, p.2) (made_told c.push.result _ c.in_err-map_err.ensures.cases (λ e h. let made : c.in_err-map_err.field-0.0 ≡ Memory = search rules in subst (IsOfOpening _) (sym made) tt))
+
+pub loop-grid-init : goal.loop-grid-init
+loop-grid-init g c = record { names = ap (map (λ grid. grid.0)) c.new-grids.ensures.items }
+
+pub loop-grid-smaller : goal.loop-grid-smaller
+loop-grid-smaller g c = falls _ c.loop-grid.grid c.loop-grid-test.true
 
 pub loop-grid-preserved : goal.loop-grid-preserved
 loop-grid-preserved g c =
