@@ -1,11 +1,11 @@
 use Rattle.std.proofs.lemmas.Result.{err_from_is_err_and, IfOk-from_err}
-use Rattle.std.proofs.Common.{Bor, Bool, Option, Some, true, false, if◌then◌else◌, arith, rules, refl, drop, ap, ap₂, sym, ◌≡◌, ◌∙◌, ◌++◌, ◌∷◌, [], ◌+◌, ◌<◌, take, length, vec_len, List, ℕ, is_ok}
+use Rattle.std.proofs.Common.{Bor, Bool, Option, Some, true, false, Result, MatchResult, Ok, Err, if◌then◌else◌, arith, rules, refl, drop, ap, ap₂, sym, ◌≡◌, ◌∙◌, ◌++◌, ◌∷◌, [], ◌+◌, ◌<◌, take, length, vec_len, List, ℕ, is_ok}
 use Rattle.std.specs.List.{slice_index_or}
 use Rattle.std.specs.Option.{option_map}
 use Rattle.std.proofs.lemmas.List.{drop_all, drop_more, length-map, map-append, take_all, take_more}
 use Rattle.clap.specs.Walk.{Text, texts}
 use Rattle.cell_request.specs.declared.refusal.Refusal.{Refusal}
-use Rattle.cell_request.specs.declared.refusal.Refusal.TheVariants.{GridWord}
+use Rattle.cell_request.specs.declared.refusal.Refusal.TheVariants.{GridWord, Memory}
 use Rattle.cell_request.specs.CommandLine.{first_bad, grid_words, is_grid_word}
 use Rattle.cell_request.proofs.ParseLemmas.{first_bad_next, grid_words_more}
 use borrow.Author.Count.{falls}
@@ -14,6 +14,11 @@ use Rattle.cell_request.proofs.words.grids_of.Goals as goal
 when_ok : {X : Type 0} (ok : Bool) {z : X} (x y : X) → true ≡ ok → z ≡ (if ok then x else y) → z ≡ x
 when_ok true x y taken is = is
 when_ok false x y taken is = cc
+
+made_told : {T E F : Type 0} {Q : E → Type 0} {P : Type 0} (r : Result T E) (y : F)
+    → MatchResult r (λ x. ◌≡◌ {A = Result T F} (Err y) (Ok x)) Q → ((e : E) → Q e → P) → P
+made_told (Ok x) y is f = cc
+made_told (Err e) y is f = f e is
 
 first_bad_here : (place : ℕ) (words : List (Bor Text)) (i : ℕ) (word : Bor Text) → i < length words → is_grid_word (slice_index_or words i word).now ≡ false
     → first_bad place (texts (drop i words)) ≡ Some place
@@ -65,6 +70,18 @@ pub returns-in_err-map_err-2-clause-good : goal.returns-in_err-map_err-2-clause-
 returns-in_err-map_err-2-clause-good c =
     let p = err_from_is_err_and c.from_residual-in_err-map_err-2.result c.from_residual-in_err-map_err-2.ensures.1 in
     rw p.1 tt
+
+pub returns-in_err-map_err-clause-bad : goal.returns-in_err-map_err-clause-bad
+returns-in_err-map_err-clause-bad c =
+    let p = err_from_is_err_and c.from_residual-in_err-map_err.result c.from_residual-in_err-map_err.ensures.1 in
+    rw (p.1, p.2) (made_told c.push.result _ c.in_err-map_err.ensures.cases
+    (λ e h. let made : c.in_err-map_err.field-0.0 ≡ Memory = search rules in λ other. absurd (other made)))
+
+pub returns-in_err-map_err-2-clause-bad : goal.returns-in_err-map_err-2-clause-bad
+returns-in_err-map_err-2-clause-bad c =
+    let p = err_from_is_err_and c.from_residual-in_err-map_err-2.result c.from_residual-in_err-map_err-2.ensures.1 in
+    rw (p.1, p.2) (made_told c.push-in-loop-word.result _ c.in_err-map_err-2.ensures.cases
+    (λ e h. let made : c.in_err-map_err-2.field-0.0 ≡ Memory = search rules in λ other. absurd (other made)))
 
 pub loop-word-init : goal.loop-word-init
 loop-word-init c =
