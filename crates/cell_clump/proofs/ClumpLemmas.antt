@@ -1,23 +1,24 @@
 -- A map of the numbers of its labels is a clumping.
-use Rattle.std.proofs.Common.{◌≡◌, ℕ, zero, suc, ℤ, pos, true, false, ◌+◌, ◌*◌, ◌<◌, [], ◌∷◌, List, Some, None, IsSome, is_some, not, length, get_or, refl, ap, sym, ◌∙◌, arith, subst, ⊎_elim}
+use Rattle.std.proofs.Common.{◌≡◌, ℕ, zero, suc, ℤ, pos, true, ◌+◌, ◌*◌, ◌<◌, [], ◌∷◌, List, Some, None, IsSome, is_some, not, length, get_or, refl, ap, sym, ◌∙◌, arith, subst, ⊎_elim}
 use Rattle.std.specs.List.{Contains, AllPairs}
 use Rattle.std.proofs.lemmas.List.Elements.{Contains-append_left, Contains-push, Contains-push_cases, Contains-get_or}
 use Rattle.std.proofs.lemmas.List.Quantifiers.{all_pairs_push}
-use Rattle.std.proofs.lemmas.Bool.{cases_lt, cases_Bool, eqb-true, cond-true, cond-false, and_parts}
+use Rattle.std.proofs.lemmas.Bool.{cases_lt, cases_Bool, eqb-true, and_parts}
+use Rattle.std.proofs.lemmas.Nat.{div-add-mod'}
 use Rattle.cell_core.specs.Grid.{Grid, CellValue, IsFilled, no_labels}
 use Rattle.cell_clump.specs.declared.clump.Joining.{Joining}
 use Rattle.cell_clump.specs.Areas.{Position, at, IsBefore, AreJoined, IsFirst, HasNumber, IsClumping}
 use Rattle.cell_clump.specs.parts.Places.{position, place_of}
 use Rattle.cell_clump.specs.parts.Reading.{AreRead, label_in}
 use Rattle.cell_clump.specs.parts.Starts.{start_of, starts, begins, meets}
-use Rattle.cell_clump.specs.parts.Numbers.{is_first, firsts_below, number_of, number_at, cell_number}
+use Rattle.cell_clump.specs.parts.Numbers.{is_first, firsts_below, number_of, cell_number}
 use Rattle.cell_clump.specs.parts.Tables.{AreLabels}
 use Rattle.cell_clump.proofs.PathLemmas.{AreJoined-trans, AreJoined-sym, AreJoined-first, AreJoined-along}
 use Rattle.cell_clump.proofs.LawLemmas.{cases_before}
 use Rattle.cell_clump.proofs.MeetingLemmas.{some_of}
 use Rattle.cell_clump.proofs.NearLemmas.{label_below}
-use Rattle.cell_clump.proofs.StartLemmas.{inside_map, count_le, place_lt, place_of-cell, start_found}
-use Rattle.cell_clump.proofs.NumberLemmas.{firsts_more, firsts_same, number_apart, number_is, is_first-open, read_all}
+use Rattle.cell_clump.proofs.StartLemmas.{inside_map, count_le, place_lt, start_found}
+use Rattle.cell_clump.proofs.NumberLemmas.{cell_null, cell_numbered, firsts_more, firsts_same, number_apart, number_is, is_first-open, read_all}
 
 -- ---- the cells of open labels
 
@@ -62,7 +63,7 @@ module _ (j : Joining) (m : Grid) (table : List ℕ) (h : AreLabels j m table) w
   place_found k lt =
       let total : length table ≡ starts j m (m.region.rows * m.region.cols) = rd.long ∙ ap (starts j m) h.long in
       let t = start_found j m k (omega arith) in
-      (t.0, t.3, ap (place_of m.region.cols) t.4 ∙ place_of-cell m.region.cols t.0, t.2)
+      (t.0, t.3, ap (place_of m.region.cols) t.4 ∙ div-add-mod' t.0 m.region.cols, t.2)
 
   start_some : (k : ℕ) → k < length table → IsSome (at m (start_of j m k))
   start_some k lt = (and_parts (is_some (at m (start_of j m k))) (not (meets j m (start_of j m k).row (start_of j m k).col)) (place_found k lt).3).0
@@ -153,14 +154,6 @@ module _ (j : Joining) (m : Grid) (table : List ℕ) (h : AreLabels j m table) w
       let low = rd.sound.tells.low (label_in m h.labels p) inside in
       sym (label_own (f (label_in m h.labels p)) (omega arith)) ∙ ap (label_in m h.labels) (first_begins p first)
 
-  first_to : (p : Position) → IsFirst j m p → is_first table (label_in m h.labels p) ≡ true
-  first_to p first =
-      let v = some_of (at m p) first.category in
-      subst (λ (n : ℕ). is_first table n ≡ true) (first_own p first) (open_is_first p v.0 v.1)
-
-  first_at : (p : Position) → IsFirst j m p → start_of j m (label_in m h.labels p) ≡ p
-  first_at p first = ap (start_of j m) (sym (first_own p first)) ∙ first_begins p first
-
   -- the number of a cell
   pub has_number : (p : Position) (v : ℤ) → at m p ≡ Some v → HasNumber j m p (number_of j m table (f (label_in m h.labels p)))
   has_number p v is =
@@ -185,25 +178,15 @@ module _ (j : Joining) (m : Grid) (table : List ℕ) (h : AreLabels j m table) w
                       absurd (omega arith),
                 ),
             λ both. let u = some_of (at m q) both.0.category in
-                let here = first_at q both.0 in
+                let own = first_own q both.0 in let here = ap (start_of j m) (sym own) ∙ first_begins q both.0 in
                 let q_in = inside_table q u.0 u.1 in
                 let le : label_in m h.labels q < suc g =
                 ⊎_elim (λ lt. absurd (both.1 (subst (λ (x : Position). IsBefore (start_of j m g) x) here (starts_before g (label_in m h.labels q) lt q_in)))) (λ le. omega arith) (cases_lt g (label_in m h.labels q)) in
-                subst (Contains (firsts_below j m table (suc g))) here (some_below j m table (suc g) (label_in m h.labels q) le (first_to q both.0)),
+                subst (Contains (firsts_below j m table (suc g))) here (some_below j m table (suc g) (label_in m h.labels q) le (subst (λ (n : ℕ). is_first table n ≡ true) own (open_is_first q u.0 u.1))),
           );
         };
         count = refl;
       }
-
-  cell_numbered : (p : Position) (v : ℤ) → at m p ≡ Some v → cell_number j m table h p ≡ Some (pos (number_of j m table (f (label_in m h.labels p))))
-  cell_numbered p v is =
-      let some : is_some (at m p) ≡ true = ap (λ (x : CellValue). is_some x) is in
-      cond-true (is_some (at m p)) (Some (pos (number_at j m table h p))) None some ∙ ap (λ (n : ℕ). Some (pos n)) (number_is j m table h p)
-
-  cell_null : (p : Position) → at m p ≡ None → cell_number j m table h p ≡ None
-  cell_null p is =
-      let none : is_some (at m p) ≡ false = ap (λ (x : CellValue). is_some x) is in
-      cond-false (is_some (at m p)) (Some (pos (number_at j m table h p))) None none
 
   -- cells of one number are joined
   joined_from : (p q : Position) (v u : ℤ) → at m p ≡ Some v → at m q ≡ Some u → number_of j m table (f (label_in m h.labels p)) ≡ number_of j m table (f (label_in m h.labels q)) → AreJoined j m p q
@@ -214,7 +197,7 @@ module _ (j : Joining) (m : Grid) (table : List ℕ) (h : AreLabels j m table) w
   pub clumping : (numbers : Grid) → numbers.region ≡ m.region → numbers.labels ≡ no_labels → IsFilled numbers.region numbers.rows → ((r c : ℕ) → r < m.region.rows → c < m.region.cols → at numbers (position r c) ≡ cell_number j m table h (position r c)) → IsClumping j m numbers
   clumping numbers region unlabelled full cells =
       let number : (p : Position) (v : ℤ) → at m p ≡ Some v → at numbers p ≡ Some (pos (number_of j m table (f (label_in m h.labels p)))) = λ p v is.
-      let t = rd.inside p v is in cells p.row p.col t.0 t.1 ∙ cell_numbered p v is in
+      let t = rd.inside p v is in cells p.row p.col t.0 t.1 ∙ cell_numbered j m table h p v is ∙ ap (λ (n : ℕ). Some (pos n)) (number_is j m table h p) in
       record {
         region = region;
         labels = unlabelled;
@@ -234,4 +217,4 @@ module _ (j : Joining) (m : Grid) (table : List ℕ) (h : AreLabels j m table) w
           let t = inside_map numbers p v full e in
           let row : p.row < m.region.rows = (let lt = t.0 in let same = ap (λ r. r.rows) region in omega arith) in
           let col : p.col < m.region.cols = (let lt = t.1 in let same = ap (λ r. r.cols) region in omega arith) in
-          cells p.row p.col row col ∙ cell_null p is
+          cells p.row p.col row col ∙ cell_null j m table h p is

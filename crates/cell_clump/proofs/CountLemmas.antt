@@ -116,9 +116,6 @@ no_number_is_left_out j m numbers clumping p some =
     let count = h.count in
     (t.0, t.2, least_number j m p t.0 h, λ k least most. occurs_at j m numbers h.firsts clumping (leading_up_to j m p t.0 h) k least (omega arith))
 
-same_number : (x : CellValue) (n k : ℕ) → x ≡ Some (pos n) → x ≡ Some (pos k) → n ≡ k
-same_number x n k e d = let same : Some (pos n) ≡ Some (pos k) = sym e ∙ d in cc
-
 pub numbers_count_areas : NumbersCountAreas
 numbers_count_areas j m numbers clumping firsts all n = (
   λ occurs.
@@ -126,7 +123,7 @@ numbers_count_areas j m numbers clumping firsts all n = (
       let t = clumping.numbered p (some_cell (at m p) (at numbers p) (clumping.nulls p) (rw occurs.1 refl)) in
       let h = t.1 in
       let count = h.count in
-      let same : t.0 ≡ n = same_number (at numbers p) t.0 n t.2 occurs.1 in
+      let same : t.0 ≡ n = (let both : Some (pos t.0) ≡ Some (pos n) = sym t.2 ∙ occurs.1 in cc) in
       let least = least_number j m p t.0 h in
       let most = within_le h.firsts firsts h.up_to.in_order all.in_order (λ q within. (all.exactly q).1 (((h.up_to.exactly q).0 within).0)) in
       (omega arith, omega arith),

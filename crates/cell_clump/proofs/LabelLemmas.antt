@@ -2,6 +2,7 @@
 use Rattle.std.proofs.Common.{◌≡◌, ℕ, ◌+◌, ◌++◌, ◌∷◌, [], ◌<◌, ◌≤◌, List, length, get_or, set, refl, ap, sym, ◌∙◌, arith, subst, ⊎_elim, eqb, eq-eqb, cond, max, min, get_or-set_other, get_or-set_same}
 use Rattle.std.proofs.Math.ListN.{length-set}
 use Rattle.std.proofs.lemmas.List.{length_push, get_or_push, get_or_append_left}
+use Rattle.std.proofs.lemmas.Grind.{common_steps}
 use Rattle.std.proofs.lemmas.Bool.{cases_eq, cases_lt, ne_eqb, cond-true, cond-false}
 use Rattle.cell_clump.specs.parts.Labels.{PointDown, TellsOpen, closed, after_join}
 
@@ -39,6 +40,12 @@ TellsOpen-halved table x open_of down inside tells =
       low = λ k lt. tells.low k (omega arith);
     }
 
+pub closed_high : (f : ℕ → ℕ) (high low k : ℕ) → f k ≡ high → closed f high low k ≡ low
+closed_high f high low k e = cond-true (eqb (f k) high) low (f k) (eq-eqb _ _ e)
+
+pub closed_other : (f : ℕ → ℕ) (high low k : ℕ) → (f k ≡ high → ⊥) → closed f high low k ≡ f k
+closed_other f high low k ne = cond-false (eqb (f k) high) low (f k) (ne_eqb _ _ ne)
+
 -- an open label is closed
 TellsOpen-closed : (table : List ℕ) (high low : ℕ) (open_of : ℕ → ℕ) → high < length table → low ≤ high → get_or table high 0 ≡ high → get_or table low 0 ≡ low → TellsOpen table open_of → TellsOpen (set table high low) (closed open_of high low)
 TellsOpen-closed table high low open_of inside le high_open low_open tells =
@@ -46,8 +53,8 @@ TellsOpen-closed table high low open_of inside le high_open low_open tells =
     let high_is : open_of high ≡ high = tells.itself high inside high_open in
     let low_is : open_of low ≡ low = tells.itself low (omega arith) low_open in
     let f : ℕ → ℕ = closed open_of high low in
-    let to_low : (k : ℕ) → open_of k ≡ high → f k ≡ low = λ k e. cond-true (eqb (open_of k) high) low (open_of k) (eq-eqb _ _ e) in
-    let stays : (k : ℕ) → (open_of k ≡ high → ⊥) → f k ≡ open_of k = λ k ne. cond-false (eqb (open_of k) high) low (open_of k) (ne_eqb _ _ ne) in
+    let to_low = closed_high open_of high low in
+    let stays = closed_other open_of high low in
     let low_stays : f low ≡ low = ⊎_elim (λ e. to_low low e) (λ ne. stays low ne ∙ low_is) (cases_eq (open_of low) high) in
     record {
       points = λ k lt. let lt' : k < length table = omega arith in
@@ -69,6 +76,12 @@ TellsOpen-closed table high low open_of inside le high_open low_open tells =
           ⊎_elim (λ e. let is = to_low k e in omega arith) (λ ne. let is = stays k ne in omega arith) (cases_eq (open_of k) high);
     }
 
+-- what holds of two numbers both ways holds of the greater and the other
+pub by_order : (P : ℕ → ℕ → Type 0) (x y : ℕ) → P x y → P y x → P (max x y) (min x y)
+by_order P x y one other =
+    ⊎_elim (λ lt. let e : max x y ≡ y = omega arith in let d : min x y ≡ x = omega arith in rw (e, d) other)
+    (λ le. let e : max x y ≡ x = omega arith in let d : min x y ≡ y = omega arith in rw (e, d) one) (cases_lt x y)
+
 -- two labels are joined
 pub TellsOpen-after : (table : List ℕ) (a b : ℕ) (open_of : ℕ → ℕ) → a < length table → b < length table → TellsOpen table open_of → TellsOpen (set table (max (open_of a) (open_of b)) (min (open_of a) (open_of b))) (after_join open_of a b)
 TellsOpen-after table a b open_of a_inside b_inside tells =
@@ -76,13 +89,8 @@ TellsOpen-after table a b open_of a_inside b_inside tells =
     let b_low = tells.low b b_inside in
     let a_open = tells.is_open a a_inside in
     let b_open = tells.is_open b b_inside in
-    let IsOpen : ℕ → Type 0 = λ n. get_or table n 0 ≡ n in
-    TellsOpen-closed table (max (open_of a) (open_of b)) (min (open_of a) (open_of b)) open_of (omega arith) (omega arith)
-    (⊎_elim (λ lt. let e : max (open_of a) (open_of b) ≡ open_of b = omega arith in subst IsOpen (sym e) b_open)
-    (λ le. let e : max (open_of a) (open_of b) ≡ open_of a = omega arith in subst IsOpen (sym e) a_open) (cases_lt (open_of a) (open_of b)))
-    (⊎_elim (λ lt. let e : min (open_of a) (open_of b) ≡ open_of a = omega arith in subst IsOpen (sym e) a_open)
-    (λ le. let e : min (open_of a) (open_of b) ≡ open_of b = omega arith in subst IsOpen (sym e) b_open) (cases_lt (open_of a) (open_of b)))
-    tells
+    let both = by_order (λ h l. (get_or table h 0 ≡ h) × (get_or table l 0 ≡ l)) (open_of a) (open_of b) (a_open, b_open) (b_open, a_open) in
+    TellsOpen-closed table (max (open_of a) (open_of b)) (min (open_of a) (open_of b)) open_of (omega arith) (omega arith) both.0 both.1 tells
 
 -- the same, by the open labels that were found
 pub TellsOpen-joined : (table : List ℕ) (a b first second high low : ℕ) (open_of : ℕ → ℕ) → a < length table → b < length table → TellsOpen table open_of → first ≡ open_of a → second ≡ open_of b → high ≡ max first second → low ≡ min first second → TellsOpen (set table high low) (after_join open_of a b)
@@ -93,6 +101,9 @@ TellsOpen-joined table a b first second high low open_of a_inside b_inside tells
     (subst (λ (h : ℕ). TellsOpen (set table h (min (open_of a) (open_of b))) (after_join open_of a b)) (sym high') (TellsOpen-after table a b open_of a_inside b_inside tells))
 
 -- ---- a label more, which is open
+
+pub down_more : (table : List ℕ) (l : ℕ) → PointDown table → l ≡ length table → PointDown (table ++ l ∷ [])
+down_more table l down own k = grind (arith, common_steps)
 
 abbrev pub extended : (ℕ → ℕ) → ℕ → ℕ → ℕ
 extended open_of n k = cond (eqb k n) n (open_of k)

@@ -14,13 +14,10 @@ use Rattle.cell_clump.proofs.StartLemmas.{same_position, inside_map}
 use Rattle.cell_clump.proofs.NearLemmas.{inside_near}
 use Rattle.cell_clump.proofs.ReadLemmas.{read_nothing}
 
-never_some : (x : CellValue) (v : ℤ) → x ≡ None → x ≡ Some v → ⊥
-never_some x v e d = let both : None ≡ Some v = sym e ∙ d in cc
-
 -- no cell lies there
 tells_none : (m : Grid) (count : ℕ) (f : Position → ℕ) (Lies : Position → Type 0) (x : Labelled) → x.cell ≡ None → ((q : Position) (v : ℤ) → Lies q → at m q ≡ Some v → ⊥) → Tells m count f Lies x
 tells_none m count f Lies x none never = record {
-  some = λ v e. absurd (never_some x.cell v none e);
+  some = λ v e. absurd (let both : None ≡ Some v = sym none ∙ e in cc);
   all = λ q v lies is. absurd (never q v lies is);
 }
 
@@ -99,15 +96,6 @@ line_down m count f r line h = record {
       (λ q l. let row = l.0 in (omega arith, l.1)) (λ q l. let row = l.0 in (omega arith, l.1)) (h.here k d lt);
 }
 
--- the line before the first row
-pub line_first : (m : Grid) (f : Position → ℕ) (line : List Labelled) → length line ≡ m.region.cols + 1 → ((k : ℕ) (d : Labelled) → k < m.region.cols + 1 → (get_or line k d).cell ≡ None) → IsLine m 0 f 0 0 line
-line_first m f line wide none = record {
-  wide = wide;
-  end = λ d. none m.region.cols d (omega arith);
-  here = λ k d lt. absurd (omega arith);
-  above = λ k d ge lt. tells_none m 0 f (IsAbove 0 k) (get_or line k d) (none k d (omega arith)) (λ q v lies is. let row = lies.0 in omega arith);
-}
-
 -- ---- labels in the line
 
 module _ (j : Joining) (m : Grid) (table : List ℕ) (line : List Labelled) (r c : ℕ) (near : Near) (h : IsReading j m table line r c near) (c_in : c < m.region.cols) (after : Near) (moved : after ≡ near_at line c near) where
@@ -152,10 +140,16 @@ cells_down j m table line r c e h = record {
 pub copied : (m : Grid) (r c : ℕ) (cells : List CellValue) (x : CellValue) → cells ≡ row_at m r → c < length cells → x ≡ get_or cells c x → x ≡ at m (position r c)
 copied m r c cells x e lt is = is ∙ get_or_default cells c x None lt ∙ ap (λ (xs : List CellValue). get_or xs c None) e
 
--- a line of nulls
+-- the line before the first row
 pub line_empty : (m : Grid) (f : Position → ℕ) (line : List Labelled) (x : Labelled) → line ≡ replicate (m.region.cols + 1) x → x.cell ≡ None → IsLine m 0 f 0 0 line
-line_empty m f line x is none = line_first m f line (ap (length {A = Labelled}) is ∙ length-replicate (m.region.cols + 1) x)
-    (λ k d lt. ap (λ (xs : List Labelled). (get_or xs k d).cell) is ∙ ap (λ (y : Labelled). y.cell) (get_or-replicate (m.region.cols + 1) k x d lt) ∙ none)
+line_empty m f line x is none =
+    let null : (k : ℕ) (d : Labelled) → k < m.region.cols + 1 → (get_or line k d).cell ≡ None = λ k d lt. ap (λ (xs : List Labelled). (get_or xs k d).cell) is ∙ ap (λ (y : Labelled). y.cell) (get_or-replicate (m.region.cols + 1) k x d lt) ∙ none in
+    record {
+      wide = ap (length {A = Labelled}) is ∙ length-replicate (m.region.cols + 1) x;
+      end = λ d. null m.region.cols d (omega arith);
+      here = λ k d lt. absurd (omega arith);
+      above = λ k d ge lt. tells_none m 0 f (IsAbove 0 k) (get_or line k d) (null k d (omega arith)) (λ q v lies is. let row = lies.0 in omega arith);
+    }
 
 pub cells_first : (j : Joining) (m : Grid) (line : List Labelled) (x : Labelled) → IsFilled m.region m.rows → line ≡ replicate (m.region.cols + 1) x → x.cell ≡ None → HaveCells j m [] line 0 0
 cells_first j m line x filled is none = record {
@@ -164,3 +158,7 @@ cells_first j m line x filled is none = record {
   count = omega arith;
   is_line = line_empty m (label_in m []) line x is none;
 }
+
+-- a loop over the rows has come to the end
+pub all_rows : {row end rows : ℕ} → end ≤ row → row ≤ end → end ≡ rows → row ≡ rows
+all_rows past within all = omega arith

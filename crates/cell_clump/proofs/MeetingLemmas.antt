@@ -1,6 +1,6 @@
 -- Labels whose cells meet are joined.
-use Rattle.std.proofs.Common.{◌≡◌, ℕ, ℤ, ◌+◌, ◌++◌, ◌∷◌, [], ◌<◌, List, Some, None, IsSome, is_some, false, length, refl, ap, sym, ◌∙◌, arith, subst, inl, inr, ⊎_elim, ◌⊎◌, eqb, eq-eqb, cond, max, min}
-use Rattle.std.proofs.lemmas.Bool.{cases_eq, cases_lt, ne_eqb, cond-true, cond-false}
+use Rattle.std.proofs.Common.{◌≡◌, ℕ, ℤ, ◌+◌, ◌++◌, ◌∷◌, [], ◌<◌, List, Option, Some, None, IsSome, is_some, false, length, refl, ap, sym, ◌∙◌, arith, subst, inl, inr, ⊎_elim, ◌⊎◌, eqb, cond, max, min}
+use Rattle.std.proofs.lemmas.Bool.{cases_eq, cases_lt}
 use Rattle.cell_core.specs.Grid.{Grid, CellValue}
 use Rattle.cell_clump.specs.declared.clump.Joining.{Joining}
 use Rattle.cell_clump.specs.Areas.{at, AreJoined}
@@ -8,14 +8,8 @@ use Rattle.cell_clump.specs.parts.Labels.{PointDown, TellsOpen, closed, after_jo
 use Rattle.cell_clump.specs.parts.Meetings.{AreSound}
 use Rattle.cell_clump.specs.parts.Starts.{start_of}
 use Rattle.std.proofs.lemmas.List.{length_push}
-use Rattle.cell_clump.proofs.LabelLemmas.{extended, extended_new, extended_old, TellsOpen-push}
+use Rattle.cell_clump.proofs.LabelLemmas.{by_order, closed_high, closed_other, extended, extended_new, extended_old, TellsOpen-push}
 use Rattle.cell_clump.proofs.PathLemmas.{AreJoined-refl, AreJoined-trans, AreJoined-sym, AreJoined-first, AreJoined-last}
-
-closed_high : (f : ℕ → ℕ) (high low k : ℕ) → f k ≡ high → closed f high low k ≡ low
-closed_high f high low k e = cond-true (eqb (f k) high) low (f k) (eq-eqb _ _ e)
-
-closed_other : (f : ℕ → ℕ) (high low k : ℕ) → (f k ≡ high → ⊥) → closed f high low k ≡ f k
-closed_other f high low k ne = cond-false (eqb (f k) high) low (f k) (ne_eqb _ _ ne)
 
 closed_low : (f : ℕ → ℕ) (high low k : ℕ) → f k ≡ low → closed f high low k ≡ low
 closed_low f high low k e = ⊎_elim (λ h. closed_high f high low k h) (λ ne. closed_other f high low k ne ∙ e) (cases_eq (f k) high)
@@ -23,14 +17,9 @@ closed_low f high low k e = ⊎_elim (λ h. closed_high f high low k h) (λ ne. 
 -- two labels that were joined lead to one
 pub after_join_one : (f : ℕ → ℕ) (a b : ℕ) → after_join f a b a ≡ after_join f a b b
 after_join_one f a b =
-    ⊎_elim
-    (λ lt. let a_is : f a ≡ min (f a) (f b) = omega arith in
-    let b_is : f b ≡ max (f a) (f b) = omega arith in
-    closed_low f (max (f a) (f b)) (min (f a) (f b)) a a_is ∙ sym (closed_high f (max (f a) (f b)) (min (f a) (f b)) b b_is))
-    (λ le. let a_is : f a ≡ max (f a) (f b) = omega arith in
-    let b_is : f b ≡ min (f a) (f b) = omega arith in
-    closed_high f (max (f a) (f b)) (min (f a) (f b)) a a_is ∙ sym (closed_low f (max (f a) (f b)) (min (f a) (f b)) b b_is))
-    (cases_lt (f a) (f b))
+    by_order (λ h l. closed f h l a ≡ closed f h l b) (f a) (f b)
+    (closed_high f (f a) (f b) a refl ∙ sym (closed_low f (f a) (f b) b refl))
+    (closed_low f (f b) (f a) a refl ∙ sym (closed_high f (f b) (f a) b refl))
 
 -- a cell is joined to that of the label that its own leads to
 to_open : (j : Joining) (m : Grid) (table : List ℕ) (f : ℕ → ℕ) (k : ℕ) (v : ℤ) → AreSound j m table f → k < length table → at m (start_of j m k) ≡ Some v → AreJoined j m (start_of j m k) (start_of j m (f k))
@@ -56,15 +45,7 @@ AreSound-joined j m table new f a b sound long tells a_inside b_inside near =
     let b_to = to_open j m table f b near.category sound b_inside (AreJoined-last j m _ _ near) in
     let from_a : IsJoined (f a) (f b) = AreJoined-trans j m _ (start_of j m a) _ (AreJoined-sym j m _ _ a_to) (AreJoined-trans j m _ (start_of j m b) _ near b_to) in
     let from_b : IsJoined (f b) (f a) = AreJoined-sym j m _ _ from_a in
-    let down : IsJoined (max (f a) (f b)) (min (f a) (f b)) =
-    ⊎_elim
-    (λ lt. let hi : max (f a) (f b) ≡ f b = omega arith in
-    let lo : min (f a) (f b) ≡ f a = omega arith in
-    subst (λ (x : ℕ). IsJoined x (min (f a) (f b))) (sym hi) (subst (λ (y : ℕ). IsJoined (f b) y) (sym lo) from_b))
-    (λ le. let hi : max (f a) (f b) ≡ f a = omega arith in
-    let lo : min (f a) (f b) ≡ f b = omega arith in
-    subst (λ (x : ℕ). IsJoined x (min (f a) (f b))) (sym hi) (subst (λ (y : ℕ). IsJoined (f a) y) (sym lo) from_a))
-    (cases_lt (f a) (f b)) in
+    let down = by_order IsJoined (f a) (f b) from_a from_b in
     record {
       tells = tells;
       joined = λ k lt. closed_joined j m f (max (f a) (f b)) (min (f a) (f b)) k down (sound.joined k (omega arith));
@@ -73,6 +54,10 @@ AreSound-joined j m table new f a b sound long tells a_inside b_inside near =
 pub none_of : (x : CellValue) → is_some x ≡ false → x ≡ None
 none_of None h = refl
 none_of (Some v) h = cc
+
+pub no_label : (x : Option ℕ) → ((l : ℕ) → x ≡ Some l → ⊥) → x ≡ None
+no_label None never = refl
+no_label (Some l) never = absurd (never l refl)
 
 pub some_of : (x : CellValue) → IsSome x → (v : ℤ) × (x ≡ Some v)
 some_of None h = cc

@@ -3,7 +3,7 @@ use Rattle.std.proofs.Common.{◌≡◌, ℕ, suc, ℤ, ◌+◌, ◌<◌, Bool, 
 use Rattle.cell_core.specs.Grid.{Grid, CellValue}
 use Rattle.std.specs.Option.{IfSome}
 use Rattle.cell_base.specs.Cell.{cell_eq}
-use Rattle.std.proofs.lemmas.Bool.{both_ways}
+use Rattle.std.proofs.lemmas.Bool.{both_ways, not-true, not-false}
 use Rattle.cell_clump.specs.declared.clump.Joining.{Joining}
 use Rattle.cell_clump.specs.declared.clump.Joining.TheVariants.{Edges, EdgesAndCorners}
 use Rattle.cell_clump.specs.declared.near.Labelled.{Labelled}
@@ -24,27 +24,11 @@ is_alike x y v b is test yes' = alike_to x y v is (sym test ∙ yes')
 pub is_unlike : (x y : CellValue) (v : ℤ) (b : Bool) → y ≡ Some v → b ≡ cell_eq x y → b ≡ false → x ≡ Some v → ⊥
 is_unlike x y v b is test no' e = both_ways (cell_eq x y) (sym test ∙ no') (alike_from x y v e is)
 
-not_swap : (b : Bool) (n : Bool) → n ≡ not b → b ≡ not n
-not_swap true n e = rw e refl
-not_swap false n e = rw e refl
-
 pub ne_unlike : (x y : CellValue) (v : ℤ) (b : Bool) → y ≡ Some v → b ≡ not (cell_eq x y) → b ≡ true → x ≡ Some v → ⊥
-ne_unlike x y v b is test yes' = is_unlike x y v (not b) is (sym (not_swap (cell_eq x y) b test)) (rw yes' refl)
+ne_unlike x y v b is test yes' = is_unlike x y v (cell_eq x y) is refl (not-true _ (sym test ∙ yes'))
 
 pub ne_alike : (x y : CellValue) (v : ℤ) (b : Bool) → y ≡ Some v → b ≡ not (cell_eq x y) → b ≡ false → x ≡ Some v
-ne_alike x y v b is test no' = is_alike x y v (not b) is (sym (not_swap (cell_eq x y) b test)) (rw no' refl)
-
-one_left : (r c : ℕ) (p q : Position) → IsLeft r c p → IsLeft r c q → p ≡ q
-one_left r c p q h g = let a = h.0 in let b = g.0 in let x = h.1 in let y = g.1 in same_position p q.row q.col (omega arith) (omega arith)
-
-one_above : (r c : ℕ) (p q : Position) → IsAbove r c p → IsAbove r c q → p ≡ q
-one_above r c p q h g = let a = h.0 in let b = g.0 in let x = h.1 in let y = g.1 in same_position p q.row q.col (omega arith) (omega arith)
-
-one_upper_left : (r c : ℕ) (p q : Position) → IsUpperLeft r c p → IsUpperLeft r c q → p ≡ q
-one_upper_left r c p q h g = let a = h.0 in let b = g.0 in let x = h.1 in let y = g.1 in same_position p q.row q.col (omega arith) (omega arith)
-
-one_upper_right : (r c : ℕ) (p q : Position) → IsUpperRight r c p → IsUpperRight r c q → p ≡ q
-one_upper_right r c p q h g = let a = h.0 in let b = g.0 in let x = h.1 in let y = g.1 in same_position p q.row q.col (omega arith) (omega arith)
+ne_alike x y v b is test no' = is_alike x y v (cell_eq x y) is refl (not-false _ (sym test ∙ no'))
 
 -- a cell is to the left of another, or below it
 beside : (j : Joining) (p q : Position) → p.row ≡ q.row → p.col + 1 ≡ q.col → AreAdjacent j p q
@@ -72,16 +56,16 @@ told m count label_of Lies x v h one q lies is =
 
 module _ (m : Grid) (count : ℕ) (label_of : Position → ℕ) (r c : ℕ) (v : ℤ) (near : Near) (n : AreNear m count label_of r c near) where
   pub told_left : (q : Position) → IsLeft r c q → at m q ≡ Some v → Told m count label_of q v near.left
-  told_left = told m count label_of (IsLeft r c) near.left v n.left (one_left r c)
+  told_left = told m count label_of (IsLeft r c) near.left v n.left (λ p q h g. let a = h.0 in let b = g.0 in let x = h.1 in let y = g.1 in same_position p q.row q.col (omega arith) (omega arith))
 
   pub told_above : (q : Position) → IsAbove r c q → at m q ≡ Some v → Told m count label_of q v near.above
-  told_above = told m count label_of (IsAbove r c) near.above v n.above (one_above r c)
+  told_above = told m count label_of (IsAbove r c) near.above v n.above (λ p q h g. let a = h.0 in let b = g.0 in let x = h.1 in let y = g.1 in same_position p q.row q.col (omega arith) (omega arith))
 
   pub told_upper_left : (q : Position) → IsUpperLeft r c q → at m q ≡ Some v → Told m count label_of q v near.upper_left
-  told_upper_left = told m count label_of (IsUpperLeft r c) near.upper_left v n.upper_left (one_upper_left r c)
+  told_upper_left = told m count label_of (IsUpperLeft r c) near.upper_left v n.upper_left (λ p q h g. let a = h.0 in let b = g.0 in let x = h.1 in let y = g.1 in same_position p q.row q.col (omega arith) (omega arith))
 
   pub told_upper_right : (q : Position) → IsUpperRight r c q → at m q ≡ Some v → Told m count label_of q v near.upper_right
-  told_upper_right = told m count label_of (IsUpperRight r c) near.upper_right v n.upper_right (one_upper_right r c)
+  told_upper_right = told m count label_of (IsUpperRight r c) near.upper_right v n.upper_right (λ p q h g. let a = h.0 in let b = g.0 in let x = h.1 in let y = g.1 in same_position p q.row q.col (omega arith) (omega arith))
 
 -- a label of the cells read is one of the table
 pub label_below : (j : Joining) (m : Grid) (table labels : List ℕ) (open_of : ℕ → ℕ) → AreRead j m table labels open_of → (q : Position) (v : ℤ) → at m q ≡ Some v → WasRead m labels q → label_in m labels q < length table

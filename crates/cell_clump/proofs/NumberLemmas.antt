@@ -1,9 +1,10 @@
 -- Labels are replaced by numbers.
-use Rattle.std.proofs.Common.{◌≡◌, ℕ, zero, suc, ℤ, true, false, ◌+◌, ◌-◌, ◌*◌, ◌<◌, ◌≤◌, ◌++◌, [], ◌∷◌, List, Some, None, length, get_or, set, refl, ap, sym, ◌∙◌, arith, subst, ⊎_elim, eq-eqb, add-one, get_or-set_other, get_or-set_same}
+use Rattle.std.proofs.Common.{◌≡◌, ℕ, zero, suc, ℤ, true, false, ◌+◌, ◌*◌, ◌<◌, ◌≤◌, ◌++◌, [], ◌∷◌, List, Some, None, is_some, pos, length, get_or, set, refl, ap, sym, ◌∙◌, arith, ⊎_elim, eq-eqb, add-one, get_or-set_other, get_or-set_same}
 use Rattle.std.proofs.lemmas.List.{length-set, length_push, get_or_push, get_or_append_left, get_or_past}
 use Rattle.std.proofs.lemmas.Bool.{cases_lt, cases_order, cases_Bool, ne_eqb, cond-true, cond-false}
 use Rattle.cell_core.specs.Grid.{Grid, CellValue}
-use Rattle.cell_base.specs.Region.{IsRegion}
+use Rattle.std.proofs.Math.Nat.{mul-le-mul_right}
+use Rattle.cell_base.specs.Region.{IsRegion, RegionValue}
 use Rattle.cell_clump.specs.declared.clump.Joining.{Joining}
 use Rattle.cell_clump.specs.Areas.{Position, at, AreAdjacent}
 use Rattle.cell_clump.specs.parts.Labels.{PointDown}
@@ -11,10 +12,10 @@ use Rattle.cell_clump.specs.parts.Meetings.{AreSound}
 use Rattle.cell_clump.specs.parts.Places.{position}
 use Rattle.cell_clump.specs.parts.Reading.{WasRead, label_in}
 use Rattle.cell_clump.specs.parts.Starts.{IsEarlier, begins, starts, start_of}
-use Rattle.cell_clump.specs.parts.Numbers.{is_first, firsts_below, number_of, number_at, AreNumbered, CanNumber, IsNumbered}
+use Rattle.cell_clump.specs.parts.Numbers.{is_first, firsts_below, number_of, number_at, AreNumbered, CanNumber, IsNumbered, cell_number}
 use Rattle.cell_clump.specs.parts.Tables.{AreLabels}
 use Rattle.cell_clump.proofs.NearLemmas.{label_below}
-use Rattle.cell_clump.proofs.StartLemmas.{place_inside, begins_from, count_begins, count_stays, starts_most}
+use Rattle.cell_clump.proofs.StartLemmas.{grows, place_inside, begins_from, count_begins, count_stays, starts_most}
 
 -- ---- the count of open labels, place by place
 
@@ -32,14 +33,6 @@ count_step j m labels k =
     ⊎_elim (λ yes'. let e = count_more j m labels k yes' in omega arith)
     (λ no'. let e = ap (length {A = Position}) (firsts_same j m labels k no') in omega arith) (cases_Bool (is_first labels k))
 
-count_grows : (j : Joining) (m : Grid) (labels : List ℕ) (k d : ℕ) → length (firsts_below j m labels k) ≤ length (firsts_below j m labels (d + k))
-count_grows j m labels k zero = let e : 0 + k ≡ k = omega arith in subst (λ (n : ℕ). length (firsts_below j m labels k) ≤ length (firsts_below j m labels n)) (sym e) (omega arith)
-count_grows j m labels k (suc d) =
-    let before = count_grows j m labels k d in
-    let step = count_step j m labels (d + k) in
-    let e : suc d + k ≡ suc (d + k) = omega arith in
-    subst (λ (n : ℕ). length (firsts_below j m labels k) ≤ length (firsts_below j m labels n)) (sym e) (omega arith)
-
 count_most : (j : Joining) (m : Grid) (labels : List ℕ) (k : ℕ) → length (firsts_below j m labels k) ≤ k
 count_most j m labels zero = omega arith
 count_most j m labels (suc k) =
@@ -50,8 +43,7 @@ count_most j m labels (suc k) =
 -- of two open labels the greater has the greater number
 pub number_lt : (j : Joining) (m : Grid) (labels : List ℕ) (a b : ℕ) → a < b → is_first labels b ≡ true → number_of j m labels a < number_of j m labels b
 number_lt j m labels a b lt is =
-    let e : (b - suc a) + suc a ≡ b = omega arith in
-    let grows : length (firsts_below j m labels (suc a)) ≤ length (firsts_below j m labels b) = subst (λ (n : ℕ). length (firsts_below j m labels (suc a)) ≤ length (firsts_below j m labels n)) e (count_grows j m labels (suc a) (b - suc a)) in
+    let before = grows (λ n. length (firsts_below j m labels n)) (count_step j m labels) (suc a) b (omega arith) in
     let more = count_more j m labels b is in
     omega arith
 
@@ -65,9 +57,6 @@ number_apart j m labels a b a_is b_is same =
 
 pub is_first-open : (labels : List ℕ) (k : ℕ) → get_or labels k 0 ≡ k → is_first labels k ≡ true
 is_first-open labels k e = eq-eqb _ _ e
-
-is_first-closed : (labels : List ℕ) (k : ℕ) → (get_or labels k 0 ≡ k → ⊥) → is_first labels k ≡ false
-is_first-closed labels k ne = ne_eqb _ _ ne
 
 -- a write of the number of the open label
 number_written : (j : Joining) (m : Grid) (labels : List ℕ) (open_of : ℕ → ℕ) (place : ℕ) (table : List ℕ) (count new v : ℕ) → AreNumbered j m labels open_of place table count → place < length table → v ≡ number_of j m labels (open_of place) → new ≡ length (firsts_below j m labels (suc place)) → AreNumbered j m labels open_of (place + 1) (set table place v) new
@@ -97,7 +86,7 @@ AreNumbered-closed j m labels open_of place table count sound h inside less =
     let up : ℕ = get_or table place 0 in
     let leads : open_of up ≡ open_of place = ap open_of same_label ∙ sound.tells.points place (omega arith) in
     let is : get_or table up 0 ≡ number_of j m labels (open_of place) = h.done up less ∙ ap (λ (n : ℕ). number_of j m labels n) leads in
-    let same = firsts_same j m labels place (is_first-closed labels place (λ e. absurd (omega arith))) in
+    let same = firsts_same j m labels place (ne_eqb _ _ (λ e. absurd (omega arith))) in
     number_written j m labels open_of place table count count (get_or table up 0) h inside is (h.counted ∙ ap (length {A = Position}) (sym same))
 
 -- before the pass
@@ -121,6 +110,12 @@ module _ (j : Joining) (m : Grid) (table : List ℕ) (h : AreLabels j m table) w
   pub number_is : (p : Position) → number_at j m table h p ≡ number_of j m table (h.has_read.open_of (label_in m h.labels p))
   unfolding number_at
   number_is p = refl
+
+  pub cell_numbered : (p : Position) (v : ℤ) → at m p ≡ Some v → cell_number j m table h p ≡ Some (pos (number_at j m table h p))
+  cell_numbered p v is = cond-true (is_some (at m p)) (Some (pos (number_at j m table h p))) None (ap (λ (x : CellValue). is_some x) is)
+
+  pub cell_null : (p : Position) → at m p ≡ None → cell_number j m table h p ≡ None
+  cell_null p is = cond-false (is_some (at m p)) (Some (pos (number_at j m table h p))) None (ap (λ (x : CellValue). is_some x) is)
 
   pub read_all : (p : Position) (v : ℤ) → at m p ≡ Some v → WasRead m h.labels p
   read_all p v is = let lt = place_inside m p (h.has_read.read.inside p v is) in let long = h.long in omega arith
@@ -180,4 +175,11 @@ table_short j m table h region =
     let long = h.has_read.read.long in
     let all = h.long in
     let cells = region.cells_most in
+    omega arith
+
+-- the labels of one more row are not too many
+pub row_fits : (e : RegionValue) (count row : ℕ) → IsRegion e → row < e.rows → count ≤ row * e.cols → count + e.cols < 2147483648
+row_fits e count row is inside most =
+    let cells = is.cells_most in
+    let whole : (row + 1) * e.cols ≤ e.rows * e.cols = mul-le-mul_right e.cols (omega arith) in
     omega arith

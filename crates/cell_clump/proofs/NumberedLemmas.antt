@@ -1,6 +1,6 @@
 -- The numbers of the cells of a row, while they are written.
-use Rattle.std.proofs.Common.{◌≡◌, ℕ, ℤ, pos, true, false, ◌+◌, ◌*◌, ◌<◌, ◌≤◌, List, Some, None, is_some, length, replicate, get_or, set, refl, ap, sym, ◌∙◌, arith, subst, ⊎_elim, get_or-set_other, get_or-set_same}
-use Rattle.std.proofs.lemmas.Bool.{cases_lt, cond-true, cond-false}
+use Rattle.std.proofs.Common.{◌≡◌, ℕ, ℤ, pos, ◌+◌, ◌*◌, ◌<◌, ◌≤◌, List, Some, None, length, replicate, get_or, set, refl, ap, sym, ◌∙◌, arith, subst, ⊎_elim, get_or-set_other, get_or-set_same}
+use Rattle.std.proofs.lemmas.Bool.{cases_lt}
 use Rattle.cell_core.specs.Grid.{Grid, CellValue, row_at}
 use Rattle.cell_clump.specs.declared.clump.Joining.{Joining}
 use Rattle.cell_clump.specs.declared.near.Labelled.{Labelled}
@@ -12,7 +12,7 @@ use Rattle.cell_clump.specs.parts.Reading.{AreBeside, AreNear, IsLine, near_at}
 use Rattle.cell_clump.specs.parts.Starts.{starts}
 use Rattle.cell_clump.specs.parts.Tables.{AreLabels}
 use Rattle.cell_clump.proofs.LineLemmas.{line_empty, near_next, line_next, beside_next, beside_first, line_down, tells_here}
-use Rattle.cell_clump.proofs.NumberLemmas.{number_small}
+use Rattle.cell_clump.proofs.NumberLemmas.{cell_null, cell_numbered, number_small}
 
 module _ (j : Joining) (m : Grid) (labels : List ℕ) (h : AreLabels j m labels) where
   pub numbering_first : (r : ℕ) (near : Near) → near.left.cell ≡ None → near.above.cell ≡ None → AreBeside m (r * m.region.cols + 0) (number_at j m labels h) r 0 near
@@ -49,14 +49,12 @@ module _ (j : Joining) (m : Grid) (labels : List ℕ) (h : AreLabels j m labels)
     where
       by_cell : (y : CellValue) → at m (position r c) ≡ y → w ≡ cell_number j m labels h (position r c)
       by_cell None e =
-          let none : is_some (at m (position r c)) ≡ false = ap (λ (z : CellValue). is_some z) e in
           let none_number = null (here ∙ e) in
-          past (omega arith) ∙ sym (cond-false (is_some (at m (position r c))) (Some (pos (number_at j m labels h (position r c)))) None none)
+          past (omega arith) ∙ sym (cell_null j m labels h (position r c) e)
       by_cell (Some v) e =
-          let some : is_some (at m (position r c)) ≡ true = ap (λ (z : CellValue). is_some z) e in
           let is = label v e in
           let small = number_small j m labels h (position r c) v e short in
-          within (omega arith) ∙ ap (λ (n : ℕ). Some (pos n)) is ∙ sym (cond-true (is_some (at m (position r c))) (Some (pos (number_at j m labels h (position r c)))) None some)
+          within (omega arith) ∙ ap (λ (n : ℕ). Some (pos n)) is ∙ sym (cell_numbered j m labels h (position r c) v e)
 
   pub written_next : (r c : ℕ) (row : List CellValue) (w : CellValue) → c < length row → w ≡ cell_number j m labels h (position r c) → AreWritten j m labels h r c row → AreWritten j m labels h r (c + 1) (set row c w)
   written_next r c row w inside is before k lt =

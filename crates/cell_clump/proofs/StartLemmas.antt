@@ -1,10 +1,10 @@
 -- The cells that get labels of their own, and how they are counted.
-use Rattle.std.proofs.Common.{◌≡◌, ℕ, zero, suc, ℤ, Bool, true, false, not, ◌||◌, ◌+◌, ◌-◌, ◌*◌, ◌<◌, ◌≤◌, List, [], ◌∷◌, ◌++◌, Some, None, length, get_or, refl, ap, sym, ◌∙◌, arith, subst, inl, inr, ⊎_elim, ◌⊎◌, is_some}
+use Rattle.std.proofs.Common.{◌≡◌, ℕ, zero, suc, ℤ, true, false, not, ◌+◌, ◌-◌, ◌*◌, ◌<◌, ◌≤◌, List, [], ◌∷◌, ◌++◌, Some, None, length, get_or, refl, ap, sym, ◌∙◌, arith, inl, inr, ⊎_elim, ◌⊎◌, is_some}
 use Rattle.std.proofs.Math.Nat.{mul-le-mul_right}
-use Rattle.std.proofs.lemmas.Bool.{cases_lt, cases_Bool, cond-true, cond-false, and_from, and_left, and_right}
+use Rattle.std.proofs.lemmas.Bool.{or_left, or_right, or_cases, not_from_true, not_from_false, false_from_ne_true, cases_lt, cases_Bool, cond-true, cond-false, and_from, and_left, and_right}
 use Rattle.std.proofs.lemmas.List.{length_push, get_or_push, get_or_append_left, get_or_past}
 use Rattle.std.proofs.lemmas.List.Elements.{All-get_or}
-use Rattle.std.proofs.lemmas.Nat.{div-mul-add, mod-mul-add, div-add-mod', mul-add-lt}
+use Rattle.std.proofs.lemmas.Nat.{div-mul-add, mod-mul-add, mul-add-lt}
 use Rattle.cell_base.specs.Cell.{cell_eq, cell_eq-Decides}
 use Rattle.cell_core.specs.Grid.{Grid, CellValue, IsFilled, cell_at, row_at}
 use Rattle.cell_clump.specs.declared.clump.Joining.{Joining}
@@ -20,9 +20,6 @@ same_position p r c e d = ap (λ (x : ℕ). position x p.col) e ∙ ap (position
 pub cell_of-place : (w r c : ℕ) → c < w → cell_of w (r * w + c) ≡ position r c
 cell_of-place w r c lt = same_position (cell_of w (r * w + c)) r c (div-mul-add r w c lt) (mod-mul-add r w c lt)
 
-pub place_of-cell : (w k : ℕ) → place_of w (cell_of w k) ≡ k
-place_of-cell w k = div-add-mod' k w
-
 pub place_lt : (w : ℕ) (p q : Position) → p.col < w → IsBefore p q → place_of w p < place_of w q
 place_lt w p q inside (inl lt) = let whole : (p.row + 1) * w ≤ q.row * w = mul-le-mul_right w (omega arith) in omega arith
 place_lt w p q inside (inr h) = let same : p.row * w ≡ q.row * w = ap (λ (n : ℕ). n * w) h.0 in let lt = h.1 in omega arith
@@ -35,13 +32,6 @@ pub one_place : (w : ℕ) (p q : Position) → p.col < w → q.col < w → place
 one_place w p q p_in q_in e = sym (cell_of-place w p.row p.col p_in) ∙ ap (cell_of w) e ∙ cell_of-place w q.row q.col q_in
 
 -- a cell that is not null is of the map
-inside_row : (m : Grid) (p : Position) (v : ℤ) → at m p ≡ Some v → p.col < length (row_at m p.row)
-inside_row m p v is =
-    ⊎_elim (λ lt. lt) (λ le. let past : at m p ≡ None = get_or_past (row_at m p.row) p.col None le in absurd (let none : None ≡ Some v = sym past ∙ is in cc)) (cases_lt p.col (length (row_at m p.row)))
-
-row_wide : (m : Grid) (r : ℕ) → IsFilled m.region m.rows → r < m.region.rows → length (row_at m r) ≡ m.region.cols
-row_wide m r filled lt = All-get_or (λ xs. length xs ≡ m.region.cols) m.rows r [] (let count = filled.count in omega arith) filled.width
-
 pub inside_map : (m : Grid) (p : Position) (v : ℤ) → IsFilled m.region m.rows → at m p ≡ Some v → IsInside m p
 inside_map m p v filled is =
     let count = filled.count in
@@ -50,8 +40,9 @@ inside_map m p v filled is =
     (λ le. let past : row_at m p.row ≡ [] = get_or_past m.rows p.row [] le in
     let null : at m p ≡ None = ap (λ (xs : List CellValue). get_or xs p.col None) past in
     absurd (let none : None ≡ Some v = sym null ∙ is in cc)) (cases_lt p.row (length m.rows)) in
-    let col = inside_row m p v is in
-    let wide = row_wide m p.row filled (omega arith) in
+    let col : p.col < length (row_at m p.row) =
+    ⊎_elim (λ lt. lt) (λ le. let past : at m p ≡ None = get_or_past (row_at m p.row) p.col None le in absurd (let none : None ≡ Some v = sym past ∙ is in cc)) (cases_lt p.col (length (row_at m p.row))) in
+    let wide = All-get_or (λ xs. length xs ≡ m.region.cols) m.rows p.row [] row filled.width in
     (omega arith, omega arith)
 
 -- ---- the neighbours that come before a cell
@@ -105,10 +96,7 @@ upper_left_at m r c q h = let e = h.0 in let z : r ≡ suc q.row = omega arith i
 
 upper_right_at : (m : Grid) (r c : ℕ) (q : Position) → IsUpperRight r c q → upper_right_of m r c ≡ at m q
 upper_right_at m r c q h =
-    let e = h.0 in
-    let d = h.1 in
-    let z : r ≡ suc q.row = omega arith in
-    let y : suc c ≡ q.col = omega arith in
+    let e = h.0 in let d = h.1 in let z : r ≡ suc q.row = omega arith in let y : suc c ≡ q.col = omega arith in
     ap (λ (x : ℕ). upper_right_of m x c) z ∙ ap (cell_at m q.row) y
 
 left_found : (m : Grid) (r c : ℕ) (v : ℤ) → left_of m r c ≡ Some v → (q : Position) × IsLeft r c q × (at m q ≡ Some v)
@@ -129,17 +117,6 @@ upper_left_found m (suc r) c v e =
 upper_right_found : (m : Grid) (r c : ℕ) (v : ℤ) → upper_right_of m r c ≡ Some v → (q : Position) × IsUpperRight r c q × (at m q ≡ Some v)
 upper_right_found m zero c v e = absurd (let none : None ≡ Some v = e in cc)
 upper_right_found m (suc r) c v e = (position r (suc c), (omega arith, omega arith), e)
-
-or_left : (a b : Bool) → a ≡ true → a || b ≡ true
-or_left a b e = rw e refl
-
-or_right : (a b : Bool) → b ≡ true → a || b ≡ true
-or_right true b e = refl
-or_right false b e = e
-
-or_cases : (a b : Bool) → a || b ≡ true → (a ≡ true) ⊎ (b ≡ true)
-or_cases true b e = inl refl
-or_cases false b e = inr e
 
 pub alike_from : (x y : CellValue) (v : ℤ) → x ≡ Some v → y ≡ Some v → cell_eq x y ≡ true
 alike_from x y v e d = (cell_eq-Decides x y).1 (e ∙ sym d)
@@ -167,23 +144,23 @@ meets_none EdgesAndCorners m r c v is none e =
     (λ d. let t = upper_right_found m r c v (alike_to _ _ v is d) in none t.0 (inr (inr t.1)) t.2) (or_cases _ _ f))
     (or_cases _ _ e)
 
-not_true : (b : Bool) → b ≡ true → not b ≡ false
-not_true b e = rw e refl
-
-not_false : (b : Bool) → (b ≡ true → ⊥) → not b ≡ true
-not_false true h = absurd (h refl)
-not_false false h = refl
-
 pub begins_none : (j : Joining) (m : Grid) (r c : ℕ) (v : ℤ) → at m (position r c) ≡ Some v → (q : Position) → IsEarlier j r c q → at m q ≡ Some v → begins j m (position r c) ≡ false
-begins_none j m r c v is q earlier e = and_right (is_some (at m (position r c))) (not (meets j m r c)) (not_true _ (meets_from j m r c v is q earlier e))
+begins_none j m r c v is q earlier e = and_right (is_some (at m (position r c))) (not (meets j m r c)) (not_from_true _ (meets_from j m r c v is q earlier e))
 
 pub begins_from : (j : Joining) (m : Grid) (r c : ℕ) (v : ℤ) → at m (position r c) ≡ Some v → ((q : Position) → IsEarlier j r c q → at m q ≡ Some v → ⊥) → begins j m (position r c) ≡ true
-begins_from j m r c v is none = and_from (is_some (at m (position r c))) (not (meets j m r c)) (rw is refl) (not_false _ (meets_none j m r c v is none))
+begins_from j m r c v is none = and_from (is_some (at m (position r c))) (not (meets j m r c)) (rw is refl) (not_from_false _ (false_from_ne_true _ (meets_none j m r c v is none)))
 
 pub begins_null : (j : Joining) (m : Grid) (p : Position) → at m p ≡ None → begins j m p ≡ false
 begins_null j m p is = and_left (is_some (at m p)) (not (meets j m p.row p.col)) (rw is refl)
 
 -- ---- how many of the first cells get one
+
+-- what falls at no step falls nowhere
+pub grows : (f : ℕ → ℕ) → ((k : ℕ) → f k ≤ f (suc k)) → (k n : ℕ) → k ≤ n → f k ≤ f n
+grows f step k zero le = let e : k ≡ 0 = omega arith in rw e (omega arith)
+grows f step k (suc n) le =
+    ⊎_elim (λ (lt : k < suc n). let before = grows f step k n (omega arith) in let more = step n in omega arith)
+    (λ (ge : suc n ≤ k). let e : k ≡ suc n = omega arith in rw e (omega arith)) (cases_lt k (suc n))
 
 module _ (j : Joining) (m : Grid) where
   starts_more : (k : ℕ) → begins j m (cell_of m.region.cols k) ≡ true → starts_below j m (suc k) ≡ starts_below j m k ++ cell_of m.region.cols k ∷ []
@@ -201,16 +178,8 @@ module _ (j : Joining) (m : Grid) where
   count_step : (k : ℕ) → starts j m k ≤ starts j m (suc k)
   count_step k = ⊎_elim (λ yes'. let e = count_more k yes' in omega arith) (λ no'. let e = count_same k no' in omega arith) (cases_Bool (begins j m (cell_of m.region.cols k)))
 
-  count_grows : (k d : ℕ) → starts j m k ≤ starts j m (d + k)
-  count_grows k zero = let e : 0 + k ≡ k = omega arith in subst (λ (n : ℕ). starts j m k ≤ starts j m n) (sym e) (omega arith)
-  count_grows k (suc d) =
-      let before = count_grows k d in
-      let step = count_step (d + k) in
-      let e : suc d + k ≡ suc (d + k) = omega arith in
-      subst (λ (n : ℕ). starts j m k ≤ starts j m n) (sym e) (omega arith)
-
   pub count_le : (k n : ℕ) → k ≤ n → starts j m k ≤ starts j m n
-  count_le k n le = let e : (n - k) + k ≡ n = omega arith in subst (λ (x : ℕ). starts j m k ≤ starts j m x) e (count_grows k (n - k))
+  count_le = grows (starts j m) count_step
 
   pub starts_most : (k : ℕ) → starts j m k ≤ k
   starts_most zero = omega arith
@@ -227,7 +196,7 @@ module _ (j : Joining) (m : Grid) where
   kept_from n zero k e lt = let z : 0 + n ≡ n = omega arith in ap (λ (x : ℕ). get_or (starts_below j m x) k e) z
   kept_from n (suc d) k e lt =
       let z : suc d + n ≡ suc (d + n) = omega arith in
-      let grows = count_grows n d in
+      let more = count_le n (d + n) (omega arith) in
       ap (λ (x : ℕ). get_or (starts_below j m x) k e) z ∙ kept_step (d + n) k e (omega arith) ∙ kept_from n d k e lt
 
   -- the place of the cell whose own label is this one

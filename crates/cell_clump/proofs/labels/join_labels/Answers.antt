@@ -6,14 +6,12 @@ pub returns-then-first-second-clause-tells : goal.returns-then-first-second-clau
 returns-then-first-second-clause-tells c = λ open_of given.
     let once = c.open_label-first.ensures.tells open_of given in
     let twice = c.open_label-second.ensures.tells open_of once in
-    let first = c.open_label-first.ensures.open open_of given in
-    let second = c.open_label-second.ensures.open open_of once in
-    TellsOpen-joined _ c.args.one c.args.other c.open_label-first.result c.open_label-second.result _ _ open_of (omega arith) (omega arith) twice first second (omega arith) (omega arith)
+    TellsOpen-joined _ c.args.one c.args.other c.open_label-first.result c.open_label-second.result _ _ open_of (omega arith) (omega arith) twice
+    (c.open_label-first.ensures.open open_of given) (c.open_label-second.ensures.open open_of once) (omega arith) (omega arith)
 
 pub returns-else-first-second-clause-tells : goal.returns-else-first-second-clause-tells
 returns-else-first-second-clause-tells c = λ open_of given.
     let once = c.open_label-first.ensures.tells open_of given in
     let twice = c.open_label-second.ensures.tells open_of once in
-    let first = c.open_label-first.ensures.open open_of given in
-    let second = c.open_label-second.ensures.open open_of once in
-    TellsOpen-joined _ c.args.one c.args.other c.open_label-first.result c.open_label-second.result _ _ open_of (omega arith) (omega arith) twice first second (omega arith) (omega arith)
+    TellsOpen-joined _ c.args.one c.args.other c.open_label-first.result c.open_label-second.result _ _ open_of (omega arith) (omega arith) twice
+    (c.open_label-first.ensures.open open_of given) (c.open_label-second.ensures.open open_of once) (omega arith) (omega arith)

@@ -17,6 +17,4 @@ loop-place-preserved c = record {
 }
 
 pub returns : goal.returns
-returns c = record {
-  numbered = λ j m open_of sound k lt. (c.loop-place.invariant.numbered j m open_of sound).done k (omega arith);
-}
+returns c = record { numbered = λ j m open_of sound k lt. (c.loop-place.invariant.numbered j m open_of sound).done k (omega arith) }
