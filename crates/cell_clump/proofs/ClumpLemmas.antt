@@ -3,7 +3,7 @@ use Rattle.std.proofs.Common.{◌≡◌, ℕ, zero, suc, ℤ, pos, true, ◌+◌
 use Rattle.std.specs.List.{Contains, AllPairs}
 use Rattle.std.proofs.lemmas.List.Elements.{Contains-append_left, Contains-push, Contains-push_cases, Contains-get_or}
 use Rattle.std.proofs.lemmas.List.Quantifiers.{all_pairs_push}
-use Rattle.std.proofs.lemmas.Bool.{cases_lt, cases_Bool, eqb-true, and_parts}
+use Rattle.std.proofs.lemmas.Bool.{cases_lt, cases_Bool, eq-eqb, eqb-true, and_parts}
 use Rattle.std.proofs.lemmas.Nat.{div-add-mod'}
 use Rattle.cell_core.specs.Grid.{Grid, CellValue, IsFilled, no_labels}
 use Rattle.cell_clump.specs.declared.clump.Joining.{Joining}
@@ -18,7 +18,7 @@ use Rattle.cell_clump.proofs.LawLemmas.{cases_before}
 use Rattle.cell_clump.proofs.MeetingLemmas.{some_of}
 use Rattle.cell_clump.proofs.NearLemmas.{label_below}
 use Rattle.cell_clump.proofs.StartLemmas.{inside_map, count_le, place_lt, start_found}
-use Rattle.cell_clump.proofs.NumberLemmas.{cell_null, cell_numbered, firsts_more, firsts_same, number_apart, number_is, is_first-open, read_all}
+use Rattle.cell_clump.proofs.NumberLemmas.{cell_null, cell_numbered, firsts_more, firsts_same, number_apart, number_is, read_all}
 
 -- ---- the cells of open labels
 
@@ -120,7 +120,7 @@ module _ (j : Joining) (m : Grid) (table : List ℕ) (h : AreLabels j m table) w
       (rd.sound.joined k (inside_table p v is))
 
   open_is_first : (p : Position) (v : ℤ) → at m p ≡ Some v → is_first table (f (label_in m h.labels p)) ≡ true
-  open_is_first p v is = is_first-open table (f (label_in m h.labels p)) (rd.sound.tells.is_open (label_in m h.labels p) (inside_table p v is))
+  open_is_first p v is = eq-eqb _ _ (rd.sound.tells.is_open (label_in m h.labels p) (inside_table p v is))
 
   first_from : (g : ℕ) → g < length table → is_first table g ≡ true → IsFirst j m (start_of j m g)
   first_from g inside is =

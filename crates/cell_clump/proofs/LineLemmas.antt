@@ -123,9 +123,6 @@ module _ (j : Joining) (m : Grid) (table : List ℕ) (line : List Labelled) (r c
         beside = beside_next m (length old) (length more) (label_in m old) (label_in m more) (omega arith) same r c z here after reading_near;
       }
 
-pub reading_first : (j : Joining) (m : Grid) (table : List ℕ) (line : List Labelled) (r : ℕ) (near : Near) → HaveCells j m table line r 0 → near.left.cell ≡ None → near.above.cell ≡ None → IsReading j m table line r 0 near
-reading_first j m table line r near h left above = record { cells = h; beside = beside_first m (length h.labels) (label_in m h.labels) r near left above }
-
 pub cells_down : (j : Joining) (m : Grid) (table : List ℕ) (line : List Labelled) (r c : ℕ) → c ≡ m.region.cols → HaveCells j m table line r c → HaveCells j m table line (r + 1) 0
 cells_down j m table line r c e h = record {
   labels = h.labels;

@@ -55,9 +55,6 @@ number_apart j m labels a b a_is b_is same =
 
 -- ---- a pass over the table, place by place
 
-pub is_first-open : (labels : List ℕ) (k : ℕ) → get_or labels k 0 ≡ k → is_first labels k ≡ true
-is_first-open labels k e = eq-eqb _ _ e
-
 -- a write of the number of the open label
 number_written : (j : Joining) (m : Grid) (labels : List ℕ) (open_of : ℕ → ℕ) (place : ℕ) (table : List ℕ) (count new v : ℕ) → AreNumbered j m labels open_of place table count → place < length table → v ≡ number_of j m labels (open_of place) → new ≡ length (firsts_below j m labels (suc place)) → AreNumbered j m labels open_of (place + 1) (set table place v) new
 number_written j m labels open_of place table count new v h inside is counted = record {
@@ -74,7 +71,7 @@ pub AreNumbered-open : (j : Joining) (m : Grid) (labels : List ℕ) (open_of : �
 AreNumbered-open j m labels open_of place table count sound h inside here =
     let open' : get_or labels place 0 ≡ place = sym (h.later place (omega arith)) ∙ here in
     let is : open_of place ≡ place = sound.tells.itself place (let long = h.long in omega arith) open' in
-    let more = count_more j m labels place (is_first-open labels place open') in
+    let more = count_more j m labels place (eq-eqb _ _ open') in
     let counted : count + 1 ≡ length (firsts_below j m labels (suc place)) = ap (λ (n : ℕ). n + 1) h.counted ∙ sym more in
     number_written j m labels open_of place table count (count + 1) (count + 1) h inside (counted ∙ ap (λ (n : ℕ). number_of j m labels n) (sym is)) counted
 

@@ -11,13 +11,10 @@ use Rattle.cell_clump.specs.parts.Places.{position}
 use Rattle.cell_clump.specs.parts.Reading.{AreBeside, AreNear, IsLine, near_at}
 use Rattle.cell_clump.specs.parts.Starts.{starts}
 use Rattle.cell_clump.specs.parts.Tables.{AreLabels}
-use Rattle.cell_clump.proofs.LineLemmas.{line_empty, near_next, line_next, beside_next, beside_first, line_down, tells_here}
+use Rattle.cell_clump.proofs.LineLemmas.{line_empty, near_next, line_next, beside_next, line_down, tells_here}
 use Rattle.cell_clump.proofs.NumberLemmas.{cell_null, cell_numbered, number_small}
 
 module _ (j : Joining) (m : Grid) (labels : List ℕ) (h : AreLabels j m labels) where
-  pub numbering_first : (r : ℕ) (near : Near) → near.left.cell ≡ None → near.above.cell ≡ None → AreBeside m (r * m.region.cols + 0) (number_at j m labels h) r 0 near
-  numbering_first r near left above = beside_first m (r * m.region.cols + 0) (number_at j m labels h) r near left above
-
   pub numbering_down : (next : ℕ) (line : List Labelled) (r c : ℕ) → c ≡ m.region.cols → HaveNumbers j m labels h next line r c → HaveNumbers j m labels h next line (r + 1) 0
   numbering_down next line r c e have =
       let z : r * m.region.cols + c ≡ (r + 1) * m.region.cols + 0 = omega arith in

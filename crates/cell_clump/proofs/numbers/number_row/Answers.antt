@@ -6,7 +6,8 @@ use Rattle.cell_clump.specs.parts.Numbers.{AreWritten, HaveNumbers, IsNumbered, 
 use Rattle.cell_clump.specs.parts.Tables.{AreLabels}
 use Rattle.cell_clump.specs.parts.Reading.{AreNear}
 use Rattle.cell_clump.specs.parts.Places.{position}
-use Rattle.cell_clump.proofs.NumberedLemmas.{numbering_first, numbering_down, numbering_near, numbering_next, numbering_beside, number_written_at, written_next, copied_rest}
+use Rattle.cell_clump.proofs.LineLemmas.{beside_first}
+use Rattle.cell_clump.proofs.NumberedLemmas.{numbering_down, numbering_near, numbering_next, numbering_beside, number_written_at, written_next, copied_rest}
 use Rattle.cell_clump.proofs.numbers.number_row.Goals as goal
 
 pub loop-col-init : goal.loop-col-init
@@ -15,7 +16,7 @@ loop-col-init c = record {
   long = c.requires.long;
   rest = λ k le. ap (λ (xs : List CellValue). get_or xs k None) c.copy_row.ensures;
   numbers = λ labels h n have. have;
-  beside = λ labels h n have. numbering_first c.args.joining c.args.map.now labels h c.args.row _ c.at_the_edge-near.ensures.left c.at_the_edge-near.ensures.above;
+  beside = λ labels h n have. beside_first c.args.map.now _ _ c.args.row _ c.at_the_edge-near.ensures.left c.at_the_edge-near.ensures.above;
   written = λ labels h n have k lt. absurd (omega arith);
 }
 

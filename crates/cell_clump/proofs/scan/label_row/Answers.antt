@@ -1,7 +1,7 @@
 use Rattle.std.proofs.Common.{◌≡◌, ◌<◌, arith}
 use Rattle.cell_clump.specs.Areas.{at}
 use Rattle.cell_clump.specs.parts.Places.{position}
-use Rattle.cell_clump.proofs.LineLemmas.{reading_first, reading_near, reading_inside, reading_next, cells_down, copied}
+use Rattle.cell_clump.proofs.LineLemmas.{beside_first, reading_near, reading_inside, reading_next, cells_down, copied}
 use Rattle.cell_clump.proofs.scan.label_row.Goals as goal
 
 pub loop-col-init : goal.loop-col-init
@@ -9,13 +9,18 @@ loop-col-init c = record {
   wide = c.requires.read.is_line.wide;
   down = c.requires.down;
   most = omega arith;
-  reading = reading_first c.args.joining c.args.map.now c.args.table.now.items c.args.line.now c.args.row _ c.requires.read c.at_the_edge-near.ensures.left c.at_the_edge-near.ensures.above;
+  reading = record { cells = c.requires.read; beside = beside_first c.args.map.now _ _ c.args.row _ c.at_the_edge-near.ensures.left c.at_the_edge-near.ensures.above };
 }
 
-pub label_cell-requires-clause-inside : goal.label_cell-requires-clause-inside
-label_cell-requires-clause-inside c =
+pub label_cell-requires : goal.label_cell-requires
+label_cell-requires c =
+    let is = c.loop-col.invariant in
     let col_in : c.loop-col.col < c.args.map.now.region.cols = omega (arith, c.copy_row.auto.cells, c.requires.wide, c.loop-col-test.true) in
-    reading_inside c.args.joining c.args.map.now c.loop-col.table.items c.loop-col.line c.args.row c.loop-col.col c.loop-col.near c.loop-col.invariant.reading col_in c.moved-near.result c.moved-near.ensures
+    record {
+      down = is.down;
+      inside = reading_inside c.args.joining c.args.map.now c.loop-col.table.items c.loop-col.line c.args.row c.loop-col.col c.loop-col.near is.reading col_in c.moved-near.result c.moved-near.ensures;
+      short = omega (arith, c.requires.short, is.most, col_in);
+    }
 
 pub loop-col-preserved : goal.loop-col-preserved
 loop-col-preserved c =
@@ -36,7 +41,12 @@ loop-col-preserved c =
       reading = next;
     }
 
-pub returns-clause-read : goal.returns-clause-read
-returns-clause-read c =
+pub returns : goal.returns
+returns c =
+    let is = c.loop-col.invariant in
     let e : c.loop-col.col ≡ c.args.map.now.region.cols = omega (arith, c.copy_row.auto.cells, c.requires.wide, c.loop-col-test.false, c.loop-col.auto.col-end) in
-    cells_down c.args.joining c.args.map.now c.loop-col.table.items c.loop-col.line c.args.row c.loop-col.col e c.loop-col.invariant.reading.cells
+    record {
+      down = is.down;
+      long = omega (arith, is.most, e);
+      read = cells_down c.args.joining c.args.map.now c.loop-col.table.items c.loop-col.line c.args.row c.loop-col.col e is.reading.cells;
+    }
