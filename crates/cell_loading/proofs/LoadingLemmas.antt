@@ -1,5 +1,5 @@
 -- One grid more on the shelf.
-use Rattle.std.proofs.Common.{◌≡◌, ◌≢◌, ℕ, zero, suc, ◌+◌, Bool, true, false, cond, List, [], ◌∷◌, ◌++◌, length, take, Option, Some, None, Result, Ok, Err, IsSome, IfErr, slice_get, refl, ap, sym, ◌∙◌, arith, add-one}
+use Rattle.std.proofs.Common.{◌≡◌, ◌≢◌, ℕ, zero, suc, ◌+◌, ◌<◌, Bool, true, false, cond, List, [], ◌∷◌, ◌++◌, length, take, Option, Some, None, Result, Ok, Err, IsSome, IfErr, slice_get, refl, ap, sym, ◌∙◌, arith, add-one}
 use Rattle.std.specs.List.{position_from}
 use Rattle.cell_devices.specs.Device.{Coming}
 use Rattle.cell_core.specs.Grid.{Grid}
@@ -12,7 +12,7 @@ use Rattle.cell_core.specs.declared.shelf.ShelfFault.{ShelfFault}
 use Rattle.cell_core.specs.declared.shelf.ShelfFault.TheVariants.{Exists, OtherRegion, Memory}
 use Rattle.cell_ascii_text.specs.Cells.{grid_of}
 use Rattle.cell_loading.specs.Sources.{AllKnown, known_of, coming_of}
-use Rattle.cell_loading.specs.Faults.{IsOfInput}
+use Rattle.cell_loading.specs.Faults.{IsOfInput, IsBeforeExecution, IsTold}
 use Rattle.cell_loading.specs.parts.Refused.{of_shelf}
 use Rattle.cell_loading.specs.Loading.{added, placed, with_grid, shelf_from, then_grids}
 use Rattle.cell_loading.specs.declared.fault.RunFault.{RunFault}
@@ -45,6 +45,17 @@ pub added-refused : (grid : ℕ) (shelf : ShelfValue) (name : List ℕ) (map : G
 added-refused grid shelf name map Exists reason input = added-twice grid shelf name map _ reason
 added-refused grid shelf name map OtherRegion reason input = added-other grid shelf name map reason.0 reason.1
 added-refused grid shelf name map Memory reason input = absurd input
+
+-- it is told before execution, and names the grid
+pub refused-early : (grid : ℕ) (fault : ShelfFault) → IsBeforeExecution (of_shelf grid fault)
+refused-early grid Exists = tt
+refused-early grid OtherRegion = tt
+refused-early grid Memory = refl
+
+pub refused-told : (grid : ℕ) (fault : ShelfFault) (count : ℕ) → grid < count → IsTold count (of_shelf grid fault)
+refused-told grid Exists count within = within
+refused-told grid OtherRegion count within = within
+refused-told grid Memory count within = tt
 
 -- the first map makes the shelf
 pub added-first : (grid : ℕ) (region : RegionValue) (name : List ℕ) (map : Grid) → map.region ≡ region → added grid (record { region = region; names = []; maps = [] }) name map None ≡ Ok (record { region = region; names = name ∷ []; maps = map ∷ [] })
