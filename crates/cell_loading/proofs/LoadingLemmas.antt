@@ -1,5 +1,5 @@
 -- One grid more on the shelf.
-use Rattle.std.proofs.Common.{◌≡◌, ◌≢◌, ℕ, zero, suc, ◌+◌, ◌<◌, Bool, true, false, cond, List, [], ◌∷◌, ◌++◌, length, take, Option, Some, None, Result, Ok, Err, IsSome, IfErr, slice_get, refl, ap, sym, ◌∙◌, arith, add-one}
+use Rattle.std.proofs.Common.{◌≡◌, ◌≢◌, ℕ, zero, suc, ◌+◌, ◌<◌, Bool, true, false, cond, List, [], ◌∷◌, ◌++◌, length, take, Option, Some, None, Result, Ok, Err, IsSome, IfOk, IfErr, slice_get, refl, ap, sym, ◌∙◌, arith, add-one}
 use Rattle.std.specs.List.{position_from}
 use Rattle.cell_devices.specs.Device.{Coming}
 use Rattle.cell_core.specs.Grid.{Grid}
@@ -62,6 +62,14 @@ pub added-first : (grid : ℕ) (region : RegionValue) (name : List ℕ) (map : G
 added-first grid region name map same =
     let same_test : is_same_region map.region region ≡ true = (is_same_region-Decides map.region region).1 same in
     rw same_test refl
+
+pub first_ok : (r : Result ShelfValue RunFault) (grid : ℕ) (region : RegionValue) (shelf : ShelfValue) (name : List ℕ) (map : Grid) → shelf ≡ record { region = region; names = []; maps = [] } → region ≡ map.region
+    → IfOk r (λ s. added grid shelf name map (place_of name shelf.names) ≡ Ok s) → IfOk r (λ s. placed grid None name map ≡ Ok s)
+first_ok (Err f) grid region shelf name map is same h = tt
+first_ok (Ok s) grid region shelf name map is same h =
+    let told : added grid (record { region = region; names = []; maps = [] }) name map None ≡ Ok s = ap (λ (s : ShelfValue). added grid s name map (place_of name s.names)) (sym is) ∙ h in
+    let taken = added-first grid region name map (sym same) in
+    ap (λ r. Ok (record { region = r; names = name ∷ []; maps = map ∷ [] })) (sym same) ∙ sym taken ∙ told
 
 -- the first map is not refused
 pub first_fault : (r : Result ShelfValue RunFault) (grid : ℕ) (region : RegionValue) (shelf : ShelfValue) (name : List ℕ) (map : Grid) → shelf ≡ record { region = region; names = []; maps = [] } → region ≡ map.region

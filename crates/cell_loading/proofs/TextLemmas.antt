@@ -1,6 +1,7 @@
 -- The text of a script, block by block.
-use Rattle.std.proofs.Common.{◌≡◌, ℕ, ◌+◌, ◌≤◌, ◌<◌, true, false, List, ◌++◌, length, take, drop, Option, Some, None, Result, Ok, Err, IfSome, refl, ap, sym, ◌∙◌, arith, append_assoc, append-nil, length-append, take-append-drop}
-use Rattle.std.specs.Prelude.{nat_lt}
+use Rattle.std.proofs.Common.{◌≡◌, ℕ, zero, suc, ◌+◌, ◌-◌, ◌≤◌, ◌<◌, true, false, List, ◌++◌, length, take, drop, Option, Some, None, Result, Ok, Err, IfSome, refl, ap, sym, ◌∙◌, arith, append_assoc, append-nil, length-append, take-append-drop}
+use Rattle.std.proofs.lemmas.List.{length-take-le}
+use Rattle.std.specs.Prelude.{nat_lt, min}
 use Rattle.std.specs.Option.{option_map}
 use Rattle.std.proofs.lemmas.Bool.Decides.{nat_tests}
 use Rattle.cell_devices.specs.declared.device.DeviceFault.{DeviceFault}
@@ -51,3 +52,26 @@ text_long all old new n block text e long takes = told all old text (Err ScriptS
     at c gives =
         let past : nat_lt 1048576 (length (text ++ c.bytes)) ≡ true = let l = length-append text c.bytes in let m = gives.count in grind (arith, nat_tests) in
         rw past refl
+
+-- the counts of a block
+pub same_most : {n m most : ℕ} → n ≡ m → n ≤ most → m ≤ most
+same_most same short = omega arith
+
+pub past_most : {len n m most count : ℕ} → len ≡ n → n ≡ m → n ≤ most → most - len < count → most < m + count
+past_most is same short past = omega arith
+
+pub room_fits : (a : ℕ) {room n : ℕ} → room ≡ min a 4096 → n ≡ 4096 → room ≤ n
+room_fits a is same = omega arith
+
+pub block_fits : {n : ℕ} (buf rest : List ℕ) → n ≤ length buf → n ≤ length (buf ++ rest)
+block_fits buf rest within = omega (arith, length-append buf rest)
+
+pub block_len : (n : ℕ) (buf rest : List ℕ) → n ≤ length buf → length (take n (buf ++ rest)) ≡ n
+block_len n buf rest within = length-take-le n (buf ++ rest) (block_fits buf rest within)
+
+pub still_short : {len old new most n m : ℕ} → len ≡ old → new ≡ old + m → m ≡ n → old ≤ most → n ≤ most - len → new ≤ most
+still_short is grown same short within = omega arith
+
+pub less_left : (most : ℕ) {len old new n m : ℕ} → len ≡ old → new ≡ old + m → m ≡ n → n ≤ most - len → (n ≡ 0 → ⊥) → most - new < most - old
+less_left most {n = zero} is grown same within some = absurd (some refl)
+less_left most {n = suc n} is grown same within some = omega arith
