@@ -1,8 +1,9 @@
 -- Windows of maps, one more or one row further.
-use Rattle.std.proofs.Common.{◌≡◌, ◌<◌, ◌+◌, ℕ, zero, suc, List, [], ◌∷◌, ◌++◌, length, get_or, refl, ap, arith, take, drop, ◌∙◌, Option, Some, None, below_more}
+use Rattle.std.proofs.Common.{◌≡◌, ◌<◌, ◌≤◌, ◌+◌, ℕ, zero, suc, List, [], ◌∷◌, ◌++◌, length, get_or, refl, ap, sym, arith, take, drop, ◌∙◌, Option, Some, None, below_more}
 use Rattle.std.proofs.lemmas.List.{take-append-le, take_all}
 use Rattle.std.proofs.lemmas.List.Elements.{All-tail}
 use Rattle.std.proofs.lemmas.Option.{slice_get-get_or}
+use Rattle.std.proofs.Math.ListN.{set}
 use Rattle.std.specs.Prelude.{slice_get, slice_index_or, All}
 use Rattle.cell_core.specs.Grid.{Grid, CellValue}
 use Rattle.cell_calc.specs.Window.{IsOver}
@@ -38,6 +39,51 @@ pub set_over : (row up down : ℕ) (w : Option Window) (m : Option Grid) → IsS
 set_over row up down None m h = h
 set_over row up down (Some w) None h = h
 set_over row up down (Some w) (Some m) h = h.1.1.1
+
+-- a window that is read, and its map
+pub set_read : (row up down i : ℕ) (windows first : List Window) (d : Window) (maps : List Grid) (m : Grid) → i < length windows → slice_get windows i ≡ slice_get first i
+    → slice_get maps i ≡ Some m → IsSet row up down (slice_get first i) (slice_get maps i) → IsSet row up down (Some (get_or windows i d)) (Some m)
+set_read row up down i windows first d maps m lt same place is = rw (sym same ∙ slice_get-get_or windows i d lt, place) at is
+
+-- one window in a list is written
+set_here : {A : Type 0} (xs : List A) (i : ℕ) (x : A) → i < length xs → slice_get (set xs i x) i ≡ Some x
+set_here [] i x lt = absurd (let no : ⊥ = omega arith in no)
+set_here (y ∷ xs) zero x lt = refl
+set_here (y ∷ xs) (suc i) x lt = set_here xs i x (omega arith)
+
+set_other : {A : Type 0} (xs : List A) (i k : ℕ) (x : A) → (k ≡ i → ⊥) → slice_get (set xs i x) k ≡ slice_get xs k
+set_other [] i k x apart = refl
+set_other (y ∷ xs) zero zero x apart = absurd (apart refl)
+set_other (y ∷ xs) zero (suc k) x apart = refl
+set_other (y ∷ xs) (suc i) zero x apart = refl
+set_other (y ∷ xs) (suc i) (suc k) x apart = set_other xs i k x (λ e. apart (ap suc e))
+
+pub moved_set : (f : Formula) (row i : ℕ) (windows : List Window) (maps : List Grid) (w : Window) (m : Grid) → i < length windows → AreSet f i (row + 1) windows maps
+    → slice_get maps i ≡ Some m → IsSet (row + 1) (up_of i f) (down_of i f) (Some w) (Some m) → AreSet f (i + 1) (row + 1) (set windows i w) maps
+moved_set f row i windows maps w m within done place here =
+    below_more (λ k. IsSet (row + 1) (up_of k f) (down_of k f) (slice_get (set windows i w) k) (slice_get maps k)) i
+    (λ k lt. rw (set_other windows i k w (λ e. omega arith)) (done k lt))
+    (rw (set_here windows i w within, place) here)
+
+pub moved_rest : (windows first : List Window) (i : ℕ) (w : Window) → ((k : ℕ) → i ≤ k → slice_get windows k ≡ slice_get first k)
+    → (k : ℕ) → i + 1 ≤ k → slice_get (set windows i w) k ≡ slice_get first k
+moved_rest windows first i w rest k past = set_other windows i k w (λ e. omega arith) ∙ rest k (omega arith)
+
+-- the counts
+pub row_below : {centre row rows a b n : ℕ} → centre ≡ row → rows ≡ a → a ≡ b → n ≡ b → row + 1 < n → centre + 1 < rows
+row_below at of same all left = omega arith
+
+pub no_row : (row : ℕ) {n b : ℕ} → n ≡ b → n ≤ row + 1 → row + 1 < b → ⊥
+no_row row same past left = omega arith
+
+pub below_same : {i n m : ℕ} → i < n → n ≡ m → i < m
+below_same lt same = omega arith
+
+pub below_all : {i n m : ℕ} → i < n → n ≤ m → i < m
+below_all lt most = omega arith
+
+pub least : (i : ℕ) → i ≤ i
+least i = omega arith
 
 -- a place of a list has a map
 got : (maps : List Grid) (i : ℕ) → i < length maps → slice_get maps i ≡ None → ⊥
