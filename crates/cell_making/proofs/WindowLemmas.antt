@@ -6,7 +6,7 @@ use Rattle.std.proofs.lemmas.Option.{slice_get-get_or}
 use Rattle.std.proofs.Math.ListN.{set}
 use Rattle.std.specs.Prelude.{slice_get, slice_index_or, All}
 use Rattle.cell_core.specs.Grid.{Grid, CellValue}
-use Rattle.cell_calc.specs.Window.{IsOver}
+use Rattle.cell_calc.specs.Window.{IsOver, HasReach}
 use Rattle.cell_formulas.specs.Formula.{Formula}
 use Rattle.cell_formulas.specs.Reach.{up_of, down_of}
 use Rattle.cell_calc.specs.Window.{Window, IsWindowOf}
@@ -39,6 +39,11 @@ pub set_over : (row up down : ℕ) (w : Option Window) (m : Option Grid) → IsS
 set_over row up down None m h = h
 set_over row up down (Some w) None h = h
 set_over row up down (Some w) (Some m) h = h.1.1.1
+
+pub set_reach : (row up down : ℕ) (w : Option Window) (m : Option Grid) → IsSet row up down w m → HasReach row up down w
+set_reach row up down None m h = h
+set_reach row up down (Some w) None h = absurd h
+set_reach row up down (Some w) (Some m) h = (h.0, (omega (arith, h.1.0), omega (arith, h.1.1.0)))
 
 -- a window that is read, and its map
 pub set_read : (row up down i : ℕ) (windows first : List Window) (d : Window) (maps : List Grid) (m : Grid) → i < length windows → slice_get windows i ≡ slice_get first i
@@ -81,6 +86,15 @@ below_same lt same = omega arith
 
 pub below_all : {i n m : ℕ} → i < n → n ≤ m → i < m
 below_all lt most = omega arith
+
+pub room_left : {len row n b : ℕ} → len ≡ row → row < n → n ≡ b → len < b
+room_left count lt same = omega arith
+
+pub all_rows : {len row n b : ℕ} → len ≡ row → n ≤ row → row ≤ n → n ≡ b → len ≡ b
+all_rows count past within same = omega arith
+
+pub row_made : {r b n row : ℕ} → r < b → n ≡ b → n ≤ row → r < row
+row_made lt same past = omega arith
 
 pub least : (i : ℕ) → i ≤ i
 least i = omega arith

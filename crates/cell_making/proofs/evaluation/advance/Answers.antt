@@ -24,8 +24,8 @@ advance-requires-clause-window c =
     let at = c.loop-i in
     let bound = c.args.bound.now in
     let set = set_read c.args.row (up_of at.i bound) (down_of at.i bound) at.i at.windows c.args.windows.now c.index-windows-i.result
-        (picked c.args.places.now c.args.shelf.now.maps) c.map_at.result.now (below_same c.loop-i-test.true (sym at.auto.windows))
-        (at.invariant.rest at.i (least at.i)) c.map_at.ensures.value (c.requires.set at.i c.loop-i-test.true) in
+    (picked c.args.places.now c.args.shelf.now.maps) c.map_at.result.now (below_same c.loop-i-test.true (sym at.auto.windows))
+    (at.invariant.rest at.i (least at.i)) c.map_at.ensures.value (c.requires.set at.i c.loop-i-test.true) in
     set.1.1.1
 
 pub advance-requires-clause-left : goal.advance-requires-clause-left
@@ -33,8 +33,8 @@ advance-requires-clause-left c =
     let at = c.loop-i in
     let bound = c.args.bound.now in
     let set = set_read c.args.row (up_of at.i bound) (down_of at.i bound) at.i at.windows c.args.windows.now c.index-windows-i.result
-        (picked c.args.places.now c.args.shelf.now.maps) c.map_at.result.now (below_same c.loop-i-test.true (sym at.auto.windows))
-        (at.invariant.rest at.i (least at.i)) c.map_at.ensures.value (c.requires.set at.i c.loop-i-test.true) in
+    (picked c.args.places.now c.args.shelf.now.maps) c.map_at.result.now (below_same c.loop-i-test.true (sym at.auto.windows))
+    (at.invariant.rest at.i (least at.i)) c.map_at.ensures.value (c.requires.set at.i c.loop-i-test.true) in
     row_below set.0 set.1.1.1.rows (ap (λ r. r.rows) c.map_at.ensures.region) (c.rows.ensures.value ∙ ap (λ r. r.rows) c.region.ensures.value)
     c.if-row-rows.false
 
@@ -51,8 +51,8 @@ loop-i-preserved c =
     let moved = c.advance.ensures in
     let within = below_same c.loop-i-test.true (sym at.auto.windows) in
     let set = set_read c.args.row (up_of at.i bound) (down_of at.i bound) at.i at.windows c.args.windows.now old
-        maps c.map_at.result.now within
-        (at.invariant.rest at.i (least at.i)) c.map_at.ensures.value (c.requires.set at.i c.loop-i-test.true) in
+    maps c.map_at.result.now within
+    (at.invariant.rest at.i (least at.i)) c.map_at.ensures.value (c.requires.set at.i c.loop-i-test.true) in
     record {
       count = length-set at.windows at.i new ∙ at.invariant.count;
       done = moved_set bound c.args.row at.i at.windows maps new c.map_at.result.now within at.invariant.done c.map_at.ensures.value
