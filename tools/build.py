@@ -154,9 +154,12 @@ class News:
             print(text, flush=True)
 
 
-def next_of(ready, free):
-    """The first of the crates that can be proved, and as many processes as the others leave it."""
-    return ready[0], -(-free // min(len(ready), free))
+def next_of(ready, free, jobs, unfinished):
+    """The first of the crates that can be proved, and as many processes as the others leave it: half of all at the least
+    where fewer crates are left beside it than there are processes, since those end before it and nothing takes their place."""
+    crate, own = ready[0], -(-free // min(len(ready), free))
+    beside = [it for it in unfinished if it is not crate and crate.name not in it.all_below]
+    return crate, own if len(beside) >= jobs else max(own, jobs // 2)
 
 
 def prove_all(crates, jobs, news):
@@ -167,8 +170,8 @@ def prove_all(crates, jobs, news):
             under_way = [crate for crate, _ in running.values()]
             ready = [it for it in waiting if not {*it.below} & {*waiting, *under_way}]
             free = jobs - sum(own for _, own in running.values())
-            if ready and free and not failed:
-                crate, own = next_of(sorted(ready, key=way.get, reverse=True), free)
+            if ready and free > 0 and not failed:
+                crate, own = next_of(sorted(ready, key=way.get, reverse=True), free, jobs, [*waiting, *under_way])
                 waiting.remove(crate)
                 running[pool.submit(crate.prove, own)] = crate, own
                 continue
