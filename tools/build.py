@@ -4,9 +4,10 @@
     build.py [--jobs N]
 
 N is how many processes prove at a time: without it, one for each processor, as far as memory allows. Where fewer crates
-can be proved, they share the processes. It says which crates are proved and how long all took so far. Each is proved by
-the kit's rattle over the statements of the crates below it, and again only where one of them has changed. What is made of
-a crate and the log of its proof lie in crates/NAME/out/build; where a proof fails, the end of its log is printed.
+can be proved, they share the processes; the last get half of N at the least, so that for a short time there may be more
+than N. It says which crates are proved and how long all took so far. Each is proved by the kit's rattle over the statements
+of the crates below it, and again only where one of them has changed. What is made of a crate and the log of its proof lie in
+crates/NAME/out/build; where a proof fails, the end of its log is printed.
 """
 import argparse
 import concurrent.futures
