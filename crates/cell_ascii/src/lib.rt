@@ -6,4 +6,4 @@ pub mod law;
 pub mod reader;
 
 pub use cell_ascii_text::fault;
-pub use cell_ascii_writer::writer;
+pub use cell_ascii_writer::{sticky_writer, writer};

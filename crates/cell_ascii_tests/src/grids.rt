@@ -29,7 +29,7 @@ impl Sink for Counting {
 
     ghost taken = { λ _. None };
 
-    ghost failed = { λ _. false };
+    ghost faults = { λ _. record { refused = false; unflushed = false } };
 
     fn put(&mut self, bytes: &[u8]) -> Result<usize, DeviceFault> {
         self.puts = self.puts.saturating_add(1);

@@ -1,3 +1,5 @@
+pub mod LengthLemmas
+pub mod PutLemmas
 pub mod WriterLemmas
 pub mod ShortNumberLemmas
 pub mod ShortLemmas

@@ -1,9 +1,9 @@
 -- The parts of a grid text, as they are written.
-use Rattle.std.proofs.Common.{◌*◌, ◌-◌, ◌^◌, ◌<◌, take, length, Result, Ok, Err, IfErr, IsErrAnd, ◌≡◌, ◌≢◌, ℕ, ℤ, pos, negsuc, ◌+◌, ◌≤◌, ◌==◌, ◌||◌, Bool, true, false, List, [], ◌∷◌, ◌++◌, drop, Option, codes, decimal, unsigned_abs, refl, ap, sym, subst, ◌∙◌, arith}
+use Rattle.std.proofs.Common.{◌*◌, ◌-◌, ◌^◌, ◌<◌, take, length, Result, Ok, Err, IfErr, IsErrAnd, ◌≡◌, ◌≢◌, ℕ, ℤ, pos, negsuc, ◌+◌, ◌≤◌, ◌==◌, Bool, true, false, List, [], ◌∷◌, ◌++◌, drop, Option, codes, decimal, unsigned_abs, refl, ap, sym, subst, ◌∙◌, arith}
 use Rattle.std.specs.Prelude.{int_lt}
 use Rattle.std.proofs.lemmas.Bool.Decides.{nat_tests}
 use Rattle.cell_devices.specs.Blocks.{BlockValue, CutsOff, Gathers, IsCut, IsPut, counted}
-use Rattle.cell_devices.specs.Device.{append_known}
+use Rattle.cell_devices.specs.Device.{Faults, after_put, append_known}
 use Rattle.cell_base.specs.Region.{RegionValue}
 use Rattle.cell_devices.proofs.GatherLemmas.{CutsOff-first, CutsOff-second, Gathers-none, Gathers-then, IsCut-exact, IsPut-exact}
 use Rattle.cell_ascii_text.specs.Writing.{coordinate_text, fraction_text, line_of_key, region_text, units_text, without_zeros}
@@ -58,10 +58,9 @@ module _ (taken : Option (List ℕ)) (old : BlockValue) (e : RegionValue) (now :
   pub cut_in_one : CutsOff taken old (one_line e) now written → CutsOff taken old (region_text e) now written
   cut_in_one cuts = cut_in_two (CutsOff-first taken old (one_line e) (edge_line (codes "south") e.south) now written cuts)
 
--- a sink that did not fail in one call failed in the next one or before both
-pub failed_then : (now between before failed : Bool) → now ≡ (between || failed) → between ≡ (before || false) → now ≡ (before || failed)
-failed_then now between true failed same was = rw was at same
-failed_then now between false failed same was = rw was at same
+-- a sink that took all so far, and then the next call
+pub faults_then : (now between before : Faults) (fails : Bool) → now ≡ after_put between fails → between ≡ before → now ≡ after_put before fails
+faults_then now between before fails same was = rw was at same
 
 -- what a block counts, after a part that is no longer than told, and after two parts
 pub counted_most : (now old some most : ℕ) → now ≤ old + some → some ≤ most → now ≤ old + most
@@ -77,14 +76,9 @@ counted_then now between old first second grown was = omega arith
 pub counted_none : (n : ℕ) → n ≤ n + 0
 counted_none n = omega arith
 
--- one that has not failed
-pub failed_still : (now between before : Bool) → now ≡ (between || false) → between ≡ before → now ≡ before
-failed_still now true before same was = same ∙ was
-failed_still now false before same was = same ∙ was
-
-pub failed_not : (now before : Bool) → now ≡ before → now ≡ (before || false)
-failed_not now true same = same
-failed_not now false same = same
+-- a sink that took all so far, and in the next call
+pub faults_still : (now between before : Faults) → now ≡ between → between ≡ before → now ≡ before
+faults_still now between before same was = same ∙ was
 
 -- a loop that counts up to its end
 pub at_end : (i end : ℕ) → end ≤ i → i ≤ end → i ≡ end
@@ -95,57 +89,57 @@ pub IfErr-passed : {T E : Type 0} (r : Result T E) (e : E) (Q : E → Type 0) �
 IfErr-passed (Ok x) e Q passed holds = tt
 IfErr-passed (Err y) e Q passed holds = subst Q (sym passed) holds
 
-pub failed_passed : (now before fails : Bool) → fails ≡ true → now ≡ (before || true) → now ≡ (before || fails)
-failed_passed now before fails is same = same ∙ ap (λ (b : Bool). before || b) (sym is)
+pub faults_passed : (now before : Faults) (fails : Bool) → fails ≡ true → now ≡ after_put before true → now ≡ after_put before fails
+faults_passed now before fails is same = same ∙ ap (λ (b : Bool). after_put before b) (sym is)
 
 -- a text was written as far as this: nothing failed, and the block counts no more than told
-pub record Wrote (taken : Option (List ℕ)) (old : BlockValue) (failed : Bool) (text : List ℕ) (most : ℕ) (now : Option (List ℕ)) (new : BlockValue) (after : Bool) : Type 0 where
+pub record Wrote (taken : Option (List ℕ)) (old : BlockValue) (faults : Faults) (text : List ℕ) (most : ℕ) (now : Option (List ℕ)) (new : BlockValue) (after : Faults) : Type 0 where
   pub gathers : Gathers taken old text now new
   pub few : counted new ≤ counted old + most
-  pub same : after ≡ failed
+  pub same : after ≡ faults
 
 -- the sink failed within a text
-pub record Stopped (taken : Option (List ℕ)) (old : BlockValue) (failed : Bool) (text : List ℕ) (most : ℕ) (now : Option (List ℕ)) (new : BlockValue) (after : Bool) (written : ℕ) : Type 0 where
+pub record Stopped (taken : Option (List ℕ)) (old : BlockValue) (faults : Faults) (text : List ℕ) (most : ℕ) (now : Option (List ℕ)) (new : BlockValue) (after : Faults) (written : ℕ) : Type 0 where
   pub cuts : CutsOff taken old text now written
   pub few : counted new ≤ counted old + most
-  pub fails : after ≡ (failed || true)
+  pub fails : after ≡ after_put faults true
 
-module _ (taken : Option (List ℕ)) (old : BlockValue) (failed : Bool) where
-  pub wrote_none : Wrote taken old failed [] 0 taken old failed
+module _ (taken : Option (List ℕ)) (old : BlockValue) (faults : Faults) where
+  pub wrote_none : Wrote taken old faults [] 0 taken old faults
   wrote_none = record { gathers = Gathers-none taken old; few = counted_none (counted old); same = refl }
 
-  module _ (a : List ℕ) (m : ℕ) (mid : Option (List ℕ)) (middle : BlockValue) (between : Bool) (so_far : Wrote taken old failed a m mid middle between) where
-    pub wrote_then : (b : List ℕ) (n : ℕ) (now : Option (List ℕ)) (new : BlockValue) (after : Bool) → Gathers mid middle b now new → counted new ≤ counted middle + n
-        → after ≡ (between || false) → Wrote taken old failed (a ++ b) (m + n) now new after
+  module _ (a : List ℕ) (m : ℕ) (mid : Option (List ℕ)) (middle : BlockValue) (between : Faults) (so_far : Wrote taken old faults a m mid middle between) where
+    pub wrote_then : (b : List ℕ) (n : ℕ) (now : Option (List ℕ)) (new : BlockValue) (after : Faults) → Gathers mid middle b now new → counted new ≤ counted middle + n
+        → after ≡ between → Wrote taken old faults (a ++ b) (m + n) now new after
     wrote_then b n now new after gathers grown still = record {
       gathers = Gathers-then taken old a b mid now middle new so_far.gathers gathers;
       few = counted_then _ _ _ m n grown so_far.few;
-      same = failed_still after between failed still so_far.same;
+      same = faults_still after between faults still so_far.same;
     }
 
-    pub stopped_in : (b : List ℕ) (n more : ℕ) (now : Option (List ℕ)) (new : BlockValue) (after : Bool) (written : ℕ) → CutsOff mid middle b now written
-        → counted new ≤ counted middle + n → after ≡ (between || true) → Stopped taken old failed (a ++ b) (m + n + more) now new after written
+    pub stopped_in : (b : List ℕ) (n more : ℕ) (now : Option (List ℕ)) (new : BlockValue) (after : Faults) (written : ℕ) → CutsOff mid middle b now written
+        → counted new ≤ counted middle + n → after ≡ after_put between true → Stopped taken old faults (a ++ b) (m + n + more) now new after written
     stopped_in b n more now new after written cuts grown fails = record {
       cuts = CutsOff-second taken old a b mid now middle written so_far.gathers cuts;
       few = counted_more _ _ (m + n) more (counted_then _ _ _ m n grown so_far.few);
-      fails = fails ∙ ap (λ (f : Bool). f || true) so_far.same;
+      fails = fails ∙ ap (λ (f : Faults). after_put f true) so_far.same;
     }
 
     -- the line of an edge
-    pub wrote_edge : (key : List ℕ) (z edge : ℤ) → z ≡ edge → (now : Option (List ℕ)) (new : BlockValue) (after : Bool) → Gathers mid middle (line_of_key key (coordinate_text z)) now new
-        → counted new ≤ counted middle + 90 → after ≡ (between || false) → Wrote taken old failed (a ++ line_of_key key (coordinate_text edge)) (m + 90) now new after
+    pub wrote_edge : (key : List ℕ) (z edge : ℤ) → z ≡ edge → (now : Option (List ℕ)) (new : BlockValue) (after : Faults) → Gathers mid middle (line_of_key key (coordinate_text z)) now new
+        → counted new ≤ counted middle + 90 → after ≡ between → Wrote taken old faults (a ++ line_of_key key (coordinate_text edge)) (m + 90) now new after
     wrote_edge key z edge is now new after gathers grown still = wrote_then (line_of_key key (coordinate_text edge)) 90 now new after
         (subst (λ (t : ℤ). Gathers mid middle (line_of_key key (coordinate_text t)) now new) is gathers) grown still
 
-    pub stopped_at_edge : (key : List ℕ) (more : ℕ) (z edge : ℤ) → z ≡ edge → (now : Option (List ℕ)) (new : BlockValue) (after : Bool) (written : ℕ)
-        → CutsOff mid middle (line_of_key key (coordinate_text z)) now written → counted new ≤ counted middle + 90 → after ≡ (between || true)
-        → Stopped taken old failed (a ++ line_of_key key (coordinate_text edge)) (m + 90 + more) now new after written
+    pub stopped_at_edge : (key : List ℕ) (more : ℕ) (z edge : ℤ) → z ≡ edge → (now : Option (List ℕ)) (new : BlockValue) (after : Faults) (written : ℕ)
+        → CutsOff mid middle (line_of_key key (coordinate_text z)) now written → counted new ≤ counted middle + 90 → after ≡ after_put between true
+        → Stopped taken old faults (a ++ line_of_key key (coordinate_text edge)) (m + 90 + more) now new after written
     stopped_at_edge key more z edge is now new after written cuts grown fails = stopped_in (line_of_key key (coordinate_text edge)) 90 more now new after written
         (subst (λ (t : ℤ). CutsOff mid middle (line_of_key key (coordinate_text t)) now written) is cuts) grown fails
 
 -- after the last call, which may fail
-pub failed_last : (now between before fails : Bool) → now ≡ (between || fails) → between ≡ before → now ≡ (before || fails)
-failed_last now between before fails same was = same ∙ ap (λ (b : Bool). b || fails) was
+pub faults_last : (now between before : Faults) (fails : Bool) → now ≡ after_put between fails → between ≡ before → now ≡ after_put before fails
+faults_last now between before fails same was = same ∙ ap (λ (f : Faults). after_put f fails) was
 
 -- the most that a block counts, of a whole text
 abbrev pub whole_most : ℕ

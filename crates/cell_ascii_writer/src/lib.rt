@@ -1,4 +1,5 @@
 //! Writing a map as a grid text (r.out.ascii).
 #![tactic(auto)]
 
+pub mod sticky_writer;
 pub mod writer;

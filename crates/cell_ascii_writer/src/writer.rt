@@ -1,9 +1,9 @@
 //! Writing a map as a grid text.
 
-ghost use Rattle.std.specs.Prelude.{◌≡◌, ◌+◌, ◌*◌, ◌<◌, ◌≤◌, ◌||◌, ◌==◌, [], ◌∷◌, ◌++◌, codes, decimal, drop, flat_map, length, replicate, reverse, take, OnOk, IfOk, IfErr, is_err};
+ghost use Rattle.std.specs.Prelude.{◌≡◌, ◌+◌, ◌*◌, ◌<◌, ◌≤◌, ◌==◌, [], ◌∷◌, ◌++◌, codes, decimal, drop, flat_map, length, replicate, reverse, take, OnOk, IfOk, IfErr, is_err};
 ghost use Rattle.std.specs.List.{prefix_len};
 ghost use Rattle.cell_devices.specs.Blocks.{Gathers, CutsOff, counted};
-ghost use Rattle.cell_devices.specs.Device.{append_known};
+ghost use Rattle.cell_devices.specs.Device.{append_known, after_put};
 ghost use Rattle.cell_core.specs.Grid.{row_at};
 ghost use Rattle.cell_core.specs.Runs.{AreRuns, written_out};
 ghost use Rattle.cell_ascii_writer.specs.WrittenRuns.{FallsShort, cells_text, joined_cells, times};
@@ -22,10 +22,10 @@ use itoa::Buffer;
 const FIELD: usize = 65;
 
 // The least number of four digits.
-const LEAST_LONG: i32 = 1000;
+pub(crate) const LEAST_LONG: i32 = 1000;
 
 // How many units a coordinate of 1 has.
-const UNIT: u64 = 100000000;
+pub(crate) const UNIT: u64 = 100000000;
 
 // How many zeros stand at the end.
 fn zeros_at_end(digits: &[u8]) -> usize
@@ -36,7 +36,7 @@ fn zeros_at_end(digits: &[u8]) -> usize
 }
 
 // The digits without the zeros at their end.
-fn without_zeros(digits: &[u8]) -> &[u8]
+pub(crate) fn without_zeros(digits: &[u8]) -> &[u8]
     ensures value { result.now ≡ without_zeros digits.now }
     ensures len { length result.now ≤ length digits.now }
 {
@@ -45,7 +45,7 @@ fn without_zeros(digits: &[u8]) -> &[u8]
 
 // The eight digits of a part: those of its sum with 10^8, but for the 1 in front.
 #[tactic(auto, using(std::proofs::lemmas::Fmt::decimal_nonempty))]
-fn eight_digits(buffer: &mut Buffer, part: u64) -> &[u8]
+pub(crate) fn eight_digits(buffer: &mut Buffer, part: u64) -> &[u8]
     requires { part < 100000000 }
     ensures value { result.now ≡ drop 1 (decimal (100000000 + part)) }
     ensures len { length result.now ≤ 40 }
@@ -61,7 +61,7 @@ fn write_fraction<W: Sink>(out: &mut W, block: &mut Block, part: u64) -> Result<
     ensures err { IfErr result (λ fault. CutsOff (W.taken out.old) block.old (fraction_text part) (W.taken out.new) fault.written) }
     ensures lost { IfErr result (λ fault. block.new ≡ record { held = []; written = fault.written }) }
     ensures counted { counted block.new ≤ counted block.old + 41 }
-    ensures failed { W.failed out.new ≡ (W.failed out.old || is_err result) }
+    ensures faults { W.faults out.new ≡ after_put (W.faults out.old) (is_err result) }
 {
     if part == 0 {
         return Ok(());
@@ -76,7 +76,7 @@ fn write_units<W: Sink>(out: &mut W, block: &mut Block, units: u64) -> Result<()
     ensures err { IfErr result (λ fault. CutsOff (W.taken out.old) block.old (units_text units) (W.taken out.new) fault.written) }
     ensures lost { IfErr result (λ fault. block.new ≡ record { held = []; written = fault.written }) }
     ensures counted { counted block.new ≤ counted block.old + 81 }
-    ensures failed { W.failed out.new ≡ (W.failed out.old || is_err result) }
+    ensures faults { W.faults out.new ≡ after_put (W.faults out.old) (is_err result) }
 {
     block.push(out, Buffer::new().format(units / UNIT).as_bytes())?;
     write_fraction(out, block, units % UNIT)
@@ -88,7 +88,7 @@ fn write_coordinate<W: Sink>(out: &mut W, block: &mut Block, units: i64) -> Resu
     ensures err { IfErr result (λ fault. CutsOff (W.taken out.old) block.old (coordinate_text units) (W.taken out.new) fault.written) }
     ensures lost { IfErr result (λ fault. block.new ≡ record { held = []; written = fault.written }) }
     ensures counted { counted block.new ≤ counted block.old + 82 }
-    ensures failed { W.failed out.new ≡ (W.failed out.old || is_err result) }
+    ensures faults { W.faults out.new ≡ after_put (W.faults out.old) (is_err result) }
 {
     if units < 0 {
         block.push(out, b"-")?;
@@ -103,7 +103,7 @@ fn write_key<W: Sink>(out: &mut W, block: &mut Block, key: &[u8]) -> Result<(), 
     ensures err { IfErr result (λ fault. CutsOff (W.taken out.old) block.old (key.now ++ codes ": ") (W.taken out.new) fault.written) }
     ensures lost { IfErr result (λ fault. block.new ≡ record { held = []; written = fault.written }) }
     ensures counted { counted block.new ≤ counted block.old + 7 }
-    ensures failed { W.failed out.new ≡ (W.failed out.old || is_err result) }
+    ensures faults { W.faults out.new ≡ after_put (W.faults out.old) (is_err result) }
 {
     block.push(out, key)?;
     block.push(out, b": ")
@@ -121,7 +121,7 @@ fn write_edge<W: Sink>(
     ensures err { IfErr result (λ fault. CutsOff (W.taken out.old) block.old (line_of_key key.now (coordinate_text edge)) (W.taken out.new) fault.written) }
     ensures lost { IfErr result (λ fault. block.new ≡ record { held = []; written = fault.written }) }
     ensures counted { counted block.new ≤ counted block.old + 90 }
-    ensures failed { W.failed out.new ≡ (W.failed out.old || is_err result) }
+    ensures faults { W.faults out.new ≡ after_put (W.faults out.old) (is_err result) }
 {
     write_key(out, block, key)?;
     write_coordinate(out, block, edge)?;
@@ -141,7 +141,7 @@ fn write_line<W: Sink>(
     ensures err { IfErr result (λ fault. CutsOff (W.taken out.old) block.old (line_of_key key.now value.now) (W.taken out.new) fault.written) }
     ensures lost { IfErr result (λ fault. block.new ≡ record { held = []; written = fault.written }) }
     ensures counted { counted block.new ≤ counted block.old + 72 }
-    ensures failed { W.failed out.new ≡ (W.failed out.old || is_err result) }
+    ensures faults { W.faults out.new ≡ after_put (W.faults out.old) (is_err result) }
 {
     write_key(out, block, key)?;
     block.push(out, value)?;
@@ -160,7 +160,7 @@ fn write_side<W: Sink>(
     ensures err { IfErr result (λ fault. CutsOff (W.taken out.old) block.old (line_of_key key.now (decimal count)) (W.taken out.new) fault.written) }
     ensures lost { IfErr result (λ fault. block.new ≡ record { held = []; written = fault.written }) }
     ensures counted { counted block.new ≤ counted block.old + 72 }
-    ensures failed { W.failed out.new ≡ (W.failed out.old || is_err result) }
+    ensures faults { W.faults out.new ≡ after_put (W.faults out.old) (is_err result) }
 {
     write_line(out, block, key, Buffer::new().format(count).as_bytes())
 }
@@ -171,7 +171,7 @@ fn write_region<W: Sink>(out: &mut W, block: &mut Block, region: Region) -> Resu
     ensures err { IfErr result (λ fault. CutsOff (W.taken out.old) block.old (region_text region) (W.taken out.new) fault.written) }
     ensures lost { IfErr result (λ fault. block.new ≡ record { held = []; written = fault.written }) }
     ensures counted { counted block.new ≤ counted block.old + 504 }
-    ensures failed { W.failed out.new ≡ (W.failed out.old || is_err result) }
+    ensures faults { W.faults out.new ≡ after_put (W.faults out.old) (is_err result) }
 {
     write_edge(out, block, b"north", region.north())?;
     write_edge(out, block, b"south", region.south())?;
@@ -192,7 +192,7 @@ fn write_null_line<W: Sink>(
     ensures err { IfErr result (λ fault. CutsOff (W.taken out.old) block.old (null_line null_text.now) (W.taken out.new) fault.written) }
     ensures lost { IfErr result (λ fault. block.new ≡ record { held = []; written = fault.written }) }
     ensures counted { counted block.new ≤ counted block.old + 72 }
-    ensures failed { W.failed out.new ≡ (W.failed out.old || is_err result) }
+    ensures faults { W.faults out.new ≡ after_put (W.faults out.old) (is_err result) }
 {
     if null_text == b"*".as_slice() {
         return Ok(());
@@ -201,7 +201,7 @@ fn write_null_line<W: Sink>(
 }
 
 // A space and a text, with spaces after them.
-fn spaced(text: &[u8]) -> [u8; FIELD]
+pub(crate) fn spaced(text: &[u8]) -> [u8; FIELD]
     requires { length text.now ≤ 64 }
     ensures { take (length text.now + 1) result ≡ 32 ∷ text.now }
 {
@@ -223,7 +223,7 @@ fn write_copies<W: Sink>(
     ensures err { IfErr result (λ fault. CutsOff (W.taken out.old) block.old (times count field.now) (W.taken out.new) fault.written) }
     ensures lost { IfErr result (λ fault. block.new ≡ record { held = []; written = fault.written }) }
     ensures counted { counted block.new ≤ counted block.old + 65 * count }
-    ensures failed { W.failed out.new ≡ (W.failed out.old || is_err result) }
+    ensures faults { W.faults out.new ≡ after_put (W.faults out.old) (is_err result) }
 {
     for _ in 0..count {
         block.push(out, field)?;
@@ -243,7 +243,7 @@ fn write_times<W: Sink>(
     ensures err { IfErr result (λ fault. CutsOff (W.taken out.old) block.old (times count (32 ∷ text.now)) (W.taken out.new) fault.written) }
     ensures lost { IfErr result (λ fault. block.new ≡ record { held = []; written = fault.written }) }
     ensures counted { counted block.new ≤ counted block.old + 65 * count }
-    ensures failed { W.failed out.new ≡ (W.failed out.old || is_err result) }
+    ensures faults { W.faults out.new ≡ after_put (W.faults out.old) (is_err result) }
 {
     let bytes = spaced(text);
     write_copies(out, block, &bytes[..text.len() + 1], count)
@@ -259,7 +259,7 @@ fn digit(number: u32) -> u8
 
 // A space and a number of one digit.
 #[tactic(auto, using(std::proofs::lemmas::Fmt::decimal_digit))]
-fn one_digit(number: u32) -> [u8; 2]
+pub(crate) fn one_digit(number: u32) -> [u8; 2]
     requires { number < 10 }
     ensures { result ≡ 32 ∷ decimal number }
 {
@@ -268,7 +268,7 @@ fn one_digit(number: u32) -> [u8; 2]
 
 // A space and a number of two digits.
 #[tactic(auto, using(crate::proofs::ShortNumberLemmas::decimal_two))]
-fn two_digits(number: u32) -> [u8; 3]
+pub(crate) fn two_digits(number: u32) -> [u8; 3]
     requires { (10 ≤ number) × (number < 100) }
     ensures { result ≡ 32 ∷ decimal number }
 {
@@ -277,7 +277,7 @@ fn two_digits(number: u32) -> [u8; 3]
 
 // A space and a number of three digits.
 #[tactic(auto, using(crate::proofs::ShortNumberLemmas::decimal_three))]
-fn three_digits(number: u32) -> [u8; 4]
+pub(crate) fn three_digits(number: u32) -> [u8; 4]
     requires { (100 ≤ number) × (number < 1000) }
     ensures { result ≡ 32 ∷ decimal number }
 {
@@ -301,7 +301,7 @@ fn write_short<W: Sink>(
     ensures err { IfErr result (λ fault. CutsOff (W.taken out.old) block.old (times count (32 ∷ decimal number)) (W.taken out.new) fault.written) }
     ensures lost { IfErr result (λ fault. block.new ≡ record { held = []; written = fault.written }) }
     ensures counted { counted block.new ≤ counted block.old + 65 * count }
-    ensures failed { W.failed out.new ≡ (W.failed out.old || is_err result) }
+    ensures faults { W.faults out.new ≡ after_put (W.faults out.old) (is_err result) }
 {
     if number < 10 {
         write_copies(out, block, &one_digit(number), count)
@@ -325,7 +325,7 @@ fn write_run<W: Sink>(
     ensures err { IfErr result (λ fault. CutsOff (W.taken out.old) block.old (cells_text null_text.now (replicate count cell)) (W.taken out.new) fault.written) }
     ensures lost { IfErr result (λ fault. block.new ≡ record { held = []; written = fault.written }) }
     ensures counted { counted block.new ≤ counted block.old + 65 * count }
-    ensures failed { W.failed out.new ≡ (W.failed out.old || is_err result) }
+    ensures faults { W.faults out.new ≡ after_put (W.faults out.old) (is_err result) }
 {
     match cell.get() {
         None => write_times(out, block, null_text, count),
@@ -348,7 +348,7 @@ fn write_runs<W: Sink>(
     ensures err { IfErr result (λ fault. CutsOff (W.taken out.old) block.old (cells_text null_text.now (written_out runs.entry)) (W.taken out.new) fault.written) }
     ensures lost { IfErr result (λ fault. block.new ≡ record { held = []; written = fault.written }) }
     ensures counted { counted block.new ≤ counted block.old + 65 * length (written_out runs.entry) }
-    ensures failed { W.failed out.new ≡ (W.failed out.old || is_err result) }
+    ensures faults { W.faults out.new ≡ after_put (W.faults out.old) (is_err result) }
 {
     for (cell, count) in runs {
         write_run(out, block, cell, count, null_text)?;
@@ -369,7 +369,7 @@ fn write_cells<W: Sink>(
     ensures err { IfErr result (λ fault. CutsOff (W.taken out.old) block.old (joined_cells null_text.now (written_out runs.entry)) (W.taken out.new) fault.written) }
     ensures lost { IfErr result (λ fault. block.new ≡ record { held = []; written = fault.written }) }
     ensures counted { counted block.new ≤ counted block.old + (75 + 65 * length (written_out runs.entry)) }
-    ensures failed { W.failed out.new ≡ (W.failed out.old || is_err result) }
+    ensures faults { W.faults out.new ≡ after_put (W.faults out.old) (is_err result) }
 {
     let mut others = runs;
     let Some(first) = others.next() else {
@@ -396,7 +396,7 @@ fn write_row<W: Sink>(
     ensures short { IfErr result (λ fault. FallsShort (W.taken out.old) block.old (row_text null_text.now (row_at map.now row)) fault.written) }
     ensures lost { IfErr result (λ fault. block.new ≡ record { held = []; written = fault.written }) }
     ensures counted { counted block.new ≤ counted block.old + 76 * 65535 }
-    ensures failed { W.failed out.new ≡ (W.failed out.old || is_err result) }
+    ensures faults { W.faults out.new ≡ after_put (W.faults out.old) (is_err result) }
 {
     write_cells(out, block, map.runs(row), null_text)?;
     block.push(out, b"\n")
@@ -415,7 +415,7 @@ fn write_rows<W: Sink>(
     ensures short { IfErr result (λ fault. FallsShort (W.taken out.old) block.old (flat_map (row_text null_text.now) map.now.rows) fault.written) }
     ensures lost { IfErr result (λ fault. block.new ≡ record { held = []; written = fault.written }) }
     ensures counted { counted block.new ≤ counted block.old + 76 * 65535 * 65535 }
-    ensures failed { W.failed out.new ≡ (W.failed out.old || is_err result) }
+    ensures faults { W.faults out.new ≡ after_put (W.faults out.old) (is_err result) }
 {
     for row in 0..map.region().rows() {
         write_row(out, block, map, row, null_text)?;
@@ -440,7 +440,7 @@ pub fn write_map<W: Sink>(map: &CellMap, null_text: &[u8], out: &mut W) -> Resul
     ensures err { IfErr result (λ fault. W.taken out.new ≡ append_known (W.taken out.old) (take fault.written (grid_text null_text.now map.now))) }
     ensures within { IfErr result (λ fault. fault.written ≤ length (grid_text null_text.now map.now)) }
     ensures short { IfErr result (λ fault. fault.written < length (grid_text null_text.now map.now)) }
-    ensures failed { W.failed out.new ≡ (W.failed out.old || is_err result) }
+    ensures faults { W.faults out.new ≡ after_put (W.faults out.old) (is_err result) }
 {
     let mut block = Block::new();
     // The proof looks at the number of rows: the text goes on after its header.

@@ -11,10 +11,10 @@ capped_sum : (a b : ℕ) → capped (capped a + b) ≡ capped (a + b)
 capped_sum a b = omega arith
 
 -- the sink took more after a prefix
-taken_after : (before now : Option (List ℕ)) (front sent : List ℕ) → now ≡ append_known before front → append_known now sent ≡ append_known before (front ++ sent)
+pub taken_after : (before now : Option (List ℕ)) (front sent : List ℕ) → now ≡ append_known before front → append_known now sent ≡ append_known before (front ++ sent)
 taken_after before now front sent e = ap (λ o. append_known o sent) e ∙ append_known-append before front sent
 
-count_after : (front sent : List ℕ) (count : ℕ) → count ≡ capped (length front) → capped (count + length sent) ≡ capped (length (front ++ sent))
+pub count_after : (front sent : List ℕ) (count : ℕ) → count ≡ capped (length front) → capped (count + length sent) ≡ capped (length (front ++ sent))
 count_after front sent count e = rw (e, length-append) (capped_sum (length front) (length sent))
 
 module _ (before now : Option (List ℕ)) (text : List ℕ) (block : BlockValue) (g : Gathered before text now block) where

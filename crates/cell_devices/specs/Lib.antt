@@ -1,3 +1,4 @@
 -- Sources and sinks, output in blocks.
 pub mod Blocks
 pub mod Device
+pub mod Sticky

@@ -1,8 +1,8 @@
 //! Output gathered in a block, so that each put carries a few KiB.
 
-ghost use Rattle.std.specs.Prelude.{◌≡◌, ℕ, ◌+◌, ◌-◌, ◌<◌, ◌≤◌, ◌||◌, List, [], ◌++◌, length, take, Option, OnOk, IfOk, IfErr, is_err};
+ghost use Rattle.std.specs.Prelude.{◌≡◌, ℕ, ◌+◌, ◌-◌, ◌<◌, ◌≤◌, List, [], ◌++◌, length, take, Option, OnOk, IfOk, IfErr, is_err};
 ghost use Rattle.std.specs.Result.{result_map_both};
-ghost use Rattle.cell_devices.specs.Device.{append_known};
+ghost use Rattle.cell_devices.specs.Device.{append_known, after_put};
 ghost use Rattle.cell_devices.specs.Blocks.{BlockValue, room, Gathered, Gathers, Empties, PutsAll, Cuts, CutsOff, capped, counted, empty_block};
 
 use crate::sink::{Sink, WriteFault, put_bytes};
@@ -37,7 +37,7 @@ fn put_counted<W: Sink>(out: &mut W, bytes: &[u8], written: u64) -> Result<u64, 
     ensures ok { OnOk result (W.taken out.new ≡ append_known (W.taken out.old) bytes.now) }
     ensures all { IfOk result (λ count. count ≡ capped (written + length bytes.now)) }
     ensures err { IfErr result (λ fault. (count : ℕ) × (count < length bytes.now) × (W.taken out.new ≡ append_known (W.taken out.old) (take count bytes.now)) × (fault.written ≡ capped (written + count))) }
-    ensures failed { W.failed out.new ≡ (W.failed out.old || is_err result) }
+    ensures faults { W.faults out.new ≡ after_put (W.faults out.old) (is_err result) }
 {
     match put_bytes(out, bytes) {
         Ok(()) => Ok(written.saturating_add(bytes.len() as u64)),
@@ -131,7 +131,7 @@ impl Block {
         ensures short { IfErr result (λ fault. fault.written < counted self.old) }
         ensures lost { IfErr result (λ fault. self.new ≡ record { held = []; written = fault.written }) }
         ensures counted { counted self.new ≤ counted self.old }
-        ensures failed { W.failed out.new ≡ (W.failed out.old || is_err result) }
+        ensures faults { W.faults out.new ≡ after_put (W.faults out.old) (is_err result) }
     {
         let put = put_counted(out, self.bytes(), self.written());
         self.settle(put)
@@ -157,7 +157,7 @@ impl Block {
         ensures short { IfErr result (λ fault. fault.written < counted self.old + length bytes.now) }
         ensures lost { IfErr result (λ fault. self.new ≡ record { held = []; written = fault.written }) }
         ensures counted { counted self.new ≤ counted self.old + length bytes.now }
-        ensures failed { W.failed out.new ≡ (W.failed out.old || is_err result) }
+        ensures faults { W.faults out.new ≡ after_put (W.faults out.old) (is_err result) }
     {
         let put = put_counted(out, bytes, self.written());
         self.settle(put)
@@ -171,7 +171,7 @@ impl Block {
         ensures short { IfErr result (λ fault. fault.written < counted self.old + length bytes.now) }
         ensures lost { IfErr result (λ fault. self.new ≡ record { held = []; written = fault.written }) }
         ensures counted { counted self.new ≤ counted self.old + length bytes.now }
-        ensures failed { W.failed out.new ≡ (W.failed out.old || is_err result) }
+        ensures faults { W.faults out.new ≡ after_put (W.faults out.old) (is_err result) }
     {
         self.empty(out)?;
         if bytes.len() > ROOM {
@@ -193,7 +193,7 @@ impl Block {
         ensures short { IfErr result (λ fault. fault.written < counted self.old + length bytes.now) }
         ensures lost { IfErr result (λ fault. self.new ≡ record { held = []; written = fault.written }) }
         ensures counted { counted self.new ≤ counted self.old + length bytes.now }
-        ensures failed { W.failed out.new ≡ (W.failed out.old || is_err result) }
+        ensures faults { W.faults out.new ≡ after_put (W.faults out.old) (is_err result) }
     {
         if bytes.len() > ROOM - self.len() {
             return self.push_past(out, bytes);

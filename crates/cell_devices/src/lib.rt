@@ -5,3 +5,4 @@ pub mod block;
 pub mod device;
 pub mod sink;
 pub mod source;
+pub mod sticky;

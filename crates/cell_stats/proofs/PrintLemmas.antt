@@ -1,11 +1,12 @@
 -- The fields of a line, one after another.
-use Rattle.std.proofs.Common.{◌≡◌, ℕ, ◌+◌, ◌-◌, ◌<◌, All, take, take_all, length-drop, List, [], ◌∷◌, ◌++◌, ◌||◌, Bool, true, false, length, drop, get_or, Option, Result, refl, ap, subst, sym, ◌∙◌, arith, append_assoc, append-nil, if◌then◌else◌}
+use Rattle.std.proofs.Common.{◌≡◌, ℕ, ◌+◌, ◌-◌, ◌<◌, All, take, take_all, length-drop, List, [], ◌∷◌, ◌++◌, Bool, true, false, length, drop, get_or, Option, Result, refl, ap, subst, sym, ◌∙◌, arith, append_assoc, append-nil, if◌then◌else◌}
 use Rattle.std.specs.List.{zip, join_with_byte, flat_map}
 use Rattle.std.proofs.lemmas.Grind.{flat_map-append}
 use Rattle.std.proofs.lemmas.Slice.Zip.{get_or-zip, length-zip}
 use Rattle.std.proofs.lemmas.Result.{IfErr-weaker, IfOk-weaker}
 use Rattle.std.proofs.lemmas.List.{get_or-drop}
 use Rattle.std.specs.Result.{IfErr, OnOk}
+use Rattle.cell_devices.specs.Device.{Faults, after_put}
 use Rattle.cell_devices.specs.declared.sink.WriteFault.{WriteFault}
 use Rattle.cell_devices.specs.Blocks.{BlockValue, Gathers, CutsOff}
 use Rattle.cell_devices.proofs.GatherLemmas.{CutsOff-first, CutsOff-second, Gathers-then}
@@ -122,17 +123,10 @@ combination-parts format maps picks k x is some same =
 pub pair-parts : (format : FormatValue) (maps : List Grid) (picks : List ℕ) (k : Combination) (n : ℕ) → 0 < length picks → length k ≡ length picks → (join_with_byte format.separator (combination_fields format maps picks k) ++ preceded format.separator (count_fields format n)) ++ 10 ∷ [] ≡ pair_line format maps picks (k, n)
 pair-parts format maps picks k n some same = ap (λ (l : List ℕ). l ++ 10 ∷ []) (sym (line-more format maps picks k (count_fields format n) some same))
 
--- a sink that did not fail in one call failed in the next one or before both
-pub failed_then : (now between before failed : Bool) → now ≡ (between || failed) → between ≡ (before || false) → now ≡ (before || failed)
-failed_then now between true failed same was = rw was at same
-failed_then now between false failed same was = rw was at same
+-- a sink that took all so far, and then the next call
+pub faults_then : (now between before : Faults) (fails : Bool) → now ≡ after_put between fails → between ≡ before → now ≡ after_put before fails
+faults_then now between before fails same was = rw was at same
 
--- a sink that did not fail so far has not failed
-pub failed_not : (now before : Bool) → now ≡ before → now ≡ (before || false)
-failed_not now true same = same
-failed_not now false same = same
-
--- and one that did not fail in one call more did not either
-pub failed_still : (now between before : Bool) → now ≡ (between || false) → between ≡ before → now ≡ before
-failed_still now true before same was = same ∙ was
-failed_still now false before same was = same ∙ was
+-- a sink that took all so far, and in the next call
+pub faults_still : (now between before : Faults) → now ≡ between → between ≡ before → now ≡ before
+faults_still now between before same was = same ∙ was

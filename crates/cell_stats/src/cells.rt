@@ -1,7 +1,8 @@
 //! The printed form of cells, line by line.
 
-ghost use Rattle.std.specs.Prelude.{◌≡◌, ◌<◌, ◌≤◌, ◌||◌, [], All, length, flat_map, replicate, OnOk, IfOk, IfErr, is_err};
+ghost use Rattle.std.specs.Prelude.{◌≡◌, ◌<◌, ◌≤◌, [], All, length, flat_map, replicate, OnOk, IfOk, IfErr, is_err};
 ghost use Rattle.cell_devices.specs.Blocks.{Gathers, CutsOff};
+ghost use Rattle.cell_devices.specs.Device.{after_put};
 ghost use Rattle.cell_base.specs.Region.{IsRegion};
 ghost use Rattle.cell_combinations.specs.Combinations.{row_combinations};
 ghost use Rattle.cell_combinations.specs.LeftOut.{kept};
@@ -23,8 +24,8 @@ use std::marker::Model;
 /// The memory for a walk over the cells of several maps of a shelf. It is seen as their number.
 #[derive(Drop)]
 pub struct CellWalk<'a> {
-    cursors: Vec<Cursor<'a>>,
-    cells: Vec<Cell>,
+    pub(crate) cursors: Vec<Cursor<'a>>,
+    pub(crate) cells: Vec<Cell>,
 }
 
 impl<'a> Model for CellWalk<'a> {
@@ -68,7 +69,7 @@ fn write_lines<W: Sink>(
     ensures ok { OnOk result (Gathers (W.taken out.old) block.old (flat_map (cell_line format.now selection.entry.shelf.now.maps selection.entry.picks.now) (kept selection.entry.skip (replicate count cells.now))) (W.taken out.new) block.new) }
     ensures err { IfErr result (λ fault. CutsOff (W.taken out.old) block.old (flat_map (cell_line format.now selection.entry.shelf.now.maps selection.entry.picks.now) (kept selection.entry.skip (replicate count cells.now))) (W.taken out.new) fault.written) }
     ensures lost { IfErr result (λ fault. block.new ≡ record { held = []; written = fault.written }) }
-    ensures failed { W.failed out.new ≡ (W.failed out.old || is_err result) }
+    ensures faults { W.faults out.new ≡ after_put (W.faults out.old) (is_err result) }
 {
     if is_left_out(selection.skip, cells) {
         return Ok(());
@@ -97,7 +98,7 @@ fn write_row<'a, W: Sink>(
     ensures ok { OnOk result (Gathers (W.taken out.old) block.old (flat_map (cell_line format.now selection.entry.shelf.now.maps selection.entry.picks.now) (kept selection.entry.skip (row_combinations selection.entry.shelf.now.maps selection.entry.picks.now selection.entry.shelf.now.region.cols row))) (W.taken out.new) block.new) }
     ensures err { IfErr result (λ fault. CutsOff (W.taken out.old) block.old (flat_map (cell_line format.now selection.entry.shelf.now.maps selection.entry.picks.now) (kept selection.entry.skip (row_combinations selection.entry.shelf.now.maps selection.entry.picks.now selection.entry.shelf.now.region.cols row))) (W.taken out.new) fault.written) }
     ensures lost { IfErr result (λ fault. block.new ≡ record { held = []; written = fault.written }) }
-    ensures failed { W.failed out.new ≡ (W.failed out.old || is_err result) }
+    ensures faults { W.faults out.new ≡ after_put (W.faults out.old) (is_err result) }
 {
     let cols = selection.shelf.region().cols();
     restart_all(cursors, selection.shelf, selection.picks, row);
@@ -134,7 +135,7 @@ pub fn write_cells<'a, W: Sink>(
     ensures ok { OnOk result (Gathers (W.taken out.old) block.old (cells_text format.now skip shelf.now.maps picks.now shelf.now.region.rows shelf.now.region.cols) (W.taken out.new) block.new) }
     ensures err { IfErr result (λ fault. CutsOff (W.taken out.old) block.old (cells_text format.now skip shelf.now.maps picks.now shelf.now.region.rows shelf.now.region.cols) (W.taken out.new) fault.written) }
     ensures lost { IfErr result (λ fault. block.new ≡ record { held = []; written = fault.written }) }
-    ensures failed { W.failed out.new ≡ (W.failed out.old || is_err result) }
+    ensures faults { W.faults out.new ≡ after_put (W.faults out.old) (is_err result) }
 {
     let CellWalk {
         mut cursors,

@@ -1,9 +1,10 @@
 //! The printed form of tables and of cells.
 
-ghost use Rattle.std.specs.Prelude.{◌≡◌, ◌<◌, ◌||◌, [], ◌∷◌, ◌++◌, All, length, flat_map, replicate, OnOk, IfErr, IfSome, is_err};
+ghost use Rattle.std.specs.Prelude.{◌≡◌, ◌<◌, [], ◌∷◌, ◌++◌, All, length, flat_map, replicate, OnOk, IfErr, IfSome, is_err};
 ghost use Rattle.std.specs.List.{join_with_byte};
 ghost use Rattle.std.specs.Option.{option_map};
 ghost use Rattle.cell_devices.specs.Blocks.{Gathers, CutsOff};
+ghost use Rattle.cell_devices.specs.Device.{after_put};
 ghost use Rattle.cell_stats.specs.TableText.{cell_line, combination_fields, count_fields, label_in, pair_line, printed_pairs, table_text};
 ghost use Rattle.cell_stats.specs.parts.Preceded.{next_text, others_text, pick_text, preceded};
 
@@ -18,7 +19,7 @@ use cell_core::text::write_cell;
 use itoa::Buffer;
 
 // The label of a cell of a map.
-fn label_of<'a>(shelf: &'a Shelf, place: usize, cell: Cell) -> &'a [u8]
+pub(crate) fn label_of<'a>(shelf: &'a Shelf, place: usize, cell: Cell) -> &'a [u8]
     requires { place < length shelf.now.maps }
     ensures { result.now ≡ label_in shelf.now.maps place cell }
 {
@@ -41,7 +42,7 @@ fn write_next<W: Sink>(
     ensures ok { OnOk result (Gathers (W.taken out.old) block.old (separator ∷ field.now) (W.taken out.new) block.new) }
     ensures err { IfErr result (λ fault. CutsOff (W.taken out.old) block.old (separator ∷ field.now) (W.taken out.new) fault.written) }
     ensures lost { IfErr result (λ fault. block.new ≡ record { held = []; written = fault.written }) }
-    ensures failed { W.failed out.new ≡ (W.failed out.old || is_err result) }
+    ensures faults { W.faults out.new ≡ after_put (W.faults out.old) (is_err result) }
 {
     block.push(out, &[separator])?;
     block.push(out, field)
@@ -60,7 +61,7 @@ fn write_pick<W: Sink>(
     ensures ok { OnOk result (Gathers (W.taken out.old) block.old (pick_text format.now shelf.now.maps place cell) (W.taken out.new) block.new) }
     ensures err { IfErr result (λ fault. CutsOff (W.taken out.old) block.old (pick_text format.now shelf.now.maps place cell) (W.taken out.new) fault.written) }
     ensures lost { IfErr result (λ fault. block.new ≡ record { held = []; written = fault.written }) }
-    ensures failed { W.failed out.new ≡ (W.failed out.old || is_err result) }
+    ensures faults { W.faults out.new ≡ after_put (W.faults out.old) (is_err result) }
 {
     write_cell(out, block, cell, format.null_text())?;
     if !format.labels() {
@@ -82,7 +83,7 @@ fn write_next_pick<W: Sink>(
     ensures ok { OnOk result (Gathers (W.taken out.old) block.old (next_text format.now shelf.now.maps (place, cell)) (W.taken out.new) block.new) }
     ensures err { IfErr result (λ fault. CutsOff (W.taken out.old) block.old (next_text format.now shelf.now.maps (place, cell)) (W.taken out.new) fault.written) }
     ensures lost { IfErr result (λ fault. block.new ≡ record { held = []; written = fault.written }) }
-    ensures failed { W.failed out.new ≡ (W.failed out.old || is_err result) }
+    ensures faults { W.faults out.new ≡ after_put (W.faults out.old) (is_err result) }
 {
     block.push(out, &[format.separator()])?;
     write_pick(out, block, shelf, place, cell, format)
@@ -102,7 +103,7 @@ fn write_others<W: Sink>(
     ensures ok { OnOk result (Gathers (W.taken out.old) block.old (others_text format.now shelf.now.maps picks.now cells.now) (W.taken out.new) block.new) }
     ensures err { IfErr result (λ fault. CutsOff (W.taken out.old) block.old (others_text format.now shelf.now.maps picks.now cells.now) (W.taken out.new) fault.written) }
     ensures lost { IfErr result (λ fault. block.new ≡ record { held = []; written = fault.written }) }
-    ensures failed { W.failed out.new ≡ (W.failed out.old || is_err result) }
+    ensures faults { W.faults out.new ≡ after_put (W.faults out.old) (is_err result) }
 {
     for i in 0..cells.len() {
         write_next_pick(out, block, shelf, picks[i], cells[i], format)?;
@@ -125,7 +126,7 @@ fn write_combination<W: Sink>(
     ensures ok { OnOk result (Gathers (W.taken out.old) block.old (join_with_byte format.now.separator (combination_fields format.now shelf.now.maps picks.now cells.now)) (W.taken out.new) block.new) }
     ensures err { IfErr result (λ fault. CutsOff (W.taken out.old) block.old (join_with_byte format.now.separator (combination_fields format.now shelf.now.maps picks.now cells.now)) (W.taken out.new) fault.written) }
     ensures lost { IfErr result (λ fault. block.new ≡ record { held = []; written = fault.written }) }
-    ensures failed { W.failed out.new ≡ (W.failed out.old || is_err result) }
+    ensures faults { W.faults out.new ≡ after_put (W.faults out.old) (is_err result) }
 {
     write_pick(out, block, shelf, picks[0], cells[0], format)?;
     write_others(out, block, shelf, &picks[1..], &cells[1..], format)
@@ -141,7 +142,7 @@ fn write_count<W: Sink>(
     ensures ok { OnOk result (Gathers (W.taken out.old) block.old (preceded format.now.separator (count_fields format.now count)) (W.taken out.new) block.new) }
     ensures err { IfErr result (λ fault. CutsOff (W.taken out.old) block.old (preceded format.now.separator (count_fields format.now count)) (W.taken out.new) fault.written) }
     ensures lost { IfErr result (λ fault. block.new ≡ record { held = []; written = fault.written }) }
-    ensures failed { W.failed out.new ≡ (W.failed out.old || is_err result) }
+    ensures faults { W.faults out.new ≡ after_put (W.faults out.old) (is_err result) }
 {
     if !format.counts() {
         return Ok(());
@@ -170,7 +171,7 @@ fn write_pair<W: Sink>(
     ensures ok { OnOk result (Gathers (W.taken out.old) block.old (pair_line format.now shelf.now.maps picks.now (cells.now, count)) (W.taken out.new) block.new) }
     ensures err { IfErr result (λ fault. CutsOff (W.taken out.old) block.old (pair_line format.now shelf.now.maps picks.now (cells.now, count)) (W.taken out.new) fault.written) }
     ensures lost { IfErr result (λ fault. block.new ≡ record { held = []; written = fault.written }) }
-    ensures failed { W.failed out.new ≡ (W.failed out.old || is_err result) }
+    ensures faults { W.faults out.new ≡ after_put (W.faults out.old) (is_err result) }
 {
     write_combination(out, block, shelf, picks, cells, format)?;
     write_count(out, block, count, format)?;
@@ -192,7 +193,7 @@ pub(crate) fn write_cell_line<W: Sink>(
     ensures ok { OnOk result (Gathers (W.taken out.old) block.old (cell_line format.now shelf.now.maps picks.now cells.now) (W.taken out.new) block.new) }
     ensures err { IfErr result (λ fault. CutsOff (W.taken out.old) block.old (cell_line format.now shelf.now.maps picks.now cells.now) (W.taken out.new) fault.written) }
     ensures lost { IfErr result (λ fault. block.new ≡ record { held = []; written = fault.written }) }
-    ensures failed { W.failed out.new ≡ (W.failed out.old || is_err result) }
+    ensures faults { W.faults out.new ≡ after_put (W.faults out.old) (is_err result) }
 {
     write_combination(out, block, shelf, picks, cells, format)?;
     block.push(out, b"\n")
@@ -222,7 +223,7 @@ pub fn write_table<W: Sink>(
     ensures ok { OnOk result (Gathers (W.taken out.old) block.old (table_text format.now shelf.now.maps picks.now (printed_pairs (option_map (λ k. k.now) after.entry) table.now.pairs)) (W.taken out.new) block.new) }
     ensures err { IfErr result (λ fault. CutsOff (W.taken out.old) block.old (table_text format.now shelf.now.maps picks.now (printed_pairs (option_map (λ k. k.now) after.entry) table.now.pairs)) (W.taken out.new) fault.written) }
     ensures lost { IfErr result (λ fault. block.new ≡ record { held = []; written = fault.written }) }
-    ensures failed { W.failed out.new ≡ (W.failed out.old || is_err result) }
+    ensures faults { W.faults out.new ≡ after_put (W.faults out.old) (is_err result) }
 {
     let entries = table.printed(after);
     for (combo, count) in entries {

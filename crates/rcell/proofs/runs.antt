@@ -1,3 +1,4 @@
 pub mod AcceptedLemmas
+pub mod EndLemmas
 pub mod ExecutionLemmas
 pub mod WrittenLemmas

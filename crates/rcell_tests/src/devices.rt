@@ -87,11 +87,11 @@ struct Counting {
 }
 
 impl Sink for Counting {
-    ghost use Rattle.std.specs.Prelude.{None};
+    ghost use Rattle.std.specs.Prelude.{None, false};
 
     ghost taken = { λ _. None };
 
-    ghost failed = { λ s. s.has_failed };
+    ghost faults = { λ s. record { refused = s.has_failed; unflushed = false } };
 
     fn put(&mut self, bytes: &[u8]) -> Result<usize, DeviceFault> {
         if bytes.len() > self.room {

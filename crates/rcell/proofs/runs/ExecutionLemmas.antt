@@ -1,13 +1,14 @@
 -- One statement more.
-use Rattle.std.proofs.Common.{◌≡◌, ℕ, suc, ◌+◌, ◌<◌, Some, true, List, [], ◌∷◌, ◌++◌, length, take, drop, get_or, Option, refl, ap, sym, ◌∙◌, arith, subst, add-one, append-nil, length-append, take-append-drop, All}
+use Rattle.std.proofs.Common.{◌≡◌, ℕ, suc, ◌+◌, ◌<◌, Some, false, List, [], ◌∷◌, ◌++◌, length, take, drop, get_or, Option, refl, ap, sym, ◌∙◌, arith, subst, add-one, append-nil, length-append, take-append-drop, All}
 use Rattle.std.specs.Prelude.{slice_get}
 use Rattle.std.proofs.Math.Seq.{drop-cons}
 use Rattle.std.proofs.lemmas.List.{take_more}
 use Rattle.cell_ascii_text.specs.Writing.{grid_text}
-use Rattle.cell_devices.specs.Device.{append_known}
+use Rattle.cell_devices.specs.Device.{Faults, append_known}
 use Rattle.cell_core.specs.Grid.{Grid}
 use Rattle.cell_core.specs.Shelf.{ShelfValue}
-use Rattle.cell_devices.specs.Blocks.{BlockValue, Gathered, IsPut, Gathers, PutsAll, CutsOff, capped}
+use Rattle.cell_devices.specs.Blocks.{capped}
+use Rattle.cell_devices.specs.Sticky.{StickyValue, Printed, Appends}
 use Rattle.cell_script.specs.Known.{known_after}
 use Rattle.cell_commands.specs.Fitting.{FitsCommand}
 use Rattle.cell_script.specs.Fitting.{Fits}
@@ -17,41 +18,18 @@ use Rattle.cell_script.specs.declared.statement.Statement.{Statement}
 use Rattle.rcell.specs.After.{IsAfter}
 use Rattle.cell_commands.specs.declared.command.StatsOptions.{StatsOptions}
 use Rattle.rcell.specs.Output.{Executes, command_text, stats_text}
-use Rattle.rcell.specs.parts.Steps.{Puts, PutsCut, IsStopped, HasExecuted, is_write}
-use Rattle.rcell.specs.runs.Execution.{IsBefore, IsWithin, Stops}
+use Rattle.rcell.specs.parts.Steps.{HasExecuted}
+use Rattle.rcell.specs.runs.Execution.{IsBefore, IsWithin}
 use Rattle.rcell.specs.runs.Outcomes.{IsDone}
-use Rattle.rcell.specs.declared.runs.execution.Stop.{Stop}
-use Rattle.rcell.specs.declared.runs.execution.Stop.TheVariants.{Memory, Write}
 use Rattle.rcell.proofs.OutputLemmas.{Executes-append}
 
--- what was put was gathered
-pub IsPut-gathered : (before : Option (List ℕ)) (text : List ℕ) (now : Option (List ℕ)) (block : BlockValue) → IsPut before text now block → Gathered before text now block
-IsPut-gathered before text now block put = record { front = text; whole = rw put.held (append-nil text); taken = put.taken; written = put.count }
-
--- a text is gathered, and then all is put
-pub gathered_then_put : (taken : Option (List ℕ)) (old : BlockValue) (bytes : List ℕ) (middle : Option (List ℕ)) (between : BlockValue) (now : Option (List ℕ)) (new : BlockValue)
-    → Gathers taken old bytes middle between → PutsAll middle between now new → Puts taken old bytes now new
-gathered_then_put taken old bytes middle between now new gathers puts = λ before text put. puts before (text ++ bytes) (gathers before text (IsPut-gathered before text taken old put))
-
--- a text is gathered in a block that then holds nothing
-pub gathered_past : (taken : Option (List ℕ)) (old : BlockValue) (bytes : List ℕ) (now : Option (List ℕ)) (new : BlockValue) → Gathers taken old bytes now new → new.held ≡ [] → Puts taken old bytes now new
-gathered_past taken old bytes now new gathers none = λ before text put.
-    let gathered = gathers before text (IsPut-gathered before text taken old put) in
-    let all : gathered.front ≡ text ++ bytes = sym (append-nil gathered.front) ∙ ap (λ t. gathered.front ++ t) (sym none) ∙ gathered.whole in
-    record { taken = gathered.taken ∙ ap (append_known before) all; held = none; count = gathered.written ∙ ap (λ t. capped (length t)) all }
-
--- the sink failed within such a text
-pub cut_past : (taken : Option (List ℕ)) (old : BlockValue) (bytes : List ℕ) (now : Option (List ℕ)) (written : ℕ) → CutsOff taken old bytes now written → PutsCut taken old bytes now written
-cut_past taken old bytes now written cuts = λ before text put. cuts before text (IsPut-gathered before text taken old put)
-
--- a statement whose text was cut is stopped by the sink
-pub stopped_in_text : (line : ℕ) (bytes : List ℕ) (taken : Option (List ℕ)) (old : BlockValue) (now : Option (List ℕ)) (written : ℕ) (stop : Stop) → (stop ≡ Write) × PutsCut taken old bytes now written
-    → IsStopped line bytes taken old now written stop
-stopped_in_text line bytes taken old now written stop (write, cut) = rw write cut
-
--- nothing is put
-pub puts_nothing : (taken : Option (List ℕ)) (old : BlockValue) → Puts taken old [] taken old
-puts_nothing taken old = λ before text put. rw (append-nil text) put
+-- all was printed, and is put
+module _ {before now : Option (List ℕ)} {start faults : Faults} {text : List ℕ} {block : StickyValue} (p : Printed before start text now faults block) where
+  pub printed_put : block.failed ≡ false → block.held ≡ [] → (now ≡ append_known before text) × ((block.written ≡ capped (length text)) × (faults ≡ start))
+  printed_put good none =
+      let rest : [] ≡ p.rest = sym none ∙ rw good at p.held in
+      let front : p.front ≡ text = sym (append-nil p.front) ∙ ap (λ (l : List ℕ). p.front ++ l) rest ∙ p.whole in
+      (p.taken ∙ ap (append_known before) front, (p.count ∙ ap (λ (l : List ℕ). capped (length l)) front, rw good at p.fails))
 
 -- the text of a statement that asks for the grid text of a map
 pub grid_command : (shelf : ShelfValue) (command : Command) (place : ℕ) (text : List ℕ) (m : Grid) → command ≡ OutAscii place text → slice_get shelf.maps place ≡ Some m
@@ -68,10 +46,6 @@ next_at statements i s h read = rw add-one (drop-cons statements i s h ∙ ap (�
 cut_at : (statements : List Statement) (i : ℕ) (s : Statement) → i < length statements → s ≡ get_or statements i s → take i statements ++ s ∷ drop (i + 1) statements ≡ statements
 cut_at statements i s h read = ap (λ l. take i statements ++ l) (sym (next_at statements i s h read)) ∙ take-append-drop i statements
 
--- nothing was executed
-pub executed_none : (shelf : ShelfValue) (before : Option (List ℕ)) (block : BlockValue) → IsPut before [] before block → HasExecuted shelf [] before before block shelf
-executed_none shelf before block put = record { text = []; executed = (refl, refl); put = put }
-
 module _ (statements : List Statement) (i : ℕ) (s : Statement) (h : i < length statements) (read : s ≡ get_or statements i s) where
   -- the statement at place i fits, and those after it fit the shelf that it leaves
   pub fits_more : (known next : List (List ℕ)) → Fits known (drop i statements) → next ≡ known_after known s.command → FitsCommand known s.command × Fits next (drop (i + 1) statements)
@@ -87,51 +61,59 @@ module _ (statements : List Statement) (i : ℕ) (s : Statement) (h : i < length
       subst (λ (l : List Statement). Executes shelf l (text ++ command_text after s.command) next) list
       (Executes-append (take i statements) (s ∷ []) shelf after next text (command_text after s.command) executed last)
 
-  module _ (shelf after : ShelfValue) (before taken : Option (List ℕ)) (old : BlockValue) (executed : HasExecuted shelf (take i statements) before taken old after) where
-    -- the statement at place i is executed
-    pub executed_more : (next : ShelfValue) (now : Option (List ℕ)) (new : BlockValue) → IsAfter after s.command next → Puts taken old (command_text after s.command) now new
-        → HasExecuted shelf (take (i + 1) statements) before now new next
-    executed_more next now new step puts =
-        record { text = executed.text ++ command_text after s.command; executed = more shelf after next executed.text executed.executed step; put = puts before executed.text executed.put }
-
-    -- the execution stops where the statement at place i stops
-    pub stops_at : (now : Option (List ℕ)) (written : ℕ) (stop : Stop) → IsStopped s.line (command_text after s.command) taken old now written stop → (is_write stop ≡ true → IsAfter after s.command after)
-        → Stops shelf statements before now written stop
-    stops_at now written (Memory line) stopped step = record {
-      first = take i statements;
-      statement = s;
-      others = drop (i + 1) statements;
-      whole = cut_at statements i s h read;
-      line_is = stopped.0;
-      text = executed.text;
-      after = after;
-      executed = executed.executed;
-      taken = stopped.1.0 ∙ executed.put.taken;
-      count = stopped.1.1 ∙ executed.put.count;
+  module _ {shelf after : ShelfValue} {before taken : Option (List ℕ)} {start faults : Faults} {old : StickyValue} (executed : HasExecuted shelf (take i statements) before start taken faults old after) where
+    -- the statement at place i is executed, and the block emptied
+    pub executed_more : {next : ShelfValue} {S : Type 0} {known : S → Option (List ℕ)} {failing : S → Faults} {was now : S} {new : StickyValue} → taken ≡ known was → faults ≡ failing was → IsAfter after s.command next
+        → Appends known failing was old (command_text after s.command) now new → HasExecuted shelf (take (i + 1) statements) before start (known now) (failing now) new next
+    executed_more {next} t f step appends = record {
+      text = executed.text ++ command_text after s.command;
+      executed = more shelf after next executed.text executed.executed step;
+      printed = appends.adds before start executed.text (rw (t, f) at executed.printed);
     }
-    stops_at now written Write stopped step =
-        let cut = stopped before executed.text executed.put in
+
+    -- memory was refused to the statement at place i
+    pub before_at : old.failed ≡ false → old.held ≡ [] → IsBefore shelf statements before taken old.written s.line
+    before_at good none =
+        let put = printed_put executed.printed good none in
         record {
-          first = take (i + 1) statements;
+          first = take i statements;
+          statement = s;
           others = drop (i + 1) statements;
-          whole = take-append-drop (i + 1) statements;
-          prefix = cut.front;
-          rest = cut.rest;
+          whole = cut_at statements i s h read;
+          line_is = refl;
+          text = executed.text;
           after = after;
-          executed = subst (λ (t : List ℕ). Executes shelf (take (i + 1) statements) t after) (sym cut.whole) (more shelf after after executed.text executed.executed (step refl));
-          taken = cut.taken;
-          count = cut.count;
+          executed = executed.executed;
+          taken = put.0;
+          count = put.1.0;
         }
 
--- all statements were executed
-pub executed_all : (shelf after : ShelfValue) (statements first : List Statement) (before now : Option (List ℕ)) (block : BlockValue) → first ≡ statements → HasExecuted shelf first before now block after
-    → IsDone shelf statements before now block.written
-executed_all shelf after statements first before now block all executed = record {
-  text = executed.text;
-  output = (after, subst (λ (l : List Statement). Executes shelf l executed.text after) all executed.executed);
-  taken = executed.put.taken;
-  count = executed.put.count;
+-- the sink refused a put
+pub executed_within : (shelf after : ShelfValue) (statements : List Statement) (i : ℕ) (before now : Option (List ℕ)) (start faults : Faults) (block : StickyValue)
+    → HasExecuted shelf (take i statements) before start now faults block after → IsWithin shelf statements before now block.written
+executed_within shelf after statements i before now start faults block executed = record {
+  first = take i statements;
+  others = drop i statements;
+  whole = take-append-drop i statements;
+  prefix = executed.printed.front;
+  rest = executed.printed.rest;
+  after = after;
+  executed = subst (λ (t : List ℕ). Executes shelf (take i statements) t after) (sym executed.printed.whole) executed.executed;
+  taken = executed.printed.taken;
+  count = executed.printed.count;
 }
+
+-- all statements were executed
+pub executed_all : (shelf after : ShelfValue) (statements first : List Statement) (before now : Option (List ℕ)) (start faults : Faults) (block : StickyValue) → first ≡ statements → block.failed ≡ false → block.held ≡ []
+    → HasExecuted shelf first before start now faults block after → IsDone shelf statements before now block.written
+executed_all shelf after statements first before now start faults block all good none executed =
+    let put = printed_put executed.printed good none in
+    record {
+      text = executed.text;
+      output = (after, subst (λ (l : List Statement). Executes shelf l executed.text after) all executed.executed);
+      taken = put.0;
+      count = put.1.0;
+    }
 
 -- where all was written and the flush failed, the prefix is the whole output
 pub done_within : (shelf : ShelfValue) (statements : List Statement) (before now : Option (List ℕ)) (written : ℕ) → IsDone shelf statements before now written → IsWithin shelf statements before now written
@@ -158,7 +140,3 @@ line_above shelf statements before now written line numbered at =
     let here : get_or statements (length at.first) at.statement ≡ at.statement = ap (λ l. get_or l (length at.first) at.statement) (sym at.whole) ∙ got_at at.first at.statement at.others at.statement in
     let above : 0 < at.statement.line = rw here at (numbered (length at.first) at.statement within) in
     rw at.line_is above
-
--- the line on which an execution stopped out of memory is above 0
-pub stop_line_above : (shelf : ShelfValue) (statements : List Statement) (before now : Option (List ℕ)) (written line : ℕ) (stop : Stop) → All (λ s. 0 < s.line) statements → stop ≡ Memory line → Stops shelf statements before now written stop → 0 < line
-stop_line_above shelf statements before now written line stop numbered is stops = line_above shelf statements before now written line numbered (rw is at stops)

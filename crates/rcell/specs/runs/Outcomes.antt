@@ -1,11 +1,13 @@
 -- What a run of an accepted script answers: the whole output.
-use Rattle.std.specs.Prelude.{ℕ, ◌≡◌, Bool, false, List, length, Option, None, IfSome}
+use Rattle.std.specs.Prelude.{ℕ, ◌≡◌, Bool, true, false, List, length, Option, Some, None, IfSome, if◌then◌else◌}
 use Rattle.cell_devices.specs.Blocks.{capped}
-use Rattle.cell_devices.specs.Device.{append_known}
+use Rattle.cell_devices.specs.Device.{Faults, after_put, after_flush, append_known}
 use Rattle.cell_core.specs.Shelf.{ShelfValue}
 use Rattle.cell_script.specs.declared.statement.Statement.{Statement}
 use Rattle.rcell.specs.Output.{IsOutput}
 use Rattle.cell_loading.specs.Faults.{IsOfMemory}
+use Rattle.cell_loading.specs.declared.fault.RunFault.{RunFault}
+use Rattle.cell_loading.specs.declared.fault.RunFault.TheVariants.{Write}
 use Rattle.rcell.specs.declared.runs.outcome.Outcome.{Outcome}
 
 -- the sink took exactly the output of the statements, and its length is told
@@ -20,3 +22,10 @@ abbrev pub Writes : ShelfValue → List Statement → Option (List ℕ) → Opti
 Writes shelf statements before now failed outcome =
     IfSome outcome.fault (λ f. IsOfMemory f → ⊥) → failed ≡ false
     → (outcome.status ≡ 0) × ((outcome.fault ≡ None) × IsDone shelf statements before now outcome.written)
+
+-- which calls of the sink failed, by the fault: none where there is no fault; for Write either a put, after which the sink
+-- is not flushed, or else the flush at the end; for any other no put, and at most the flush at the end
+abbrev pub Failing : Option RunFault → Faults → Faults → Type 0
+Failing None old new = new ≡ old
+Failing (Some Write) old new = (put : Bool) × (new ≡ (if put then after_put old true else after_flush old true))
+Failing (Some fault) old new = (flush : Bool) × (new ≡ after_flush old flush)

@@ -1,17 +1,19 @@
 //! A run, from bytes to bytes.
 
-ghost use Rattle.std.specs.Prelude.{◌≡◌, ℕ, ◌<◌, List, All, length, true, IsNone, IsSome, IfSome, IfOk, IfErr, Ok, Err, Some, None, vec_len};
+ghost use Rattle.std.specs.Prelude.{◌≡◌, ℕ, ◌<◌, List, All, length, true, false, IsNone, IsSome, IfSome, IfOk, IfErr, Ok, Err, Some, None, vec_len};
+ghost use Rattle.cell_devices.specs.Device.{has_failed};
 ghost use Rattle.cell_core.specs.Shelf.{ShelfValue};
 ghost use Rattle.cell_script.specs.Fitting.{Fits};
 ghost use Rattle.cell_script.specs.declared.statement.Statement.{Statement};
 ghost use Rattle.cell_loading.specs.Faults.{IsOfInput, IsBeforeExecution, IsInExecution, IsTold};
+ghost use Rattle.rcell.specs.parts.Ends.{Ends, IsEnd};
 ghost use Rattle.cell_loading.specs.Sources.{AllKnown, known_of, coming_of};
 ghost use Rattle.rcell.specs.runs.Accepted.{IsAccepted};
 ghost use Rattle.rcell.specs.runs.Statuses.{status_of, status_after};
-ghost use Rattle.rcell.specs.runs.Endings.{Reads, IsScriptRefusal, IsRefusal, IsRead, IsRunDone, StopsAt, IsRunStopped};
-ghost use Rattle.rcell.specs.runs.Outcomes.{IsDone, Writes};
+ghost use Rattle.rcell.specs.runs.Endings.{Reads, IsScriptRefusal, IsRefusal, IsRead, IsRunDone, IsRunStopped};
+ghost use Rattle.rcell.specs.runs.Outcomes.{Failing, Writes};
 
-use crate::runs::execution::{Stop, execute};
+use crate::runs::execution::{Stop, Stopped, execute};
 use crate::runs::outcome::{Outcome, RunFault, status_of};
 use cell_core::name::Name;
 use cell_core::shelf::Shelf;
@@ -54,18 +56,13 @@ fn read_statements<R: Source + Drop>(
     }
 }
 
-// Executes the statements, and flushes the sink unless it failed.
-fn put_out<W: Sink>(alloc: Global, mut shelf: Shelf, script: &Script, out: &mut W) -> Outcome
-    requires fits { Fits shelf.names script.now }
-    requires numbered { All (λ t. 0 < t.line) script.now }
-    ensures done { IsNone result.fault → IsDone shelf script.now (W.taken out.old) (W.taken out.new) result.written }
-    ensures late { IfSome result.fault IsInExecution }
-    ensures stops { IfSome result.fault (λ f. StopsAt shelf script.now (W.taken out.old) (W.taken out.new) result.written f) }
-    ensures status { result.status ≡ status_after result.fault }
-    ensures sound { IsNone result.fault → W.failed out.new ≡ W.failed out.old }
-    ensures write { result.fault ≡ Some RunFault.Write → W.failed out.new ≡ true }
+// Flushes the sink unless it refused a put, and answers. A flush that fails turns a run that is done into a failed write,
+// and changes no other answer.
+fn finish<W: Sink>(executed: Result<u64, Stopped>, out: &mut W) -> Outcome
+    ensures taken { W.taken out.new ≡ W.taken out.old }
+    ensures ends { Ends executed (W.faults out.old) (W.faults out.new) result }
 {
-    match execute(alloc, &mut shelf, script.statements(), out) {
+    match executed {
         Ok(written) => match out.flush() {
             Ok(()) => Outcome {
                 status: 0,
@@ -82,6 +79,16 @@ fn put_out<W: Sink>(alloc: Global, mut shelf: Shelf, script: &Script, out: &mut 
             Stop::Write => refused(RunFault::Write, stopped.written),
         },
     }
+}
+
+// Executes the statements, and flushes the sink unless it refused a put.
+fn put_out<W: Sink>(alloc: Global, mut shelf: Shelf, script: &Script, out: &mut W) -> Outcome
+    requires fits { Fits shelf.names script.now }
+    requires numbered { All (λ t. 0 < t.line) script.now }
+    ensures { IsEnd shelf script.now (W.taken out.old) (W.taken out.new) (W.faults out.old) (W.faults out.new) result }
+{
+    let executed = execute(alloc, &mut shelf, script.statements(), out);
+    finish(executed, out)
 }
 
 fn refused(fault: RunFault, written: u64) -> Outcome
@@ -112,8 +119,8 @@ pub fn run<R: Source + Drop, W: Sink>(
     // A fault of the grids or of the script is the first that they have.
     ensures refused { AllKnown R.coming grids.items → IsSome (R.coming script)
         → IfSome result.fault (λ f. IsOfInput f → IsRefusal (known_of R.coming grids.items) (coming_of R.coming script) f) }
-    // A run that is refused before execution writes nothing.
-    ensures nothing { IfSome result.fault (λ f. IsBeforeExecution f → (W.taken out.new ≡ W.taken out.old) × (result.written ≡ 0)) }
+    // A run that is refused before execution writes nothing, and no call of the sink fails.
+    ensures nothing { IfSome result.fault (λ f. IsBeforeExecution f → (W.taken out.new ≡ W.taken out.old) × ((W.faults out.new ≡ W.faults out.old) × (result.written ≡ 0))) }
     // A run that stops out of memory has written the whole output of the statements before the one that it tells; one that
     // stops at a failing sink has written a prefix of the output, and tells its length.
     ensures stopped { AllKnown R.coming grids.items → IsSome (R.coming script) → IfSome result.fault (λ f. IsInExecution f
@@ -122,17 +129,23 @@ pub fn run<R: Source + Drop, W: Sink>(
     // A fault of a grid names one that was given, and being out of memory for a grid or for the script is told at line 0.
     ensures told { IfSome result.fault (IsTold (length grids.items)) }
     // Of a sink that had not failed before, status 0 comes only where it did not fail, and Write only where it failed.
-    ensures sound { result.status ≡ 0 → W.failed out.new ≡ W.failed out.old }
-    ensures write { result.fault ≡ Some RunFault.Write → W.failed out.new ≡ true }
+    ensures sound { result.status ≡ 0 → W.faults out.new ≡ W.faults out.old }
+    ensures write { result.fault ≡ Some RunFault.Write → has_failed (W.faults out.new) ≡ true }
+    // Write where no put was refused, as where only the flush at the end failed: the sink took the whole output.
+    ensures whole { AllKnown R.coming grids.items → IsSome (R.coming script) → result.fault ≡ Some RunFault.Write → (W.faults out.new).refused ≡ false
+        → IsRunDone (known_of R.coming grids.items) (coming_of R.coming script) (W.taken out.old) (W.taken out.new) result.written }
+    // The fault is the one that came first: a put that is refused is told as Write, and the sink is not flushed after it; a
+    // flush that fails after another fault changes nothing.
+    ensures first { Failing result.fault (W.faults out.old) (W.faults out.new) }
     // For every accepted script over grids of one region, where memory lasts and the sink takes everything,
     // exactly the output of its statements is written.
     ensures headline { (shelf : ShelfValue) (statements : List Statement) → AllKnown R.coming grids.items → IsSome (R.coming script)
         → IsAccepted (known_of R.coming grids.items) (coming_of R.coming script) shelf statements
-        → Writes shelf statements (W.taken out.old) (W.taken out.new) (W.failed out.new) result }
+        → Writes shelf statements (W.taken out.old) (W.taken out.new) (has_failed (W.faults out.new)) result }
     // The same of whatever is read as statements over a shelf.
     ensures complete { (shelf : ShelfValue) (statements : List Statement) → AllKnown R.coming grids.items → IsSome (R.coming script)
         → IsRead (known_of R.coming grids.items) (coming_of R.coming script) shelf statements
-        → Writes shelf statements (W.taken out.old) (W.taken out.new) (W.failed out.new) result }
+        → Writes shelf statements (W.taken out.old) (W.taken out.new) (has_failed (W.faults out.new)) result }
 {
     let shelf = match load(alloc, grids) {
         Ok(shelf) => shelf,

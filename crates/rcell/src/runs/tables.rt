@@ -1,19 +1,20 @@
 //! r.stats: tables and cells are written.
 
-ghost use Rattle.std.specs.Prelude.{◌≡◌, ◌<◌, ◌≤◌, ◌||◌, All, [], length, true, false, OnOk, IfErr, IfSome};
+ghost use Rattle.std.specs.Prelude.{◌≡◌, ◌<◌, ◌≤◌, All, length, OnOk, OnErr, IfSome};
 ghost use Rattle.std.specs.Option.{option_map};
+ghost use Rattle.cell_devices.specs.Sticky.{Appends};
 ghost use Rattle.rcell.specs.Output.{stats_text, format_of};
-ghost use Rattle.rcell.specs.parts.Steps.{Puts, PutsCut, IsStopped, stops_write};
 
-use crate::runs::execution::{Stop, Stopped, out_of_memory, stopped_by};
-use cell_core::block::Block;
+use cell_core::memory::Memory;
 use cell_core::shelf::Shelf;
 use cell_core::sink::Sink;
+use cell_core::sticky::StickyBlock;
 use cell_script::statement::StatsOptions;
-use cell_stats::cells::{CellWalk, write_cells};
+use cell_stats::cells::CellWalk;
 use cell_stats::combination::Combo;
 use cell_stats::format::Format;
-use cell_stats::printing::write_table;
+use cell_stats::sticky_cells::write_cells;
+use cell_stats::sticky_printing::write_table;
 use cell_stats::tallying::tally;
 use std::alloc::Global;
 
@@ -43,45 +44,34 @@ fn after_of<'a>(options: &'a StatsOptions) -> Option<&'a Combo>
 ///
 /// # Errors
 ///
-/// Out of memory at the line, with nothing written, or at a failing write.
+/// `Memory`, where memory is refused: nothing is written then.
 pub fn put_stats<W: Sink>(
     alloc: Global,
     shelf: &Shelf,
     places: &[usize],
     options: &StatsOptions,
-    line: u64,
-    block: &mut Block,
+    block: &mut StickyBlock,
     out: &mut W,
-) -> Result<(), Stopped>
+) -> Result<(), Memory>
     requires within { All (λ place. place < length shelf.now.maps) places.now }
     requires some { 1 ≤ length places.now }
     requires most { length places.now ≤ 16 }
     requires width { IfSome options.now.after (λ k. length k ≡ length places.now) }
-    requires held { block.old.held ≡ [] }
-    ensures ok { OnOk result (Puts (W.taken out.old) block.old (stats_text shelf.now places.now options.now) (W.taken out.new) block.new) }
-    ensures held { OnOk result (block.new.held ≡ []) }
-    ensures err { IfErr result (λ s. IsStopped line (stats_text shelf.now places.now options.now) (W.taken out.old) block.old (W.taken out.new) s.written s.stop) }
-    ensures failed { W.failed out.new ≡ (W.failed out.old || stops_write result) }
+    ensures ok { OnOk result (Appends W.taken W.faults out.old block.old (stats_text shelf.now places.now options.now) out.new block.new) }
+    ensures err { OnErr result ((out.new ≡ out.old) × (block.new ≡ block.old)) }
 {
     let format = format_of(options);
-    let written = if options.cells {
+    if options.cells {
         let Ok(walk) = CellWalk::new(alloc, shelf, places) else {
-            return Err(out_of_memory(line, block.written()));
+            return Err(Memory);
         };
-        write_cells(out, block, walk, shelf, places, options.skip, &format)
-    } else {
-        let Ok(table) = tally(alloc, shelf, places, options.skip) else {
-            return Err(out_of_memory(line, block.written()));
-        };
-        let after = after_of(options);
-        write_table(out, block, &table, after, shelf, places, &format)
+        write_cells(out, block, walk, shelf, places, options.skip, &format);
+        return Ok(());
+    }
+    let Ok(table) = tally(alloc, shelf, places, options.skip) else {
+        return Err(Memory);
     };
-    match written {
-        Ok(()) => {}
-        Err(fault) => return Err(stopped_by(fault)),
-    }
-    match block.empty(out) {
-        Ok(()) => Ok(()),
-        Err(fault) => Err(stopped_by(fault)),
-    }
+    let after = after_of(options);
+    write_table(out, block, &table, after, shelf, places, &format);
+    Ok(())
 }

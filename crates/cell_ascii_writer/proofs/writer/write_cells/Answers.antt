@@ -1,11 +1,11 @@
-use Rattle.std.proofs.Common.{◌≡◌, ◌∷◌, List, arith, ℕ, ◌+◌, ◌-◌, ◌*◌, ◌≤◌}
+use Rattle.std.proofs.Common.{◌∙◌, true, ◌≡◌, ◌∷◌, List, arith, ℕ, ◌+◌, ◌-◌, ◌*◌, ◌≤◌}
 use Rattle.std.proofs.lemmas.Result.{IfErr-weaker, IfOk-from_err, IfOk-weaker}
 use Rattle.cell_core.specs.Runs.{RunValue, written_out}
 use Rattle.cell_devices.specs.Blocks.{Gathers, CutsOff}
 use Rattle.cell_ascii_writer.specs.WrittenRuns.{joined_cells}
 use Rattle.cell_devices.proofs.GatherLemmas.{CutsOff-first, CutsOff-second, Gathers-then}
 use Rattle.cell_ascii_writer.proofs.RunWritingLemmas.{first-some, joined-runs, length-first}
-use Rattle.cell_ascii_writer.proofs.WriterLemmas.{IfErr-passed, failed_passed, failed_then}
+use Rattle.cell_ascii_writer.proofs.WriterLemmas.{IfErr-passed, faults_passed, faults_then}
 use Rattle.cell_ascii_writer.proofs.writer.write_cells.Goals as goal
 
 -- what the block counts after the first cell, after its run, and after the runs that follow
@@ -47,7 +47,7 @@ returns-in_err-write_cell g c =
           (rw (whole, joined) (CutsOff-first _ _ _ _ _ _ (CutsOff-first _ _ _ _ _ _ failure.err)));
       lost = IfErr-passed _ c.in_err-write_cell.field-0.0 _ left.1 failure.lost;
       counted = after_cell _ _ _ _ failure.counted c.requires.null;
-      failed = failed_passed _ _ _ left.0 failure.failed;
+      faults = faults_passed _ _ _ left.0 failure.faults;
     }
 
 pub returns-in_err-write_run : goal.returns-in_err-write_run
@@ -66,7 +66,7 @@ returns-in_err-write_run g c =
       lost = IfErr-passed _ c.in_err-write_run.field-0.0 _ left.1 failure.lost;
       counted = rw (whole, length-first rest c.in-Some.first.0 c.in-Some.first.1)
           (after_run _ _ _ _ _ _ failure.counted first.counted c.requires.null);
-      failed = failed_passed _ _ _ left.0 (failed_then _ _ _ _ failure.failed first.failed);
+      faults = faults_passed _ _ _ left.0 (faults_then _ _ _ true failure.faults first.faults);
     }
 
 pub returns : goal.returns
@@ -86,5 +86,5 @@ returns g c =
       lost = c.write_runs.ensures.lost;
       counted = rw (whole, length-first rest c.in-Some.first.0 c.in-Some.first.1)
           (after_all _ _ _ _ _ _ _ c.write_runs.ensures.counted run.counted first.counted c.requires.null);
-      failed = failed_then _ _ _ _ c.write_runs.ensures.failed (failed_then _ _ _ _ run.failed first.failed);
+      faults = faults_then _ _ _ _ c.write_runs.ensures.faults (run.faults ∙ first.faults);
     }

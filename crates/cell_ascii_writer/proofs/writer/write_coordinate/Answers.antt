@@ -2,7 +2,7 @@ use Rattle.std.proofs.Common.{◌≡◌, to_z, of_z, w64}
 use Rattle.std.proofs.lemmas.Int.{to_z-of_z}
 use Rattle.std.proofs.lemmas.Result.{IfErr-weaker, IfOk-from_err, IfOk-weaker, err_from_is_err_and}
 use Rattle.cell_devices.proofs.GatherLemmas.{CutsOff-first, CutsOff-second, Gathers-then}
-use Rattle.cell_ascii_writer.proofs.WriterLemmas.{coordinate_text-negative, coordinate_text-positive, counted_more, counted_then, failed_then}
+use Rattle.cell_ascii_writer.proofs.WriterLemmas.{coordinate_text-negative, coordinate_text-positive, counted_more, counted_then, faults_then}
 use Rattle.cell_ascii_writer.proofs.writer.write_coordinate.Goals as goal
 use Rattle.cell_ascii_writer.proofs.writer.write_coordinate.Goals.{then-units-lt0+in_ok-push, else-units-lt0}
 
@@ -45,10 +45,10 @@ returns-in_err-push-clause-lost g c =
 pub returns-in_err-push-clause-counted : goal.returns-in_err-push-clause-counted
 returns-in_err-push-clause-counted g c = counted_more _ _ 1 81 c.in_err-push.ensures.counted
 
-pub returns-in_err-push-clause-failed : goal.returns-in_err-push-clause-failed
-returns-in_err-push-clause-failed g c =
+pub returns-in_err-push-clause-faults : goal.returns-in_err-push-clause-faults
+returns-in_err-push-clause-faults g c =
     let p = err_from_is_err_and c.from_residual.result c.from_residual.ensures.1 in
-    rw (p.1) c.in_err-push.ensures.failed
+    rw (p.1) c.in_err-push.ensures.faults
 
 pub returns-clause-lost : goal.returns-clause-lost
 returns-clause-lost g c = c.write_units.ensures.lost
@@ -61,10 +61,10 @@ returns-clause-counted g c =
       | else-units-lt0 w ↦ counted_more _ _ 81 1 (rw w.block-is at c.write_units.ensures.counted)
     ]
 
-pub returns-clause-failed : goal.returns-clause-failed
-returns-clause-failed g c =
+pub returns-clause-faults : goal.returns-clause-faults
+returns-clause-faults g c =
     elim c.if-units-lt0.branch [
-      | then-units-lt0+in_ok-push w ↦ failed_then _ _ _ _ (rw w.out-is at c.write_units.ensures.failed)
-          w.in_ok-push.ensures.failed
-      | else-units-lt0 w ↦ rw w.out-is at c.write_units.ensures.failed
+      | then-units-lt0+in_ok-push w ↦ faults_then _ _ _ _ (rw w.out-is at c.write_units.ensures.faults)
+          w.in_ok-push.ensures.faults
+      | else-units-lt0 w ↦ rw w.out-is at c.write_units.ensures.faults
     ]

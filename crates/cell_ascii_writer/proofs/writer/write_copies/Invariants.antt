@@ -7,5 +7,5 @@ abbrev pub invariant-loop : goal.invariant-loop
 invariant-loop g l = record {
   gathers : Gathers (g.W.Sink.taken l.fn.out) l.fn.block (times l.counter l.field) (g.W.Sink.taken l.out) l.block;
   counted : counted l.block ≤ counted l.fn.block + 65 * l.counter;
-  failed : g.W.Sink.failed l.out ≡ g.W.Sink.failed l.fn.out;
+  faults : g.W.Sink.faults l.out ≡ g.W.Sink.faults l.fn.out;
 }

@@ -1,8 +1,8 @@
-use Rattle.std.proofs.Common.{◌≡◌, to_z, of_z, w64}
+use Rattle.std.proofs.Common.{◌∙◌, true, ◌≡◌, to_z, of_z, w64}
 use Rattle.std.proofs.lemmas.Int.{to_z-of_z}
 use Rattle.std.proofs.lemmas.Result.{IfErr-weaker, IfOk-from_err, IfOk-weaker, err_from_is_err_and}
 use Rattle.cell_devices.proofs.GatherLemmas.{CutsOff-first, CutsOff-second, Gathers-then}
-use Rattle.cell_ascii_writer.proofs.WriterLemmas.{counted_more, counted_then, failed_then}
+use Rattle.cell_ascii_writer.proofs.WriterLemmas.{counted_more, counted_then, faults_then}
 use Rattle.cell_ascii_writer.proofs.writer.write_edge.Goals as goal
 
 pub returns-in_err-write_key-clause-err : goal.returns-in_err-write_key-clause-err
@@ -41,10 +41,10 @@ returns-in_err-write_key-clause-lost g c =
 pub returns-in_err-write_key-clause-counted : goal.returns-in_err-write_key-clause-counted
 returns-in_err-write_key-clause-counted g c = counted_more _ _ 7 83 c.in_err-write_key.ensures.counted
 
-pub returns-in_err-write_key-clause-failed : goal.returns-in_err-write_key-clause-failed
-returns-in_err-write_key-clause-failed g c =
+pub returns-in_err-write_key-clause-faults : goal.returns-in_err-write_key-clause-faults
+returns-in_err-write_key-clause-faults g c =
     let p = err_from_is_err_and c.from_residual.result c.from_residual.ensures.1 in
-    rw (p.1) c.in_err-write_key.ensures.failed
+    rw (p.1) c.in_err-write_key.ensures.faults
 
 pub returns-in_err-write_coordinate-clause-ok : goal.returns-in_err-write_coordinate-clause-ok
 returns-in_err-write_coordinate-clause-ok g c =
@@ -61,12 +61,12 @@ pub returns-in_err-write_coordinate-clause-counted : goal.returns-in_err-write_c
 returns-in_err-write_coordinate-clause-counted g c =
     counted_more _ _ 89 1 (counted_then _ _ _ 7 82 c.in_err-write_coordinate.ensures.counted c.in_ok-write_key.ensures.counted)
 
-pub returns-in_err-write_coordinate-clause-failed : goal.returns-in_err-write_coordinate-clause-failed
-returns-in_err-write_coordinate-clause-failed g c =
+pub returns-in_err-write_coordinate-clause-faults : goal.returns-in_err-write_coordinate-clause-faults
+returns-in_err-write_coordinate-clause-faults g c =
     let p =
     err_from_is_err_and c.from_residual-in_err-write_coordinate.result
     c.from_residual-in_err-write_coordinate.ensures.1 in
-    rw (p.1) (failed_then _ _ _ _ c.in_err-write_coordinate.ensures.failed c.in_ok-write_key.ensures.failed)
+    rw (p.1) (faults_then _ _ _ true c.in_err-write_coordinate.ensures.faults c.in_ok-write_key.ensures.faults)
 
 pub returns-clause-lost : goal.returns-clause-lost
 returns-clause-lost g c = c.push.ensures.lost
@@ -75,6 +75,6 @@ pub returns-clause-counted : goal.returns-clause-counted
 returns-clause-counted g c =
     counted_then _ _ _ 89 1 c.push.ensures.counted (counted_then _ _ _ 7 82 c.in_ok-write_coordinate.ensures.counted c.in_ok-write_key.ensures.counted)
 
-pub returns-clause-failed : goal.returns-clause-failed
-returns-clause-failed g c =
-    failed_then _ _ _ _ c.push.ensures.failed (failed_then _ _ _ _ c.in_ok-write_coordinate.ensures.failed c.in_ok-write_key.ensures.failed)
+pub returns-clause-faults : goal.returns-clause-faults
+returns-clause-faults g c =
+    faults_then _ _ _ _ c.push.ensures.faults (c.in_ok-write_coordinate.ensures.faults ∙ c.in_ok-write_key.ensures.faults)

@@ -1,6 +1,6 @@
 use Rattle.std.proofs.lemmas.Result.{IfErr-weaker, IfOk-from_err, IfOk-weaker, err_from_is_err_and}
 use Rattle.cell_devices.proofs.GatherLemmas.{CutsOff-first, CutsOff-second, Gathers-then}
-use Rattle.cell_ascii_writer.proofs.WriterLemmas.{counted_more, counted_most, counted_then, failed_then, fraction_text-some}
+use Rattle.cell_ascii_writer.proofs.WriterLemmas.{counted_more, counted_most, counted_then, faults_then, fraction_text-some}
 use Rattle.cell_ascii_writer.proofs.writer.write_fraction.Goals as goal
 
 pub returns-in_err-push-clause-err : goal.returns-in_err-push-clause-err
@@ -29,10 +29,10 @@ returns-in_err-push-clause-lost g c =
 pub returns-in_err-push-clause-counted : goal.returns-in_err-push-clause-counted
 returns-in_err-push-clause-counted g c = counted_more _ _ 1 40 c.in_err-push.ensures.counted
 
-pub returns-in_err-push-clause-failed : goal.returns-in_err-push-clause-failed
-returns-in_err-push-clause-failed g c =
+pub returns-in_err-push-clause-faults : goal.returns-in_err-push-clause-faults
+returns-in_err-push-clause-faults g c =
     let p = err_from_is_err_and c.from_residual.result c.from_residual.ensures.1 in
-    rw (p.1) c.in_err-push.ensures.failed
+    rw (p.1) c.in_err-push.ensures.faults
 
 pub returns-clause-lost : goal.returns-clause-lost
 returns-clause-lost g c = c.push-2.ensures.lost
@@ -42,5 +42,5 @@ returns-clause-counted g c =
     let digits = counted_most _ _ _ _ c.push-2.ensures.counted c.without_zeros.ensures.len in
     counted_then _ _ _ 1 40 (counted_most _ _ _ 40 digits c.eight_digits.ensures.len) c.in_ok-push.ensures.counted
 
-pub returns-clause-failed : goal.returns-clause-failed
-returns-clause-failed g c = failed_then _ _ _ _ c.push-2.ensures.failed c.in_ok-push.ensures.failed
+pub returns-clause-faults : goal.returns-clause-faults
+returns-clause-faults g c = faults_then _ _ _ _ c.push-2.ensures.faults c.in_ok-push.ensures.faults

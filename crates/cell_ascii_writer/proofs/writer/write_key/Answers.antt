@@ -1,6 +1,6 @@
 use Rattle.std.proofs.lemmas.Result.{err_from_is_err_and, IfErr-weaker, IfOk-weaker}
 use Rattle.cell_devices.proofs.GatherLemmas.{CutsOff-first, CutsOff-second, Gathers-then}
-use Rattle.cell_ascii_writer.proofs.WriterLemmas.{counted_more, counted_most, counted_then, failed_then}
+use Rattle.cell_ascii_writer.proofs.WriterLemmas.{counted_more, counted_most, counted_then, faults_then}
 use Rattle.cell_ascii_writer.proofs.writer.write_key.Goals as goal
 
 pub returns-in_err-push-clause-err : goal.returns-in_err-push-clause-err
@@ -20,10 +20,10 @@ returns-in_err-push-clause-lost g c =
     let p = err_from_is_err_and c.from_residual.result c.from_residual.ensures.1 in
     rw (p.1, p.2) c.in_err-push.ensures.lost
 
-pub returns-in_err-push-clause-failed : goal.returns-in_err-push-clause-failed
-returns-in_err-push-clause-failed g c =
+pub returns-in_err-push-clause-faults : goal.returns-in_err-push-clause-faults
+returns-in_err-push-clause-faults g c =
     let p = err_from_is_err_and c.from_residual.result c.from_residual.ensures.1 in
-    rw (p.1) c.in_err-push.ensures.failed
+    rw (p.1) c.in_err-push.ensures.faults
 
 pub returns-clause-ok : goal.returns-clause-ok
 returns-clause-ok g c = IfOk-weaker c.push-2.result _ _ (λ _ gathers. Gathers-then _ _ _ _ _ _ _ _ c.in_ok-push.ensures.ok gathers) c.push-2.ensures.ok
@@ -31,8 +31,8 @@ returns-clause-ok g c = IfOk-weaker c.push-2.result _ _ (λ _ gathers. Gathers-t
 pub returns-clause-lost : goal.returns-clause-lost
 returns-clause-lost g c = c.push-2.ensures.lost
 
-pub returns-clause-failed : goal.returns-clause-failed
-returns-clause-failed g c = failed_then _ _ _ _ c.push-2.ensures.failed c.in_ok-push.ensures.failed
+pub returns-clause-faults : goal.returns-clause-faults
+returns-clause-faults g c = faults_then _ _ _ _ c.push-2.ensures.faults c.in_ok-push.ensures.faults
 
 pub returns-in_err-push-clause-counted : goal.returns-in_err-push-clause-counted
 returns-in_err-push-clause-counted g c =

@@ -1,6 +1,7 @@
+use Rattle.std.proofs.Common.{◌∙◌, true}
 use Rattle.std.proofs.lemmas.Result.{err_from_is_err_and, IfErr-weaker, IfOk-weaker}
 use Rattle.cell_devices.proofs.GatherLemmas.{CutsOff-first, CutsOff-second, Gathers-then}
-use Rattle.cell_ascii_writer.proofs.WriterLemmas.{failed_then}
+use Rattle.cell_ascii_writer.proofs.WriterLemmas.{faults_then}
 use Rattle.cell_ascii_writer.proofs.writer.write_line.Goals as goal
 
 pub returns-in_err-write_key-clause-err : goal.returns-in_err-write_key-clause-err
@@ -26,10 +27,10 @@ returns-in_err-write_key-clause-lost g c =
     let p = err_from_is_err_and c.from_residual.result c.from_residual.ensures.1 in
     rw (p.1, p.2) c.in_err-write_key.ensures.lost
 
-pub returns-in_err-write_key-clause-failed : goal.returns-in_err-write_key-clause-failed
-returns-in_err-write_key-clause-failed g c =
+pub returns-in_err-write_key-clause-faults : goal.returns-in_err-write_key-clause-faults
+returns-in_err-write_key-clause-faults g c =
     let p = err_from_is_err_and c.from_residual.result c.from_residual.ensures.1 in
-    rw (p.1) c.in_err-write_key.ensures.failed
+    rw (p.1) c.in_err-write_key.ensures.faults
 
 pub returns-in_err-push-clause-ok : goal.returns-in_err-push-clause-ok
 returns-in_err-push-clause-ok g c = let p = err_from_is_err_and c.from_residual-in_err-push.result c.from_residual-in_err-push.ensures.1 in rw (p.1) tt
@@ -39,10 +40,10 @@ returns-in_err-push-clause-lost g c =
     let p = err_from_is_err_and c.from_residual-in_err-push.result c.from_residual-in_err-push.ensures.1 in
     rw (p.1, p.2) c.in_err-push.ensures.lost
 
-pub returns-in_err-push-clause-failed : goal.returns-in_err-push-clause-failed
-returns-in_err-push-clause-failed g c =
+pub returns-in_err-push-clause-faults : goal.returns-in_err-push-clause-faults
+returns-in_err-push-clause-faults g c =
     let p = err_from_is_err_and c.from_residual-in_err-push.result c.from_residual-in_err-push.ensures.1 in
-    rw (p.1) (failed_then _ _ _ _ c.in_err-push.ensures.failed c.in_ok-write_key.ensures.failed)
+    rw (p.1) (faults_then _ _ _ true c.in_err-push.ensures.faults c.in_ok-write_key.ensures.faults)
 
 pub returns-clause-ok : goal.returns-clause-ok
 returns-clause-ok g c =
@@ -52,5 +53,5 @@ returns-clause-ok g c =
 pub returns-clause-lost : goal.returns-clause-lost
 returns-clause-lost g c = c.push-2.ensures.lost
 
-pub returns-clause-failed : goal.returns-clause-failed
-returns-clause-failed g c = failed_then _ _ _ _ c.push-2.ensures.failed (failed_then _ _ _ _ c.in_ok-push.ensures.failed c.in_ok-write_key.ensures.failed)
+pub returns-clause-faults : goal.returns-clause-faults
+returns-clause-faults g c = faults_then _ _ _ _ c.push-2.ensures.faults (c.in_ok-push.ensures.faults ∙ c.in_ok-write_key.ensures.faults)

@@ -5,7 +5,7 @@ use Rattle.cell_base.specs.Region.{RegionValue}
 use Rattle.cell_devices.proofs.GatherLemmas.{CutsOff-first, CutsOff-second, Gathers-none, Gathers-then, flat_map-rest, flat_map-take}
 use Rattle.cell_ascii_text.specs.Writing.{row_text}
 use Rattle.cell_ascii_writer.proofs.ShortLemmas.{FallsShort-first, FallsShort-second}
-use Rattle.cell_ascii_writer.proofs.WriterLemmas.{at_end, counted_none, failed_not, failed_still}
+use Rattle.cell_ascii_writer.proofs.WriterLemmas.{at_end, counted_none, faults_still}
 use Rattle.std.proofs.Math.Seq.{take-length}
 use Rattle.cell_ascii_writer.proofs.writer.write_rows.Goals as goal
 
@@ -56,13 +56,13 @@ returns-in_err-write_row-clause-lost g c =
     let p = err_from_is_err_and c.from_residual.result c.from_residual.ensures.1 in
     rw (p.1, p.2) c.in_err-write_row.ensures.lost
 
-pub returns-in_err-write_row-clause-failed : goal.returns-in_err-write_row-clause-failed
-returns-in_err-write_row-clause-failed g c =
+pub returns-in_err-write_row-clause-faults : goal.returns-in_err-write_row-clause-faults
+returns-in_err-write_row-clause-faults g c =
     let p = err_from_is_err_and c.from_residual.result c.from_residual.ensures.1 in
-    rw (p.1) (rw c.loop-row.invariant.failed at c.in_err-write_row.ensures.failed)
+    rw (p.1) (rw c.loop-row.invariant.faults at c.in_err-write_row.ensures.faults)
 
 pub loop-row-init : goal.loop-row-init
-loop-row-init g c = record { gathers = Gathers-none _ _; counted = counted_none _; failed = refl }
+loop-row-init g c = record { gathers = Gathers-none _ _; counted = counted_none _; faults = refl }
 
 pub loop-row-preserved : goal.loop-row-preserved
 loop-row-preserved g c =
@@ -75,7 +75,7 @@ loop-row-preserved g c =
       gathers = rw (flat_map-take (row_text c.args.null_text.now) rows row [] (row_at c.args.map.now row) within refl)
           (Gathers-then _ _ _ _ _ _ _ _ c.loop-row.invariant.gathers c.in_ok-write_row.ensures.ok);
       counted = again _ _ _ _ c.in_ok-write_row.ensures.counted c.loop-row.invariant.counted;
-      failed = failed_still _ _ _ c.in_ok-write_row.ensures.failed c.loop-row.invariant.failed;
+      faults = faults_still _ _ _ c.in_ok-write_row.ensures.faults c.loop-row.invariant.faults;
     }
 
 pub returns-clause-ok : goal.returns-clause-ok
@@ -93,8 +93,8 @@ returns-clause-counted g c =
     most _ _ _ _ _ c.loop-row.invariant.counted c.loop-row.auto.row-end c.rows-row-end.ensures.value
     c.rows-row-end.ensures.region.rows_most
 
-pub returns-clause-failed : goal.returns-clause-failed
-returns-clause-failed g c = failed_not _ _ c.loop-row.invariant.failed
+pub returns-clause-faults : goal.returns-clause-faults
+returns-clause-faults g c = c.loop-row.invariant.faults
 
 pub returns-in_err-write_row-clause-counted : goal.returns-in_err-write_row-clause-counted
 returns-in_err-write_row-clause-counted g c =

@@ -7,5 +7,5 @@ abbrev pub invariant-loop-row : goal.invariant-loop-row
 invariant-loop-row g l = record {
   gathers : Gathers (g.W.Sink.taken l.fn.out) l.fn.block (flat_map (row_text l.null_text) (take l.row l.map.rows)) (g.W.Sink.taken l.out) l.block;
   counted : counted l.block ≤ counted l.fn.block + 76 * 65535 * l.row;
-  failed : g.W.Sink.failed l.out ≡ g.W.Sink.failed l.fn.out;
+  faults : g.W.Sink.faults l.out ≡ g.W.Sink.faults l.fn.out;
 }

@@ -16,7 +16,7 @@ returns-in-None g c =
       err = rw (cell, ← times_cells c.args.null_text.now c.args.count None) c.write_times.ensures.err;
       lost = c.write_times.ensures.lost;
       counted = c.write_times.ensures.counted;
-      failed = c.write_times.ensures.failed;
+      faults = c.write_times.ensures.faults;
     }
 
 pub returns-in-Some : goal.returns-in-Some
@@ -30,7 +30,7 @@ returns-in-Some g c =
       err = rw (cell, ← times_cells null c.args.count (Some c.in-Some.category), text) c.write_short.ensures.err;
       lost = c.write_short.ensures.lost;
       counted = c.write_short.ensures.counted;
-      failed = c.write_short.ensures.failed;
+      faults = c.write_short.ensures.faults;
     }
 
 pub returns-in-Some-2 : goal.returns-in-Some-2
@@ -45,5 +45,5 @@ returns-in-Some-2 g c =
       err = rw (cell, ← times_cells null c.args.count (Some c.in-Some.category), ← text) written.err;
       lost = written.lost;
       counted = written.counted;
-      failed = written.failed;
+      faults = written.faults;
     }

@@ -3,7 +3,7 @@ use Rattle.std.proofs.lemmas.Result.{err_from_is_err_and}
 use Rattle.cell_core.specs.Runs.{RunValue}
 use Rattle.cell_devices.proofs.GatherLemmas.{CutsOff-first, CutsOff-second, Gathers-none, Gathers-then}
 use Rattle.cell_ascii_writer.proofs.RunWritingLemmas.{cells_text-more, cells_text-rest, counted_cells, length-rest}
-use Rattle.cell_ascii_writer.proofs.WriterLemmas.{counted_none, failed_not, failed_still}
+use Rattle.cell_ascii_writer.proofs.WriterLemmas.{counted_none, faults_still}
 use Rattle.cell_ascii_writer.proofs.writer.write_runs.Goals as goal
 
 pub returns-in_err-write_run-clause-err : goal.returns-in_err-write_run-clause-err
@@ -25,17 +25,17 @@ returns-in_err-write_run-clause-lost g c =
     let p = err_from_is_err_and c.from_residual.result c.from_residual.ensures.1 in
     rw (p.1, p.2) c.in_err-write_run.ensures.lost
 
-pub returns-in_err-write_run-clause-failed : goal.returns-in_err-write_run-clause-failed
-returns-in_err-write_run-clause-failed g c =
+pub returns-in_err-write_run-clause-faults : goal.returns-in_err-write_run-clause-faults
+returns-in_err-write_run-clause-faults g c =
     let p = err_from_is_err_and c.from_residual.result c.from_residual.ensures.1 in
-    rw (p.1) (rw c.loop-cell.invariant.failed at c.in_err-write_run.ensures.failed)
+    rw (p.1) (rw c.loop-cell.invariant.faults at c.in_err-write_run.ensures.faults)
 
 pub loop-cell-init : goal.loop-cell-init
 loop-cell-init g c = record {
   gathers = Gathers-none _ _;
   whole = c.into_iter-cell-iterator.ensures.into_iter_gives;
   counted = counted_none _;
-  failed = refl;
+  faults = refl;
 }
 
 pub loop-cell-preserved : goal.loop-cell-preserved
@@ -50,7 +50,7 @@ loop-cell-preserved g c =
           ∙ ap (λ (l : List RunValue). done ++ l) (sym c.in-Some.ensures.steps) ∙ c.loop-cell.invariant.whole;
       counted = rw (length-rest done [] c.in-Some.cell c.in-Some.count)
           (counted_cells _ _ _ _ _ 0 c.in_ok-write_run.ensures.counted c.loop-cell.invariant.counted);
-      failed = failed_still _ _ _ c.in_ok-write_run.ensures.failed c.loop-cell.invariant.failed;
+      faults = faults_still _ _ _ c.in_ok-write_run.ensures.faults c.loop-cell.invariant.faults;
     }
 
 pub returns-clause-ok : goal.returns-clause-ok
@@ -69,8 +69,8 @@ returns-clause-counted g c =
     c.loop-cell.invariant.whole in
     rw all at c.loop-cell.invariant.counted
 
-pub returns-clause-failed : goal.returns-clause-failed
-returns-clause-failed g c = failed_not _ _ c.loop-cell.invariant.failed
+pub returns-clause-faults : goal.returns-clause-faults
+returns-clause-faults g c = c.loop-cell.invariant.faults
 
 pub returns-in_err-write_run-clause-counted : goal.returns-in_err-write_run-clause-counted
 returns-in_err-write_run-clause-counted g c =

@@ -9,5 +9,5 @@ invariant-loop-cell g l = record {
   gathers : Gathers (g.W.Sink.taken l.fn.out) l.fn.block (cells_text l.null_text (written_out l.yielded)) (g.W.Sink.taken l.out) l.block;
   whole : l.yielded ++ l.cell-iterator ≡ l.fn.runs;
   counted : counted l.block ≤ counted l.fn.block + 65 * length (written_out l.yielded);
-  failed : g.W.Sink.failed l.out ≡ g.W.Sink.failed l.fn.out;
+  faults : g.W.Sink.faults l.out ≡ g.W.Sink.faults l.fn.out;
 }

@@ -15,7 +15,7 @@ returns-then-number-lt10 g c = record {
   err = rw c.one_digit.ensures at c.write_copies.ensures.err;
   lost = c.write_copies.ensures.lost;
   counted = c.write_copies.ensures.counted;
-  failed = c.write_copies.ensures.failed;
+  faults = c.write_copies.ensures.faults;
 }
 
 pub returns-then-number-lt100 : goal.returns-then-number-lt100
@@ -26,7 +26,7 @@ returns-then-number-lt100 g c =
       err = rw c.two_digits.ensures at written.err;
       lost = written.lost;
       counted = written.counted;
-      failed = written.failed;
+      faults = written.faults;
     }
 
 pub returns-else-number-lt100 : goal.returns-else-number-lt100
@@ -37,5 +37,5 @@ returns-else-number-lt100 g c =
       err = rw c.three_digits.ensures at written.err;
       lost = written.lost;
       counted = written.counted;
-      failed = written.failed;
+      faults = written.faults;
     }

@@ -9,8 +9,8 @@ returns-clause-err g c = rw (← c.format.ensures.text, ← c.as_bytes.ensures.v
 pub returns-clause-counted : goal.returns-clause-counted
 returns-clause-counted g c = c.write_line.ensures.counted
 
-pub returns-clause-failed : goal.returns-clause-failed
-returns-clause-failed g c = c.write_line.ensures.failed
+pub returns-clause-faults : goal.returns-clause-faults
+returns-clause-faults g c = c.write_line.ensures.faults
 
 pub returns-clause-lost : goal.returns-clause-lost
 returns-clause-lost g c = c.write_line.ensures.lost

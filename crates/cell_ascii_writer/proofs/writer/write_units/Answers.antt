@@ -1,6 +1,6 @@
 use Rattle.std.proofs.lemmas.Result.{err_from_is_err_and, IfErr-weaker, IfOk-from_err, IfOk-weaker}
 use Rattle.cell_devices.proofs.GatherLemmas.{CutsOff-first, CutsOff-second, Gathers-then}
-use Rattle.cell_ascii_writer.proofs.WriterLemmas.{counted_more, counted_most, counted_then, failed_then}
+use Rattle.cell_ascii_writer.proofs.WriterLemmas.{counted_more, counted_most, counted_then, faults_then}
 use Rattle.cell_ascii_writer.proofs.writer.write_units.Goals as goal
 
 pub returns-in_err-push-clause-err : goal.returns-in_err-push-clause-err
@@ -25,10 +25,10 @@ pub returns-in_err-push-clause-counted : goal.returns-in_err-push-clause-counted
 returns-in_err-push-clause-counted g c =
     counted_more _ _ 40 41 (counted_most _ _ _ 40 (rw c.as_bytes.ensures.len at c.in_err-push.ensures.counted) c.format.ensures.short)
 
-pub returns-in_err-push-clause-failed : goal.returns-in_err-push-clause-failed
-returns-in_err-push-clause-failed g c =
+pub returns-in_err-push-clause-faults : goal.returns-in_err-push-clause-faults
+returns-in_err-push-clause-faults g c =
     let p = err_from_is_err_and c.from_residual.result c.from_residual.ensures.1 in
-    rw (p.1) c.in_err-push.ensures.failed
+    rw (p.1) c.in_err-push.ensures.faults
 
 pub returns-clause-ok : goal.returns-clause-ok
 returns-clause-ok g c =
@@ -44,5 +44,5 @@ returns-clause-counted g c =
     counted_most _ _ _ 40 (rw c.as_bytes.ensures.len at c.in_ok-push.ensures.counted) c.format.ensures.short in
     counted_then _ _ _ 40 41 c.write_fraction.ensures.counted short
 
-pub returns-clause-failed : goal.returns-clause-failed
-returns-clause-failed g c = failed_then _ _ _ _ c.write_fraction.ensures.failed c.in_ok-push.ensures.failed
+pub returns-clause-faults : goal.returns-clause-faults
+returns-clause-faults g c = faults_then _ _ _ _ c.write_fraction.ensures.faults c.in_ok-push.ensures.faults

@@ -33,8 +33,8 @@ returns-in-None-clause-lost g c = c.push.ensures.lost
 pub returns-in-None-clause-counted : goal.returns-in-None-clause-counted
 returns-in-None-clause-counted g c = grows _ (length c.args.null_text.now) c.push.ensures.counted
 
-pub returns-in-None-clause-failed : goal.returns-in-None-clause-failed
-returns-in-None-clause-failed g c = c.push.ensures.failed
+pub returns-in-None-clause-faults : goal.returns-in-None-clause-faults
+returns-in-None-clause-faults g c = c.push.ensures.faults
 
 pub returns-in-Some-clause-ok : goal.returns-in-Some-clause-ok
 returns-in-Some-clause-ok g c =
@@ -68,5 +68,5 @@ returns-in-Some-clause-counted g c =
     let few : length c.as_bytes.result.now ≤ 11 = rw c.as_bytes.ensures.value c.format.ensures.fits in
     grows_by _ (length c.args.null_text.now) few c.push-in-Some.ensures.counted
 
-pub returns-in-Some-clause-failed : goal.returns-in-Some-clause-failed
-returns-in-Some-clause-failed g c = c.push-in-Some.ensures.failed
+pub returns-in-Some-clause-faults : goal.returns-in-Some-clause-faults
+returns-in-Some-clause-faults g c = c.push-in-Some.ensures.faults

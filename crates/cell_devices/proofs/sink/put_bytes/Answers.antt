@@ -1,5 +1,5 @@
 use Rattle.std.proofs.Common.{◌≡◌, ◌∙◌, ◌+◌, ◌-◌, ◌<◌, ◌≤◌, ◌||◌, ℕ, List, [], Option, Some, None, Bool, true, false, length, take, drop, refl, sym, ap, take_all, append-nil, length-drop, arith}
-use Rattle.cell_devices.specs.Device.{append_known}
+use Rattle.cell_devices.specs.Device.{Faults, after_put, append_known}
 use Rattle.cell_devices.proofs.DeviceLemmas.{put_more, whole_rest}
 use Rattle.cell_devices.proofs.sink.put_bytes.Goals as goal
 
@@ -9,10 +9,6 @@ least n = omega arith
 nothing : (taken : Option (List ℕ)) → taken ≡ append_known taken []
 nothing None = refl
 nothing (Some xs) = ap Some (sym (append-nil xs))
-
-or_false : (b : Bool) → b ≡ (b || false)
-or_false true = refl
-or_false false = refl
 
 some_left : (bytes : List ℕ) (at : ℕ) → at < length bytes → 0 < length (take (length bytes - at) (drop at bytes))
 some_left bytes at h = rw (whole_rest bytes at) (omega (arith, length-drop at bytes))
@@ -37,7 +33,7 @@ pub loop-at-init : goal.loop-at-init
 loop-at-init g c = record {
   within = least (length c.args.bytes.now);
   taken = nothing (g.W.Sink.taken c.args.out.now);
-  failed = refl;
+  faults = refl;
   untouched = λ at_start. refl;
 }
 
@@ -52,7 +48,7 @@ pub loop-at-preserved : goal.loop-at-preserved
 loop-at-preserved g c = record {
   within = within c.args.bytes.now c.loop-at.at c.loop-at.invariant.within c.in-Ok.ensures.count.1;
   taken = rw (c.in-Ok.ensures.ok, c.loop-at.invariant.taken) (put_more _ c.args.bytes.now c.loop-at.at c.in-Ok.n);
-  failed = c.in-Ok.ensures.failed ∙ sym (or_false (g.W.Sink.failed c.loop-at.out)) ∙ c.loop-at.invariant.failed;
+  faults = c.in-Ok.ensures.faults ∙ c.loop-at.invariant.faults;
   untouched = λ at_start. absurd (moved c.loop-at.at c.in-Ok.n c.in-Ok.ensures.count.0 at_start);
 }
 
@@ -67,8 +63,8 @@ returns-in-Err-clause-within g c = c.loop-at-test.true
 pub returns-in-Err-clause-err : goal.returns-in-Err-clause-err
 returns-in-Err-clause-err g c = c.in-Err.ensures.err ∙ c.loop-at.invariant.taken
 
-pub returns-in-Err-clause-failed : goal.returns-in-Err-clause-failed
-returns-in-Err-clause-failed g c = c.in-Err.ensures.failed ∙ ap (λ (b : Bool). b || true) c.loop-at.invariant.failed
+pub returns-in-Err-clause-faults : goal.returns-in-Err-clause-faults
+returns-in-Err-clause-faults g c = c.in-Err.ensures.faults ∙ ap (λ (f : Faults). after_put f true) c.loop-at.invariant.faults
 
 pub returns-in-Err-clause-empty : goal.returns-in-Err-clause-empty
 returns-in-Err-clause-empty g c = λ none. absurd (not_within (ap length none) c.loop-at-test.true)
@@ -78,8 +74,8 @@ returns-clause-ok g c =
     c.loop-at.invariant.taken
     ∙ ap (append_known (g.W.Sink.taken c.args.out.now)) (take_all c.loop-at.at c.args.bytes.now c.loop-at-test.false)
 
-pub returns-clause-failed : goal.returns-clause-failed
-returns-clause-failed g c = c.loop-at.invariant.failed ∙ or_false (g.W.Sink.failed c.args.out.now)
+pub returns-clause-faults : goal.returns-clause-faults
+returns-clause-faults g c = c.loop-at.invariant.faults
 
 -- an empty slice leaves the place at the start
 pub returns-clause-empty : goal.returns-clause-empty

@@ -6,7 +6,7 @@ abbrev pub invariant-loop-at : goal.invariant-loop-at
 invariant-loop-at g l = record {
   within : l.at ≤ length l.bytes;
   taken : g.W.Sink.taken l.out ≡ append_known (g.W.Sink.taken l.fn.out) (take l.at l.bytes);
-  failed : g.W.Sink.failed l.out ≡ g.W.Sink.failed l.fn.out;
+  faults : g.W.Sink.faults l.out ≡ g.W.Sink.faults l.fn.out;
   untouched : l.at ≡ 0 → l.out ≡ l.fn.out;
 }
 

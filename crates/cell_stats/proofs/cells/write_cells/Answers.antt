@@ -6,7 +6,7 @@ use Rattle.cell_devices.proofs.GatherLemmas.{CutsOff-second, Gathers-none, Gathe
 use Rattle.cell_base.specs.Region.{RegionValue}
 use Rattle.cell_combinations.specs.Combinations.{all_combinations, row_combinations}
 use Rattle.cell_stats.proofs.CellsLemmas.{lines, lines-all, lines-more}
-use Rattle.cell_stats.proofs.PrintLemmas.{cut-first, failed_not, failed_still}
+use Rattle.cell_stats.proofs.PrintLemmas.{cut-first, faults_still}
 use Rattle.cell_stats.proofs.cells.write_cells.Goals as goal
 
 below : {row last rows : ℕ} → row < last → last ≡ rows → row < rows
@@ -33,7 +33,7 @@ pub loop-row-preserved : goal.loop-row-preserved
 loop-row-preserved g c =
     record {
       gathers = rw (lines-more c.args.format.now c.args.shelf.now.maps c.args.picks.now c.args.skip c.args.shelf.now.region.cols c.loop-row.row) (Gathers-then _ _ _ _ _ _ _ _ c.loop-row.invariant.gathers c.in_ok-write_row.ensures.ok);
-      failed = failed_still _ _ _ c.in_ok-write_row.ensures.failed c.loop-row.invariant.failed;
+      faults = faults_still _ _ _ c.in_ok-write_row.ensures.faults c.loop-row.invariant.faults;
       cursors = c.write_row.auto.cursors ∙ c.loop-row.invariant.cursors;
       cells = c.write_row.auto.cells ∙ c.loop-row.invariant.cells;
     }
@@ -49,7 +49,7 @@ loop-row-init g c =
     let width = c.walk.view_is ∙ c.requires.width in
     record {
       gathers = Gathers-none _ _;
-      failed = refl;
+      faults = refl;
       cursors = ap length c.as_mut_slice-cursors.ensures.value ∙ c.walk.invariant ∙ width;
       cells = ap length c.as_mut_slice-cells.ensures.value ∙ width;
     }
@@ -80,10 +80,10 @@ returns-in_err-write_row-clause-lost g c =
     let p = err_from_is_err_and c.from_residual.result c.from_residual.ensures.1 in
     rw (p.1, p.2) c.in_err-write_row.ensures.lost
 
-pub returns-in_err-write_row-clause-failed : goal.returns-in_err-write_row-clause-failed
-returns-in_err-write_row-clause-failed g c =
+pub returns-in_err-write_row-clause-faults : goal.returns-in_err-write_row-clause-faults
+returns-in_err-write_row-clause-faults g c =
     let p = err_from_is_err_and c.from_residual.result c.from_residual.ensures.1 in
-    rw p.1 (rw c.loop-row.invariant.failed at c.in_err-write_row.ensures.failed)
+    rw p.1 (rw c.loop-row.invariant.faults at c.in_err-write_row.ensures.faults)
 
 pub loop-row-smaller : goal.loop-row-smaller
 loop-row-smaller g c = falls _ _ c.loop-row-test.true
@@ -94,5 +94,5 @@ returns-clause-err g c = tt
 pub returns-clause-lost : goal.returns-clause-lost
 returns-clause-lost g c = tt
 
-pub returns-clause-failed : goal.returns-clause-failed
-returns-clause-failed g c = failed_not _ _ c.loop-row.invariant.failed
+pub returns-clause-faults : goal.returns-clause-faults
+returns-clause-faults g c = c.loop-row.invariant.faults

@@ -7,7 +7,7 @@ use Rattle.cell_stats.proofs.cells.write_cells.Given as goal
 abbrev pub invariant-loop-row : goal.invariant-loop-row
 invariant-loop-row g l = record {
   gathers : Gathers (g.W.Sink.taken l.fn.out) l.fn.block (lines l.format l.shelf.maps l.picks l.fn.skip (all_combinations l.shelf.maps l.picks l.row l.shelf.region.cols)) (g.W.Sink.taken l.out) l.block;
-  failed : g.W.Sink.failed l.out ≡ g.W.Sink.failed l.fn.out;
+  faults : g.W.Sink.faults l.out ≡ g.W.Sink.faults l.fn.out;
   cursors : length l.cursors ≡ length l.picks;
   cells : length l.cells ≡ length l.picks;
 }

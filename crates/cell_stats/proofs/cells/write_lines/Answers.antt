@@ -4,7 +4,7 @@ use Rattle.std.proofs.lemmas.Result.{err_from_is_err_and}
 use Rattle.cell_devices.proofs.GatherLemmas.{CutsOff-second, Gathers-none, Gathers-then}
 use Rattle.cell_stats.specs.TableText.{cell_line}
 use Rattle.cell_combinations.specs.LeftOut.{is_left_out, kept}
-use Rattle.cell_stats.proofs.PrintLemmas.{cut-first, failed_not, failed_still}
+use Rattle.cell_stats.proofs.PrintLemmas.{cut-first, faults_still}
 use Rattle.cell_stats.proofs.CellsLemmas.{lines-left, lines-kept, flat_map-replicate-more, flat_map-replicate-rest}
 use Rattle.cell_stats.proofs.cells.write_lines.Goals as goal
 
@@ -34,7 +34,7 @@ loop-line-preserved g c =
     let f = cell_line c.args.format.now c.args.selection.shelf.now.maps c.args.selection.picks.now in
     record {
       gathers = rw (flat_map-replicate-more f c.loop-line.line c.args.cells.now) (Gathers-then _ _ _ _ _ _ _ _ c.loop-line.invariant.gathers c.in_ok-write_cell_line.ensures.ok);
-      failed = failed_still _ _ _ c.in_ok-write_cell_line.ensures.failed c.loop-line.invariant.failed;
+      faults = faults_still _ _ _ c.in_ok-write_cell_line.ensures.faults c.loop-line.invariant.faults;
     }
 
 pub returns-clause-ok : goal.returns-clause-ok
@@ -53,11 +53,11 @@ returns-then-is_left_out-clause-err g c = tt
 pub returns-then-is_left_out-clause-lost : goal.returns-then-is_left_out-clause-lost
 returns-then-is_left_out-clause-lost g c = tt
 
-pub returns-then-is_left_out-clause-failed : goal.returns-then-is_left_out-clause-failed
-returns-then-is_left_out-clause-failed g c = failed_not _ _ refl
+pub returns-then-is_left_out-clause-faults : goal.returns-then-is_left_out-clause-faults
+returns-then-is_left_out-clause-faults g c = refl
 
 pub loop-line-init : goal.loop-line-init
-loop-line-init g c = record { gathers = Gathers-none _ _; failed = refl }
+loop-line-init g c = record { gathers = Gathers-none _ _; faults = refl }
 
 pub write_cell_line-requires-clause-picked : goal.write_cell_line-requires-clause-picked
 write_cell_line-requires-clause-picked g c = c.requires.picked
@@ -78,10 +78,10 @@ returns-in_err-write_cell_line-clause-lost g c =
     let p = err_from_is_err_and c.from_residual.result c.from_residual.ensures.1 in
     rw (p.1, p.2) c.in_err-write_cell_line.ensures.lost
 
-pub returns-in_err-write_cell_line-clause-failed : goal.returns-in_err-write_cell_line-clause-failed
-returns-in_err-write_cell_line-clause-failed g c =
+pub returns-in_err-write_cell_line-clause-faults : goal.returns-in_err-write_cell_line-clause-faults
+returns-in_err-write_cell_line-clause-faults g c =
     let p = err_from_is_err_and c.from_residual.result c.from_residual.ensures.1 in
-    rw p.1 (rw c.loop-line.invariant.failed at c.in_err-write_cell_line.ensures.failed)
+    rw p.1 (rw c.loop-line.invariant.faults at c.in_err-write_cell_line.ensures.faults)
 
 pub loop-line-smaller : goal.loop-line-smaller
 loop-line-smaller g c = falls _ _ c.loop-line-test.true
@@ -92,5 +92,5 @@ returns-clause-err g c = tt
 pub returns-clause-lost : goal.returns-clause-lost
 returns-clause-lost g c = tt
 
-pub returns-clause-failed : goal.returns-clause-failed
-returns-clause-failed g c = failed_not _ _ c.loop-line.invariant.failed
+pub returns-clause-faults : goal.returns-clause-faults
+returns-clause-faults g c = c.loop-line.invariant.faults

@@ -6,5 +6,5 @@ use Rattle.cell_stats.proofs.cells.write_lines.Given as goal
 abbrev pub invariant-loop-line : goal.invariant-loop-line
 invariant-loop-line g l = record {
   gathers : Gathers (g.W.Sink.taken l.fn.out) l.fn.block (flat_map (cell_line l.format l.selection.shelf.now.maps l.selection.picks.now) (replicate l.line l.cells)) (g.W.Sink.taken l.out) l.block;
-  failed : g.W.Sink.failed l.out ≡ g.W.Sink.failed l.fn.out;
+  faults : g.W.Sink.faults l.out ≡ g.W.Sink.faults l.fn.out;
 }

@@ -6,7 +6,7 @@ use Rattle.cell_devices.proofs.GatherLemmas.{CutsOff-second, Gathers-none, Gathe
 use Rattle.cell_base.specs.Region.{RegionValue}
 use Rattle.cell_combinations.specs.Combinations.{combination_at, row_combinations}
 use Rattle.cell_stats.proofs.CellsLemmas.{lines, lines-row, lines-stretch}
-use Rattle.cell_stats.proofs.PrintLemmas.{cut-first, failed_not, failed_still}
+use Rattle.cell_stats.proofs.PrintLemmas.{cut-first, faults_still}
 use Rattle.cell_counts.specs.Cursors.{CursorValue}
 use Rattle.cell_counts.proofs.WalkLemmas.{alike, alive, passed-on}
 use Rattle.cell_stats.proofs.cells.write_row.Goals as goal
@@ -49,7 +49,7 @@ loop-col-init g c =
     let here = passed-on maps row 0 0 c.restart_all.new.cursors first.new.cursors picks first.ensures.passed c.restart_all.ensures.cells in
     record {
       gathers = Gathers-none _ _;
-      failed = refl;
+      faults = refl;
       width = first.auto.cells ∙ c.requires.cells;
       to_come = here;
       ready = first.ensures.ready;
@@ -97,7 +97,7 @@ loop-col-preserved g c =
     let longer = lines-stretch c.args.format.now maps picks c.args.selection.skip row col count cells (λ j h. alike maps row col c.loop-col.cursors picks count j inv.to_come inv.least h ∙ sym inv.cells) in
     record {
       gathers = rw longer (Gathers-then _ _ _ _ _ _ _ _ inv.gathers c.in_ok-write_lines.ensures.ok);
-      failed = failed_still _ _ _ c.in_ok-write_lines.ensures.failed inv.failed;
+      faults = faults_still _ _ _ c.in_ok-write_lines.ensures.faults inv.faults;
       width = next.auto.cells ∙ inv.width;
       to_come = here;
       ready = next.ensures.ready;
@@ -128,10 +128,10 @@ returns-in_err-write_lines-clause-lost g c =
     let p = err_from_is_err_and c.from_residual.result c.from_residual.ensures.1 in
     rw (p.1, p.2) c.in_err-write_lines.ensures.lost
 
-pub returns-in_err-write_lines-clause-failed : goal.returns-in_err-write_lines-clause-failed
-returns-in_err-write_lines-clause-failed g c =
+pub returns-in_err-write_lines-clause-faults : goal.returns-in_err-write_lines-clause-faults
+returns-in_err-write_lines-clause-faults g c =
     let p = err_from_is_err_and c.from_residual.result c.from_residual.ensures.1 in
-    rw (p.1) (rw c.loop-col.invariant.failed at c.in_err-write_lines.ensures.failed)
+    rw (p.1) (rw c.loop-col.invariant.faults at c.in_err-write_lines.ensures.faults)
 
 pub restart_all-requires-clause-picked : goal.restart_all-requires-clause-picked
 restart_all-requires-clause-picked g c = c.requires.picked
@@ -185,5 +185,5 @@ returns-clause-err g c = tt
 pub returns-clause-lost : goal.returns-clause-lost
 returns-clause-lost g c = tt
 
-pub returns-clause-failed : goal.returns-clause-failed
-returns-clause-failed g c = failed_not _ _ c.loop-col.invariant.failed
+pub returns-clause-faults : goal.returns-clause-faults
+returns-clause-faults g c = c.loop-col.invariant.faults

@@ -2,7 +2,7 @@ use Rattle.std.proofs.Common.{[], ◌∷◌, refl}
 use Rattle.std.proofs.lemmas.Result.{err_from_is_err_and}
 use Rattle.std.specs.List.{join_with_byte}
 use Rattle.cell_stats.specs.TableText.{combination_fields, cell_line}
-use Rattle.cell_stats.proofs.PrintLemmas.{cut-first, cut-second, ok-second, failed_then}
+use Rattle.cell_stats.proofs.PrintLemmas.{cut-first, cut-second, ok-second, faults_then}
 use Rattle.cell_stats.proofs.printing.write_cell_line.Goals as goal
 
 pub returns-in_err-write_combination-clause-err : goal.returns-in_err-write_combination-clause-err
@@ -39,16 +39,16 @@ returns-in_err-write_combination-clause-lost g c =
     let p = err_from_is_err_and c.from_residual.result c.from_residual.ensures.1 in
     rw (p.1, p.2) c.in_err-write_combination.ensures.lost
 
-pub returns-in_err-write_combination-clause-failed : goal.returns-in_err-write_combination-clause-failed
-returns-in_err-write_combination-clause-failed g c =
+pub returns-in_err-write_combination-clause-faults : goal.returns-in_err-write_combination-clause-faults
+returns-in_err-write_combination-clause-faults g c =
     let p = err_from_is_err_and c.from_residual.result c.from_residual.ensures.1 in
-    rw p.1 c.in_err-write_combination.ensures.failed
+    rw p.1 c.in_err-write_combination.ensures.faults
 
 pub returns-clause-lost : goal.returns-clause-lost
 returns-clause-lost g c = c.push.ensures.lost
 
-pub returns-clause-failed : goal.returns-clause-failed
-returns-clause-failed g c = failed_then _ _ _ _ c.push.ensures.failed c.in_ok-write_combination.ensures.failed
+pub returns-clause-faults : goal.returns-clause-faults
+returns-clause-faults g c = faults_then _ _ _ _ c.push.ensures.faults c.in_ok-write_combination.ensures.faults
 
 pub returns-clause-ok : goal.returns-clause-ok
 returns-clause-ok g c =

@@ -3,7 +3,7 @@ use Rattle.std.proofs.lemmas.Result.{err_from_is_err_and}
 use Rattle.std.specs.List.{join_with_byte}
 use Rattle.cell_stats.specs.parts.Preceded.{pick_text, others_text}
 use Rattle.cell_stats.specs.TableText.{combination_fields}
-use Rattle.cell_stats.proofs.PrintLemmas.{All-others, length-others, combination-parts, cut-first, cut-second, ok-second, failed_then}
+use Rattle.cell_stats.proofs.PrintLemmas.{All-others, length-others, combination-parts, cut-first, cut-second, ok-second, faults_then}
 use Rattle.cell_stats.proofs.printing.write_combination.Goals as goal
 
 pub write_others-requires-clause-picked : goal.write_others-requires-clause-picked
@@ -59,13 +59,13 @@ returns-in_err-write_pick-clause-lost g c =
     let p = err_from_is_err_and c.from_residual.result c.from_residual.ensures.1 in
     rw (p.1, p.2) c.in_err-write_pick.ensures.lost
 
-pub returns-in_err-write_pick-clause-failed : goal.returns-in_err-write_pick-clause-failed
-returns-in_err-write_pick-clause-failed g c =
+pub returns-in_err-write_pick-clause-faults : goal.returns-in_err-write_pick-clause-faults
+returns-in_err-write_pick-clause-faults g c =
     let p = err_from_is_err_and c.from_residual.result c.from_residual.ensures.1 in
-    rw p.1 c.in_err-write_pick.ensures.failed
+    rw p.1 c.in_err-write_pick.ensures.faults
 
 pub returns-clause-lost : goal.returns-clause-lost
 returns-clause-lost g c = c.write_others.ensures.lost
 
-pub returns-clause-failed : goal.returns-clause-failed
-returns-clause-failed g c = failed_then _ _ _ _ c.write_others.ensures.failed c.in_ok-write_pick.ensures.failed
+pub returns-clause-faults : goal.returns-clause-faults
+returns-clause-faults g c = faults_then _ _ _ _ c.write_others.ensures.faults c.in_ok-write_pick.ensures.faults

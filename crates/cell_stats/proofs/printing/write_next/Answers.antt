@@ -1,7 +1,7 @@
 use Rattle.std.proofs.Common.{[], ◌∷◌}
 use Rattle.std.proofs.lemmas.Result.{err_from_is_err_and, IfErr-weaker, IfOk-weaker}
 use Rattle.cell_devices.proofs.GatherLemmas.{CutsOff-first, CutsOff-second, Gathers-then}
-use Rattle.cell_stats.proofs.PrintLemmas.{failed_then}
+use Rattle.cell_stats.proofs.PrintLemmas.{faults_then}
 use Rattle.cell_stats.proofs.printing.write_next.Goals as goal
 
 pub returns-in_err-push-clause-err : goal.returns-in_err-push-clause-err
@@ -21,10 +21,10 @@ returns-in_err-push-clause-lost g c =
     let p = err_from_is_err_and c.from_residual.result c.from_residual.ensures.1 in
     rw (p.1, p.2) c.in_err-push.ensures.lost
 
-pub returns-in_err-push-clause-failed : goal.returns-in_err-push-clause-failed
-returns-in_err-push-clause-failed g c =
+pub returns-in_err-push-clause-faults : goal.returns-in_err-push-clause-faults
+returns-in_err-push-clause-faults g c =
     let p = err_from_is_err_and c.from_residual.result c.from_residual.ensures.1 in
-    rw (p.1) c.in_err-push.ensures.failed
+    rw (p.1) c.in_err-push.ensures.faults
 
 pub returns-clause-ok : goal.returns-clause-ok
 returns-clause-ok g c =
@@ -33,5 +33,5 @@ returns-clause-ok g c =
 pub returns-clause-lost : goal.returns-clause-lost
 returns-clause-lost g c = c.push-2.ensures.lost
 
-pub returns-clause-failed : goal.returns-clause-failed
-returns-clause-failed g c = failed_then _ _ _ _ c.push-2.ensures.failed c.in_ok-push.ensures.failed
+pub returns-clause-faults : goal.returns-clause-faults
+returns-clause-faults g c = faults_then _ _ _ _ c.push-2.ensures.faults c.in_ok-push.ensures.faults

@@ -1,7 +1,7 @@
 use Rattle.std.proofs.Common.{ℕ, [], ◌∷◌, ap}
 use Rattle.std.proofs.lemmas.Result.{err_from_is_err_and}
 use Rattle.cell_stats.specs.parts.Preceded.{pick_text, next_text}
-use Rattle.cell_stats.proofs.PrintLemmas.{cut-first, cut-second, failed_then, ok-second}
+use Rattle.cell_stats.proofs.PrintLemmas.{cut-first, cut-second, faults_then, ok-second}
 use Rattle.cell_stats.proofs.printing.write_next_pick.Goals as goal
 
 pub returns-in_err-push-clause-err : goal.returns-in_err-push-clause-err
@@ -23,10 +23,10 @@ returns-in_err-push-clause-lost g c =
     let p = err_from_is_err_and c.from_residual.result c.from_residual.ensures.1 in
     rw (p.1, p.2) c.in_err-push.ensures.lost
 
-pub returns-in_err-push-clause-failed : goal.returns-in_err-push-clause-failed
-returns-in_err-push-clause-failed g c =
+pub returns-in_err-push-clause-faults : goal.returns-in_err-push-clause-faults
+returns-in_err-push-clause-faults g c =
     let p = err_from_is_err_and c.from_residual.result c.from_residual.ensures.1 in
-    rw (p.1) c.in_err-push.ensures.failed
+    rw (p.1) c.in_err-push.ensures.faults
 
 pub returns-clause-ok : goal.returns-clause-ok
 returns-clause-ok g c =
@@ -36,5 +36,5 @@ returns-clause-ok g c =
 pub returns-clause-lost : goal.returns-clause-lost
 returns-clause-lost g c = c.write_pick.ensures.lost
 
-pub returns-clause-failed : goal.returns-clause-failed
-returns-clause-failed g c = failed_then _ _ _ _ c.write_pick.ensures.failed c.in_ok-push.ensures.failed
+pub returns-clause-faults : goal.returns-clause-faults
+returns-clause-faults g c = faults_then _ _ _ _ c.write_pick.ensures.faults c.in_ok-push.ensures.faults

@@ -5,7 +5,7 @@ use Rattle.std.proofs.lemmas.Slice.Zip.{length-zip}
 use Rattle.std.specs.List.{zip}
 use Rattle.cell_devices.proofs.GatherLemmas.{CutsOff-second, Gathers-none, Gathers-then, flat_map-rest, flat_map-take}
 use Rattle.cell_stats.specs.parts.Preceded.{next_text}
-use Rattle.cell_stats.proofs.PrintLemmas.{cut-first, failed_not, failed_still, zip-at, zip-within}
+use Rattle.cell_stats.proofs.PrintLemmas.{cut-first, faults_still, zip-at, zip-within}
 use Rattle.cell_stats.proofs.printing.write_others.Goals as goal
 
 below : {n m most : ℕ} → n < m → m ≡ most → n < most
@@ -36,7 +36,7 @@ loop-i-preserved g c =
     let f = next_text c.args.format.now c.args.shelf.now.maps in
     record {
       gathers = rw (flat_map-take f (zip picks cells) i (0, c.index-cells-i.result) (get_or picks i 0, c.index-cells-i.result) in_zip at) (Gathers-then _ _ _ _ _ _ _ _ c.loop-i.invariant.gathers c.in_ok-write_next_pick.ensures.ok);
-      failed = failed_still _ _ _ c.in_ok-write_next_pick.ensures.failed c.loop-i.invariant.failed;
+      faults = faults_still _ _ _ c.in_ok-write_next_pick.ensures.faults c.loop-i.invariant.faults;
     }
 
 pub returns-clause-ok : goal.returns-clause-ok
@@ -46,7 +46,7 @@ returns-clause-ok g c =
     rw all at c.loop-i.invariant.gathers
 
 pub loop-i-init : goal.loop-i-init
-loop-i-init g c = record { gathers = Gathers-none _ _; failed = refl }
+loop-i-init g c = record { gathers = Gathers-none _ _; faults = refl }
 
 pub write_next_pick-requires : goal.write_next_pick-requires
 write_next_pick-requires g c = c.requires.picked c.loop-i.i 0 (below c.loop-i-test.true c.requires.width)
@@ -61,10 +61,10 @@ returns-in_err-write_next_pick-clause-lost g c =
     let p = err_from_is_err_and c.from_residual.result c.from_residual.ensures.1 in
     rw (p.1, p.2) c.in_err-write_next_pick.ensures.lost
 
-pub returns-in_err-write_next_pick-clause-failed : goal.returns-in_err-write_next_pick-clause-failed
-returns-in_err-write_next_pick-clause-failed g c =
+pub returns-in_err-write_next_pick-clause-faults : goal.returns-in_err-write_next_pick-clause-faults
+returns-in_err-write_next_pick-clause-faults g c =
     let p = err_from_is_err_and c.from_residual.result c.from_residual.ensures.1 in
-    rw p.1 (rw c.loop-i.invariant.failed at c.in_err-write_next_pick.ensures.failed)
+    rw p.1 (rw c.loop-i.invariant.faults at c.in_err-write_next_pick.ensures.faults)
 
 pub loop-i-smaller : goal.loop-i-smaller
 loop-i-smaller g c = falls _ _ c.loop-i-test.true
@@ -75,5 +75,5 @@ returns-clause-err g c = tt
 pub returns-clause-lost : goal.returns-clause-lost
 returns-clause-lost g c = tt
 
-pub returns-clause-failed : goal.returns-clause-failed
-returns-clause-failed g c = failed_not _ _ c.loop-i.invariant.failed
+pub returns-clause-faults : goal.returns-clause-faults
+returns-clause-faults g c = c.loop-i.invariant.faults

@@ -7,5 +7,5 @@ use Rattle.cell_stats.proofs.printing.write_others.Given as goal
 abbrev pub invariant-loop-i : goal.invariant-loop-i
 invariant-loop-i g l = record {
   gathers : Gathers (g.W.Sink.taken l.fn.out) l.fn.block (flat_map (next_text l.format l.shelf.maps) (take l.i (zip l.picks l.cells))) (g.W.Sink.taken l.out) l.block;
-  failed : g.W.Sink.failed l.out ≡ g.W.Sink.failed l.fn.out;
+  faults : g.W.Sink.faults l.out ≡ g.W.Sink.faults l.fn.out;
 }

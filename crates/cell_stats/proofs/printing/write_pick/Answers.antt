@@ -4,7 +4,7 @@ use Rattle.cell_devices.specs.Blocks.{Gathers}
 use Rattle.cell_core.specs.Text.{cell_text}
 use Rattle.cell_stats.specs.parts.Preceded.{pick_text, preceded}
 use Rattle.cell_stats.specs.TableText.{label_in}
-use Rattle.cell_stats.proofs.PrintLemmas.{cut-first, cut-second, ok-second, failed_then, pick_text-label, pick_text-with, pick_text-without}
+use Rattle.cell_stats.proofs.PrintLemmas.{cut-first, cut-second, ok-second, faults_then, pick_text-label, pick_text-with, pick_text-without}
 use Rattle.cell_stats.proofs.printing.write_pick.Goals as goal
 
 pub returns-in_err-write_cell-clause-err : goal.returns-in_err-write_cell-clause-err
@@ -37,16 +37,16 @@ returns-in_err-write_cell-clause-lost g c =
     let p = err_from_is_err_and c.from_residual.result c.from_residual.ensures.1 in
     rw (p.1, p.2) c.in_err-write_cell.ensures.lost
 
-pub returns-in_err-write_cell-clause-failed : goal.returns-in_err-write_cell-clause-failed
-returns-in_err-write_cell-clause-failed g c =
+pub returns-in_err-write_cell-clause-faults : goal.returns-in_err-write_cell-clause-faults
+returns-in_err-write_cell-clause-faults g c =
     let p = err_from_is_err_and c.from_residual.result c.from_residual.ensures.1 in
-    rw (p.1) c.in_err-write_cell.ensures.failed
+    rw (p.1) c.in_err-write_cell.ensures.faults
 
 pub returns-clause-lost : goal.returns-clause-lost
 returns-clause-lost g c = c.write_next.ensures.lost
 
-pub returns-clause-failed : goal.returns-clause-failed
-returns-clause-failed g c = failed_then _ _ _ _ c.write_next.ensures.failed c.in_ok-write_cell.ensures.failed
+pub returns-clause-faults : goal.returns-clause-faults
+returns-clause-faults g c = faults_then _ _ _ _ c.write_next.ensures.faults c.in_ok-write_cell.ensures.faults
 
 pub returns-clause-ok : goal.returns-clause-ok
 returns-clause-ok g c =
@@ -81,5 +81,5 @@ returns-then-not-labels-clause-err g c = tt
 pub returns-then-not-labels-clause-lost : goal.returns-then-not-labels-clause-lost
 returns-then-not-labels-clause-lost g c = tt
 
-pub returns-then-not-labels-clause-failed : goal.returns-then-not-labels-clause-failed
-returns-then-not-labels-clause-failed g c = c.in_ok-write_cell.ensures.failed
+pub returns-then-not-labels-clause-faults : goal.returns-then-not-labels-clause-faults
+returns-then-not-labels-clause-faults g c = c.in_ok-write_cell.ensures.faults

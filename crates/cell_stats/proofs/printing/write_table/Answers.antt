@@ -4,7 +4,7 @@ use Rattle.std.proofs.lemmas.Result.{err_from_is_err_and}
 use Rattle.cell_devices.proofs.GatherLemmas.{CutsOff-second, Gathers-none, Gathers-then, flat_map-rest, flat_map-take}
 use Rattle.cell_combinations.specs.Combinations.{Combination}
 use Rattle.cell_stats.specs.TableText.{pair_line}
-use Rattle.cell_stats.proofs.PrintLemmas.{cut-first, failed_not, failed_still}
+use Rattle.cell_stats.proofs.PrintLemmas.{cut-first, faults_still}
 use Rattle.cell_stats.proofs.printing.write_table.Goals as goal
 
 pub returns-in_err-write_pair-clause-err : goal.returns-in_err-write_pair-clause-err
@@ -25,7 +25,7 @@ pub printed-entries-requires : goal.printed-entries-requires
 printed-entries-requires g c = rw c.requires.width c.requires.after
 
 pub loop-combo-init : goal.loop-combo-init
-loop-combo-init g c = record { gathers = Gathers-none _ _; failed = refl }
+loop-combo-init g c = record { gathers = Gathers-none _ _; faults = refl }
 
 pub write_pair-requires-clause-picked : goal.write_pair-requires-clause-picked
 write_pair-requires-clause-picked g c = c.requires.picked
@@ -49,10 +49,10 @@ returns-in_err-write_pair-clause-lost g c =
     let p = err_from_is_err_and c.from_residual.result c.from_residual.ensures.1 in
     rw (p.1, p.2) c.in_err-write_pair.ensures.lost
 
-pub returns-in_err-write_pair-clause-failed : goal.returns-in_err-write_pair-clause-failed
-returns-in_err-write_pair-clause-failed g c =
+pub returns-in_err-write_pair-clause-faults : goal.returns-in_err-write_pair-clause-faults
+returns-in_err-write_pair-clause-faults g c =
     let p = err_from_is_err_and c.from_residual.result c.from_residual.ensures.1 in
-    rw p.1 (rw c.loop-combo.invariant.failed at c.in_err-write_pair.ensures.failed)
+    rw p.1 (rw c.loop-combo.invariant.faults at c.in_err-write_pair.ensures.faults)
 
 pub loop-combo-smaller : goal.loop-combo-smaller
 loop-combo-smaller g c = falls _ _ c.loop-combo-test.true
@@ -63,8 +63,8 @@ returns-clause-err g c = tt
 pub returns-clause-lost : goal.returns-clause-lost
 returns-clause-lost g c = tt
 
-pub returns-clause-failed : goal.returns-clause-failed
-returns-clause-failed g c = failed_not _ _ c.loop-combo.invariant.failed
+pub returns-clause-faults : goal.returns-clause-faults
+returns-clause-faults g c = c.loop-combo.invariant.faults
 
 pub loop-combo-preserved : goal.loop-combo-preserved
 loop-combo-preserved g c =
@@ -78,7 +78,7 @@ loop-combo-preserved g c =
     record {
       gathers = rw (flat_map-take f pairs i item pair c.loop-combo-test.true read)
           (Gathers-then _ _ _ _ _ _ _ _ c.loop-combo.invariant.gathers c.in_ok-write_pair.ensures.ok);
-      failed = failed_still _ _ _ c.in_ok-write_pair.ensures.failed c.loop-combo.invariant.failed;
+      faults = faults_still _ _ _ c.in_ok-write_pair.ensures.faults c.loop-combo.invariant.faults;
     }
 
 pub returns-clause-ok : goal.returns-clause-ok

@@ -6,5 +6,5 @@ use Rattle.cell_stats.proofs.printing.write_table.Given as goal
 abbrev pub invariant-loop-combo : goal.invariant-loop-combo
 invariant-loop-combo g l = record {
   gathers : Gathers (g.W.Sink.taken l.fn.out) l.fn.block (flat_map (pair_line l.format l.shelf.maps l.picks) (take l.combo-index l.entries)) (g.W.Sink.taken l.out) l.block;
-  failed : g.W.Sink.failed l.out ≡ g.W.Sink.failed l.fn.out;
+  faults : g.W.Sink.faults l.out ≡ g.W.Sink.faults l.fn.out;
 }

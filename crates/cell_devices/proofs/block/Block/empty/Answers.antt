@@ -1,6 +1,7 @@
 use Rattle.std.proofs.Common.{◌≡◌, ◌+◌, ◌<◌, ◌≤◌, ◌||◌, ℕ, [], length, Bool, Result, Ok, Err, IfOk, IfErr, is_err, refl, arith}
 use Rattle.std.specs.Result.{result_map_both}
 use Rattle.std.proofs.lemmas.Result.{IfOk-weaker, IfErr-weaker}
+use Rattle.cell_devices.specs.Device.{Faults, after_put}
 use Rattle.cell_devices.specs.Blocks.{BlockValue, Empties, PutsAll, capped, counted}
 use Rattle.cell_devices.specs.declared.sink.WriteFault.{WriteFault}
 use Rattle.cell_devices.proofs.BlockLemmas.{IsPut-held, IsCut-held, Gathered-put, OnOk-settled, IfErr-settled}
@@ -21,8 +22,8 @@ counts : (put : Result ℕ WriteFault) (new : BlockValue) (most : ℕ) → IfOk 
 counts (Ok n) new most e f h k = rw e (omega (arith, h))
 counts (Err fault) new most e f h k = rw f (omega (arith, k))
 
-fails : (put : Result ℕ WriteFault) (r : Result Unit WriteFault) (first second : Bool)
-    → r ≡ result_map_both (λ _. tt) (λ fault. fault) put → second ≡ (first || is_err put) → second ≡ (first || is_err r)
+fails : (put : Result ℕ WriteFault) (r : Result Unit WriteFault) (first second : Faults)
+    → r ≡ result_map_both (λ _. tt) (λ fault. fault) put → second ≡ after_put first (is_err put) → second ≡ after_put first (is_err r)
 fails (Ok n) r first second e f = rw e f
 fails (Err fault) r first second e f = rw e f
 
@@ -77,6 +78,6 @@ returns-clause-counted g c =
     at_most c.args.self.now.written within count)
     c.put_counted-put.ensures.err)
 
-pub returns-clause-failed : goal.returns-clause-failed
-returns-clause-failed g c =
-    fails c.put_counted-put.result c.settle.result (g.W.Sink.failed c.args.out.now) _ c.settle.ensures.value c.put_counted-put.ensures.failed
+pub returns-clause-faults : goal.returns-clause-faults
+returns-clause-faults g c =
+    fails c.put_counted-put.result c.settle.result (g.W.Sink.faults c.args.out.now) _ c.settle.ensures.value c.put_counted-put.ensures.faults

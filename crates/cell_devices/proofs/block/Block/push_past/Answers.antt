@@ -16,11 +16,6 @@ less_after n before h = omega arith
 most_after : {a b d : ℕ} (n : ℕ) → b ≤ d → a ≤ b + n → a ≤ d + n
 most_after n before h = omega arith
 
-failed_after : (first : Bool) {second third : Bool} (fails : Bool) → second ≡ (first || false)
-    → third ≡ (second || fails) → third ≡ (first || fails)
-failed_after false fails e f = f ∙ ap (λ b. b || fails) e
-failed_after true fails e f = f ∙ ap (λ b. b || fails) e
-
 kept : (block new : BlockValue) (bytes : List ℕ) (n : ℕ)
     → new ≡ record { held = block.held ++ bytes; written = block.written } → counted block ≤ n → counted new ≤ n + length bytes
 kept block new bytes n e h = rw e (omega (arith, length-append block.held bytes))
@@ -53,10 +48,10 @@ returns-in_err-empty-clause-lost g c =
 pub returns-in_err-empty-clause-counted : goal.returns-in_err-empty-clause-counted
 returns-in_err-empty-clause-counted g c = most (length c.args.bytes.now) c.empty.ensures.counted
 
-pub returns-in_err-empty-clause-failed : goal.returns-in_err-empty-clause-failed
-returns-in_err-empty-clause-failed g c =
+pub returns-in_err-empty-clause-faults : goal.returns-in_err-empty-clause-faults
+returns-in_err-empty-clause-faults g c =
     let p = err_from_is_err_and c.from_residual.result c.from_residual.ensures.1 in
-    rw p.1 c.in_err-empty.ensures.failed
+    rw p.1 c.in_err-empty.ensures.faults
 
 pub put_long-requires : goal.put_long-requires
 put_long-requires g c = c.in_ok-empty.ensures.held
@@ -86,9 +81,8 @@ pub returns-then-bytes-gt-ROOM-clause-counted : goal.returns-then-bytes-gt-ROOM-
 returns-then-bytes-gt-ROOM-clause-counted g c =
     most_after (length c.args.bytes.now) c.empty.ensures.counted c.put_long.ensures.counted
 
-pub returns-then-bytes-gt-ROOM-clause-failed : goal.returns-then-bytes-gt-ROOM-clause-failed
-returns-then-bytes-gt-ROOM-clause-failed g c =
-    failed_after (g.W.Sink.failed c.args.out.now) _ c.in_ok-empty.ensures.failed c.put_long.ensures.failed
+pub returns-then-bytes-gt-ROOM-clause-faults : goal.returns-then-bytes-gt-ROOM-clause-faults
+returns-then-bytes-gt-ROOM-clause-faults g c = rw (← c.in_ok-empty.ensures.faults) c.put_long.ensures.faults
 
 pub keep-requires : goal.keep-requires
 keep-requires g c = fits c.empty.new.self.held c.in_ok-empty.ensures.held c.if-bytes-gt-ROOM.false
@@ -110,5 +104,5 @@ pub returns-clause-counted : goal.returns-clause-counted
 returns-clause-counted g c =
     kept c.empty.new.self c.keep.new.self c.args.bytes.now (counted c.args.self.now) c.keep.ensures c.empty.ensures.counted
 
-pub returns-clause-failed : goal.returns-clause-failed
-returns-clause-failed g c = c.in_ok-empty.ensures.failed
+pub returns-clause-faults : goal.returns-clause-faults
+returns-clause-faults g c = c.in_ok-empty.ensures.faults

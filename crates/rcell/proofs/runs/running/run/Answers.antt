@@ -5,6 +5,8 @@ use Rattle.cell_loading.specs.declared.fault.RunFault.{RunFault}
 use Rattle.cell_loading.specs.declared.fault.RunFault.TheVariants.{GridTwice, GridRegion, Grid, ScriptRead, ScriptSize, Script, Memory, Write}
 use Rattle.rcell.specs.runs.Statuses.{status_of, status_after}
 use Rattle.cell_loading.specs.Sources.{known_of, coming_of}
+use Rattle.cell_devices.specs.Device.{has_failed}
+use Rattle.rcell.proofs.runs.EndLemmas.{failing_none, sound, write}
 use Rattle.rcell.proofs.runs.AcceptedLemmas.{when_accepted}
 use Rattle.rcell.proofs.runs.WrittenLemmas.{read_written, read_refused}
 use Rattle.rcell.proofs.runs.running.run.Goals as goal
@@ -91,7 +93,7 @@ pub returns-in-Err-clause-refused : goal.returns-in-Err-clause-refused
 returns-in-Err-clause-refused g c = λ known tells. rw c.refused.ensures (λ input. rw (c.in-Err.ensures.fault known input) refl)
 
 pub returns-in-Err-clause-nothing : goal.returns-in-Err-clause-nothing
-returns-in-Err-clause-nothing g c = rw c.refused.ensures (λ early. (refl, refl))
+returns-in-Err-clause-nothing g c = rw c.refused.ensures (λ early. (refl, (refl, refl)))
 
 pub returns-in-Err-clause-stopped : goal.returns-in-Err-clause-stopped
 returns-in-Err-clause-stopped g c = λ known tells. rw c.refused.ensures (λ late. not_both c.in-Err.fault c.in-Err.ensures.early late)
@@ -117,7 +119,7 @@ pub returns-in-Err-clause-headline : goal.returns-in-Err-clause-headline
 returns-in-Err-clause-headline g c =
     let coming = g.R.Source.coming in
     λ shelf statements known tells ok.
-    when_accepted (known_of coming c.args.grids.items) (coming_of coming c.args.script) shelf statements (g.W.Sink.taken c.args.out.now) (g.W.Sink.taken c.args.out.now) (g.W.Sink.failed c.args.out.now) c.refused.result
+    when_accepted (known_of coming c.args.grids.items) (coming_of coming c.args.script) shelf statements (g.W.Sink.taken c.args.out.now) (g.W.Sink.taken c.args.out.now) (has_failed (g.W.Sink.faults c.args.out.now)) c.refused.result
     (λ read. returns-in-Err-clause-complete g c shelf statements known tells read) ok
 
 pub returns-in-Ok-read_statements-clause-complete : goal.returns-in-Ok-read_statements-clause-complete
@@ -125,14 +127,14 @@ returns-in-Ok-read_statements-clause-complete g c =
     let coming = g.R.Source.coming in
     λ shelf statements known tells read.
     read_written (known_of coming c.args.grids.items) (coming_of coming c.args.script) c.in-Ok.shelf (c.in-Ok.ensures.ok known) shelf statements read
-    (g.W.Sink.taken c.args.out.now) (g.W.Sink.taken c.put_out.new.out) (g.W.Sink.failed c.put_out.new.out) c.put_out.result
-    c.in-Ok-read_statements.statements (c.in-Ok-read_statements.ensures.only tells) c.put_out.ensures.done c.put_out.ensures.late c.put_out.ensures.status c.put_out.ensures.write
+    (g.W.Sink.taken c.args.out.now) (g.W.Sink.taken c.put_out.new.out) (has_failed (g.W.Sink.faults c.put_out.new.out)) c.put_out.result
+    c.in-Ok-read_statements.statements (c.in-Ok-read_statements.ensures.only tells) c.put_out.ensures.done c.put_out.ensures.late c.put_out.ensures.status (write c.put_out.result.fault _ _ c.put_out.ensures.first)
 
 pub returns-in-Ok-read_statements-clause-headline : goal.returns-in-Ok-read_statements-clause-headline
 returns-in-Ok-read_statements-clause-headline g c =
     let coming = g.R.Source.coming in
     λ shelf statements known tells ok.
-    when_accepted (known_of coming c.args.grids.items) (coming_of coming c.args.script) shelf statements (g.W.Sink.taken c.args.out.now) (g.W.Sink.taken c.put_out.new.out) (g.W.Sink.failed c.put_out.new.out) c.put_out.result
+    when_accepted (known_of coming c.args.grids.items) (coming_of coming c.args.script) shelf statements (g.W.Sink.taken c.args.out.now) (g.W.Sink.taken c.put_out.new.out) (has_failed (g.W.Sink.faults c.put_out.new.out)) c.put_out.result
     (λ read. returns-in-Ok-read_statements-clause-complete g c shelf statements known tells read) ok
 
 pub returns-in-Err-read_statements-clause-told : goal.returns-in-Err-read_statements-clause-told
@@ -143,14 +145,14 @@ returns-in-Err-read_statements-clause-complete g c =
     let coming = g.R.Source.coming in
     λ shelf statements known tells read.
     read_refused (known_of coming c.args.grids.items) (coming_of coming c.args.script) c.in-Ok.shelf (c.in-Ok.ensures.ok known) shelf statements read
-    (g.W.Sink.taken c.args.out.now) (g.W.Sink.taken c.args.out.now) (g.W.Sink.failed c.args.out.now) c.refused-in-Err-read_statements.result
+    (g.W.Sink.taken c.args.out.now) (g.W.Sink.taken c.args.out.now) (has_failed (g.W.Sink.faults c.args.out.now)) c.refused-in-Err-read_statements.result
     c.in-Err-read_statements.fault (rw c.refused-in-Err-read_statements.ensures refl) c.in-Err-read_statements.ensures.early (c.in-Err-read_statements.ensures.none tells)
 
 pub returns-in-Err-read_statements-clause-headline : goal.returns-in-Err-read_statements-clause-headline
 returns-in-Err-read_statements-clause-headline g c =
     let coming = g.R.Source.coming in
     λ shelf statements known tells ok.
-    when_accepted (known_of coming c.args.grids.items) (coming_of coming c.args.script) shelf statements (g.W.Sink.taken c.args.out.now) (g.W.Sink.taken c.args.out.now) (g.W.Sink.failed c.args.out.now) c.refused-in-Err-read_statements.result
+    when_accepted (known_of coming c.args.grids.items) (coming_of coming c.args.script) shelf statements (g.W.Sink.taken c.args.out.now) (g.W.Sink.taken c.args.out.now) (has_failed (g.W.Sink.faults c.args.out.now)) c.refused-in-Err-read_statements.result
     (λ read. returns-in-Err-read_statements-clause-complete g c shelf statements known tells read) ok
 
 pub returns-in-Ok-read_statements-clause-done : goal.returns-in-Ok-read_statements-clause-done
@@ -186,10 +188,10 @@ returns-in-Ok-read_statements-clause-told g c = weaker c.put_out.result.fault _ 
 
 pub returns-in-Ok-read_statements-clause-sound : goal.returns-in-Ok-read_statements-clause-sound
 returns-in-Ok-read_statements-clause-sound g c =
-    when_zero c.put_out.result.fault c.put_out.ensures.status c.put_out.ensures.late c.put_out.ensures.sound
+    when_zero c.put_out.result.fault c.put_out.ensures.status c.put_out.ensures.late (sound c.put_out.result.fault _ _ c.put_out.ensures.first)
 
 pub returns-in-Ok-read_statements-clause-write : goal.returns-in-Ok-read_statements-clause-write
-returns-in-Ok-read_statements-clause-write g c = c.put_out.ensures.write
+returns-in-Ok-read_statements-clause-write g c = write c.put_out.result.fault _ _ c.put_out.ensures.first
 
 pub returns-in-Err-read_statements-clause-done : goal.returns-in-Err-read_statements-clause-done
 returns-in-Err-read_statements-clause-done g c = rw c.refused-in-Err-read_statements.ensures (λ known tells none. not_none none)
@@ -200,7 +202,7 @@ returns-in-Err-read_statements-clause-refused g c = λ known tells.
     (λ input. rw (c.in-Ok.ensures.ok known) (c.in-Err-read_statements.ensures.fault tells input))
 
 pub returns-in-Err-read_statements-clause-nothing : goal.returns-in-Err-read_statements-clause-nothing
-returns-in-Err-read_statements-clause-nothing g c = rw c.refused-in-Err-read_statements.ensures (λ early. (refl, refl))
+returns-in-Err-read_statements-clause-nothing g c = rw c.refused-in-Err-read_statements.ensures (λ early. (refl, (refl, refl)))
 
 pub returns-in-Err-read_statements-clause-stopped : goal.returns-in-Err-read_statements-clause-stopped
 returns-in-Err-read_statements-clause-stopped g c = λ known tells.
@@ -216,3 +218,30 @@ returns-in-Err-read_statements-clause-sound g c = λ zero. refl
 pub returns-in-Err-read_statements-clause-write : goal.returns-in-Err-read_statements-clause-write
 returns-in-Err-read_statements-clause-write g c =
     rw c.refused-in-Err-read_statements.ensures (λ write. not_write c.in-Err-read_statements.fault c.in-Err-read_statements.ensures.early write)
+
+pub returns-in-Err-clause-whole : goal.returns-in-Err-clause-whole
+returns-in-Err-clause-whole g c = λ known tells. rw c.refused.ensures (λ write clean. not_write c.in-Err.fault c.in-Err.ensures.early write)
+
+pub returns-in-Err-clause-first : goal.returns-in-Err-clause-first
+returns-in-Err-clause-first g c = rw c.refused.ensures (failing_none c.in-Err.fault (g.W.Sink.faults c.args.out.now) c.in-Err.ensures.early)
+
+pub returns-in-Ok-read_statements-clause-whole : goal.returns-in-Ok-read_statements-clause-whole
+returns-in-Ok-read_statements-clause-whole g c = λ known tells write clean. record {
+  shelf = c.in-Ok.shelf;
+  statements = c.in-Ok-read_statements.statements;
+  read = record { loaded = c.in-Ok.ensures.ok known; reads = c.in-Ok-read_statements.ensures.ok tells };
+  done = c.put_out.ensures.whole write clean;
+}
+
+pub returns-in-Ok-read_statements-clause-first : goal.returns-in-Ok-read_statements-clause-first
+returns-in-Ok-read_statements-clause-first g c = c.put_out.ensures.first
+
+pub returns-in-Err-read_statements-clause-whole : goal.returns-in-Err-read_statements-clause-whole
+returns-in-Err-read_statements-clause-whole g c = λ known tells.
+    rw c.refused-in-Err-read_statements.ensures
+    (λ write clean. not_write c.in-Err-read_statements.fault c.in-Err-read_statements.ensures.early write)
+
+pub returns-in-Err-read_statements-clause-first : goal.returns-in-Err-read_statements-clause-first
+returns-in-Err-read_statements-clause-first g c =
+    rw c.refused-in-Err-read_statements.ensures
+    (failing_none c.in-Err-read_statements.fault (g.W.Sink.faults c.args.out.now) c.in-Err-read_statements.ensures.early)

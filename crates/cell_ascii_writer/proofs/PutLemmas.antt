@@ -1,0 +1,38 @@
+-- A text that was printed through a block which was then emptied.
+use Rattle.std.proofs.Common.{◌≡◌, ◌∙◌, ℕ, ◌+◌, ◌<◌, Bool, true, false, List, [], ◌++◌, length, take, Option, Result, Ok, Err, refl, sym, ap, arith, append-nil, length-append}
+use Rattle.std.proofs.Math.Seq.{take-append_seam}
+use Rattle.cell_devices.specs.Device.{Faults, after_put, append_known}
+use Rattle.cell_devices.specs.Blocks.{capped}
+use Rattle.cell_devices.specs.Sticky.{StickyValue, Printed, fault_if}
+use Rattle.cell_devices.specs.declared.sink.WriteFault.{WriteFault}
+
+-- a text that is shorter than the greatest count: it was put, or its first bytes were
+module _ {before now : Option (List ℕ)} {start faults : Faults} {text : List ℕ} {block : StickyValue} (p : Printed before start text now faults block) where
+  put_ends : block.failed ≡ false → block.held ≡ [] → p.front ≡ text
+  put_ends good none = sym (append-nil p.front) ∙ ap (λ (l : List ℕ). p.front ++ l) (sym none ∙ rw good at p.held) ∙ p.whole
+
+  -- all was put
+  pub printed_put : block.failed ≡ false → block.held ≡ [] → (now ≡ append_known before text) × ((block.written ≡ capped (length text)) × (faults ≡ start))
+  printed_put good none =
+      let front = put_ends good none in
+      (p.taken ∙ ap (append_known before) front, (p.count ∙ ap (λ (l : List ℕ). capped (length l)) front, rw good at p.fails))
+
+  -- a put was refused: what the sink took is told, and is not all
+  pub printed_cut : block.failed ≡ true → length text < 18446744073709551615
+      → (now ≡ append_known before (take block.written text)) × ((block.written < length text) × (faults ≡ after_put start true))
+  printed_cut failed short =
+      let some : 0 < length p.rest = rw failed at p.held in
+      let whole = ap length p.whole in
+      let few : length p.front < length text = omega (arith, some, whole, length-append p.front p.rest) in
+      let count : block.written ≡ length p.front = omega (arith, p.count, few, short) in
+      let front : take block.written text ≡ p.front = ap (λ (n : ℕ). take n text) count ∙ ap (λ (t : List ℕ). take (length p.front) t) (sym p.whole) ∙ take-append_seam p.front p.rest in
+      (p.taken ∙ ap (append_known before) (sym front), (rw count few, rw failed at p.fails))
+
+-- the outcome of a block
+pub outcome_ok : (failed : Bool) (written : ℕ) (done : Unit) → fault_if failed written ≡ Ok done → failed ≡ false
+outcome_ok false written done is = refl
+outcome_ok true written done is = cc
+
+pub outcome_err : (failed : Bool) (written : ℕ) (fault : WriteFault) → fault_if failed written ≡ Err fault → (failed ≡ true) × (written ≡ fault.written)
+outcome_err false written fault is = cc
+outcome_err true written fault is = (refl, cc)

@@ -1,0 +1,18 @@
+use Rattle.std.proofs.Common.{ℕ, ◌<◌, length}
+use Rattle.cell_devices.proofs.StickyLemmas.{appends_then}
+use Rattle.cell_stats.proofs.PrintLemmas.{All-others, length-others, combination-parts}
+use Rattle.cell_stats.proofs.sticky_printing.write_combination.Goals as goal
+
+pub write_pick-requires : goal.write_pick-requires
+write_pick-requires g c = c.requires.picked 0 0 c.requires.some
+
+pub write_others-requires-clause-picked : goal.write_others-requires-clause-picked
+write_others-requires-clause-picked g c = All-others (λ (i : ℕ). i < length c.args.shelf.now.maps) c.args.picks.now c.requires.picked
+
+pub write_others-requires-clause-width : goal.write_others-requires-clause-width
+write_others-requires-clause-width g c = length-others c.args.cells.now c.args.picks.now c.requires.width
+
+pub returns : goal.returns
+returns g c =
+    rw (← combination-parts c.args.format.now c.args.shelf.now.maps c.args.picks.now c.args.cells.now c.index-cells-0.result c.index-cells-0.is c.requires.some c.requires.width)
+    (appends_then c.write_pick.ensures c.write_others.ensures)

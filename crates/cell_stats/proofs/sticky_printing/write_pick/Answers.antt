@@ -1,0 +1,16 @@
+use Rattle.std.proofs.Common.{List, ℕ, ◌∷◌, ◌++◌, ap, sym, ◌∙◌}
+use Rattle.cell_core.specs.Text.{cell_text}
+use Rattle.cell_devices.proofs.StickyLemmas.{appends_then}
+use Rattle.cell_stats.proofs.PrintLemmas.{pick_text-with, pick_text-without}
+use Rattle.cell_stats.proofs.sticky_printing.write_pick.Goals as goal
+
+pub returns-then-not-labels : goal.returns-then-not-labels
+returns-then-not-labels g c =
+    let off = sym c.labels.ensures ∙ c.if-not-labels.true in
+    rw (← pick_text-without c.args.format.now c.args.shelf.now.maps c.args.place c.args.cell off) (rw c.null_text.ensures at c.print_cell.ensures)
+
+pub returns : goal.returns
+returns g c =
+    let on = sym c.labels.ensures ∙ c.if-not-labels.false in
+    let both = appends_then c.print_cell.ensures c.write_next.ensures in
+    rw (← pick_text-with c.args.format.now c.args.shelf.now.maps c.args.place c.args.cell on) (rw (c.null_text.ensures, c.separator.ensures, c.label_of.ensures) at both)

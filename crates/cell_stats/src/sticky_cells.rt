@@ -1,0 +1,102 @@
+//! The printed form of cells, line by line, through a block that remembers a refused put.
+
+ghost use Rattle.std.specs.Prelude.{◌≡◌, ◌<◌, ◌≤◌, [], All, length, flat_map, replicate};
+ghost use Rattle.cell_devices.specs.Sticky.{Appends};
+ghost use Rattle.cell_base.specs.Region.{IsRegion};
+ghost use Rattle.cell_combinations.specs.Combinations.{row_combinations};
+ghost use Rattle.cell_combinations.specs.LeftOut.{kept};
+ghost use Rattle.cell_stats.specs.TableText.{cell_line, cells_text};
+
+use crate::cells::CellWalk;
+use crate::format::Format;
+use crate::sticky_printing::write_cell_line;
+use cell_combinations::skip::{Skip, is_left_out};
+use cell_core::cell::Cell;
+use cell_core::shelf::Shelf;
+use cell_core::sink::Sink;
+use cell_core::sticky::StickyBlock;
+use cell_counts::cursor::{Cursor, pass_all, restart_all};
+use cell_counts::selection::Selection;
+
+// Writes the lines of cells that are alike, or none where they are left out.
+fn write_lines<W: Sink>(
+    out: &mut W,
+    block: &mut StickyBlock,
+    selection: Selection<'_, '_>,
+    cells: &[Cell],
+    count: u32,
+    format: &Format,
+)
+    requires picked { All (λ i. i < length selection.shelf.now.maps) selection.picks.now }
+    requires some { 0 < length selection.picks.now }
+    requires width { length cells.now ≡ length selection.picks.now }
+    ensures { Appends W.taken W.faults out.old block.old (flat_map (cell_line format.now selection.entry.shelf.now.maps selection.entry.picks.now) (kept selection.entry.skip (replicate count cells.now))) out.new block.new }
+{
+    if is_left_out(selection.skip, cells) {
+        return;
+    }
+    for line in 0..count {
+        write_cell_line(out, block, selection.shelf, selection.picks, cells, format);
+    }
+}
+
+// Writes the lines of the cells of a row.
+fn write_row<'a, W: Sink>(
+    out: &mut W,
+    block: &mut StickyBlock,
+    selection: Selection<'a, '_>,
+    format: &Format,
+    row: u32,
+    cursors: &mut [Cursor<'a>],
+    cells: &mut [Cell],
+)
+    requires picked { All (λ i. i < length selection.shelf.now.maps) selection.picks.now }
+    requires some { 0 < length selection.picks.now }
+    requires row_in_range { row < selection.shelf.now.region.rows }
+    requires cursors { length cursors.old ≡ length selection.picks.now }
+    requires cells { length cells.old ≡ length selection.picks.now }
+    ensures { Appends W.taken W.faults out.old block.old (flat_map (cell_line format.now selection.entry.shelf.now.maps selection.entry.picks.now) (kept selection.entry.skip (row_combinations selection.entry.shelf.now.maps selection.entry.picks.now selection.entry.shelf.now.region.cols row))) out.new block.new }
+{
+    let cols = selection.shelf.region().cols();
+    restart_all(cursors, selection.shelf, selection.picks, row);
+    let mut col = 0;
+    let mut count = pass_all(cursors, 0, cols, cells);
+    while col < cols {
+        write_lines(out, block, selection, cells, count, format);
+        col += count;
+        count = pass_all(cursors, count, cols - col, cells);
+    }
+}
+
+/// Writes a line for each cell of the picked maps that is not left out, row by row from the top left. The walk has the memory
+/// for it, so that it takes none.
+///
+/// The text is gathered in the block, which goes on holding its last part. After a refused put nothing more is printed.
+pub fn write_cells<'a, W: Sink>(
+    out: &mut W,
+    block: &mut StickyBlock,
+    walk: CellWalk<'a>,
+    shelf: &'a Shelf,
+    picks: &[usize],
+    skip: Skip,
+    format: &Format,
+)
+    requires picked { All (λ i. i < length shelf.now.maps) picks.now }
+    requires some { 0 < length picks.now }
+    requires width { walk ≡ length picks.now }
+    ensures { Appends W.taken W.faults out.old block.old (cells_text format.now skip shelf.now.maps picks.now shelf.now.region.rows shelf.now.region.cols) out.new block.new }
+{
+    let CellWalk {
+        mut cursors,
+        mut cells,
+    } = walk;
+    let cursors = cursors.as_mut_slice();
+    let cells = cells.as_mut_slice();
+    let selection = Selection { shelf, picks, skip };
+    for row in 0..shelf.region().rows() {
+        if block.has_failed() {
+            return;
+        }
+        write_row(out, block, selection, format, row, cursors, cells);
+    }
+}

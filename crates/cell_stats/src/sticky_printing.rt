@@ -1,0 +1,179 @@
+//! The printed form of tables and of cells, through a block that remembers a refused put.
+
+ghost use Rattle.std.specs.Prelude.{◌≡◌, ◌<◌, [], ◌∷◌, ◌++◌, All, length, flat_map, replicate, IfSome};
+ghost use Rattle.std.specs.List.{join_with_byte};
+ghost use Rattle.std.specs.Option.{option_map};
+ghost use Rattle.cell_devices.specs.Sticky.{Appends};
+ghost use Rattle.cell_stats.specs.TableText.{cell_line, combination_fields, count_fields, pair_line, printed_pairs, table_text};
+ghost use Rattle.cell_stats.specs.parts.Preceded.{next_text, others_text, pick_text, preceded};
+
+use crate::format::Format;
+use crate::printing::label_of;
+use crate::table::Table;
+use cell_combinations::combination::Combo;
+use cell_core::cell::Cell;
+use cell_core::shelf::Shelf;
+use cell_core::sink::Sink;
+use cell_core::sticky::StickyBlock;
+use cell_core::text::print_cell;
+use itoa::Buffer;
+
+// Writes a separator and a field.
+fn write_next<W: Sink>(out: &mut W, block: &mut StickyBlock, separator: u8, field: &[u8])
+    ensures { Appends W.taken W.faults out.old block.old (separator ∷ field.now) out.new block.new }
+{
+    block.push(out, &[separator]);
+    block.push(out, field);
+}
+
+// Writes a cell of a map, and its label with labels.
+fn write_pick<W: Sink>(
+    out: &mut W,
+    block: &mut StickyBlock,
+    shelf: &Shelf,
+    place: usize,
+    cell: Cell,
+    format: &Format,
+)
+    requires { place < length shelf.now.maps }
+    ensures { Appends W.taken W.faults out.old block.old (pick_text format.now shelf.now.maps place cell) out.new block.new }
+{
+    print_cell(out, block, cell, format.null_text());
+    if !format.labels() {
+        return;
+    }
+    write_next(out, block, format.separator(), label_of(shelf, place, cell));
+}
+
+// Writes a separator and a cell of a map, and its label with labels.
+fn write_next_pick<W: Sink>(
+    out: &mut W,
+    block: &mut StickyBlock,
+    shelf: &Shelf,
+    place: usize,
+    cell: Cell,
+    format: &Format,
+)
+    requires { place < length shelf.now.maps }
+    ensures { Appends W.taken W.faults out.old block.old (next_text format.now shelf.now.maps (place, cell)) out.new block.new }
+{
+    block.push(out, &[format.separator()]);
+    write_pick(out, block, shelf, place, cell, format);
+}
+
+// Writes the cells of all maps but the first, each after a separator.
+fn write_others<W: Sink>(
+    out: &mut W,
+    block: &mut StickyBlock,
+    shelf: &Shelf,
+    picks: &[usize],
+    cells: &[Cell],
+    format: &Format,
+)
+    requires picked { All (λ i. i < length shelf.now.maps) picks.now }
+    requires width { length cells.now ≡ length picks.now }
+    ensures { Appends W.taken W.faults out.old block.old (others_text format.now shelf.now.maps picks.now cells.now) out.new block.new }
+{
+    for i in 0..cells.len() {
+        write_next_pick(out, block, shelf, picks[i], cells[i], format);
+    }
+}
+
+// Writes the cells of all maps.
+fn write_combination<W: Sink>(
+    out: &mut W,
+    block: &mut StickyBlock,
+    shelf: &Shelf,
+    picks: &[usize],
+    cells: &[Cell],
+    format: &Format,
+)
+    requires picked { All (λ i. i < length shelf.now.maps) picks.now }
+    requires some { 0 < length picks.now }
+    requires width { length cells.now ≡ length picks.now }
+    ensures { Appends W.taken W.faults out.old block.old (join_with_byte format.now.separator (combination_fields format.now shelf.now.maps picks.now cells.now)) out.new block.new }
+{
+    write_pick(out, block, shelf, picks[0], cells[0], format);
+    write_others(out, block, shelf, &picks[1..], &cells[1..], format);
+}
+
+// Writes the count after a separator, with counts.
+fn write_count<W: Sink>(out: &mut W, block: &mut StickyBlock, count: u64, format: &Format)
+    ensures { Appends W.taken W.faults out.old block.old (preceded format.now.separator (count_fields format.now count)) out.new block.new }
+{
+    if !format.counts() {
+        return;
+    }
+    write_next(
+        out,
+        block,
+        format.separator(),
+        Buffer::new().format(count).as_bytes(),
+    );
+}
+
+// Writes the line of a pair.
+fn write_pair<W: Sink>(
+    out: &mut W,
+    block: &mut StickyBlock,
+    shelf: &Shelf,
+    picks: &[usize],
+    cells: &[Cell],
+    count: u64,
+    format: &Format,
+)
+    requires picked { All (λ i. i < length shelf.now.maps) picks.now }
+    requires some { 0 < length picks.now }
+    requires width { length cells.now ≡ length picks.now }
+    ensures { Appends W.taken W.faults out.old block.old (pair_line format.now shelf.now.maps picks.now (cells.now, count)) out.new block.new }
+{
+    write_combination(out, block, shelf, picks, cells, format);
+    write_count(out, block, count, format);
+    block.push(out, b"\n");
+}
+
+// Writes the line of a cell.
+pub(crate) fn write_cell_line<W: Sink>(
+    out: &mut W,
+    block: &mut StickyBlock,
+    shelf: &Shelf,
+    picks: &[usize],
+    cells: &[Cell],
+    format: &Format,
+)
+    requires picked { All (λ i. i < length shelf.now.maps) picks.now }
+    requires some { 0 < length picks.now }
+    requires width { length cells.now ≡ length picks.now }
+    ensures { Appends W.taken W.faults out.old block.old (cell_line format.now shelf.now.maps picks.now cells.now) out.new block.new }
+{
+    write_combination(out, block, shelf, picks, cells, format);
+    block.push(out, b"\n");
+}
+
+/// Writes a line for each entry of a table of the picked maps, or for each whose combination is greater than the one given.
+/// Takes no memory.
+///
+/// The text is gathered in the block, which goes on holding its last part. After a refused put nothing more is printed.
+pub fn write_table<W: Sink>(
+    out: &mut W,
+    block: &mut StickyBlock,
+    table: &Table,
+    after: Option<&Combo>,
+    shelf: &Shelf,
+    picks: &[usize],
+    format: &Format,
+)
+    requires picked { All (λ i. i < length shelf.now.maps) picks.now }
+    requires some { 0 < length picks.now }
+    requires width { table.now.width ≡ length picks.now }
+    requires after { IfSome after (λ k. length k.now ≡ length picks.now) }
+    ensures { Appends W.taken W.faults out.old block.old (table_text format.now shelf.now.maps picks.now (printed_pairs (option_map (λ k. k.now) after.entry) table.now.pairs)) out.new block.new }
+{
+    let entries = table.printed(after);
+    for (combo, count) in entries {
+        if block.has_failed() {
+            return;
+        }
+        write_pair(out, block, shelf, picks, combo.cells(), *count, format);
+    }
+}

@@ -1,0 +1,100 @@
+-- The answer to an execution, and what the sink refused.
+use Rattle.std.proofs.Common.{◌≡◌, ◌∙◌, ◌<◌, ◌||◌, ℕ, Bool, true, false, List, All, Option, Some, None, Result, Ok, Err, refl, sym, ap}
+use Rattle.std.specs.Prelude.{IsNone, IfOk, IfErr}
+use Rattle.std.proofs.lemmas.Bool.{true≢false}
+use Rattle.cell_devices.specs.Device.{Faults, after_flush, after_put, has_failed}
+use Rattle.cell_core.specs.Shelf.{ShelfValue}
+use Rattle.cell_script.specs.declared.statement.Statement.{Statement}
+use Rattle.cell_loading.specs.Faults.{IsBeforeExecution}
+use Rattle.cell_loading.specs.declared.fault.RunFault.{RunFault}
+use Rattle.cell_loading.specs.declared.fault.RunFault.TheVariants as faults
+use Rattle.rcell.specs.declared.runs.execution.Stop.{Stop}
+use Rattle.rcell.specs.declared.runs.execution.Stop.TheVariants.{Memory, Write}
+use Rattle.rcell.specs.declared.runs.execution.Stopped.{Stopped}
+use Rattle.rcell.specs.declared.runs.outcome.Outcome.{Outcome}
+use Rattle.rcell.specs.parts.Ends.{IsEnd, ended, fault_of, flush_failed, stop_flush}
+use Rattle.rcell.specs.parts.Steps.{is_write, stops_write}
+use Rattle.rcell.specs.runs.Execution.{Stops}
+use Rattle.rcell.specs.runs.Outcomes.{Failing, IsDone}
+use Rattle.rcell.specs.runs.Statuses.{status_of}
+use Rattle.rcell.proofs.runs.ExecutionLemmas.{done_within, line_above}
+
+not_none : {X : Type 0} → true ≡ false → X
+not_none none = cc
+
+module _ (shelf : ShelfValue) (statements : List Statement) (numbered : All (λ s. 0 < s.line) statements) (before now : Option (List ℕ)) (old between new : Faults) (fails : Bool) where
+  stopped_ends : (stop : Stop) (written : ℕ) → Stops shelf statements before now written stop → between ≡ after_put old (is_write stop) → new ≡ after_flush between (stop_flush stop fails)
+      → IsEnd shelf statements before now old new (record { status = status_of (fault_of stop); written = written; fault = Some (fault_of stop) })
+  stopped_ends (Memory line) written stops puts flush = record {
+    done = λ none. not_none none;
+    late = line_above shelf statements before now written line numbered stops;
+    stops = stops;
+    status = refl;
+    whole = λ write. cc;
+    first = (fails, flush ∙ ap (λ (f : Faults). after_flush f fails) puts);
+  }
+  stopped_ends Write written stops puts flush = record {
+    done = λ none. not_none none;
+    late = tt;
+    stops = stops;
+    status = refl;
+    whole = λ write clean. absurd (true≢false (sym (ap (λ (f : Faults). f.refused) (flush ∙ puts)) ∙ clean));
+    first = (true, flush ∙ puts);
+  }
+
+  executed_ends : (executed : Result ℕ Stopped) → IfOk executed (λ written. IsDone shelf statements before now written) → IfErr executed (λ s. Stops shelf statements before now s.written s.stop)
+      → between ≡ after_put old (stops_write executed) → new ≡ after_flush between (flush_failed executed fails) → IsEnd shelf statements before now old new (ended executed fails)
+  executed_ends (Err stopped) done stops puts flush = stopped_ends stopped.stop stopped.written stops puts flush
+  executed_ends (Ok written) done stops puts flush = done_ends fails flush
+    where
+      done_ends : (b : Bool) → new ≡ after_flush between b → IsEnd shelf statements before now old new (ended (Ok written) b)
+      done_ends false flush = record {
+        done = λ none. done;
+        late = tt;
+        stops = tt;
+        status = refl;
+        whole = λ write. cc;
+        first = flush ∙ puts;
+      }
+      done_ends true flush = record {
+        done = λ none. not_none none;
+        late = tt;
+        stops = done_within shelf statements before now written done;
+        status = refl;
+        whole = λ write clean. done;
+        first = (false, flush ∙ ap (λ (f : Faults). after_flush f true) puts);
+      }
+
+  -- a run is answered
+  pub is_end : (executed : Result ℕ Stopped) (outcome : Outcome) → outcome ≡ ended executed fails → IfOk executed (λ written. IsDone shelf statements before now written)
+      → IfErr executed (λ s. Stops shelf statements before now s.written s.stop) → between ≡ after_put old (stops_write executed) → new ≡ after_flush between (flush_failed executed fails)
+      → IsEnd shelf statements before now old new outcome
+  is_end executed outcome answer done stops puts flush = rw answer (executed_ends executed done stops puts flush)
+
+-- no call failed where there is no fault
+pub sound : (fault : Option RunFault) (old new : Faults) → Failing fault old new → IsNone fault → new ≡ old
+sound None old new failing none = failing
+sound (Some fault) old new failing none = not_none none
+
+-- a call failed where a write did
+pub write : (fault : Option RunFault) (old new : Faults) → Failing fault old new → fault ≡ Some faults.Write → has_failed new ≡ true
+write fault old new failing is = by (rw is at failing)
+  where
+    or_true : (b : Bool) → (b || true) ≡ true
+    or_true true = refl
+    or_true false = refl
+
+    by : Failing (Some faults.Write) old new → has_failed new ≡ true
+    by (true, e) = rw e refl
+    by (false, e) = rw e (or_true old.refused)
+
+-- nor before execution
+pub failing_none : (fault : RunFault) (f : Faults) → IsBeforeExecution fault → Failing (Some fault) f f
+failing_none (faults.GridTwice grid) f early = (false, refl)
+failing_none (faults.GridRegion grid) f early = (false, refl)
+failing_none (faults.Grid grid fault) f early = (false, refl)
+failing_none faults.ScriptRead f early = (false, refl)
+failing_none faults.ScriptSize f early = (false, refl)
+failing_none (faults.Script fault) f early = (false, refl)
+failing_none (faults.Memory line) f early = (false, refl)
+failing_none faults.Write f early = absurd early
