@@ -8,8 +8,8 @@ use Rattle.cell_ascii_text.specs.Words.{is_space, is_word, word_from}
 use Rattle.cell_ascii_text.specs.Numbers.{is_digit, value_of_digits, digits_of, whole_number}
 use Rattle.cell_ascii_text.specs.Header.{Header}
 use Rattle.cell_ascii_text.specs.Cells.{cell_from, cell_of_word, after_start, after_word, after_cell, at_of}
-use Rattle.cell_ascii.specs.Held.{HoldsWord, IsNumeral, held_word}
-use Rattle.std.proofs.lemmas.List.{take-append-drop}
+use Rattle.cell_ascii.specs.Held.{HoldsCell, HoldsWord, IsNumeral, held_word}
+use Rattle.std.proofs.lemmas.List.{take-append-drop, take-take, get_or-take}
 use Rattle.std.proofs.Math.Nat.{pow-le-pow_right}
 use Rattle.std.proofs.Math.Seq.{take-length}
 use Rattle.cell_ascii_header.proofs.DigitLemmas.{value_below}
@@ -82,10 +82,11 @@ cut_at : (xs : List ℕ) (i : ℕ) → i < length xs → xs ≡ take i xs ++ sli
 cut_at xs i l = let e : drop i xs ≡ slice_index_or xs i 0 ∷ drop (i + 1) xs = rw add-one (drop-cons xs i 0 l) in sym (take-append-drop i xs) ∙ ap (λ (ys : List ℕ). take i xs ++ ys) e
 
 -- a word behind a space, up to a place
-pub holds_word : (bs rest : List ℕ) (n : ℕ) → bs ≡ 32 ∷ rest → 0 < n → n ≤ 64 → n < length rest → list_all is_word (take n rest) ≡ true → is_space (slice_index_or rest n 0) ≡ true → HoldsWord bs (n + 1)
-holds_word bs [] n e some most l word space = absurd (omega arith)
-holds_word bs (a ∷ rest) zero e some most l word space = absurd (omega arith)
-holds_word bs (a ∷ rest) (suc n) e some most l word space = λ h v cell line run room c.
+holds_whole : (bs rest : List ℕ) (n : ℕ) → bs ≡ 32 ∷ rest → 0 < n → n ≤ 64 → n < length rest → list_all is_word (take n rest) ≡ true → is_space (slice_index_or rest n 0) ≡ true
+    → (h : Header) (v : CellValue) → cell_of_word h (held_word bs (n + 1)) ≡ Ok v → HoldsCell h bs v (n + 1)
+holds_whole bs [] n e some most l word space = absurd (omega arith)
+holds_whole bs (a ∷ rest) zero e some most l word space = absurd (omega arith)
+holds_whole bs (a ∷ rest) (suc n) e some most l word space = λ h v cell line run room c.
     let within : n < length rest = omega arith in
     let short : length (take n rest) < 64 = omega (arith, length-take n rest) in
     let more = drop (n + 1) rest ++ c.bytes in
@@ -96,6 +97,22 @@ holds_word bs (a ∷ rest) (suc n) e some most l word space = λ h v cell line r
     let minus : suc n + 1 - 1 ≡ suc n = omega arith in
     let same : cell_of_word h (a ∷ take n rest) ≡ Ok v = rw (e, minus) at cell in
     rw (e, count, whole, left) (reads_word h a (take n rest) byte more c.fails v word short space same line run room)
+
+-- the same, whatever stands behind the byte that ends it
+pub holds_word : (bs rest : List ℕ) (n : ℕ) → bs ≡ 32 ∷ rest → 0 < n → n ≤ 64 → n < length rest → list_all is_word (take n rest) ≡ true → is_space (slice_index_or rest n 0) ≡ true → HoldsWord bs (n + 1)
+holds_word bs rest n e some most l word space = λ h v cell.
+    let front = take (n + 1) rest in
+    let count : n + 1 + 1 ≡ suc (n + 1) = omega arith in
+    let minus : n + 1 - 1 ≡ n = omega arith in
+    let shorter : n ≤ n + 1 = omega arith in
+    let here : n < n + 1 = omega arith in
+    let cut : take (n + 1 + 1) bs ≡ 32 ∷ front = ap (take (n + 1 + 1)) e ∙ ap (λ (k : ℕ). take k (32 ∷ rest)) count in
+    let within : n < length front = omega (arith, length-take (n + 1) rest) in
+    let same_word : take n front ≡ take n rest = take-take n (n + 1) rest shorter in
+    let same_byte : slice_index_or front n 0 ≡ slice_index_or rest n 0 = get_or-take (n + 1) rest n 0 here in
+    let after : List ℕ → List ℕ = λ l. take (n + 1 - 1) (drop 1 l) in
+    let same : held_word (take (n + 1 + 1) bs) (n + 1) ≡ held_word bs (n + 1) = ap after cut ∙ ap (λ (k : ℕ). take k front) minus ∙ same_word ∙ sym (ap (λ (k : ℕ). take k rest) minus) ∙ sym (ap after e) in
+    holds_whole (take (n + 1 + 1) bs) front n cut some most within (ap (list_all is_word) same_word ∙ word) (ap is_space same_byte ∙ space) h v (ap (cell_of_word h) same ∙ cell)
 
 -- digits behind a space
 pub holds_positive : (bs rest : List ℕ) (value n : ℕ) → bs ≡ 32 ∷ rest → IsNumeral rest value n → HoldsWord bs (n + 1)

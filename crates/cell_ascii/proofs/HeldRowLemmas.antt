@@ -9,7 +9,7 @@ use Rattle.cell_scanner.specs.Ahead.{before_coming}
 use Rattle.cell_ascii_text.specs.Header.{◌>>=◌, Header}
 use Rattle.cell_ascii_text.specs.Cells.{Reading, cell_from, at_of, many}
 use Rattle.cell_ascii.specs.Held.{HoldsCell, HoldsCells, run_after}
-use Rattle.cell_ascii.proofs.RowReadLemmas.{many_more, snoc, with_last}
+use Rattle.cell_ascii.proofs.RowReadLemmas.{many_more, many_add, snoc, with_last, glue, and_then}
 
 run-below : (run count : ℕ) → run < 1048576 → run_after run count < 1048576
 run-below run zero below = below
@@ -31,6 +31,20 @@ module _ (h : Header) (bs : List ℕ) where
       ∙ ap (λ (r : Reading CellValue). r >>= snoc (cell_from h) cells) (next line (run_after run count) (run-below run count below) c)
       ∙ ap (λ (k : ℕ). Ok (cells ++ v ∷ [], at_of line k (before_coming (drop m (drop n bs)) c))) (sym (run-none run count))
       ∙ ap (λ (rest : List ℕ). Ok (cells ++ v ∷ [], at_of line (run_after run (count + 1)) (before_coming rest c))) (drop-drop m n bs)
+
+  run-both : (run count more : ℕ) → run_after (run_after run count) more ≡ run_after run (count + more)
+  run-both run count zero = let e : count ≡ count + 0 = omega arith in ap (run_after run) e
+  run-both run count (suc more) = let e : suc (count + more) ≡ count + suc more = omega arith in ap (run_after run) e
+
+  -- some more
+  pub HoldsCells-append : (cells others : List CellValue) (count more n m : ℕ) → HoldsCells h bs cells count n → HoldsCells h (drop n bs) others more m
+      → HoldsCells h bs (cells ++ others) (count + more) (n + m)
+  HoldsCells-append cells others count more n m held next = λ line run below c.
+      many_add (cell_from h) count more (at_of line run (before_coming bs c))
+      ∙ ap (λ (r : Reading (List CellValue)). r >>= and_then (cell_from h) more) (held line run below c)
+      ∙ ap (λ (r : Reading (List CellValue)). r >>= glue (cell_from h) cells) (next line (run_after run count) (run-below run count below) c)
+      ∙ ap (λ (k : ℕ). Ok (cells ++ others, at_of line k (before_coming (drop m (drop n bs)) c))) (run-both run count more)
+      ∙ ap (λ (rest : List ℕ). Ok (cells ++ others, at_of line (run_after run (count + more)) (before_coming rest c))) (drop-drop m n bs)
 
 -- what the next cells say of all that is to come
 pub cells_held : (h : Header) (line run : ℕ) (bs : List ℕ) (rest : Option Coming) (cells : List CellValue) (count n : ℕ) → run < 1048576 → 0 < count → HoldsCells h bs cells count n

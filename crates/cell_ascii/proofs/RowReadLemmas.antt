@@ -84,13 +84,13 @@ module _ {X : Type 0} (one : At → Reading X) where
       ∙ then_map (λ (r : Reading X). r >>= snoc front) (λ c. one (mid c)) (λ c. Ok (x, there c)) b d e
 
   -- some, with those before them
-  abbrev glue : List X → List X × At → Reading (List X)
+  abbrev pub glue : List X → List X × At → Reading (List X)
   glue xs y = Ok (xs ++ y.0, y.1)
 
-  abbrev and_then : ℕ → List X × At → Reading (List X)
+  abbrev pub and_then : ℕ → List X × At → Reading (List X)
   and_then n y = many one n y.1 >>= glue y.0
 
-  many_add : (k n : ℕ) (at : At) → many one (k + n) at ≡ (many one k at >>= and_then n)
+  pub many_add : (k n : ℕ) (at : At) → many one (k + n) at ≡ (many one k at >>= and_then n)
   many_add zero n at =
       let o : 0 + n ≡ n = omega arith in
       ap (λ (j : ℕ). many one j at) o ∙ same (many one n at)

@@ -1,19 +1,37 @@
 //! A cell whose bytes are held.
 
-ghost use Rattle.std.specs.Prelude.{◌≡◌, ℕ, List, ◌∷◌, ◌<◌, ◌≤◌, pos, neg_ℤ, length, take, drop, Some, IfSome};
-ghost use Rattle.cell_ascii.specs.Held.{HoldsCell, HoldsCells, HoldsWord, IsNumeral, held_word};
+ghost use Rattle.std.specs.Prelude.{◌≡◌, ℕ, List, ◌∷◌, ◌++◌, ◌+◌, ◌*◌, ◌/◌, ◌<◌, ◌≤◌, pos, neg_ℤ, length, take, drop, replicate, Some, IfSome};
+ghost use Rattle.cell_ascii.specs.Held.{HoldsCells, HoldsFront, HoldsWord, IsNumeral, ComesAgain, held_word};
 ghost use Rattle.cell_ascii_text.specs.Numbers.{whole_number};
 
 use cell_ascii_header::header::Header;
 use cell_core::cell::Cell;
 use cell_scanner::scanner::is_space;
 use cell_text::numbers::is_digit;
+use std::simd::prelude::*;
 
 // So many digits fit 32 bits, whatever they are.
 const MOST_DIGITS: usize = 9;
 
 // The most bytes of a word.
 const MOST_BYTES: usize = 64;
+
+// How many bytes are compared at once.
+const LANES: usize = 16;
+
+// Repeated words are looked for on credit: each word costs some, and each time that it comes again pays 1, up to the most.
+// When it is used up, cells are read one by one for a while.
+const MOST_CREDIT: usize = 8;
+
+const COST_OF_A_WORD: usize = 2;
+
+// How many cells they are at first. They are twice as many each time that the credit lasted for few cells, up to the last of
+// these.
+const FIRST_WAIT: usize = 16;
+
+const LAST_WAIT: usize = 4096;
+
+const FEW_CELLS: usize = 64;
 
 // One to three digits and a byte that ends them, at the front of four bytes, and how many digits there are.
 #[inline(always)]
@@ -127,8 +145,8 @@ fn cell_of_number(held: &[u8], header: &Header, number: i64, n: usize) -> Option
     requires word { HoldsWord held.now n }
     requires number { whole_number (held_word held.now n) ≡ Some number }
     requires within { (0 < n) × (n ≤ length held.now) }
-    ensures cell { IfSome result (λ r. HoldsCell header.now held.now r.0 r.1) }
-    ensures within { IfSome result (λ r. r.1 ≤ length held.now) }
+    ensures cell { IfSome result (λ r. HoldsFront header.now held.now r.0 r.1) }
+    ensures within { IfSome result (λ r. (0 < r.1) × (r.1 ≤ length held.now)) }
 {
     match header.cell_of_number(&held[1..n], number) {
         Ok(cell) => Some((cell, n)),
@@ -139,8 +157,8 @@ fn cell_of_number(held: &[u8], header: &Header, number: i64, n: usize) -> Option
 // The same as `cell_in`, where no short number stands.
 #[inline(never)]
 fn other_cell_in(held: &[u8], header: &Header) -> Option<(Cell, usize)>
-    ensures cell { IfSome result (λ r. HoldsCell header.now held.now r.0 r.1) }
-    ensures within { IfSome result (λ r. r.1 ≤ length held.now) }
+    ensures cell { IfSome result (λ r. HoldsFront header.now held.now r.0 r.1) }
+    ensures within { IfSome result (λ r. (0 < r.1) × (r.1 ≤ length held.now)) }
 {
     if let Some((number, n)) = number_in(held) {
         return cell_of_number(held, header, number, n);
@@ -156,8 +174,8 @@ fn other_cell_in(held: &[u8], header: &Header) -> Option<(Cell, usize)>
 // None where another form stands, or a word that is no cell.
 #[inline(always)]
 fn cell_in(held: &[u8], header: &Header) -> Option<(Cell, usize)>
-    ensures cell { IfSome result (λ r. HoldsCell header.now held.now r.0 r.1) }
-    ensures within { IfSome result (λ r. r.1 ≤ length held.now) }
+    ensures cell { IfSome result (λ r. HoldsFront header.now held.now r.0 r.1) }
+    ensures within { IfSome result (λ r. (0 < r.1) × (r.1 ≤ length held.now)) }
 {
     match short_number_in(held) {
         Some((number, n)) => cell_of_number(held, header, number, n),
@@ -165,12 +183,121 @@ fn cell_in(held: &[u8], header: &Header) -> Option<(Cell, usize)>
     }
 }
 
-/// The cells that are held one after another, each a space and a word that ends, up to the length of a row: they fill the
-/// front of the row. Returns how many they are, and how many bytes they take.
-///
-/// It is not inlined: within a larger function its loop would keep less in registers.
+// How many bytes two slices have in common at their front, of the first 16.
+#[inline(always)]
+fn front_alike(a: &[u8], b: &[u8]) -> usize
+    requires left { 16 ≤ length a.now }
+    requires right { 16 ≤ length b.now }
+    ensures alike { take result a.now ≡ take result b.now }
+    ensures few { result ≤ 16 }
+{
+    let differ = u8x16::from_slice(a)
+        .simd_ne(u8x16::from_slice(b))
+        .to_bitmask();
+    if differ == 0 {
+        LANES
+    } else {
+        differ.trailing_zeros() as usize
+    }
+}
+
+// How many bytes from place n on are those that stand n places before them. Of the last bytes held it may leave out some.
+#[inline(always)]
+fn bytes_again(held: &[u8], n: usize) -> usize
+    requires { n ≤ length held.now }
+    ensures alike { take result (drop n held.now) ≡ take result held.now }
+    ensures within { n + result ≤ length held.now }
+{
+    let later = &held[n..];
+    let mut count = 0;
+    'loads: while later.len() - count >= LANES {
+        let more = front_alike(&later[count..], &held[count..]);
+        if more < LANES {
+            return count + more;
+        }
+        // The next load does not wait for this comparison.
+        count += LANES;
+    }
+    count
+}
+
+// A quotient. The lengths of most words are divided by as constants.
+#[inline(always)]
+fn quotient(a: usize, n: usize) -> usize
+    requires { 0 < n }
+    ensures { result ≡ a / n }
+{
+    match n {
+        2 => a / 2,
+        3 => a / 3,
+        4 => a / 4,
+        5 => a / 5,
+        _ => a / n,
+    }
+}
+
+// How often the first n bytes and the one behind them come again, as far as that is seen.
+#[inline(always)]
+fn times_again(held: &[u8], n: usize) -> usize
+    requires some { 0 < n }
+    requires within { n ≤ length held.now }
+    ensures again { ComesAgain held.now n result }
+    ensures within { n + result * n ≤ length held.now }
+{
+    let bytes = bytes_again(held, n);
+    if bytes == 0 {
+        return 0;
+    }
+    quotient(bytes - 1, n)
+}
+
+// Writes a cell over so many cells of a row from a place on.
+#[inline(always)]
+fn fill_cells(row: &mut [Cell], at: usize, count: usize, cell: Cell)
+    requires { at + count ≤ length row.old }
+    ensures { row.new ≡ take at row.old ++ replicate count cell ++ drop (at + count) row.old }
+{
+    row[at..at + count].fill(cell);
+}
+
+// What is left of the credit for repeated words behind a word that came so many times more.
+#[inline(always)]
+fn next_credit(credit: usize, more: usize) -> usize {
+    credit
+        .saturating_add(more)
+        .min(MOST_CREDIT)
+        .saturating_sub(COST_OF_A_WORD)
+}
+
+// The same as `cells_in`, for a text in which words come again and again: each that does is read once. It ends where few do.
 #[inline(never)]
-pub fn cells_in(held: &[u8], header: &Header, row: &mut [Cell]) -> (usize, usize)
+fn repeated_cells_in(held: &[u8], header: &Header, row: &mut [Cell]) -> (usize, usize)
+    ensures cells { HoldsCells header.now held.now (take result.0 row.new) result.0 result.1 }
+    ensures count { result.0 ≤ length row.old }
+    ensures within { result.1 ≤ length held.now }
+    ensures rest { drop result.0 row.new ≡ drop result.0 row.old }
+{
+    let mut i = 0;
+    let mut passed = 0;
+    let mut credit = MOST_CREDIT;
+    'words: while i < row.len() && credit > 0 {
+        let Some(found) = cell_in(&held[passed..], header) else {
+            return (i, passed);
+        };
+        let more = times_again(&held[passed..], found.1).min(row.len() - i - 1);
+        credit = next_credit(credit, more);
+        fill_cells(row, i, 1 + more, found.0);
+        i += 1 + more;
+        passed += found.1 + more * found.1;
+    }
+    (i, passed)
+}
+
+// The same as `cells_in`, each cell read by itself.
+//
+// It is not inlined: within a larger function, or with one parameter more, its loop would keep less in registers.
+#[inline(never)]
+fn single_cells_in(held: &[u8], header: &Header, row: &mut [Cell]) -> (usize, usize)
     ensures cells { HoldsCells header.now held.now (take result.0 row.new) result.0 result.1 }
     ensures count { result.0 ≤ length row.old }
     ensures within { result.1 ≤ length held.now }
@@ -185,4 +312,79 @@ pub fn cells_in(held: &[u8], header: &Header, row: &mut [Cell]) -> (usize, usize
         passed += found.1;
     }
     (row.len(), passed)
+}
+
+/// How cells are read: words that come again are looked for, and less and less often where few do. It says nothing of what
+/// is read.
+#[derive(Drop)]
+pub struct Pace {
+    // How many cells are to be read one by one, or 0.
+    singles: usize,
+    // How many were the last time.
+    wait: usize,
+}
+
+impl Pace {
+    pub fn new() -> Pace {
+        Pace {
+            singles: 0,
+            wait: FIRST_WAIT,
+        }
+    }
+
+    // So many cells were read one by one.
+    fn pass_singles(&mut self, count: usize) {
+        self.singles = self.singles.saturating_sub(count);
+    }
+
+    // So many cells were read as words that come again.
+    fn pass_repeated(&mut self, count: usize) {
+        if count > FEW_CELLS {
+            self.wait = FIRST_WAIT;
+        } else if self.wait < LAST_WAIT {
+            self.wait *= 2;
+        }
+        self.singles = self.wait;
+    }
+}
+
+// The same as `cells_in`, in one of the two ways.
+fn some_cells_in(held: &[u8], header: &Header, row: &mut [Cell], pace: &mut Pace) -> (usize, usize)
+    ensures cells { HoldsCells header.now held.now (take result.0 row.new) result.0 result.1 }
+    ensures count { result.0 ≤ length row.old }
+    ensures within { result.1 ≤ length held.now }
+    ensures rest { drop result.0 row.new ≡ drop result.0 row.old }
+{
+    if pace.singles == 0 {
+        let found = repeated_cells_in(held, header, row);
+        if found.0 > 0 && found.0 < row.len() {
+            pace.pass_repeated(found.0);
+        }
+        return found;
+    }
+    let end = pace.singles.min(row.len());
+    let found = single_cells_in(held, header, &mut row[..end]);
+    pace.pass_singles(found.0);
+    found
+}
+
+/// The cells that are held one after another, each a space and a word that ends, up to the length of a row: they fill the
+/// front of the row. Returns how many they are, and how many bytes they take.
+pub fn cells_in(held: &[u8], header: &Header, row: &mut [Cell], pace: &mut Pace) -> (usize, usize)
+    ensures cells { HoldsCells header.now held.now (take result.0 row.new) result.0 result.1 }
+    ensures count { result.0 ≤ length row.old }
+    ensures within { result.1 ≤ length held.now }
+    ensures rest { drop result.0 row.new ≡ drop result.0 row.old }
+{
+    let mut i = 0;
+    let mut passed = 0;
+    'parts: while i < row.len() {
+        let found = some_cells_in(&held[passed..], header, &mut row[i..], pace);
+        if found.0 == 0 {
+            return (i, passed);
+        }
+        i += found.0;
+        passed += found.1;
+    }
+    (i, passed)
 }

@@ -15,7 +15,7 @@ ghost use Rattle.cell_ascii_text.specs.RowPlaces.{cells_fault, end_fault};
 ghost use Rattle.cell_ascii.specs.Reader.{Place, at_place, opened_at, token_of, token_seen, reading_seen, always, IsPlaced, rows_from};
 ghost use Rattle.cell_ascii.specs.GridReaders.{place_in, opened_in, fault_of, has_failed, IsCutRow, IsChangedInFront};
 
-use crate::held::cells_in;
+use crate::held::{Pace, cells_in};
 use cell_ascii_header::header::Header;
 use cell_ascii_header::keys::Keys;
 use cell_ascii_header::opening;
@@ -44,6 +44,7 @@ struct CellReader<R: Source> {
     scanner: Scanner<R>,
     header: Header,
     waiting: bool,
+    pace: Pace,
 }
 
 impl<R: Source> Model for CellReader<R> {
@@ -116,6 +117,7 @@ impl<R: Source> CellReader<R> {
             scanner,
             header,
             waiting,
+            pace: Pace::new(),
         })
     }
 
@@ -137,7 +139,7 @@ impl<R: Source> CellReader<R> {
         if self.waiting || !self.scanner.has_room() {
             return 0;
         }
-        let (count, n) = cells_in(self.scanner.held(), &self.header, row);
+        let (count, n) = cells_in(self.scanner.held(), &self.header, row, &mut self.pace);
         if count > 0 {
             self.scanner.pass(n);
         }

@@ -1,3 +1,4 @@
 pub mod LabelLemmas
 pub mod RowLemmas
 pub mod RunLemmas
+pub mod MarkLemmas

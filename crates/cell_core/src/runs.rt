@@ -1,15 +1,20 @@
 //! The runs of a row: cells that are alike and stand side by side, with their number.
 
-ghost use Rattle.std.specs.Prelude.{◌≡◌, ◌<◌, ◌≤◌, ◌+◌, ◌-◌, ◌++◌, ◌^◌, length, take, drop, replicate, All, None, IfOk, slice_index_or};
+ghost use Rattle.std.specs.Prelude.{◌≡◌, ◌<◌, ◌≤◌, ◌+◌, ◌-◌, ◌++◌, ◌^◌, List, length, take, drop, replicate, All, None, IfOk, OnOk, slice_index_or};
 ghost use Rattle.std.specs.Iterator.{YieldsFirst, item_count};
 ghost use Rattle.cell_base.specs.Cell.{IsCell};
+ghost use Rattle.cell_core.specs.Grid.{CellValue};
 ghost use Rattle.cell_core.specs.Runs.{RunValue, AreRuns, written_out};
-ghost use Rattle.cell_core.specs.parts.Rows.{alike, runs_in};
+ghost use Rattle.cell_core.specs.parts.Rows.{alike, runs_in, runs_from, flag_bits, mark_bits};
 
 use cell_base::cell::Cell;
 use cell_base::memory::Memory;
 use std::alloc::Global;
 use std::marker::Model;
+use std::simd::prelude::*;
+
+// So many cells are looked at together.
+const BLOCK: usize = 64;
 
 // Its category, or None for null: it is one of them.
 fn category_of(cell: Cell) -> Option<i32>
@@ -42,6 +47,81 @@ pub(crate) fn count_runs(row: &[Cell]) -> usize
     ends as usize + 1
 }
 
+// Which of 64 bytes are not 0, as bits.
+#[inline(always)]
+fn set_bits(flags: &[u8]) -> u64
+    requires { length flags.now ≡ 64 }
+    ensures { result ≡ flag_bits flags.now }
+{
+    u8x64::from_slice(flags)
+        .simd_ne(u8x64::splat(0))
+        .to_bitmask()
+}
+
+// Which cells of a block differ from the one before, the first from a cell: bit k stands for the cell at place k.
+#[inline(always)]
+fn breaks_in(cell: Cell, block: &[Cell]) -> u64
+    requires { length block.now ≡ 64 }
+    ensures { result ≡ mark_bits cell block.now }
+{
+    // A byte for each, so that a vector compares several.
+    let mut flags = [0u8; 64];
+    let mut last = cell;
+    for j in 0..BLOCK {
+        let next = block[j];
+        flags[j] = (next != last) as u8;
+        last = next;
+    }
+    set_bits(&flags)
+}
+
+// Pushes the runs that end in a block, the first of which may have begun before it, and returns the one that goes on.
+fn push_block(
+    runs: &mut Vec<(Cell, u32)>,
+    run: (Cell, u32),
+    block: &[Cell],
+) -> Result<(Cell, u32), Memory>
+    requires size { length block.now ≡ 64 }
+    requires room { run.1 + 64 < 2 ^ 32 }
+    ensures runs { IfOk result (λ last. (more : List CellValue) → runs.new.items ++ runs_from last more ≡ runs.old.items ++ runs_from run (block.now ++ more)) }
+    ensures count { IfOk result (λ last. last.1 ≤ run.1 + 64) }
+{
+    let mut cell = run.0;
+    let mut count = run.1;
+    let mut at = 0;
+    let mut breaks = breaks_in(cell, block);
+    'breaks: while breaks != 0 {
+        let alike = breaks.trailing_zeros();
+        runs.push((cell, count + alike))?;
+        at += alike as usize;
+        cell = block[at];
+        count = 1;
+        at += 1;
+        breaks = (breaks >> alike) >> 1;
+    }
+    Ok((cell, count + (BLOCK - at) as u32))
+}
+
+// Pushes the runs of the last cells of a row, the first of which may have begun before them.
+fn push_last(runs: &mut Vec<(Cell, u32)>, run: (Cell, u32), cells: &[Cell]) -> Result<(), Memory>
+    requires { run.1 + length cells.now < 2 ^ 32 }
+    ensures { OnOk result (runs.new.items ≡ runs.old.items ++ runs_from run cells.now) }
+{
+    let mut cell = run.0;
+    let mut count = run.1;
+    for next in cells {
+        if *next == cell {
+            count += 1;
+        } else {
+            runs.push((cell, count))?;
+            cell = *next;
+            count = 1;
+        }
+    }
+    runs.push((cell, count))?;
+    Ok(())
+}
+
 // The runs of a row, which are so many. Takes memory once.
 pub(crate) fn runs_of(
     alloc: Global,
@@ -54,18 +134,13 @@ pub(crate) fn runs_of(
 {
     let mut runs = Vec::with_capacity(alloc, count_of_runs)?;
     if let Some((first, others)) = row.split_first() {
-        let mut cell = *first;
-        let mut count = 1;
-        for next in others {
-            if *next == cell {
-                count += 1;
-            } else {
-                runs.push((cell, count))?;
-                cell = *next;
-                count = 1;
-            }
+        let mut run = (*first, 1);
+        let mut at = 0;
+        'parts: while others.len() - at >= BLOCK {
+            run = push_block(&mut runs, run, &others[at..at + BLOCK])?;
+            at += BLOCK;
         }
-        runs.push((cell, count))?;
+        push_last(&mut runs, run, &others[at..])?;
     }
     Ok(runs)
 }

@@ -1,5 +1,6 @@
 -- How a row is kept, as its runs or as its cells, and the runs that are still to come from either.
-use Rattle.std.specs.Prelude.{ℕ, suc, ◌+◌, ◌<◌, ◌^◌, List, [], ◌∷◌, length, if◌then◌else◌}
+use Rattle.std.specs.Prelude.{ℕ, suc, ◌+◌, ◌<◌, ◌^◌, Bool, not, ◌==◌, List, [], ◌∷◌, map, length, drop, if◌then◌else◌}
+use lib.Lanes.{mask_l}
 use Rattle.cell_base.specs.Cell.{cell_eq}
 use Rattle.cell_core.specs.Grid.{CellValue}
 use Rattle.cell_core.specs.Runs.{RunValue, AreRuns, written_out}
@@ -32,6 +33,23 @@ with_cell x (run ∷ runs) = if cell_eq run.0 x then (x, run.1 + 1) ∷ runs els
 abbrev pub runs_in : List CellValue → List RunValue
 runs_in [] = []
 runs_in (x ∷ cells) = with_cell x (runs_in cells)
+
+-- the runs of cells behind a run that may go on in them
+abbrev pub runs_from : RunValue → List CellValue → List RunValue
+runs_from run cells = (run.0, run.1 + alike run.0 cells) ∷ runs_in (drop (alike run.0 cells) cells)
+
+-- whether each of some cells differs from the one before it, the first from x
+abbrev pub marks : CellValue → List CellValue → List Bool
+marks x [] = []
+marks x (y ∷ cells) = not (cell_eq y x) ∷ marks y cells
+
+-- the same as bits, from the lowest on
+abbrev pub mark_bits : CellValue → List CellValue → ℕ
+mark_bits x cells = mask_l (marks x cells)
+
+-- which bytes are not 0, as bits
+abbrev pub flag_bits : List ℕ → ℕ
+flag_bits flags = mask_l (map (λ f. not (f == 0)) flags)
 
 -- how many runs begin after a cell
 abbrev pub breaks : CellValue → List CellValue → ℕ

@@ -1,22 +1,29 @@
-use Rattle.std.proofs.Common.{◌≡◌, ◌+◌, ◌-◌, ◌<◌, ◌∙◌, arith, length, take, drop, set, ◌++◌, ◌∷◌, [], length-drop, take_all}
-use Rattle.std.proofs.lemmas.List.{take_more_set, drop-set-lt}
-use Rattle.std.proofs.lemmas.Grind.{drop_more_same}
-use Rattle.cell_ascii.proofs.HeldRowLemmas.{HoldsCells-more}
+use Rattle.std.proofs.Common.{◌≡◌, ◌≤◌, ◌-◌, arith, length, take, drop, length-drop, length-take}
+use Rattle.std.proofs.lemmas.List.{take_rest}
+use Rattle.cell_ascii.proofs.HeldRowLemmas.{HoldsCells-append, filled, filled-length, part-front, part-rest}
 use Rattle.cell_ascii.proofs.held.cells_in.Goals as goal
 
-pub loop-i-preserved : goal.loop-i-preserved
-loop-i-preserved c =
+pub parts-preserved : goal.parts-preserved
+parts-preserved c =
     let held = c.args.held.now in
-    let row = c.loop-i.row in
-    let i = c.loop-i.i in
-    let passed = c.loop-i.passed in
-    let cell = c.in-Some.found.0 in
-    let size = length-drop passed held in
-    let rest : take (length held - passed) (drop passed held) ≡ drop passed held = take_all (length held - passed) (drop passed held) (omega (arith, size)) in
-    let longer : take (i + 1) (set row i cell) ≡ take i row ++ cell ∷ [] = take_more_set row i cell (omega arith) in
-    let here : i < i + 1 = omega arith in
+    let old = c.args.row.now in
+    let row = c.parts.row in
+    let i = c.parts.i in
+    let passed = c.parts.passed in
+    let k = c.some_cells_in-found.result.0 in
+    let n = c.some_cells_in-found.result.1 in
+    let part = c.some_cells_in-found.new.row in
+    let within : i ≤ length row = c.parts.invariant.low in
+    let size : length part ≡ length row - i = omega (arith, c.some_cells_in-found.auto.row, length-drop i row, length-take (length row - i) (drop i row)) in
+    let few : k ≤ length row - i = omega (arith, c.some_cells_in-found.ensures.count, length-drop i row, length-take (length row - i) (drop i row)) in
+    let front = part-front i k row part old within size few in
+    let whole : length (filled i row part) ≡ length row = filled-length i k row part old within size few in
+    let here = take_rest held passed in
+    let inside = rw here at c.some_cells_in-found.ensures.within in
+    let next = rw here at c.some_cells_in-found.ensures.cells in
     record {
-      within = omega (arith, rw rest at c.in-Some.ensures.within, c.loop-i.invariant.within, size);
-      cells = rw longer (HoldsCells-more c.args.header.now held (take i row) i passed cell c.in-Some.found.1 c.loop-i.invariant.cells (rw rest at c.in-Some.ensures.cell));
-      rest = drop-set-lt (i + 1) row i cell here ∙ drop_more_same row c.args.row.now i c.loop-i.invariant.rest;
+      low = omega (arith, few, within, whole);
+      within = omega (arith, inside, length-drop passed held, c.parts.invariant.within);
+      cells = rw front (HoldsCells-append c.args.header.now held (take i row) (take k part) i k passed n c.parts.invariant.cells next);
+      rest = part-rest i k row part old within size few c.some_cells_in-found.ensures.rest c.parts.invariant.rest;
     }

@@ -1,10 +1,14 @@
-use Rattle.std.proofs.Common.{◌≡◌, ◌≤◌, length, take, drop}
+use Rattle.std.proofs.Common.{◌≡◌, ◌-◌, ◌≤◌, length, take, drop}
 use Rattle.cell_ascii.specs.Held.{HoldsCells}
 use Rattle.cell_ascii.proofs.held.cells_in.Given as goal
 
-abbrev pub invariant-loop-i : goal.invariant-loop-i
-invariant-loop-i l = record {
+abbrev pub invariant-parts : goal.invariant-parts
+invariant-parts l = record {
+  low : l.i ≤ length l.row;
   within : l.passed ≤ length l.held;
   cells : HoldsCells l.header l.held (take l.i l.row) l.i l.passed;
   rest : drop l.i l.row ≡ drop l.i l.fn.row;
 }
+
+abbrev pub decreases-parts : goal.decreases-parts
+decreases-parts l = length l.row - l.i

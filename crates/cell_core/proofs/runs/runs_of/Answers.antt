@@ -1,108 +1,59 @@
-use Rattle.std.proofs.Common.{◌≡◌, ◌≢◌, ◌∙◌, ◌+◌, ◌<◌, ◌≤◌, ◌^◌, ◌++◌, ◌∷◌, [], ℕ, List, length, drop, refl, sym, ap, append-nil, arith}
-use Rattle.std.proofs.Math.Bool.{true≢false}
-use Rattle.std.proofs.lemmas.Result.{IfOk-from_err}
-use Rattle.std.proofs.lemmas.List.{drop_all, nil_from_length}
+use Rattle.std.proofs.Common.{◌≡◌, ◌∙◌, ◌+◌, ◌++◌, [], List, drop, sym, ap, arith}
+use Rattle.std.proofs.lemmas.List.{nil_from_length, take_rest}
 use Rattle.cell_core.specs.Grid.{CellValue}
 use Rattle.cell_core.specs.Runs.{RunValue, AreRuns, written_out}
-use Rattle.cell_core.proofs.RunLemmas.{taken-same, taken-next, AreRuns-longer, AreRuns-next, AreRuns-one}
+use Rattle.cell_core.specs.parts.Rows.{runs_in, runs_from}
+use Rattle.cell_core.proofs.RowLemmas.{written_out-runs_in, AreRuns-runs_in}
+use Rattle.cell_core.proofs.MarkLemmas.{run_begins, block_after}
 use Rattle.cell_core.proofs.runs.runs_of.Goals as goal
-use Rattle.cell_core.proofs.runs.runs_of.Goals.{then-eq, else-eq+in_ok-push, in-Some+else-loop-next-test+in_ok-push-2, in_default}
+use Rattle.cell_core.proofs.runs.runs_of.Goals.{in-Some+else-parts-test+in_ok-push_last, in_default}
 
-one_more : {k n : ℕ} (most : ℕ) → k ≡ n + 1 → n ≤ most → k ≤ most + 1
-one_more most e h = omega arith
-
-begins : {k : ℕ} (most : ℕ) → k ≡ 1 → k ≤ most + 1
-begins most e = omega arith
-
-starts : (runs : List RunValue) (x : CellValue) (others row : List CellValue) → runs ≡ [] → row ≡ x ∷ others
-    → written_out (runs ++ (x, 1) ∷ []) ++ others ≡ row
-starts runs x others row none whole = rw (none, whole) refl
-
-first_run : (runs : List RunValue) (x : CellValue) → runs ≡ [] → AreRuns (runs ++ (x, 1) ∷ [])
-first_run runs x none = rw none (AreRuns-one x)
-
-no_runs : AreRuns []
-no_runs = record { lengths = λ i d within. absurd (omega arith); apart = tt }
-
-least : 1 ≤ 1
-least = omega arith
-
-fits_more : {n i rest all : ℕ} → n ≤ i + 1 → i < rest → rest + 1 ≡ all → all < 2 ^ 32 → n + 1 < 2 ^ 32
-fits_more few within one small = omega arith
-
-ended : (written others row : List CellValue) (i : ℕ) → length others ≤ i → written ++ drop i others ≡ row → written ≡ row
-ended written others row i end whole =
-    sym (append-nil written) ∙ ap (λ (l : List CellValue). written ++ l) (sym (drop_all i others end)) ∙ whole
-
-pub loop-next-preserved : goal.loop-next-preserved
-loop-next-preserved c =
-    let within = c.loop-next-test.true in
-    let runs = c.loop-next.runs.items in
-    let cell = c.loop-next.cell in
-    let count = c.loop-next.count in
-    let more = taken-next runs cell count c.in-Some.others.now c.args.row.now c.loop-next.next-index c.next-item.result within c.next-item.is c.loop-next.invariant.written in
-    let same = taken-same runs cell count c.in-Some.others.now c.args.row.now c.loop-next.next-index c.next-item.result within c.next-item.is c.loop-next.invariant.written in
-    elim c.if-eq.branch [
-      | then-eq w ↦ record {
-        written = rw (w.runs-is, w.cell-is, w.count-is) (same (c.eq.ensures.same.0 w.if-eq.true));
-        runs = rw (w.runs-is, w.cell-is, w.count-is) (AreRuns-longer runs cell count c.loop-next.invariant.runs);
-        count = one_more (c.loop-next.next-index + 1) w.count-is c.loop-next.invariant.count;
-      }
-      | else-eq+in_ok-push w ↦
-          let differs : cell ≢ c.next-item.result = λ e. true≢false (sym (c.eq.ensures.same.1 (sym e)) ∙ w.if-eq.false) in
-          record {
-            written = rw (w.runs-is, w.cell-is, w.count-is, w.in_ok-push.ensures.items) more;
-            runs = rw (w.runs-is, w.cell-is, w.count-is, w.in_ok-push.ensures.items) (AreRuns-next runs (cell, count) c.next-item.result c.loop-next.invariant.runs differs);
-            count = begins (c.loop-next.next-index + 1) w.count-is;
-          }
-    ]
-
-pub returns-in_err-runs-clause-written : goal.returns-in_err-runs-clause-written
-returns-in_err-runs-clause-written c = IfOk-from_err c.from_residual.result _ c.from_residual.ensures.0
-
-pub returns-in_err-runs-clause-runs : goal.returns-in_err-runs-clause-runs
-returns-in_err-runs-clause-runs c = IfOk-from_err c.from_residual.result _ c.from_residual.ensures.0
-
-pub returns-in_err-push-clause-written : goal.returns-in_err-push-clause-written
-returns-in_err-push-clause-written c = IfOk-from_err c.from_residual-in_err-push.result _ c.from_residual-in_err-push.ensures.0
-
-pub returns-in_err-push-clause-runs : goal.returns-in_err-push-clause-runs
-returns-in_err-push-clause-runs c = IfOk-from_err c.from_residual-in_err-push.result _ c.from_residual-in_err-push.ensures.0
-
-pub returns-in_err-push-2-clause-written : goal.returns-in_err-push-2-clause-written
-returns-in_err-push-2-clause-written c = IfOk-from_err c.from_residual-in_err-push-2.result _ c.from_residual-in_err-push-2.ensures.0
-
-pub returns-in_err-push-2-clause-runs : goal.returns-in_err-push-2-clause-runs
-returns-in_err-push-2-clause-runs c = IfOk-from_err c.from_residual-in_err-push-2.result _ c.from_residual-in_err-push-2.ensures.0
-
-pub loop-next-init : goal.loop-next-init
-loop-next-init c =
+pub parts-init : goal.parts-init
+parts-init c =
     let none = c.in_ok-runs.ensures.items in
     record {
-      written = starts c.in_ok-runs.runs.items c.in-Some.first.now c.in-Some.others.now c.args.row.now none c.in-Some.ensures.cases.0;
-      runs = first_run c.in_ok-runs.runs.items c.in-Some.first.now none;
-      count = least;
+      within = omega arith;
+      few = omega arith;
+      whole = ap (λ (l : List RunValue). l ++ runs_from (c.in-Some.first.now, 1) c.in-Some.others.now) none ∙ sym (run_begins c.in-Some.first.now c.in-Some.others.now) ∙ ap runs_in (sym c.in-Some.ensures.cases.0);
     }
 
-pub overflow_add-count : goal.overflow_add-count
-overflow_add-count c =
-    record { fits = fits_more c.loop-next.invariant.count c.loop-next-test.true c.in-Some.ensures.cases.1 c.requires }
+pub parts-preserved : goal.parts-preserved
+parts-preserved c =
+    let others = c.in-Some.others.now in
+    let at = c.parts.at in
+    record {
+      within = omega (arith, c.parts-test.true, c.parts.invariant.within);
+      few = omega (arith, c.in_ok-run.ensures.count, c.parts.invariant.few);
+      whole = c.in_ok-run.ensures.runs (drop (at + 64) others)
+          ∙ ap (λ (l : List CellValue). c.parts.runs.items ++ runs_from c.parts.run l) (block_after others at)
+          ∙ c.parts.invariant.whole;
+    }
+
+written : (runs : List RunValue) (row : List CellValue) → runs ≡ runs_in row → written_out runs ≡ row
+written runs row e = ap written_out e ∙ written_out-runs_in row
+
+are_runs : (runs : List RunValue) (row : List CellValue) → runs ≡ runs_in row → AreRuns runs
+are_runs runs row e = rw e (AreRuns-runs_in row)
 
 pub returns-clause-written : goal.returns-clause-written
 returns-clause-written c =
     elim c.match-split_first.branch [
-      | in-Some+else-loop-next-test+in_ok-push-2 w ↦
-          rw (w.runs-is, w.in_ok-push-2.ensures.items)
-          (ended (written_out (w.loop-next.runs.items ++ (w.loop-next.cell, w.loop-next.count) ∷ [])) w.in-Some.others.now c.args.row.now
-          w.loop-next.next-index w.loop-next-test.false w.loop-next.invariant.written)
+      | in-Some+else-parts-test+in_ok-push_last w ↦
+          rw w.runs-is
+          (written _ c.args.row.now
+          (w.in_ok-push_last.ensures ∙ ap (λ (l : List CellValue). w.parts.runs.items ++ runs_from w.parts.run l) (take_rest w.in-Some.others.now w.parts.at) ∙ w.parts.invariant.whole))
       | in_default w ↦
-          rw (w.runs-is, c.in_ok-runs.ensures.items) (sym (nil_from_length c.args.row.now w.in_default.ensures.cases))
+          let none = nil_from_length c.args.row.now w.in_default.ensures.cases in
+          rw (w.runs-is, c.in_ok-runs.ensures.items) (sym none)
     ]
 
 pub returns-clause-runs : goal.returns-clause-runs
 returns-clause-runs c =
     elim c.match-split_first.branch [
-      | in-Some+else-loop-next-test+in_ok-push-2 w ↦
-          rw (w.runs-is, w.in_ok-push-2.ensures.items) w.loop-next.invariant.runs
-      | in_default w ↦ rw (w.runs-is, c.in_ok-runs.ensures.items) no_runs
+      | in-Some+else-parts-test+in_ok-push_last w ↦
+          rw w.runs-is
+          (are_runs _ c.args.row.now
+          (w.in_ok-push_last.ensures ∙ ap (λ (l : List CellValue). w.parts.runs.items ++ runs_from w.parts.run l) (take_rest w.in-Some.others.now w.parts.at) ∙ w.parts.invariant.whole))
+      | in_default w ↦
+          rw (w.runs-is, c.in_ok-runs.ensures.items) (AreRuns-runs_in [])
     ]

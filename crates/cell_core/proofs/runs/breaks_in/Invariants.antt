@@ -1,0 +1,10 @@
+use Rattle.std.proofs.Common.{◌≡◌, ◌++◌, length, take, drop, map}
+use Rattle.cell_core.specs.parts.Rows.{marks}
+use Rattle.cell_core.proofs.MarkLemmas.{flag}
+use Rattle.cell_core.proofs.runs.breaks_in.Given as goal
+
+abbrev pub invariant-loop-j : goal.invariant-loop-j
+invariant-loop-j l = record {
+  size : length l.flags ≡ 64;
+  marked : take l.j l.flags ++ map flag (marks l.last (drop l.j l.block)) ≡ map flag (marks l.fn.cell l.block);
+}
