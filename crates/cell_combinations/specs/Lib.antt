@@ -2,3 +2,4 @@
 pub mod Combinations
 pub mod ComboText
 pub mod LeftOut
+pub mod parts

@@ -9,11 +9,21 @@ use std::alloc::Global;
 use std::cmp::Ordering;
 use std::marker::Model;
 
+// How many cells are kept without an allocation.
+const FEW: usize = 4;
+
+// The cells of a combination: few of them with their number, or many.
+#[derive(Debug, Drop)]
+enum Cells {
+    Few([Cell; FEW], usize),
+    Many(Vec<Cell>),
+}
+
 /// A cell of each of several maps, in the order in which the maps were picked. Combinations are ordered by their first
 /// cell, then by the second, and so on (r.stats manual; null is last: profile).
 #[derive(Debug, Drop)]
 pub struct Combo {
-    cells: Vec<Cell>,
+    cells: Cells,
 }
 
 impl Model for Combo {
@@ -21,7 +31,9 @@ impl Model for Combo {
 
     ghost Value = { Combination };
 
-    ghost view = { λ combo. combo.cells.items };
+    ghost use Rattle.cell_combinations.specs.parts.Few.{cells_of};
+
+    ghost view = { λ combo. cells_of combo.cells };
 }
 
 impl Combo {
@@ -29,7 +41,9 @@ impl Combo {
     pub(crate) fn of(cells: Vec<Cell>) -> Combo
         ensures { result ≡ cells.items }
     {
-        Combo { cells }
+        Combo {
+            cells: Cells::Many(cells),
+        }
     }
 
     /// The combination of a copy of the cells.
@@ -40,15 +54,24 @@ impl Combo {
     pub fn from_cells(alloc: Global, cells: &[Cell]) -> Result<Combo, Memory>
         ensures { IfOk result (λ combo. combo ≡ cells.now) }
     {
-        let cells = Vec::from_slice(alloc, cells)?;
-        Ok(Combo { cells })
+        if cells.len() <= FEW {
+            let mut few = [Cell::null(); FEW];
+            few[..cells.len()].copy_from_slice(cells);
+            return Ok(Combo {
+                cells: Cells::Few(few, cells.len()),
+            });
+        }
+        let many = Vec::from_slice(alloc, cells)?;
+        Ok(Combo {
+            cells: Cells::Many(many),
+        })
     }
 
     /// How many cells it has.
     pub fn len(&self) -> usize
         ensures { result ≡ length self.now }
     {
-        self.cells.len()
+        self.cells().len()
     }
 
     /// The cell of the map that was picked at a place, from 0.
@@ -56,7 +79,7 @@ impl Combo {
         requires { i < length self.now }
         ensures { slice_get self.now i ≡ Some result }
     {
-        self.cells[i]
+        self.cells()[i]
     }
 
     /// Its cells in order.
@@ -64,7 +87,10 @@ impl Combo {
     pub fn cells(&self) -> &[Cell]
         ensures { result.now ≡ self.now }
     {
-        &self.cells
+        match &self.cells {
+            Cells::Few(few, count) => &few[..(*count).min(FEW)],
+            Cells::Many(many) => many,
+        }
     }
 
     /// Writes other cells over its own, as many as it has.
@@ -73,7 +99,10 @@ impl Combo {
         requires { length cells.now ≡ length self.old }
         ensures { self.new ≡ cells.now }
     {
-        self.cells.as_mut_slice().copy_from_slice(cells);
+        match &mut self.cells {
+            Cells::Few(few, _) => few[..cells.len()].copy_from_slice(cells),
+            Cells::Many(many) => many.as_mut_slice().copy_from_slice(cells),
+        }
     }
 }
 

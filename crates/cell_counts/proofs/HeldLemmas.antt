@@ -1,13 +1,11 @@
 -- Counts that are held, and counts in the map.
-use Rattle.std.proofs.Common.{◌≡◌, ℕ, zero, suc, ◌+◌, ◌<◌, ◌≤◌, length, take, replicate, [], ◌∷◌, Some, None, Bool, true, false, List, cond, get_or, set, unwrap_or, ap, sym, ◌∙◌, refl, arith, add-zero, zero-add}
-use Rattle.std.specs.BTreeMap as tree
-use Rattle.std.specs.BTreeMap.{BTreeMap}
+use Rattle.std.proofs.Common.{◌≡◌, ℕ, zero, suc, ◌+◌, ◌<◌, ◌≤◌, length, take, replicate, [], ◌∷◌, Bool, true, false, List, cond, get_or, set, ap, sym, ◌∙◌, refl, arith, add-zero, zero-add}
+use Rattle.cell_counts.specs.declared.gathered.Gathered.{Gathered}
 use Rattle.std.specs.Cmp.{eq_by_cmp_equiv}
 use Rattle.std.proofs.lemmas.List.Sums.{sum_by-append, sum_by-set, get_or-le-sum_by}
 use Rattle.cell_counts.specs.declared.counting.Held.{Held}
-use Rattle.cell_combinations.specs.Combinations.{Combination, combination_cmp, combination_cmp_total}
-use Rattle.cell_counts.specs.parts.Held.{is_same, held_by, held_of, total_of, Grows}
-use Rattle.cell_counts.specs.Mapped.{mapped_of}
+use Rattle.cell_combinations.specs.Combinations.{Combination, combination_cmp_total}
+use Rattle.cell_counts.specs.parts.Held.{is_same, held_by, held_of, total_of, gathered_of}
 use Rattle.cell_combinations.proofs.OrderLemmas.{combination_cmp-exact, is_equal}
 
 pub same-flip : (a b : Combination) → is_same a b ≡ is_same b a
@@ -18,18 +16,6 @@ same-itself a = (eq_by_cmp_equiv combination_cmp_total).refl a
 
 pub same-is : (a b : Combination) → is_same a b ≡ true → a ≡ b
 same-is a b e = combination_cmp-exact a b (is_equal _ e)
-
--- a write at a key, to which a count is added
-pub Grows-from : (m n : BTreeMap Combination ℕ) (k : Combination) (have count : ℕ) → mapped_of k m ≡ have → ((q : Combination) → tree.get combination_cmp n q ≡ cond (is_same k q) (Some (have + count)) (tree.get combination_cmp m q)) → Grows m n k count
-Grows-from m n k have count had updates q = by (is_same k q) refl
-  where
-    by : (b : Bool) → is_same k q ≡ b → mapped_of q n ≡ mapped_of q m + cond (is_same q k) count 0
-    by true e =
-        ap (λ o. unwrap_or o 0) (updates q) ∙ ap (λ b. unwrap_or (cond b (Some (have + count)) (tree.get combination_cmp m q)) 0) e
-        ∙ ap (λ v. v + count) (sym (ap (λ x. mapped_of x m) (sym (same-is k q e)) ∙ had)) ∙ ap (λ b. mapped_of q m + cond b count 0) (sym (same-flip q k ∙ e))
-    by false e =
-        ap (λ o. unwrap_or o 0) (updates q) ∙ ap (λ b. unwrap_or (cond b (Some (have + count)) (tree.get combination_cmp m q)) 0) e
-        ∙ sym (add-zero (mapped_of q m)) ∙ ap (λ b. mapped_of q m + cond b count 0) (sym (same-flip q k ∙ e))
 
 -- what a place holds of its own combination
 pub held_by-own : (w : ℕ) (k : Combination) (h : Held) → k ≡ take w h.cells → held_by w k h ≡ h.count
@@ -42,21 +28,15 @@ held_by-le w k places i h within read =
     let same : held_by w k h ≡ held_by w k (get_or places i h) = ap (held_by w k) read in
     omega (arith, le, same)
 
--- a key that was not there
-pub Grows-new : (m n : BTreeMap Combination ℕ) (k key : Combination) (count : ℕ) → key ≡ k → tree.get combination_cmp m k ≡ None → ((q : Combination) → tree.get combination_cmp n q ≡ cond (is_same key q) (Some count) (tree.get combination_cmp m q)) → Grows m n k count
-Grows-new m n k key count same none updates =
-    let nothing : mapped_of k m ≡ 0 = ap (λ o. unwrap_or o 0) none in
-    Grows-from m n k 0 count nothing (λ q. updates q ∙ ap (λ x. cond (is_same x q) (Some count) (tree.get combination_cmp m q)) same ∙ ap (λ v. cond (is_same k q) (Some v) (tree.get combination_cmp m q)) (sym (zero-add count)))
-
 -- what a place holds, of a combination that stands there
 held_by-of : (w : ℕ) (k cells : Combination) (h : Held) (n : ℕ) → take w h.cells ≡ cells → h.count ≡ n → held_by w k h ≡ cond (is_same k cells) n 0
 held_by-of w k cells h n same count = ap (λ x. cond (is_same k x) h.count 0) same ∙ ap (λ v. cond (is_same k cells) v 0) count
 
-cond-add : (b : Bool) (m n : ℕ) → cond b (m + n) 0 ≡ cond b m 0 + cond b n 0
+pub cond-add : (b : Bool) (m n : ℕ) → cond b (m + n) 0 ≡ cond b m 0 + cond b n 0
 cond-add true m n = refl
 cond-add false m n = refl
 
-module _ (w : ℕ) (k cells : Combination) (n : ℕ) (places : List Held) (at : ℕ) (d : Held) (m : BTreeMap Combination ℕ) (within : at < length places) where
+module _ (w : ℕ) (k cells : Combination) (n : ℕ) (places : List Held) (at : ℕ) (d : Held) (m : Gathered) (within : at < length places) where
   -- a place holds more of its own combination
   pub total-held : (h : Held) → take w (get_or places at d).cells ≡ cells → take w h.cells ≡ cells → h.count ≡ (get_or places at d).count + n → total_of w k (set places at h) m ≡ total_of w k places m + cond (is_same k cells) n 0
   total-held h same still count =
@@ -67,7 +47,7 @@ module _ (w : ℕ) (k cells : Combination) (n : ℕ) (places : List Held) (at : 
       omega (arith, turned, before, after, split)
 
   -- a place holds another combination, and what it held went to the map
-  pub total-turned : (h : Held) (m' : BTreeMap Combination ℕ) → take w h.cells ≡ cells → h.count ≡ n → mapped_of k m' ≡ mapped_of k m + held_by w k (get_or places at d) → total_of w k (set places at h) m' ≡ total_of w k places m + cond (is_same k cells) n 0
+  pub total-turned : (h : Held) (m' : Gathered) → take w h.cells ≡ cells → h.count ≡ n → gathered_of k m' ≡ gathered_of k m + held_by w k (get_or places at d) → total_of w k (set places at h) m' ≡ total_of w k places m + cond (is_same k cells) n 0
   total-turned h m' same count gone =
       let turned : held_of w k (set places at h) + held_by w k (get_or places at d) ≡ held_of w k places + held_by w k h = sum_by-set (held_by w k) places at h d within in
       let after = held_by-of w k cells h n same count in

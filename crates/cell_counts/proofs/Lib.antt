@@ -1,4 +1,6 @@
 pub mod CursorLemmas
+pub mod GatheredLemmas
 pub mod HeldLemmas
+pub mod JoinLemmas
 pub mod RunCountLemmas
 pub mod WalkLemmas

@@ -1,3 +1,4 @@
--- Combinations of one map, counts on their way to the ordered map.
+-- Combinations of one map, counts on their way to the list, the list in order.
 pub mod Alone
 pub mod Held
+pub mod Joined

@@ -1,17 +1,15 @@
 //! Counts of combinations: in an ordered map, and some that are on their way to it.
 
-ghost use Rattle.std.specs.Prelude.{ℕ, ◌≡◌, ◌≢◌, ◌+◌, ◌-◌, ◌<◌, ◌≤◌, ◌^◌, ◌↔◌, length, take, All, Some, cond, OnOk, IfOk, IsTrue};
-ghost use Rattle.std.specs.BTreeMap as tree;
+ghost use Rattle.std.specs.Prelude.{[], ℕ, ◌≡◌, ◌≢◌, ◌+◌, ◌-◌, ◌<◌, ◌≤◌, ◌^◌, ◌↔◌, length, take, All, Some, cond, OnOk, IfOk, IsTrue};
 ghost use Rattle.cell_combinations.specs.Combinations.{Combination, combination_cmp};
-ghost use Rattle.cell_counts.specs.parts.Held.{is_same, held_by, held_of, total_of, Grows};
-ghost use Rattle.cell_counts.specs.Mapped.{mapped_of, HasNoZero};
+ghost use Rattle.cell_counts.specs.parts.Held.{is_same, held_by, held_of, total_of, gathered_of, GathersNoZero};
 
+use crate::gathered::{Gathered, code_of, merge, settle};
 use cell_combinations::combination::Combo;
 use cell_core::cell::Cell;
 use cell_core::memory::Memory;
 use cell_core::shelf::Shelf;
 use std::alloc::Global;
-use std::collections::BTreeMap;
 
 // How many combinations are held at first: at least, and at most. All numbers of places are powers of two.
 const FEWEST: u32 = 64;
@@ -27,7 +25,7 @@ const GROWTH: usize = 8;
 // There are too few places where one in so many has sent a new combination to the map.
 const CROWD: usize = 64;
 
-// How many places are looked at for a combination.
+// How many places are looked at for a combination, where the list has few.
 const NEAR: usize = 12;
 
 // The most maps that are tallied together.
@@ -44,11 +42,7 @@ pub(crate) struct Held {
 fn number_of(cells: &[Cell]) -> usize {
     let mut number: u64 = 0;
     for cell in cells {
-        let category = match cell.get() {
-            Some(category) => (i64::from(category) + 2147483648) as u64,
-            None => 0,
-        };
-        number = number.wrapping_mul(1009).wrapping_add(category);
+        number = number.wrapping_mul(1009).wrapping_add(code_of(*cell));
     }
     number.wrapping_add((number >> 18).wrapping_mul(40503)) as usize
 }
@@ -75,13 +69,19 @@ fn own_place(cells: &[Cell], places: usize) -> usize
     (number_of(cells) & last).min(last)
 }
 
+// How many places are looked at for a combination: where the list has more combinations than there are places, the one that is
+// looked for is hardly near.
+fn near_of(places: usize, listed: usize) -> usize {
+    if listed < places { NEAR } else { 1 }
+}
+
 // Where a combination is held, or else a place near its own that holds nothing, or else its own.
-fn place_near(cells: &[Cell], own: usize, places: &[Held]) -> usize
+fn place_near(cells: &[Cell], own: usize, near: usize, places: &[Held]) -> usize
     requires width { length cells.now ≤ 16 }
     requires own { own < length places.now }
     ensures { result < length places.now }
 {
-    let end = places.len().min(own.saturating_add(NEAR));
+    let end = places.len().min(own.saturating_add(near));
     for at in own..end {
         if places[at].count == 0 || is_held(&places[at], cells) {
             return at;
@@ -90,41 +90,19 @@ fn place_near(cells: &[Cell], own: usize, places: &[Held]) -> usize
     own
 }
 
-// Counts cells of a combination in the map.
-fn merge(
-    alloc: Global,
-    combo: &Combo,
-    count: u64,
-    counted: &mut BTreeMap<Combo, u64>,
-) -> Result<(), Memory>
-    requires some { 0 < count }
-    requires fits { mapped_of combo.now counted.old + count < 2 ^ 64 }
-    requires no_zero { HasNoZero counted.old }
-    ensures ok { OnOk result (Grows counted.old counted.new combo.now count) }
-    ensures no_zero { OnOk result (HasNoZero counted.new) }
-{
-    if let Some(have) = counted.get_mut(combo) {
-        *have += count;
-        return Ok(());
-    }
-    let key = Combo::from_cells(alloc, combo.cells())?;
-    counted.insert(key, count)?;
-    Ok(())
-}
-
 // Brings what a place holds to the map.
 fn flush(
     alloc: Global,
     held: &Held,
     width: usize,
     spare: &mut Combo,
-    counted: &mut BTreeMap<Combo, u64>,
+    counted: &mut Gathered,
 ) -> Result<(), Memory>
     requires width { (width ≤ 16) × (length spare.old ≡ width) }
-    requires fits { (k : Combination) → mapped_of k counted.old + held_by width k held.now < 2 ^ 64 }
-    requires no_zero { HasNoZero counted.old }
-    ensures ok { OnOk result ((k : Combination) → mapped_of k counted.new ≡ mapped_of k counted.old + held_by width k held.now) }
-    ensures no_zero { OnOk result (HasNoZero counted.new) }
+    requires fits { (k : Combination) → gathered_of k counted.old + held_by width k held.now < 2 ^ 64 }
+    requires no_zero { GathersNoZero counted.old }
+    ensures ok { OnOk result ((k : Combination) → gathered_of k counted.new ≡ gathered_of k counted.old + held_by width k held.now) }
+    ensures no_zero { OnOk result (GathersNoZero counted.new) }
     ensures spare { length spare.new ≡ width }
 {
     if held.count == 0 {
@@ -155,17 +133,18 @@ fn add_near(
     own: usize,
     spare: &mut Combo,
     places: &mut [Held],
-    counted: &mut BTreeMap<Combo, u64>,
+    counted: &mut Gathered,
 ) -> Result<(), Memory>
     requires width { (length cells.now ≤ 16) × (length spare.old ≡ length cells.now) }
     requires own { own < length places.old }
     requires fits { (k : Combination) → total_of (length cells.now) k places.old counted.old + count < 2 ^ 64 }
-    requires no_zero { HasNoZero counted.old }
+    requires no_zero { GathersNoZero counted.old }
     ensures ok { OnOk result ((k : Combination) → total_of (length cells.now) k places.new counted.new ≡ total_of (length cells.now) k places.old counted.old + cond (is_same k cells.now) count 0) }
-    ensures no_zero { OnOk result (HasNoZero counted.new) }
+    ensures no_zero { OnOk result (GathersNoZero counted.new) }
     ensures spare { length spare.new ≡ length cells.now }
 {
-    let at = place_near(cells, own, places);
+    let near = near_of(places.len(), counted.len());
+    let at = place_near(cells, own, near, places);
     let place = &mut places[at];
     if is_held(place, cells) {
         place.count += count;
@@ -184,14 +163,14 @@ pub(crate) fn add(
     count: u64,
     spare: &mut Combo,
     places: &mut [Held],
-    counted: &mut BTreeMap<Combo, u64>,
+    counted: &mut Gathered,
 ) -> Result<(), Memory>
     requires width { (length cells.now ≤ 16) × (length spare.old ≡ length cells.now) }
     requires places { 0 < length places.old }
     requires fits { (k : Combination) → total_of (length cells.now) k places.old counted.old + count < 2 ^ 64 }
-    requires no_zero { HasNoZero counted.old }
+    requires no_zero { GathersNoZero counted.old }
     ensures ok { OnOk result ((k : Combination) → total_of (length cells.now) k places.new counted.new ≡ total_of (length cells.now) k places.old counted.old + cond (is_same k cells.now) count 0) }
-    ensures no_zero { OnOk result (HasNoZero counted.new) }
+    ensures no_zero { OnOk result (GathersNoZero counted.new) }
     ensures spare { length spare.new ≡ length cells.now }
 {
     let own = own_place(cells, places.len());
@@ -240,18 +219,20 @@ pub(crate) fn flush_all(
     width: usize,
     spare: &mut Combo,
     places: &[Held],
-    counted: &mut BTreeMap<Combo, u64>,
+    counted: &mut Gathered,
 ) -> Result<(), Memory>
     requires width { (width ≤ 16) × (length spare.old ≡ width) }
     requires fits { (k : Combination) → total_of width k places.now counted.old < 2 ^ 64 }
-    requires no_zero { HasNoZero counted.old }
-    ensures ok { OnOk result ((k : Combination) → mapped_of k counted.new ≡ total_of width k places.now counted.old) }
-    ensures no_zero { OnOk result (HasNoZero counted.new) }
+    requires no_zero { GathersNoZero counted.old }
+    ensures ok { OnOk result ((k : Combination) → gathered_of k counted.new ≡ total_of width k places.now counted.old) }
+    ensures no_zero { OnOk result (GathersNoZero counted.new) }
+    ensures settled { OnOk result (counted.new.pending.items ≡ []) }
     ensures spare { OnOk result (length spare.new ≡ width) }
 {
     for held in places {
         flush(alloc, held, width, spare, counted)?;
     }
+    settle(alloc, counted)?;
     Ok(())
 }
 
@@ -268,14 +249,14 @@ pub(crate) fn make_room(
     before: usize,
     spare: &mut Combo,
     places: &mut Vec<Held>,
-    counted: &mut BTreeMap<Combo, u64>,
+    counted: &mut Gathered,
 ) -> Result<usize, Memory>
     requires width { (width ≤ 16) × (length spare.old ≡ width) }
     requires places { 0 < length places.old.items }
     requires fits { (k : Combination) → total_of width k places.old.items counted.old < 2 ^ 64 }
-    requires no_zero { HasNoZero counted.old }
+    requires no_zero { GathersNoZero counted.old }
     ensures ok { OnOk result ((k : Combination) → total_of width k places.new.items counted.new ≡ total_of width k places.old.items counted.old) }
-    ensures no_zero { OnOk result (HasNoZero counted.new) }
+    ensures no_zero { OnOk result (GathersNoZero counted.new) }
     ensures places { OnOk result (0 < length places.new.items) }
     ensures spare { OnOk result (length spare.new ≡ width) }
 {

@@ -4,4 +4,5 @@
 mod counting;
 pub mod counts;
 pub mod cursor;
+mod gathered;
 pub mod selection;

@@ -1,18 +1,16 @@
 -- What is found in a table, and that there is one table.
-use Rattle.std.proofs.Common.{◌≡◌, ◌≢◌, ℕ, zero, suc, ◌+◌, ◌<◌, map, [], ◌∷◌, List, Option, Some, None, Bool, true, false, ◌↔◌, cond, IsTrue, unwrap_or, ap, sym, ◌∙◌, refl, arith, zero-add}
+use Rattle.std.proofs.Common.{◌≡◌, ℕ, zero, suc, ◌+◌, ◌<◌, map, [], ◌∷◌, List, Option, Some, None, Bool, true, false, ◌↔◌, cond, IsTrue, ap, sym, ◌∙◌, refl, arith, zero-add}
 use Rattle.std.specs.Prelude.{T}
-use Rattle.std.specs.Ordering.{eq_by_cmp}
+use Rattle.std.specs.Ordering.{eq_by_cmp, is_eq}
 use Rattle.std.specs.declared.cmp.Ordering.TheVariants.{Less}
 use Rattle.std.proofs.lemmas.List.Sums.{sum_by-append}
 use Rattle.std.specs.List.{Contains, AllByRecursion}
 use Rattle.std.specs.List.Sorted.{IsStrictlySortedBy}
-use Rattle.std.specs.Map.{lookup}
-use Rattle.std.specs.BTreeMap.{BTreeMap, IsOrdered, is_at}
 use Rattle.std.specs.FinMap as finmap
 use Rattle.std.specs.FinMap.Entries.{find, is_sorted, below_all, same_entries}
 use Rattle.cell_combinations.specs.Combinations.{Combination, combination_cmp}
 use Rattle.cell_counts.specs.Counts.{count_of}
-use Rattle.cell_counts.specs.Mapped.{mapped_of, HasNoZero}
+use Rattle.cell_counts.specs.Listed.{Counts, entry_of, listed_of, HasNoZero}
 use Rattle.cell_combinations.specs.declared.skip.Skip.{Skip}
 use Rattle.cell_stats.specs.Tables.{Pairs, IsTable, counts_of, table_of}
 use Rattle.cell_combinations.specs.LeftOut.{kept, is_left_out}
@@ -230,21 +228,38 @@ one_table_kept skip cells a b p q = one_table (kept skip cells) a b (kept-IsTabl
 pub table_is : (skip : Skip) (cells : List Combination) (es : Pairs) → IsTable skip cells es → es ≡ table_of skip cells
 table_is skip cells es table = one_table_kept skip cells es (table_of skip cells) table (table_of-IsTable skip cells)
 
--- ---- the table from the counts in an ordered map
+-- ---- the table from the counts in a list
 
-find_lookup : (k : Combination) (es : Pairs) → find combination_cmp k es ≡ lookup (is_at (combination_cmp k)) es
-find_lookup k [] = refl
-find_lookup k (e ∷ es) = ap (λ o. cond (eq_by_cmp combination_cmp k e.0) (Some e.1) o) (find_lookup k es)
+-- no combination behind greater ones is counted there
+none_behind : (x : Combination) (es : Counts) → AllByRecursion (λ y. combination_cmp x y ≡ Less) (keys_of es) → listed_of x es ≡ 0
+none_behind x [] above = refl
+none_behind x (e ∷ es) above =
+    sum_by-append (entry_of x) (e ∷ []) es ∙ ap (λ n. n + listed_of x es) (zero-add (entry_of x e)) ∙ ap (λ o. cond (is_eq o) e.1 0 + listed_of x es) above.0
+    ∙ ap (λ n. 0 + n) (none_behind x es above.1)
 
-found_from : (o : Option ℕ) (n : ℕ) → unwrap_or o 0 ≡ n → o ≢ Some 0 → o ≡ found n
-found_from None n e ne = ap found e
-found_from (Some zero) n e ne = absurd (ne refl)
-found_from (Some (suc v)) n e ne = ap found e
+find_listed : (k : Combination) (es : Counts) → IsStrictlySortedBy combination_cmp (keys_of es) → HasNoZero es → find combination_cmp k es ≡ found (listed_of k es)
+unfolding IsStrictlySortedBy
+find_listed k [] up zeros = refl
+find_listed k (e ∷ es) up zeros =
+    elim (eq_by_cmp combination_cmp k e.0) as (λ b. eq_by_cmp combination_cmp k e.0 ≡ b → cond b (Some e.1) (find combination_cmp k es) ≡ found (cond b e.1 0 + listed_of k es)) [
+      | true ↦ λ t.
+          let same : k ≡ e.0 = combination_cmp-exact k e.0 (is_equal _ t) in
+          let none : listed_of k es ≡ 0 = ap (λ x. listed_of x es) same ∙ none_behind e.0 es up.0 in
+          positive e.1 (zeros 0 e (omega arith)) ∙ ap found (added e.1 (listed_of k es) none)
+      | false ↦ λ t. find_listed k es up.1 (λ i d within. zeros (suc i) d (omega (arith, within))) ∙ ap found (sym (zero-add (listed_of k es)))
+    ] refl ∙ ap found (sym (sum_by-append (entry_of k) (e ∷ []) es ∙ ap (λ n. n + listed_of k es) (zero-add (entry_of k e))))
+  where
+    positive : (n : ℕ) → 0 < n → Some n ≡ found n
+    positive zero p = absurd (omega arith)
+    positive (suc n) p = refl
 
--- a map in order that has no count of nothing, and else the counts of cells, lists their table
-pub IsTable-mapped : (skip : Skip) (cells : List Combination) (m : BTreeMap Combination ℕ) → IsOrdered combination_cmp m → ((k : Combination) → mapped_of k m ≡ count_of k (kept skip cells)) → HasNoZero m → IsTable skip cells m.entries
-IsTable-mapped skip cells m ordered counts no_zero =
-    IsTable-kept skip cells m.entries (IsTally-from (kept skip cells) m.entries (record {
-      sorted = ascending_to m.entries ordered;
-      finds = λ k. find_lookup k m.entries ∙ found_from _ _ (counts k) (no_zero k);
+    added : (n m : ℕ) → m ≡ 0 → n ≡ n + m
+    added n m none = omega (arith, none)
+
+-- a list in order that has no count of nothing, and else the counts of cells, is their table
+pub IsTable-listed : (skip : Skip) (cells : List Combination) (es : Counts) → IsStrictlySortedBy combination_cmp (keys_of es) → ((k : Combination) → listed_of k es ≡ count_of k (kept skip cells)) → HasNoZero es → IsTable skip cells es
+IsTable-listed skip cells es ascends counts zeros =
+    IsTable-kept skip cells es (IsTally-from (kept skip cells) es (record {
+      sorted = ascending_to es ascends;
+      finds = λ k. find_listed k es ascends zeros ∙ ap found (counts k);
     }))

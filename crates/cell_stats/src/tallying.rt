@@ -25,7 +25,6 @@ pub fn tally(alloc: Global, shelf: &Shelf, picks: &[usize], skip: Skip) -> Resul
     ensures only { IfOk result (λ table. (pairs : Pairs) → IsTable skip (all_combinations shelf.now.maps picks.now shelf.now.region.rows shelf.now.region.cols) pairs → pairs ≡ table.pairs) }
     ensures value { IfOk result (λ table. table.pairs ≡ table_of skip (all_combinations shelf.now.maps picks.now shelf.now.region.rows shelf.now.region.cols)) }
 {
-    let counted = count_cells(alloc, shelf, picks, skip)?;
-    let entries = counted.into_iter().collect(alloc)?;
+    let entries = count_cells(alloc, shelf, picks, skip)?;
     Ok(Table::of(picks.len(), entries))
 }

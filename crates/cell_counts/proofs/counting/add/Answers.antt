@@ -1,7 +1,7 @@
 use Rattle.std.proofs.Common.{◌≡◌, ◌<◌, ◌≤◌, ◌+◌, ◌^◌, ℕ, Fits, w64, length, arith, refl, sym, get_or}
 use Rattle.std.proofs.lemmas.List.{set-get_or}
 use Rattle.std.proofs.lemmas.List.Sums.{get_or-le-sum_by}
-use Rattle.cell_counts.specs.Mapped.{mapped_of}
+use Rattle.cell_counts.specs.parts.Held.{gathered_of}
 use Rattle.cell_counts.specs.parts.Held.{held_by}
 use Rattle.cell_counts.proofs.HeldLemmas.{held_by-own, total-held}
 use Rattle.cell_counts.proofs.counting.add.Goals as goal
@@ -19,7 +19,7 @@ overflow_add-place c =
     let d = c.index-places-own.result in
     let own = held_by-own w cells (get_or places at d) (sym (c.is_held.ensures.0 c.if-is_held.true)) in
     let within = get_or-le-sum_by (held_by w cells) places at d c.own_place-own.ensures in
-    fit (mapped_of cells c.args.counted.now) c.args.count own within (c.requires.fits cells)
+    fit (gathered_of cells c.args.counted.now) c.args.count own within (c.requires.fits cells)
 
 pub own_place-own-requires : goal.own_place-own-requires
 own_place-own-requires c = c.requires.places

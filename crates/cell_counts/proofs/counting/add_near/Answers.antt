@@ -1,7 +1,7 @@
 use Rattle.std.proofs.Common.{◌≡◌, ◌<◌, ◌≤◌, ◌+◌, ◌^◌, ℕ, Fits, w64, length, arith, refl, sym, get_or}
 use Rattle.std.proofs.lemmas.Result.{IfOk-from_err}
 use Rattle.std.proofs.lemmas.List.Sums.{get_or-le-sum_by}
-use Rattle.cell_counts.specs.Mapped.{mapped_of}
+use Rattle.cell_counts.specs.parts.Held.{gathered_of}
 use Rattle.cell_counts.specs.parts.Held.{held_by}
 use Rattle.cell_counts.proofs.HeldLemmas.{held_by-own, total-held, total-turned}
 use Rattle.cell_counts.proofs.counting.add_near.Goals as goal
@@ -22,7 +22,7 @@ overflow_add-place c =
     let d = c.index-places-at.result in
     let own = held_by-own w cells (get_or places at d) (sym (c.is_held.ensures.0 c.if-is_held.true)) in
     let within = get_or-le-sum_by (held_by w cells) places at d c.place_near-at.ensures in
-    fit (mapped_of cells c.args.counted.now) c.args.count own within (c.requires.fits cells)
+    fit (gathered_of cells c.args.counted.now) c.args.count own within (c.requires.fits cells)
 
 pub place_near-at-requires-clause-width : goal.place_near-at-requires-clause-width
 place_near-at-requires-clause-width c = c.requires.width.0
@@ -53,7 +53,7 @@ pub flush-requires-clause-fits : goal.flush-requires-clause-fits
 flush-requires-clause-fits c = λ k.
     let within = get_or-le-sum_by (held_by (length c.args.cells.now) k) c.args.places.now c.place_near-at.result
     c.index-places-at.result c.place_near-at.ensures in
-    room (mapped_of k c.args.counted.now) c.args.count within (c.requires.fits k)
+    room (gathered_of k c.args.counted.now) c.args.count within (c.requires.fits k)
 
 pub flush-requires-clause-no_zero : goal.flush-requires-clause-no_zero
 flush-requires-clause-no_zero c = c.requires.no_zero

@@ -1,8 +1,9 @@
-use Rattle.std.proofs.Common.{◌≡◌, take, rules, arith}
-use Rattle.cell_counts.proofs.HeldLemmas.{held_by-own}
+use Rattle.std.proofs.Common.{◌≡◌, ◌+◌, ◌<◌, ◌^◌, cond, take, rules, subst, sym}
+use Rattle.cell_combinations.specs.Combinations.{Combination}
+use Rattle.cell_counts.specs.parts.Held.{is_same, gathered_of}
 use Rattle.cell_counts.proofs.counting.flush.Goals as goal
 
 pub merge-requires-clause-fits : goal.merge-requires-clause-fits
-merge-requires-clause-fits c =
+merge-requires-clause-fits c = λ k.
     let own : c.write.new.self ≡ take c.args.width c.args.held.now.cells = search rules in
-    omega (arith, c.requires.fits c.write.new.self, held_by-own c.args.width c.write.new.self c.args.held.now own)
+    subst (λ (x : Combination). gathered_of k c.args.counted.now + cond (is_same k x) c.args.held.now.count 0 < 2 ^ 64) (sym own) (c.requires.fits k)

@@ -1,7 +1,7 @@
 use Rattle.std.proofs.Common.{◌≡◌, ◌<◌, ◌*◌, ℕ, min, arith, ◌+◌, ◌∙◌, List, ap, refl, zero-add}
 use Rattle.std.proofs.lemmas.Result.{IfOk-from_err}
 use Rattle.cell_counts.specs.declared.counting.Held.{Held}
-use Rattle.cell_counts.specs.Mapped.{mapped_of}
+use Rattle.cell_counts.specs.parts.Held.{gathered_of}
 use Rattle.cell_counts.specs.parts.Held.{total_of}
 use Rattle.cell_counts.proofs.counting.make_room.Goals as goal
 
@@ -12,7 +12,7 @@ some_places some same read grown cut = omega arith
 pub returns-clause-ok : goal.returns-clause-ok
 returns-clause-ok c = λ k.
     let map = c.flush_all.new.counted in
-    ap (λ n. n + mapped_of k map) (c.in_ok-more.ensures.nothing c.args.width k) ∙ zero-add (mapped_of k map) ∙ c.in_ok-flush_all.ensures.ok k ∙ ap (λ (p : List Held). total_of c.args.width k p c.args.counted.now) c.as_slice.ensures.value
+    ap (λ n. n + gathered_of k map) (c.in_ok-more.ensures.nothing c.args.width k) ∙ zero-add (gathered_of k map) ∙ c.in_ok-flush_all.ensures.ok k ∙ ap (λ (p : List Held). total_of c.args.width k p c.args.counted.now) c.as_slice.ensures.value
 
 pub returns-then-not-are_crowded-clause-ok : goal.returns-then-not-are_crowded-clause-ok
 returns-then-not-are_crowded-clause-ok c = λ k. refl

@@ -1,16 +1,14 @@
-use Rattle.std.proofs.Common.{◌≡◌, ◌≢◌, ℕ, ◌≤◌, ◌<◌, ◌+◌, ◌^◌, List, length, unwrap_or, Option, None, Some, arith, ap, sym, ◌∙◌, append-nil}
+use Rattle.std.proofs.Common.{◌≡◌, ℕ, ◌≤◌, ◌<◌, ◌+◌, ◌^◌, List, length, subst, arith, ap, sym, ◌∙◌, append-nil}
 use Rattle.std.proofs.lemmas.Result.{IfOk-from_err}
 use Rattle.std.proofs.lemmas.List.{with_items_is}
-use Rattle.std.specs.BTreeMap.{is_at}
-use Rattle.std.specs.Map.{lookup}
 use borrow.Author.Count.{falls}
 use Rattle.cell_base.specs.Region.{RegionValue, IsRegion}
 use Rattle.cell_core.specs.Grid.{Grid}
 use Rattle.cell_combinations.specs.declared.skip.Skip.{Skip}
-use Rattle.cell_combinations.specs.Combinations.{Combination, combination_cmp, all_combinations}
+use Rattle.cell_combinations.specs.Combinations.{Combination, all_combinations}
 use Rattle.cell_counts.specs.Counts.{count_of}
-use Rattle.cell_counts.specs.Mapped.{mapped_of}
-use Rattle.cell_counts.specs.parts.Held.{total_of}
+use Rattle.cell_counts.specs.Listed.{Counts, listed_of, HasNoZero}
+use Rattle.cell_counts.specs.parts.Held.{gathered_of, total_of}
 use Rattle.cell_combinations.specs.LeftOut.{kept}
 use Rattle.cell_counts.specs.declared.counting.Held.{Held}
 use Rattle.cell_counts.proofs.WalkLemmas.{count_small}
@@ -28,9 +26,6 @@ at_end within ended same = omega arith
 some_same : {n m : ℕ} → 0 < n → m ≡ n → 0 < m
 some_same some same = omega arith
 
-none_here : {o : Option ℕ} → o ≡ None → o ≢ Some 0
-none_here none some = cc
-
 -- a count of the rows so far fits
 fits : (maps : List Grid) (picks : List ℕ) (cols : ℕ) (skip : Skip) (k : Combination) (row rows total : ℕ)
     → row ≤ rows → rows ≤ 65535 → cols ≤ 65535
@@ -45,13 +40,17 @@ fits maps picks cols skip k row rows total within high wide counted =
 
 pub loop-row-init : goal.loop-row-init
 loop-row-init c =
-    let empty = c.new-counted.ensures.empty in
+    let empty = c.new-counted.ensures.none in
     let wide = sym c.in_ok-cells.cells.ok.0 ∙ c.in_ok-cells.ensures.len in
     record {
       counted = λ k.
-          ap (λ n. n + mapped_of k c.new-counted.result) (c.in_ok-places.ensures.nothing (length c.args.picks.now) k)
-          ∙ ap (λ (es : List (Combination × ℕ)). 0 + unwrap_or (lookup (is_at (combination_cmp k)) es) 0) empty;
-      no_zero = λ k. none_here (ap (lookup (is_at (combination_cmp k))) empty);
+          ap (λ n. n + gathered_of k c.new-counted.result) (c.in_ok-places.ensures.nothing (length c.args.picks.now) k)
+          ∙ ap (λ (es : Counts). 0 + (listed_of k es + listed_of k c.new-counted.result.pending.items)) empty
+          ∙ ap (λ (es : Counts). 0 + (0 + listed_of k es)) c.new-counted.ensures.settled;
+      no_zero = (
+        subst HasNoZero (sym empty) (λ i d within. absurd (omega (arith, within))),
+        subst HasNoZero (sym c.new-counted.ensures.settled) (λ i d within. absurd (omega (arith, within))),
+      );
       spare = ap length (c.in_ok-spare.ensures ∙ c.deref.ensures.value) ∙ wide;
       places = c.in_ok-places.ensures.some;
       cells = wide;
@@ -158,11 +157,21 @@ returns-clause-counts c = λ k.
     let value = c.args.shelf.now.region in
     let last = at_end c.loop-row.auto.row-end c.loop-row-test.false
     (c.rows-row-end.ensures.value ∙ ap (λ (r : RegionValue). r.rows) c.region.ensures.value) in
-    c.in_ok-flush_all.ensures.ok k ∙ ap (λ (p : List Held). total_of (length picks) k p c.loop-row.counted) c.deref-2.ensures.value ∙ c.loop-row.invariant.counted k
+    c.listed.ensures.counts k ∙ c.in_ok-flush_all.ensures.ok k ∙ ap (λ (p : List Held). total_of (length picks) k p c.loop-row.counted) c.deref-2.ensures.value ∙ c.loop-row.invariant.counted k
     ∙ ap (λ r. count_of k (kept skip (all_combinations maps picks r value.cols))) last
 
 pub returns-clause-no_zero : goal.returns-clause-no_zero
-returns-clause-no_zero c = c.in_ok-flush_all.ensures.no_zero
+returns-clause-no_zero c = c.listed.ensures.no_zero
+
+pub listed-requires-clause-fits : goal.listed-requires-clause-fits
+listed-requires-clause-fits c = λ k.
+    let shelf = c.args.shelf.now in
+    let region : IsRegion shelf.region = rw (← c.region.ensures.value) c.rows-row-end.ensures.region in
+    let rows = c.rows-row-end.ensures.value ∙ ap (λ (r : RegionValue). r.rows) c.region.ensures.value in
+    fits shelf.maps c.args.picks.now shelf.region.cols c.args.skip k c.loop-row.row shelf.region.rows _
+    (at_most c.loop-row.auto.row-end rows) region.rows_most region.cols_most
+    (c.in_ok-flush_all.ensures.ok k ∙ ap (λ (p : List Held). total_of (length c.args.picks.now) k p c.loop-row.counted) c.deref-2.ensures.value
+    ∙ c.loop-row.invariant.counted k)
 
 pub returns-in_err-cells-clause-counts : goal.returns-in_err-cells-clause-counts
 returns-in_err-cells-clause-counts c = IfOk-from_err c.from_residual.result _ c.from_residual.ensures.0

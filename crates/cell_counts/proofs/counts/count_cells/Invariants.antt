@@ -1,7 +1,7 @@
 use Rattle.std.proofs.Common.{◌≡◌, ◌<◌, length}
 use Rattle.cell_combinations.specs.Combinations.{Combination, all_combinations}
 use Rattle.cell_counts.specs.Counts.{count_of}
-use Rattle.cell_counts.specs.Mapped.{HasNoZero}
+use Rattle.cell_counts.specs.parts.Held.{GathersNoZero}
 use Rattle.cell_counts.specs.parts.Held.{total_of}
 use Rattle.cell_combinations.specs.LeftOut.{kept}
 use Rattle.cell_counts.proofs.counts.count_cells.Given as goal
@@ -9,7 +9,7 @@ use Rattle.cell_counts.proofs.counts.count_cells.Given as goal
 abbrev pub invariant-loop-row : goal.invariant-loop-row
 invariant-loop-row l = record {
   counted : (k : Combination) → total_of (length l.picks) k l.places.items l.counted ≡ count_of k (kept l.fn.skip (all_combinations l.shelf.maps l.picks l.row l.shelf.region.cols));
-  no_zero : HasNoZero l.counted;
+  no_zero : GathersNoZero l.counted;
   spare : length l.spare ≡ length l.picks;
   places : 0 < length l.places.items;
   cells : length l.cells.items ≡ length l.picks;

@@ -1,12 +1,12 @@
 use Rattle.std.proofs.Common.{◌≡◌, ◌<◌, ◌≤◌, ◌+◌, ◌-◌, ◌^◌, ◌++◌, Fits, w32, List, length, map, replicate, cond, true, false, arith, ap, sym, ◌∙◌, append-nil, append_assoc, add-one, ℕ}
 use Rattle.std.proofs.lemmas.Result.{IfOk-from_err}
 use Rattle.std.proofs.lemmas.List.{length-map}
-use Rattle.std.specs.BTreeMap.{BTreeMap}
+use Rattle.cell_counts.specs.declared.gathered.Gathered.{Gathered}
 use Rattle.std.specs.List.{range_with_len}
 use Rattle.cell_base.specs.Region.{RegionValue}
 use Rattle.cell_combinations.specs.Combinations.{Combination, all_combinations, combination_at}
 use Rattle.cell_counts.specs.Counts.{count_of}
-use Rattle.cell_counts.specs.Mapped.{HasNoZero}
+use Rattle.cell_counts.specs.parts.Held.{GathersNoZero}
 use Rattle.cell_counts.specs.Cursors.{CursorValue}
 use Rattle.cell_counts.specs.parts.Held.{total_of, is_same}
 use Rattle.cell_combinations.specs.LeftOut.{kept, is_left_out}
@@ -142,18 +142,18 @@ loop-col-preserved c =
     elim joined.branch [
       | then-not-is_left_out+in_ok-add w ↦
           let kept_in : is_left_out skip cells ≡ false = sym c.is_left_out.ensures ∙ w.if-not-is_left_out.true in
-          ap (λ (p : List Held). total_of (length picks) k p joined.counted) w.places-is ∙ ap (λ (m : BTreeMap Combination ℕ). total_of (length picks) k w.add.new.places m) w.counted-is
+          ap (λ (p : List Held). total_of (length picks) k p joined.counted) w.places-is ∙ ap (λ (m : Gathered). total_of (length picks) k w.add.new.places m) w.counted-is
           ∙ ap (λ n. total_of n k w.add.new.places w.add.new.counted) (sym width) ∙ w.in_ok-add.ensures.ok k
           ∙ ap (λ n. n + cond (is_same k cells) w.from.result 0) (ap (λ n. total_of n k c.loop-col.places c.loop-col.counted) width ∙ inv.counted k)
           ∙ ap (λ n. count_of k (kept skip (base ++ map f (range_with_len 0 col))) + cond (is_same k cells) n 0) w.from.ensures
           ∙ sym (count-more skip k cells count (base ++ map f (range_with_len 0 col)) kept_in) ∙ ap (λ (l : List Combination). count_of k (kept skip l)) (sym longer)
       | else-not-is_left_out w ↦
           let out : is_left_out skip cells ≡ true = sym c.is_left_out.ensures ∙ w.if-not-is_left_out.false in
-          ap (λ (p : List Held). total_of (length picks) k p joined.counted) w.places-is ∙ ap (λ (m : BTreeMap Combination ℕ). total_of (length picks) k c.loop-col.places m) w.counted-is
+          ap (λ (p : List Held). total_of (length picks) k p joined.counted) w.places-is ∙ ap (λ (m : Gathered). total_of (length picks) k c.loop-col.places m) w.counted-is
           ∙ inv.counted k
           ∙ sym (count-left skip k cells count (base ++ map f (range_with_len 0 col)) out) ∙ ap (λ (l : List Combination). count_of k (kept skip l)) (sym longer)
     ] in
-    let no_zero : HasNoZero joined.counted =
+    let no_zero : GathersNoZero joined.counted =
     elim joined.branch [
       | then-not-is_left_out+in_ok-add w ↦ rw w.counted-is w.in_ok-add.ensures.no_zero
       | else-not-is_left_out w ↦ rw w.counted-is inv.no_zero

@@ -2,7 +2,7 @@ use Rattle.std.proofs.Common.{◌≡◌, ◌+◌, ◌-◌, ◌<◌, ◌≤◌, �
 use Rattle.std.specs.List.{range_with_len}
 use Rattle.cell_combinations.specs.Combinations.{Combination, all_combinations, combination_at}
 use Rattle.cell_counts.specs.Counts.{count_of}
-use Rattle.cell_counts.specs.Mapped.{HasNoZero}
+use Rattle.cell_counts.specs.parts.Held.{GathersNoZero}
 use Rattle.cell_counts.specs.Cursors.{to_come, IsReady, row_in}
 use Rattle.cell_counts.specs.parts.Held.{total_of}
 use Rattle.cell_combinations.specs.LeftOut.{kept}
@@ -11,7 +11,7 @@ use Rattle.cell_counts.proofs.counts.count_row.Given as goal
 abbrev pub invariant-loop-col : goal.invariant-loop-col
 invariant-loop-col l = record {
   counted : (k : Combination) → total_of (length l.selection.picks.now) k l.places l.counted ≡ count_of k (kept l.selection.skip (all_combinations l.selection.shelf.now.maps l.selection.picks.now l.row l.selection.shelf.now.region.cols ++ map (combination_at l.selection.shelf.now.maps l.selection.picks.now l.row) (range_with_len 0 l.col)));
-  no_zero : HasNoZero l.counted;
+  no_zero : GathersNoZero l.counted;
   spare : length l.spare ≡ length l.selection.picks.now;
   places : 0 < length l.places;
   to_come : map to_come l.cursors ≡ map (λ p. drop l.col (row_in l.selection.shelf.now.maps l.row p)) l.selection.picks.now;

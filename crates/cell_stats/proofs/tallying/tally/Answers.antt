@@ -1,8 +1,8 @@
-use Rattle.std.proofs.Common.{◌≡◌, ap, rules}
+use Rattle.std.proofs.Common.{ap}
 use Rattle.std.proofs.lemmas.Result.{IfOk-from_err}
 use Rattle.cell_combinations.specs.Combinations.{all_combinations}
 use Rattle.cell_stats.specs.Tables.{TableValue}
-use Rattle.cell_stats.proofs.TableLemmas.{IsTable-mapped, one_table_kept, table_is}
+use Rattle.cell_stats.proofs.TableLemmas.{IsTable-listed, one_table_kept, table_is}
 use Rattle.cell_stats.proofs.WidthLemmas.{table-wide}
 use Rattle.cell_stats.proofs.tallying.tally.Goals as goal
 
@@ -12,10 +12,9 @@ of-requires-clause-wide c =
     let picks = c.args.picks.now in
     let skip = c.args.skip in
     let region = c.args.shelf.now.region in
-    let m = c.in_ok-counted.counted in
-    let table = IsTable-mapped skip (all_combinations maps picks region.rows region.cols) m (c.into_iter.ensures.into_iter_gives.5) c.in_ok-counted.ensures.counts c.in_ok-counted.ensures.no_zero in
-    let same : c.in_ok-entries.entries.items ≡ m.entries = search rules in
-    rw same (table-wide maps picks skip region.rows region.cols m.entries table)
+    let counted = c.in_ok-entries.ensures in
+    let table = IsTable-listed skip (all_combinations maps picks region.rows region.cols) c.in_ok-entries.entries.items counted.ascending counted.counts counted.no_zero in
+    table-wide maps picks skip region.rows region.cols c.in_ok-entries.entries.items table
 
 pub returns-clause-table : goal.returns-clause-table
 returns-clause-table c =
@@ -23,10 +22,9 @@ returns-clause-table c =
     let picks = c.args.picks.now in
     let skip = c.args.skip in
     let region = c.args.shelf.now.region in
-    let m = c.in_ok-counted.counted in
-    let table = IsTable-mapped skip (all_combinations maps picks region.rows region.cols) m (c.into_iter.ensures.into_iter_gives.5) c.in_ok-counted.ensures.counts c.in_ok-counted.ensures.no_zero in
-    let same : c.in_ok-entries.entries.items ≡ m.entries = search rules in
-    rw (c.of.ensures, same) table
+    let counted = c.in_ok-entries.ensures in
+    let table = IsTable-listed skip (all_combinations maps picks region.rows region.cols) c.in_ok-entries.entries.items counted.ascending counted.counts counted.no_zero in
+    rw c.of.ensures table
 
 pub returns-clause-only : goal.returns-clause-only
 returns-clause-only c = λ pairs table. one_table_kept _ _ _ _ table (returns-clause-table c)
@@ -34,33 +32,17 @@ returns-clause-only c = λ pairs table. one_table_kept _ _ _ _ table (returns-cl
 pub returns-clause-value : goal.returns-clause-value
 returns-clause-value c = table_is _ _ _ (returns-clause-table c)
 
-pub returns-in_err-counted-clause-width : goal.returns-in_err-counted-clause-width
-returns-in_err-counted-clause-width c = IfOk-from_err c.from_residual.result _ c.from_residual.ensures.0
-
-pub returns-in_err-counted-clause-table : goal.returns-in_err-counted-clause-table
-returns-in_err-counted-clause-table c = IfOk-from_err c.from_residual.result _ c.from_residual.ensures.0
-
-pub returns-in_err-counted-clause-only : goal.returns-in_err-counted-clause-only
-returns-in_err-counted-clause-only c = IfOk-from_err c.from_residual.result _ c.from_residual.ensures.0
-
-pub returns-in_err-counted-clause-value : goal.returns-in_err-counted-clause-value
-returns-in_err-counted-clause-value c = IfOk-from_err c.from_residual.result _ c.from_residual.ensures.0
-
 pub returns-in_err-entries-clause-width : goal.returns-in_err-entries-clause-width
-returns-in_err-entries-clause-width c =
-    IfOk-from_err c.from_residual-in_err-entries.result _ c.from_residual-in_err-entries.ensures.0
+returns-in_err-entries-clause-width c = IfOk-from_err c.from_residual.result _ c.from_residual.ensures.0
 
 pub returns-in_err-entries-clause-table : goal.returns-in_err-entries-clause-table
-returns-in_err-entries-clause-table c =
-    IfOk-from_err c.from_residual-in_err-entries.result _ c.from_residual-in_err-entries.ensures.0
+returns-in_err-entries-clause-table c = IfOk-from_err c.from_residual.result _ c.from_residual.ensures.0
 
 pub returns-in_err-entries-clause-only : goal.returns-in_err-entries-clause-only
-returns-in_err-entries-clause-only c =
-    IfOk-from_err c.from_residual-in_err-entries.result _ c.from_residual-in_err-entries.ensures.0
+returns-in_err-entries-clause-only c = IfOk-from_err c.from_residual.result _ c.from_residual.ensures.0
 
 pub returns-in_err-entries-clause-value : goal.returns-in_err-entries-clause-value
-returns-in_err-entries-clause-value c =
-    IfOk-from_err c.from_residual-in_err-entries.result _ c.from_residual-in_err-entries.ensures.0
+returns-in_err-entries-clause-value c = IfOk-from_err c.from_residual.result _ c.from_residual.ensures.0
 
 pub count_cells-requires-clause-width : goal.count_cells-requires-clause-width
 count_cells-requires-clause-width c = c.requires.width

@@ -1,0 +1,2 @@
+-- How combinations are kept.
+pub mod Few
