@@ -21,7 +21,7 @@ one_of one (Ok ts) a b h o = one ts a b h o
 one_of one (Err fault) a b h o = absurd h
 
 not_both : (t : Result (List Placed) CalcFault) (end : ℕ) (a : Assignment) (fault : CalcFault) → IsOkAnd t (λ ts. IsAssignment ts a) → MatchResult t (λ ts. IsGrammarFault end ts fault) (λ first. fault ≡ first) → ⊥
-not_both (Ok ts) end a fault h (before, rest, e, column, says, none) = none a h
+not_both (Ok ts) end a fault h (first, none) = none a h
 not_both (Err first) end a fault h o = h
 
 -- an r.mapcalc that is read has no other reading

@@ -236,7 +236,7 @@ called_read name c d ts xs f e a h = λ rest n.
 near : (n : ℕ) → n ≤ 255 → nat_le n 255 ≡ true
 near n h = grind (arith, nat_tests)
 
-offset_read : {ts : List Placed} {z : ℤ} → IsOffset ts z → (rest : List Placed) → offset (ts ++ rest) ≡ Ok (z, rest)
+pub offset_read : {ts : List Placed} {z : ℤ} → IsOffset ts z → (rest : List Placed) → offset (ts ++ rest) ≡ Ok (z, rest)
 offset_read (grammar.IsOffset.plain {n = n} h) rest = rw (near n h)
 offset_read (grammar.minus {n = n} h) rest = rw (near n h)
 offset_read (grammar.plus {n = n} h) rest = rw (near n h)

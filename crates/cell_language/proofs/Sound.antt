@@ -20,20 +20,20 @@ use Rattle.cell_language.specs.Term.{Term, Negated, Not, count}
 use Rattle.cell_tokens.specs.Token.{number_at, name_at, sign_at, head}
 
 -- one of a level is one of each level above
-raise : (j k : ℕ) (ts : List Placed) (a : Term) → j ≤ k → Stands j ts a → Stands k ts a
+pub raise : (j k : ℕ) (ts : List Placed) (a : Term) → j ≤ k → Stands j ts a → Stands k ts a
 raise j zero ts a le s = let e : j ≡ 0 = omega arith in subst (λ n. Stands n ts a) e s
 raise j (suc k) ts a le s =
     let split : (j ≡ suc k) ⊎ (j ≤ k) = grind arith in
     elim split [ inl e ↦ subst (λ n. Stands n ts a) e s | inr l ↦ below (raise j k ts a l s) ]
 
-below_some : (k : ℕ) (x : Option Operator) (op : Operator) → below_level k x ≡ Some op → (x ≡ Some op) × (level_of op < k)
+pub below_some : (k : ℕ) (x : Option Operator) (op : Operator) → below_level k x ≡ Some op → (x ≡ Some op) × (level_of op < k)
 below_some k None op e = absurd (let h : ⊥ = cc in h)
 below_some k (Some op') op e = grind (arith, nat_tests)
 
-above_none : (k : ℕ) (op : Operator) → below_level k (Some op) ≡ None → k ≤ level_of op
+pub above_none : (k : ℕ) (op : Operator) → below_level k (Some op) ≡ None → k ≤ level_of op
 above_none k op e = grind (arith, nat_tests)
 
-next_zero : (rest : List Placed) → next zero rest ≡ None
+pub next_zero : (rest : List Placed) → next zero rest ≡ None
 next_zero [] = refl
 next_zero (s ∷ rest) = go (operator_of s.token)
   where

@@ -1,77 +1,65 @@
--- Each fault is told at the tokens that it speaks of, and a number that is too far inside brackets alone.
-use Rattle.std.proofs.Common.{◌≡◌, ◌<◌, ℕ, ℤ, pos, neg_ℤ, List, [], ◌∷◌, ◌++◌, Option, Some, Ok, Err, Bool, true, false, refl, sym, ap, ◌∙◌, subst, append_assoc, arith}
+-- A number that is too far is told inside brackets alone.
+use Rattle.std.proofs.Common.{◌≡◌, ℕ, ℤ, pos, neg_ℤ, List, [], ◌∷◌, ◌++◌, Option, Some, Ok, Err, Bool, true, false, refl, sym, ap, ◌∙◌, subst, append_assoc}
 use Rattle.std.specs.Prelude.{nat_le, if◌then◌else◌}
-use Rattle.std.proofs.lemmas.Bool.Decides.{nat_tests}
 use Rattle.std.proofs.lemmas.List.{append_cancel_right}
 use Rattle.cell_tokens.specs.declared.fault.CalcKind.{CalcKind}
-use Rattle.cell_tokens.specs.declared.fault.CalcKind.TheVariants.{Expected, UnknownFunction, Arguments as BadArguments, BadOffset}
+use Rattle.cell_tokens.specs.declared.fault.CalcKind.TheVariants.{Expected, BadOffset}
 use Rattle.cell_tokens.specs.declared.function.Function.{Function}
 use Rattle.cell_tokens.specs.declared.function.Function.TheVariants.{If}
 use Rattle.cell_tokens.specs.declared.token.Placed.{Placed}
 use Rattle.cell_tokens.specs.declared.token.Sign.TheVariants.{Plus, Minus, OpenParenthesis, CloseParenthesis, OpenBracket, CloseBracket, Comma}
 use Rattle.cell_tokens.specs.declared.token.Token.{Token}
 use Rattle.cell_tokens.specs.declared.token.Token.TheVariants as token
-use Rattle.cell_tokens.specs.Function.{function_of, accepts}
+use Rattle.cell_tokens.specs.Function.{accepts}
 use Rattle.cell_language.specs.Grammar.{IsOffset}
 use Rattle.cell_language.specs.GrammarFault as grammar_fault
-use Rattle.cell_language.specs.GrammarFault.{IsUnknown, IsMiscounted, IsFar, IsOffsetSign, IsBeforeNumber, IsInBrackets}
+use Rattle.cell_language.specs.GrammarFault.{IsOffsetSign, IsBeforeNumber, IsInBrackets}
 use Rattle.cell_language.specs.Reading as reading
 use Rattle.cell_language.specs.Reading.{Part, tail, and_then, distance_at, distance, signed, offset_at, offset, comma_at, bracket_at, to_bracket, Outcome, Got, GotAll, Stops, State, Operand, Whole, More, Expression, Choice, AfterQuestion, Called, Arguments, Onward, negate, invert, closed, close, join, choose, move, judged, call, add, Reads, nothing, whole, stopped, done, more, expression, unread, unchosen, asked, unasked, no_colon, otherwise, arguments, halted, unended}
 use Rattle.cell_language.specs.Term.{Term, Negated, Not, Binary, Call, NoTerms, Then, count}
 use Rattle.cell_tokens.specs.Token.{name_at, sign_at, head}
-use Rattle.cell_language.proofs.Sound.{mapped, IsPartOf, IsSign, AreBoth, IsSound, sound, front_is, sound_offset, sound_offsets, sound_comma, sound_bracket}
+use Rattle.cell_language.proofs.Sound.{mapped, IsPartOf, IsSign, AreBoth, front_is, sound_offset, sound_offsets, sound_comma, sound_bracket}
 
--- what a kind says of the tokens from where it is told
-abbrev pub ToldAt : CalcKind → List Placed → Type 0
-ToldAt Expected rest = Unit {0}
-ToldAt UnknownFunction rest = IsUnknown rest
-ToldAt BadArguments rest = IsMiscounted rest
-ToldAt BadOffset rest = IsFar rest
-ToldAt _ rest = ⊥
-
--- a fault, and if it is a number that is too far, after tokens of which this holds
+-- if the fault is a number that is too far, it comes after tokens of which this holds
 abbrev IsToldIn : (List Placed → Type 0) → CalcKind → List Placed → List Placed → Type 0
-IsToldIn R kind ts rest = ToldAt kind rest × (kind ≡ BadOffset → (before : List Placed) × (ts ≡ before ++ rest) × R before)
+IsToldIn R kind ts rest = kind ≡ BadOffset → (before : List Placed) × (ts ≡ before ++ rest) × R before
 
 abbrev IsToldPart : {A : Type 0} → (List Placed → Type 0) → List Placed → Part A → Type 0
 IsToldPart R ts (Ok x) = Unit {0}
 IsToldPart R ts (Err e) = IsToldIn R e.0 ts e.1
 
 unexpected : (R : List Placed → Type 0) (ts rest : List Placed) → IsToldIn R Expected ts rest
-unexpected R ts rest = (tt, λ k. absurd (let h : ⊥ = cc in h))
+unexpected R ts rest = λ k. absurd (let h : ⊥ = cc in h)
 
 weaker : {A : Type 0} (Q R : List Placed → Type 0) (ts : List Placed) → ((b : List Placed) → Q b → R b) → (p : Part A) → IsToldPart Q ts p → IsToldPart R ts p
 weaker Q R ts w (Ok x) h = tt
-weaker Q R ts w (Err e) h = (h.0, λ k. let b = h.1 k in (b.0, b.1, w b.0 b.2))
+weaker Q R ts w (Err e) h = λ k. let b = h k in (b.0, b.1, w b.0 b.2)
 
 -- one part and then another
 far_then : {A B : Type 0} (P : List Placed → A → Type 0) (Q R : List Placed → Type 0) (ts : List Placed) (f : A → List Placed → Part B)
     → ((b : List Placed) → Q b → R b) → ((x : A) (us front : List Placed) → P front x → IsToldPart (λ b. R (front ++ b)) us (f x us))
     → (p : Part A) → IsPartOf P ts p → IsToldPart Q ts p → IsToldPart R ts (and_then p f)
-far_then P Q R ts f w g (Err e) s h = (h.0, λ k. let b = h.1 k in (b.0, b.1, w b.0 b.2))
+far_then P Q R ts f w g (Err e) s h = λ k. let b = h k in (b.0, b.1, w b.0 b.2)
 far_then {A = A} {B = B} P Q R ts f w g (Ok x) s h = go (f x.0 x.1) (g x.0 x.1 s.0 s.2)
   where
     go : (q : Part B) → IsToldPart (λ b. R (s.0 ++ b)) x.1 q → IsToldPart R ts q
     go (Ok y) n = tt
-    go (Err e) n = (n.0, λ k. let b = n.1 k in (s.0 ++ b.0, s.1 ∙ ap (λ l. s.0 ++ l) b.1 ∙ sym (append_assoc s.0 b.0 e.1), b.2))
+    go (Err e) n = λ k. let b = n k in (s.0 ++ b.0, s.1 ∙ ap (λ l. s.0 ++ l) b.1 ∙ sym (append_assoc s.0 b.0 e.1), b.2)
 
 abbrev IsNothing : List Placed → Type 0
 IsNothing ts = ts ≡ []
 
 far_distance_at : (t : Option Token) (ts : List Placed) → head ts ≡ t → IsToldPart IsNothing ts (distance_at t ts)
-far_distance_at (Some (token.Number n)) ts e = go (nat_le n 255) refl
+far_distance_at (Some (token.Number n)) ts e = go (nat_le n 255)
   where
-    go : (b : Bool) → nat_le n 255 ≡ b → IsToldPart {A = ℕ} IsNothing ts (if b then Ok (n, tail ts) else Err (BadOffset, ts))
-    go true le = tt
-    go false le =
-        let f = front_is ts (token.Number n) e in
-        let far : 255 < n = grind (arith, nat_tests) in
-        ((n, f.0, tail ts, f.1, far), λ k. ([], refl, refl))
+    go : (b : Bool) → IsToldPart {A = ℕ} IsNothing ts (if b then Ok (n, tail ts) else Err (BadOffset, ts))
+    go true = tt
+    go false = λ k. ([], refl, refl)
 far_distance_at _ ts e = unexpected IsNothing ts ts
 
 far_signed : (f : ℕ → ℤ) (before ts us : List Placed) → ts ≡ before ++ us → IsOffsetSign before → (p : Part ℕ) → IsToldPart IsNothing us p → IsToldPart IsOffsetSign ts (signed f p)
 far_signed f before ts us e r (Ok x) h = tt
-far_signed f before ts us e r (Err x) h = (h.0, λ k. let g = h.1 k in (before, e ∙ ap (λ l. before ++ l) (g.1 ∙ ap (λ b. b ++ x.1) g.2), r))
+far_signed f before ts us e r (Err x) h = λ k. let g = h k in (before, e ∙ ap (λ l. before ++ l) (g.1 ∙ ap (λ b. b ++ x.1) g.2), r)
 
 far_offset_at : (t : Option Token) (ts : List Placed) → head ts ≡ t → IsToldPart IsOffsetSign ts (offset_at t ts)
 far_offset_at (Some (token.Sign Minus)) ts e =
@@ -145,23 +133,19 @@ fine_move : (name : List ℕ) (c d : ℕ) (us ts : List Placed) → IsSuffix ts 
 fine_move name c d us ts h (Ok x) s f =
     let opened = after_one ts us (sign_at OpenBracket d) (after_one ts (sign_at OpenBracket d ∷ us) (name_at name c) h) in
     (opened.0 ++ s.0, opened.1 ∙ ap (λ l. opened.0 ++ l) s.1 ∙ sym (append_assoc opened.0 s.0 x.1))
-fine_move name c d us ts h (Err e) s f = (
-  f.0,
-  λ k.
-      let b = f.1 k in
-      let inside : List Placed = name_at name c ∷ sign_at OpenBracket d ∷ b.0 in
-      (h.0 ++ inside, h.1 ∙ ap (λ l. h.0 ++ name_at name c ∷ sign_at OpenBracket d ∷ l) b.1 ∙ sym (append_assoc h.0 inside e.1), (h.0, b.0, name, c, d, refl, b.2)),
-)
+fine_move name c d us ts h (Err e) s f = λ k.
+    let b = f k in
+    let inside : List Placed = name_at name c ∷ sign_at OpenBracket d ∷ b.0 in
+    (h.0 ++ inside, h.1 ∙ ap (λ l. h.0 ++ name_at name c ∷ sign_at OpenBracket d ∷ l) b.1 ∙ sym (append_assoc h.0 inside e.1), (h.0, b.0, name, c, d, refl, b.2))
 
-fine_call : (name : List ℕ) (c d : ℕ) (us : List Placed) (f : Function) → function_of name ≡ Some f → (ts : List Placed) (o : Outcome) → IsSound (Called us) o → IsFine ts o
-    → IsFine ts (call f (name_at name c ∷ sign_at OpenParenthesis d ∷ us) o)
-fine_call name c d us f e ts (Got a rest) s h = unexpected IsInBrackets ts rest
-fine_call name c d us f e ts (Stops kind rest) s h = h
-fine_call name c d us f e ts (GotAll xs rest) s h = go (accepts f (count xs)) refl
+fine_call : (name : List ℕ) (c d : ℕ) (us : List Placed) (f : Function) (ts : List Placed) (o : Outcome) → IsFine ts o → IsFine ts (call f (name_at name c ∷ sign_at OpenParenthesis d ∷ us) o)
+fine_call name c d us f ts (Got a rest) h = unexpected IsInBrackets ts rest
+fine_call name c d us f ts (Stops kind rest) h = h
+fine_call name c d us f ts (GotAll xs rest) h = go (accepts f (count xs))
   where
-    go : (b : Bool) → accepts f (count xs) ≡ b → IsFine ts (judged b f xs (name_at name c ∷ sign_at OpenParenthesis d ∷ us) rest)
-    go true a = h
-    go false a = ((name, f, xs, c, d, s.0, rest, ap (λ l. name_at name c ∷ sign_at OpenParenthesis d ∷ l) s.1, e, s.2, a), λ k. absurd (let n : ⊥ = cc in n))
+    go : (b : Bool) → IsFine ts (judged b f xs (name_at name c ∷ sign_at OpenParenthesis d ∷ us) rest)
+    go true = h
+    go false = λ k. absurd (let n : ⊥ = cc in n)
 
 fine_mapped : (f : Term → Term) (ts : List Placed) (o : Outcome) → IsFine ts o → IsFine ts (mapped f o)
 fine_mapped f ts (GotAll xs rest) h = unexpected IsInBrackets ts rest
@@ -184,9 +168,9 @@ fine : {s : State} {o : Outcome} → Reads s o → (ts : List Placed) → IsLeft
 fine (reading.number {ts = us}) ts h = after_one ts us _ h
 fine (reading.map {ts = us} f) ts h = after_one ts us _ h
 fine (reading.moved {name = name} {c = c} {d = d} {ts = us}) ts h = fine_move name c d us ts h (reading.offsets us) (sound_offsets us) (far_offsets us)
-fine (reading.unknown {name = name} {c = c} {d = d} {ts = us} e) ts h = ((name, c, d, us, refl, e), λ k. absurd (let n : ⊥ = cc in n))
+fine (reading.unknown {name = name} {c = c} {d = d} {ts = us} e) ts h = λ k. absurd (let n : ⊥ = cc in n)
 fine (reading.called {name = name} {c = c} {d = d} {ts = us} {o = o} f e r) ts h =
-    fine_call name c d us f e ts o (sound r) (fine r ts (after_one ts us _ (after_one ts (sign_at OpenParenthesis d ∷ us) _ h)))
+    fine_call name c d us f ts o (fine r ts (after_one ts us _ (after_one ts (sign_at OpenParenthesis d ∷ us) _ h)))
 fine (reading.negated {ts = us} {o = o} r) ts h = fine_mapped Negated ts o (fine r ts (after_one ts us _ h))
 fine (reading.not {ts = us} {o = o} r) ts h = fine_mapped Not ts o (fine r ts (after_one ts us _ h))
 fine (reading.inside {ts = us} {o = o} r) ts h = fine_close ts o (fine r ts (after_one ts us _ h))
@@ -210,13 +194,10 @@ in_brackets_after : (us before : List Placed) → IsInBrackets before → IsInBr
 in_brackets_after us before h =
     (us ++ h.0, h.1, h.2, h.3, h.4, ap (λ l. us ++ l) h.5 ∙ sym (append_assoc us h.0 (name_at h.2 h.3 ∷ sign_at OpenBracket h.4 ∷ h.1)), h.6)
 
-pub told : {ts : List Placed} {kind : CalcKind} {rest : List Placed} → Reads (Expression ts) (Stops kind rest) → ToldAt kind rest
-told {ts = ts} r = (fine r ts ([], refl)).0
-
 -- the tokens before a number that is too far, in an assignment, end inside brackets
 pub far_in_brackets : (s t : Placed) (ts before : List Placed) (kind : CalcKind) (rest : List Placed) → Reads (Expression ts) (Stops kind rest) → ts ≡ before ++ rest → kind ≡ BadOffset
     → IsInBrackets (s ∷ t ∷ before)
 far_in_brackets s t ts before kind rest r e k =
-    let f = (fine r ts ([], refl)).1 k in
+    let f = fine r ts ([], refl) k in
     let same : f.0 ≡ before = append_cancel_right f.0 before rest (sym f.1 ∙ e) in
     in_brackets_after (s ∷ t ∷ []) before (subst IsInBrackets same f.2)

@@ -42,6 +42,14 @@ fn faults_and_their_columns(rt: HostRuntime) {
         (b"x = min(1,)", CalcKind::Expected, 11),
         (b"foo(1) = 2", CalcKind::Expected, 4),
         (b"x = 1 +  ", CalcKind::Expected, 10),
+        (b"x = ) ) )", CalcKind::Expected, 5),
+        (b"x = 1 2 3", CalcKind::Expected, 7),
+        (b"x = 1 2 foo(1)", CalcKind::Expected, 7),
+        (b"x = foo(1) 2", CalcKind::UnknownFunction, 5),
+        (b"x = min(1) 2", CalcKind::Arguments, 5),
+        (b"x = g[256,0] 2", CalcKind::BadOffset, 7),
+        (b"x = if(1,2,3,4 5", CalcKind::Expected, 16),
+        (b"x = if(foo(1),2,3,4)", CalcKind::UnknownFunction, 8),
     ] {
         let fault = Some(CalcFault { kind, column });
         assert_eq!(rt; fault_of(rt.alloc(), text), fault, "{kind} at {column}");

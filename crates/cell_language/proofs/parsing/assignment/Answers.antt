@@ -1,13 +1,22 @@
 use Rattle.std.proofs.Common.{sym, subst}
 use Rattle.cell_language.specs.GrammarFault.{IsFaultOf}
 use Rattle.cell_language.specs.parts.Built.{built}
-use Rattle.cell_language.proofs.Faults.{fault_no_assign, fault_stops, fault_goes_on, ends, ends_only}
+use Rattle.cell_language.proofs.Faults.{fault_nothing, fault_no_name, fault_no_assign, fault_stops, fault_goes_on, ends, ends_only}
 use Rattle.cell_language.proofs.Grammatical.{read_grammatical}
 use Rattle.cell_language.proofs.parsing.assignment.Goals as goal
 
 pub returns-in_default-after_sign-clause-fault : goal.returns-in_default-after_sign-clause-fault
 returns-in_default-after_sign-clause-fault c =
-    subst (IsFaultOf c.args.end c.args.tokens.now) (sym c.fault_of-in_default-after_sign.ensures) (fault_no_assign c.args.end c.args.tokens.now c.in-Some.placed.now c.in-Some.rest.now c.in-Some.ensures.some c.in_default-after_sign.ensures.none)
+    subst (IsFaultOf c.args.end c.args.tokens.now) (sym c.fault_of-in_default-after_sign.ensures) (fault_no_assign c.args.end c.args.tokens.now c.in-Some.placed.now c.in-Some.rest.now c.in-Name.name c.in-Some.ensures.some c.in-Name.is c.in_default-after_sign.ensures.none)
+
+pub returns-in_default-clause-fault : goal.returns-in_default-clause-fault
+returns-in_default-clause-fault c =
+    subst (IsFaultOf c.args.end c.args.tokens.now) (sym c.fault_of.ensures) (fault_nothing c.args.end c.args.tokens.now c.in_default.ensures.none)
+
+pub returns-in_default-token-clause-fault : goal.returns-in_default-token-clause-fault
+returns-in_default-token-clause-fault c =
+    subst (IsFaultOf c.args.end c.args.tokens.now) (sym c.fault_of-in_default-token.ensures)
+    (fault_no_name c.args.end c.args.tokens.now c.in-Some.placed.now c.in-Some.rest.now c.in-Some.ensures.some c.in_default-token.not-Name)
 
 pub returns-in-Err-expression-clause-fault : goal.returns-in-Err-expression-clause-fault
 returns-in-Err-expression-clause-fault c =
