@@ -18,18 +18,18 @@ edge-raised : (n : ℕ) (p q : Position) → ShareEdge (lowered n p) (lowered n 
 edge-raised n p q (inl e) = inl (same-back n p.row q.row e.0, e.1)
 edge-raised n p q (inr e) = inr (neighbours-back n p.row q.row e.0, e.1)
 
-adjacent-lowered : (n : ℕ) (j : Joining) (p q : Position) → AreAdjacent j p q → AreAdjacent j (lowered n p) (lowered n q)
+pub adjacent-lowered : (n : ℕ) (j : Joining) (p q : Position) → AreAdjacent j p q → AreAdjacent j (lowered n p) (lowered n q)
 adjacent-lowered n Edges p q h = edge-lowered n p q h
 adjacent-lowered n EdgesAndCorners p q (inl h) = inl (edge-lowered n p q h)
 adjacent-lowered n EdgesAndCorners p q (inr h) = inr (neighbours-moved n p.row q.row h.0, h.1)
 
-adjacent-raised : (n : ℕ) (j : Joining) (p q : Position) → AreAdjacent j (lowered n p) (lowered n q) → AreAdjacent j p q
+pub adjacent-raised : (n : ℕ) (j : Joining) (p q : Position) → AreAdjacent j (lowered n p) (lowered n q) → AreAdjacent j p q
 adjacent-raised n Edges p q h = edge-raised n p q h
 adjacent-raised n EdgesAndCorners p q (inl h) = inl (edge-raised n p q h)
 adjacent-raised n EdgesAndCorners p q (inr h) = inr (neighbours-back n p.row q.row h.0, h.1)
 
 -- adjacent cells lie in one row, or in neighbouring ones
-rows-near : (j : Joining) (p q : Position) → AreAdjacent j p q → (p.row ≡ q.row) ⊎ AreNeighbours p.row q.row
+pub rows-near : (j : Joining) (p q : Position) → AreAdjacent j p q → (p.row ≡ q.row) ⊎ AreNeighbours p.row q.row
 rows-near Edges p q (inl e) = inl e.0
 rows-near Edges p q (inr e) = inr e.0
 rows-near EdgesAndCorners p q (inl (inl e)) = inl e.0
@@ -37,12 +37,12 @@ rows-near EdgesAndCorners p q (inl (inr e)) = inr e.0
 rows-near EdgesAndCorners p q (inr h) = inr h.0
 
 -- where a cut is between them, they lie in the two rows beside it
-beside-cut : (n i k : ℕ) → (i ≡ k) ⊎ AreNeighbours i k → i < n → n ≤ k → (i + 1 ≡ n) × (k ≡ n)
+pub beside-cut : (n i k : ℕ) → (i ≡ k) ⊎ AreNeighbours i k → i < n → n ≤ k → (i + 1 ≡ n) × (k ≡ n)
 beside-cut n i k (inl e) high low = absurd (omega (arith, e, high, low))
 beside-cut n i k (inr (inl e)) high low = (omega (arith, e, high, low), omega (arith, e, high, low))
 beside-cut n i k (inr (inr e)) high low = absurd (omega (arith, e, high, low))
 
-back : (i k : ℕ) → (i ≡ k) ⊎ AreNeighbours i k → (k ≡ i) ⊎ AreNeighbours k i
+pub back : (i k : ℕ) → (i ≡ k) ⊎ AreNeighbours i k → (k ≡ i) ⊎ AreNeighbours k i
 back i k (inl e) = inl (sym e)
 back i k (inr (inl e)) = inr (inr e)
 back i k (inr (inr e)) = inr (inl e)
@@ -51,13 +51,13 @@ module _ (whole upper lower : Grid) (cut : whole.rows ≡ upper.rows ++ lower.ro
   abbrev above : ℕ
   above = length upper.rows
 
-  upper-cell : (p : Position) → p.row < above → at whole p ≡ at upper p
+  pub upper-cell : (p : Position) → p.row < above → at whole p ≡ at upper p
   upper-cell p high = ap (λ l. get_or (get_or l p.row []) p.col None) cut ∙ ap (λ l. get_or l p.col None) (get_or_append_left upper.rows lower.rows [] p.row high)
 
-  lower-cell : (p : Position) → at whole (lowered above p) ≡ at lower p
+  pub lower-cell : (p : Position) → at whole (lowered above p) ≡ at lower p
   lower-cell p = ap (λ l. get_or (get_or l (above + p.row) []) p.col None) cut ∙ ap (λ l. get_or l p.col None) (get_or-append-add upper.rows lower.rows p.row [])
 
-  in-upper : (v : ℤ) (p : Position) → at upper p ≡ Some v → at whole p ≡ Some v
+  pub in-upper : (v : ℤ) (p : Position) → at upper p ≡ Some v → at whole p ≡ Some v
   in-upper v p is =
       ⊎_elim (λ high. upper-cell p high ∙ is)
       (λ low. absurd (let none : at upper p ≡ None = ap (λ l. get_or l p.col None) (get_or_past upper.rows p.row [] low) in let both : None ≡ Some v = sym none ∙ is in cc))

@@ -1,0 +1,10 @@
+pub mod AreaLemmas
+pub mod BandLemmas
+pub mod CutLemmas
+pub mod GreatestLemmas
+pub mod JoinLemmas
+pub mod LabelLemmas
+pub mod MeetingLemmas
+pub mod NumberLemmas
+pub mod OpenLemmas
+pub mod SizeLemmas

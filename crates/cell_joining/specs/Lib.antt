@@ -1,0 +1,5 @@
+-- Areas of bands joined to the areas of the whole map.
+pub mod Bands
+pub mod Labelled
+pub mod Sizes
+pub mod parts

@@ -1,0 +1,3 @@
+-- Tables merged.
+pub mod Merging
+pub mod parts

@@ -1,0 +1,2 @@
+-- Two lists of entries merged.
+pub mod Pairwise
