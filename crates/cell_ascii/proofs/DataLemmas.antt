@@ -1,5 +1,5 @@
 -- The whole data, from its rows and its end, and the whole text, from its header and its data.
-use Rattle.std.proofs.Common.{◌≡◌, ℕ, ◌-◌, ◌<◌, [], List, Option, Some, None, Result, Ok, Err, Bool, refl, ap, sym, ◌∙◌, false}
+use Rattle.std.proofs.Common.{◌≡◌, ℕ, ◌-◌, ◌<◌, [], List, Option, Some, None, Result, Ok, Err, Bool, refl, ap, sym, ◌∙◌}
 use Rattle.std.specs.Option.{option_map, IfSome}
 use Rattle.cell_devices.specs.Device.{Coming}
 use Rattle.cell_core.specs.Grid.{CellValue, Grid, no_labels}
@@ -11,7 +11,7 @@ use Rattle.cell_ascii_text.specs.Places.{opening_fault}
 use Rattle.cell_ascii_text.specs.RowPlaces.{IsPlaceOf, end_fault}
 use Rattle.cell_ascii.specs.GridReaders.{ReaderValue, place_in, opened_in, fault_of}
 use Rattle.cell_ascii_header.specs.Opening.{header_seen}
-use Rattle.cell_scanner.specs.Ahead.{to_come}
+use Rattle.cell_scanner.specs.Ahead.{before_coming}
 use Rattle.cell_ascii_text.specs.declared.fault.GridFault.{GridFault}
 use Rattle.cell_ascii_header.proofs.MapLemmas.{known}
 use Rattle.cell_ascii.proofs.CellLemmas.{with_front, more_fails}
@@ -100,13 +100,13 @@ header_faults (Some x) f h = rw h refl
 pub opening_fails : (a : Option Coming) (f : GridFault) → IfSome a (λ c. opening_fault c ≡ Some f) → IfSome a (λ c. grid_of c ≡ Err f)
 opening_fails a f told = header_faults a f (implied (λ c. opening_fault c ≡ Some f) (λ c. header_of_text c ≡ Err f) a (λ c. (opening_agrees c f).1) told)
 
-nothing_held : (r : Option Coming) → to_come (record { held = []; rest = r; ended = false }) ≡ r
+nothing_held : (r : Option Coming) → option_map (before_coming []) r ≡ r
 nothing_held None = refl
 nothing_held (Some c) = refl
 
 -- the keys give no header
 pub open_fails : (keys : Keys) (word : List ℕ) (line : ℕ) (waiting : Bool) (r b : Option Coming) (f : GridFault)
-    → option_map (header_from 10 no_keys 1 0) (to_come (record { held = []; rest = r; ended = false })) ≡ option_map (header_seen (Ok waiting) keys word line) b
+    → option_map (header_from 10 no_keys 1 0) (option_map (before_coming []) r) ≡ option_map (header_seen (Ok waiting) keys word line) b
     → Err f ≡ at_line line (header_of keys) → IfSome r (λ c. header_of_text c ≡ Err f)
 open_fails keys word line waiting r b f e bad =
     known (header_from 10 no_keys 1 0) (header_seen (Ok waiting) keys word line) r b (Err f)

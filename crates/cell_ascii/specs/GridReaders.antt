@@ -1,15 +1,18 @@
 -- An open grid reader, and what its calls answer.
 use Rattle.std.specs.Prelude.{ℕ, ◌≡◌, ◌<◌, Bool, List, length, take, drop, Option, Some, None, Result, Ok, Err}
+use Rattle.std.specs.Option.{option_map}
+use Rattle.cell_devices.specs.Asking.{Heard}
 use Rattle.cell_devices.specs.Device.{Coming}
 use Rattle.cell_core.specs.Grid.{CellValue}
-use Rattle.cell_ascii_text.specs.Header.{At, Header, Opened}
+use Rattle.cell_ascii_text.specs.Header.{At, Header, Opened, header_of_text}
 use Rattle.cell_ascii_text.specs.Cells.{cell_from, many}
 use Rattle.cell_ascii_text.specs.Words.{fault}
 use Rattle.cell_ascii_text.specs.declared.fault.GridKind.TheVariants.{Failed}
 use Rattle.cell_ascii_text.specs.declared.fault.GridFault.{GridFault}
 
 -- what the header says, how many rows are still to come, a first token of the data that is not yet judged, the line,
--- the length of the run of blanks and line feeds, whether it has failed, and the bytes to come where they are known
+-- the length of the run of blanks and line feeds, whether it has failed, the bytes to come where they are known, and what
+-- was heard of the source
 pub record ReaderValue : Type 0 where
   pub header : Header
   pub rows_left : ℕ
@@ -18,6 +21,7 @@ pub record ReaderValue : Type 0 where
   pub run : ℕ
   pub failed : Bool
   pub coming : Option Coming
+  pub heard : Heard
 
 -- the place of a text that it is at
 abbrev pub place_in : ReaderValue → Coming → At
@@ -26,6 +30,10 @@ place_in r c = record { pending = r.pending; line = r.line; run = r.run; coming 
 -- the header that was read, and where the data begins
 abbrev pub opened_in : ReaderValue → Coming → Opened
 opened_in r c = record { header = r.header; at = place_in r c }
+
+-- a reader that read the header of a text, and nothing behind its first token
+abbrev pub IsOpened : Option Coming → ReaderValue → Type 0
+IsOpened text r = option_map header_of_text text ≡ option_map (λ c. Ok (opened_in r c)) r.coming
 
 -- the fault of an answer
 abbrev pub fault_of : {X : Type 0} → Result X GridFault → Option GridFault

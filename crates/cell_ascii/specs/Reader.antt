@@ -50,17 +50,18 @@ always x c = x
 -- a reader of rows at a place
 abbrev pub reader_at : Place → ℕ → Bool → ReaderValue
 reader_at p rows_left failed =
-    record { header = p.header; rows_left = rows_left; pending = p.pending; line = p.line; run = p.run; failed = failed; coming = to_come p.ahead }
+    record { header = p.header; rows_left = rows_left; pending = p.pending; line = p.line; run = p.run; failed = failed; coming = to_come p.ahead; heard = p.ahead.heard }
 
 -- a place of the text, where no token waits behind the last row
 abbrev pub IsPlaced : ReaderValue → Type 0
 IsPlaced r = IfSome r.coming (λ c. IsPlaceOf (place_in r c) × (r.rows_left ≡ 0 → r.pending ≡ None))
 
--- a reader of rows that has not failed can number the lines to come, and is at a place of the text
+-- a reader of rows that has not failed can number the lines to come, is at a place of the text, and heard no `Err`
 pub record IsReady (r : ReaderValue) : Type 0 where
   pub wide : 0 < r.header.region.cols
   pub lines : r.failed ≡ false → r.line + (r.rows_left * r.header.region.cols + 1) * 1048577 < 2 ^ 63
   pub placed : r.failed ≡ false → IsPlaced r
+  pub heard : r.failed ≡ false → r.heard.failed ≡ false
 
 -- the rows of the data
 abbrev pub rows_from : Header → At → Reading (List (List CellValue))

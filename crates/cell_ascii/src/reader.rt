@@ -1,10 +1,12 @@
 //! Whole grids, read row by row.
 
-ghost use Rattle.std.specs.Prelude.{◌≡◌, ◌≢◌, ◌+◌, ◌*◌, ◌^◌, ◌<◌, ◌≤◌, ◌||◌, true, false, length, take, drop, Some, Ok, Err, OnOk, OnErr, IfOk, IfErr, IfSome};
+ghost use Rattle.std.specs.Prelude.{◌≡◌, ◌≢◌, ◌+◌, ◌*◌, ◌^◌, ◌<◌, ◌≤◌, ◌||◌, true, false, length, take, drop, Option, Some, Ok, Err, OnOk, OnErr, IfOk, IfErr, IfSome};
 ghost use Rattle.std.specs.Option.{option_map};
 ghost use Rattle.std.specs.Result.{is_err};
+ghost use Rattle.cell_devices.specs.Device.{Coming};
 ghost use Rattle.cell_core.specs.Grid.{no_labels};
-ghost use Rattle.cell_ascii_text.specs.Kinds.{IsOfText};
+ghost use Rattle.cell_devices.specs.Asking.{hears, heard_first};
+ghost use Rattle.cell_ascii_text.specs.Kinds.{IsOfText, tells_read};
 ghost use Rattle.cell_scanner.specs.Ahead.{to_come};
 ghost use Rattle.cell_ascii_text.specs.Words.{start_of};
 ghost use Rattle.cell_ascii_text.specs.Header.{at_line, header_of, header_of_text};
@@ -13,7 +15,7 @@ ghost use Rattle.cell_ascii_text.specs.GridText.{Denotes};
 ghost use Rattle.cell_ascii_text.specs.Places.{opening_fault, text_fault};
 ghost use Rattle.cell_ascii_text.specs.RowPlaces.{cells_fault, end_fault};
 ghost use Rattle.cell_ascii.specs.Reader.{Place, at_place, opened_at, token_of, token_seen, reading_seen, always, IsPlaced, rows_from};
-ghost use Rattle.cell_ascii.specs.GridReaders.{place_in, opened_in, fault_of, has_failed, IsCutRow, IsChangedInFront};
+ghost use Rattle.cell_ascii.specs.GridReaders.{place_in, opened_in, IsOpened, fault_of, has_failed, IsCutRow, IsChangedInFront};
 
 use crate::held::{Pace, cells_in};
 use cell_ascii_header::header::Header;
@@ -68,6 +70,7 @@ fn read_token<R: Source>(scanner: &mut Scanner<R>) -> Result<(), GridFault>
     ensures run { scanner.new.run ≤ 1048576 }
     ensures none { OnOk result (scanner.new.run ≡ 0) }
     ensures kind { IfErr result (λ f. IsOfText f.kind) }
+    ensures heard { scanner.new.ahead.heard ≡ hears (tells_read result) scanner.old.ahead.heard }
 {
     match scanner.skip_spaces()? {
         Next::Word => scanner.read_word(),
@@ -105,6 +108,7 @@ impl<R: Source> CellReader<R> {
         ensures memory { IfErr result (λ f. f.kind ≡ GridKind.Memory → f.line ≡ 0) }
         ensures kinds { IfErr result (λ f. f.kind ≢ GridKind.Failed) }
         ensures line { IfOk result (λ r. r.line < 2 ^ 62) }
+        ensures heard { IfOk result (λ r. r.ahead.heard ≡ heard_first (R.asked source)) }
     {
         let Ok(mut scanner) = Scanner::new(alloc, source) else {
             return Err(NO_MEMORY);
@@ -135,6 +139,7 @@ impl<R: Source> CellReader<R> {
         ensures rest { drop result row.new ≡ drop result row.old }
         ensures header { self.new.header ≡ self.old.header }
         ensures line { self.new.line ≡ self.old.line }
+        ensures heard { self.new.ahead.heard ≡ self.old.ahead.heard }
     {
         if self.waiting || !self.scanner.has_room() {
             return 0;
@@ -149,11 +154,13 @@ impl<R: Source> CellReader<R> {
     // Reads the next cell, byte by byte.
     fn next_cell(&mut self) -> Result<Cell, GridFault>
         requires room { self.old.line + 1048576 < 2 ^ 64 }
+        requires heard { self.old.ahead.heard.failed ≡ false }
         ensures cell { option_map (λ c. cell_from self.old.header (at_place self.old c)) (to_come self.old.ahead)
             ≡ option_map (reading_seen result self.new) (to_come self.new.ahead) }
         ensures header { self.new.header ≡ self.old.header }
         ensures lines { self.new.line ≤ self.old.line + 1048576 }
         ensures kind { IfErr result (λ f. IsOfText f.kind) }
+        ensures heard { self.new.ahead.heard ≡ hears (tells_read result) self.old.ahead.heard }
     {
         if self.waiting {
             self.waiting = false;
@@ -169,7 +176,9 @@ impl<R: Source> CellReader<R> {
         requires room { self.old.line + 1048576 < 2 ^ 64 }
         ensures end { option_map (λ c. end_of (start_of self.old.line self.old.run c)) (to_come self.old.ahead)
             ≡ option_map (always result) (to_come self.new.ahead) }
+        ensures header { self.new.header ≡ self.old.header }
         ensures kind { IfErr result (λ f. IsOfText f.kind) }
+        ensures heard { self.new.ahead.heard ≡ hears (tells_read result) self.old.ahead.heard }
     {
         match self.scanner.skip_spaces()? {
             Next::Word => Err(GridFault {
@@ -184,6 +193,7 @@ impl<R: Source> CellReader<R> {
 // Reads a row of cells.
 fn read_row<R: Source>(cells: &mut CellReader<R>, row: &mut [Cell]) -> Result<(), GridFault>
     requires room { cells.old.line + length row.old * 1048577 < 2 ^ 63 }
+    requires heard { cells.old.ahead.heard.failed ≡ false }
     ensures row { OnOk result (option_map (λ c. many (cell_from cells.old.header) (length row.old) (at_place cells.old c)) (to_come cells.old.ahead)
         ≡ option_map (λ d. Ok (row.new, at_place cells.new d)) (to_come cells.new.ahead)) }
     ensures cut { IfErr result (λ f. IfSome (to_come cells.old.ahead) (λ c. IsCutRow cells.old.header (at_place cells.old c) f row.old row.new)) }
@@ -191,6 +201,7 @@ fn read_row<R: Source>(cells: &mut CellReader<R>, row: &mut [Cell]) -> Result<()
     ensures header { cells.new.header ≡ cells.old.header }
     ensures lines { cells.new.line ≤ cells.old.line + length row.old * 1048577 }
     ensures kind { IfErr result (λ f. IsOfText f.kind) }
+    ensures heard { cells.new.ahead.heard ≡ hears (tells_read result) cells.old.ahead.heard }
 {
     let mut i = 0;
     'cells: loop {
@@ -240,6 +251,8 @@ impl<R: Source> GridReader<R> {
         ensures fault { IfErr result (λ f. f.kind ≢ GridKind.Memory → IfSome (R.coming source) (λ c. opening_fault c ≡ Some f)) }
         ensures memory { IfErr result (λ f. f.kind ≡ GridKind.Memory → f.line ≡ 0) }
         ensures kinds { IfErr result (λ f. f.kind ≢ GridKind.Failed) }
+        // The source is asked only while it goes on, and an `Err` of it is told as Read: so far none was.
+        ensures heard { IfOk result (λ r. r.heard ≡ heard_first (R.asked source)) }
     {
         let cells = CellReader::open(alloc, source)?;
         let rows_left = cells.region().rows();
@@ -290,6 +303,8 @@ impl<R: Source> GridReader<R> {
         ensures fails { self.new.failed ≡ (self.old.failed || is_err result) }
         ensures memory { IfErr result (λ f. f.kind ≢ GridKind.Memory) }
         ensures kinds { self.old.failed ≡ false → IfErr result (λ f. IsOfText f.kind) }
+        // The source is asked only while it goes on, and an `Err` of it is told as Read.
+        ensures heard { self.old.failed ≡ false → self.new.heard ≡ hears (tells_read result) self.old.heard }
     {
         if self.failed {
             return Err(HAS_FAILED);
@@ -325,17 +340,31 @@ impl<R: Source> GridReader<R> {
         ensures memory { IfErr result (λ f. f.kind ≢ GridKind.Memory) }
         ensures kinds { self.failed ≡ false → IfErr result (λ f. IsOfText f.kind) }
     {
+        let mut reader = self;
+        reader.end()
+    }
+
+    // Reads to the end of the text behind the last row. It has failed from then on.
+    fn end(&mut self) -> Result<(), GridFault>
+        requires done { self.old.failed ≡ false → self.old.rows_left ≡ 0 }
+        ensures failed { self.old.failed ≡ true → result ≡ Err has_failed }
+        ensures told { self.old.failed ≡ false → IfSome self.old.coming (λ c. fault_of result ≡ end_fault (place_in self.old c)) }
+        ensures memory { IfErr result (λ f. f.kind ≢ GridKind.Memory) }
+        ensures kinds { self.old.failed ≡ false → IfErr result (λ f. IsOfText f.kind) }
+        ensures heard { self.old.failed ≡ false → self.new.heard ≡ hears (tells_read result) self.old.heard }
+    {
         if self.failed {
             return Err(HAS_FAILED);
         }
-        let mut cells = self.cells;
-        cells.finish()
+        self.failed = true;
+        self.cells.finish()
     }
 }
 
 // Reads the rows that are left into a map.
 fn read_rows<R: Source>(alloc: Global, reader: &mut GridReader<R>) -> Result<CellMap, GridFault>
     requires whole { (reader.old.rows_left ≡ reader.old.header.region.rows) × (reader.old.failed ≡ false) }
+    requires heard { reader.old.heard.failed ≡ false }
     ensures region { IfOk result (λ m. (m.region ≡ reader.old.header.region) × (m.labels ≡ no_labels)) }
     ensures rows { IfOk result (λ m. option_map (λ c. rows_from reader.old.header (place_in reader.old c)) reader.old.coming
         ≡ option_map (λ d. Ok (m.rows, place_in reader.new d)) reader.new.coming) }
@@ -345,6 +374,7 @@ fn read_rows<R: Source>(alloc: Global, reader: &mut GridReader<R>) -> Result<Cel
         (λ c. rows_from reader.old.header (place_in reader.old c) ≡ Err f)) }
     ensures memory { IfErr result (λ f. f.kind ≡ GridKind.Memory → f.line ≡ 0) }
     ensures kinds { IfErr result (λ f. f.kind ≢ GridKind.Failed) }
+    ensures heard { reader.new.heard ≡ hears (tells_read result) reader.old.heard }
 {
     let region = reader.region();
     let Ok(mut buffer) = vec![in alloc; Cell::null(); region.cols() as usize] else {
@@ -361,6 +391,27 @@ fn read_rows<R: Source>(alloc: Global, reader: &mut GridReader<R>) -> Result<Cel
     Ok(builder.finish())
 }
 
+// Reads the rows of a text whose header was read, and its end.
+fn read_whole<R: Source>(alloc: Global, reader: &mut GridReader<R>) -> Result<CellMap, GridFault>
+    requires whole { (reader.old.rows_left ≡ reader.old.header.region.rows) × (reader.old.failed ≡ false) }
+    requires heard { reader.old.heard.failed ≡ false }
+    ensures map { IfOk result (λ m. (text : Option Coming) → IsOpened text reader.old → IfSome text (λ c. grid_of c ≡ Ok m)) }
+    ensures fault { IfErr result (λ f. f.kind ≢ GridKind.Memory → (text : Option Coming) → IsOpened text reader.old → IfSome text (λ c. grid_of c ≡ Err f)) }
+    ensures memory { IfErr result (λ f. f.kind ≡ GridKind.Memory → f.line ≡ 0) }
+    ensures kinds { IfErr result (λ f. f.kind ≢ GridKind.Failed) }
+    // The source is asked only while it goes on, and an `Err` of it is told as Read.
+    ensures heard { reader.new.heard ≡ hears (tells_read result) reader.old.heard }
+{
+    let map = match read_rows(alloc, reader) {
+        Ok(map) => map,
+        Err(fault) => return Err(fault),
+    };
+    match reader.end() {
+        Ok(()) => Ok(map),
+        Err(fault) => Err(fault),
+    }
+}
+
 /// Reads a whole grid: the map that the text of a source denotes (r.in.ascii manual).
 ///
 /// # Errors
@@ -375,7 +426,8 @@ pub fn read_map<R: Source + Drop>(alloc: Global, source: R) -> Result<CellMap, G
     ensures reading_fault { IfErr result (λ f. f.kind ≢ GridKind.Memory → IfSome (R.coming source) (λ c. grid_of c ≡ Err f)) }
 {
     let mut reader = GridReader::open(alloc, source)?;
-    let map = read_rows(alloc, &mut reader)?;
-    reader.finish()?;
-    Ok(map)
+    match read_whole(alloc, &mut reader) {
+        Ok(map) => Ok(map),
+        Err(fault) => Err(fault),
+    }
 }

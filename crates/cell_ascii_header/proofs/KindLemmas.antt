@@ -1,36 +1,44 @@
 -- Which faults are of the text.
-use Rattle.std.proofs.Common.{◌≡◌, ℕ, List, Option, Some, None, Ok, Err, Bool, true, false, if◌then◌else◌, subst}
+use Rattle.std.proofs.Common.{◌≡◌, ℕ, List, Option, Some, None, Ok, Err, Bool, true, false, if◌then◌else◌, refl, subst}
 use Rattle.cell_ascii_text.specs.Numbers.{coordinate, side, whole_in_range}
 use Rattle.cell_ascii_text.specs.Header.{Keys, given, is_int, has_colon, with_key}
-use Rattle.cell_ascii_text.specs.Kinds.{IsOfText}
+use Rattle.cell_ascii_text.specs.Kinds.{IsOfText, is_read}
 use Rattle.cell_ascii_text.specs.declared.key.Key.{Key}
 use Rattle.cell_ascii_text.specs.declared.key.Key.TheVariants.{North, South, East, West, Rows, Cols, Null, CellType, Multiplier}
 use Rattle.cell_ascii_text.specs.declared.fault.GridKind.{GridKind}
 use Rattle.cell_ascii_text.specs.declared.fault.GridKind.TheVariants.{BadHeader, TwiceKey, BadNumber, BadType}
 
-given_kind : {X : Type 0} (old value : Option X) (keep : X → Keys) (kind : GridKind) → given old value keep ≡ Err kind → IsOfText kind
-given_kind (Some old) value keep kind e = let p : TwiceKey ≡ kind = cc in subst IsOfText p tt
-given_kind None None keep kind e = let p : BadNumber ≡ kind = cc in subst IsOfText p tt
-given_kind None (Some x) keep kind e = cc
+-- what holds of the four faults of a key
+module _ (P : GridKind → Type 0) (header : P BadHeader) (twice : P TwiceKey) (number : P BadNumber) (other : P BadType) where
+  given_kind : {X : Type 0} (old value : Option X) (keep : X → Keys) (kind : GridKind) → given old value keep ≡ Err kind → P kind
+  given_kind (Some old) value keep kind e = let p : TwiceKey ≡ kind = cc in subst P p twice
+  given_kind None None keep kind e = let p : BadNumber ≡ kind = cc in subst P p number
+  given_kind None (Some x) keep kind e = cc
 
-null_kind : (colon : Bool) (keys : Keys) (value : List ℕ) (kind : GridKind) → (if colon then Err BadHeader else given keys.null (Some value) (λ x. record keys { null = Some x })) ≡ Err kind → IsOfText kind
-null_kind true keys value kind e = let p : BadHeader ≡ kind = cc in subst IsOfText p tt
-null_kind false keys value kind e = given_kind keys.null (Some value) (λ x. record keys { null = Some x }) kind e
+  null_kind : (colon : Bool) (keys : Keys) (value : List ℕ) (kind : GridKind) → (if colon then Err BadHeader else given keys.null (Some value) (λ x. record keys { null = Some x })) ≡ Err kind → P kind
+  null_kind true keys value kind e = let p : BadHeader ≡ kind = cc in subst P p header
+  null_kind false keys value kind e = given_kind keys.null (Some value) (λ x. record keys { null = Some x }) kind e
 
-type_kind : (old int : Bool) (keys : Keys) (kind : GridKind) → (if old then Err TwiceKey else (if int then Ok (record keys { kind = true }) else Err BadType)) ≡ Err kind → IsOfText kind
-type_kind true int keys kind e = let p : TwiceKey ≡ kind = cc in subst IsOfText p tt
-type_kind false true keys kind e = cc
-type_kind false false keys kind e = let p : BadType ≡ kind = cc in subst IsOfText p tt
+  type_kind : (old int : Bool) (keys : Keys) (kind : GridKind) → (if old then Err TwiceKey else (if int then Ok (record keys { kind = true }) else Err BadType)) ≡ Err kind → P kind
+  type_kind true int keys kind e = let p : TwiceKey ≡ kind = cc in subst P p twice
+  type_kind false true keys kind e = cc
+  type_kind false false keys kind e = let p : BadType ≡ kind = cc in subst P p other
 
--- a key that is not taken is a fault of the text
+  key_has : (keys : Keys) (key : Option Key) (value : List ℕ) (kind : GridKind) → with_key keys key value ≡ Err kind → P kind
+  key_has keys None value kind e = let p : BadHeader ≡ kind = cc in subst P p header
+  key_has keys (Some North) value kind e = given_kind keys.north (coordinate value) (λ x. record keys { north = Some x }) kind e
+  key_has keys (Some South) value kind e = given_kind keys.south (coordinate value) (λ x. record keys { south = Some x }) kind e
+  key_has keys (Some East) value kind e = given_kind keys.east (coordinate value) (λ x. record keys { east = Some x }) kind e
+  key_has keys (Some West) value kind e = given_kind keys.west (coordinate value) (λ x. record keys { west = Some x }) kind e
+  key_has keys (Some Rows) value kind e = given_kind keys.rows (side value) (λ x. record keys { rows = Some x }) kind e
+  key_has keys (Some Cols) value kind e = given_kind keys.cols (side value) (λ x. record keys { cols = Some x }) kind e
+  key_has keys (Some Null) value kind e = null_kind (has_colon value) keys value kind e
+  key_has keys (Some CellType) value kind e = type_kind keys.kind (is_int value) keys kind e
+  key_has keys (Some Multiplier) value kind e = given_kind keys.multiplier (whole_in_range value) (λ x. record keys { multiplier = Some x }) kind e
+
+-- a key that is not taken is a fault of the text, and not of its source
 pub key_kind : (keys : Keys) (key : Option Key) (value : List ℕ) (kind : GridKind) → with_key keys key value ≡ Err kind → IsOfText kind
-key_kind keys None value kind e = let p : BadHeader ≡ kind = cc in subst IsOfText p tt
-key_kind keys (Some North) value kind e = given_kind keys.north (coordinate value) (λ x. record keys { north = Some x }) kind e
-key_kind keys (Some South) value kind e = given_kind keys.south (coordinate value) (λ x. record keys { south = Some x }) kind e
-key_kind keys (Some East) value kind e = given_kind keys.east (coordinate value) (λ x. record keys { east = Some x }) kind e
-key_kind keys (Some West) value kind e = given_kind keys.west (coordinate value) (λ x. record keys { west = Some x }) kind e
-key_kind keys (Some Rows) value kind e = given_kind keys.rows (side value) (λ x. record keys { rows = Some x }) kind e
-key_kind keys (Some Cols) value kind e = given_kind keys.cols (side value) (λ x. record keys { cols = Some x }) kind e
-key_kind keys (Some Null) value kind e = null_kind (has_colon value) keys value kind e
-key_kind keys (Some CellType) value kind e = type_kind keys.kind (is_int value) keys kind e
-key_kind keys (Some Multiplier) value kind e = given_kind keys.multiplier (whole_in_range value) (λ x. record keys { multiplier = Some x }) kind e
+key_kind = key_has IsOfText tt tt tt tt
+
+pub key_told : (keys : Keys) (key : Option Key) (value : List ℕ) (kind : GridKind) → with_key keys key value ≡ Err kind → is_read kind ≡ false
+key_told = key_has (λ kind. is_read kind ≡ false) refl refl refl refl

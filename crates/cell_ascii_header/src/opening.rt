@@ -3,7 +3,8 @@
 ghost use Rattle.std.specs.Prelude.{◌≡◌, ◌+◌, ◌^◌, ◌<◌, ◌≤◌, ◌*◌, false, drop, length, Ok, OnOk, IfOk, IfErr};
 ghost use Rattle.std.specs.List.{position_or_len};
 ghost use Rattle.std.specs.Option.{option_map};
-ghost use Rattle.cell_ascii_text.specs.Kinds.{IsOfText};
+ghost use Rattle.cell_devices.specs.Asking.{hears};
+ghost use Rattle.cell_ascii_text.specs.Kinds.{IsOfText, tells_read};
 ghost use Rattle.cell_scanner.specs.Ahead.{to_come, IsAtEnd};
 ghost use Rattle.cell_ascii_text.specs.Words.{start_of};
 ghost use Rattle.cell_ascii_text.specs.Header.{gap_of, value_from, line_end, key_line, is_colon, header_from};
@@ -46,6 +47,7 @@ fn bad_header(line: u64) -> GridFault
 fn read_value<R: Source>(scanner: &mut Scanner<R>, start: usize) -> Result<usize, GridFault>
     requires room { scanner.old.line + 1048576 < 2 ^ 64 }
     requires run { scanner.old.run ≡ 0 }
+    requires heard { scanner.old.ahead.heard.failed ≡ false }
     ensures value { option_map (value_from scanner.old.line (drop start scanner.old.word)) (to_come scanner.old.ahead)
         ≡ option_map (value_seen result scanner.new.word) (to_come scanner.new.ahead) }
     ensures line { OnOk result (scanner.new.line ≡ scanner.old.line) }
@@ -53,6 +55,7 @@ fn read_value<R: Source>(scanner: &mut Scanner<R>, start: usize) -> Result<usize
     ensures within { IfOk result (λ at. at ≤ length scanner.new.word) }
     ensures lines { scanner.new.line ≤ scanner.old.line + 1 }
     ensures kind { IfErr result (λ f. IsOfText f.kind) }
+    ensures heard { scanner.new.ahead.heard ≡ hears (tells_read result) scanner.old.ahead.heard }
 {
     if start < scanner.word().len() {
         return Ok(start);
@@ -81,6 +84,7 @@ fn end_line<R: Source>(scanner: &mut Scanner<R>) -> Result<Ending, GridFault>
     ensures end { result ≡ Ok Ending.Text → IsAtEnd false (to_come scanner.new.ahead) }
     ensures lines { scanner.new.line ≤ scanner.old.line + 1 }
     ensures kind { IfErr result (λ f. IsOfText f.kind) }
+    ensures heard { scanner.new.ahead.heard ≡ hears (tells_read result) scanner.old.ahead.heard }
 {
     let line = scanner.line();
     match scanner.skip_blanks()? {
@@ -100,6 +104,7 @@ fn read_key<R: Source>(
     requires run { scanner.old.run ≡ 0 }
     requires colon { colon ≡ position_or_len is_colon scanner.old.word }
     requires within { colon < length scanner.old.word }
+    requires heard { scanner.old.ahead.heard.failed ≡ false }
     ensures key { option_map (key_line scanner.old.line keys.old scanner.old.word) (to_come scanner.old.ahead)
         ≡ option_map (key_line_seen result keys.new scanner.new.run) (to_come scanner.new.ahead) }
     ensures feed { result ≡ Ok Ending.Feed → scanner.new.line ≡ scanner.old.line + 1 }
@@ -108,6 +113,7 @@ fn read_key<R: Source>(
     ensures end { result ≡ Ok Ending.Text → IsAtEnd false (to_come scanner.new.ahead) }
     ensures lines { OnOk result (scanner.new.line ≤ scanner.old.line + 1) }
     ensures kind { IfErr result (λ f. IsOfText f.kind) }
+    ensures heard { scanner.new.ahead.heard ≡ hears (tells_read result) scanner.old.ahead.heard }
 {
     let line = scanner.line();
     let key = key::key_of(&scanner.word()[..colon]);
@@ -128,6 +134,7 @@ fn read_line<R: Source>(scanner: &mut Scanner<R>, keys: &mut Keys) -> Result<Lin
     ensures run { OnOk result (scanner.new.run ≤ 1048576) }
     ensures lines { OnOk result (scanner.new.line ≤ scanner.old.line + 1048577) }
     ensures kind { IfErr result (λ f. IsOfText f.kind) }
+    ensures heard { scanner.new.ahead.heard ≡ hears (tells_read result) scanner.old.ahead.heard }
 {
     match scanner.skip_spaces() {
         Ok(Next::Word) => {}
@@ -157,6 +164,7 @@ pub fn read_header<R: Source>(scanner: &mut Scanner<R>, keys: &mut Keys) -> Resu
         ≡ option_map (header_seen result keys.new scanner.new.word scanner.new.line) (to_come scanner.new.ahead) }
     ensures lines { OnOk result (scanner.new.line ≤ scanner.old.line + 10485770) }
     ensures kind { IfErr result (λ f. IsOfText f.kind) }
+    ensures heard { scanner.new.ahead.heard ≡ hears (tells_read result) scanner.old.ahead.heard }
 {
     for _ in 0..LINES {
         match read_line(scanner, keys) {

@@ -1,10 +1,14 @@
 //! Grids read call by call, in pieces of seven bytes.
 
+ghost use Rattle.std.specs.Prelude.{◌≡◌, ◌<◌, ◌≤◌, length, IfOk};
+
 use cell_ascii::fault::{GridFault, GridKind};
 use cell_ascii::reader::GridReader;
 use cell_core::cell::Cell;
-use cell_core::source::MemorySource;
+use cell_core::device::DeviceFault;
+use cell_core::source::{Asked, MemorySource, Source};
 use std::alloc::AllocGlobal;
+use std::cell;
 use std::process::Abort;
 use std::test::Fail;
 
@@ -73,5 +77,69 @@ fn reads_rows_to_the_end(rt: HostRuntime) -> Result<(), Fail> {
     };
     let kind = GridKind::TooMany;
     assert_eq!(rt; reader.finish(), Err(GridFault { kind, line: 8 }));
+    Ok(())
+}
+
+// A source of one byte a call that fails at a place, and else goes on for ever. It counts its calls.
+#[derive(Drop)]
+struct Counting<'a> {
+    text: &'a [u8],
+    fails_at: usize,
+    calls: &'a cell::Cell<usize>,
+    asked: Asked,
+}
+
+impl<'a> Counting<'a> {
+    // What a call gives.
+    fn give(&mut self, buf: &mut [u8]) -> Result<usize, DeviceFault>
+        requires { 0 < length buf.old }
+        ensures count { IfOk result (λ n. n ≤ length buf.new) }
+        ensures asked { self.new.asked ≡ self.old.asked }
+    {
+        let call = self.calls.get();
+        self.calls.set(call.saturating_add(1));
+        if call == self.fails_at {
+            return Err(DeviceFault);
+        }
+        buf[0] = self.text.get(call).copied().unwrap_or(b'1');
+        Ok(1)
+    }
+}
+
+impl<'a> Source for Counting<'a> {
+    ghost use Rattle.std.specs.Prelude.{None};
+
+    ghost coming = { λ _. None };
+
+    ghost asked = { λ s. s.asked };
+
+    fn take(&mut self, buf: &mut [u8]) -> Result<usize, DeviceFault> {
+        let answer = self.give(buf);
+        self.asked = self.asked.after(answer);
+        answer
+    }
+}
+
+#[test]
+fn a_source_is_not_asked_after_it_failed(rt: HostRuntime) -> Result<(), Fail> {
+    let text =
+        b"north: 3\nsouth: 0\neast: 4\nwest: 0\nrows: 3\ncols: 4\n1 1 2 *\n1 2 2 2\n3 3 1 1\n";
+    let calls = cell::Cell::new(0);
+    let source = Counting {
+        text,
+        fails_at: 60,
+        calls: &calls,
+        asked: Asked::Going,
+    };
+    let mut reader = GridReader::open(rt.alloc(), source).map_err(|_| "no header")?;
+    let mut cells = vec![in rt.alloc(); Cell::null(); reader.region().cols() as usize]?;
+    let row = cells.as_mut_slice();
+    assert_eq!(rt; reader.next_row(row), Ok(true));
+    let kind = GridKind::Read;
+    assert_eq!(rt; reader.next_row(row), Err(GridFault { kind, line: 8 }));
+    assert_eq!(rt; calls.get(), 61);
+    assert_eq!(rt; reader.next_row(row), Err(FAILED));
+    assert_eq!(rt; reader.finish(), Err(FAILED));
+    assert_eq!(rt; calls.get(), 61);
     Ok(())
 }

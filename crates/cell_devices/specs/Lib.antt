@@ -1,4 +1,5 @@
 -- Sources and sinks, output in blocks.
+pub mod Asking
 pub mod Blocks
 pub mod Device
 pub mod Sticky

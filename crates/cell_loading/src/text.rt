@@ -3,9 +3,10 @@
 ghost use Rattle.std.specs.Prelude.{ℕ, ◌≡◌, IfOk, IfErr, IfSome, Ok, Err};
 ghost use Rattle.cell_loading.specs.Faults.{IsOfInput, IsBeforeExecution, IsTold};
 ghost use Rattle.cell_loading.specs.ScriptText.{script_text};
+ghost use Rattle.cell_loading.specs.parts.Asked.{asked_by};
 
 use crate::fault::RunFault;
-use cell_core::source::Source;
+use cell_core::source::{Asked, Source};
 use std::alloc::Global;
 
 /// The most bytes of a script.
@@ -22,6 +23,18 @@ pub fn read_script<R: Source + Drop>(alloc: Global, mut source: R) -> Result<Vec
     ensures fault { IfErr result (λ f. IsOfInput f → IfSome (R.coming source) (λ c. script_text c ≡ Err f)) }
     ensures early { IfErr result IsBeforeExecution }
     ensures told { (grids : ℕ) → IfErr result (IsTold grids) }
+{
+    read_text(alloc, &mut source)
+}
+
+// Reads a source to its end, up to one byte more than the limit of a script.
+fn read_text<R: Source>(alloc: Global, source: &mut R) -> Result<Vec<u8>, RunFault>
+    ensures ok { IfOk result (λ text. IfSome (R.coming source.old) (λ c. script_text c ≡ Ok text.items)) }
+    ensures fault { IfErr result (λ f. IsOfInput f → IfSome (R.coming source.old) (λ c. script_text c ≡ Err f)) }
+    ensures early { IfErr result IsBeforeExecution }
+    ensures told { (grids : ℕ) → IfErr result (IsTold grids) }
+    // Its end and an `Err` are told as such, and it is not asked after them.
+    ensures asked { R.asked source.old ≡ Asked.Going → R.asked source.new ≡ asked_by result }
 {
     let mut text = Vec::new(alloc);
     let mut block = [0u8; 4096];

@@ -1,4 +1,3 @@
 pub mod StartLemmas
 pub mod GapLemmas
-pub mod InputLemmas
 pub mod StepLemmas

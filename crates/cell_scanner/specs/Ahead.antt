@@ -1,13 +1,16 @@
 -- What a buffered source still gives: the bytes held, and then those of the source.
 use Rattle.std.specs.Prelude.{ℕ, ◌≡◌, Bool, List, [], ◌++◌, Option, IfSome}
 use Rattle.std.specs.Option.{option_map}
+use Rattle.cell_devices.specs.Asking.{Heard}
 use Rattle.cell_devices.specs.Device.{Coming}
 
--- the bytes that a buffer holds, what its source still gives, where that is known, and whether it has told its end
+-- the bytes that a buffer holds, what its source still gives, where that is known, whether it has told its end, and what
+-- was heard of it
 pub record Ahead : Type 0 where
   pub held : List ℕ
   pub rest : Option Coming
   pub ended : Bool
+  pub heard : Heard
 
 -- the bytes come first
 abbrev pub before_coming : List ℕ → Coming → Coming

@@ -2,7 +2,8 @@
 
 ghost use Rattle.std.specs.Prelude.{true, false, ◌≡◌, ◌+◌, ◌-◌, ◌^◌, ◌<◌, ◌≤◌, [], length, drop, Ok, Some, IfOk, IfErr, OnErr, IfSome, IfNone, slice_get};
 ghost use Rattle.std.specs.Option.{option_map};
-ghost use Rattle.cell_ascii_text.specs.Kinds.{IsOfText};
+ghost use Rattle.cell_devices.specs.Asking.{hears, heard_first};
+ghost use Rattle.cell_ascii_text.specs.Kinds.{IsOfText, tells_read};
 ghost use Rattle.cell_scanner.specs.Ahead.{to_come, IsAtEnd};
 ghost use Rattle.cell_ascii_text.specs.Words.{fault, is_space, start_of, word_from};
 ghost use Rattle.cell_ascii_text.specs.Header.{gap_of};
@@ -81,6 +82,7 @@ impl<R: Source> Scanner<R> {
         ensures end { IfOk result (λ o. IfNone o (IsAtEnd false (to_come self.old.ahead))) }
         ensures failed { OnErr result (IsAtEnd true (to_come self.old.ahead)) }
         ensures fault { IfErr result (λ f. f ≡ fault GridKind.Read self.old.line) }
+        ensures heard { self.new.ahead.heard ≡ hears (tells_read result) self.old.ahead.heard }
     {
         match self.input.peek() {
             Ok(next) => Ok(next),
@@ -108,6 +110,7 @@ impl<R: Source> Scanner<R> {
         ensures feed { result ≡ Ok Step.Feed → self.new.run ≡ self.old.run + 1 }
         ensures end { result ≡ Ok Step.End → IsAtEnd false (to_come self.new.ahead) }
         ensures kind { IfErr result (λ f. IsOfText f.kind) }
+        ensures heard { self.new.ahead.heard ≡ hears (tells_read result) self.old.ahead.heard }
     {
         let Some(b) = self.peek()? else {
             return Ok(Step::End);
@@ -142,6 +145,7 @@ impl<R: Source> Scanner<R> {
         ensures word { self.new.word ≡ self.old.word }
         ensures end { result ≡ Ok Next.End → IsAtEnd false (to_come self.new.ahead) }
         ensures kind { IfErr result (λ f. IsOfText f.kind) }
+        ensures heard { self.new.ahead.heard ≡ hears (tells_read result) self.old.ahead.heard }
     {
         'spaces: loop {
             match self.step() {
@@ -165,6 +169,7 @@ impl<R: Source> Scanner<R> {
         ensures word { self.new.word ≡ self.old.word }
         ensures end { result ≡ Ok InLine.End → IsAtEnd false (to_come self.new.ahead) }
         ensures kind { IfErr result (λ f. IsOfText f.kind) }
+        ensures heard { self.new.ahead.heard ≡ hears (tells_read result) self.old.ahead.heard }
     {
         'blanks: loop {
             match self.step() {
@@ -187,6 +192,7 @@ impl<R: Source> Scanner<R> {
         ensures short { length self.new.word ≤ 64 }
         ensures further { result ≡ Ok true → length self.new.word ≡ length self.old.word + 1 }
         ensures kind { IfErr result (λ f. IsOfText f.kind) }
+        ensures heard { self.new.ahead.heard ≡ hears (tells_read result) self.old.ahead.heard }
     {
         let Some(b) = self.peek()? else {
             return Ok(false);
@@ -213,6 +219,7 @@ impl<R: Source> Scanner<R> {
         ensures line { self.new.line ≡ self.old.line }
         ensures run { self.new.run ≡ 0 }
         ensures kind { IfErr result (λ f. IsOfText f.kind) }
+        ensures heard { self.new.ahead.heard ≡ hears (tells_read result) self.old.ahead.heard }
     {
         self.len = 0;
         self.run = 0;
@@ -272,7 +279,7 @@ impl<R: Source> Scanner<R> {
     pub fn new(alloc: Global, source: R) -> Result<Scanner<R>, Memory>
     where
         R: Drop,
-        ensures { IfOk result (λ s. s ≡ record { line = 1; run = 0; word = []; ahead = record { held = []; rest = R.coming source; ended = false } }) }
+        ensures { IfOk result (λ s. s ≡ record { line = 1; run = 0; word = []; ahead = record { held = []; rest = R.coming source; ended = false; heard = heard_first (R.asked source) } }) }
     {
         let input = Input::new(alloc, source)?;
         Ok(Scanner {

@@ -1,10 +1,12 @@
 //! Runs whose sources fail, are cut off or never end, and how often a sink is flushed.
 
+ghost use Rattle.std.specs.Prelude.{◌≡◌, ◌≤◌, length, IfOk};
+
 use cell_ascii::fault::{GridFault, GridKind};
 use cell_core::device::DeviceFault;
 use cell_core::name::Name;
 use cell_core::sink::{MemorySink, Sink};
-use cell_core::source::Source;
+use cell_core::source::{Asked, Source};
 use rcell::{Outcome, RunFault, run};
 use std::alloc::{AllocGlobal, Global};
 use std::process::Abort;
@@ -26,9 +28,13 @@ const MOST_BYTES: usize = 1048576;
 
 // What comes after the bytes of a source.
 #[derive(Clone, Copy)]
-enum Then {
+enum Then<'a> {
     Ends,
     Fails,
+    // Its end is told, and then these bytes come, and its end again.
+    EndsOnce(&'a [u8]),
+    // One call fails, and then these bytes come, and its end.
+    FailsOnce(&'a [u8]),
     // Two bytes by turns, without end.
     Turns([u8; 2]),
 }
@@ -37,26 +43,26 @@ enum Then {
 #[derive(Drop)]
 struct Unknown<'a> {
     bytes: &'a [u8],
-    then: Then,
+    then: Then<'a>,
     is_second: bool,
+    asked: Asked,
 }
 
 impl<'a> Unknown<'a> {
-    fn new(bytes: &'a [u8], then: Then) -> Unknown<'a> {
+    fn new(bytes: &'a [u8], then: Then<'a>) -> Unknown<'a> {
         Unknown {
             bytes,
             then,
             is_second: false,
+            asked: Asked::Going,
         }
     }
-}
 
-impl<'a> Source for Unknown<'a> {
-    ghost use Rattle.std.specs.Prelude.{None};
-
-    ghost coming = { λ _. None };
-
-    fn take(&mut self, buf: &mut [u8]) -> Result<usize, DeviceFault> {
+    // What a call gives.
+    fn give(&mut self, buf: &mut [u8]) -> Result<usize, DeviceFault>
+        ensures count { IfOk result (λ n. n ≤ length buf.new) }
+        ensures asked { self.new.asked ≡ self.old.asked }
+    {
         if !self.bytes.is_empty() {
             let count = self.bytes.len().min(buf.len());
             let (first, rest) = self.bytes.split_at(count);
@@ -67,6 +73,16 @@ impl<'a> Source for Unknown<'a> {
         match self.then {
             Then::Ends => Ok(0),
             Then::Fails => Err(DeviceFault),
+            Then::EndsOnce(rest) => {
+                self.bytes = rest;
+                self.then = Then::Ends;
+                Ok(0)
+            }
+            Then::FailsOnce(rest) => {
+                self.bytes = rest;
+                self.then = Then::Ends;
+                Err(DeviceFault)
+            }
             Then::Turns(turns) => {
                 for byte in buf.iter_mut() {
                     *byte = if self.is_second { turns[1] } else { turns[0] };
@@ -75,6 +91,20 @@ impl<'a> Source for Unknown<'a> {
                 Ok(buf.len())
             }
         }
+    }
+}
+
+impl<'a> Source for Unknown<'a> {
+    ghost use Rattle.std.specs.Prelude.{None};
+
+    ghost coming = { λ _. None };
+
+    ghost asked = { λ s. s.asked };
+
+    fn take(&mut self, buf: &mut [u8]) -> Result<usize, DeviceFault> {
+        let answer = self.give(buf);
+        self.asked = self.asked.after(answer);
+        answer
     }
 }
 
@@ -160,6 +190,68 @@ fn each_read_fails_in_turn(rt: HostRuntime) -> Result<(), Fail> {
         let grid = Unknown::new(GRID, Then::Ends);
         let script = Unknown::new(&SCRIPT[..count], Then::Fails);
         expect_refused(&rt, script, grid, 4, RunFault::ScriptRead)?;
+    }
+    Ok(())
+}
+
+// A source that fails once would go on if it were asked again.
+#[test]
+fn each_read_fails_once(rt: HostRuntime) -> Result<(), Fail> {
+    let mut line = 1u64;
+    for count in 0..GRID.len() + 1 {
+        let grid = Unknown::new(&GRID[..count], Then::FailsOnce(&GRID[count..]));
+        let script = Unknown::new(SCRIPT, Then::Ends);
+        let kind = GridKind::Read;
+        let fault = RunFault::Grid {
+            grid: 0,
+            fault: GridFault { kind, line },
+        };
+        expect_refused(&rt, script, grid, 4, fault)?;
+        if count < GRID.len() && GRID[count] == b'\n' {
+            line = line.saturating_add(1);
+        }
+    }
+    for count in 0..SCRIPT.len() + 1 {
+        let grid = Unknown::new(GRID, Then::Ends);
+        let script = Unknown::new(&SCRIPT[..count], Then::FailsOnce(&SCRIPT[count..]));
+        expect_refused(&rt, script, grid, 4, RunFault::ScriptRead)?;
+    }
+    Ok(())
+}
+
+// The run goes as one over a grid and a script that end where these end for the first time.
+fn expect_same<'a, R: Abort + AllocGlobal>(
+    rt: &R,
+    script: [Unknown<'a>; 2],
+    grid: [Unknown<'a>; 2],
+) -> Result<Outcome, Fail> {
+    let [script, script_once] = script;
+    let [grid, grid_once] = grid;
+    let mut out = MemorySink::new(vec![in rt.alloc(); 0u8; 200]?, 3, false);
+    let mut once = MemorySink::new(vec![in rt.alloc(); 0u8; 200]?, 3, false);
+    let outcome = run_sources(rt.alloc(), script, grid, &mut out)?;
+    let outcome_once = run_sources(rt.alloc(), script_once, grid_once, &mut once)?;
+    assert_eq!(rt; outcome_once, outcome);
+    assert_eq!(rt; once.bytes(), out.bytes());
+    Ok(outcome)
+}
+
+#[test]
+fn nothing_is_read_behind_an_end(rt: HostRuntime) -> Result<(), Fail> {
+    let whole = || Unknown::new(GRID, Then::Ends);
+    let asked = || Unknown::new(SCRIPT, Then::Ends);
+    for count in 0..GRID.len() {
+        let ends = Unknown::new(&GRID[..count], Then::Ends);
+        let once = Unknown::new(&GRID[..count], Then::EndsOnce(&GRID[count..]));
+        expect_same(&rt, [asked(), asked()], [ends, once])?;
+    }
+    let once = Unknown::new(GRID, Then::EndsOnce(b" 7"));
+    let outcome = expect_same(&rt, [asked(), asked()], [whole(), once])?;
+    assert_eq!(rt; outcome.fault, None);
+    for count in 0..SCRIPT.len() + 1 {
+        let ends = Unknown::new(&SCRIPT[..count], Then::Ends);
+        let once = Unknown::new(&SCRIPT[..count], Then::EndsOnce(&SCRIPT[count..]));
+        expect_same(&rt, [ends, once], [whole(), whole()])?;
     }
     Ok(())
 }

@@ -1,7 +1,8 @@
 use Rattle.std.proofs.lemmas.Result.{err_from_is_err_and}
-use Rattle.std.proofs.Common.{◌≡◌, ◌+◌, ◌-◌, ◌<◌, ◌≤◌, ◌∙◌, sym, arith, length, take, drop, set, ◌++◌, ◌∷◌, [], length-drop, length-set, length-take, take_all}
+use Rattle.std.proofs.Common.{◌≡◌, ◌+◌, ◌-◌, ◌<◌, ◌≤◌, ◌∙◌, false, ap, sym, arith, length, take, drop, set, ◌++◌, ◌∷◌, [], length-drop, length-set, length-take, take_all}
 use Rattle.std.proofs.lemmas.List.{take_more_set, drop-set-lt}
 use Rattle.std.proofs.lemmas.Grind.{drop_more_same}
+use Rattle.cell_devices.specs.Asking.{hears}
 use Rattle.cell_scanner.specs.Ahead.{to_come}
 use Rattle.cell_ascii_text.specs.Cells.{cell_from}
 use Rattle.cell_ascii.specs.Reader.{at_place}
@@ -97,4 +98,5 @@ cells-preserved g c =
       rest = drop-set-lt (i + k + 1) now (i + k) cell here ∙ drop_more_same now c.args.row.now (i + k) rest;
       header = c.next_cell.ensures.header ∙ header;
       lines = omega (arith, c.cells.invariant.lines, c.held_cells-i.ensures.line, c.next_cell.ensures.lines);
+      heard = c.in_ok-cell.ensures.heard ∙ ap (hears false) (c.held_cells-i.ensures.heard ∙ c.cells.invariant.heard);
     }

@@ -1,5 +1,6 @@
-use Rattle.std.proofs.Common.{◌≡◌, ◌+◌, ◌-◌, ◌*◌, ◌≤◌, Ok, length, take, drop}
+use Rattle.std.proofs.Common.{◌≡◌, ◌+◌, ◌-◌, ◌*◌, ◌≤◌, false, Ok, length, take, drop}
 use Rattle.std.specs.Option.{option_map}
+use Rattle.cell_devices.specs.Asking.{hears}
 use Rattle.cell_scanner.specs.Ahead.{to_come}
 use Rattle.cell_ascii_text.specs.Cells.{cell_from, many}
 use Rattle.cell_ascii.specs.Reader.{at_place}
@@ -14,6 +15,7 @@ invariant-cells g l =
       rest : drop l.i l.row ≡ drop l.i l.fn.row;
       header : l.cells.header ≡ s.header;
       lines : l.cells.line ≤ s.line + l.i * 1048577;
+      heard : l.cells.ahead.heard ≡ hears false s.ahead.heard;
     }
 
 abbrev pub decreases-cells : goal.decreases-cells

@@ -1,6 +1,7 @@
 use Rattle.std.proofs.lemmas.Result.{err_from_is_err_and}
-use Rattle.std.proofs.Common.{◌≡◌, ◌≢◌, ◌<◌, ◌+◌, ◌∙◌, zero, suc, ℕ, arith, true, Ok, Err, Result, List, refl, ap, sym, subst, length, length-append, ◌++◌, ◌∷◌, []}
+use Rattle.std.proofs.Common.{◌≡◌, ◌≢◌, ◌<◌, ◌+◌, ◌∙◌, zero, suc, ℕ, arith, Bool, true, false, Ok, Err, Result, List, refl, ap, sym, subst, length, length-append, ◌++◌, ◌∷◌, []}
 use Rattle.std.specs.Option.{option_map}
+use Rattle.cell_devices.specs.Asking.{hears}
 use Rattle.cell_devices.specs.Device.{Coming}
 use Rattle.cell_core.specs.Grid.{CellValue}
 use Rattle.cell_ascii_text.specs.Cells.{cell_from, many}
@@ -79,6 +80,7 @@ rows-init g c =
       count = no_rows rows s.rows_left h.region.rows none c.requires.whole.0;
       width = c.as_mut_slice-row.ensures.len ∙ c.in-Ok.ensures.len ∙ c.cols.ensures.value ∙ ap (λ r. r.cols) c.region-region.ensures;
       live = c.requires.whole.1;
+      heard = ap (λ (failed : Bool). record { sure = s.heard.sure; failed = failed }) c.requires.heard;
     }
 
 pub next_row-requires : goal.next_row-requires
@@ -160,6 +162,7 @@ rows-preserved g c =
       count = rw (grown, more) (one_more (length front) u.rows_left left is.count);
       width = c.next_row.ensures.width ∙ is.width;
       live = rw is.live at c.in_ok-next_row.ensures.fails;
+      heard = c.in_ok-next_row.ensures.heard is.live ∙ ap (hears false) is.heard;
     }
 
 pub returns-in-Err-clause-wide : goal.returns-in-Err-clause-wide

@@ -1,5 +1,6 @@
 use Rattle.std.proofs.Common.{◌≡◌, ◌+◌, ◌-◌, false, length}
 use Rattle.std.specs.Option.{option_map}
+use Rattle.cell_devices.specs.Asking.{hears}
 use Rattle.cell_ascii_text.specs.Cells.{cell_from, many}
 use Rattle.cell_ascii.specs.Reader.{rows_from}
 use Rattle.cell_ascii.specs.GridReaders.{place_in}
@@ -18,6 +19,7 @@ invariant-rows g l =
       count : length l.builder.rows + l.reader.rows_left ≡ h.region.rows;
       width : length l.row ≡ h.region.cols;
       live : l.reader.failed ≡ false;
+      heard : l.reader.heard ≡ hears false s.heard;
     }
 
 abbrev pub decreases-rows : goal.decreases-rows

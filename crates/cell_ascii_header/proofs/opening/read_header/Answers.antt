@@ -1,4 +1,5 @@
-use Rattle.std.proofs.Common.{◌≡◌, ◌-◌, ◌∙◌, arith, rules, Some, None, Err}
+use Rattle.std.proofs.Common.{◌≡◌, ◌-◌, ◌∙◌, arith, rules, ap, Some, None, Err}
+use Rattle.cell_devices.specs.Asking.{Heard}
 use Rattle.cell_devices.specs.Device.{Coming}
 use Rattle.cell_scanner.specs.Ahead.{to_come}
 use Rattle.cell_ascii_text.specs.Header.{header_from}
@@ -18,6 +19,8 @@ loop-preserved g c =
           c.loop.invariant.header c.read_line.new.keys u.line u.run (rw c.in-Ok-Key.field-0-is at c.in-Ok-Key.ensures.line);
       lines = omega (arith, c.in-Ok-Key.ensures.lines);
       run = search rules;
+      sure = ap (λ (h : Heard). h.sure) c.in-Ok-Key.ensures.heard ∙ c.loop.invariant.sure;
+      failed = λ _. ap (λ (h : Heard). h.failed) c.in-Ok-Key.ensures.heard;
     }
 
 pub returns-in-Ok-Data-clause-header : goal.returns-in-Ok-Data-clause-header

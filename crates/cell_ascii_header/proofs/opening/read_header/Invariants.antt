@@ -1,4 +1,4 @@
-use Rattle.std.proofs.Common.{◌≡◌, ◌+◌, ◌-◌, ◌*◌, ◌≤◌}
+use Rattle.std.proofs.Common.{◌≡◌, ◌+◌, ◌-◌, ◌*◌, ◌<◌, ◌≤◌, false}
 use Rattle.std.specs.Option.{option_map}
 use Rattle.cell_scanner.specs.Ahead.{to_come}
 use Rattle.cell_ascii_text.specs.Header.{header_from}
@@ -12,4 +12,6 @@ invariant-loop g l =
           ≡ option_map (header_from (10 - l.counter) l.keys l.scanner.line l.scanner.run) (to_come l.scanner.ahead);
       lines : l.scanner.line ≤ s.line + l.counter * 1048577;
       run : l.scanner.run ≤ 1048576;
+      sure : l.scanner.ahead.heard.sure ≡ s.ahead.heard.sure;
+      failed : 0 < l.counter → l.scanner.ahead.heard.failed ≡ false;
     }

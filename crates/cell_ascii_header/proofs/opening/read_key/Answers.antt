@@ -1,8 +1,9 @@
-use Rattle.std.proofs.Common.{◌∙◌, ◌-◌, Ok, Err, refl, sym, length, take, drop}
+use Rattle.std.proofs.Common.{◌∙◌, ◌-◌, Ok, Err, false, refl, sym, ap, length, take, drop}
 use Rattle.std.proofs.lemmas.Result.{IfOk-from_err, err_from_is_err_and}
+use Rattle.cell_devices.specs.Asking.{hears}
 use Rattle.cell_scanner.specs.Ahead.{to_come}
 use Rattle.cell_ascii_header.proofs.OpeningLemmas.{err_no_ok, key_done, key_given, key_refused, key_unended, key_unread}
-use Rattle.cell_ascii_header.proofs.KindLemmas.{key_kind}
+use Rattle.cell_ascii_header.proofs.KindLemmas.{key_kind, key_told}
 use Rattle.cell_ascii_header.proofs.opening.read_key.Goals as goal
 
 pub returns-in-Ok-clause-key : goal.returns-in-Ok-clause-key
@@ -132,3 +133,8 @@ returns-in-Err-clause-end g c = λ e. err_no_ok _ (Err _) _ refl e
 
 pub returns-in-Err-clause-lines : goal.returns-in-Err-clause-lines
 returns-in-Err-clause-lines g c = tt
+
+pub returns-in-Err-clause-heard : goal.returns-in-Err-clause-heard
+returns-in-Err-clause-heard g c =
+    let told = key_told c.args.keys.now c.key_of-key.result (take (length c.word-2.result.now - c.in_ok-start.start) (drop c.in_ok-start.start c.word-2.result.now)) c.in-Err.kind c.in-Err.ensures.err in
+    rw told (c.in_ok-ending.ensures.heard ∙ ap (hears false) c.in_ok-start.ensures.heard)

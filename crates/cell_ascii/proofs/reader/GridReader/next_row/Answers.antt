@@ -1,5 +1,6 @@
 use Rattle.std.proofs.Common.{◌≡◌, ◌-◌, ◌+◌, ◌<◌, ◌∙◌, ℕ, zero, suc, Bool, true, false, Some, None, Result, Ok, Err, refl, length, ap, sym, subst, arith}
 use Rattle.std.specs.Option.{IfSome}
+use Rattle.cell_devices.specs.Asking.{Heard}
 use Rattle.cell_devices.specs.Device.{Coming}
 use Rattle.cell_scanner.specs.Ahead.{to_come}
 use Rattle.cell_ascii.specs.Reader.{at_place}
@@ -41,6 +42,7 @@ invariant_of-self g c =
       lines = λ live. rw c.read_row.ensures.header (rows_fit p.line u.line i.rows_left (i.rows_left - 1) cols one (rw width at c.read_row.ensures.lines) (c.self.invariant.lines live));
       placed = λ live. row_placed p.header (at_place p) (λ (x : Coming). i.rows_left ≡ 0 → p.pending ≡ None) (to_come p.ahead) (c.self.invariant.placed live)
           (length c.args.row.now) (i.rows_left - 1) (at_place u) (to_come u.ahead) c.read_row.new.row some c.in-Ok.ensures.row;
+      heard = λ _. ap (λ (h : Heard). h.failed) c.in-Ok.ensures.heard;
     }
 
 pub returns-in-Ok-clause-told : goal.returns-in-Ok-clause-told

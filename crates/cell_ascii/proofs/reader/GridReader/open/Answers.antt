@@ -1,5 +1,6 @@
 use Rattle.std.proofs.lemmas.Result.{err_from_is_err_and}
-use Rattle.std.proofs.Common.{◌≡◌, Some, Err}
+use Rattle.std.proofs.Common.{◌≡◌, ap, Some, Err}
+use Rattle.cell_devices.specs.Asking.{Heard}
 use Rattle.cell_scanner.specs.Ahead.{to_come}
 use Rattle.cell_ascii_text.specs.Header.{header_of_text}
 use Rattle.cell_ascii_text.specs.Places.{opening_fault}
@@ -24,4 +25,5 @@ invariant_of-result g c =
       wide = is.cols_least;
       lines = λ _. lines_fit p.line p.header.region.rows p.header.region.cols c.in_ok-cells.ensures.line is.rows_most is.cols_most;
       placed = λ _. opening_placed p.header (at_place p) p.header.region.rows (g.R.Source.coming c.args.source) (to_come p.ahead) is.rows_least c.in_ok-cells.ensures.opened;
+      heard = λ _. ap (λ (h : Heard). h.failed) c.in_ok-cells.ensures.heard;
     })

@@ -1,9 +1,10 @@
-use Rattle.std.proofs.Common.{◌≡◌, ◌∙◌, ◌+◌, ◌-◌, ◌<◌, ◌≤◌, ◌++◌, ℕ, min, Bool, false, List, [], Option, Some, length, take, drop, refl, sym, ap, subst, arith, length-drop}
+use Rattle.std.proofs.Common.{◌≡◌, ◌∙◌, ◌+◌, ◌-◌, ◌<◌, ◌≤◌, ◌++◌, ℕ, min, Bool, false, List, [], Option, Some, length, take, drop, refl, sym, ap, ap₂, subst, arith, length-drop}
 use Rattle.std.proofs.Math.Bool.{true≢false}
 use Rattle.std.proofs.Math.Seq.{take-append_seam}
 use Rattle.std.proofs.lemmas.Bool.{eqb-true, eq-eqb}
 use Rattle.std.proofs.lemmas.List.{drop-drop, length-take-le, nil_from_length}
 use Rattle.std.specs.Bool.{◌==◌}
+use Rattle.cell_devices.specs.declared.source.Asked.{Asked}
 use Rattle.cell_devices.specs.Device.{Coming, Gives, after_bytes}
 use Rattle.cell_devices.proofs.DeviceLemmas.{whole_rest}
 use Rattle.cell_devices.proofs.source.MemorySourceSource.take.Goals as goal
@@ -86,7 +87,10 @@ overflow_add-self c =
     record { fits = below (within i.bytes.items i.at c.self.invariant.0 few) len c.deref.type_inv.0 }
 
 pub invariant_of-self : goal.invariant_of-self
-invariant_of-self c =
+invariant_of-self c = c.self.invariant
+
+pub invariant_of-self-2 : goal.invariant_of-self-2
+invariant_of-self-2 c =
     let i = c.self.inside in
     let part = rest_is i.bytes.items i.at c.deref.ensures.value in
     let h = moves _ _ _ c.min.ensures c.min-n.ensures in
@@ -134,6 +138,7 @@ pub returns-clause-rest : goal.returns-clause-rest
 returns-clause-rest c =
     let i = c.self.inside in
     rw (← c.self.view_is)
-    (ap
-    (λ (xs : List ℕ). record { bytes = xs; fails = i.fails; piece = i.piece })
-    (sym (drop-drop c.min-n.result i.at i.bytes.items)))
+    (ap₂
+    (λ (xs : List ℕ) (asked : Asked). record { bytes = xs; fails = i.fails; piece = i.piece; asked = asked })
+    (sym (drop-drop c.min-n.result i.at i.bytes.items))
+    c.after-self-inside-2.ensures)

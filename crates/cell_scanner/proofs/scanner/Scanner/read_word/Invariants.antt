@@ -10,6 +10,7 @@ invariant-word g l = record {
   line : l.self.line ≡ l.fn.self.line;
   run : l.self.run ≡ 0;
   short : length l.self.word ≤ 64;
+  sure : l.self.ahead.heard.sure ≡ l.fn.self.ahead.heard.sure;
 }
 
 abbrev pub decreases-word : goal.decreases-word

@@ -1,4 +1,6 @@
-use Rattle.std.proofs.Common.{◌≡◌, ◌∙◌, ℕ, ◌+◌, ap, refl, Result, Ok, Err}
+use Rattle.std.proofs.Common.{◌≡◌, ◌∙◌, ℕ, ◌+◌, ap, refl, Bool, false, Result, Ok, Err}
+use Rattle.cell_devices.specs.Asking.{Heard}
+use Rattle.cell_ascii_text.specs.Kinds.{is_read}
 use Rattle.cell_ascii_text.specs.declared.fault.GridFault.{GridFault}
 use Rattle.cell_scanner.specs.declared.scanner.InLine.{InLine}
 use Rattle.cell_scanner.specs.declared.scanner.InLine.TheVariants.{Word, Feed, End}
@@ -21,6 +23,7 @@ blanks-init g c = record {
   line = refl;
   run = c.requires.run;
   word = refl;
+  sure = refl;
 }
 
 pub step-requires-clause-room : goal.step-requires-clause-room
@@ -43,6 +46,7 @@ blanks-preserved g c =
       line = line ∙ c.blanks.invariant.line;
       run = c.in-Ok-Blank.ensures.run;
       word = c.in-Ok-Blank.ensures.word ∙ c.blanks.invariant.word;
+      sure = ap (λ (h : Heard). h.sure) c.in-Ok-Blank.ensures.heard ∙ c.blanks.invariant.sure;
     }
 
 pub returns-in-Ok-Feed : goal.returns-in-Ok-Feed
@@ -56,6 +60,7 @@ returns-in-Ok-Feed g c =
       word = c.in-Ok-Feed.ensures.word ∙ c.blanks.invariant.word;
       end = λ e. feed_end _ (Ok _) refl e;
       kind = tt;
+      heard = c.in-Ok-Feed.ensures.heard ∙ ap (λ (sure : Bool). record { sure = sure; failed = false }) c.blanks.invariant.sure;
     }
 
 pub returns-in-Ok-Word : goal.returns-in-Ok-Word
@@ -69,6 +74,7 @@ returns-in-Ok-Word g c =
       word = c.in-Ok-Word.ensures.word ∙ c.blanks.invariant.word;
       end = λ e. word_end _ (Ok _) refl e;
       kind = tt;
+      heard = c.in-Ok-Word.ensures.heard ∙ ap (λ (sure : Bool). record { sure = sure; failed = false }) c.blanks.invariant.sure;
     }
 
 pub returns-in-Ok-End : goal.returns-in-Ok-End
@@ -82,6 +88,7 @@ returns-in-Ok-End g c =
       word = c.in-Ok-End.ensures.word ∙ c.blanks.invariant.word;
       end = λ e. c.in-Ok-End.ensures.end (ap Ok c.in-Ok-End.field-0-is);
       kind = tt;
+      heard = c.in-Ok-End.ensures.heard ∙ ap (λ (sure : Bool). record { sure = sure; failed = false }) c.blanks.invariant.sure;
     }
 
 pub returns-in-Err : goal.returns-in-Err
@@ -95,4 +102,5 @@ returns-in-Err g c =
       word = c.in-Err.ensures.word ∙ c.blanks.invariant.word;
       end = λ e. err_end _ (Err _) _ refl e;
       kind = c.in-Err.ensures.kind;
+      heard = c.in-Err.ensures.heard ∙ ap (λ (sure : Bool). record { sure = sure; failed = is_read c.in-Err.fault.kind }) c.blanks.invariant.sure;
     }

@@ -10,6 +10,7 @@ invariant-blanks g l = record {
   line : l.self.line ≡ l.fn.self.line;
   run : l.self.run ≤ 1048576;
   word : l.self.word ≡ l.fn.self.word;
+  sure : l.self.ahead.heard.sure ≡ l.fn.self.ahead.heard.sure;
 }
 
 abbrev pub decreases-blanks : goal.decreases-blanks

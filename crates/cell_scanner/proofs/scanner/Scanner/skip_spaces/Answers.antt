@@ -1,4 +1,6 @@
-use Rattle.std.proofs.Common.{◌≡◌, ◌∙◌, ap, refl, Result, Ok, Err}
+use Rattle.std.proofs.Common.{◌≡◌, ◌∙◌, ap, refl, Bool, false, Result, Ok, Err}
+use Rattle.cell_devices.specs.Asking.{Heard}
+use Rattle.cell_ascii_text.specs.Kinds.{is_read}
 use Rattle.cell_ascii_text.specs.declared.fault.GridFault.{GridFault}
 use Rattle.cell_scanner.specs.declared.scanner.Next.{Next}
 use Rattle.cell_scanner.specs.declared.scanner.Next.TheVariants.{Word, End}
@@ -19,6 +21,7 @@ spaces-init g c = record {
   run = c.requires.run;
   further = same_line _;
   word = refl;
+  sure = refl;
 }
 
 pub step-requires-clause-room : goal.step-requires-clause-room
@@ -44,6 +47,7 @@ spaces-preserved-in-Ok-Blank g c =
       run = c.in-Ok-Blank.ensures.run;
       further = further_still o.run s.run t.run c.spaces.invariant.further c.in-Ok-Blank.ensures.further;
       word = c.in-Ok-Blank.ensures.word ∙ c.spaces.invariant.word;
+      sure = ap (λ (h : Heard). h.sure) c.in-Ok-Blank.ensures.heard ∙ c.spaces.invariant.sure;
     }
 
 pub spaces-smaller : goal.spaces-smaller
@@ -62,6 +66,7 @@ spaces-preserved g c =
       run = c.in-Ok-Feed.ensures.run;
       further = further_still o.run s.run t.run c.spaces.invariant.further c.in-Ok-Feed.ensures.further;
       word = c.in-Ok-Feed.ensures.word ∙ c.spaces.invariant.word;
+      sure = ap (λ (h : Heard). h.sure) c.in-Ok-Feed.ensures.heard ∙ c.spaces.invariant.sure;
     }
 
 pub returns-in-Ok-Word : goal.returns-in-Ok-Word
@@ -78,6 +83,7 @@ returns-in-Ok-Word g c =
       word = c.in-Ok-Word.ensures.word ∙ c.spaces.invariant.word;
       end = λ e. word_end _ (Ok _) refl e;
       kind = tt;
+      heard = c.in-Ok-Word.ensures.heard ∙ ap (λ (sure : Bool). record { sure = sure; failed = false }) c.spaces.invariant.sure;
     }
 
 pub returns-in-Ok-End : goal.returns-in-Ok-End
@@ -94,6 +100,7 @@ returns-in-Ok-End g c =
       word = c.in-Ok-End.ensures.word ∙ c.spaces.invariant.word;
       end = λ e. c.in-Ok-End.ensures.end (ap Ok c.in-Ok-End.field-0-is);
       kind = tt;
+      heard = c.in-Ok-End.ensures.heard ∙ ap (λ (sure : Bool). record { sure = sure; failed = false }) c.spaces.invariant.sure;
     }
 
 pub returns-in-Err : goal.returns-in-Err
@@ -110,4 +117,5 @@ returns-in-Err g c =
       word = c.in-Err.ensures.word ∙ c.spaces.invariant.word;
       end = λ e. err_end _ (Err _) _ refl e;
       kind = c.in-Err.ensures.kind;
+      heard = c.in-Err.ensures.heard ∙ ap (λ (sure : Bool). record { sure = sure; failed = is_read c.in-Err.fault.kind }) c.spaces.invariant.sure;
     }

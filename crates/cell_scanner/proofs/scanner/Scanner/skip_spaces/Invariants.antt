@@ -11,6 +11,7 @@ invariant-spaces g l = record {
   run : l.self.run ≤ 1048576;
   further : l.fn.self.run ≤ l.self.run;
   word : l.self.word ≡ l.fn.self.word;
+  sure : l.self.ahead.heard.sure ≡ l.fn.self.ahead.heard.sure;
 }
 
 abbrev pub decreases-spaces : goal.decreases-spaces

@@ -5,13 +5,13 @@ use Rattle.cell_ascii.specs.Reader.{at_place}
 use Rattle.cell_ascii_text.specs.RowPlaces.{end_fault}
 use Rattle.cell_ascii.specs.GridReaders.{ReaderValue, place_in, fault_of}
 use Rattle.cell_ascii.proofs.RowReadLemmas.{end_answers}
-use Rattle.cell_ascii.proofs.reader.GridReader.finish.Goals as goal
+use Rattle.cell_ascii.proofs.reader.GridReader.end.Goals as goal
 
 pub returns-clause-told : goal.returns-clause-told
 returns-clause-told g c =
     let i = c.self.inside in
-    let left : i.rows_left ≡ c.args.self.rows_left = ap (λ (r : ReaderValue). r.rows_left) c.self.view_is in
-    let live : c.args.self.failed ≡ false = sym (ap (λ (r : ReaderValue). r.failed) c.self.view_is) ∙ c.if-self.false in
+    let left : i.rows_left ≡ c.args.self.now.rows_left = ap (λ (r : ReaderValue). r.rows_left) c.self.view_is in
+    let live : c.args.self.now.failed ≡ false = sym (ap (λ (r : ReaderValue). r.failed) c.self.view_is) ∙ c.if-self.false in
     let none : i.rows_left ≡ 0 = left ∙ c.requires.done live in
     subst (λ (r : ReaderValue). r.failed ≡ false → IfSome r.coming (λ x. fault_of c.finish.result ≡ end_fault (place_in r x))) c.self.view_is
     (λ live. end_answers (at_place i.cells) i.rows_left (to_come i.cells.ahead) (to_come c.finish.new.self.ahead) c.finish.result none (c.self.invariant.placed live) c.finish.ensures.end)

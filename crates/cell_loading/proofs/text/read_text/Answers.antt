@@ -1,12 +1,26 @@
-use Rattle.std.proofs.Common.{drop, ◌∙◌, refl, sym, arith}
+use Rattle.std.proofs.Common.{◌≡◌, ◌≢◌, ℕ, false, Ok, drop, ◌∙◌, refl, sym, arith}
+use Rattle.std.specs.Prelude.{◌==◌}
+use Rattle.std.proofs.lemmas.Bool.Decides.{nat_tests}
 use Rattle.std.proofs.lemmas.List.{take-append-le}
+use Rattle.cell_devices.specs.Asking.{after_take}
+use Rattle.cell_devices.specs.declared.source.Asked.{Asked}
+use Rattle.cell_devices.specs.declared.source.Asked.TheVariants.{Going}
+use Rattle.cell_devices.specs.declared.device.DeviceFault.{DeviceFault}
 use Rattle.cell_loading.proofs.TextLemmas.{text_ends, text_fails, text_long, block_more, same_most, past_most, still_short, less_left, block_len, block_fits, room_fits}
-use Rattle.cell_loading.proofs.text.read_script.Goals as goal
+use Rattle.cell_loading.proofs.text.read_text.Goals as goal
+
+-- a call gave bytes
+not_none : (n : ℕ) → n ≢ 0 → (n == 0) ≡ false
+not_none n some = grind (arith, nat_tests)
+
+goes_on : (old new : Asked) (n : ℕ) → new ≡ after_take {E = DeviceFault} old (Ok n) → old ≡ Going → n ≢ 0 → new ≡ Going
+goes_on old new n after going some = rw (after, going, not_none n some) refl
 
 pub pieces-init : goal.pieces-init
 pieces-init g c = record {
   text = rw c.new-text.ensures.items refl;
   short = rw c.new-text.ensures.len (omega arith);
+  asked = λ going. going;
 }
 
 pub overflow_sub-len : goal.overflow_sub-len
@@ -28,14 +42,14 @@ pub returns-in-Err-clause-fault : goal.returns-in-Err-clause-fault
 returns-in-Err-clause-fault g c =
     let at = c.pieces in
     let coming = g.R.Source.coming in
-    λ _. text_fails (coming c.args.source) (coming at.source) (coming c.take.new.self)
+    λ _. text_fails (coming c.args.source.now) (coming at.source) (coming c.take.new.self)
     c.in-Err.field-0 c.take.new.buf at.text.items at.invariant.text (same_most at.text.ok.0 at.invariant.short) c.in-Err.ensures.bytes
 
 pub returns-then-count-eq0-clause-ok : goal.returns-then-count-eq0-clause-ok
 returns-then-count-eq0-clause-ok g c =
     let at = c.pieces in
     let coming = g.R.Source.coming in
-    text_ends (coming c.args.source) (coming at.source) (coming c.take.new.self)
+    text_ends (coming c.args.source.now) (coming at.source) (coming c.take.new.self)
     c.in-Ok.count c.take.new.buf at.text.items at.invariant.text (same_most at.text.ok.0 at.invariant.short) c.if-count-eq0.true c.in-Ok.ensures.bytes
 
 pub returns-then-count-len-clause-fault : goal.returns-then-count-len-clause-fault
@@ -43,7 +57,7 @@ returns-then-count-len-clause-fault g c =
     let at = c.pieces in
     let coming = g.R.Source.coming in
     let past = past_most c.len-in-pieces.ensures at.text.ok.0 at.invariant.short c.if-count-len.true in
-    λ _. text_long (coming c.args.source) (coming at.source) (coming c.take.new.self)
+    λ _. text_long (coming c.args.source.now) (coming at.source) (coming c.take.new.self)
     c.in-Ok.count c.take.new.buf at.text.items at.invariant.text past c.in-Ok.ensures.bytes
 
 pub pieces-smaller : goal.pieces-smaller
@@ -64,4 +78,5 @@ pieces-preserved g c =
       text = rw (grown.items, take-append-le n buf rest c.in-Ok.ensures.count)
           (at.invariant.text ∙ block_more (coming at.source) (coming c.take.new.self) n buf at.text.items c.in-Ok.ensures.bytes);
       short = still_short c.len-in-pieces.ensures grown.len (block_len n buf rest c.in-Ok.ensures.count) at.invariant.short c.if-count-len.false;
+      asked = λ going. goes_on _ _ n c.in-Ok.ensures.asked (at.invariant.asked going) c.if-count-eq0.false;
     }
