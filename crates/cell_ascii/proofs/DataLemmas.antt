@@ -1,5 +1,6 @@
 -- The whole data, from its rows and its end, and the whole text, from its header and its data.
 use Rattle.std.proofs.Common.{◌≡◌, ℕ, ◌-◌, ◌<◌, [], List, Option, Some, None, Result, Ok, Err, Bool, refl, ap, sym, ◌∙◌}
+use Rattle.std.specs.Prelude.{if◌then◌else◌}
 use Rattle.std.specs.Option.{option_map, IfSome}
 use Rattle.cell_devices.specs.Device.{Coming}
 use Rattle.cell_core.specs.Grid.{CellValue, Grid, no_labels}
@@ -13,7 +14,7 @@ use Rattle.cell_ascii.specs.GridReaders.{ReaderValue, place_in, opened_in, fault
 use Rattle.cell_ascii_header.specs.Opening.{header_seen}
 use Rattle.cell_scanner.specs.Ahead.{before_coming}
 use Rattle.cell_ascii_text.specs.declared.fault.GridFault.{GridFault}
-use Rattle.cell_ascii_header.proofs.MapLemmas.{known}
+use Rattle.cell_ascii_header.proofs.MapLemmas.{known, map_same}
 use Rattle.cell_ascii.proofs.CellLemmas.{with_front, more_fails}
 use Rattle.cell_ascii_faults.proofs.GridFaultLemmas.{opening_agrees, opening_keeps_places}
 use Rattle.cell_ascii.proofs.RowReadLemmas.{implied, rows_kept, end_is}
@@ -111,3 +112,12 @@ pub open_fails : (keys : Keys) (word : List ℕ) (line : ℕ) (waiting : Bool) (
 open_fails keys word line waiting r b f e bad =
     known (header_from 10 no_keys 1 0) (header_seen (Ok waiting) keys word line) r b (Err f)
     (ap (option_map (header_from 10 no_keys 1 0)) (sym (nothing_held r)) ∙ e) (λ c. rw (← bad) refl)
+
+-- the keys give a header
+pub open_reads : (keys : Keys) (word : List ℕ) (line : ℕ) (waiting : Bool) (r b : Option Coming) (h : Header)
+    → option_map (header_from 10 no_keys 1 0) (option_map (before_coming []) r) ≡ option_map (header_seen (Ok waiting) keys word line) b
+    → Ok h ≡ at_line line (header_of keys)
+    → option_map header_of_text r ≡ option_map (λ c. Ok (record { header = h; at = record { pending = (if waiting then Some word else None); line = line; run = 0; coming = c } })) b
+open_reads keys word line waiting r b h e good =
+    ap (option_map (header_from 10 no_keys 1 0)) (sym (nothing_held r)) ∙ e
+    ∙ map_same (header_seen (Ok waiting) keys word line) (λ c. Ok (record { header = h; at = record { pending = (if waiting then Some word else None); line = line; run = 0; coming = c } })) b (λ c. rw (← good) refl)

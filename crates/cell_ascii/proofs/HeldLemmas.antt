@@ -1,6 +1,6 @@
 -- Cells whose bytes are held.
-use Rattle.std.proofs.Common.{◌≡◌, ℕ, pos, suc, ◌+◌, ◌-◌, ◌*◌, ◌^◌, ◌<◌, ◌≤◌, List, [], ◌∷◌, ◌++◌, Some, Bool, true, false, drop, take, zero, length, length-take, drop-cons, add-one, refl, ap, sym, ◌∙◌, arith, append-nil, append_assoc, length-append, Ok, not}
-use Rattle.std.specs.Prelude.{◌==◌, ◌&&◌, neg_ℤ, slice_index_or}
+use Rattle.std.proofs.Common.{◌≡◌, ℕ, pos, suc, ◌+◌, ◌-◌, ◌*◌, ◌^◌, ◌<◌, ◌≤◌, List, [], ◌∷◌, ◌++◌, Some, None, Bool, true, false, drop, take, zero, length, length-take, drop-cons, add-one, refl, ap, sym, ◌∙◌, arith, append-nil, append_assoc, length-append, Ok, not}
+use Rattle.std.specs.Prelude.{◌==◌, ◌&&◌, neg_ℤ, slice_index_or, if◌then◌else◌}
 use Rattle.std.specs.List.{list_all}
 use Rattle.std.proofs.lemmas.Bool.Decides.{nat_tests}
 use Rattle.cell_core.specs.Grid.{CellValue}
@@ -15,11 +15,11 @@ use Rattle.std.proofs.Math.Seq.{take-length}
 use Rattle.cell_ascii_header.proofs.DigitLemmas.{value_below}
 use Rattle.cell_scanner.proofs.StartLemmas.{start-next, start-begins, word-stops, word-more}
 
-both : (a b : Bool) → (a && b) ≡ true → (a ≡ true) × (b ≡ true)
+pub both : (a b : Bool) → (a && b) ≡ true → (a ≡ true) × (b ≡ true)
 both true b e = (refl, e)
 both false b e = cc
 
-no_space : (b : ℕ) → is_word b ≡ true → is_space b ≡ false
+pub no_space : (b : ℕ) → is_word b ≡ true → is_space b ≡ false
 no_space b e = by (is_space b) e
   where
     by : (s : Bool) → not s ≡ true → s ≡ false
@@ -27,7 +27,7 @@ no_space b e = by (is_space b) e
     by false e = refl
 
 -- a word that ends, whatever stood in front
-word_ahead : (line : ℕ) (front word : List ℕ) (e : ℕ) (bs : List ℕ) (f : Bool) → list_all is_word word ≡ true → length front + length word ≤ 64 → is_space e ≡ true
+pub word_ahead : (line : ℕ) (front word : List ℕ) (e : ℕ) (bs : List ℕ) (f : Bool) → list_all is_word word ≡ true → length front + length word ≤ 64 → is_space e ≡ true
     → word_from line front (record { bytes = word ++ e ∷ bs; fails = f }) ≡ Ok (front ++ word, record { bytes = e ∷ bs; fails = f })
 word_ahead line front [] e bs f w short space =
     let low : length front ≤ 64 = omega arith in
@@ -214,3 +214,21 @@ front_minus (x ∷ y ∷ a ∷ []) l e m = absurd (omega arith)
 front_minus (x ∷ y ∷ a ∷ b ∷ []) l e m = absurd (omega arith)
 front_minus (x ∷ y ∷ a ∷ b ∷ c ∷ []) l e m = absurd (omega arith)
 front_minus (x ∷ y ∷ a ∷ b ∷ c ∷ d ∷ bs) l e m = rw (e, m) refl
+
+-- digits and no other byte
+pub all_digits : (bs : List ℕ) → 0 < length bs → list_all is_digit bs ≡ true → digits_of bs ≡ Some (value_of_digits bs)
+all_digits [] some e = absurd (omega arith)
+all_digits (b ∷ bs) some e = rw e refl
+
+-- their number
+pub number_of_digits : (bs : List ℕ) (value : ℕ) → digits_of bs ≡ Some value → whole_number bs ≡ Some (pos value)
+number_of_digits [] value e = cc
+number_of_digits (b ∷ bs) value e = by (list_all is_digit (b ∷ bs)) refl e
+  where
+    by : (t : Bool) → list_all is_digit (b ∷ bs) ≡ t → (if t then Some (value_of_digits (b ∷ bs)) else None) ≡ Some value → whole_number (b ∷ bs) ≡ Some (pos value)
+    by true digits o = let same : value_of_digits (b ∷ bs) ≡ value = cc in digits_number b bs digits ∙ ap (λ (m : ℕ). Some (pos m)) same
+    by false digits o = cc
+
+-- and behind a minus
+pub number_behind_minus : (word bs : List ℕ) (value : ℕ) → word ≡ 45 ∷ bs → digits_of bs ≡ Some value → whole_number word ≡ Some (neg_ℤ (pos value))
+number_behind_minus word bs value is e = rw (is, e) refl

@@ -2,7 +2,7 @@
 use Rattle.std.proofs.Common.{◌≡◌, ℕ, zero, suc, ◌+◌, ◌-◌, ◌<◌, ◌≤◌, List, [], ◌∷◌, ◌++◌, length, take, drop, Option, Some, None, Ok, refl, ap, sym, ◌∙◌, arith, append-nil, length-append, length-drop, length-take, take_all}
 use Rattle.std.specs.Option.{option_map}
 use Rattle.std.proofs.Math.Seq.{take-append-add, drop-append-add}
-use Rattle.std.proofs.lemmas.List.{drop_all, drop-drop, take-append-le}
+use Rattle.std.proofs.lemmas.List.{drop_all, drop-drop, take-append-le, take_at}
 use Rattle.cell_devices.specs.Device.{Coming}
 use Rattle.cell_core.specs.Grid.{CellValue}
 use Rattle.cell_scanner.specs.Ahead.{before_coming}
@@ -70,6 +70,10 @@ module _ (i k : ℕ) (row part old : List CellValue) (within : i ≤ length row)
       ap (λ (n : ℕ). take (n + k) (take i row ++ (part ++ after))) (sym length-front)
       ∙ take-append-add (take i row) (part ++ after) k
       ∙ ap (λ (l : List CellValue). take i row ++ l) (take-append-le k part after (omega (arith, size)))
+
+  -- and those before it
+  pub part-none : take i (filled i row part) ≡ take i row
+  part-none = ap (λ (n : ℕ). take n (take i row ++ (part ++ after))) (sym length-front) ∙ take_at (take i row) (part ++ after) (length (take i row)) refl
 
   none-after : after ≡ []
   none-after = drop_all (length row - i) (drop i row) (omega (arith, length-drop i row))

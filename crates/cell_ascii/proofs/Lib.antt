@@ -5,3 +5,5 @@ pub mod AgainLemmas
 pub mod LaneLemmas
 pub mod CellLemmas
 pub mod DataLemmas
+pub mod BitLemmas
+pub mod WordLemmas

@@ -2,3 +2,4 @@
 pub mod GridReaders
 pub mod Reader
 pub mod Held
+pub mod Words

@@ -2,8 +2,10 @@
 
 ghost use Rattle.std.specs.Prelude.{◌≡◌, ℕ, List, ◌∷◌, ◌++◌, ◌+◌, ◌*◌, ◌/◌, ◌<◌, ◌≤◌, pos, neg_ℤ, length, take, drop, replicate, Some, IfSome};
 ghost use Rattle.cell_ascii.specs.Held.{HoldsCells, HoldsFront, HoldsWord, IsNumeral, ComesAgain, held_word};
+ghost use Rattle.cell_ascii.specs.Words.{HoldsLines};
 ghost use Rattle.cell_ascii_text.specs.Numbers.{whole_number};
 
+use crate::words::WordTable;
 use cell_ascii_header::header::Header;
 use cell_core::cell::Cell;
 use cell_scanner::scanner::is_space;
@@ -11,7 +13,7 @@ use cell_text::numbers::is_digit;
 use std::simd::prelude::*;
 
 // So many digits fit 32 bits, whatever they are.
-const MOST_DIGITS: usize = 9;
+pub(crate) const MOST_DIGITS: usize = 9;
 
 // The most bytes of a word.
 const MOST_BYTES: usize = 64;
@@ -81,7 +83,7 @@ fn more_digits(bytes: &[u8]) -> Option<(u32, usize)>
 }
 
 // The number of digits behind a minus.
-fn negative(value: u32) -> i64
+pub(crate) fn negative(value: u32) -> i64
     ensures { result ≡ neg_ℤ (pos value) }
 {
     -(value as i64)
@@ -332,6 +334,21 @@ impl Pace {
         }
     }
 
+    // Where a word that comes again is looked for, none stands as it has to.
+    fn pass_none(&mut self) {
+        self.singles = self.wait;
+        if self.wait < LAST_WAIT {
+            self.wait *= 2;
+        }
+    }
+
+    // So many cells were read as words that come again, up to the end of a row.
+    fn pass_row(&mut self, count: usize) {
+        if count > FEW_CELLS {
+            self.wait = FIRST_WAIT;
+        }
+    }
+
     // So many cells were read one by one.
     fn pass_singles(&mut self, count: usize) {
         self.singles = self.singles.saturating_sub(count);
@@ -348,43 +365,103 @@ impl Pace {
     }
 }
 
-// The same as `cells_in`, in one of the two ways.
-fn some_cells_in(held: &[u8], header: &Header, row: &mut [Cell], pace: &mut Pace) -> (usize, usize)
-    ensures cells { HoldsCells header.now held.now (take result.0 row.new) result.0 result.1 }
+// The same as `cells_in`, each cell by itself: by the words that were read before, and where that reads none, as at the last
+// bytes held, word by word.
+fn each_cell_in(held: &[u8], words: &mut WordTable, row: &mut [Cell]) -> (usize, usize, u64)
+    ensures cells { HoldsLines words.old held.now (take result.0 row.new) result.0 result.1 result.2 }
     ensures count { result.0 ≤ length row.old }
     ensures within { result.1 ≤ length held.now }
+    ensures among { result.2 ≤ result.1 }
+    ensures lines { result.2 ≤ result.0 * 64 }
     ensures rest { drop result.0 row.new ≡ drop result.0 row.old }
+    ensures same { words.new ≡ words.old }
 {
-    if pace.singles == 0 {
-        let found = repeated_cells_in(held, header, row);
-        if found.0 > 0 && found.0 < row.len() {
-            pace.pass_repeated(found.0);
-        }
+    let found = words.cells_in(held, row);
+    if found.0 > 0 {
         return found;
     }
+    let found = single_cells_in(held, words.header(), row);
+    (found.0, found.1, 0)
+}
+
+// The same, as many as are to be read one by one.
+fn next_cells_in(
+    held: &[u8],
+    words: &mut WordTable,
+    row: &mut [Cell],
+    pace: &mut Pace,
+) -> (usize, usize, u64)
+    ensures cells { HoldsLines words.old held.now (take result.0 row.new) result.0 result.1 result.2 }
+    ensures count { result.0 ≤ length row.old }
+    ensures within { result.1 ≤ length held.now }
+    ensures among { result.2 ≤ result.1 }
+    ensures lines { result.2 ≤ result.0 * 64 }
+    ensures rest { drop result.0 row.new ≡ drop result.0 row.old }
+    ensures same { words.new ≡ words.old }
+{
     let end = pace.singles.min(row.len());
-    let found = single_cells_in(held, header, &mut row[..end]);
+    let found = each_cell_in(held, words, &mut row[..end]);
     pace.pass_singles(found.0);
     found
 }
 
-/// The cells that are held one after another, each a space and a word that ends, up to the length of a row: they fill the
-/// front of the row. Returns how many they are, and how many bytes they take.
-pub fn cells_in(held: &[u8], header: &Header, row: &mut [Cell], pace: &mut Pace) -> (usize, usize)
-    ensures cells { HoldsCells header.now held.now (take result.0 row.new) result.0 result.1 }
+// The same as `cells_in`, in one of the two ways.
+fn some_cells_in(
+    held: &[u8],
+    words: &mut WordTable,
+    row: &mut [Cell],
+    pace: &mut Pace,
+) -> (usize, usize, u64)
+    ensures cells { HoldsLines words.old held.now (take result.0 row.new) result.0 result.1 result.2 }
     ensures count { result.0 ≤ length row.old }
     ensures within { result.1 ≤ length held.now }
+    ensures among { result.2 ≤ result.1 }
+    ensures lines { result.2 ≤ result.0 * 64 }
     ensures rest { drop result.0 row.new ≡ drop result.0 row.old }
+    ensures same { words.new ≡ words.old }
+{
+    if pace.singles > 0 {
+        return next_cells_in(held, words, row, pace);
+    }
+    let found = repeated_cells_in(held, words.header(), row);
+    if found.0 == 0 {
+        pace.pass_none();
+        return next_cells_in(held, words, row, pace);
+    }
+    if found.0 < row.len() {
+        pace.pass_repeated(found.0);
+    } else {
+        pace.pass_row(found.0);
+    }
+    (found.0, found.1, 0)
+}
+
+/// The cells whose words are held one after another, apart by blanks and line feeds, up to the length of a row: they fill the
+/// front of the row. Returns how many they are, how many bytes they take, and how many of these are line feeds.
+pub fn cells_in(
+    held: &[u8],
+    words: &mut WordTable,
+    row: &mut [Cell],
+    pace: &mut Pace,
+) -> (usize, usize, u64)
+    ensures cells { HoldsLines words.old held.now (take result.0 row.new) result.0 result.1 result.2 }
+    ensures count { result.0 ≤ length row.old }
+    ensures within { result.1 ≤ length held.now }
+    ensures lines { result.2 ≤ result.0 * 64 }
+    ensures rest { drop result.0 row.new ≡ drop result.0 row.old }
+    ensures same { words.new ≡ words.old }
 {
     let mut i = 0;
     let mut passed = 0;
+    let mut lines = 0;
     'parts: while i < row.len() {
-        let found = some_cells_in(&held[passed..], header, &mut row[i..], pace);
+        let found = some_cells_in(&held[passed..], words, &mut row[i..], pace);
         if found.0 == 0 {
-            return (i, passed);
+            return (i, passed, lines);
         }
         i += found.0;
         passed += found.1;
+        lines += found.2;
     }
-    (i, passed)
+    (i, passed, lines)
 }

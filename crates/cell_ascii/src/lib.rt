@@ -4,6 +4,7 @@
 mod held;
 pub mod law;
 pub mod reader;
+mod words;
 
 pub use cell_ascii_text::fault;
 pub use cell_ascii_writer::{sticky_writer, writer};

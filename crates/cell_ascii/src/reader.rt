@@ -18,6 +18,7 @@ ghost use Rattle.cell_ascii.specs.Reader.{Place, at_place, opened_at, token_of, 
 ghost use Rattle.cell_ascii.specs.GridReaders.{place_in, opened_in, IsOpened, fault_of, has_failed, IsCutRow, IsChangedInFront};
 
 use crate::held::{Pace, cells_in};
+use crate::words::WordTable;
 use cell_ascii_header::header::Header;
 use cell_ascii_header::keys::Keys;
 use cell_ascii_header::opening;
@@ -44,7 +45,7 @@ const HAS_FAILED: GridFault = GridFault {
 #[derive(Drop)]
 struct CellReader<R: Source> {
     scanner: Scanner<R>,
-    header: Header,
+    words: WordTable,
     waiting: bool,
     pace: Pace,
 }
@@ -55,7 +56,7 @@ impl<R: Source> Model for CellReader<R> {
 
     ghost Value = { Place };
 
-    ghost view = { λ r. record { header = r.header; pending = (if r.waiting then Some r.scanner.word else None); line = r.scanner.line; run = r.scanner.run; ahead = r.scanner.ahead } };
+    ghost view = { λ r. record { header = r.words; pending = (if r.waiting then Some r.scanner.word else None); line = r.scanner.line; run = r.scanner.run; ahead = r.scanner.ahead } };
 
     ghost invariant = { λ r. r.scanner.run ≤ 1048576 };
 }
@@ -117,9 +118,12 @@ impl<R: Source> CellReader<R> {
         let waiting = opening::read_header(&mut scanner, &mut keys)?;
         scanner.end_run();
         let header = header_at(keys, scanner.line())?;
+        let Ok(words) = WordTable::new(alloc, header) else {
+            return Err(NO_MEMORY);
+        };
         Ok(CellReader {
             scanner,
-            header,
+            words,
             waiting,
             pace: Pace::new(),
         })
@@ -128,25 +132,27 @@ impl<R: Source> CellReader<R> {
     fn region(&self) -> Region
         ensures { result ≡ self.now.header.region }
     {
-        self.header.region()
+        self.words.header().region()
     }
 
     // Reads the cells whose bytes are held into the front of a row, and returns how many they are.
     fn held_cells(&mut self, row: &mut [Cell]) -> usize
+        requires room { self.old.line + length row.old * 64 < 2 ^ 64 }
         ensures cells { option_map (λ c. many (cell_from self.old.header) result (at_place self.old c)) (to_come self.old.ahead)
             ≡ option_map (λ d. Ok (take result row.new, at_place self.new d)) (to_come self.new.ahead) }
         ensures count { result ≤ length row.old }
         ensures rest { drop result row.new ≡ drop result row.old }
         ensures header { self.new.header ≡ self.old.header }
-        ensures line { self.new.line ≡ self.old.line }
+        ensures lines { self.new.line ≤ self.old.line + result * 64 }
         ensures heard { self.new.ahead.heard ≡ self.old.ahead.heard }
     {
-        if self.waiting || !self.scanner.has_room() {
+        if self.waiting || !self.scanner.is_behind_word() {
             return 0;
         }
-        let (count, n) = cells_in(self.scanner.held(), &self.header, row, &mut self.pace);
+        let (count, n, lines) = cells_in(self.scanner.held(), &mut self.words, row, &mut self.pace);
         if count > 0 {
             self.scanner.pass(n);
+            self.scanner.count_lines(lines);
         }
         count
     }
@@ -165,10 +171,10 @@ impl<R: Source> CellReader<R> {
         if self.waiting {
             self.waiting = false;
             self.scanner.end_run();
-            return cell_here(&self.header, &self.scanner);
+            return cell_here(self.words.header(), &self.scanner);
         }
         read_token(&mut self.scanner)?;
-        cell_here(&self.header, &self.scanner)
+        cell_here(self.words.header(), &self.scanner)
     }
 
     // Nothing but blanks and line feeds is left.

@@ -4,3 +4,5 @@ pub mod WriterLemmas
 pub mod ShortNumberLemmas
 pub mod ShortLemmas
 pub mod RunWritingLemmas
+pub mod ByteLemmas
+pub mod PrintLemmas

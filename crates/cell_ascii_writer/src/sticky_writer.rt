@@ -6,11 +6,12 @@ ghost use Rattle.cell_devices.specs.Sticky.{Appends};
 ghost use Rattle.cell_core.specs.Grid.{row_at};
 ghost use Rattle.cell_core.specs.Runs.{AreRuns, written_out};
 ghost use Rattle.cell_ascii_writer.specs.WrittenRuns.{cells_text, joined_cells, times};
+ghost use Rattle.cell_ascii_writer.specs.Fields.{IsField, PrintsBut, low_bytes};
+ghost use Rattle.std.specs.List.{All};
 ghost use Rattle.cell_ascii_text.specs.Writing.{IsNullText, coordinate_text, fraction_text, grid_text, line_of_key, null_line, region_text, row_text, units_text};
 
-use crate::writer::{
-    LEAST_LONG, UNIT, eight_digits, one_digit, spaced, three_digits, two_digits, without_zeros,
-};
+use crate::fields::{FIELDS, Field, field_at, free_field, new_field, put_field};
+use crate::writer::{UNIT, eight_digits, spaced, without_zeros};
 use cell_core::cell::Cell;
 use cell_core::map::CellMap;
 use cell_core::region::Region;
@@ -19,6 +20,12 @@ use cell_core::sink::{Sink, WriteFault};
 use cell_core::sticky::StickyBlock;
 use cell_core::text::print_cell;
 use itoa::Buffer;
+
+// How many bytes of a row are gathered before they are pushed.
+const LINE: usize = 1024;
+
+// The most bytes of a field that is kept.
+const MOST_FIELD: usize = 8;
 
 // Writes a point and the eight digits of a part, without the zeros at their end, or nothing where it is 0.
 fn write_fraction<W: Sink>(out: &mut W, block: &mut StickyBlock, part: u64)
@@ -124,22 +131,8 @@ fn write_times<W: Sink>(out: &mut W, block: &mut StickyBlock, text: &[u8], count
     write_copies(out, block, &bytes[..text.len() + 1], count);
 }
 
-// Writes a space and a number of up to three digits, so many times: straight into the block.
-fn write_short<W: Sink>(out: &mut W, block: &mut StickyBlock, number: u32, count: u32)
-    requires { number < 1000 }
-    ensures { Appends W.taken W.faults out.old block.old (times count (32 ∷ decimal number)) out.new block.new }
-{
-    if number < 10 {
-        write_copies(out, block, &one_digit(number), count)
-    } else if number < 100 {
-        write_copies(out, block, &two_digits(number), count)
-    } else {
-        write_copies(out, block, &three_digits(number), count)
-    }
-}
-
-// Writes a space and the cell of a run, as often as it stands there. Its text is made once.
-fn write_run<W: Sink>(
+// Writes a space and the cell of a run, as often as it stands there, straight into the block. Its text is made once.
+fn write_long_run<W: Sink>(
     out: &mut W,
     block: &mut StickyBlock,
     cell: Cell,
@@ -151,51 +144,186 @@ fn write_run<W: Sink>(
 {
     match cell.get() {
         None => write_times(out, block, null_text, count),
-        Some(category) if category >= 0 && category < LEAST_LONG => {
-            write_short(out, block, category as u32, count)
-        }
         Some(category) => write_times(out, block, Buffer::new().format(category).as_bytes(), count),
     }
 }
 
-// Writes a space and a cell for each cell of the runs.
-fn write_runs<W: Sink>(out: &mut W, block: &mut StickyBlock, runs: Runs<'_>, null_text: &[u8])
-    requires { length null_text.now ≤ 64 }
-    ensures { Appends W.taken W.faults out.old block.old (cells_text null_text.now (written_out runs.entry)) out.new block.new }
+// Pushes the bytes of a line up to a place. It is not inlined, as it would take registers from the loops over cells.
+#[inline(never)]
+fn push_line<W: Sink>(out: &mut W, block: &mut StickyBlock, line: &[u8], end: usize)
+    requires { end ≤ length line.now }
+    ensures { Appends W.taken W.faults out.old block.old (take end line.now) out.new block.new }
 {
-    for (cell, count) in runs {
-        write_run(out, block, cell, count, null_text);
+    block.push(out, &line[..end]);
+}
+
+// The same where no field has room behind them. Returns where the bytes end that are left.
+#[inline(always)]
+fn make_room<W: Sink>(out: &mut W, block: &mut StickyBlock, line: &[u8], end: usize) -> usize
+    requires room { length line.now ≡ 1024 }
+    requires within { end ≤ 1024 }
+    ensures text { PrintsBut W.taken W.faults out.old block.old (take end line.now) (take result line.now) out.new block.new }
+    ensures within { result ≤ 1016 }
+{
+    if end <= LINE - MOST_FIELD {
+        return end;
     }
+    push_line(out, block, line, end);
+    0
+}
+
+// Writes a field, so many times, into a line from a place on, whose bytes before it are still to be pushed. Pushes the line
+// whenever it is full, and returns where the bytes end that are left.
+#[inline(always)]
+fn write_field<W: Sink>(
+    out: &mut W,
+    block: &mut StickyBlock,
+    line: &mut [u8],
+    start: usize,
+    field: (u64, u32),
+    count: u32,
+) -> usize
+    requires room { length line.old ≡ 1024 }
+    requires within { start ≤ 1024 }
+    requires few { field.1 ≤ 8 }
+    ensures text { PrintsBut W.taken W.faults out.old block.old (take start line.old ++ times count (low_bytes field.0 field.1)) (take result line.new) out.new block.new }
+    ensures within { result ≤ 1024 }
+{
+    let mut end = start;
+    for _ in 0..count {
+        let at = make_room(out, block, line, end);
+        put_field(line, at, field.0);
+        end = at + field.1 as usize;
+    }
+    end
+}
+
+// Writes a space and the cell of a run, as often as it stands there, in the same way, where its field is not kept.
+#[inline(never)]
+fn write_new_run<W: Sink>(
+    out: &mut W,
+    block: &mut StickyBlock,
+    fields: &mut [Field],
+    line: &mut [u8],
+    start: usize,
+    run: (Cell, u32),
+    null_text: &[u8],
+) -> usize
+    requires null { length null_text.now ≤ 64 }
+    requires kept { length fields.old ≡ 1024 }
+    requires known { All (IsField null_text.now) fields.old }
+    requires room { length line.old ≡ 1024 }
+    requires within { start ≤ 1024 }
+    ensures text { PrintsBut W.taken W.faults out.old block.old (take start line.old ++ cells_text null_text.now (replicate run.1 run.0)) (take result line.new) out.new block.new }
+    ensures within { result ≤ 1024 }
+    ensures known { All (IsField null_text.now) fields.new }
+{
+    let Some(field) = new_field(run.0, null_text, fields) else {
+        push_line(out, block, line, start);
+        write_long_run(out, block, run.0, run.1, null_text);
+        return 0;
+    };
+    write_field(out, block, line, start, field, run.1)
+}
+
+// The same, whether its field is kept or not.
+#[inline(always)]
+fn write_run<W: Sink>(
+    out: &mut W,
+    block: &mut StickyBlock,
+    fields: &mut [Field],
+    line: &mut [u8],
+    start: usize,
+    run: (Cell, u32),
+    null_text: &[u8],
+) -> usize
+    requires null { length null_text.now ≤ 64 }
+    requires kept { length fields.old ≡ 1024 }
+    requires known { All (IsField null_text.now) fields.old }
+    requires room { length line.old ≡ 1024 }
+    requires within { start ≤ 1024 }
+    ensures text { PrintsBut W.taken W.faults out.old block.old (take start line.old ++ cells_text null_text.now (replicate run.1 run.0)) (take result line.new) out.new block.new }
+    ensures within { result ≤ 1024 }
+    ensures known { All (IsField null_text.now) fields.new }
+{
+    let field = field_at(run.0, null_text, fields);
+    if field.size > 0 && field.cell == run.0 {
+        return write_field(out, block, line, start, (field.bytes, field.size), run.1);
+    }
+    write_new_run(out, block, fields, line, start, run, null_text)
+}
+
+// Writes a space and a cell for each cell of the runs, behind the bytes of a line that are still to be pushed.
+fn write_runs<W: Sink>(
+    out: &mut W,
+    block: &mut StickyBlock,
+    fields: &mut [Field],
+    line: &mut [u8],
+    start: usize,
+    runs: Runs<'_>,
+    null_text: &[u8],
+)
+    requires null { length null_text.now ≤ 64 }
+    requires kept { length fields.old ≡ 1024 }
+    requires known { All (IsField null_text.now) fields.old }
+    requires room { length line.old ≡ 1024 }
+    requires within { start ≤ 1024 }
+    ensures text { Appends W.taken W.faults out.old block.old (take start line.old ++ cells_text null_text.now (written_out runs.entry)) out.new block.new }
+    ensures known { All (IsField null_text.now) fields.new }
+{
+    let mut end = start;
+    for (cell, count) in runs {
+        end = write_run(out, block, fields, line, end, (cell, count), null_text);
+    }
+    push_line(out, block, line, end);
 }
 
 // Writes the cells of the runs of a row, with a space between each two.
-fn write_cells<W: Sink>(out: &mut W, block: &mut StickyBlock, runs: Runs<'_>, null_text: &[u8])
+fn write_cells<W: Sink>(
+    out: &mut W,
+    block: &mut StickyBlock,
+    fields: &mut [Field],
+    line: &mut [u8],
+    runs: Runs<'_>,
+    null_text: &[u8],
+)
     requires null { length null_text.now ≤ 64 }
     requires runs { AreRuns runs }
-    ensures { Appends W.taken W.faults out.old block.old (joined_cells null_text.now (written_out runs.entry)) out.new block.new }
+    requires kept { length fields.old ≡ 1024 }
+    requires known { All (IsField null_text.now) fields.old }
+    requires room { length line.old ≡ 1024 }
+    ensures text { Appends W.taken W.faults out.old block.old (joined_cells null_text.now (written_out runs.entry)) out.new block.new }
+    ensures known { All (IsField null_text.now) fields.new }
 {
     let mut others = runs;
     let Some(first) = others.next() else {
         return;
     };
     print_cell(out, block, first.0, null_text);
-    write_run(out, block, first.0, first.1 - 1, null_text);
-    write_runs(out, block, others, null_text);
+    let others_alike = (first.0, first.1 - 1);
+    let end = write_run(out, block, fields, line, 0, others_alike, null_text);
+    write_runs(out, block, fields, line, end, others, null_text);
 }
 
 // Writes the line of a row.
 fn write_row<W: Sink>(
     out: &mut W,
     block: &mut StickyBlock,
+    fields: &mut [Field],
+    line: &mut [u8],
     map: &CellMap,
     row: u32,
     null_text: &[u8],
 )
     requires null { length null_text.now ≤ 64 }
     requires row { row < map.now.region.rows }
-    ensures { Appends W.taken W.faults out.old block.old (row_text null_text.now (row_at map.now row)) out.new block.new }
+    requires kept { length fields.old ≡ 1024 }
+    requires known { All (IsField null_text.now) fields.old }
+    requires room { length line.old ≡ 1024 }
+    ensures text { Appends W.taken W.faults out.old block.old (row_text null_text.now (row_at map.now row)) out.new block.new }
+    ensures known { All (IsField null_text.now) fields.new }
 {
-    write_cells(out, block, map.runs(row), null_text);
+    write_cells(out, block, fields, line, map.runs(row), null_text);
     block.push(out, b"\n");
 }
 
@@ -204,11 +332,13 @@ fn write_rows<W: Sink>(out: &mut W, block: &mut StickyBlock, map: &CellMap, null
     requires { length null_text.now ≤ 64 }
     ensures { Appends W.taken W.faults out.old block.old (flat_map (row_text null_text.now) map.now.rows) out.new block.new }
 {
+    let mut fields = [free_field(); FIELDS];
+    let mut line = [0u8; LINE];
     for row in 0..map.region().rows() {
         if block.has_failed() {
             return;
         }
-        write_row(out, block, map, row, null_text);
+        write_row(out, block, &mut fields, &mut line, map, row, null_text);
     }
 }
 

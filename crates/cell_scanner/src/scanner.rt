@@ -253,6 +253,21 @@ impl<R: Source> Scanner<R> {
         self.run < 1048576
     }
 
+    /// Whether no blank was passed since the last word.
+    pub fn is_behind_word(&self) -> bool
+        ensures { result ≡ true → self.now.run ≡ 0 }
+    {
+        self.run == 0
+    }
+
+    /// Counts line feeds among bytes that are passed.
+    pub fn count_lines(&mut self, count: u64)
+        requires { self.old.line + count < 2 ^ 64 }
+        ensures { self.new ≡ record self.old { line = self.old.line + count } }
+    {
+        self.line += count;
+    }
+
     /// Passes held bytes that end with a word.
     pub fn pass(&mut self, n: usize)
         requires { n ≤ length self.old.ahead.held }

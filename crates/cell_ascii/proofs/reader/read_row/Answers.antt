@@ -97,6 +97,6 @@ cells-preserved g c =
           (i + k) (take (i + k) now) cell (rw (← front) at more) (rw header at c.in_ok-cell.ensures.cell));
       rest = drop-set-lt (i + k + 1) now (i + k) cell here ∙ drop_more_same now c.args.row.now (i + k) rest;
       header = c.next_cell.ensures.header ∙ header;
-      lines = omega (arith, c.cells.invariant.lines, c.held_cells-i.ensures.line, c.next_cell.ensures.lines);
+      lines = omega (arith, c.cells.invariant.lines, c.held_cells-i.ensures.lines, c.next_cell.ensures.lines);
       heard = c.in_ok-cell.ensures.heard ∙ ap (hears false) (c.held_cells-i.ensures.heard ∙ c.cells.invariant.heard);
     }

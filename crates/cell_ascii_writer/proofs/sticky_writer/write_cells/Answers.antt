@@ -1,19 +1,27 @@
-use Rattle.std.proofs.Common.{◌≡◌, ◌∷◌, List, arith}
-use Rattle.cell_core.specs.Runs.{RunValue}
+use Rattle.std.proofs.Common.{◌≡◌, ◌∷◌, ◌-◌, List, replicate, append_assoc, arith}
+use Rattle.cell_core.specs.Runs.{RunValue, written_out}
+use Rattle.cell_core.specs.Text.{cell_text}
+use Rattle.cell_ascii_writer.specs.WrittenRuns.{cells_text}
+use Rattle.cell_ascii_writer.proofs.PrintLemmas.{prints_all, prints_more}
 use Rattle.cell_devices.proofs.StickyLemmas.{appends_then}
 use Rattle.cell_ascii_writer.proofs.RunWritingLemmas.{first-some, joined-runs}
 use Rattle.cell_ascii_writer.proofs.sticky_writer.write_cells.Goals as goal
 
-pub overflow_sub-first : goal.overflow_sub-first
-overflow_sub-first g c =
+pub overflow_sub-others_alike : goal.overflow_sub-others_alike
+overflow_sub-others_alike g c =
     let rest : List RunValue = c.next.new.self in
     let whole : c.args.runs ≡ c.in-Some.first ∷ rest = c.in-Some.ensures.steps in
     omega (arith, first-some c.args.runs rest c.in-Some.first.0 c.in-Some.first.1 c.requires.runs whole)
 
-pub returns : goal.returns
-returns g c =
+pub returns-clause-text : goal.returns-clause-text
+returns-clause-text g c =
+    let null = c.args.null_text.now in
+    let cell = c.in-Some.first.0 in
+    let n = c.in-Some.first.1 in
     let rest : List RunValue = c.next.new.self in
     let whole : c.args.runs ≡ c.in-Some.first ∷ rest = c.in-Some.ensures.steps in
-    let some = first-some c.args.runs rest c.in-Some.first.0 c.in-Some.first.1 c.requires.runs whole in
-    rw (whole, joined-runs c.args.null_text.now rest c.in-Some.first.0 c.in-Some.first.1 some)
-    (appends_then (appends_then c.print_cell.ensures c.write_run.ensures) c.write_runs.ensures)
+    let some = first-some c.args.runs rest cell n c.requires.runs whole in
+    let others = cells_text null (written_out rest) in
+    let alike = cells_text null (replicate (n - 1) cell) in
+    rw (whole, joined-runs null rest cell n some, append_assoc (cell_text null cell) alike others)
+    (appends_then c.print_cell.ensures (prints_all (prints_more others c.write_run-end.ensures.text) c.write_runs.ensures.text))

@@ -1,12 +1,13 @@
-use Rattle.std.proofs.Common.{◌≡◌, ◌∙◌, ◌<◌, ◌++◌, [], length, take, drop, flat_map, ap, arith, refl, ℕ, sym}
+use Rattle.std.proofs.Common.{◌≡◌, ◌∙◌, ◌<◌, ◌++◌, [], length, take, drop, flat_map, ap, arith, refl, ℕ, sym, rules}
 use Rattle.std.proofs.Math.Seq.{take-length}
 use Rattle.std.proofs.lemmas.List.{take-append-drop}
 use Rattle.std.proofs.lemmas.List.Concat.{flat_map-append}
 use Rattle.cell_core.specs.Grid.{row_at}
 use Rattle.cell_base.specs.Region.{RegionValue}
 use Rattle.cell_devices.proofs.GatherLemmas.{flat_map-take}
-use Rattle.cell_devices.proofs.StickyLemmas.{appends_cut, appends_then}
+use Rattle.cell_devices.proofs.StickyLemmas.{appends_cut, appends_none, appends_then}
 use Rattle.cell_ascii_text.specs.Writing.{row_text}
+use Rattle.cell_ascii_writer.proofs.PrintLemmas.{free_fields}
 use Rattle.cell_ascii_writer.proofs.WriterLemmas.{at_end}
 use Rattle.cell_ascii_writer.proofs.sticky_writer.write_rows.Goals as goal
 
@@ -19,7 +20,7 @@ returns-then-has_failed g c =
     let row = c.loop-row.row in
     let f = row_text c.args.null_text.now in
     let parts : flat_map f (take row rows) ++ flat_map f (drop row rows) ≡ flat_map f rows = sym (flat_map-append f (take row rows) (drop row rows)) ∙ ap (flat_map f) (take-append-drop row rows) in
-    rw (← parts) (appends_cut (flat_map f (drop row rows)) c.loop-row.invariant (sym c.has_failed.ensures ∙ c.if-has_failed.true))
+    rw (← parts) (appends_cut (flat_map f (drop row rows)) c.loop-row.invariant.text (sym c.has_failed.ensures ∙ c.if-has_failed.true))
 
 pub loop-row-preserved : goal.loop-row-preserved
 loop-row-preserved g c =
@@ -28,7 +29,12 @@ loop-row-preserved g c =
     let height : c.rows-row-end.result ≡ c.args.map.now.region.rows =
     c.rows-row-end.ensures.value ∙ ap (λ (e : RegionValue). e.rows) c.region.ensures.value in
     let within : row < length rows = below _ _ _ _ c.loop-row-test.true height c.region.ensures.filled.count in
-    rw (flat_map-take (row_text c.args.null_text.now) rows row [] (row_at c.args.map.now row) within refl) (appends_then c.loop-row.invariant c.write_row.ensures)
+    record {
+      text = rw (flat_map-take (row_text c.args.null_text.now) rows row [] (row_at c.args.map.now row) within refl) (appends_then c.loop-row.invariant.text c.write_row.ensures.text);
+      kept = c.write_row.auto.fields ∙ c.loop-row.invariant.kept;
+      known = c.write_row.ensures.known;
+      room = c.write_row.auto.line ∙ c.loop-row.invariant.room;
+    }
 
 pub returns : goal.returns
 returns g c =
@@ -38,4 +44,12 @@ returns g c =
     c.rows-row-end.ensures.value ∙ ap (λ (e : RegionValue). e.rows) c.region.ensures.value in
     let all : row ≡ length rows =
     at_end _ _ c.loop-row-test.false c.loop-row.auto.row-end ∙ height ∙ sym c.region.ensures.filled.count in
-    rw (all, take-length rows) at c.loop-row.invariant
+    rw (all, take-length rows) at c.loop-row.invariant.text
+
+pub loop-row-init : goal.loop-row-init
+loop-row-init g c = record {
+  text = appends_none;
+  kept = search rules;
+  known = free_fields c.args.null_text.now 1024 c.free_field-fields.result c.free_field-fields.ensures;
+  room = search rules;
+}

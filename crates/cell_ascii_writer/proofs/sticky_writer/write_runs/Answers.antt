@@ -1,27 +1,43 @@
-use Rattle.std.proofs.Common.{◌≡◌, ◌∙◌, ◌++◌, ◌∷◌, List, ap, sym, [], append_assoc, append-nil}
-use Rattle.cell_core.specs.Runs.{RunValue}
-use Rattle.cell_devices.proofs.StickyLemmas.{appends_none, appends_then}
+use Rattle.std.proofs.Common.{◌≡◌, ◌∙◌, ◌++◌, ◌∷◌, List, ap, sym, [], take, replicate, append_assoc, append-nil}
+use Rattle.cell_core.specs.Runs.{RunValue, written_out}
+use Rattle.cell_ascii_writer.specs.WrittenRuns.{cells_text}
+use Rattle.cell_ascii_writer.proofs.PrintLemmas.{prints_none, prints_more, prints_then, prints_all}
 use Rattle.cell_ascii_writer.proofs.RunWritingLemmas.{cells_text-more}
 use Rattle.cell_ascii_writer.proofs.sticky_writer.write_runs.Goals as goal
 
 pub loop-cell-init : goal.loop-cell-init
-loop-cell-init g c = record { appends = appends_none; whole = c.into_iter-cell-iterator.ensures.into_iter_gives }
+loop-cell-init g c = record {
+  text = rw append-nil (prints_none (take c.args.start c.args.line.now));
+  whole = c.into_iter-cell-iterator.ensures.into_iter_gives;
+  room = c.requires.room;
+  within = c.requires.within;
+  kept = c.requires.kept;
+  known = c.requires.known;
+}
 
 pub loop-cell-preserved : goal.loop-cell-preserved
 loop-cell-preserved g c =
+    let null = c.args.null_text.now in
     let done : List RunValue = c.loop-cell.yielded in
     let rest : List RunValue = c.next.new.self in
     let run : RunValue = (c.in-Some.cell, c.in-Some.count) in
+    let front = take c.args.start c.args.line.now in
+    let more = cells_text null (replicate c.in-Some.count c.in-Some.cell) in
     record {
-      appends = rw (cells_text-more c.args.null_text.now done c.in-Some.cell c.in-Some.count) (appends_then c.loop-cell.invariant.appends c.write_run.ensures);
+      text = rw (cells_text-more null done c.in-Some.cell c.in-Some.count, ← append_assoc front (cells_text null (written_out done)) more)
+          (prints_then (prints_more more c.loop-cell.invariant.text) c.write_run-end.ensures.text);
       whole = append_assoc done (run ∷ []) rest
           ∙ ap (λ (l : List RunValue). done ++ l) (sym c.in-Some.ensures.steps) ∙ c.loop-cell.invariant.whole;
+      room = c.write_run-end.auto.line ∙ c.loop-cell.invariant.room;
+      within = c.write_run-end.ensures.within;
+      kept = c.write_run-end.auto.fields ∙ c.loop-cell.invariant.kept;
+      known = c.write_run-end.ensures.known;
     }
 
-pub returns : goal.returns
-returns g c =
+pub returns-clause-text : goal.returns-clause-text
+returns-clause-text g c =
     let done : List RunValue = c.loop-cell.yielded in
     let all : done ≡ c.args.runs =
     sym (append-nil done) ∙ ap (λ (l : List RunValue). done ++ l) (sym c.in-None.ensures.steps.0) ∙
     c.loop-cell.invariant.whole in
-    rw all at c.loop-cell.invariant.appends
+    rw all at (prints_all c.loop-cell.invariant.text c.push_line.ensures)

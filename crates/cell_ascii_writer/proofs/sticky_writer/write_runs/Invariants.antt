@@ -1,11 +1,16 @@
-use Rattle.std.proofs.Common.{◌≡◌, ◌++◌}
-use Rattle.cell_devices.specs.Sticky.{Appends}
+use Rattle.std.proofs.Common.{◌≡◌, ◌≤◌, ◌++◌, length, take}
+use Rattle.std.specs.List.{All}
 use Rattle.cell_core.specs.Runs.{written_out}
+use Rattle.cell_ascii_writer.specs.Fields.{IsField, PrintsBut}
 use Rattle.cell_ascii_writer.specs.WrittenRuns.{cells_text}
 use Rattle.cell_ascii_writer.proofs.sticky_writer.write_runs.Given as goal
 
 abbrev pub invariant-loop-cell : goal.invariant-loop-cell
 invariant-loop-cell g l = record {
-  appends : Appends g.W.Sink.taken g.W.Sink.faults l.fn.out l.fn.block (cells_text l.null_text (written_out l.yielded)) l.out l.block;
+  text : PrintsBut g.W.Sink.taken g.W.Sink.faults l.fn.out l.fn.block (take l.start l.fn.line ++ cells_text l.null_text (written_out l.yielded)) (take l.end l.line) l.out l.block;
   whole : l.yielded ++ l.cell-iterator ≡ l.fn.runs;
+  room : length l.line ≡ 1024;
+  within : l.end ≤ 1024;
+  kept : length l.fields ≡ 1024;
+  known : All (IsField l.null_text) l.fields;
 }

@@ -1,0 +1,118 @@
+//! Fields of a grid text that were written before: each is made once, and then copied as eight bytes.
+
+ghost use Rattle.std.specs.Prelude.{◌≡◌, ◌+◌, ◌<◌, ◌≤◌, ◌∷◌, ◌++◌, ℕ, length, take, IfSome};
+ghost use Rattle.std.specs.List.{All};
+ghost use Rattle.cell_core.specs.Text.{cell_text};
+ghost use Rattle.cell_ascii_writer.specs.Fields.{IsField, IsFieldOf, low_bytes};
+
+use crate::writer::spaced;
+use cell_core::cell::Cell;
+use itoa::Buffer;
+use std::simd::prelude::*;
+
+// How many fields are kept.
+pub(crate) const FIELDS: usize = 1024;
+
+// So many upper bits of a number of 32 bits are a place among them.
+const PLACE_BITS: u32 = 10;
+
+// The most bytes of a text whose field is kept.
+const MOST_KEPT: usize = 7;
+
+// The least and the greatest category with so many bytes.
+const LEAST_KEPT: i32 = -999_999;
+
+const GREATEST_KEPT: i32 = 9_999_999;
+
+// A space and the text of a cell, as the lowest bytes of a number, and how many these are. It is free where they are none.
+#[derive(Clone, Copy)]
+pub(crate) struct Field {
+    pub(crate) bytes: u64,
+    pub(crate) size: u32,
+    pub(crate) cell: Cell,
+}
+
+// A field of no cell.
+pub(crate) fn free_field() -> Field
+    ensures { result.size ≡ 0 }
+{
+    Field {
+        bytes: 0,
+        size: 0,
+        cell: Cell::null(),
+    }
+}
+
+// The place of a cell's field among those that are kept.
+#[inline(always)]
+fn place_of(cell: Cell) -> usize
+    ensures { result < 1024 }
+{
+    let number = cell.get().unwrap_or(i32::MIN);
+    (number.cast_unsigned().wrapping_mul(0x9E37_79B9) >> (32 - PLACE_BITS)) as usize
+}
+
+// A space and a short text, as the lowest bytes of a number, and how many they are.
+fn field_with(text: &[u8]) -> (u64, u32)
+    requires { length text.now ≤ 7 }
+    ensures size { result.1 ≡ length text.now + 1 }
+    ensures text { low_bytes result.0 result.1 ≡ 32 ∷ text.now }
+{
+    let field = spaced(text);
+    let [bytes] = u64x1::from_le_bytes(u8x8::from_slice(&field)).to_array();
+    (bytes, text.len() as u32 + 1)
+}
+
+// A space and the text of a cell, or None where that is long.
+fn made_field(cell: Cell, null_text: &[u8]) -> Option<(u64, u32)>
+    ensures { IfSome result (λ field. IsFieldOf null_text.now cell field.0 field.1) }
+{
+    let Some(category) = cell.get() else {
+        if null_text.len() > MOST_KEPT {
+            return None;
+        }
+        return Some(field_with(null_text));
+    };
+    if category < LEAST_KEPT || category > GREATEST_KEPT {
+        return None;
+    }
+    let mut buffer = Buffer::new();
+    let text = buffer.format(category).as_bytes();
+    if text.len() > MOST_KEPT {
+        return None;
+    }
+    Some(field_with(text))
+}
+
+// Makes the field of a cell, and keeps it in the place of another, or answers None where its text is long.
+pub(crate) fn new_field(cell: Cell, null_text: &[u8], fields: &mut [Field]) -> Option<(u64, u32)>
+    requires room { length fields.old ≡ 1024 }
+    requires known { All (IsField null_text.now) fields.old }
+    ensures field { IfSome result (λ field. IsFieldOf null_text.now cell field.0 field.1) }
+    ensures known { All (IsField null_text.now) fields.new }
+{
+    let (bytes, size) = made_field(cell, null_text)?;
+    fields[place_of(cell)] = Field { bytes, size, cell };
+    Some((bytes, size))
+}
+
+// The field that is kept at the place of a cell, which may be that of another, or free.
+#[inline(always)]
+pub(crate) fn field_at(cell: Cell, null_text: &[u8], fields: &[Field]) -> Field
+    requires room { length fields.now ≡ 1024 }
+    requires known { All (IsField null_text.now) fields.now }
+    ensures { IsField null_text.now result }
+{
+    fields[place_of(cell)]
+}
+
+// Writes the lowest bytes of a number into a line from a place on. Eight are written, however many belong to it.
+#[inline(always)]
+pub(crate) fn put_field(line: &mut [u8], at: usize, bytes: u64)
+    requires { at + 8 ≤ length line.old }
+    ensures { (size : ℕ) → size ≤ 8 → take (at + size) line.new ≡ take at line.old ++ low_bytes bytes size }
+{
+    u64x1::from_array([bytes])
+        .to_le_bytes()
+        .copy_to_slice(&mut line[at..]);
+}
