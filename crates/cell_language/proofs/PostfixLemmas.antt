@@ -4,7 +4,7 @@ use Rattle.cell_language.specs.declared.step.Step.{Step}
 use Rattle.cell_language.specs.declared.step.Step.TheVariants as step
 use Rattle.cell_language.specs.Code.{built_postfix}
 use Rattle.cell_language.specs.Postfix.{postfix, postfix_all}
-use Rattle.cell_language.specs.Term.{Term, Number, Map, Negated, Not, Binary, Call, Terms, NoTerms, Then, count}
+use Rattle.cell_grammar.specs.Term.{Term, Number, Map, Negated, Not, Binary, Call, Terms, NoTerms, Then, count}
 use Rattle.cell_language.specs.Unknown.{first_of, first_unknown, first_unknown_all}
 use Rattle.cell_language.specs.parts.Built.{built}
 use Rattle.cell_language.specs.parts.Unplaced.{first_unplaced}

@@ -9,7 +9,7 @@ use Rattle.cell_tokens.specs.declared.operator.Operator.TheVariants.{Times, Divi
 use Rattle.cell_language.specs.declared.step.Step as declared
 use Rattle.cell_language.specs.declared.step.Step.TheVariants as steps
 use Rattle.cell_language.specs.Postfix.{postfix, postfix_all}
-use Rattle.cell_language.specs.Term.{Term, Number, Map, Negated, Not, Binary, Call, Terms, NoTerms, Then, count}
+use Rattle.cell_grammar.specs.Term.{Term, Number, Map, Negated, Not, Binary, Call, Terms, NoTerms, Then, count}
 use Rattle.cell_language.specs.parts.Built.{gathered, below, put, after, built, topmost}
 
 -- what stands at a place of a list

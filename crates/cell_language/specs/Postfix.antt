@@ -2,7 +2,7 @@
 use Rattle.std.specs.Prelude.{List, [], ◌∷◌, ◌++◌}
 use Rattle.cell_language.specs.declared.step.Step.{Step}
 use Rattle.cell_language.specs.declared.step.Step.TheVariants as step
-use Rattle.cell_language.specs.Term.{Term, Number, Map, Negated, Not, Binary, Call, Terms, NoTerms, Then, count}
+use Rattle.cell_grammar.specs.Term.{Term, Number, Map, Negated, Not, Binary, Call, Terms, NoTerms, Then, count}
 
 abbrev mutual
   -- an operand stands before what is made of it

@@ -19,7 +19,7 @@ pub struct Expr {
 
 impl Model for Expr {
     ghost use Rattle.cell_language.specs.Code.{term_code};
-    ghost use Rattle.cell_language.specs.Term.{Term};
+    ghost use Rattle.cell_grammar.specs.Term.{Term};
     ghost use Rattle.cell_language.specs.parts.Built.{built, AreOfExpression};
 
     ghost Value = { Term };

@@ -5,7 +5,7 @@ ghost use Rattle.cell_language.specs.declared.parsing.Stop.TheVariants.{Memory};
 ghost use Rattle.cell_language.specs.declared.reader.Frame.TheVariants as frame;
 ghost use Rattle.cell_tokens.specs.declared.token.Sign.TheVariants.{OpenParenthesis};
 ghost use Rattle.cell_language.specs.Postfix.{postfix};
-ghost use Rattle.cell_language.specs.Reading.{State, Operand, Expression, Got, Reads, IsNot};
+ghost use Rattle.cell_grammar.specs.Reading.{State, Operand, Expression, Got, Reads, IsNot};
 ghost use Rattle.cell_language.specs.Stopping.{StopsAt, IsAfter, IsCallOf};
 ghost use Rattle.cell_tokens.specs.Token.{head, name_at};
 ghost use Rattle.cell_language.specs.parts.Built.{built};

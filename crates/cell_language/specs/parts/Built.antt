@@ -4,7 +4,7 @@ use Rattle.cell_language.specs.declared.step.Step.{Step}
 use Rattle.cell_language.specs.declared.step.Step.TheVariants as step
 use Rattle.cell_language.specs.Grammatical.{IsGrammatical}
 use Rattle.cell_language.specs.Postfix.{postfix}
-use Rattle.cell_language.specs.Term.{Term, Number, Map, Negated, Not, Binary, Call, Terms, NoTerms, Then}
+use Rattle.cell_grammar.specs.Term.{Term, Number, Map, Negated, Not, Binary, Call, Terms, NoTerms, Then}
 
 -- so many terms from the top of the stack, in front of others
 abbrev pub gathered : ℕ → List Term → Terms → Terms

@@ -12,16 +12,16 @@ use Rattle.cell_tokens.specs.declared.token.Sign.TheVariants.{Plus, Minus, Excla
 use Rattle.cell_tokens.specs.declared.token.Token.{Token}
 use Rattle.cell_tokens.specs.declared.token.Token.TheVariants as token
 use Rattle.cell_tokens.specs.Function.{function_of, accepts}
-use Rattle.cell_language.specs.Grammar as grammar
-use Rattle.cell_language.specs.Grammar.{IsOffset, AreOffsets, Stands, IsExpression, AreCalled, AreArguments, below, joined, choice}
+use Rattle.cell_grammar.specs.Grammar as grammar
+use Rattle.cell_grammar.specs.Grammar.{IsOffset, AreOffsets, Stands, IsExpression, AreCalled, AreArguments, below, joined, choice}
 use Rattle.cell_tokens.specs.Operator.{operator_of, level_of, top}
-use Rattle.cell_language.specs.Reading as reading
-use Rattle.cell_language.specs.Reading.{Part, tail, and_then, distance_at, distance, signed, offset_at, offset, comma_at, bracket_at, to_bracket, Outcome, Got, GotAll, Stops, State, Operand, Whole, More, Expression, Choice, AfterQuestion, Called, Arguments, Onward, below_level, next, closed, close, join, choose, move, judged, call, add, Reads, nothing, whole, stopped, more, expression, unread, asked, unasked, no_colon, otherwise, arguments, halted, unended}
-use Rattle.cell_language.specs.Shape.{shape}
-use Rattle.cell_language.specs.Term.{Term, Terms, NoTerms, Negated, Not, count}
+use Rattle.cell_grammar.specs.Reading as reading
+use Rattle.cell_grammar.specs.Reading.{Part, tail, and_then, distance_at, distance, signed, offset_at, offset, comma_at, bracket_at, to_bracket, Outcome, Got, GotAll, Stops, State, Operand, Whole, More, Expression, Choice, AfterQuestion, Called, Arguments, Onward, below_level, next, closed, close, join, choose, move, judged, call, add, Reads, nothing, whole, stopped, more, expression, unread, asked, unasked, no_colon, otherwise, arguments, halted, unended}
+use Rattle.cell_grammar.specs.Shape.{shape}
+use Rattle.cell_grammar.specs.Term.{Term, Terms, NoTerms, Negated, Not, count}
 use Rattle.cell_tokens.specs.Token.{number_at, name_at, sign_at, head}
-use Rattle.cell_language.proofs.Sound.{raise, below_some, above_none, next_zero, front_is, IsPartOf, sound_offset, mapped, IsSound, sound}
-use Rattle.cell_language.proofs.Walk.{shape_append}
+use Rattle.cell_grammar.proofs.Sound.{raise, below_some, above_none, next_zero, front_is, IsPartOf, sound_offset, mapped, IsSound, sound}
+use Rattle.cell_grammar.proofs.Walk.{shape_append}
 
 -- the tokens from the place of a fault to the one that tells it, where that one belongs to them
 abbrev pub IsSegment : CalcKind → List Placed → Type 0

@@ -1,20 +1,18 @@
 -- Where a list of tokens stands after each of them, by their shape alone.
 use Rattle.std.proofs.Common.{◌≡◌, ℕ, ℤ, List, [], ◌∷◌, ◌++◌, Option, Some, None, refl, sym, ap, ◌∙◌, subst, ◌⊎◌, inl, inr}
 use Rattle.std.proofs.lemmas.List.{map-append}
-use Rattle.cell_language.specs.declared.assignment.Assignment.{Assignment}
 use Rattle.cell_tokens.specs.declared.operator.Operator.{Operator}
 use Rattle.cell_tokens.specs.declared.token.Placed.{Placed}
 use Rattle.cell_tokens.specs.declared.token.Sign.{Sign}
 use Rattle.cell_tokens.specs.declared.token.Sign.TheVariants.{Plus, Minus, Exclamation, Question, Colon, OpenParenthesis, CloseParenthesis, OpenBracket, CloseBracket, Comma, Assign}
 use Rattle.cell_tokens.specs.declared.token.Token.{Token}
 use Rattle.cell_tokens.specs.declared.token.Token.TheVariants as token
-use Rattle.cell_language.specs.Assignment.{IsAssignment}
-use Rattle.cell_language.specs.Grammar as grammar
-use Rattle.cell_language.specs.Grammar.{IsOffset, AreOffsets, Stands, IsExpression, AreCalled, AreArguments, below, joined, choice}
+use Rattle.cell_grammar.specs.Grammar as grammar
+use Rattle.cell_grammar.specs.Grammar.{IsOffset, AreOffsets, Stands, IsExpression, AreCalled, AreArguments, below, joined, choice}
 use Rattle.cell_tokens.specs.Operator.{operator_of}
-use Rattle.cell_language.specs.Reading.{IsAlone}
-use Rattle.cell_language.specs.Shape.{shape_of, shape, CanGoOn}
-use Rattle.cell_language.specs.Term.{Term, Terms}
+use Rattle.cell_grammar.specs.Reading.{IsAlone}
+use Rattle.cell_grammar.specs.Shape.{shape_of, shape}
+use Rattle.cell_grammar.specs.Term.{Term, Terms}
 use Rattle.cell_tokens.specs.Token.{sign_at}
 
 -- what is open around the place
@@ -255,21 +253,3 @@ mutual
       then_walk (Argument ∷ st) (Some (Operand (Argument ∷ st))) ts [] (sign_at CloseParenthesis c) (Some (After st)) (expression_makes s (Argument ∷ st)) close_alone refl
   arguments_walk (grammar.another {ts = ts} {us = us} c s q) st =
       then_walk (Argument ∷ st) (Some (Operand (Argument ∷ st))) ts us (sign_at Comma c) (Some (Operand (Argument ∷ st))) (expression_makes s (Argument ∷ st)) comma_alone refl ∙ arguments_walk q st
-
--- the tokens of an assignment are walked to the end
-pub assignment_makes : (ts : List Placed) (a : Assignment) → IsAssignment ts a → Lands [] (walk (Some Start) (shape ts))
-assignment_makes ts a h = subst (λ l. Lands [] (walk (Some Start) (shape l))) (sym h.3) (expression_makes h.4 [])
-
-not_landed : (p : Option Place) (ts : List Token) → p ≡ None → Lands [] (walk p ts) → ⊥
-not_landed p ts e (inl l) =
-    let n : walk p ts ≡ None = ap (λ q. walk q ts) e ∙ walk_none ts in
-    cc
-not_landed p ts e (inr l) =
-    let n : walk p ts ≡ None = ap (λ q. walk q ts) e ∙ walk_none ts in
-    cc
-
--- tokens that cannot be walked cannot go on
-pub cannot : (ts : List Placed) → walk (Some Start) (shape ts) ≡ None → CanGoOn ts → ⊥
-cannot ts e (us, after, a, same, h) =
-    not_landed (walk (Some Start) (shape us)) (shape after) (ap (walk (Some Start)) same ∙ e)
-    (subst (Lands []) (walk_both (Some Start) us after) (assignment_makes (us ++ after) a h))

@@ -12,12 +12,12 @@ use Rattle.cell_tokens.specs.declared.token.Token.{Token}
 use Rattle.cell_tokens.specs.declared.token.Token.TheVariants as token
 use Rattle.cell_tokens.specs.Function.{accepts}
 use Rattle.cell_tokens.specs.Operator.{operator_of}
-use Rattle.cell_language.specs.Reading as reading
-use Rattle.cell_language.specs.Reading.{Part, tail, and_then, distance_at, distance, signed, offset_at, offset, comma_at, bracket_at, to_bracket, Outcome, Got, GotAll, Stops, State, Operand, Whole, More, Expression, Choice, AfterQuestion, Called, Arguments, Onward, next, closed, close, join, choose, move, judged, call, add, Reads, nothing, whole, stopped, done, more, expression, unread, unchosen, asked, unasked, no_colon, otherwise, arguments, halted, unended}
-use Rattle.cell_language.specs.Term.{Term, Terms, Negated, Not, Call, NoTerms, Then, count}
+use Rattle.cell_grammar.specs.Reading as reading
+use Rattle.cell_grammar.specs.Reading.{Part, tail, and_then, distance_at, distance, signed, offset_at, offset, comma_at, bracket_at, to_bracket, Outcome, Got, GotAll, Stops, State, Operand, Whole, More, Expression, Choice, AfterQuestion, Called, Arguments, Onward, next, closed, close, join, choose, move, judged, call, add, Reads, nothing, whole, stopped, done, more, expression, unread, unchosen, asked, unasked, no_colon, otherwise, arguments, halted, unended}
+use Rattle.cell_grammar.specs.Term.{Term, Terms, Negated, Not, Call, NoTerms, Then, count}
 use Rattle.cell_tokens.specs.Token.{number_at, name_at, sign_at, head}
-use Rattle.cell_language.proofs.Sound.{below_some, front_is, mapped, IsSound, sound}
-use Rattle.cell_language.proofs.Splits.{Stays, in_first, in_second, stays, not_nothing}
+use Rattle.cell_grammar.proofs.Sound.{below_some, front_is, mapped, IsSound, sound}
+use Rattle.cell_grammar.proofs.Splits.{Stays, in_first, in_second, stays, not_nothing}
 
 -- what is left of the tokens
 abbrev pub left : Outcome → List Placed

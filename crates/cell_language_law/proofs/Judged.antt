@@ -9,17 +9,17 @@ use Rattle.cell_tokens.specs.declared.token.Sign.TheVariants.{OpenParenthesis, C
 use Rattle.cell_tokens.specs.declared.token.Token.{Token}
 use Rattle.cell_tokens.specs.declared.token.Token.TheVariants as token
 use Rattle.cell_language.specs.Assignment.{IsAssignment}
-use Rattle.cell_language.specs.Grammar.{AreCalled}
+use Rattle.cell_grammar.specs.Grammar.{AreCalled}
 use Rattle.cell_language.specs.GrammarFault.{column_of, IsUnknown, IsMiscounted, IsFar, Tells, IsGrammarFault}
-use Rattle.cell_language.specs.Reading.{Outcome, Got, GotAll, Stops, Expression, IsNot, Reads, tail}
-use Rattle.cell_language.specs.Term.{Terms}
+use Rattle.cell_grammar.specs.Reading.{Outcome, Got, GotAll, Stops, Expression, IsNot, Reads, tail}
+use Rattle.cell_grammar.specs.Term.{Terms}
 use Rattle.cell_tokens.specs.Token.{number_at, name_at, sign_at, head}
 use Rattle.cell_tokens.specs.Tokens.{fault}
 use Rattle.cell_language.proofs.Bad.{Bad, bad_call, called_end, none_inside}
 use Rattle.cell_language.proofs.Faults.{no_name, no_assign, nothing_at_all, stops, goes_on}
-use Rattle.cell_language.proofs.Sound.{front_is, sound, sound_all}
-use Rattle.cell_language.proofs.Splits.{Cuts, same, before, behind, cuts, not_nothing, same_last}
-use Rattle.cell_language.proofs.Total.{read_somehow}
+use Rattle.cell_grammar.proofs.Sound.{front_is, sound, sound_all}
+use Rattle.cell_grammar.proofs.Splits.{Cuts, same, before, behind, cuts, not_nothing, same_last}
+use Rattle.cell_language_law.proofs.Total.{read_somehow}
 
 same_fault : (f g : CalcFault) → f.kind ≡ g.kind → f.column ≡ g.column → f ≡ g
 same_fault f g e h =
@@ -134,7 +134,7 @@ one_fault end ts f g (inr (e, can, none), _) (inl (b', r', n', e', t', none'), _
 one_fault end ts f g (inr (e, can, none), _) (inr (e', can', none'), _) = e ∙ sym e'
 
 -- the list stands for an assignment, or has a fault
-abbrev IsJudged : ℕ → List Placed → Type 0
+abbrev pub IsJudged : ℕ → List Placed → Type 0
 IsJudged end ts = ((a : Assignment) × IsAssignment ts a) ⊎ ((told : CalcFault) × IsGrammarFault end ts told)
 
 judged_read : (end : ℕ) (name : List ℕ) (c d : ℕ) (us : List Placed) (o : Outcome) → Reads (Expression us) o → IsJudged end (name_at name c ∷ sign_at Assign d ∷ us)

@@ -10,11 +10,11 @@ use Rattle.cell_tokens.specs.declared.token.Token.{Token}
 use Rattle.cell_tokens.specs.declared.token.Token.TheVariants as token
 use Rattle.cell_tokens.specs.Function.{function_of, accepts}
 use Rattle.cell_tokens.specs.Operator.{level_of, top}
-use Rattle.cell_language.specs.Reading as reading
-use Rattle.cell_language.specs.Reading.{Part, tail, Outcome, Got, GotAll, Stops, State, Operand, Whole, More, Expression, Choice, AfterQuestion, Called, Arguments, Onward, next, IsNot, IsAlone, BeginsNone, negate, invert, closed, close, join, choose, move, judged, call, add, Reads, nothing, whole, stopped, done, more, expression, unread, unchosen, asked, unasked, no_colon, otherwise, arguments, halted, unended}
-use Rattle.cell_language.specs.Term.{Term, Negated, Not, Binary, NoTerms, Then, count}
+use Rattle.cell_grammar.specs.Reading as reading
+use Rattle.cell_grammar.specs.Reading.{Part, tail, Outcome, Got, GotAll, Stops, State, Operand, Whole, More, Expression, Choice, AfterQuestion, Called, Arguments, Onward, next, IsNot, IsAlone, BeginsNone, negate, invert, closed, close, join, choose, move, judged, call, add, Reads, nothing, whole, stopped, done, more, expression, unread, unchosen, asked, unasked, no_colon, otherwise, arguments, halted, unended}
+use Rattle.cell_grammar.specs.Term.{Term, Negated, Not, Binary, NoTerms, Then, count}
 use Rattle.cell_tokens.specs.Token.{name_at, sign_at, head}
-use Rattle.cell_language.proofs.Sound.{front_is, mapped, AreBoth, IsPartOf, sound_offsets, sound}
+use Rattle.cell_grammar.proofs.Sound.{front_is, mapped, AreBoth, IsPartOf, sound_offsets, sound}
 
 -- what is left of an expression is shorter than that
 abbrev Within : ℕ → Outcome → Type 0

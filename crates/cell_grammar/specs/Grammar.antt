@@ -8,7 +8,7 @@ use Rattle.cell_tokens.specs.declared.token.Placed.{Placed}
 use Rattle.cell_tokens.specs.declared.token.Sign.TheVariants.{Plus, Minus, Exclamation, Question, Colon, OpenParenthesis, CloseParenthesis, OpenBracket, CloseBracket, Comma}
 use Rattle.cell_tokens.specs.Function.{function_of, accepts}
 use Rattle.cell_tokens.specs.Operator.{operator_of, level_of, top}
-use Rattle.cell_language.specs.Term.{Term, Number, Map, Negated, Not, Binary, Call, Terms, NoTerms, Then, count}
+use Rattle.cell_grammar.specs.Term.{Term, Number, Map, Negated, Not, Binary, Call, Terms, NoTerms, Then, count}
 use Rattle.cell_tokens.specs.Token.{number_at, name_at, sign_at}
 
 -- off = NUMBER | "-" NUMBER | "+" NUMBER, where the number is at most 255

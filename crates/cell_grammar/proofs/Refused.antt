@@ -12,15 +12,15 @@ use Rattle.cell_tokens.specs.declared.token.Token.{Token}
 use Rattle.cell_tokens.specs.declared.token.Token.TheVariants as token
 use Rattle.cell_tokens.specs.Function.{accepts}
 use Rattle.cell_tokens.specs.Operator.{operator_of, level_of, top}
-use Rattle.cell_language.specs.Grammar.{IsOffset}
-use Rattle.cell_language.specs.Reading as reading
-use Rattle.cell_language.specs.Reading.{Part, tail, and_then, distance_at, distance, signed, offset_at, offset, comma_at, bracket_at, to_bracket, Outcome, Got, GotAll, Stops, State, Operand, Whole, More, Expression, Choice, AfterQuestion, Called, Arguments, Onward, below_level, next, IsNot, IsAlone, BeginsNone, closed, close, join, choose, move, judged, call, add, Reads, nothing, whole, stopped, done, more, expression, unread, unchosen, asked, unasked, no_colon, otherwise, arguments, halted, unended}
-use Rattle.cell_language.specs.Shape.{shape_of, shape}
-use Rattle.cell_language.specs.Term.{Term, Negated, Not, count}
+use Rattle.cell_grammar.specs.Grammar.{IsOffset}
+use Rattle.cell_grammar.specs.Reading as reading
+use Rattle.cell_grammar.specs.Reading.{Part, tail, and_then, distance_at, distance, signed, offset_at, offset, comma_at, bracket_at, to_bracket, Outcome, Got, GotAll, Stops, State, Operand, Whole, More, Expression, Choice, AfterQuestion, Called, Arguments, Onward, below_level, next, IsNot, IsAlone, BeginsNone, closed, close, join, choose, move, judged, call, add, Reads, nothing, whole, stopped, done, more, expression, unread, unchosen, asked, unasked, no_colon, otherwise, arguments, halted, unended}
+use Rattle.cell_grammar.specs.Shape.{shape_of, shape}
+use Rattle.cell_grammar.specs.Term.{Term, Negated, Not, count}
 use Rattle.cell_tokens.specs.Token.{number_at, name_at, sign_at, head}
-use Rattle.cell_language.proofs.Sound.{below_some, front_is, IsPartOf, sound_offset, sound_offsets, AreBoth, IsSign, sound_comma, mapped, IsSound, sound}
-use Rattle.cell_language.proofs.Walk as place
-use Rattle.cell_language.proofs.Walk.{Frame, Parenthesis, Argument, Choosing, Place, First, FirstNumber, Between, Second, SecondNumber, Last, Opened, Named, After, operand_step, ends_step, asks_step, joins_step, after_step, named_step, opened_step, offset_step, number_step, step, step_on, walk, walk_both, operator_shape, operator_after, named_alone, opened_walk, first_makes, second_makes, offsets_make}
+use Rattle.cell_grammar.proofs.Sound.{below_some, front_is, IsPartOf, sound_offset, sound_offsets, AreBoth, IsSign, sound_comma, mapped, IsSound, sound}
+use Rattle.cell_grammar.proofs.Walk as place
+use Rattle.cell_grammar.proofs.Walk.{Frame, Parenthesis, Argument, Choosing, Place, First, FirstNumber, Between, Second, SecondNumber, Last, Opened, Named, After, operand_step, ends_step, asks_step, joins_step, after_step, named_step, opened_step, offset_step, number_step, step, step_on, walk, walk_both, operator_shape, operator_after, named_alone, opened_walk, first_makes, second_makes, offsets_make}
 
 -- the place is one after an operand, for this next token
 abbrev pub GoesAs : List Frame → Option Token → Option Place → Type 0
