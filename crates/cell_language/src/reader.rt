@@ -12,8 +12,8 @@ ghost use Rattle.cell_language.specs.parts.Built.{built};
 ghost use Rattle.cell_language.specs.parts.Waiting.{IsAwaited, IsResumed, IsRead, Goes, waiting, latest_first, tokens_of, work};
 
 use crate::parsing::{Stop, after_sign, copied, first, next, offsets};
-use crate::step::Step;
 use cell_base::name::Name;
+use cell_steps::named::Step;
 use cell_tokens::fault::CalcKind;
 use cell_tokens::function::{Function, accepts, function_of};
 use cell_tokens::operator::{Operator, TOP_LEVEL, level_of};

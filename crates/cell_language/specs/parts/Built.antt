@@ -1,7 +1,7 @@
 -- The term that steps in postfix order build on a stack.
 use Rattle.std.specs.Prelude.{ℕ, zero, suc, List, [], ◌∷◌, ◌≡◌}
-use Rattle.cell_language.specs.declared.step.Step.{Step}
-use Rattle.cell_language.specs.declared.step.Step.TheVariants as step
+use Rattle.cell_steps.specs.declared.named.Step.{Step}
+use Rattle.cell_steps.specs.declared.named.Step.TheVariants as step
 use Rattle.cell_language.specs.Grammatical.{IsGrammatical}
 use Rattle.cell_language.specs.Postfix.{postfix}
 use Rattle.cell_grammar.specs.Term.{Term, Number, Map, Negated, Not, Binary, Call, Terms, NoTerms, Then}

@@ -1,4 +1,4 @@
-//! The steps of an expression.
+//! The steps of an expression whose maps are names.
 
 use cell_base::name::Name;
 use cell_tokens::function::Function;

@@ -1,4 +1,4 @@
-//! Steps of expressions over places of maps.
+//! The steps of an expression whose maps are places.
 
 use cell_tokens::function::Function;
 use cell_tokens::operator::Operator;
