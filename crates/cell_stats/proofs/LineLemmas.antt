@@ -1,15 +1,9 @@
 -- The fields of a line, one after another.
-use Rattle.std.proofs.Common.{◌≡◌, ℕ, ◌+◌, ◌-◌, ◌<◌, All, take, take_all, length-drop, List, [], ◌∷◌, ◌++◌, Bool, true, false, length, drop, get_or, Option, Result, refl, ap, subst, sym, ◌∙◌, arith, append_assoc, append-nil, if◌then◌else◌}
+use Rattle.std.proofs.Common.{◌≡◌, ℕ, ◌+◌, ◌-◌, ◌<◌, All, take, take_all, length-drop, List, [], ◌∷◌, ◌++◌, Bool, true, false, length, drop, get_or, refl, ap, subst, sym, ◌∙◌, arith, append_assoc, append-nil, if◌then◌else◌}
 use Rattle.std.specs.List.{zip, join_with_byte, flat_map}
 use Rattle.std.proofs.lemmas.Grind.{flat_map-append}
 use Rattle.std.proofs.lemmas.Slice.Zip.{get_or-zip, length-zip}
-use Rattle.std.proofs.lemmas.Result.{IfErr-weaker, IfOk-weaker}
 use Rattle.std.proofs.lemmas.List.{get_or-drop}
-use Rattle.std.specs.Result.{IfErr, OnOk}
-use Rattle.cell_devices.specs.Device.{Faults, after_put}
-use Rattle.cell_devices.specs.declared.sink.WriteFault.{WriteFault}
-use Rattle.cell_devices.specs.Blocks.{BlockValue, Gathers, CutsOff}
-use Rattle.cell_devices.proofs.GatherLemmas.{CutsOff-first, CutsOff-second, Gathers-then}
 use Rattle.cell_core.specs.Grid.{Grid, CellValue}
 use Rattle.cell_core.specs.Text.{cell_text}
 use Rattle.cell_combinations.specs.Combinations.{Combination}
@@ -55,23 +49,6 @@ line-more format maps (p ∷ picks) [] more some same = absurd (omega arith)
 line-more format maps (p ∷ picks) (x ∷ k) more some same =
     let others = (if format.labels then label_in maps p x ∷ [] else []) ++ flat_map (λ p. cell_fields format maps p.0 p.1) (zip picks k) in
     join-more format.separator (cell_text format.null_text x) others more
-
-module _ (taken : Option (List ℕ)) (old : BlockValue) (a b t : List ℕ) (parts : a ++ b ≡ t) where
-  -- a text is cut in its first part
-  pub cut-first : (now : Option (List ℕ)) (written : ℕ) → CutsOff taken old a now written → CutsOff taken old t now written
-  cut-first now written cuts = subst (λ (l : List ℕ). CutsOff taken old l now written) parts (CutsOff-first taken old a b now written cuts)
-
-  -- a text is cut in its second part, where it is
-  pub cut-second : (r : Result Unit WriteFault) (mid now : Option (List ℕ)) (middle : BlockValue) → Gathers taken old a mid middle → IfErr r (λ fault. CutsOff mid middle b now fault.written) → IfErr r (λ fault. CutsOff taken old t now fault.written)
-  cut-second r mid now middle first cuts =
-      subst (λ (l : List ℕ). IfErr r (λ fault. CutsOff taken old l now fault.written)) parts
-      (IfErr-weaker r _ _ (λ fault cut. CutsOff-second taken old a b mid now middle fault.written first cut) cuts)
-
-  -- or it is whole
-  pub ok-second : (r : Result Unit WriteFault) (mid now : Option (List ℕ)) (middle new : BlockValue) → Gathers taken old a mid middle → OnOk r (Gathers mid middle b now new) → OnOk r (Gathers taken old t now new)
-  ok-second r mid now middle new first second =
-      subst (λ (l : List ℕ). OnOk r (Gathers taken old l now new)) parts
-      (IfOk-weaker r _ _ (λ _ last. Gathers-then taken old a b mid now middle new first last) second)
 
 -- a cell, and its label behind it
 pub pick_text-label : (format : FormatValue) (maps : List Grid) (place : ℕ) (cell : CellValue) → cell_text format.null_text cell ++ preceded format.separator (if format.labels then label_in maps place cell ∷ [] else []) ≡ pick_text format maps place cell
@@ -122,11 +99,3 @@ combination-parts format maps picks k x is some same =
 -- the combination, the count and the line feed
 pub pair-parts : (format : FormatValue) (maps : List Grid) (picks : List ℕ) (k : Combination) (n : ℕ) → 0 < length picks → length k ≡ length picks → (join_with_byte format.separator (combination_fields format maps picks k) ++ preceded format.separator (count_fields format n)) ++ 10 ∷ [] ≡ pair_line format maps picks (k, n)
 pair-parts format maps picks k n some same = ap (λ (l : List ℕ). l ++ 10 ∷ []) (sym (line-more format maps picks k (count_fields format n) some same))
-
--- a sink that took all so far, and then the next call
-pub faults_then : (now between before : Faults) (fails : Bool) → now ≡ after_put between fails → between ≡ before → now ≡ after_put before fails
-faults_then now between before fails same was = rw was at same
-
--- a sink that took all so far, and in the next call
-pub faults_still : (now between before : Faults) → now ≡ between → between ≡ before → now ≡ before
-faults_still now between before same was = same ∙ was
