@@ -1,5 +1,5 @@
 use Rattle.rcell.proofs.TableLemmas.{cells_stats, table_stats}
-use Rattle.rcell.proofs.runs.tables.put_stats.Goals as goal
+use Rattle.rcell.proofs.runs.tables.write_stats.Goals as goal
 
 pub tally-requires-clause-width : goal.tally-requires-clause-width
 tally-requires-clause-width g c = (c.requires.some, c.requires.most)
