@@ -100,19 +100,25 @@ def refusal(parts, got):
     return (source, line, len(before)) if is_place and got.output == before else None
 
 
+def sources_of(case):
+    """What may be told to be out of memory: the command line, the script, and the grids by their names."""
+    grids = read(f"{case}/args").decode().splitlines()[1:]
+    return {"arguments", "script", *(word.partition("=")[0] for word in grids)}
+
+
 def refused_in_turn(case, folder, shim, room, wanted):
     """Refuses growth 1, 2, .. until a run asks for fewer. Answers how many there were, or what went wrong.
 
     Where the standard library asks once more for what it was refused, the run does all its work.
     """
-    count, found = f"{room}/count", set()
+    count, found, sources = f"{room}/count", set(), sources_of(case)
     for at in range(1, 100000):
         got = run(case, folder, LD_PRELOAD=shim, REFUSE_AT=str(at), REFUSE_COUNT=count)
         asked = int(read(count) or b"0")
         if asked < at:
             return at - 1, wrong_refusals(case, found) if got == wanted else f"growth {at} was not asked for, and yet {got}"
         told = refusal(wanted.parts, got)
-        if told:
+        if told and told[0] in sources:
             found.add(told)
         elif not (got == wanted and asked > at):
             return at, f"with growth {at} refused: {got}"
