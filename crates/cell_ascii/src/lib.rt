@@ -7,4 +7,4 @@ pub mod reader;
 mod words;
 
 pub use cell_ascii_text::fault;
-pub use cell_ascii_writer::{sticky_writer, writer};
+pub use cell_ascii_writer::writer;
