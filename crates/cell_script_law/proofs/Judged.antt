@@ -1,31 +1,29 @@
 -- Each text of a script is read to its end or to its first fault.
-use Rattle.std.proofs.Common.{◌≡◌, ℕ, ◌+◌, Bool, true, false, List, [], ◌∷◌, Option, Some, None, Result, Ok, Err, MatchResult, refl, sym, ap, ◌∙◌, subst, ◌⊎◌, inl, inr}
+use Rattle.std.proofs.Common.{◌≡◌, ℕ, ◌+◌, Bool, true, false, List, Result, Ok, Err, MatchResult, refl, sym, ap, ◌∙◌, subst, ◌⊎◌, inl, inr}
 use Rattle.std.specs.Prelude.{nat_lt, length, IsOkAnd}
 use Rattle.cell_text.specs.Words.{words_of}
 use Rattle.cell_tokens.specs.declared.fault.CalcFault.{CalcFault}
 use Rattle.cell_tokens.specs.declared.fault.CalcKind.{CalcKind}
 use Rattle.cell_tokens.specs.declared.fault.CalcKind.TheVariants as calc
 use Rattle.cell_tokens.specs.declared.token.Placed.{Placed}
-use Rattle.cell_tokens.specs.Tokens.{fault, no_memory, token_list}
+use Rattle.cell_tokens.specs.Tokens.{fault, token_list}
 use Rattle.cell_language.specs.declared.assignment.Assignment.{Assignment}
 use Rattle.cell_language.specs.Assignment.{IsAssignment, IsAssignmentText}
 use Rattle.cell_language.specs.GrammarFault.{Tells, IsGrammarFault, IsTextFault}
 use Rattle.cell_language.proofs.Law.{one}
 use Rattle.cell_language_law.proofs.Judged.{IsJudged, each_judged}
-use Rattle.cell_commands.specs.Commands.{mapcalc_of, IsMapcalc, head_of_words, is_mapcalc, IsShortHead, IsHeadOf, IsHead}
+use Rattle.cell_commands.specs.Commands.{mapcalc_of, IsMapcalc, head_of_words, is_mapcalc, IsShortHead, IsHeadOf}
 use Rattle.cell_commands.specs.RMapcalc.{assignment_text}
 use Rattle.cell_commands.specs.declared.fault.ScriptFault.{ScriptFault}
 use Rattle.cell_commands.specs.declared.fault.ScriptKind.{ScriptKind}
 use Rattle.cell_commands.specs.declared.fault.ScriptKind.TheVariants.{Calc, LongLine}
 use Rattle.cell_commands.specs.declared.heads.Head.{Head}
 use Rattle.cell_script.specs.Lines.{script_lines}
-use Rattle.cell_script.specs.Reading.{start, at_end, after_head, after_rule, rule_line, IsNextTo, IsNext, IsReading}
+use Rattle.cell_script.specs.Reading.{start, IsReading}
 use Rattle.cell_script.specs.ReadScripts.{IsReadAs, IsScriptFault}
-use Rattle.cell_script.specs.Scripts.{IsScript}
-use Rattle.cell_script.specs.declared.reading.Block.{Block}
-use Rattle.cell_script.specs.declared.reading.Progress.{Progress}
 use Rattle.cell_script.specs.declared.statement.Statement.{Statement}
 use Rattle.cell_script.proofs.LawLemmas.{no_fault_of_a_script, reading-denotes}
+use Rattle.cell_script.proofs.TotalLemmas.{EachLineIsHead, read_somehow}
 use Rattle.cell_script_law.specs.JudgedLaw.{IsGoodText, IsBadText, TextsAreJudged}
 use Rattle.cell_script_law.proofs.Plain.{IsPlain, plain_list}
 
@@ -77,31 +75,13 @@ head_of : (long : Bool) (known : List (List ℕ)) (line : List ℕ) → (head : 
 head_of true known line = (Err LongLine, refl)
 head_of false known line = short_head (is_mapcalc (words_of line)) known line
 
--- each line comes to something
-next_to : (pending : Option Block) (line : ℕ) (read : Progress) (l : List ℕ) → (next : Result Progress ScriptFault) × IsNextTo pending line read l next
-next_to None line read l =
-    let h = head_of (nat_lt 65535 (length l)) read.known l in
-    (after_head line read h.0, h.0, h.1, refl)
-next_to (Some block) line read l = (after_rule line (record read { pending = None }) block (rule_line block.rules l), refl)
-
-mutual
-  -- lines come to statements, or to a fault
-  read_lines : (ls : List (List ℕ)) (line : ℕ) (read : Progress) → (r : Result (List Statement) ScriptFault) × IsReading line read ls r
-  read_lines [] line read = (at_end read, refl)
-  read_lines (l ∷ ls) line read =
-      let next = next_to read.pending line read l in
-      read_rest l ls line read next.0 next.1
-
-  read_rest : (l : List ℕ) (ls : List (List ℕ)) (line : ℕ) (read : Progress) (next : Result Progress ScriptFault) → IsNext line read l next → (r : Result (List Statement) ScriptFault) × IsReading line read (l ∷ ls) r
-  read_rest l ls line read (Ok more) is =
-      let rest = read_lines ls (line + 1) more in
-      (rest.0, Ok more, is, rest.1)
-  read_rest l ls line read (Err told) is = (Err told, Err told, is, refl)
+line_head : EachLineIsHead
+line_head known line = head_of (nat_lt 65535 (length line)) known line
 
 pub texts_are_judged : TextsAreJudged
 unfolding IsReadAs IsScriptFault
 texts_are_judged known text =
-    let read = read_lines (script_lines text) 1 (start known) in
+    let read = read_somehow line_head known text in
     go read.0 read.1
   where
     good : (statements : List Statement) → IsReadAs known text statements → IsGoodText known text
@@ -113,6 +93,5 @@ texts_are_judged known text =
     bad told fault = (told, fault, λ statements script. no_fault_of_a_script one known text statements told script fault)
 
     go : (r : Result (List Statement) ScriptFault) → IsReading 1 (start known) (script_lines text) r → IsGoodText known text ⊎ IsBadText known text
-    unfolding IsReadAs IsScriptFault
     go (Ok statements) is = inl (good statements is)
     go (Err told) is = inr (bad told is)

@@ -1,12 +1,11 @@
 -- The tokens of a text have no fault of memory.
-use Rattle.std.proofs.Common.{◌≡◌, ℕ, ◌+◌, Bool, true, false, List, [], ◌∷◌, Option, Some, None, Result, Ok, Err, arith}
+use Rattle.std.proofs.Common.{◌≡◌, ℕ, ◌+◌, Bool, true, false, List, [], ◌∷◌, Option, Some, None, Result, Ok, Err}
 use Rattle.std.specs.Prelude.{nat_le, nat_lt, length, if◌then◌else◌}
 use Rattle.std.specs.List.{list_all, list_any}
 use Rattle.std.specs.Option.{option_map, ok_or}
 use Rattle.cell_base.specs.Name.{is_name_byte, starts_name}
 use Rattle.cell_text.specs.Digits.{is_digit, value_of_digits}
 use Rattle.cell_tokens.specs.declared.fault.CalcFault.{CalcFault}
-use Rattle.cell_tokens.specs.declared.fault.CalcKind.{CalcKind}
 use Rattle.cell_tokens.specs.declared.fault.CalcKind.TheVariants.{BadByte, BadNumber, FloatNumber, TooLong, BadName, Memory}
 use Rattle.cell_tokens.specs.declared.token.Placed.{Placed}
 use Rattle.cell_tokens.specs.declared.token.Sign.{Sign}
