@@ -88,22 +88,17 @@ def run(case, folder, **more):
     return answer
 
 
-def refusal(parts, got):
-    """The source, line and number of bytes out where memory was refused; None where that is not told, or where what is out is
-    not the whole output of the statements before the line. `parts` has the output of each statement by its line."""
+def refusal(wanted, got):
+    """The source, line and number of bytes out where memory was refused; None where that is not told, where no such source is
+    among those of the run, or where what is out is not the whole output of the statements before the line. `wanted` is what
+    the run answers with memory enough."""
     told = NO_MEMORY.fullmatch(got.told)
     if got.status != 3 or not told:
         return None
-    source, line = told[1].decode(), int(told[2])
-    is_place = line == 0 or (source == "script" and line in dict(parts))
-    before = b"".join(output for at, output in parts if at < line)
-    return (source, line, len(before)) if is_place and got.output == before else None
-
-
-def sources_of(case):
-    """What may be told to be out of memory: the command line, the script, and the grids by their names."""
-    grids = read(f"{case}/args").decode().splitlines()[1:]
-    return {"arguments", "script", *(word.partition("=")[0] for word in grids)}
+    source, line = told[1], int(told[2])
+    is_place = source in (b"arguments", b"script", *wanted.grids) if line == 0 else source == b"script" and line in dict(wanted.parts)
+    before = b"".join(output for at, output in wanted.parts if at < line)
+    return (source.decode(), line, len(before)) if is_place and got.output == before else None
 
 
 def refused_in_turn(case, folder, shim, room, wanted):
@@ -111,14 +106,14 @@ def refused_in_turn(case, folder, shim, room, wanted):
 
     Where the standard library asks once more for what it was refused, the run does all its work.
     """
-    count, found, sources = f"{room}/count", set(), sources_of(case)
+    count, found = f"{room}/count", set()
     for at in range(1, 100000):
         got = run(case, folder, LD_PRELOAD=shim, REFUSE_AT=str(at), REFUSE_COUNT=count)
         asked = int(read(count) or b"0")
         if asked < at:
             return at - 1, wrong_refusals(case, found) if got == wanted else f"growth {at} was not asked for, and yet {got}"
-        told = refusal(wanted.parts, got)
-        if told and told[0] in sources:
+        told = refusal(wanted, got)
+        if told:
             found.add(told)
         elif not (got == wanted and asked > at):
             return at, f"with growth {at} refused: {got}"
