@@ -20,7 +20,7 @@ use Rattle.cell_grammar.specs.Term.{Term, Negated, Not, count}
 use Rattle.cell_tokens.specs.Token.{number_at, name_at, sign_at, head}
 use Rattle.cell_grammar.proofs.Sound.{below_some, front_is, IsPartOf, sound_offset, sound_offsets, AreBoth, IsSign, sound_comma, mapped, IsSound, sound}
 use Rattle.cell_grammar.proofs.Walk as place
-use Rattle.cell_grammar.proofs.Walk.{Frame, Parenthesis, Argument, Choosing, Place, First, FirstNumber, Between, Second, SecondNumber, Last, Opened, Named, After, operand_step, ends_step, asks_step, joins_step, after_step, opened_step, offset_step, number_step, step, step_on, walk, walk_both, operator_shape, operator_after, named_alone, opened_walk, first_makes, second_makes, offsets_make}
+use Rattle.cell_grammar.proofs.Walk.{Frame, Parenthesis, Argument, Choosing, Place, First, FirstNumber, Between, Second, SecondNumber, Last, Opened, Named, After, operand_step, ends_step, asks_step, joins_step, after_step, named_step, opened_step, offset_step, number_step, step, step_on, walk, walk_both, operator_shape, operator_after, named_alone, opened_walk, first_makes, second_makes, offsets_make}
 
 -- the place is one after an operand, for this next token
 abbrev pub GoesAs : List Frame → Option Token → Option Place → Type 0
@@ -258,6 +258,9 @@ argument_refused : (st : List Frame) (t : Option Token) → IsNot CloseParenthes
 argument_refused st t n m (token.Sign CloseParenthesis) e = absurd (n e)
 argument_refused st t n m (token.Sign Comma) e = absurd (m e)
 argument_refused st t n m _ e = refl
+
+pub top_refused : (s : Token) → ends_step [] (shape_of s) ≡ None
+top_refused s = refl
 
 walked_unary : (f : Term → Term) (s : Placed) (ts : List Placed) → ((st : List Frame) → operand_step st (shape_of s.token) ≡ Some (place.Operand st)) → (o : Outcome) → IsSound (Operand ts) o → IsWalked (Operand ts) o → IsWalked (Operand (s ∷ ts)) (mapped f o)
 walked_unary f s ts e (Got a rest) i h = λ st. walks_next (GoesAs st (head rest)) (Some (place.Operand st)) s ts rest (walks_from (GoesAs st (head rest)) (operand_step st (shape_of s.token)) (Some (place.Operand st)) ts rest (e st) (h st))

@@ -18,6 +18,11 @@ mutual
     NoTerms : Terms
     Then : (a : Term) (xs : Terms) → Terms
 
+-- the arguments as a list
+abbrev pub listed : Terms → List Term
+listed NoTerms = []
+listed (Then a xs) = a ∷ listed xs
+
 -- how many arguments there are
 abbrev pub count : Terms → ℕ
 count NoTerms = zero
