@@ -30,7 +30,7 @@ from dataclasses import dataclass, field
 import differences
 
 ROOT = os.path.dirname(os.path.dirname(os.path.abspath(__file__)))
-DOCUMENTS = ["README.md", "docs/GUIDE.md", "docs/COMMANDS.md", "docs/DIFFERENCES.md", "docs/PROOFS.md"]
+DOCUMENTS = ["README.md", "docs/ISLANDS.md", "docs/GUIDE.md", "docs/COMMANDS.md", "docs/DIFFERENCES.md", "docs/PROOFS.md"]
 FENCE = re.compile(r"```(\S*)(?: file=(\S+))?\n(.*?)^```$", re.MULTILINE | re.DOTALL)
 COUNTED = re.compile(r"^\| (crates/\S+\.antt|all) \| (\d+) \| (\d+) \|", re.MULTILINE)
 # A line of a file of definitions that defines nothing: an import, a comment, or nothing at all.
