@@ -10,7 +10,8 @@
 # make edits     tries the edits of crates/NAME/edits/, which the gate leaves alone: each must be refused
 # make hostile   uses the program as an enemy would: each growth, read, write and byte in turn, and the greatest inputs (an hour)
 # make fuzz      runs it on random input beside a plain model, SECONDS=60 of them, from SEED=
-# make bench     times each task beside a yardstick in C++ and writes the tables and the chart of docs/SPEED.md; BENCH=--short takes two minutes
+# make bench     times each task beside a yardstick in C++; BENCH=--short takes two minutes
+# make figures   measures all that docs/SPEED.md shows and writes it there, into README.md and into docs/speed.png (an hour)
 # make pictures  draws the pictures of the documents
 # make exchange  holds the program and the documents against GRASS and GDAL, where they are installed
 # make clean     removes all that was built
@@ -22,12 +23,14 @@
 PREFIX ?= /usr/local
 DESTDIR ?=
 JOBS ?=
+# Of Debian: python3-matplotlib, which is not seen by a Python of one's own.
+PICTURES = /usr/bin/python3 tools/pictures.py
 
 # What the program is built from: neither tests nor the edits that must fail.
 CRATES = $(filter-out %_tests %/cell_test_maps,$(wildcard crates/*))
 SOURCES = crates.txt $(shell find $(wildcard $(CRATES:%=%/src) $(CRATES:%=%/specs) $(CRATES:%=%/proofs)) -type f)
 
-.PHONY: all install uninstall example documents check static dist debian11 edits hostile fuzz bench pictures exchange clean help
+.PHONY: all install uninstall example documents check static dist debian11 edits hostile fuzz bench figures pictures exchange clean help
 
 all: bin/rcell
 
@@ -74,8 +77,14 @@ fuzz: bin/rcell
 bench: bin/rcell
 	python3 bench/run.py $(BENCH)
 
-# Of Debian: python3-matplotlib, which is not seen by a Python of one's own.
-PICTURES = /usr/bin/python3 tools/pictures.py
+figures: bin/rcell
+	@sh tools/debian.sh clang grass-core linux-perf valgrind python3-matplotlib
+	python3 bench/run.py --write $(BENCH)
+	python3 bench/shares.py --write
+	python3 bench/instructions.py --write
+	$(PICTURES) speed docs/speed.png
+	-python3 tools/documents.py --texts --write
+
 pictures: bin/rcell
 	@sh tools/debian.sh python3-matplotlib
 	$(PICTURES) islands docs/islands.png

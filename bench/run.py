@@ -12,8 +12,8 @@ in bytes a cell of one map.
 
 --short takes grids of a million cells; otherwise they are those that the tables name, written once under bench/out. The real
 maps are made by bench/real_maps.py, and GRASS is timed by bench/beside_grass.py, where what these need is installed; with --short
-both are left out. --only takes the parts whose title has the word. --write puts what was measured into docs/SPEED.md and the
-README, and draws docs/speed.png.
+both are left out. --only takes the parts whose title has the word. --write puts what was measured into docs/SPEED.md; `make
+figures` does so, and all else that follows from it.
 """
 import argparse
 import filecmp
@@ -21,6 +21,7 @@ import os
 import shutil
 import subprocess
 import sys
+import time
 from dataclasses import dataclass, field
 
 import beside_grass
@@ -163,9 +164,8 @@ def say(text):
 def build():
     """The programs in C++, for this machine: by clang, which makes the faster yardstick, where it is installed."""
     os.makedirs(OUT, exist_ok=True)
-    compiler = "clang++" if shutil.which("clang++") else "g++"
     for name in ("make_grid", "measure", "yardstick"):
-        subprocess.run([compiler, "-std=c++20", "-O3", "-march=native", "-o", f"{OUT}/{name}", f"{HERE}/{name}.cpp"], check=True)
+        subprocess.run([compiler(), "-std=c++20", "-O3", "-march=native", "-o", f"{OUT}/{name}", f"{HERE}/{name}.cpp"], check=True)
 
 
 def grid_file(kind, seed, side):
@@ -316,20 +316,44 @@ def part(title, wanted):
     return tables(PARTS[title], wanted) if title in PARTS else grass_tables(wanted)
 
 
+def machine():
+    """A sentence on what was measured, where."""
+    with open("/proc/cpuinfo", encoding="utf-8") as file:
+        model = next((line.split(":")[1].strip() for line in file if line.startswith("model name")), "an unknown processor")
+    say_of = lambda *words: subprocess.run(words, capture_output=True, text=True, cwd=ROOT).stdout.strip()
+    commit, day = say_of("git", "log", "-1", "--format=%h"), time.strftime("%Y-%m-%d")
+    load = os.getloadavg()[0]
+    return (f"Measured on {day} with the program of commit {commit}: {len(os.sched_getaffinity(0))} processors ({model}), "
+            f"Linux {os.uname().release.split('-')[0]}, {compiler()}, load {load:.0f} at the start.\n")
+
+
+def compiler():
+    return "clang++" if shutil.which("clang++") else "g++"
+
+
+def put_between(marks, text):
+    """Puts a text into the document between two marks, in place of what is there."""
+    with open(DOCUMENT, encoding="utf-8") as file:
+        before, _, rest = file.read().partition(marks[0])
+    old, _, after = rest.partition(marks[1])
+    new = text(old)
+    with open(DOCUMENT, "w", encoding="utf-8") as file:
+        file.write(before + marks[0] + new + marks[1] + after)
+
+
 def parts_of(text):
     """The parts of the figures in the document, by their titles."""
     return {title: rest for title, _, rest in (part.partition("\n") for part in text.split("\n## ")[1:])}
 
 
-def write(found):
+def write(found, where):
     """Puts the parts that were measured into the document, in place of the same parts there."""
-    with open(DOCUMENT, encoding="utf-8") as file:
-        before, _, rest = file.read().partition(MARKS[0])
-    old, _, after = rest.partition(MARKS[1])
-    parts = parts_of(old) | found
-    with open(DOCUMENT, "w", encoding="utf-8") as file:
+    def with_parts(old):
+        parts = parts_of(old) | found
         figures = "".join(f"\n## {title}\n{parts[title].rstrip()}\n" for title in TITLES if title in parts)
-        file.write(before + MARKS[0] + figures + "\n" + MARKS[1] + after)
+        return "\n" + where + figures + "\n"
+
+    put_between(MARKS, with_parts)
 
 
 def main():
@@ -341,7 +365,7 @@ def main():
     parser.add_argument("--write", action="store_true")
     wanted = parser.parse_args()
     build()
-    found = {}
+    found, where = {}, machine()
     for title in TITLES:
         if wanted.only.lower() not in title.lower():
             continue
@@ -353,9 +377,7 @@ def main():
         if lines:
             found[title] = "\n" + "\n".join(lines) + "\n"
     if wanted.write:
-        write(found)
-        subprocess.run([sys.executable, f"{ROOT}/tools/documents.py", "--texts", "--write"], stdout=subprocess.DEVNULL)
-        subprocess.run(["/usr/bin/python3", f"{ROOT}/tools/pictures.py", "speed", f"{ROOT}/docs/speed.png"], check=True)
+        write(found, where)
 
 
 if __name__ == "__main__":
