@@ -47,6 +47,12 @@ pack() {
     tar -C "$room" --sort=name --owner=0 --group=0 --numeric-owner --mtime="@$SOURCE_DATE_EPOCH" --format=ustar -cf - "$1" | gzip -9n > "$2"
 }
 
+# The changes of the package, in Debian's form; CHANGELOG.md beside it has those of the program.
+changelog() {
+    printf 'rcell (%s) unstable; urgency=medium\n\n  * CHANGELOG.md says what changed.\n\n' "$version"
+    printf ' -- %s  %s\n' "$(sed -n 's/^Maintainer: //p' packaging/control.in)" "$(date -u -R -d "@$SOURCE_DATE_EPOCH")"
+}
+
 stage "$room/$name"
 pack "$name" "$dist/$name.tar.gz"
 
@@ -54,7 +60,7 @@ package=$room/package
 mkdir -p "$package/DEBIAN"
 stage "$package/usr"
 gzip -9n "$package"/usr/share/man/man1/*.1
-gzip -9nc CHANGELOG.md > "$package/usr/share/doc/rcell/changelog.gz"
+changelog | gzip -9nc > "$package/usr/share/doc/rcell/changelog.gz"
 size=$(du -s --apparent-size -k "$package/usr" | cut -f1)
 sed "s/@VERSION@/$version/; s/@SIZE@/$size/" packaging/control.in > "$package/DEBIAN/control"
 (cd "$package" && find usr -type f | sort | xargs md5sum) > "$package/DEBIAN/md5sums"

@@ -16,7 +16,9 @@ refuse() {
     exit 1
 }
 
-[ -f bin/rcell ] && [ -f "$object" ] || refuse "bin/rcell and $object are missing: run make first"
+for file in bin/rcell "$object"; do
+    [ -f "$file" ] || refuse "$file is missing: run make first"
+done
 command -v rt > /dev/null || refuse "rt is missing: put the kit's folder bin/ on the path"
 kit=$(dirname "$(rt doc)")
 room=$(mktemp -d)
