@@ -1,5 +1,6 @@
 #!/usr/bin/env python3
-"""Makes the release of what is built twice, and tries it: the same bytes, the quick start, the helpers, `make install`.
+"""Makes the release of what is built twice, and tries it: the static program beside the documents and the model, the same bytes
+twice, the quick start and the helpers from the unpacked files, `make install`.
 
     check_release.py [--keep FOLDER]
 
@@ -15,10 +16,13 @@ import subprocess
 import sys
 import tempfile
 
+import documents
+
 ROOT = os.path.dirname(os.path.dirname(os.path.abspath(__file__)))
 HELPERS = f"{ROOT}/tools/test_helpers.py"
 COUNTS = re.compile(r"^(\d+) passed, (\d+) failed$")
 PATH_WITHOUT_KIT = "/usr/bin:/bin"
+RUNS = "300"
 
 
 class Count:
@@ -42,6 +46,15 @@ class Count:
         passed, failed = int(counts[1]), int(counts[2])
         self.passed, self.failed = self.passed + passed, self.failed + failed + (ran.returncode != 0 and failed == 0)
         print(f"{what}: {last}" + ("\n" + "\n".join(lines) if failed or ran.returncode else ""), flush=True)
+
+
+def check_static(count):
+    """The static program gives what the documents show, and answers as the plain model does on runs made at random."""
+    static = f"{ROOT}/bin/rcell-static"
+    for what, words in (("the documents by the static program", ["tools/documents.py", "--program", static, *documents.DOCUMENTS]),
+                        ("the static program beside the model", ["tools/compare.py", "--runs", RUNS, "--seed", "2", "--program", static])):
+        ran = subprocess.run([sys.executable, *words], cwd=ROOT, stdout=subprocess.PIPE, stderr=subprocess.STDOUT, text=True)
+        count.add(what, ran.stdout if ran.returncode else "")
 
 
 def make(folder):
@@ -128,6 +141,7 @@ def main():
     count.add("the static program", ran.stdout.strip() if ran.returncode else "")
     with tempfile.TemporaryDirectory(prefix="rcell-release-") as room:
         if not ran.returncode:
+            check_static(count)
             folder, names = check_same(count, room)
             check_unpacked(count, room, folder, names)
             if wanted.keep:

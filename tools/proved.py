@@ -93,8 +93,8 @@ Program     sha256 {sum_of(static)}
             by the kit's ld.lld with the C library of Debian ({versions}).
 Tested one  sha256 {sum_of(PROGRAM)}
             linked dynamically from the same object by the kit: the program that the gate runs on all cases, with each
-            growth of memory refused in turn (which LD_PRELOAD does, and a static program does not heed). The gate runs
-            the static one on the quick start and the helpers.
+            growth of memory refused in turn (which LD_PRELOAD does, and a static program does not heed). The gate tries
+            the static one on the documents, on random runs beside the model, on the quick start and with the helpers.
             So what the static program adds to what is trusted is Debian's libc.a and startup files, and this link.
 
 What is proved, tested and trusted
