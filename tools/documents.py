@@ -12,7 +12,7 @@ blocks are taken from the top:
 The folder that a block goes to by `cd` is that of the next. With --write what is printed takes the place of what is shown.
 Of docs/DIFFERENCES.md the program's side of each table is run, too (tools/differences.py). What needs no program is tried
 first, and with --texts alone: docs/COMMANDS.md has a row for each message of the program, docs/PROOFS.md the numbers of lines
-of the files that it lists, README.md the figures of docs/SPEED.md, and the manual pages pass the warnings of man where it is
+of the files that it lists, README.md the figures of docs/SPEED.md, and docs/rcell.1 passes the warnings of man where it is
 installed. The last line is
 'N passed, M failed'.
 """
@@ -263,7 +263,7 @@ def check_speed(write):
     return counted, faults
 
 
-def check_page(page):
+def warnings_of_man(page):
     """What man warns of on a manual page."""
     environment = {**os.environ, "LC_ALL": "C.UTF-8", "MANROFFSEQ": "", "MANWIDTH": "80"}
     ran = subprocess.run(["man", "--warnings", "-E", "UTF-8", "-l", "-Tutf8", "-Z", f"{ROOT}/{page}"], env=environment,
@@ -271,13 +271,13 @@ def check_page(page):
     return [f"{page}: {warning}" for warning in ran.stderr.splitlines() or ["man fails"] * bool(ran.returncode)]
 
 
-def check_pages():
-    """Whether man has nothing to warn of on the manual pages, where it is installed."""
+def check_page():
+    """Whether man has nothing to warn of on the manual pages, also those of the helpers, where it is installed."""
     if not shutil.which("man") or not shutil.which("groff"):
         print("man or groff: not installed, the manual pages are not tried")
         return 0, []
     pages = ["docs/rcell.1", *sorted(f"helpers/{os.path.basename(path)}" for path in glob.glob(f"{ROOT}/helpers/*.1"))]
-    faults = [check_page(page) for page in pages]
+    faults = [warnings_of_man(page) for page in pages]
     return faults.count([]), [fault for found in faults for fault in found]
 
 
@@ -289,7 +289,7 @@ def main():
     words.add_argument("documents", nargs="*")
     settings = words.parse_args()
     program = os.path.abspath(settings.program)
-    texts = [("the messages", check_messages), ("the manual pages", check_pages),
+    texts = [("the messages", check_messages), ("the manual page", check_page),
              ("the numbers of lines", lambda: check_counts(settings.write)), ("the figures", lambda: check_speed(settings.write))]
     runs = [(name, lambda name=name: run_document(name, program, settings.write)) for name in settings.documents or DOCUMENTS]
     runs += [] if settings.documents else [("the tables of differences", lambda: check_differences(program))]
