@@ -23,7 +23,7 @@ list() {
         [ ! -f "$file" ] || echo "644 $file $documents/$file"
     done
     tree examples "$documents/examples"
-    tree grass "$documents/grass"
+    tree grass/r.rcell "$documents/grass/r.rcell"
 }
 
 # The helpers go where programs go, their pages to the others, and what they share below share/rcell.
