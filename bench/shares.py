@@ -40,7 +40,8 @@ def samples(words):
     """How many samples of a run fall where."""
     data = f"{OUT}/perf.data"
     subprocess.run(["perf", "record", "-q", "-e", "cpu-clock", "-F", "4000", "-o", data, *words], check=True, capture_output=True)
-    report = subprocess.run(["perf", "report", "-i", data, "--stdio", "-F", "sample,dso,symbol"], check=True, capture_output=True, text=True)
+    words = ["perf", "report", "-i", data, "--stdio", "-F", "sample,dso,symbol"]
+    report = subprocess.run(words, check=True, capture_output=True, text=True)
     found = collections.Counter()
     for line in report.stdout.splitlines():
         if parts := LINE.match(line):

@@ -17,7 +17,9 @@ if [ ! -f "$root/etc/debian_version" ]; then
     echo "making a root of Debian 11 in $root"
     debootstrap --variant=minbase bullseye "$root" "$mirror" > "$root.log" 2>&1 || { tail -5 "$root.log" >&2; exit 1; }
 fi
-echo "Debian $(cat "$root/etc/debian_version"), $(chroot "$root" dpkg-query -W -f 'libc6 ${Version}' libc6), python3: $(chroot "$root" sh -c 'command -v python3 || echo none')"
+c=$(chroot "$root" dpkg-query -W libc6)
+python=$(chroot "$root" sh -c 'command -v python3 || echo no python3')
+echo "Debian $(cat "$root/etc/debian_version"), $c, $python"
 
 status=0
 for file in "$dist"/rcell-*-linux-x86_64.tar.gz "$dist"/rcell_*_amd64.deb; do

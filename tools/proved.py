@@ -71,7 +71,8 @@ def counted():
 
 def gate_text(record):
     if record is None:
-        return "left no closing line for this commit and this program where this page was made;\n            `make check` in the sources makes it"
+        return """left no closing line for this commit and this program where this page was made;
+            `make check` in the sources makes it"""
     return f"{record['closing']}\n            (proofs: {record.get('proofs', 'not told')})"
 
 

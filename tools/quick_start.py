@@ -46,7 +46,8 @@ def of_package(commands, root):
     """The same without being root: the package is unpacked, and its programs are put on the path."""
     if root:
         return commands.replace("sudo ", "")
-    commands = re.sub(r"^sudo (?:dpkg -i|apt install) (\S+)$", rf"dpkg-deb -x \1 {UNPACKED} && PATH=$PWD/{UNPACKED}/usr/bin:$PATH", commands, flags=re.MULTILINE)
+    unpacked = rf"dpkg-deb -x \1 {UNPACKED} && PATH=$PWD/{UNPACKED}/usr/bin:$PATH"
+    commands = re.sub(r"^sudo (?:dpkg -i|apt install) (\S+)$", unpacked, commands, flags=re.MULTILINE)
     return commands.replace(" /usr/share", f" {UNPACKED}/usr/share")
 
 

@@ -26,8 +26,11 @@ trap 'rm -rf "$room"' EXIT
 
 libraries="$kit/c/libos_c.a $kit/c/liblibc_c.a"
 # shellcheck disable=SC2086
-"$kit/bin/rattle-link" --target x86_64-unknown-linux-gnu --toolchain "$kit/toolchain" -o "$room/dynamic" "$object" $libraries > "$room/log" 2>&1 ||
-    { cat "$room/log" >&2; exit 1; }
+if ! "$kit/bin/rattle-link" --target x86_64-unknown-linux-gnu --toolchain "$kit/toolchain" \
+    -o "$room/dynamic" "$object" $libraries > "$room/log" 2>&1; then
+    cat "$room/log" >&2
+    exit 1
+fi
 cmp -s "$room/dynamic" bin/rcell || refuse "$object is not the object that bin/rcell was linked from: run make again"
 
 sh tools/debian.sh libc6-dev libgcc-12-dev >&2 || refuse 'no static program without the C library to link'
