@@ -1,26 +1,36 @@
 # make           proves and builds the program, bin/rcell; JOBS=1 where memory is short
-# make install   puts bin/rcell and its manual page below PREFIX (/usr/local; DESTDIR goes before it)
-# make uninstall takes both away again
+# make install   puts the program, helpers, manual pages, documents and examples below PREFIX (/usr/local; DESTDIR goes before it)
+# make uninstall removes them
 # make example   builds the program, and runs it on the land cover of examples/land-cover
 # make documents runs each example of the documents on bin/rcell, and compares
-# make check     the gate: every proof from nothing, then the program on each case, example and document
+# make check     the gate: every proof from nothing, then the program on each case, example and document, and the release
+# make static    links bin/rcell-static from the object of bin/rcell: one file for each Linux on x86-64
+# make dist      makes the release: dist/rcell-VERSION-linux-x86_64.tar.gz, dist/rcell_VERSION_amd64.deb, dist/SHA256SUMS
+# make debian11  runs the release's quick start in a root of Debian 11 (as root, with debootstrap)
 # make edits     tries the edits of crates/NAME/edits/, which the gate leaves alone: each must be refused
 # make hostile   uses the program as an enemy would: each growth, read, write and byte in turn, and the greatest inputs (an hour)
 # make fuzz      runs it on random input beside a plain model, SECONDS=60 of them, from SEED=
 # make bench     times each task beside a yardstick in C++; BENCH=--short takes two minutes
+# make figures   measures all that docs/SPEED.md shows and writes it there, into README.md and into docs/speed.png (an hour)
+# make pictures  draws the pictures of the documents
 # make exchange  holds the program and the documents against GRASS and GDAL, where they are installed
-# make clean     takes away all that was built
+# make clean     removes all that was built
 # make help      prints this
+
+# A folder that has targets of its own (python/, r/, qgis/, grass/) names them in its file targets.mk, with such lines for
+# `make help`. Packages of Debian that a target needs are installed by `tools/debian.sh PACKAGE...`.
 
 PREFIX ?= /usr/local
 DESTDIR ?=
 JOBS ?=
+# Of Debian: python3-matplotlib, which is not seen by a Python of one's own.
+PICTURES = /usr/bin/python3 tools/pictures.py
 
 # What the program is built from: neither tests nor the edits that must fail.
 CRATES = $(filter-out %_tests %/cell_test_maps,$(wildcard crates/*))
 SOURCES = crates.txt $(shell find $(wildcard $(CRATES:%=%/src) $(CRATES:%=%/specs) $(CRATES:%=%/proofs)) -type f)
 
-.PHONY: all install uninstall example documents check edits hostile fuzz bench exchange clean help
+.PHONY: all install uninstall example documents check static dist debian11 edits hostile fuzz bench figures pictures exchange clean help
 
 all: bin/rcell
 
@@ -28,13 +38,12 @@ bin/rcell: $(SOURCES)
 	@sh tools/needs.sh
 	@python3 tools/build.py $(if $(JOBS),--jobs $(JOBS))
 
-install: bin/rcell
-	install -d "$(DESTDIR)$(PREFIX)/bin" "$(DESTDIR)$(PREFIX)/share/man/man1"
-	install -m 755 bin/rcell "$(DESTDIR)$(PREFIX)/bin/rcell"
-	install -m 644 docs/rcell.1 "$(DESTDIR)$(PREFIX)/share/man/man1/rcell.1"
+# It stands on no source, so that it needs no kit: what is built is installed, also where a source is newer.
+install:
+	@sh packaging/install.sh "$(DESTDIR)$(PREFIX)"
 
 uninstall:
-	rm -f "$(DESTDIR)$(PREFIX)/bin/rcell" "$(DESTDIR)$(PREFIX)/share/man/man1/rcell.1"
+	@sh packaging/install.sh --remove "$(DESTDIR)$(PREFIX)"
 
 example: bin/rcell
 	cd examples/land-cover && ../../bin/rcell script landuse=landuse.txt
@@ -44,6 +53,16 @@ documents: bin/rcell
 
 check:
 	@sh tools/check.sh
+
+# Of what was built last: whoever packs the program (the wheel of Python, the package of R) takes bin/rcell-static.
+static:
+	@sh tools/static.sh bin/rcell-static
+
+dist: bin/rcell static
+	@sh tools/dist.sh dist
+
+debian11: dist
+	sh tools/debian11.sh dist
 
 edits:
 	sh tools/edits.sh
@@ -58,11 +77,26 @@ fuzz: bin/rcell
 bench: bin/rcell
 	python3 bench/run.py $(BENCH)
 
+figures: bin/rcell
+	@sh tools/debian.sh clang grass-core linux-perf valgrind python3-matplotlib
+	python3 bench/run.py --write $(BENCH)
+	python3 bench/shares.py --write
+	python3 bench/instructions.py --write
+	$(PICTURES) speed docs/speed.png
+	-python3 tools/documents.py --texts --write
+
+pictures: bin/rcell
+	@sh tools/debian.sh python3-matplotlib
+	$(PICTURES) islands docs/islands.png
+	$(PICTURES) speed docs/speed.png
+
 exchange: bin/rcell
 	python3 tools/exchange.py
 
 clean:
-	rm -rf bin bench/out crates/*/out
+	rm -rf bin dist bench/out crates/*/out
 
 help:
-	@sed -n 's/^# make/make/p' Makefile
+	@sed -n 's/^# make/make/p' $(MAKEFILE_LIST)
+
+-include */targets.mk

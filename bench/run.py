@@ -10,8 +10,10 @@ milliseconds for a million cells of one map, from the start of a program to its 
 beyond reading is its time without that of reading the same grids by the same program. Memory is the peak of the process,
 in bytes a cell of one map.
 
---short takes grids of a million cells; otherwise they are those that the tables name, written once under bench/out.
---only takes the parts whose title has the word. --write puts what was measured into docs/SPEED.md as well.
+--short takes grids of a million cells; otherwise they are those that the tables name, written once under bench/out. The real
+maps are made by bench/real_maps.py, and GRASS is timed by bench/beside_grass.py, where what these need is installed; with --short
+both are left out. --only takes the parts whose title has the word. --write puts what was measured into docs/SPEED.md; `make
+figures` does so, and all else that follows from it.
 """
 import argparse
 import filecmp
@@ -19,8 +21,10 @@ import os
 import shutil
 import subprocess
 import sys
-import tempfile
+import time
 from dataclasses import dataclass, field
+
+import beside_grass
 
 HERE = os.path.dirname(os.path.abspath(__file__))
 ROOT = os.path.dirname(HERE)
@@ -33,6 +37,9 @@ SHORT_SIDE = 1000
 # Grids of few cells are timed in more rounds, since what disturbs a short run is a greater part of it.
 FEW_SIDE = 2000
 ROUNDS_FOR_FEW = 3
+ROUNDS_OF_GRASS = 3
+REAL = "real-"
+HEADER_LINES = 6
 MILLION = 1e6
 
 
@@ -99,6 +106,7 @@ TABLES = (STATS, STD.aiming(beyond=2))
 TABLES_OF_TWO = (STATS_TWO, STD_TWO)
 TABLES_OF_THREE = (STATS_THREE, STD_THREE.aiming(beyond=2))
 AREAS = (CLUMP.aiming(beyond=2), CLUMP_CORNERS.aiming(beyond=2), CLUMP_WRITE, CLUMP_CORNERS_WRITE)
+REAL_TASKS = (READ, STATS, WRITE, CLUMP, SUM, LONG_IF)
 CELLS = (SUM.aiming(beyond=2), SUM_WRITE, LONG_IF.aiming(beyond=3), LONG_IF_STATS, RECLASS, RECLASS_STATS)
 
 PARTS = {
@@ -133,6 +141,19 @@ PARTS = {
     ),
 }
 
+REAL_MAPS = "Real maps"
+PARTS[REAL_MAPS] = tuple(
+    Bench(title, ((kind, 0),), 0, REAL_TASKS)
+    for title, kind in (
+        ("real land and lakes of South-East Asia, 27 million cells", f"{REAL}land"),
+        ("real countries of South-East Asia, 27 million cells", f"{REAL}countries"),
+        ("real land cover, laid side by side, 25 million cells", f"{REAL}cover"),
+        ("real heights of the globe, 9 million cells", f"{REAL}heights"),
+    )
+)
+# The title of a table of GRASS is that of the grid.
+GRASS_GRIDS = (("patchy land cover, 25 million cells", "patchy", 1, 5000),
+               ("real land and lakes of South-East Asia, 27 million cells", f"{REAL}land", 0, 0))
 TITLES = (*PARTS, "GRASS")
 
 
@@ -143,13 +164,14 @@ def say(text):
 def build():
     """The programs in C++, for this machine: by clang, which makes the faster yardstick, where it is installed."""
     os.makedirs(OUT, exist_ok=True)
-    compiler = "clang++" if shutil.which("clang++") else "g++"
     for name in ("make_grid", "measure", "yardstick"):
-        subprocess.run([compiler, "-std=c++20", "-O3", "-march=native", "-o", f"{OUT}/{name}", f"{HERE}/{name}.cpp"], check=True)
+        subprocess.run([compiler(), "-std=c++20", "-O3", "-march=native", "-o", f"{OUT}/{name}", f"{HERE}/{name}.cpp"], check=True)
 
 
 def grid_file(kind, seed, side):
     """The path of a grid, which is written where it is not there yet."""
+    if kind.startswith(REAL):
+        return f"{OUT}/{kind}.txt"
     path = f"{OUT}/{kind.replace(':', '-')}-{seed}-{side}.txt"
     if not os.path.exists(path):
         say(f"  writing {os.path.basename(path)}")
@@ -159,9 +181,17 @@ def grid_file(kind, seed, side):
     return path
 
 
-def measure(words, output="/dev/null"):
+def cells_of(path):
+    """The number of cells of a grid, by its header."""
+    with open(path, encoding="ascii") as file:
+        header = dict(line.split(": ") for line, _ in zip(file, range(HEADER_LINES)))
+    return int(header["rows"]) * int(header["cols"])
+
+
+def measure(words, output="/dev/null", environment=None):
     """Seconds of the processor and the peak of memory in bytes."""
-    answer = subprocess.run([f"{OUT}/measure", output, *words], check=True, capture_output=True, text=True).stdout.split()
+    how = {"check": True, "stdout": subprocess.PIPE, "text": True, "env": environment}
+    answer = subprocess.run([f"{OUT}/measure", output, *words], **how).stdout.split()
     micros, peak, status = (int(word) for word in answer)
     if status != 0:
         sys.exit(f"{' '.join(words)} ended with status {status}")
@@ -231,29 +261,28 @@ def run(bench, program, rounds, side):
     contests = [Contest(task, paths, program, number) for number, task in enumerate(tasks)]
     for contest in contests:
         contest.check()
-    rounds *= ROUNDS_FOR_FEW if side <= FEW_SIDE else 1
+    cells = cells_of(paths[0])
+    rounds *= ROUNDS_FOR_FEW if cells <= FEW_SIDE * FEW_SIDE else 1
     for number in range(rounds):
         print(f"\r  round {number + 1} of {rounds}", end="\n" if number + 1 == rounds else "", file=sys.stderr, flush=True)
         for contest in contests:
             contest.turn()
-    return [row(contest, contests[0], side * side) for contest in contests]
+    return [row(contest, contests[0], cells) for contest in contests]
 
 
-def grass(grid, program):
-    """Seconds of the processor that r.in.ascii and r.stats -c take in a new location of GRASS; its table is rcell's."""
-    contest = Contest(STATS, [grid], program, 0)
-    outputs = [f"{OUT}/output-of-{by}" for by in ("grass", "rcell")]
-    with tempfile.TemporaryDirectory() as room:
-        subprocess.run(["grass", "-e", "-c", "XY", f"{room}/here"], check=True, capture_output=True)
-        words = [shutil.which("grass"), f"{room}/here/PERMANENT", "--exec", "sh", "-c",
-                 f"r.in.ascii input={grid} output=g type=CELL --quiet && g.region raster=g && r.stats -c input=g --quiet"]
-        seconds = measure(words, outputs[0])[0]
-    measure(contest.words()[0], outputs[1])
-    if not filecmp.cmp(*outputs, shallow=False):
-        sys.exit("GRASS wrote another table")
-    for output in outputs:
-        os.remove(output)
-    return seconds
+def lines_of(title, head, rows):
+    """A table of the document."""
+    return [title, "", *("| " + " | ".join(words) + " |" for words in (head, ["---"] * len(head), *rows)), ""]
+
+
+def has_real_maps(wanted):
+    """Whether the real maps are there, once what can be made is made."""
+    if wanted.short:
+        return False
+    made = subprocess.run(["/usr/bin/python3", f"{HERE}/real_maps.py"], stdout=subprocess.DEVNULL).returncode == 0
+    if not made:
+        say("  the real maps cannot be made here (bench/real_maps.py), they are left out")
+    return made
 
 
 def tables(benches, wanted):
@@ -262,20 +291,54 @@ def tables(benches, wanted):
         side = SHORT_SIDE if wanted.short else bench.side
         say(f"{bench.title}")
         rows = run(bench, os.path.abspath(wanted.program), wanted.rounds, side)
-        yield bench.title + (" (here 1 million)" if wanted.short and bench.side != SHORT_SIDE else "")
-        yield ""
-        yield from ("| " + " | ".join(words) + " |" for words in (HEAD, ["---"] * len(HEAD), *rows))
-        yield ""
+        title = bench.title + (" (here 1 million)" if wanted.short and bench.side != SHORT_SIDE else "")
+        yield from lines_of(title, HEAD, rows)
 
 
-def grass_line(wanted):
-    """What GRASS takes for one of the tasks, where it is installed."""
-    if not shutil.which("grass"):
-        return ["Not installed.", ""]
-    side = SHORT_SIDE if wanted.short else 5000
-    seconds = grass(grid_file("patchy", 1, side), os.path.abspath(wanted.program))
-    cells = side * side / MILLION
-    return [f"r.in.ascii and r.stats -c, patchy land cover, {cells:g} million cells: {seconds * 1000 / cells:.0f} ms.", ""]
+def grass_tables(wanted):
+    """What GRASS takes for some tasks, where it is installed."""
+    if wanted.short or not shutil.which("grass"):
+        say("  GRASS is not installed, or the run is a short one: it is left out")
+        return
+    for title, kind, seed, side in GRASS_GRIDS:
+        path = grid_file(kind, seed, side)
+        if os.path.exists(path):
+            say(f"beside GRASS: {title}")
+            seconds = lambda words, environment: measure(words, environment=environment)[0]
+            rows = beside_grass.table(path, cells_of(path), os.path.abspath(wanted.program), ROUNDS_OF_GRASS, seconds)
+            yield from lines_of(title, beside_grass.HEAD, rows)
+
+
+def part(title, wanted):
+    """The lines of a part of the figures."""
+    if title == REAL_MAPS and not has_real_maps(wanted):
+        return []
+    return tables(PARTS[title], wanted) if title in PARTS else grass_tables(wanted)
+
+
+def machine():
+    """A sentence on what was measured, where."""
+    with open("/proc/cpuinfo", encoding="utf-8") as file:
+        model = next((line.split(":")[1].strip() for line in file if line.startswith("model name")), "an unknown processor")
+    say_of = lambda *words: subprocess.run(words, capture_output=True, text=True, cwd=ROOT).stdout.strip()
+    commit, day = say_of("git", "log", "-1", "--format=%h"), time.strftime("%Y-%m-%d")
+    load = os.getloadavg()[0]
+    return (f"Measured on {day} with the program of commit {commit}: {len(os.sched_getaffinity(0))} processors ({model}), "
+            f"Linux {os.uname().release.split('-')[0]}, {compiler()}, load {load:.0f} at the start.\n")
+
+
+def compiler():
+    return "clang++" if shutil.which("clang++") else "g++"
+
+
+def put_between(marks, text):
+    """Puts a text into the document between two marks, in place of what is there."""
+    with open(DOCUMENT, encoding="utf-8") as file:
+        before, _, rest = file.read().partition(marks[0])
+    old, _, after = rest.partition(marks[1])
+    new = text(old)
+    with open(DOCUMENT, "w", encoding="utf-8") as file:
+        file.write(before + marks[0] + new + marks[1] + after)
 
 
 def parts_of(text):
@@ -283,15 +346,14 @@ def parts_of(text):
     return {title: rest for title, _, rest in (part.partition("\n") for part in text.split("\n## ")[1:])}
 
 
-def write(found):
+def write(found, where):
     """Puts the parts that were measured into the document, in place of the same parts there."""
-    with open(DOCUMENT, encoding="utf-8") as file:
-        before, _, rest = file.read().partition(MARKS[0])
-    old, _, after = rest.partition(MARKS[1])
-    parts = parts_of(old) | found
-    with open(DOCUMENT, "w", encoding="utf-8") as file:
+    def with_parts(old):
+        parts = parts_of(old) | found
         figures = "".join(f"\n## {title}\n{parts[title].rstrip()}\n" for title in TITLES if title in parts)
-        file.write(before + MARKS[0] + figures + "\n" + MARKS[1] + after)
+        return "\n" + where + figures + "\n"
+
+    put_between(MARKS, with_parts)
 
 
 def main():
@@ -303,17 +365,19 @@ def main():
     parser.add_argument("--write", action="store_true")
     wanted = parser.parse_args()
     build()
-    found = {}
+    found, where = {}, machine()
     for title in TITLES:
         if wanted.only.lower() not in title.lower():
             continue
         print(f"## {title}\n", flush=True)
-        found[title] = "\n"
-        for line in tables(PARTS[title], wanted) if title in PARTS else grass_line(wanted):
+        lines = []
+        for line in part(title, wanted):
             print(line, flush=True)
-            found[title] += line + "\n"
+            lines.append(line)
+        if lines:
+            found[title] = "\n" + "\n".join(lines) + "\n"
     if wanted.write:
-        write(found)
+        write(found, where)
 
 
 if __name__ == "__main__":

@@ -105,7 +105,7 @@ def kit_version():
     return subprocess.check_output(["rt", "version"], text=True)
 
 
-def crates_of_the_program():
+def crates_of_the_program(kind=Crate):
     """The crates that the program stands on and itself, each after those below it."""
     with open(f"{ROOT}/crates.txt", encoding="utf-8") as file:
         lines = [line.split("#")[0].split(":") for line in file if ":" in line]
@@ -115,7 +115,7 @@ def crates_of_the_program():
         for it in uses[name]:
             if it in uses and it not in crates:
                 visit(it)
-        crates[name] = Crate(name, uses[name], crates)
+        crates[name] = kind(name, uses[name], crates)
 
     visit(PROGRAM)
     return list(crates.values())
@@ -186,16 +186,23 @@ def prove_all(crates, jobs, news):
     return failed
 
 
+def linked(made, output):
+    """Links an object of the program as the kit does, and returns how that ended."""
+    words = [f"{kit()}/bin/rattle-link", "--target", TARGET, "--toolchain", f"{kit()}/toolchain", "-o", output]
+    words += [made, f"{kit()}/c/libos_c.a", f"{kit()}/c/liblibc_c.a"]
+    return subprocess.run(words, cwd=ROOT, stdout=subprocess.PIPE, stderr=subprocess.STDOUT, text=True, errors="replace")
+
+
 def link(program):
     """Links the program to bin/rcell, and returns the linker's status."""
-    words = [f"{kit()}/bin/rattle-link", "--target", TARGET, "--toolchain", f"{kit()}/toolchain", "-o", f"{ROOT}/bin/rcell.new"]
-    words += [program.made, f"{kit()}/c/libos_c.a", f"{kit()}/c/liblibc_c.a"]
     os.makedirs(f"{ROOT}/bin", exist_ok=True)
-    run = subprocess.run(words, cwd=program.folder, stdout=subprocess.PIPE, stderr=subprocess.STDOUT, text=True, errors="replace")
+    run = linked(program.made, f"{ROOT}/bin/rcell.new")
     if run.returncode:
         print(run.stdout, end="")
     else:
         os.replace(f"{ROOT}/bin/rcell.new", f"{ROOT}/bin/rcell")
+        # The static program of the release is linked from the same object.
+        shutil.copyfile(program.made, f"{ROOT}/bin/rcell.o")
     return run.returncode
 
 

@@ -1,9 +1,40 @@
 #!/bin/sh
-# The gate: every proof from nothing, and then the program that was proved on each case and each example of the documents.
-# The last line counts them all: 'N passed, M failed'.
+# The gate: every proof from nothing, and then the program that was proved on each case and each example of the documents, the
+# release that is made of it, and what each front has to say of itself. The last line counts them all: 'N passed, M failed'.
+# It is kept with what it was about in .gate/COMMIT, where PROVED.txt of the release finds it.
 cd "$(dirname "$0")/.." || exit 1
 room=$(mktemp -d) || exit 1
 trap 'rm -rf "$room"' EXIT
+status=0
+logs=
+
+# Runs a check of its own, whose last line must be 'N passed, M failed', and shows what it says.
+try() {
+    log=$room/$1
+    logs="$logs $log"
+    shift
+    "$@" > "$log" 2>&1 || status=1
+    cat "$log"
+}
+
+# The closing line. A check that does not end in its counts is one that failed.
+closing() {
+    for log in "$@"; do
+        tail -n 1 "$log" | grep -E '^[0-9]+ passed, [0-9]+ failed$' || echo '0 passed, 1 failed'
+    done | awk '{ passed += $1; failed += $3 } END { print passed + 0 " passed, " failed + 0 " failed" }'
+}
+
+keep_closing() {
+    commit=$(git rev-parse HEAD 2> /dev/null) && [ -z "$(git status --porcelain)" ] || return 0
+    mkdir -p .gate
+    {
+        echo "commit: $commit"
+        echo "kit: $(rt version)"
+        echo "program: $(sha256sum < bin/rcell | cut -d ' ' -f 1)"
+        echo "proofs: $(sed -n 's/^rt: ok; //p' "$room/proofs" | tail -n 1)"
+        echo "closing: $1"
+    } > ".gate/$commit"
+}
 
 sh tools/needs.sh || { echo '0 passed, 1 failed'; exit 1; }
 
@@ -18,24 +49,36 @@ if [ "$(cat "$room/status")" != 0 ]; then
     tail -1 "$room/proofs" | grep -qE '^[0-9]+ passed, [0-9]+ failed$' || echo '0 passed, 1 failed'
     exit 1
 fi
+logs=$room/proofs
 
 mkdir -p bin && cp crates/rcell_program/out/rcell_program bin/rcell || exit 1
 kit=$(dirname "$(rt doc)")
-python3 tools/cases.py "$kit/toolchain/bin/clang" > "$room/cases" 2>&1
-status=$?
-cat "$room/cases"
+try cases python3 tools/cases.py "$kit/toolchain/bin/clang"
 
 # What the documents show.
-python3 tools/documents.py > "$room/documents" 2>&1 || status=1
-cat "$room/documents"
+try documents python3 tools/documents.py
 
 # The program used as an enemy would, in short: some of each part of `make hostile`.
-python3 tools/hostile.py --short --clang "$kit/toolchain/bin/clang" > "$room/hostile" 2>&1 || status=1
-cat "$room/hostile"
+try hostile python3 tools/hostile.py --short --clang "$kit/toolchain/bin/clang"
 
 # The program beside the plain model of the definitions: each case, and runs made at random.
 { python3 tools/compare.py --cases && python3 tools/compare.py --runs 3000 --seed 1 --program bin/rcell; } || status=1
-tail -qn 1 "$room/proofs" "$room/cases" "$room/documents" "$room/hostile" |
-    awk '/^[0-9]+ passed, [0-9]+ failed$/ { passed += $1; failed += $3; counted++ }
-         END { print passed + 0 " passed, " failed + 4 - counted " failed" }'
+
+# The release, linked from the object that was proved: used where there is neither the kit nor Python, nor a source.
+python3 tools/program_object.py || status=1
+try release python3 tools/check_release.py
+
+# What else stands on the program, each folder by its own script.
+for front in python r qgis grass fronts; do
+    if [ -f "$front/gate.sh" ]; then
+        try "$front" sh "$front/gate.sh"
+    else
+        echo "$front: no gate.sh is there, nothing is tried"
+    fi
+done
+
+# shellcheck disable=SC2086
+last=$(closing $logs)
+keep_closing "$last"
+echo "$last"
 exit $status

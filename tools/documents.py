@@ -31,7 +31,7 @@ import differences
 import messages
 
 ROOT = os.path.dirname(os.path.dirname(os.path.abspath(__file__)))
-DOCUMENTS = ["README.md", "docs/GUIDE.md", "docs/COMMANDS.md", "docs/DIFFERENCES.md", "docs/PROOFS.md"]
+DOCUMENTS = ["README.md", "docs/ISLANDS.md", "docs/GUIDE.md", "docs/COMMANDS.md", "docs/DIFFERENCES.md", "docs/PROOFS.md"]
 FENCE = re.compile(r"```(\S*)(?: file=(\S+))?\n(.*?)^```$", re.MULTILINE | re.DOTALL)
 COUNTED = re.compile(r"^\| (crates/\S+\.antt|all) \| (\d+) \| (\d+) \|", re.MULTILINE)
 # A line of a file of definitions that defines nothing: an import, a comment, or nothing at all.
@@ -246,20 +246,22 @@ def check_speed(write):
     return counted, faults
 
 
+def warnings_of_man(page):
+    """What man warns of on a manual page."""
+    environment = {**os.environ, "LC_ALL": "C.UTF-8", "MANROFFSEQ": "", "MANWIDTH": "80"}
+    ran = subprocess.run(["man", "--warnings", "-E", "UTF-8", "-l", "-Tutf8", "-Z", f"{ROOT}/{page}"], env=environment,
+                         stdout=subprocess.DEVNULL, stderr=subprocess.PIPE, text=True)
+    return [f"{page}: {warning}" for warning in ran.stderr.splitlines() or ["man fails"] * bool(ran.returncode)]
+
+
 def check_pages():
-    """Whether man has nothing to warn of on the manual pages, where it is installed."""
+    """Whether man has nothing to warn of on the manual pages, also those of the helpers, where it is installed."""
     if not shutil.which("man") or not shutil.which("groff"):
         print("man or groff: not installed, the manual pages are not tried")
         return 0, []
-    environment = {**os.environ, "LC_ALL": "C.UTF-8", "MANROFFSEQ": "", "MANWIDTH": "80"}
-    passed, faults = 0, []
-    for page in ["docs/rcell.1", *sorted(os.path.relpath(it, ROOT) for it in glob.glob(f"{ROOT}/helpers/*.1"))]:
-        ran = subprocess.run(["man", "--warnings", "-E", "UTF-8", "-l", "-Tutf8", "-Z", f"{ROOT}/{page}"], env=environment,
-                             stdout=subprocess.DEVNULL, stderr=subprocess.PIPE, text=True)
-        warnings = ran.stderr.splitlines() or ["man fails"] * bool(ran.returncode)
-        passed += not warnings
-        faults += [f"{page}: {warning}" for warning in warnings]
-    return passed, faults
+    pages = ["docs/rcell.1", *sorted(f"helpers/{os.path.basename(path)}" for path in glob.glob(f"{ROOT}/helpers/*.1"))]
+    faults = [warnings_of_man(page) for page in pages]
+    return faults.count([]), [fault for found in faults for fault in found]
 
 
 def main():

@@ -1,0 +1,126 @@
+#!/usr/bin/env python3
+"""Draws the pictures of the documents: `make pictures`, or one by itself.
+
+    pictures.py islands OUT.png [--program PATH]      examples/islands: the countries, and the islands as r.clump numbers them
+    pictures.py speed OUT.png                         the figures of docs/SPEED.md as bars
+
+It needs matplotlib and numpy (of Debian: python3-matplotlib).
+"""
+import argparse
+import os
+import subprocess
+import textwrap
+
+import matplotlib
+
+matplotlib.use("Agg")
+import matplotlib.pyplot as plt  # noqa: E402 (the back end is chosen first)
+import numpy as np  # noqa: E402
+from matplotlib.colors import ListedColormap  # noqa: E402
+
+import documents  # noqa: E402
+
+ROOT = documents.ROOT
+ISLANDS = f"{ROOT}/examples/islands"
+SQUARE_KILOMETRES_OF_A_CELL = 256
+SEA = (0.87, 0.93, 0.97)
+LEAST_LABELLED = 20  # cells of a country that gets its name
+LONGEST_LINE = 18  # letters of a label
+PLATE = {"fc": "white", "alpha": 0.65, "lw": 0, "pad": 1}
+
+
+def grid(text):
+    """The cells of a grid text, null as 0."""
+    lines = text.splitlines()
+    header = dict(line.split(":") for line in lines if ":" in line)
+    cells = " ".join(line for line in lines if ":" not in line).replace("*", "0").split()
+    return np.array(cells, int).reshape(int(header["rows"]), int(header["cols"]))
+
+
+def rcell(program, script):
+    words = [program, script, "country=archipelago.txt"]
+    return subprocess.run(words, cwd=ISLANDS, check=True, capture_output=True, text=True).stdout
+
+
+def label(axes, cells, text):
+    rows, columns = np.nonzero(cells)
+    axes.text(np.median(columns), np.median(rows), text, ha="center", va="center", fontsize=7, bbox=PLATE)
+
+
+def draw_countries(axes, country, names):
+    colours = [SEA, *[plt.get_cmap("tab20")(number)[:3] for number in range(country.max())]]
+    axes.imshow(country, cmap=ListedColormap(colours), vmin=-0.5, vmax=country.max() + 0.5, interpolation="nearest")
+    axes.set_title("the grid: land by country", fontsize=10)
+    for code, name in names.items():
+        if (country == code).sum() > LEAST_LABELLED:
+            label(axes, country == code, textwrap.fill(name, LONGEST_LINE))
+
+
+def draw_islands(axes, island, names):
+    random = np.random.default_rng(3)
+    colours = np.vstack([[SEA], 0.25 + 0.65 * random.random((island.max(), 3))])
+    axes.imshow(colours[island], interpolation="nearest")
+    axes.set_title(f"r.clump: {island.max()} connected areas of land, numbered and counted", fontsize=10)
+    for number, name in names.items():
+        area = f"{(island == number).sum() * SQUARE_KILOMETRES_OF_A_CELL:,}".replace(",", " ")
+        label(axes, island == number, f"{name}\n{area} km²")
+
+
+def islands(output, program):
+    with open(f"{ISLANDS}/archipelago.txt", encoding="ascii") as file:
+        country = grid(file.read())
+    with open(f"{ISLANDS}/shares", encoding="utf-8") as file:
+        rules = [line.split(" ", 3) for line in file if " = " in line and line[0].isdigit()]
+    with open(f"{ISLANDS}/atlas", encoding="utf-8") as file:
+        atlas = [line.split("\t") for line in file]
+    figure, (left, right) = plt.subplots(1, 2, figsize=(14, 5.1), dpi=100)
+    draw_countries(left, country, {int(rule[0]): rule[3].strip() for rule in rules})
+    draw_islands(right, grid(rcell(program, "islands")), {int(number): name for number, name, _ in atlas})
+    for axes in (left, right):
+        axes.set_xticks([])
+        axes.set_yticks([])
+    figure.tight_layout()
+    figure.savefig(output)
+
+
+# The tasks of the chart: what it says of each, and where the row stands in docs/SPEED.md.
+CHARTED = (
+    ("reading\npatchy land cover", "reading", "patchy land cover, 25 million cells"),
+    ("r.stats -c\npatchy land cover", "r.stats -c", "patchy land cover, 25 million cells"),
+    ("r.out.ascii\npatchy land cover", "r.out.ascii", "patchy land cover, 25 million cells"),
+    ("r.stats -c\nnoise", "r.stats -c", "noise, 25 million cells"),
+    ("r.clump\npatchy land cover", "r.clump", "patchy land cover, 4 million cells"),
+    ("nine offsets\npatchy land cover", "sum of nine offsets", "patchy land cover, 4 million cells"),
+    ("r.reclass\npatchy land cover", "r.reclass", "patchy land cover, 4 million cells"),
+)
+
+
+def speed(output, _):
+    tables = documents.tables_of_speed()
+    rows = [tables[task, grids] for _, task, grids in CHARTED]
+    places, width = np.arange(len(rows)), 0.38
+    figure, axes = plt.subplots(figsize=(11, 4.2), dpi=100)
+    for shift, column, name, colour in ((-0.5, 1, "rcell", "#1b6ca8"), (0.5, 2, "C++, written by hand for the task", "#c9c9c9")):
+        bars = axes.bar(places + shift * width, [float(row[column]) for row in rows], width, label=name, color=colour)
+        axes.bar_label(bars, fmt="%.1f", fontsize=8)
+    axes.set_xticks(places, [title for title, _, _ in CHARTED], fontsize=8)
+    axes.set_ylabel("CPU time, ms per million cells")
+    axes.set_title("From the start of a program to its end, texts read and written (docs/SPEED.md)", fontsize=10)
+    axes.legend(frameon=False)
+    for side in ("top", "right"):
+        axes.spines[side].set_visible(False)
+    figure.tight_layout()
+    figure.savefig(output)
+
+
+def main():
+    words = argparse.ArgumentParser(description="Draws a picture of the documents.")
+    words.add_argument("picture", choices=("islands", "speed"))
+    words.add_argument("output")
+    words.add_argument("--program", default=f"{ROOT}/bin/rcell")
+    wanted = words.parse_args()
+    {"islands": islands, "speed": speed}[wanted.picture](wanted.output, os.path.abspath(wanted.program))
+
+
+if __name__ == "__main__":
+    main()

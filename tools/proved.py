@@ -1,0 +1,115 @@
+#!/usr/bin/env python3
+"""Writes PROVED.txt of a release to standard output: what the program was made from, and what is known of it, on one page.
+
+    proved.py [--static PATH]
+
+The commit, the kit and the libraries of Debian are those of this machine now. The closing line of the gate is that of
+.gate/COMMIT, which `make check` leaves; where there is none for this commit and this program, that is said. What is proved,
+only tested and trusted is the section of the README.
+"""
+import argparse
+import collections
+import glob
+import hashlib
+import os
+import re
+import subprocess
+import sys
+
+import build
+
+ROOT = build.ROOT
+PROGRAM = f"{ROOT}/bin/rcell"
+OBJECT = f"{ROOT}/bin/rcell.o"
+PACKAGES = ("libc6-dev", "libgcc-12-dev")
+SECTION = "What is proved, tested and trusted"
+
+
+def read(path, otherwise=""):
+    try:
+        with open(path, encoding="utf-8") as file:
+            return file.read()
+    except FileNotFoundError:
+        return otherwise
+
+
+def said_by(*words):
+    return subprocess.run(words, cwd=ROOT, check=True, capture_output=True, text=True).stdout.strip()
+
+
+def sum_of(path):
+    with open(path, "rb") as file:
+        return hashlib.file_digest(file, "sha256").hexdigest()
+
+
+def sources():
+    commit, day = said_by("git", "log", "-1", "--format=%H %cd", "--date=format:%Y-%m-%d").split()
+    changed = said_by("git", "status", "--porcelain")
+    return commit, f"commit {commit}\n            of {day}" + (", WITH CHANGES that are not committed" if changed else "")
+
+
+def gate_record(commit):
+    """What the gate left for this commit and this program, by its keys; None where it left nothing."""
+    lines = read(f"{ROOT}/.gate/{commit}").splitlines()
+    record = dict(line.split(": ", 1) for line in lines if ": " in line)
+    return record if record.get("program") == sum_of(PROGRAM) else None
+
+
+def counted():
+    crates = build.crates_of_the_program()
+    edits = glob.glob(f"{ROOT}/crates/*/must-fail/*.edit")
+    functions = collections.Counter()
+    for crate in crates:
+        found = re.findall(r"^logic=proved functions=(\d+)", read(f"{crate.out}/log"), re.MULTILINE)
+        functions[crate.name] = int(found[-1]) if found else 0
+    proved = f" ({sum(functions.values())} functions with their contracts)" if all(functions.values()) else ""
+    lines = read(f"{ROOT}/crates.txt").splitlines()
+    every = sum(":" in line.split("#")[0] for line in lines)
+    return f"""{every} crates, {len(crates)} of which make up the program{proved};
+            {len(edits)} edits that each change a meaning, and that the proof must refuse"""
+
+
+def gate_text(record):
+    if record is None:
+        return """left no closing line for this commit and this program where this page was made;
+            `make check` in the sources makes it"""
+    return f"{record['closing']}\n            (proofs: {record.get('proofs', 'not told')})"
+
+
+def page(static):
+    commit, commit_text = sources()
+    versions = ", ".join(f"{name} {said_by('dpkg-query', '-W', '-f', '${Version}', name)}" for name in PACKAGES)
+    section = re.search(rf"^## {SECTION}\n(.*?)^## ", read(f"{ROOT}/README.md"), re.MULTILINE | re.DOTALL)[1].strip()
+    section = re.sub(r"\[([^\]]*)\]\(([^)]*)\)", lambda found: found[2] if found[1] == found[2] else f"{found[1]} ({found[2]})", section)
+    return f"""rcell {read(f'{ROOT}/VERSION').strip()}: what it was made from, and what is known of it
+
+Sources     {commit_text}
+Kit         {build.kit_version().strip()}
+Proofs      {counted()}
+Gate        {gate_text(gate_record(commit))}
+
+Program     sha256 {sum_of(static)}
+            linked statically (static-pie) from the object
+            sha256 {sum_of(OBJECT)}
+            by the kit's ld.lld with the C library of Debian ({versions}).
+Tested one  sha256 {sum_of(PROGRAM)}
+            linked dynamically from the same object by the kit: the program that the gate runs on all cases, with each
+            growth of memory refused in turn (which LD_PRELOAD does, and a static program does not heed). The gate tries
+            the static one on the documents, on random runs beside the model, on the quick start and with the helpers.
+            So what the static program adds to what is trusted is Debian's libc.a and startup files, and this link.
+
+What is proved, tested and trusted
+----------------------------------
+
+{section}
+"""
+
+
+def main():
+    words = argparse.ArgumentParser(description="Writes PROVED.txt of a release.")
+    words.add_argument("--static", default=f"{ROOT}/bin/rcell-static")
+    sys.stdout.write(page(words.parse_args().static))
+
+
+if __name__ == "__main__":
+    main()
