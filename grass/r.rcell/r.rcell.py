@@ -168,7 +168,7 @@ class Request:
     is the mark that stands before each map that is handed out, and before the labels of each.
     """
 
-    def __init__(self, script, names, labels, outputs, null):
+    def __init__(self, script, shown, names, labels, outputs, null):
         body = script if script.endswith(b"\n") or not script else script + b"\n"
         statements, is_closed = statements_of(script)
         everything = b"\n".join([body, *names, *(label for pairs in labels.values() for _category, label in pairs)])
@@ -177,7 +177,7 @@ class Request:
         self.grids = {name: unused(b"_cells_%d_%%d" % at, everything).decode() for at, name in enumerate(labels)}
         before = b"".join(self.rules(name, pairs) for name, pairs in labels.items())
         self.added = before.count(b"\n")
-        self.lines = body.split(b"\n")[:-1]
+        self.lines = shown.split(b"\n")  # as the user wrote them
         self.labelled = {made_by(it).decode(errors="replace") for it in statements if has_labels(it)} | set(labels)
         after = b""
         if outputs and is_closed:  # an open r.reclass would take them for rules; rcell refuses it by itself
@@ -208,7 +208,7 @@ class Request:
         own = line - self.added
         if own < 1:
             return Stopped(_("rcell: the labels of the raster maps: {}").format(text))
-        if own > len(self.lines):
+        if own > len(self.lines) - (not self.lines[-1]):
             return Stopped(_("rcell: while maps were handed out: {}").format(COLUMN.sub("", text)))
         shown = self.lines[own - 1].decode(errors="replace").rstrip("\r").replace("\t", " ")
         column = COLUMN.search(text)
@@ -588,13 +588,13 @@ def read_script(path):
         raise Stopped(_("The script <{}> cannot be read: {}").format(path, fault.strerror)) from None
 
 
-def request_of(script, statements, inputs, outputs):
+def request_of(script, shown, statements, inputs, outputs):
     """The request, with the labels of the inputs that need them."""
     names = [it.name for it in inputs]
     wanted = labelled_inputs(statements, names) | {it.name for it in outputs if it.name in names}
     labels = {it.name: labels_of(it.map) for it in inputs if it.name in wanted}
     null = b"%d" % NULL
-    request = Request(script, [name.encode() for name in names], {name: pairs for name, pairs in labels.items() if pairs}, outputs, null)
+    request = Request(script, shown, [name.encode() for name in names], {name: pairs for name, pairs in labels.items() if pairs}, outputs, null)
     if len(request.text) > MOST_SCRIPT >= len(script):
         raise Stopped(_("The script with the labels of its maps has {} bytes; rcell takes {}").format(len(request.text), MOST_SCRIPT))
     return request
@@ -645,7 +645,7 @@ def done(options, flags):
     region = look_up_region()
     if not outputs and not any(it.command in (b"r.stats", b"r.out.ascii") for it in statements):
         gs.warning(_("The script writes no table, and no map is asked for by output="))
-    request = request_of(script, statements, inputs, outputs)
+    request = request_of(script, given, statements, inputs, outputs)
     table = Table(options["table"])
     imports = run(request, inputs, outputs, region, table.file)
     imports.finish({made_by(it).decode(errors="replace") for it in statements if it.command == b"r.clump"})
