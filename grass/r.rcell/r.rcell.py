@@ -246,7 +246,7 @@ class CellWords:
             if places.min() >= 0 and places.max() <= self.span:
                 return self.words, places
         categories, places = np.unique(block, return_inverse=True)
-        has_null = categories[0] == NULL
+        has_null = int(categories[0] == NULL)
         found = categories[has_null:].tolist()
         if max((len(str(category)) for category in found[:1] + found[-1:]), default=0) > self.width:
             raise Stopped(_("A raster map has categories beyond the range that r.info tells; r.support -s mends it"))

@@ -164,7 +164,7 @@ class TestRcell(TestCase):
         self.assertRegex(lines[len(theirs)], "^north: 41$")
         self.assertEqual(lines[-1], "1 {}".format(SIDE * SIDE))
         self.assertEqual(len(lines), len(theirs) + 6 + SIDE + 1)
-        self.assertIn("already exists", self.refused(script, maps="cover,void", table=path))
+        self.assertIn("> exists", self.refused(script, maps="cover,void", table=path))
 
     def test_script_from_standard_input(self):
         module = SimpleModule("r.rcell", script="-", maps="cover", stdin_="r.stats -c input=cover\n")
