@@ -230,11 +230,12 @@ def addon_by_grass():
     for kind in LOCATIONS:
         with tempfile.TemporaryDirectory() as room:
             made_location(room, kind)
-            os.mkdir(f"{room}/path")
-            os.symlink(f"{ROOT}/grass/r.rcell/r.rcell.py", f"{room}/path/r.rcell")
-            paths = {**environment(), "PATH": f"{room}/path:{environment()['PATH']}"}
-            words = ["grass", f"{room}/here/PERMANENT", "--exec", "/usr/bin/python3", f"{ROOT}/grass/r.rcell/testsuite/test_r_rcell.py"]
-            done = subprocess.run(words, cwd=room, env=paths, capture_output=True, text=True, errors="replace")
+            home = {**environment(), "HOME": room}
+            ((_, install),) = blocks_with("docs/GUIDE.md", "cp grass/r.rcell")
+            subprocess.run(["sh", "-ec", install], cwd=ROOT, env=home, check=True)
+            tests = f"{ROOT}/grass/r.rcell/testsuite/test_r_rcell.py"
+            words = ["grass", f"{room}/here/PERMANENT", "--exec", "/usr/bin/python3", tests]
+            done = subprocess.run(words, cwd=room, env=home, capture_output=True, text=True, errors="replace")
             counted = re.search(r"^Ran (\d+) tests?", done.stdout + done.stderr, re.MULTILINE)
             is_right = counted and re.search(r"^OK$", done.stdout + done.stderr, re.MULTILINE)
             print(f"r.rcell in a location of {kind}: {counted[0] if counted else 'no tests'}", flush=True)

@@ -346,7 +346,8 @@ class Imports:
         """Takes away what did not get its last name."""
         shutil.rmtree(self.room, ignore_errors=True)
         if self.names:
-            gs.run_command("g.remove", flags="f", type="raster", name=list(self.names), quiet=True, stderr=subprocess.DEVNULL, errors="ignore")
+            quiet = dict(quiet=True, stderr=subprocess.DEVNULL, errors="ignore")
+            gs.run_command("g.remove", flags="f", type="raster", name=list(self.names), **quiet)
 
     def edges(self):
         return {key: "%.15g" % self.region[key[0]] for key in ("north", "south", "east", "west")}
@@ -558,7 +559,8 @@ def look_up_outputs(outputs, statements, inputs):
     for it in outputs:
         raster, _at, mapset = it.map.partition("@")
         if it.name not in known:
-            raise Stopped(_("The script makes no map <{}>; it makes {}").format(it.name, ", ".join(filter(None, made)) or _("none")))
+            others = ", ".join(filter(None, made)) or _("none")
+            raise Stopped(_("The script makes no map <{}>; it makes {}").format(it.name, others))
         if mapset not in ("", here) or not raster or not gs.legal_name(raster):
             raise Stopped(_("<{}> is no name for a raster map of this mapset").format(it.map))
         if raster in [other.map for other in found]:
@@ -593,10 +595,11 @@ def request_of(script, shown, statements, inputs, outputs):
     names = [it.name for it in inputs]
     wanted = labelled_inputs(statements, names) | {it.name for it in outputs if it.name in names}
     labels = {it.name: labels_of(it.map) for it in inputs if it.name in wanted}
-    null = b"%d" % NULL
-    request = Request(script, shown, [name.encode() for name in names], {name: pairs for name, pairs in labels.items() if pairs}, outputs, null)
-    if len(request.text) > MOST_SCRIPT >= len(script):
-        raise Stopped(_("The script with the labels of its maps has {} bytes; rcell takes {}").format(len(request.text), MOST_SCRIPT))
+    labels = {name: pairs for name, pairs in labels.items() if pairs}
+    request = Request(script, shown, [name.encode() for name in names], labels, outputs, b"%d" % NULL)
+    size = len(request.text)
+    if size > MOST_SCRIPT >= len(script):
+        raise Stopped(_("The script with the labels of its maps has {} bytes; rcell takes {}").format(size, MOST_SCRIPT))
     return request
 
 
