@@ -242,8 +242,10 @@ class CellWords:
     def looked_up(self, block):
         """The table of words for a block, and the place of each cell in it."""
         if self.words is not None:
-            places = np.where(block == NULL, self.span, block.astype(np.int64) - self.least)
-            if places.min() >= 0 and places.max() <= self.span:
+            # Modulo 2^32 null, and whatever else is not from the least to the greatest, comes out behind all words.
+            places = block.view(np.uint32) - np.uint32(self.least & 0xFFFFFFFF)
+            np.minimum(places, np.uint32(self.span), out=places)
+            if np.count_nonzero(places == self.span) == np.count_nonzero(block == NULL):
                 return self.words, places
         categories, places = np.unique(block, return_inverse=True)
         has_null = int(categories[0] == NULL)
