@@ -3,7 +3,7 @@
 
     documents.py [--program PATH] [--write] [--texts | DOCUMENT..]
 
-A document is run in a folder of its own that has bin/ with rcell and the helper programs, examples/ and tools/. Its fenced
+A document is run in a folder of its own that has bin/rcell, the helpers beside it, examples/ and tools/. Its fenced
 blocks are taken from the top:
     console          lines that begin with `$ ` are given to sh, those with `> ` go on with the command above; the lines
                      after a command are what it must print, standard output and standard error together
@@ -97,8 +97,9 @@ class Room:
         self.top = self.here = os.path.realpath(path)
         os.mkdir(f"{path}/bin")
         shutil.copy(program, f"{path}/bin/rcell")
-        for helper in filter(os.path.isfile, glob.glob(f"{ROOT}/helpers/*")):
+        for helper in glob.glob(f"{ROOT}/helpers/rcell-*[a-z]"):
             shutil.copy(helper, f"{path}/bin")
+        shutil.copytree(f"{ROOT}/helpers", f"{path}/share/rcell", ignore=shutil.ignore_patterns("__pycache__", "rcell-*"))
         for name in ("examples", "tools"):
             shutil.copytree(f"{ROOT}/{name}", f"{path}/{name}", ignore=shutil.ignore_patterns("__pycache__"))
 
