@@ -209,7 +209,7 @@ class Request:
         if own < 1:
             return Stopped(_("rcell: the labels of the raster maps: {}").format(text))
         if own > len(self.lines) - (not self.lines[-1]):
-            return Stopped(_("rcell: while maps were handed out: {}").format(COLUMN.sub("", text)))
+            return Stopped(_("rcell: while it wrote the maps: {}").format(COLUMN.sub("", text)))
         shown = self.lines[own - 1].decode(errors="replace").rstrip("\r").replace("\t", " ")
         column = COLUMN.search(text)
         before = self.lines[own - 1][: int(column[1]) - 1].decode(errors="replace") if column else ""
@@ -298,7 +298,7 @@ def ascii_texts(raster, region):
 
 
 def end_of(module, raster):
-    """Sees that a module has ended well."""
+    """Checks that a module has ended well."""
     module.stdout.close()
     if module.wait():
         raise Stopped(_("Raster map <{}> could not be read").format(raster))
@@ -345,7 +345,7 @@ class Imports:
         atexit.register(self.remove)
 
     def remove(self):
-        """Takes away what did not get its last name."""
+        """Removes what did not get its last name."""
         shutil.rmtree(self.room, ignore_errors=True)
         if self.names:
             quiet = dict(quiet=True, stderr=subprocess.DEVNULL, errors="ignore")
@@ -619,7 +619,7 @@ class Table:
         atexit.register(self.remove)
 
     def remove(self):
-        """Takes away what did not get its name."""
+        """Removes what did not get its name."""
         if os.path.exists(self.file.name):
             os.remove(self.file.name)
 

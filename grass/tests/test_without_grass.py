@@ -172,7 +172,7 @@ class Streams(unittest.TestCase):
         asked = request(b"r.stats -c input=a\n", ["a"], {"a": [(b"1", b"one")]})
         self.assertEqual(str(asked.stopped("rcell: _cells_0_1:0: no memory")), "rcell: a:0: no memory")
         self.assertEqual(str(asked.stopped("rcell: script:2: no memory")), "rcell: the labels of the raster maps: no memory")
-        self.assertEqual(str(asked.stopped("rcell: script:9: no memory")), "rcell: while maps were handed out: no memory")
+        self.assertEqual(str(asked.stopped("rcell: script:9: no memory")), "rcell: while it wrote the maps: no memory")
         self.assertEqual(str(asked.stopped("rcell: output:0: write failed after 9 bytes")), "rcell: output:0: write failed after 9 bytes")
         self.assertEqual(str(asked.stopped("")), "rcell ended without a message")
 
