@@ -627,9 +627,12 @@ class Table:
         """Gives the file its name, or writes it to standard output."""
         self.file.close()
         if self.is_stream:
-            with open(self.file.name, "rb") as kept:
-                shutil.copyfileobj(kept, sys.stdout.buffer)
-            sys.stdout.buffer.flush()
+            try:
+                with open(self.file.name, "rb") as kept:
+                    shutil.copyfileobj(kept, sys.stdout.buffer)
+                sys.stdout.buffer.flush()
+            except BrokenPipeError:  # whoever reads has enough
+                os.dup2(os.open(os.devnull, os.O_WRONLY), sys.stdout.fileno())
         else:
             mask = os.umask(0)
             os.umask(mask)
@@ -659,7 +662,8 @@ def done(options, flags):
 
 def main():
     options, flags = gs.parser()
-    signal.signal(signal.SIGTERM, lambda *_: sys.exit(1))
+    for interruption in (signal.SIGTERM, signal.SIGINT):
+        signal.signal(interruption, lambda *_: sys.exit(1))
     try:
         done(options, flags)
     except Stopped as fault:

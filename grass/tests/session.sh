@@ -21,4 +21,7 @@ printf 'r.mapcalc x = lc +\n' > wrong
 if r.rcell script=wrong maps=lc output=x 2> told; then exit 1; fi
 grep -q 'rcell: script:1: unexpected token at column 19' told
 grep -q '^    r.mapcalc x = lc +$' told
+printf 'r.mapcalc r = row() * 1000 + col()\nr.stats -1 input=r,lc\n' > long
+r.rcell script=long maps=lc 2> told | true
+if grep -q Traceback told; then exit 1; fi
 [ "$(g.list type=raster mapset=. | sort | tr '\n' ' ')" = 'areas lc patches theirs trees ' ]
