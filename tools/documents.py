@@ -7,6 +7,7 @@ A document is run in a folder of its own that has bin/rcell, the helpers beside 
 blocks are taken from the top:
     console          lines that begin with `$ ` are given to sh, those with `> ` go on with the command above; the lines
                      after a command are what it must print, standard output and standard error together
+    console needs=A,B  the same where the programs A and B are installed; else it is told, and left out
     text file=PATH   a file (also python file=PATH); the commands of later blocks find it
     text, sh         shown and not run: such a block has no command with its output
 The folder that a block goes to by `cd` is that of the next. With --write what is printed takes the place of what is shown.
@@ -31,8 +32,9 @@ import differences
 import messages
 
 ROOT = os.path.dirname(os.path.dirname(os.path.abspath(__file__)))
-DOCUMENTS = ["README.md", "docs/ISLANDS.md", "docs/GUIDE.md", "docs/COMMANDS.md", "docs/DIFFERENCES.md", "docs/PROOFS.md"]
-FENCE = re.compile(r"```(\S*)(?: file=(\S+))?\n(.*?)^```$", re.MULTILINE | re.DOTALL)
+DOCUMENTS = ["README.md", "docs/ISLANDS.md", "docs/GUIDE.md", "docs/FROM_GRASS.md", "docs/COMMANDS.md", "docs/DIFFERENCES.md",
+             "docs/PROOFS.md"]
+FENCE = re.compile(r"```(\S*)(?: file=(\S+))?(?: needs=(\S+))?\n(.*?)^```$", re.MULTILINE | re.DOTALL)
 COUNTED = re.compile(r"^\| (crates/\S+\.antt|all) \| (\d+) \| (\d+) \|", re.MULTILINE)
 # A line of a file of definitions that defines nothing: an import, a comment, or nothing at all.
 NO_DEFINITION = re.compile(rb"use |\s*--|\s*$")
@@ -50,6 +52,7 @@ class Block:
     span: tuple[int, int]
     language: str
     file: str
+    needs: list[str]
     text: str
 
 
@@ -63,7 +66,8 @@ class Command:
 
 def blocks_of(document):
     for found in FENCE.finditer(document):
-        yield Block(document.count("\n", 0, found.start()) + 1, found.span(3), found[1], found[2] or "", found[3])
+        needs = found[3].split(",") if found[3] else []
+        yield Block(document.count("\n", 0, found.start()) + 1, found.span(4), found[1], found[2] or "", needs, found[4])
 
 
 def commands_of(block):
@@ -130,6 +134,10 @@ def judge(block, room):
         return f"a block of an unknown kind: {block.language!r}", block.text
     if block.file:
         room.put(block)
+        return None, block.text
+    missing = [program for program in block.needs if not shutil.which(program)]
+    if missing:
+        print(f"left out, since {', '.join(missing)} is not installed: the block at line {block.line}")
         return None, block.text
     if block.language != "console":
         has_command = re.search(r"^\$ ", block.text, re.MULTILINE)
