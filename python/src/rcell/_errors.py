@@ -13,6 +13,7 @@ __all__ = [
     "OtherRegion",
     "OutOfMemory",
     "RcellError",
+    "ReadFailed",
     "Refused",
     "WriteFailed",
     "WrongProgram",
@@ -110,7 +111,7 @@ class BadMap(Refused, ValueError):
         The name of the map; it is the `source` of the refusal as well.
     text : str
         What is wrong.
-    row, column_of_map : int, optional
+    row, col : int, optional
         The first cell that is wrong, from 1 at the top left.
     value : number, optional
         What it has.
@@ -145,6 +146,20 @@ class OtherRegion(BadMap):
     ... except rcell.OtherRegion as refusal:
     ...     print(refusal.text.splitlines()[0])
     not of the region of `a`, and nothing is resampled: east is 3, not 2 (1 more); cols is 3, not 2 (1 more)
+    """
+
+
+class ReadFailed(BadMap):
+    """A file that cannot be opened, or a part of it that cannot be read.
+
+    Examples
+    --------
+    >>> import rcell
+    >>> try:
+    ...     rcell.run("r.stats -c input=lc", lc="nowhere.tif")
+    ... except rcell.ReadFailed as refusal:
+    ...     print(refusal)
+    lc: cannot open: nowhere.tif: No such file or directory
     """
 
 

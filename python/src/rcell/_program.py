@@ -13,6 +13,7 @@ import subprocess
 import sys
 import sysconfig
 from dataclasses import dataclass
+from types import MappingProxyType
 from typing import Any, Callable, Iterator, Mapping, Sequence
 
 import numpy as np
@@ -23,6 +24,7 @@ from ._maps import Source
 from ._region import Region
 from ._script import SCRIPT_LIMIT, Plan, Statement, plan_of
 from ._text import NULL, Words, numbers_of
+from ._texts import TextMap
 
 __all__ = ["NULL", "Output", "execute", "find_program"]
 
@@ -83,8 +85,8 @@ def find_program(program: str | os.PathLike[str] | None = None) -> str:
     WrongProgram
         Where it does not answer as this package needs it.
     """
-    path = os.fspath(program) if program is not None else next(_candidates(), None)
-    if path is None:
+    path = os.fspath(program) if program is not None else next(_candidates(), "")
+    if not path:
         raise MissingProgram(
             "the program rcell was not found: neither in the environment variable RCELL, nor beside this Python, nor on the path"
         )
@@ -127,11 +129,15 @@ class _Run:
     Leaving it ends the program, whatever has happened, and closes all pipes.
     """
 
-    def __init__(self, path: str, names: Sequence[str]) -> None:
+    def __init__(self, path: str, names: Sequence[str], files: Mapping[str, str] = MappingProxyType({})) -> None:
         self._writers: list[int] = []
         readers: list[int] = []
         try:
-            for _ in range(len(names) + 1):
+            for name in (*names, ""):
+                if name in files:
+                    readers.append(os.open(files[name], os.O_RDONLY))
+                    self._writers.append(-1)
+                    continue
                 reader, writer = os.pipe()
                 readers.append(reader)
                 self._writers.append(writer)
@@ -141,8 +147,8 @@ class _Run:
                 words, stdin=subprocess.DEVNULL, stdout=subprocess.PIPE, stderr=subprocess.PIPE, pass_fds=readers, bufsize=0
             )
         except BaseException:
-            for writer in self._writers:
-                os.close(writer)
+            for place in range(len(self._writers)):
+                self.close_grid(place)
             raise
         finally:
             for reader in readers:
@@ -243,10 +249,12 @@ def execute(
     OutOfMemory, Killed, MissingProgram, WrongProgram
     """
     path = find_program(program)
+    maps = dict(maps)
     plan = plan_of(script, maps, wanted)
     _check_length(script, plan)
     region = next(iter(maps.values())).region
-    with _Run(path, list(maps)) as run:
+    files = {name: source.path for name, source in maps.items() if isinstance(source, TextMap) and source.held is None}
+    with _Run(path, list(maps), files) as run:
         for place, source in enumerate(maps.values()):
             _send(run, place, source, progress)
         run.write_script(plan.text)
@@ -267,6 +275,11 @@ def execute(
 
 
 def _send(run: _Run, place: int, source: Source, progress: Progress | None) -> None:
+    if isinstance(source, TextMap):
+        for piece in source.pieces():
+            run.write(place, piece)
+        run.close_grid(place)
+        return
     words = Words(*source.range(), source.nodata)
     run.write(place, source.region.header().encode() + b"null: " + words.null + b"\n")
     for block in source.blocks():

@@ -22,7 +22,7 @@ CELL_LIMIT = 2_147_483_647
 
 def _units(edge: float | Fraction) -> int:
     """An edge in units of 10^-8, which is all that the program keeps of it."""
-    return round(Fraction(edge) * UNITS)
+    return int(round(Fraction(edge) * UNITS))
 
 
 def _edge_text(units: int) -> str:

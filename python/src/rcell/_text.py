@@ -12,6 +12,8 @@ from typing import Any
 import numpy as np
 from numpy.typing import NDArray
 
+from ._masked import MaskedCells, masked
+
 __all__ = ["NULL", "MAX_CATEGORY", "Words", "cells_to_text", "numbers_of", "range_of", "text_to_cells"]
 
 NULL = -2_147_483_648
@@ -148,7 +150,7 @@ class Words:
         least, greatest = self._range_of(flat, mask)
         fits = self.range[0] <= least and greatest <= self.range[1]
         words = self._spelled(flat, least, greatest, mask) if fits else self._too_wide(flat, least, greatest, mask)
-        return memoryview(words).cast("B")
+        return words.data.cast("B")
 
     def _range_of(self, flat: Cells, mask: Mask | None) -> tuple[int, int]:
         if flat.dtype == np.uint8 and self.width > 2:
@@ -225,7 +227,8 @@ class Words:
         places = np.subtract(flat, known, dtype=np.intp)
         if self.nodata is not None:
             places[flat == self.nodata] = table.size - 1
-        return np.take(table, places, mode="clip").view(np.uint8)
+        words: NDArray[np.uint8] = np.take(table, places, mode="clip").view(np.uint8)
+        return words
 
     def _too_wide(self, flat: Cells, least: int, greatest: int, mask: Mask | None) -> NDArray[np.uint8]:
         """Cells of which some need a wider word: the null text stays, with blanks before it."""
@@ -272,7 +275,7 @@ def numbers_of(text: bytes, dtype: type[np.generic] = np.int64) -> NDArray[Any]:
     return np.fromstring(text, dtype, sep=" ") if text and not text.isspace() else np.empty(0, dtype)
 
 
-def text_to_cells(text: bytes, rows: int, cols: int) -> np.ma.MaskedArray[Any, np.dtype[np.int32]]:
+def text_to_cells(text: bytes, rows: int, cols: int) -> MaskedCells:
     """The cells that `r.stats -1 input=MAP null_value=-2147483648` wrote.
 
     Parameters
@@ -298,4 +301,4 @@ def text_to_cells(text: bytes, rows: int, cols: int) -> np.ma.MaskedArray[Any, n
     [[1, None], [3, 4]]
     """
     cells = numbers_of(text, np.int32).reshape(rows, cols)
-    return np.ma.MaskedArray(cells, mask=cells == NULL)
+    return masked(cells, cells == NULL)

@@ -1,0 +1,3 @@
+"""The version of the package: that of the program that its wheel brings."""
+
+__version__ = "1.0.0"
