@@ -232,6 +232,11 @@ def table(
     return answer.frame() if has("pandas") else answer
 
 
+def run_of(script: str, maps: Mapping[str, Any], progress: Progress | None = None) -> _Run:
+    """A run that tells its progress, for the command line."""
+    return _Run(script, maps, {}, progress)
+
+
 def table_of(of: _Run, area: str | None, percent: bool, pivot: bool) -> Table:
     """The only table of a run, with the columns asked for."""
     writing = [statement for statement in statements_of(of.script) if statement.writes]

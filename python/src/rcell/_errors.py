@@ -162,6 +162,11 @@ class ReadFailed(BadMap):
     lc: cannot open: nowhere.tif: No such file or directory
     """
 
+    def __init__(self, name: str, text: str) -> None:
+        super().__init__(name, text)
+        self.args = (name, text)
+        self.status = 4
+
 
 class MissingProgram(RcellError, FileNotFoundError):
     """The program `rcell` was not found, or cannot be executed.

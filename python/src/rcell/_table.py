@@ -17,7 +17,7 @@ from ._errors import Refused
 from ._libraries import has, need
 from ._text import NULL
 
-__all__ = ["Pivot", "Table"]
+__all__ = ["Pivot", "Table", "matrix_csv"]
 
 Value = int | float | str | None
 # Rows that a notebook shows.
@@ -311,6 +311,27 @@ class Table:
         head = "".join(f"<th>{html.escape(name)}</th>" for name in self.columns)
         rows = "".join("<tr>" + "".join(f"<td>{html.escape(_plain(value))}</td>" for value in row) + "</tr>" for row in self.rows[:SHOWN_ROWS])
         return f"<table><tr>{head}</tr>{rows}</table>"
+
+
+def matrix_csv(table: Table) -> str:
+    """A table of two maps as comma-separated values: a row for each category of the first, a column for each of the second.
+
+    Examples
+    --------
+    >>> import numpy as np, rcell
+    >>> a, b = np.array([[1, 1, 2]]), np.array([[7, 8, 8]])
+    >>> print(matrix_csv(rcell.run("r.stats -c input=a,b", a=a, b=b).tables[0]), end="")
+    a,7,8
+    1,1,1
+    2,0,1
+    """
+    matrix = table.pivot()
+    text = io.StringIO()
+    writer = csv.writer(text, lineterminator="\n")
+    writer.writerow([table.maps[0], *_axis(matrix.columns)])
+    for name, values in zip(_axis(matrix.rows), matrix.values.tolist()):
+        writer.writerow([name, *map(_plain, values)])
+    return text.getvalue()
 
 
 def _unique(names: list[str]) -> list[str]:
