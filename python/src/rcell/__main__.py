@@ -130,7 +130,7 @@ def main(words: Sequence[str] | None = None) -> int:
     given = list(sys.argv[1:] if words is None else words)
     try:
         if given[:1] == ["tiles"]:
-            from .tiles.__main__ import main as main_of_tiles
+            from .tiles._command import main as main_of_tiles
 
             return int(main_of_tiles(given[1:]))
         settings = _words().parse_args(given)

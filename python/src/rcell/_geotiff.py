@@ -84,7 +84,7 @@ def write_geotiff(grid: Grid, path: str) -> None:
                 with memory.open(**profile) as dataset:
                     dataset.write(cells, 1)
                 _copy(memory, beside)
-        except rasterio.errors.RasterioError as error:
+        except (rasterio.errors.RasterioError, rasterio.errors.RasterioIOError) as error:
             raise WriteFailed(f"{path} cannot be written: {error}") from None
         write_labels(beside, grid.labels)
 

@@ -185,7 +185,7 @@ class RasterMap:
         try:
             cells = dataset.read(self.band, window=window)
             null: Mask | None = dataset.read_masks(self.band, window=window) == 0 if self.has_mask else None
-        except rasterio.errors.RasterioError as error:
+        except (rasterio.errors.RasterioError, OSError) as error:
             raise ReadFailed(self.name, f"rows {row + 1} to {row + rows} cannot be read: {error}") from None
         if self.is_upside_down:
             cells, null = cells[::-1], None if null is None else null[::-1]

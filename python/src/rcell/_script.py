@@ -14,6 +14,8 @@ from ._text import NULL
 
 __all__ = ["Plan", "Statement", "labels_in", "plan_of", "statements_of"]
 
+# The line that ends a table. What is sent writes whole numbers alone, so that no line of an output has a letter.
+MARK = "end"
 LINE_LIMIT = 65_535
 SCRIPT_LIMIT = 1_048_576
 _NAME = re.compile(r"[A-Za-z_][A-Za-z0-9_.]{0,63}")
@@ -188,21 +190,6 @@ def _unused_name(script: str, names: Iterable[str]) -> str:
     return next(name for name in (f"nothing_{number}" for number in range(len(script) + len(taken) + 1)) if name not in script and name not in taken)
 
 
-def _mark(script: str) -> str:
-    """A word that no line of an output can be.
-
-    A line of a table or a grid begins with a category or with a null text, or has a blank after its first word, as a header
-    line does. The word begins with neither: with no digit, no minus and no null text of the script, and it has no blank.
-    """
-    null_texts = {"*", *re.findall(r"null_value=([!-~]*)", script)} - {""}
-    words = (f"~{number}~" for number in range(len(script) + 2))
-    plain = (f"{letter}mark" for letter in map(chr, range(ord("!"), ord("~") + 1)) if not letter.isdigit() and letter not in "-+#*")
-    for word in (*plain, *words):
-        if not any(word.startswith(text) for text in null_texts):
-            return word
-    raise AssertionError("a script has fewer null texts than there are words")
-
-
 def plan_of(script: str, names: Iterable[str], wanted: Iterable[str] = ()) -> Plan:
     """What is sent for a script, so that its outputs can be parted and read as numbers.
 
@@ -225,7 +212,7 @@ def plan_of(script: str, names: Iterable[str], wanted: Iterable[str] = ()) -> Pl
         extra = []
     outputs = writing + extra
     by_line = {statement.line: place for place, statement in enumerate(writing) if statement.is_known}
-    nothing, mark = _unused_name(script, names), _mark(script)
+    nothing = _unused_name(script, names)
     sent: list[str] = []
     lines: list[int] = []
     marks: list[bytes | None] = [None] * len(outputs)
@@ -239,8 +226,8 @@ def plan_of(script: str, names: Iterable[str], wanted: Iterable[str] = ()) -> Pl
             return
         if not any(marks):
             add(f"r.mapcalc {nothing} = null()", line)
-        add(f"r.stats input={nothing} null_value={mark}", line)
-        marks[place] = mark.encode()
+        add(f"r.stats input={nothing} null_value={MARK}", line)
+        marks[place] = MARK.encode()
 
     places = {statement.line: place for place, statement in enumerate(writing)}
     for number, line in enumerate(script.split("\n"), 1):
