@@ -256,7 +256,7 @@ class Scripts(unittest.TestCase):
         plan = plan_of(script, ["lc"])
         self.assertEqual([mark for mark in plan.marks], [b"end"] * 4 + [None])
         sent = [line for line in plan.text.decode().split("\n") if line.startswith("r.stats") and "nothing" not in line]
-        self.assertEqual(sent, ["r.stats -c input=lc,lc null_value=-2147483648"] * 4 + ["r.stats input=lc,lc null_value=-2147483648"])
+        self.assertEqual(sent, ["r.stats -c input=lc,lc"] * 4 + ["r.stats input=lc,lc"])
         self.assertEqual([table.rows[0] for table in rcell.run(script, lc=rcell.Map(LAND, labels={0: "end"})).tables], [(0, 0, 1)] * 4 + [(0, "end", 0, "end")])
 
     def test_the_mark_s_map_has_a_name_of_its_own(self) -> None:

@@ -101,8 +101,8 @@ def find_program(program: str | os.PathLike[str] | None = None) -> str:
 
 
 _PROBE_GRID = b"north: 1\nsouth: 0\neast: 3\nwest: 0\nrows: 1\ncols: 3\nnull: ***\n007 *** 012 "
-_PROBE_SCRIPT = f"r.clump -d input=g output=k\nr.stats -c input=g,k null_value={NULL} after=7,1\nr.stats -1 input=k null_value={NULL}\n".encode()
-_PROBE_ANSWER = f"12 2 1\n{NULL} {NULL} 1\n1\n{NULL}\n2\n".encode()
+_PROBE_SCRIPT = b"r.clump -d input=g output=k\nr.stats -c input=g,k after=7,1\nr.stats input=k null_value=end\nr.stats -1 input=k\n"
+_PROBE_ANSWER = b"12 2 1\n* * 1\n1\n2\nend\n1\n*\n2\n"
 
 
 def _probe(path: str) -> None:

@@ -10,8 +10,6 @@ import re
 from dataclasses import dataclass, field
 from typing import Iterable
 
-from ._text import NULL
-
 __all__ = ["Plan", "Statement", "labels_in", "plan_of", "statements_of"]
 
 # The line that ends a table. What is sent writes whole numbers alone, so that no line of an output has a letter.
@@ -76,7 +74,7 @@ class Statement:
     def sent(self) -> str:
         """The line that goes to the program in its place: a table as numbers alone, a grid as one number a line."""
         flags = "1" if self.command == "r.out.ascii" else self.flags.replace("l", "")
-        words = ["r.stats", *(["-" + flags] if flags else []), "input=" + ",".join(self.maps), f"null_value={NULL}"]
+        words = ["r.stats", *(["-" + flags] if flags else []), "input=" + ",".join(self.maps)]
         return " ".join(words + ([f"after={self.after}"] if self.after is not None else []))
 
 

@@ -2,7 +2,7 @@
 
 A cell goes to the program as a word of one width for the whole map, leading zeros in front and a blank behind, so that many
 cells are spelled by one look-up: 2 bytes for a digit, 4 for three characters, 8 for seven, 10 for nine, 12 for eleven. Null is
-spelled by as many `*`, which the header line `null:` declares.
+spelled by as many `*`, or by a digit that is no category, which the header line `null:` declares.
 """
 
 from __future__ import annotations
@@ -13,11 +13,9 @@ import numpy as np
 from numpy.typing import NDArray
 
 from ._masked import MaskedCells, masked
+from ._numbers import NULL, numbers_of
 
 __all__ = ["NULL", "MAX_CATEGORY", "Words", "cells_to_text", "numbers_of", "range_of", "text_to_cells"]
-
-NULL = -2_147_483_648
-"""What stands for null in text that comes back: no category has this value."""
 
 MAX_CATEGORY = 2_147_483_647
 WIDTHS = (2, 4, 8, 10, 12)
@@ -25,6 +23,10 @@ WIDTHS = (2, 4, 8, 10, 12)
 TABLE_LIMIT = 1 << 18
 # From so many cells on a table of pairs of 8-bit cells pays for its making.
 PAIRS_FROM = 1 << 19
+# A cell of one byte and one digit is spelled by adding the character of zero. Nodata of these values then has a character that
+# is a null text by itself: a digit that is no category, or the one before zero.
+ZERO = ord("0")
+NODATA_BY_SUM = (*range(10), 255)
 
 Cells = NDArray[Any]
 Mask = NDArray[np.bool_]
@@ -118,8 +120,9 @@ class Words:
     def __init__(self, least: int, greatest: int, nodata: int | None = None) -> None:
         longest = max(len(str(least)), len(str(greatest))) + 1
         self.width = next(width for width in WIDTHS if width >= longest)
-        self.null = b"*" * (self.width - 1)
         self.nodata = nodata
+        self._is_digit_by_sum = self.width == 2 and (nodata is None or nodata in NODATA_BY_SUM)
+        self.null = bytes([(nodata + ZERO) & 255]) if self._is_digit_by_sum and nodata is not None else b"*" * (self.width - 1)
         self._null_word = np.frombuffer(self.null + b" ", np.uint8)
         self._tables: dict[Any, tuple[int, NDArray[Any]]] = {}
         self._wider: Words | None = None
@@ -147,6 +150,10 @@ class Words:
         """
         flat = np.ascontiguousarray(cells).reshape(-1)
         mask = None if null is None or not null.any() else np.ascontiguousarray(null).reshape(-1)
+        if mask is None and self._is_digit_by_sum and flat.dtype == np.uint8:
+            digits = self._by_sum(flat)
+            if digits is not None:
+                return digits.data.cast("B")
         least, greatest = self._range_of(flat, mask)
         fits = self.range[0] <= least and greatest <= self.range[1]
         words = self._spelled(flat, least, greatest, mask) if fits else self._too_wide(flat, least, greatest, mask)
@@ -181,6 +188,15 @@ class Words:
         words = _put_together(flat if null is None else np.where(null, 0, flat), self.width)
         if null is not None:
             words.reshape(-1, self.width)[null] = self._null_word
+        return words
+
+    def _by_sum(self, flat: Cells) -> NDArray[np.uint16] | None:
+        """Digits and blanks by addition, which is faster than any look-up; None where a cell is no digit and not nodata."""
+        characters = flat + np.uint8(ZERO)
+        if characters.size and (characters.max() > ZERO + 9 or characters.min() < min(ZERO, self.null[0] if self.nodata is not None else ZERO)):
+            return None
+        words = characters.astype(np.uint16)
+        words |= np.uint16(ord(" ") << 8)
         return words
 
     def _by_bits(self, dtype: np.dtype[Any]) -> NDArray[Any]:
@@ -264,19 +280,8 @@ def cells_to_text(cells: Cells, null: Mask | None = None, nodata: int | None = N
     return bytes(words.spell(cells, null)), words.null
 
 
-def numbers_of(text: bytes, dtype: type[np.generic] = np.int64) -> NDArray[Any]:
-    """The whole numbers of a text, whatever blanks and line ends stand between them.
-
-    Examples
-    --------
-    >>> numbers_of(b"1 20\\n-3 4\\n").tolist()
-    [1, 20, -3, 4]
-    """
-    return np.fromstring(text, dtype, sep=" ") if text and not text.isspace() else np.empty(0, dtype)
-
-
 def text_to_cells(text: bytes, rows: int, cols: int) -> MaskedCells:
-    """The cells that `r.stats -1 input=MAP null_value=-2147483648` wrote.
+    """The cells that `r.stats -1 input=MAP` wrote.
 
     Parameters
     ----------
@@ -297,7 +302,7 @@ def text_to_cells(text: bytes, rows: int, cols: int) -> MaskedCells:
 
     Examples
     --------
-    >>> text_to_cells(b"1\\n-2147483648\\n3\\n4\\n", 2, 2).tolist()
+    >>> text_to_cells(b"1\\n*\\n3\\n4\\n", 2, 2).tolist()
     [[1, None], [3, 4]]
     """
     cells = numbers_of(text, np.int32).reshape(rows, cols)
