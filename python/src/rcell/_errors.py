@@ -253,3 +253,8 @@ class MissingLibrary(RcellError, ImportError):
     def __str__(self) -> str:
         package = f"Debian's package python3-{self.library}"
         return f"{self.purpose} the library {self.library} is needed: pip install 'rcell[{self.extra}]', or {package}"
+
+
+# Their names are those of the package, in messages as well.
+for _error in (RcellError, Refused, OutOfMemory, BadMap, OtherRegion, ReadFailed, MissingProgram, WrongProgram, Killed, WriteFailed, MissingLibrary):
+    _error.__module__ = "rcell"

@@ -64,11 +64,14 @@ class _Loader:
     def values(self, ends: NDArray[np.intp], lengths: NDArray[np.intp], longest: int) -> NDArray[Any]:
         """The values of words of at most 8 digits."""
         width = 4 if longest <= 4 else 8
-        dtype = _U4 if width == 4 else _U8
-        at_any_place = np.ndarray((self.bytes.size + 1,), dtype, self._padded.data, 8 - width, (1,))
-        words = at_any_place[ends]
-        words &= np.take(_OWN[width], lengths, mode="clip")
-        return _four_digits(words) if width == 4 else _eight_digits(words)
+        dtype: Any = _U4 if width == 4 else _U8
+        at_any_place: NDArray[Any] = np.ndarray((self.bytes.size + 1,), dtype, self._padded.data, 8 - width, (1,))
+        own: Any = _OWN[width]
+        words: NDArray[Any] = at_any_place[ends]
+        words &= own.take(lengths, mode="clip")
+        if width == 4:
+            return _four_digits(words)
+        return _eight_digits(words)
 
 
 def _of_one_width(characters: NDArray[np.uint8], width: int) -> NDArray[Any] | None:
