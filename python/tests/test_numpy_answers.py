@@ -49,8 +49,8 @@ class Runs(unittest.TestCase):
     def test_tables_are_those_of_numpy(self) -> None:
         random = np.random.default_rng(3)
         for _ in range(25):
-            shape = tuple(random.integers(1, 12, 2))
-            a, b = (random_map(random, *shape, int(random.choice([2, 9, 12, 120])), float(random.choice([0, 0.2, 1]))) for _ in "ab")
+            rows, cols = random.integers(1, 12, 2).tolist()
+            a, b = (random_map(random, rows, cols, int(random.choice([2, 9, 12, 120])), float(random.choice([0, 0.2, 1]))) for _ in "ab")
             counted: collections.Counter[Any] = collections.Counter(zip(a.reshape(-1).tolist(), b.reshape(-1).tolist()))
             answer = rcell.run("r.stats -c input=a,b", a=a, b=b).tables[0]
             self.assertEqual({(x, y): n for x, y, n in answer.rows}, dict(counted))
@@ -139,7 +139,8 @@ class Areas(unittest.TestCase):
     def test_random_maps(self) -> None:
         random = np.random.default_rng(5)
         for _ in range(10):
-            a = random_map(random, *random.integers(1, 15, 2), 3, 0.3)
+            rows, cols = random.integers(1, 15, 2).tolist()
+            a = random_map(random, rows, cols, 3, 0.3)
             least = int(random.integers(1, 5))
             whole, kept = rcell.areas(a), rcell.areas(a, least=least, classes=None)
             large = {row[0] for row in whole.table.rows if row[2] >= least}  # type: ignore[operator]
@@ -384,7 +385,13 @@ class Texts(unittest.TestCase):
     def test_a_pipe_of_a_grid(self) -> None:
         text = text_of(np.ma.MaskedArray(np.arange(90_000).reshape(300, 300)))
         reader, writer = os.pipe()
-        thread = threading.Thread(target=lambda: (os.write(writer, text[:10]), [os.write(writer, text[at : at + 50_000]) for at in range(10, len(text), 50_000)], os.close(writer)))
+
+        def write() -> None:
+            for start, end in ((0, 10), *((at, at + 50_000) for at in range(10, len(text), 50_000))):
+                os.write(writer, text[start:end])
+            os.close(writer)
+
+        thread = threading.Thread(target=write)
         thread.start()
         self.assertEqual(rcell.grid("", "g", g=f"/dev/fd/{reader}").array.tolist(), np.arange(90_000).reshape(300, 300).tolist())
         thread.join()

@@ -45,7 +45,7 @@ class RegionsOfTheProgram(unittest.TestCase):
             ((1, 0, 1, 0, 65_535, 65_535), "rcell.tiles"),
         ):
             with self.subTest(words=words), self.assertRaises(BadMap) as caught:
-                Region(*words)  # type: ignore[arg-type]
+                Region(*words)
             self.assertIn(told, str(caught.exception))
 
     def test_what_no_transform_may_be(self) -> None:

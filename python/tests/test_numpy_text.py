@@ -37,7 +37,8 @@ class WordsAreRead(unittest.TestCase):
             with self.subTest(cells=cells, null=null, nodata=nodata):
                 text, null_text = cells_to_text(cells, null, nodata)
                 self.assertEqual(read(text, null_text), plain(cells, null, nodata))
-                guessed = Words(*sorted(random.integers(-50, 200, 2).tolist()), nodata)
+                least, greatest = sorted(random.integers(-50, 200, 2).tolist())
+                guessed = Words(least, greatest, nodata)
                 self.assertEqual(read(guessed.spell(cells, null), guessed.null), plain(cells, null, nodata))
 
     def test_the_least_category_that_is_null_under_a_mask(self) -> None:

@@ -170,7 +170,7 @@ def test_a_guess_that_is_wrong_changes_no_number(raster: Write) -> None:
         array[:, 9] = 0
         path = raster(array, tiled=True, blockxsize=128, blockysize=128, compress="deflate", nodata=0)
         values, counts = np.unique(array, return_counts=True)
-        rows = dict(rcell.run("r.stats -c input=lc", lc=path).tables[0].rows)
+        rows: dict[Any, Any] = dict(rcell.run("r.stats -c input=lc", lc=path).tables[0].rows)  # type: ignore[arg-type]
         assert rows == {None if value == 0 else value: count for value, count in zip(values.tolist(), counts.tolist())}
 
 

@@ -58,7 +58,7 @@ def printed_by(source: str, names: dict[str, Any]) -> str:
         try:
             exec(compile(source, "<document>", "single"), names)
         except Exception as error:
-            lines = "".join(traceback.format_exception_only(error))
+            lines = "".join(traceback.format_exception_only(type(error), error))
             return f"{out.getvalue()}Traceback (most recent call last):\n  ...\n{lines}"
     return out.getvalue()
 

@@ -143,7 +143,7 @@ def text_out_and_in(folder: str, rounds: int) -> list[str]:
     for digits, greatest in ((1, 9), (3, 999), (6, 999_999)):
         cells = random.integers(0, greatest + 1, (TEXT_CELLS // 1_000, 1_000)).astype("uint8" if digits == 1 else "int16" if digits == 3 else "int32")
         path, text = f"{folder}/text.tif", f"{folder}/text"
-        with rasterio.open(path, "w", **profile_of(*cells.shape, TRANSFORM, None, cells.dtype.name, -1 if digits > 1 else 255)) as dataset:
+        with rasterio.open(path, "w", **profile_of(cells.shape[0], cells.shape[1], TRANSFORM, None, cells.dtype.name, -1 if digits > 1 else 255)) as dataset:
             dataset.write(cells, 1)
         numbers = "\n".join(map(str, cells.reshape(-1).tolist())).encode()
         pathlib.Path(f"{folder}/lines").write_bytes(numbers)

@@ -168,7 +168,7 @@ class Grid:
         --------
         >>> import numpy as np, rcell
         >>> rcell.run("r.out.ascii input=lc", lc=np.array([[5, 7]]))[0].text().splitlines()[-1]
-        b'5 7 '
+        b'5 7'
         """
         cells, null_text = cells_to_text(data_of(self.array), mask_of(self.array))
         rows = np.frombuffer(cells, np.uint8).reshape(self.region.rows, -1).copy()

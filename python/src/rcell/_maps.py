@@ -265,7 +265,14 @@ class Map:
     labels: Mapping[int, str] = field(default_factory=dict)
 
     def source(self, name: str) -> ArrayMap:
-        """The same under a name, as the program needs it."""
+        """The same under a name, as the program needs it.
+
+        Examples
+        --------
+        >>> import rcell
+        >>> rcell.Map([[1, 2]]).source("land").region
+        Region(north=1, south=0, east=2, west=0, rows=1, cols=2)
+        """
         given: Any = self.array
         array = data_of(given) if is_masked_array(given) else np.asarray(given)
         null = mask_of(given) if is_masked_array(given) else None
