@@ -31,8 +31,8 @@ import rcell
 import rcell.tiles
 from rcell._maps import source_of
 from rcell._program import execute
-from rcell.tiles._memory import Demand, places
-from rcell.tiles._scripts import Reach
+from rcell.tiles._memory import Demand, areas_demand, grid_demand, places, sizes_demand, table_demand
+from rcell.tiles._scripts import NO_REACH, Reach
 from rcell.tiles._tasks import edges_of
 from rcell.tiles.joining import join
 
@@ -127,7 +127,9 @@ def resident(process: int) -> int:
 def children(process: int) -> list[int]:
     try:
         threads = os.listdir(f"/proc/{process}/task")
-        return [int(child) for thread in threads for child in Path(f"/proc/{process}/task/{thread}/children").read_text().split()]
+        found = [child for thread in threads for child in Path(f"/proc/{process}/task/{thread}/children").read_text().split()]
+        # A child that has not yet become another program still shares its parent's memory.
+        return [int(child) for child in found if os.readlink(f"/proc/{child}/exe") != os.readlink(f"/proc/{process}/exe")]
     except OSError:
         return []
 
@@ -185,12 +187,13 @@ def answers(path: Path, folder: Path, side: int) -> None:
             found, figures = measured(mosaic, lambda: mosaic.table("r.stats -c input=lc"))
             print(f"table, tiles of {size}: equal {found.equals(expected)}; {figures}", flush=True)
     out = folder / "answer.tif"
-    for name, script, null, tiled in (
+    tasks: list[tuple[str, str, int, Callable[[rcell.tiles.Mosaic], Any]]] = [
         ("sum of nine offsets", f"r.mapcalc x = {SUM}", -2147483648, lambda mosaic: mosaic.grid(f"x = {SUM}", out)),
         ("nmode over 3x3", f"r.mapcalc x = {NMODE}", -2147483648, lambda mosaic: mosaic.grid(f"x = {NMODE}", out)),
         ("clump by edges", "r.clump input=lc output=x", 0, lambda mosaic: mosaic.clump("lc", out)),
         ("clump by corners", "r.clump -d input=lc output=x", 0, lambda mosaic: mosaic.clump("lc", out, diagonal=True)),
-    ):
+    ]
+    for name, script, null, tiled in tasks:
         cells, seconds, program = undivided(path, script, "x")
         print(f"undivided {name}: {seconds:.1f} s of processors, {program / MILLION:.0f} MB of the program", flush=True)
         for size in (2048, 4096):
@@ -212,8 +215,10 @@ def workers(path: Path, folder: Path, side: int) -> None:
     for count, is_killed in ((1, False), (2, False), (4, False), (4, True)):
         with rcell.tiles.open(size=2048, scheduler=count, lc=str(path)) as mosaic:
             told = f"{count} workers{', one killed' if is_killed else ''}"
-            for name, work in (("table", lambda: mosaic.table("r.stats -c input=lc")), ("nmode", lambda: mosaic.grid(f"x = {NMODE}", out)),
-                               ("clump", lambda: mosaic.clump("lc", out)), ("sizes", lambda: mosaic.patches("lc"))):
+            works: dict[str, Callable[[], Any]] = {
+                "table": lambda: mosaic.table("r.stats -c input=lc"), "nmode": lambda: mosaic.grid(f"x = {NMODE}", out),
+                "clump": lambda: mosaic.clump("lc", out), "sizes": lambda: mosaic.patches("lc")}
+            for name, work in works.items():
                 if is_killed:
                     pid = next(iter(mosaic._engine.cluster.client.run(os.getpid).values()))
                     threading.Timer(1.0, os.kill, (pid, signal.SIGKILL)).start()
@@ -228,14 +233,15 @@ def memory(path: Path, folder: Path, side: int) -> None:
     loud = folder / "noise.tif"
     noise(loud, 8192)
     out = folder / "memory.tif"
+    tasks: list[tuple[str, Demand, Callable[[rcell.tiles.Mosaic], Any]]] = [
+        ("table", table_demand(1, 1, NO_REACH), lambda mosaic: mosaic.table("r.stats -c input=lc")),
+        ("nmode", grid_demand(1, 2, Reach(1, 1, 1, 1)), lambda mosaic: mosaic.grid(f"x = {NMODE}", out)),
+        ("clump", areas_demand(1), lambda mosaic: mosaic.clump("lc", out)),
+        ("sizes", sizes_demand(1), lambda mosaic: mosaic.patches("lc")),
+    ]
     for name, file, runs in (("noise", loud, 1.0), ("land cover", path, runs_of(path))):
         for size in (1024, 2048, 4096, 8192):
-            for task, demand, work in (
-                ("table", Demand(1, 1), lambda mosaic: mosaic.table("r.stats -c input=lc")),
-                ("nmode", Demand(1, 2, answer=8, reach=Reach(1, 1, 1, 1)), lambda mosaic: mosaic.grid(f"x = {NMODE}", out)),
-                ("clump", Demand(1, 2, 1, 12), lambda mosaic: mosaic.clump("lc", out)),
-                ("sizes", Demand(1, 2, 1, 16), lambda mosaic: mosaic.patches("lc")),
-            ):
+            for task, demand, work in tasks:
                 with rcell.tiles.open(size=size, scheduler=1, lc=str(file)) as mosaic:
                     _, figures = measured(mosaic, lambda: work(mosaic))
                 said = demand.bytes(size, size, runs)

@@ -17,8 +17,8 @@ from hypothesis import settings
 settings.register_profile("tiles", deadline=None)
 settings.load_profile("tiles")
 
-rasterio = pytest.importorskip("rasterio")
-distributed = pytest.importorskip("distributed")
+rasterio: Any = pytest.importorskip("rasterio")
+distributed: Any = pytest.importorskip("distributed")
 
 PROGRAM = Path(__file__).parents[3] / "bin" / "rcell"
 

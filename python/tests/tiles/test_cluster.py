@@ -11,6 +11,7 @@ import tempfile
 import threading
 import time
 from pathlib import Path
+from typing import Any
 
 import numpy as np
 import psutil
@@ -21,6 +22,8 @@ import rcell.tiles
 from rcell.tiles import _cluster
 from tests.tiles import whole
 from tests.tiles.conftest import MakeTif, read_tif, write_tif
+
+distributed: Any = pytest.importorskip("distributed")
 
 SOURCES = str(Path(rcell.__file__).parents[1])
 
@@ -154,8 +157,6 @@ def test_processes_that_do_not_start_are_told(tif: MakeTif, monkeypatch: pytest.
 
 
 def test_workers_without_room_for_a_tile_are_told(tif: MakeTif) -> None:
-    import distributed
-
     path = tif("lc", np.ones((40, 40), np.uint8))
     with distributed.LocalCluster(n_workers=1, threads_per_worker=1, processes=False, dashboard_address=None,
                                   resources={"memory": 10**6}) as cluster:
@@ -165,8 +166,6 @@ def test_workers_without_room_for_a_tile_are_told(tif: MakeTif) -> None:
 
 
 def test_a_scheduler_without_workers_is_told(tif: MakeTif) -> None:
-    import distributed
-
     with distributed.LocalCluster(n_workers=0, processes=False, dashboard_address=None) as cluster:
         with rcell.tiles.open(scheduler=cluster.scheduler_address, lc=tif("lc", np.ones((4, 4), np.uint8))) as mosaic:
             with pytest.raises(rcell.tiles.ClusterFailed, match="no workers"):

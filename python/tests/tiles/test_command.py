@@ -54,6 +54,6 @@ def test_statuses(lc: str, tmp_path: Path, scheduler: str, capsys: pytest.Captur
     assert main(["grid", "x = lc +", lc, "--out", "never.tif", *where]) == 1
     assert capsys.readouterr().err.splitlines()[-3:] == ["rcell: script, line 1: unexpected token at column 19", "  r.mapcalc x = lc +",
                                                          "                    ^"]
-    assert main(["patches", f"lc={tmp_path}/nowhere.tif", *where]) == 1
+    assert main(["patches", f"lc={tmp_path}/nowhere.tif", *where]) == 4
     assert main(["grid", "x = lc", lc, "--out", str(tmp_path / "nowhere" / "x.tif"), *where]) == 4
     assert main(["table", str(tmp_path / "nowhere"), lc, *where]) == 4

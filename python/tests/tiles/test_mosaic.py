@@ -52,6 +52,11 @@ def opened(folder: Path, scheduler: str, first: Any, second: Any, size: tuple[in
     return rcell.tiles.open(size=size, scheduler=scheduler, a=a, b=b)
 
 
+def cells_of(grid: rcell.Grid) -> Any:
+    """The masked array of a grid, of which mypy knows no types."""
+    return grid.array
+
+
 def maps(first: Any, second: Any) -> dict[str, Any]:
     return {"a": rcell.Map(first, nodata=NULL), "b": rcell.Map(second, nodata=NULL)}
 
@@ -60,11 +65,11 @@ def maps(first: Any, second: Any) -> dict[str, Any]:
 @given(case=cases(), expression=EXPRESSIONS)
 def test_grids(tmp_path: Path, scheduler: str, case: tuple[Any, Any, tuple[int, int]], expression: str) -> None:
     first, second, size = case
-    expected = rcell.grid(f"r.mapcalc x = {expression}", "x", maps(first, second)).array
+    expected = cells_of(rcell.grid(f"r.mapcalc x = {expression}", "x", maps(first, second)))
     with opened(tmp_path, scheduler, first, second, size) as mosaic:
         mosaic.grid(f"x = {expression}", tmp_path / "x.tif")
     found = read_tif(tmp_path / "x.tif")
-    assert np.array_equal(found.mask, np.ma.getmaskarray(expected))
+    assert np.array_equal(found.mask, expected.mask)
     assert found.tolist() == expected.tolist()
 
 
@@ -92,7 +97,7 @@ def test_areas(tmp_path: Path, scheduler: str, case: tuple[Any, Any, tuple[int, 
         count = mosaic.clump("a", tmp_path / "p.tif", diagonal)
         patches = mosaic.patches("a", diagonal)
     found = read_tif(tmp_path / "p.tif")
-    assert np.array_equal(found.filled(0), expected.array.filled(0))
+    assert np.array_equal(found.filled(0), cells_of(expected).filled(0))
     assert count == len(patches) == len(expected.table)
     assert patches["patch"].tolist() == list(range(1, count + 1))
     assert patches["category"].tolist() == expected.sizes["category"].tolist()
@@ -123,7 +128,7 @@ def test_nine_offsets_and_nmode_over_bands(tif: MakeTif, tmp_path: Path, schedul
     cells = np.random.default_rng(7).integers(0, 4, (70, 40)).astype(np.uint8)
     around = [f"lc[{down},{right}]" for down in (-1, 0, 1) for right in (-1, 0, 1)]
     for expression in (" + ".join(around), f"nmode({', '.join(around)})"):
-        expected = rcell.grid(f"r.mapcalc x = {expression}", "x", lc=rcell.Map(cells, nodata=0)).array
+        expected = cells_of(rcell.grid(f"r.mapcalc x = {expression}", "x", lc=rcell.Map(cells, nodata=0)))
         for size in ((1, 40), (70, 1), (16, 16), (30, 7)):
             with rcell.tiles.open(size=size, scheduler=scheduler, lc=tif("lc", cells, 0)) as mosaic:
                 mosaic.grid(f"x = {expression}", tmp_path / "x.tif")
@@ -134,7 +139,7 @@ def test_offsets_of_255_reach_over_many_tiles(tif: MakeTif, tmp_path: Path, sche
     cells = np.arange(300 * 4, dtype=np.int32).reshape(300, 4)
     with rcell.tiles.open(size=(60, 4), scheduler=scheduler, lc=tif("lc", cells)) as mosaic:
         mosaic.grid("x = lc[255,0] - lc[-20,1]", tmp_path / "x.tif")
-        expected = rcell.grid("r.mapcalc x = lc[255,0] - lc[-20,1]", "x", lc=cells).array
+        expected = cells_of(rcell.grid("r.mapcalc x = lc[255,0] - lc[-20,1]", "x", lc=cells))
         assert read_tif(tmp_path / "x.tif").tolist() == expected.tolist()
 
 
@@ -154,7 +159,7 @@ def test_a_reclass_writes_its_labels(tif: MakeTif, tmp_path: Path, scheduler: st
     with rcell.tiles.open(size=1, scheduler=scheduler, lc=path) as mosaic:
         mosaic.grid("r.reclass input=lc output=k\n1 = 5 wood\n* = 6 other\nend", tmp_path / "k.tif")
     grid = rcell.grid("r.mapcalc same = k", "k", k=tmp_path / "k.tif")
-    assert grid.array.tolist() == [[5, 6], [6, 5]]
+    assert cells_of(grid).tolist() == [[5, 6], [6, 5]]
     assert grid.labels == {5: "wood", 6: "other"}
 
 
@@ -180,7 +185,7 @@ def test_rows_from_south_to_north_and_masks(tif: MakeTif, tmp_path: Path, schedu
             mosaic.grid("x = lc[1,0] + row()", tmp_path / "x.tif")
             assert mosaic.table("r.stats -c input=lc").equals(rcell.table("r.stats -c input=lc", lc=path))
         expected = rcell.grid("r.mapcalc x = lc[1,0] + row()", "x", lc=path)
-        assert read_tif(tmp_path / "x.tif").tolist() == expected.array.tolist()
+        assert read_tif(tmp_path / "x.tif").tolist() == cells_of(expected).tolist()
 
 
 def test_more_rows_than_the_program_takes(tmp_path: Path, scheduler: str) -> None:

@@ -28,7 +28,7 @@ def main(argv: Sequence[str]) -> int:
     --------
     >>> from rcell.tiles._command import main
     >>> main(["patches", "lc=nowhere.tif", "--workers", "1"])
-    1
+    4
     """
     try:
         given = _parser().parse_args(argv)

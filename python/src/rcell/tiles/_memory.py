@@ -12,15 +12,18 @@ from ._scripts import NO_REACH, Reach
 from ._sheet import Sheet
 from .joining import Rectangle
 
-__all__ = ["Demand", "places", "size_for"]
+__all__ = ["areas_demand", "Demand", "grid_demand", "sizes_demand", "table_demand", "places", "size_for"]
 
-WORKER = 190 * 10**6
+WORKER = 165 * 10**6
 """Bytes of a worker without a tile: Python, Dask, numpy and rasterio, the buffers of GDAL, of pipes and of text."""
 
 CELL = 4.15
 """Bytes a cell that the program takes for a map without runs; GUIDE.md, "Large maps"."""
 
-RUN = 4
+RUN = 8.3
+"""Bytes a run of equal cells that it takes for a map of long runs."""
+
+CLUMP = 4
 """Bytes a run that r.clump takes while it works."""
 
 TILES_EACH = 4
@@ -29,7 +32,7 @@ TILES_EACH = 4
 
 @dataclass(frozen=True)
 class Demand:
-    """What a task needs for each cell of its tile, halo included.
+    """What a task needs for each cell of its tile, halo included: first beside the program, then with its answer.
 
     Attributes
     ----------
@@ -40,7 +43,11 @@ class Demand:
     clumps : int
         How many of these r.clump makes.
     answer : int
-        Bytes a cell of the arrays that are made of the answer.
+        Bytes a cell of the answer, as it comes from the program.
+    after : int
+        Bytes a cell when the program has ended.
+    area : int
+        Bytes an area when the program has ended; there are at most as many areas as runs.
     reach : Reach
         The halo.
     """
@@ -49,6 +56,8 @@ class Demand:
     maps: int
     clumps: int = 0
     answer: int = 0
+    after: int = 0
+    area: int = 0
     reach: Reach = NO_REACH
 
     def bytes(self, rows: int, cols: int, runs: float = 1.0) -> int:
@@ -62,8 +71,28 @@ class Demand:
             Runs of equal cells side by side, as a part of the cells; 1 is the most that there can be.
         """
         cells = (rows + self.reach.up + self.reach.down) * (cols + self.reach.left + self.reach.right)
-        program = self.maps * min(CELL, CELL * 2 * runs) + self.clumps * RUN * runs
-        return WORKER + math.ceil(cells * (self.read + self.answer + program))
+        program = self.maps * min(CELL, RUN * runs) + self.clumps * CLUMP * runs
+        return WORKER + math.ceil(cells * max(self.read + self.answer + program, self.after + self.area * runs))
+
+
+def table_demand(read: int, maps: int, reach: Reach) -> Demand:
+    """A table: what comes back is small."""
+    return Demand(read, maps, reach=reach)
+
+
+def grid_demand(read: int, maps: int, reach: Reach) -> Demand:
+    """A map of int32, of which the halo is cut off before it is sent."""
+    return Demand(read, maps, answer=4, after=8 if reach == NO_REACH else 12, reach=reach)
+
+
+def areas_demand(read: int) -> Demand:
+    """The numbers of areas in int32, and those of the whole in int64 at most, with a table of them."""
+    return Demand(read, maps=2, clumps=1, answer=4, after=read + 12, area=8)
+
+
+def sizes_demand(read: int) -> Demand:
+    """The numbers of areas in int32, then categories, cells and numbers of the whole, of each area."""
+    return Demand(read, maps=2, clumps=1, answer=4, after=read + 12, area=28)
 
 
 def size_for(demand: Demand, sheet: Sheet, memory: int, tasks: int) -> tuple[int, int]:

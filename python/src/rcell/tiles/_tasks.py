@@ -14,12 +14,11 @@ from .._maps import ArrayMap, Source
 from .._program import Output, execute
 from .._region import Region
 from .._text import NULL
-from ._scripts import Assignment, Reach, Reclass, Stats, TileScript
+from ._scripts import NO_REACH, Assignment, Reach, Reclass, Stats, TileScript
 from ._sheet import MapFile, Sheet
 from .joining import Counts, Edges, Rectangle, TileNumbers, edges, merge, renumber
 
-__all__ = ["AreaParts", "TileRun", "TileSizes", "areas_of", "clump_edges", "edges_of", "grid_cells", "merge_all", "numbered_cells",
-           "part_sizes", "sizes_in_whole", "table_counts"]
+__all__ = ["TileRun", "TileSizes", "edges_of", "grid_cells", "merge_all", "numbered_cells", "sizes_in_whole", "table_counts", "tile_sizes"]
 
 Integers = npt.NDArray[Any]
 
@@ -44,6 +43,12 @@ class TileRun:
     script: TileScript
     inside: str
     """A name that no map has: of the map that is 1 in a tile and null in its halo."""
+
+    @property
+    def made(self) -> int:
+        """How many maps the program has of a tile in all, those that it makes and the mask of a halo among them."""
+        has_halo = isinstance(self.script.statements[-1], Stats) and self.script.reach != NO_REACH
+        return len(self.files) + self.script.made + has_halo
 
     def maps(self, outer: Rectangle) -> dict[str, Source]:
         found: dict[str, Source] = {file.name: file.read(outer, self.sheet) for file in self.files}
@@ -128,29 +133,6 @@ def edges_of(file: MapFile, sheet: Sheet, place: Rectangle, diagonal: bool) -> E
 
 
 @dataclass(frozen=True, eq=False)
-class AreaParts:
-    """The areas of a tile in the order of their numbers: categories and cells. They stay with the worker."""
-
-    categories: Integers
-    cells: Integers
-
-
-def areas_of(file: MapFile, sheet: Sheet, place: Rectangle, diagonal: bool) -> tuple[Edges, AreaParts]:
-    """What a tile gives to the joining, and the categories and sizes of its areas."""
-    cells, numbers = clumped(file, sheet, place, diagonal)
-    found = edges(place, cells, numbers)
-    areas = int(found.begun[-1])
-    categories = np.zeros(areas + 1, dtype=np.int32)
-    with np.errstate(invalid="ignore"):  # what is null may have no whole number; it goes to place 0
-        categories[numbers.ravel()] = cells.ravel()
-    return found, AreaParts(categories, np.bincount(numbers.ravel(), minlength=areas + 1))
-
-
-def clump_edges(found: tuple[Edges, AreaParts]) -> Edges:
-    return found[0]
-
-
-@dataclass(frozen=True, eq=False)
 class TileSizes:
     """Areas of a tile by their numbers in the whole.
 
@@ -168,16 +150,24 @@ class TileSizes:
     touching: Counts
 
 
-def part_sizes(found: tuple[Edges, AreaParts], tile: TileNumbers) -> TileSizes:
-    """The areas of a tile with their numbers in the whole."""
-    parts = found[1]
-    whole = renumber(np.arange(len(parts.cells)), tile)
-    within = np.ones(len(whole), dtype=bool)
+def tile_sizes(file: MapFile, sheet: Sheet, place: Rectangle, diagonal: bool, tile: TileNumbers) -> TileSizes:
+    """The areas of a tile with their numbers in the whole, their categories and their cells."""
+    categories, sizes = _areas(*clumped(file, sheet, place, diagonal), int(tile.begun[-1]))
+    within = np.ones(len(sizes), dtype=bool)
     within[0] = False
     within[tile.touching] = False
-    categories = parts.categories[tile.touching].astype(np.int64)
-    touching = Counts(np.stack([whole[tile.touching], categories], axis=1), parts.cells[tile.touching])
-    return TileSizes(whole[within], parts.categories[within], parts.cells[within], merge([touching]))
+    combinations = np.stack([tile.numbers, categories[tile.touching].astype(np.int64)], axis=1)
+    touching = merge([Counts(combinations, sizes[tile.touching].astype(np.int64))])
+    return TileSizes(renumber(np.flatnonzero(within), tile), categories[within], sizes[within], touching)
+
+
+def _areas(cells: Integers, numbers: Integers, areas: int) -> tuple[Integers, Integers]:
+    """Categories and cells of the areas of a tile, by their numbers in it; at 0 stands what is null."""
+    categories = np.zeros(areas + 1, dtype=np.int32)
+    with np.errstate(invalid="ignore"):  # what is null may have no whole number
+        for some, part in zip(cells, numbers):
+            categories[part] = some
+    return categories, np.bincount(numbers.reshape(-1), minlength=areas + 1).astype(np.int32)
 
 
 def sizes_in_whole(tiles: Iterable[TileSizes], areas: int) -> tuple[Integers, Integers]:
@@ -201,5 +191,4 @@ def sizes_in_whole(tiles: Iterable[TileSizes], areas: int) -> tuple[Integers, In
 def numbered_cells(file: MapFile, sheet: Sheet, place: Rectangle, diagonal: bool, tile: TileNumbers, dtype: str) -> Integers:
     """The cells of a tile with the numbers of the areas of the whole, 0 where it is null."""
     _, numbers = clumped(file, sheet, place, diagonal)
-    table = renumber(np.arange(int(tile.begun[-1]) + 1), tile).astype(dtype)
-    return np.asarray(table[numbers])
+    return renumber(numbers, tile, out=numbers if numbers.dtype == dtype else np.empty(numbers.shape, dtype))

@@ -28,6 +28,9 @@ Integers = npt.NDArray[Any]
 AFTER_ALL = 2**31
 """Greater than every category: where null is sorted."""
 
+PIECE = 2**18
+"""So many cells at a time are given their numbers: little memory besides, and within the cache of a processor."""
+
 MOST_CELLS = 2**63 - 1
 MOST_LABELS = 2**31 - 1
 
@@ -417,7 +420,7 @@ def _numbers_of(numbers: Integers, tile: TileNumbers) -> Integers:
     return np.asarray(tile.before[row] + (numbers - begun) - later)
 
 
-def renumber(numbers: Integers, tile: TileNumbers) -> Integers:
+def renumber(numbers: Integers, tile: TileNumbers, out: Integers | None = None) -> Integers:
     """Give numbers of areas of a tile the numbers of the areas of the whole.
 
     Parameters
@@ -426,11 +429,13 @@ def renumber(numbers: Integers, tile: TileNumbers) -> Integers:
         Numbers of the tile's areas, as `edges` was given them, 0 for null.
     tile : TileNumbers
         What `join` tells of the tile.
+    out : ndarray of integers, the same shape, optional
+        Where to put them: it may be `numbers` itself. Its type has room for the number of areas of the whole.
 
     Returns
     -------
-    ndarray of int64, the same shape
-        The numbers that r.clump gives in the undivided map, 0 for null.
+    ndarray, the same shape
+        The numbers that r.clump gives in the undivided map, 0 for null: `out`, or an array of int64.
 
     Examples
     --------
@@ -439,16 +444,25 @@ def renumber(numbers: Integers, tile: TileNumbers) -> Integers:
     >>> renumber(own, whole.tiles[1]).tolist()
     [[3, 3, 4]]
     """
+    if out is None:
+        out = np.empty(numbers.shape, dtype=np.int64)
     areas = int(tile.begun[-1])
-    if numbers.size <= areas:
-        return _looked_up(numbers, tile)
-    found: Integers = _looked_up(np.arange(areas + 1), tile)[numbers]
-    return found
+    table = None
+    if numbers.size > areas:
+        table = np.zeros(areas + 1, dtype=out.dtype)
+        for start in range(1, areas + 1, PIECE):
+            piece = np.arange(start, min(start + PIECE, areas + 1))
+            table[piece] = _looked_up(piece, tile)
+    given, taken = numbers.reshape(-1), out.reshape(-1)
+    for start in range(0, given.size, PIECE):
+        piece = given[start:start + PIECE]
+        taken[start:start + PIECE] = _looked_up(piece, tile) if table is None else table[piece]
+    return out
 
 
 def _looked_up(numbers: Integers, tile: TileNumbers) -> Integers:
-    found = _numbers_of(np.maximum(numbers, 1), tile) if len(tile.begun) and tile.begun[-1] else np.zeros(numbers.shape, np.int64)
+    found = _numbers_of(np.maximum(numbers, 1), tile)
     if len(tile.touching):
         place = np.minimum(np.searchsorted(tile.touching, numbers), len(tile.touching) - 1)
         found = np.where(tile.touching[place] == numbers, tile.numbers[place], found)
-    return np.asarray(np.where(numbers > 0, found, 0))
+    return np.where(numbers > 0, found, 0)

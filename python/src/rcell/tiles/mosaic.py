@@ -22,11 +22,11 @@ from .._text import NULL
 from . import _tasks
 from ._cluster import SHARE, free_memory
 from ._engine import Engine
-from ._memory import Demand, places, size_for
+from ._memory import Demand, areas_demand, grid_demand, places, size_for, sizes_demand, table_demand
 from ._output import tile_writer
 from ._scripts import COMMANDS, NO_REACH, Assignment, Clump, Reclass, Statement, Stats, TileScript, spare_name, statements
 from ._sheet import MapFile, Sheet, open_maps
-from .joining import Counts, Rectangle, join
+from .joining import Counts, Joined, Rectangle, join
 
 __all__ = ["Mosaic", "NeedlessTiles", "TooLittleMemory", "open_mosaic"]
 
@@ -186,7 +186,7 @@ class Mosaic:
         return answer.frame() if has("pandas") else answer
 
     def _counts(self, run: _tasks.TileRun) -> Counts:
-        demand = self._demand(run)
+        demand = table_demand(self._read(run), run.made, run.script.reach)
         tiles = list(places(self.sheet, self._size_for(demand)))
         memory = self._memory(demand, tiles[0])
         with self._engine.tasks("table", len(tiles)) as tasks:
@@ -226,7 +226,7 @@ class Mosaic:
         ReadFailed, WorkerLost, TooLittleMemory
         """
         run, labels = self._grid_run(script)
-        demand = self._demand(run, answer=4 if run.script.reach == NO_REACH else 8)
+        demand = grid_demand(self._read(run), run.made, run.script.reach)
         tiles = list(places(self.sheet, self._size_for(demand)))
         with tile_writer(path, self.sheet, "int32", NULL, labels) as writer, self._engine.tasks("grid", len(tiles)) as tasks:
             shared = tasks.shared(run)
@@ -239,7 +239,7 @@ class Mosaic:
 
         The numbers are those of `r.clump` over the undivided map: from 1, in the order of first cells. The file is of int32,
         or of int64 where there are more than 2,147,483,647 areas. Each tile is clumped twice, first for the joining and then
-        for its cells, so that nothing of the size of the map is kept in between.
+        for its cells: nothing of the size of the map is kept in between.
 
         Parameters
         ----------
@@ -260,12 +260,10 @@ class Mosaic:
         Refused, WriteFailed, ReadFailed, WorkerLost, TooLittleMemory
         """
         file = self._file(name)
-        demand = Demand(read=file.bytes, maps=2, clumps=1, answer=12)
+        demand = areas_demand(file.bytes)
         tiles = list(places(self.sheet, self._size_for(demand)))
         memory = self._memory(demand, tiles[0])
-        with self._engine.tasks("areas", len(tiles)) as tasks:
-            found = [tasks.ask(_tasks.edges_of, file, self.sheet, place, diagonal, memory=memory) for place in tiles]
-            whole = join(tasks.take_each(found), diagonal)
+        whole = self._joined(file, tiles, diagonal, memory)
         dtype = "int32" if whole.areas < 2**31 else "int64"
         calls = ((file, self.sheet, place, diagonal, tile, dtype) for place, tile in zip(tiles, whole.tiles))
         with tile_writer(path, self.sheet, dtype, NO_AREA) as writer, self._engine.tasks("clump", len(tiles)) as tasks:
@@ -275,6 +273,8 @@ class Mosaic:
 
     def patches(self, name: str, diagonal: bool = False) -> Any:
         """The table of the connected areas of a map; the map of areas is never written.
+
+        Each tile is clumped twice, as by `clump`.
 
         Parameters
         ----------
@@ -294,17 +294,23 @@ class Mosaic:
         Refused, ReadFailed, WorkerLost, TooLittleMemory
         """
         file = self._file(name)
-        demand = Demand(read=file.bytes, maps=2, clumps=1, answer=16)
+        demand = sizes_demand(file.bytes)
         tiles = list(places(self.sheet, self._size_for(demand)))
         memory = self._memory(demand, tiles[0])
-        with self._engine.tasks("patches", 2 * len(tiles)) as tasks:
-            found = [tasks.ask(_tasks.areas_of, file, self.sheet, place, diagonal, memory=memory) for place in tiles]
-            whole = join(tasks.take_each([tasks.ask(_tasks.clump_edges, tile) for tile in found]), diagonal)
-            sizes = [tasks.ask(_tasks.part_sizes, parts, tile) for parts, tile in zip(found, whole.tiles)]
-            categories, cells = _tasks.sizes_in_whole(tasks.take_each(sizes), whole.areas)
+        whole = self._joined(file, tiles, diagonal, memory)
+        calls = ((file, self.sheet, place, diagonal, tile) for place, tile in zip(tiles, whole.tiles))
+        with self._engine.tasks("patches", len(tiles)) as tasks:
+            sizes = (tile for _, tile in tasks.stream(_tasks.tile_sizes, calls, memory))
+            categories, cells = _tasks.sizes_in_whole(sizes, whole.areas)
         numbers = np.column_stack([np.arange(1, whole.areas + 1), categories])
         answer = Table("r.clump", 0, ("patch", "category"), numbers, cells, cell=self.sheet.cell, crs=self.sheet.crs)
         return answer.frame() if has("pandas") else answer
+
+    def _joined(self, file: MapFile, tiles: list[Rectangle], diagonal: bool, memory: int) -> Joined:
+        """The areas of tiles joined to those of the whole (law `numbers_join`)."""
+        with self._engine.tasks("areas", len(tiles)) as tasks:
+            found = [tasks.ask(_tasks.edges_of, file, self.sheet, place, diagonal, memory=memory) for place in tiles]
+            return join(tasks.take_each(found), diagonal)
 
     def _file(self, name: str) -> MapFile:
         if name not in self._files:
@@ -353,9 +359,8 @@ class Mosaic:
 
     # Memory
 
-    def _demand(self, run: _tasks.TileRun, answer: int = 0) -> Demand:
-        read = sum(file.bytes for file in run.files)
-        return Demand(read, len(run.files) + run.script.made, 0, answer, run.script.reach)
+    def _read(self, run: _tasks.TileRun) -> int:
+        return sum(file.bytes for file in run.files)
 
     def _size_for(self, demand: Demand) -> tuple[int, int]:
         room = self._engine.room()
