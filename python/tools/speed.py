@@ -117,7 +117,7 @@ def from_geotiff(paths: dict[str, str], folder: str, cells: int, rounds: int) ->
         with open(text, "wb") as file:
             file.write(source.region.header().encode() + b"null: " + words.null + b"\n")
             for block in source.blocks():
-                file.write(words.spell(block.cells, block.null))
+                file.writelines(words.pieces(block.cells, block.null))
         found = by_turns(
             {
                 "table": lambda: rcell.table("r.stats -c input=lc", lc=path),
@@ -152,7 +152,7 @@ def text_out_and_in(folder: str, rounds: int) -> list[str]:
             words = Words(*range_of(cells))
             with open(text, "wb") as file:
                 for row in range(0, len(cells), 500):
-                    file.write(words.spell(cells[row : row + 500]))
+                    file.writelines(words.pieces(cells[row : row + 500]))
 
         def into() -> None:
             with open(f"{folder}/lines", "rb") as file:

@@ -285,7 +285,8 @@ def _send(run: _Run, place: int, source: Source, progress: Progress | None) -> N
     for block in source.blocks():
         if not run.is_reading:
             break
-        run.write(place, words.spell(block.cells, block.null))
+        for piece in words.pieces(block.cells, block.null):
+            run.write(place, piece)
         if progress is not None:
             progress(block.cells.size)
     run.close_grid(place)

@@ -7,7 +7,7 @@ spelled by as many `*`, or by a digit that is no category, which the header line
 
 from __future__ import annotations
 
-from typing import Any
+from typing import Any, Iterator
 
 import numpy as np
 from numpy.typing import NDArray
@@ -23,6 +23,8 @@ WIDTHS = (2, 4, 8, 10, 12)
 TABLE_LIMIT = 1 << 18
 # From so many cells on a table of pairs of 8-bit cells pays for its making.
 PAIRS_FROM = 1 << 19
+# Cells that are spelled at a time: their words, and what is reckoned on the way, stay in the cache of a processor.
+PIECE_CELLS = 1 << 16
 # A cell of one byte and one digit is spelled by adding the character of zero. Nodata of these values then has a character that
 # is a null text by itself: a digit that is no category, or the one before zero.
 ZERO = ord("0")
@@ -127,11 +129,20 @@ class Words:
         self._tables: dict[Any, tuple[int, NDArray[Any]]] = {}
         self._wider: Words | None = None
         self._pair_table: NDArray[Any] | None = None
+        self._spelled_cells = 0
 
     @property
     def range(self) -> tuple[int, int]:
         """The least and the greatest category that the width has room for."""
         return (0, 9) if self.width == 2 else (-(10 ** (self.width - 2) - 1), 10 ** (self.width - 1) - 1)
+
+    def pieces(self, cells: Cells, null: Mask | None = None) -> Iterator[memoryview]:
+        """The same words as those of `spell`, some at a time."""
+        flat = np.ascontiguousarray(cells).reshape(-1)
+        mask = None if null is None else np.ascontiguousarray(null).reshape(-1)
+        for start in range(0, flat.size, PIECE_CELLS):
+            end = start + PIECE_CELLS
+            yield self.spell(flat[start:end], None if mask is None else mask[start:end])
 
     def spell(self, cells: Cells, null: Mask | None = None) -> memoryview:
         """The words of cells, row by row.
@@ -169,7 +180,8 @@ class Words:
     def _spelled(self, flat: Cells, least: int, greatest: int, mask: Mask | None) -> NDArray[np.uint8]:
         """The words of cells whose range fits."""
         by_look_up = self.width in (2, 4, 8)
-        if flat.dtype.itemsize == 1 and self.width <= 4 and flat.size >= PAIRS_FROM:
+        self._spelled_cells += flat.size
+        if flat.dtype.itemsize == 1 and self.width <= 4 and self._spelled_cells >= PAIRS_FROM:
             words = self._by_pairs(flat)
         elif flat.dtype.itemsize <= 2 and by_look_up:
             places: Cells = flat.view(f"u{flat.dtype.itemsize}")
