@@ -26,14 +26,17 @@ add() {
 
 echo "python: the program is $(python3 -c 'import rcell; print(rcell.program(), rcell.__version__)')"
 (cd "$room" && python3 -m pytest -q --no-header -p no:cacheprovider --cov=rcell --cov-report=term --cov-fail-under=90 \
-    --junitxml="$room/tests.xml" tests) > "$room/tests" 2>&1
+    --junitxml="$room/tests.xml" tests) > "$room/tests.out" 2>&1
 tested=$?
-tail -40 "$room/tests"
+tail -40 "$room/tests.out"
 python3 - "$room/tests.xml" $tested << 'COUNT' > "$room/count"
 import sys
 import xml.etree.ElementTree as ElementTree
 
-suite = ElementTree.parse(sys.argv[1]).getroot().find("testsuite")
+try:
+    suite = ElementTree.parse(sys.argv[1]).getroot().find("testsuite")
+except OSError:
+    sys.exit(print("0 passed, 1 failed"))
 failed = int(suite.get("failures")) + int(suite.get("errors"))
 left_out = int(suite.get("skipped"))
 print(int(suite.get("tests")) - failed - left_out, "passed,", failed or int(sys.argv[2] != "0"), "failed")
