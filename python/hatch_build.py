@@ -1,0 +1,41 @@
+"""Puts the program into the wheel, where installers put scripts: it is then on the path of its environment."""
+
+from __future__ import annotations
+
+import os
+from typing import Any
+
+from hatchling.builders.hooks.plugin.interface import BuildHookInterface
+
+# A static program asks nothing of the C library of a machine; one that is not is for machines like the one that built it.
+STATIC_TAG = "py3-none-manylinux2014_x86_64.musllinux_1_1_x86_64"
+DYNAMIC_TAG = "py3-none-linux_x86_64"
+
+
+class ProgramHook(BuildHookInterface):  # type: ignore[misc]
+    """Adds ../bin/rcell-static, or the program that the environment variable RCELL_PROGRAM names, as the script `rcell`."""
+
+    def initialize(self, version: str, build_data: dict[str, Any]) -> None:
+        if version == "editable":
+            return
+        path = os.environ.get("RCELL_PROGRAM") or os.path.join(self.root, "..", "bin", "rcell-static")
+        if not os.path.isfile(path):
+            raise FileNotFoundError(f"{path}: the program is not there (make static)")
+        name = f"{self.metadata.core.name}-{self.metadata.version}.data/scripts/rcell"
+        build_data["force_include"][os.path.abspath(path)] = name
+        build_data["pure_python"] = False
+        build_data["tag"] = STATIC_TAG if _is_static(path) else DYNAMIC_TAG
+
+
+def _is_static(path: str) -> bool:
+    """Whether an ELF file of 64 bits names no interpreter."""
+    with open(path, "rb") as file:
+        header = file.read(64)
+        if header[:5] != b"\x7fELF\x02":
+            return False
+        offset, size, count = (int.from_bytes(header[at : at + width], "little") for at, width in ((32, 8), (54, 2), (56, 2)))
+        kinds = []
+        for place in range(count):
+            file.seek(offset + place * size)
+            kinds.append(int.from_bytes(file.read(4), "little"))
+    return 3 not in kinds

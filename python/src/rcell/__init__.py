@@ -1,0 +1,103 @@
+"""rcell for Python: tables, maps and areas of rasters of whole numbers, counted by the proved program.
+
+A script is run over maps of one region, which are given by name: paths of GeoTIFFs, arrays, DataArrays.
+
+>>> import numpy as np, rcell
+>>> land = np.array([[1, 1, 2], [3, 2, 2]])
+>>> rcell.run("r.stats -c input=land", land=land)[0].rows
+[(1, 2), (2, 3), (3, 1)]
+"""
+
+from __future__ import annotations
+
+import importlib
+import os
+from typing import TYPE_CHECKING, Any
+
+from ._answers import Areas, Result, areas, grid, run, table
+from ._errors import (
+    BadMap,
+    Killed,
+    MissingLibrary,
+    MissingProgram,
+    OtherRegion,
+    OutOfMemory,
+    RcellError,
+    ReadFailed,
+    Refused,
+    WriteFailed,
+    WrongProgram,
+)
+from ._grid import Grid
+from ._maps import Map
+from ._program import find_program
+from ._region import Region
+from ._table import Pivot, Table
+from ._version import __version__
+
+if TYPE_CHECKING:
+    from . import tiles
+
+__all__ = [
+    "Areas",
+    "BadMap",
+    "Grid",
+    "Killed",
+    "Map",
+    "MissingLibrary",
+    "MissingProgram",
+    "OtherRegion",
+    "OutOfMemory",
+    "Pivot",
+    "RcellError",
+    "ReadFailed",
+    "Refused",
+    "Region",
+    "Result",
+    "Table",
+    "WriteFailed",
+    "WrongProgram",
+    "__version__",
+    "areas",
+    "grid",
+    "program",
+    "run",
+    "table",
+    "tiles",
+]
+
+
+def program(path: str | os.PathLike[str] | None = None) -> str:
+    """The path of the program that the calls run.
+
+    Parameters
+    ----------
+    path : path, optional
+        Looked at in place of what would be found.
+
+    Returns
+    -------
+    str
+        The first of: the environment variable RCELL, the program beside this Python, where the wheel puts it, the path.
+
+    Raises
+    ------
+    MissingProgram
+        Where there is none.
+    WrongProgram
+        Where it is another program, or of a version that this package does not know.
+
+    Examples
+    --------
+    >>> import os, rcell
+    >>> os.path.basename(rcell.program())
+    'rcell'
+    """
+    return find_program(path)
+
+
+def __getattr__(name: str) -> Any:
+    """`rcell.tiles` is imported when it is first used, since it needs Dask."""
+    if name == "tiles":
+        return importlib.import_module(".tiles", __name__)
+    raise AttributeError(f"module {__name__!r} has no attribute {name!r}")

@@ -1,0 +1,260 @@
+"""What goes wrong, each with a name of its own."""
+
+from __future__ import annotations
+
+import re
+from typing import Any
+
+__all__ = [
+    "BadMap",
+    "Killed",
+    "MissingLibrary",
+    "MissingProgram",
+    "OtherRegion",
+    "OutOfMemory",
+    "RcellError",
+    "ReadFailed",
+    "Refused",
+    "WriteFailed",
+    "WrongProgram",
+]
+
+_COLUMN = re.compile(r" at column (\d+)$")
+
+
+class RcellError(Exception):
+    """The parent of all errors of this package.
+
+    Examples
+    --------
+    >>> import rcell
+    >>> issubclass(rcell.Refused, rcell.RcellError)
+    True
+    """
+
+
+class Refused(RcellError):
+    """A map, a script or a request was refused, and nothing was answered.
+
+    Parameters
+    ----------
+    text : str
+        What is wrong, in the words of the program where it refused.
+    source : str
+        The name of the map, or `script`, `output` or `arguments`.
+    line : int
+        The line of the source, from 1; 0 where the fault belongs to no line.
+    status : int
+        The exit status of the program: 1 for a grid or the script, 2 for the command line, 3 out of memory, 4 for files.
+    content : str, optional
+        The line of the script itself.
+
+    Attributes
+    ----------
+    column : int or None
+        The place in the line, in bytes from 1, where the program tells it.
+
+    Examples
+    --------
+    >>> import numpy as np, rcell
+    >>> try:
+    ...     rcell.run("r.mapcalc half = lc * 0.5", lc=np.array([[1, 2]]))
+    ... except rcell.Refused as refusal:
+    ...     print(refusal)
+    script, line 1: number not whole at column 23
+      r.mapcalc half = lc * 0.5
+                            ^
+    """
+
+    def __init__(self, text: str, source: str = "arguments", line: int = 0, status: int = 1, content: str | None = None) -> None:
+        super().__init__(text, source, line, status, content)
+        self.text = text
+        self.source = source
+        self.line = line
+        self.status = status
+        self.content = content
+        found = _COLUMN.search(text)
+        self.column = int(found[1]) if found else None
+
+    def __str__(self) -> str:
+        place = f"{self.source}, line {self.line}" if self.line else self.source
+        message = f"{place}: {self.text}"
+        if self.content is None:
+            return message
+        message += f"\n  {self.content}"
+        return message if self.column is None else f"{message}\n  {self._mark()}"
+
+    def _mark(self) -> str:
+        """Blanks up to the column, which counts bytes, and a mark beneath it; a tab stays a tab."""
+        assert self.content is not None and self.column is not None
+        before = self.content.encode("utf-8", "surrogateescape")[: self.column - 1].decode("utf-8", "replace")
+        return "".join("\t" if letter == "\t" else " " for letter in before) + "^"
+
+
+class OutOfMemory(Refused, MemoryError):
+    """The program ran out of memory; `source` and `line` tell where.
+
+    Examples
+    --------
+    >>> import rcell
+    >>> issubclass(rcell.OutOfMemory, MemoryError)
+    True
+    """
+
+
+class BadMap(Refused, ValueError):
+    """A map that is no map of whole numbers, or has no grid of its own.
+
+    Parameters
+    ----------
+    name : str
+        The name of the map; it is the `source` of the refusal as well.
+    text : str
+        What is wrong.
+    row, col : int, optional
+        The first cell that is wrong, from 1 at the top left.
+    value : number, optional
+        What it has.
+
+    Examples
+    --------
+    >>> import numpy as np, rcell
+    >>> try:
+    ...     rcell.table("r.stats -c input=lc", lc=np.array([[1.0, 1.5]]))
+    ... except rcell.BadMap as refusal:
+    ...     print(refusal, refusal.row, refusal.col, refusal.value, sep=" | ")
+    lc: not a map of whole numbers: the cell at row 1, column 2 is 1.5 | 1 | 2 | 1.5
+    """
+
+    def __init__(self, name: str, text: str, row: int | None = None, col: int | None = None, value: Any = None) -> None:
+        super().__init__(text, name)
+        self.args = (name, text, row, col, value)
+        self.row = row
+        self.col = col
+        self.value = value
+        self.column = None
+
+
+class OtherRegion(BadMap):
+    """A map whose edges, rows or columns are not those of the first; nothing is resampled.
+
+    Examples
+    --------
+    >>> import numpy as np, rcell
+    >>> try:
+    ...     rcell.table("r.stats -c input=a,b", a=np.ones((2, 2), int), b=np.ones((2, 3), int))
+    ... except rcell.OtherRegion as refusal:
+    ...     print(refusal.text.splitlines()[0])
+    not of the region of `a`, and nothing is resampled: east is 3, not 2 (1 more); cols is 3, not 2 (1 more)
+    """
+
+
+class ReadFailed(BadMap):
+    """A file that cannot be opened, or a part of it that cannot be read.
+
+    Examples
+    --------
+    >>> import rcell
+    >>> try:
+    ...     rcell.run("r.stats -c input=lc", lc="nowhere.tif")
+    ... except rcell.ReadFailed as refusal:
+    ...     print(refusal)
+    lc: cannot open: nowhere.tif: No such file or directory
+    """
+
+    def __init__(self, name: str, text: str) -> None:
+        super().__init__(name, text)
+        self.args = (name, text)
+        self.status = 4
+
+
+class MissingProgram(RcellError, FileNotFoundError):
+    """The program `rcell` was not found, or cannot be executed.
+
+    Examples
+    --------
+    >>> import rcell
+    >>> try:
+    ...     rcell.program("/nowhere/rcell")
+    ... except rcell.MissingProgram as error:
+    ...     print(error)
+    the program /nowhere/rcell is not there, or may not be executed
+    """
+
+
+class WrongProgram(RcellError):
+    """What was found under the name of the program is not `rcell`, or a version that this package does not know.
+
+    Examples
+    --------
+    >>> import rcell
+    >>> try:
+    ...     rcell.program("/bin/true")
+    ... except rcell.WrongProgram as error:
+    ...     print(error)
+    /bin/true is not a program rcell of a version that this package knows
+    """
+
+
+class Killed(RcellError):
+    """The program was ended by a signal; where a machine has too little memory, that is the kernel's doing.
+
+    Attributes
+    ----------
+    signal : int
+        The number of the signal.
+
+    Examples
+    --------
+    >>> import rcell
+    >>> print(rcell.Killed(9))
+    the program was killed by signal 9 (SIGKILL): too little memory, or someone ended it
+    """
+
+    def __init__(self, signal: int) -> None:
+        super().__init__(signal)
+        self.signal = signal
+
+    def __str__(self) -> str:
+        from signal import Signals
+
+        name = next((f" ({known.name})" for known in Signals if known == self.signal), "")
+        cause = "too little memory, or someone ended it" if self.signal == 9 else "someone ended it"
+        return f"the program was killed by signal {self.signal}{name}: {cause}"
+
+
+class WriteFailed(RcellError, OSError):
+    """A file could not be written whole: a full disk, a folder that is missing. Nothing is left of it.
+
+    Examples
+    --------
+    >>> import rcell
+    >>> issubclass(rcell.WriteFailed, OSError)
+    True
+    """
+
+
+class MissingLibrary(RcellError, ImportError):
+    """A library that this call needs is not installed.
+
+    Examples
+    --------
+    >>> import rcell
+    >>> print(rcell.MissingLibrary("rasterio", "gis", "to read GeoTIFF"))
+    to read GeoTIFF the library rasterio is needed: pip install 'rcell[gis]', or Debian's package python3-rasterio
+    """
+
+    def __init__(self, library: str, extra: str, purpose: str) -> None:
+        super().__init__(library, extra, purpose)
+        self.library = library
+        self.extra = extra
+        self.purpose = purpose
+
+    def __str__(self) -> str:
+        package = f"Debian's package python3-{self.library}"
+        return f"{self.purpose} the library {self.library} is needed: pip install 'rcell[{self.extra}]', or {package}"
+
+
+# Their names are those of the package, in messages as well.
+for _error in (RcellError, Refused, OutOfMemory, BadMap, OtherRegion, ReadFailed, MissingProgram, WrongProgram, Killed, WriteFailed, MissingLibrary):
+    _error.__module__ = "rcell"

@@ -1,0 +1,96 @@
+"""Grids as GeoTIFF."""
+
+from __future__ import annotations
+
+import os
+from typing import TYPE_CHECKING, Any
+
+
+from ._errors import WriteFailed
+from ._files import replacing
+from ._labels import write_labels
+from ._libraries import need
+from ._masked import compressed, filled
+from ._text import NULL
+
+if TYPE_CHECKING:
+    from ._grid import Grid
+
+__all__ = ["profile_of", "smallest_type", "write_geotiff"]
+
+TILE = 256
+# From so many cells on a file may pass 4 GB before it is compressed.
+_BIG_FROM = 1 << 29
+
+
+def smallest_type(least: int, greatest: int) -> tuple[str, int]:
+    """The smallest type that has room for categories and for a nodata that is none of them, and that nodata.
+
+    Examples
+    --------
+    >>> smallest_type(1, 12), smallest_type(0, 255), smallest_type(-5, 5), smallest_type(1, 70000)
+    (('uint8', 255), ('int16', -32768), ('int16', -32768), ('int32', -2147483648))
+    """
+    if 0 <= least and greatest < 255:
+        return "uint8", 255
+    if -32_768 < least and greatest <= 32_767:
+        return "int16", -32_768
+    return "int32", NULL
+
+
+def profile_of(rows: int, cols: int, transform: tuple[float, ...], crs: Any, dtype: str, nodata: int) -> dict[str, Any]:
+    """The creation profile of a GeoTIFF for rasterio.
+
+    Examples
+    --------
+    >>> profile_of(10, 20, (1, 0, 0, 0, -1, 10), None, "uint8", 255)["compress"]
+    'deflate'
+    """
+    affine = need("affine", "gis", "to write a GeoTIFF")
+    profile: dict[str, Any] = {
+        "driver": "GTiff",
+        "height": rows,
+        "width": cols,
+        "count": 1,
+        "dtype": dtype,
+        "nodata": nodata,
+        "transform": affine.Affine(*transform),
+        "compress": "deflate",
+        "BIGTIFF": "YES" if rows * cols >= _BIG_FROM else "IF_SAFER",
+    }
+    if rows >= TILE and cols >= TILE:
+        profile |= {"tiled": True, "blockxsize": TILE, "blockysize": TILE}
+    return profile | ({} if crs is None else {"crs": crs})
+
+
+def write_geotiff(grid: Grid, path: str) -> None:
+    """Writes a grid as GeoTIFF under a path, whole or not at all.
+
+    The file is made in memory, compressed, and written by Python: the library that makes it does not tell of a full disk.
+
+    Raises
+    ------
+    WriteFailed
+        Where the file can't be written.
+    """
+    rasterio = need("rasterio", "gis", "to write a GeoTIFF")
+    kept = compressed(grid.array)
+    dtype, nodata = smallest_type(int(kept.min()), int(kept.max())) if kept.size else smallest_type(0, 0)
+    cells = filled(grid.array, nodata).astype(dtype)
+    profile = profile_of(*grid.region.shape, grid.transform, grid.crs, dtype, nodata)
+    with replacing(path) as beside:
+        try:
+            with need("rasterio.io", "gis", "to write a GeoTIFF").MemoryFile() as memory:
+                with memory.open(**profile) as dataset:
+                    dataset.write(cells, 1)
+                _copy(memory, beside)
+        except (rasterio.errors.RasterioError, rasterio.errors.RasterioIOError) as error:
+            raise WriteFailed(f"{path} cannot be written: {error}") from None
+        write_labels(beside, grid.labels)
+
+
+def _copy(memory: Any, path: str) -> None:
+    with open(path, "wb") as file:
+        file.write(memory.getbuffer())
+        file.flush()
+        os.fsync(file.fileno())

@@ -1,0 +1,299 @@
+"""Grids: maps that come out."""
+
+from __future__ import annotations
+
+import base64
+import html
+import io
+import os
+from dataclasses import dataclass, field
+from typing import Any, Mapping
+
+import numpy as np
+from numpy.typing import NDArray
+
+from ._errors import Refused
+from ._libraries import has, need
+from ._maps import Map
+from ._masked import MaskedCells, compressed, data_of, filled, mask_of, masked
+from ._region import Region, Transform
+from ._text import NULL, cells_to_text
+
+__all__ = ["Grid"]
+
+# The longer side of the picture in a notebook, in pixels.
+THUMBNAIL = 320
+# So many categories have a legend that can be read.
+LEGEND_LIMIT = 30
+_PALETTES = ("tab20", "tab20b", "tab20c")
+
+
+@dataclass(frozen=True, eq=False)
+class Grid:
+    """A map that a script made, or one of its inputs.
+
+    Attributes
+    ----------
+    name : str
+        The name of the map.
+    array : masked array of int32, rows x cols
+        Masked where the map is null.
+    region : Region
+    transform : tuple of six float
+        That of the first map of the run, never read back from text.
+    crs : any
+        That of the first map of the run; None where it has none.
+    labels : mapping of int to str
+        Of the rules of the script, or of the map that was given.
+    command : str
+    line : int
+        The line of the script; 0 where the map was asked for by name.
+
+    Examples
+    --------
+    >>> import numpy as np, rcell
+    >>> grid = rcell.grid("r.clump input=lc output=areas", "areas", lc=np.array([[5, 5, 7, 5]]))
+    >>> grid.array.tolist(), grid.region.shape
+    ([[1, 1, 2, 3]], (1, 4))
+    """
+
+    name: str
+    array: MaskedCells
+    region: Region
+    transform: Transform
+    crs: Any = None
+    labels: Mapping[int, str] = field(default_factory=dict)
+    command: str = "r.out.ascii"
+    line: int = 0
+
+    @property
+    def maps(self) -> tuple[str, ...]:
+        """Its name, as a table has the names of its maps.
+
+        Examples
+        --------
+        >>> import numpy as np, rcell
+        >>> rcell.run("r.out.ascii input=lc", lc=np.array([[5]]))[0].maps
+        ('lc',)
+        """
+        return (self.name,)
+
+    @classmethod
+    def of_values(cls, values: NDArray[np.int32], **words: Any) -> Grid:
+        """A grid of cells in which -2147483648 is null.
+
+        Examples
+        --------
+        >>> import numpy as np, rcell
+        >>> region = rcell.Region.of_cells(1, 2)
+        >>> cells = np.array([[4, -2147483648]], np.int32)
+        >>> rcell.Grid.of_values(cells, name="x", region=region, transform=region.transform).array.tolist()
+        [[4, None]]
+        """
+        return cls(array=masked(values, values == NULL), **words)
+
+    def as_map(self) -> Map:
+        """The same as a map that goes in; a call does that by itself.
+
+        Examples
+        --------
+        >>> import numpy as np, rcell
+        >>> areas = rcell.grid("r.clump input=lc output=areas", "areas", lc=np.array([[5, 5, 7, 5]]))
+        >>> rcell.run("r.stats -c input=areas", areas=areas).tables[0].rows
+        [(1, 2), (2, 1), (3, 1)]
+        """
+        return Map(self.array, self.transform, self.crs, None, self.labels)
+
+    def categories(self) -> list[int]:
+        """The categories that occur, ascending.
+
+        Examples
+        --------
+        >>> import numpy as np, rcell
+        >>> rcell.run("r.out.ascii input=lc", lc=np.array([[5, 7, 5]]))[0].categories()
+        [5, 7]
+        """
+        found: list[int] = np.unique(compressed(self.array)).tolist()
+        return found
+
+    def write(self, path: str | os.PathLike[str]) -> str:
+        """Writes the map to a file, whole or not at all.
+
+        Parameters
+        ----------
+        path : path
+            `.tif` or `.tiff` for a GeoTIFF (compressed, of the smallest type that has room for the categories and for
+            nodata) with transform, reference system, nodata and labels as category names; `.txt` for a grid of the
+            program's own form, which GRASS reads too. A file that is there is replaced.
+
+        Returns
+        -------
+        str
+            The path.
+
+        Raises
+        ------
+        WriteFailed
+            Where the file can't be written; nothing new is there then.
+        Refused
+            Where the name says no form that is known.
+        MissingLibrary
+            Where rasterio is needed and not installed.
+
+        Examples
+        --------
+        >>> import numpy as np, os, rcell, tempfile
+        >>> grid = rcell.run("r.out.ascii input=lc", lc=np.array([[5, 7, 5]]))[0]
+        >>> with tempfile.TemporaryDirectory() as folder:
+        ...     print(open(grid.write(os.path.join(folder, "lc.txt"))).read().split())
+        ['north:', '1', 'south:', '0', 'east:', '3', 'west:', '0', 'rows:', '1', 'cols:', '3', 'null:', '*', '5', '7', '5']
+        """
+        from ._files import write_beside
+
+        text = os.fspath(path)
+        if text.lower().endswith((".tif", ".tiff")):
+            from ._geotiff import write_geotiff
+
+            write_geotiff(self, text)
+        elif text.lower().endswith(".txt"):
+            write_beside(text, self.text())
+        else:
+            raise Refused(f"{text}: a map is written as .tif, .tiff or .txt", status=2)
+        return text
+
+    def text(self) -> bytes:
+        """The map as a grid text, which the program reads.
+
+        Examples
+        --------
+        >>> import numpy as np, rcell
+        >>> rcell.run("r.out.ascii input=lc", lc=np.array([[5, 7]]))[0].text().splitlines()[-1]
+        b'5 7'
+        """
+        cells, null_text = cells_to_text(data_of(self.array), mask_of(self.array))
+        rows = np.frombuffer(cells, np.uint8).reshape(self.region.rows, -1).copy()
+        rows[:, -1] = ord("\n")
+        return self.region.header().encode() + b"null: " + null_text + b"\n" + rows.tobytes()
+
+    def xarray(self) -> Any:
+        """The map as a DataArray: coordinates of the centres of cells, reference system as rioxarray has it.
+
+        Returns
+        -------
+        xarray.DataArray
+            Of int32, y x x; null is -2147483648, which its attribute `_FillValue` says.
+
+        Raises
+        ------
+        MissingLibrary
+            Where xarray is not installed.
+
+        Examples
+        --------
+        >>> import numpy as np, rcell
+        >>> rcell.run("r.out.ascii input=lc", lc=np.array([[5, 7]]))[0].xarray().x.values.tolist()
+        [0.5, 1.5]
+        """
+        from ._xarray import data_array_of
+
+        return data_array_of(self.array, self.region, self.transform, self.crs, self.labels, self.name)
+
+    def plot(self, ax: Any = None, *, legend: bool = True) -> Any:
+        """Draws the map by matplotlib, with a legend of its labels.
+
+        Parameters
+        ----------
+        ax : matplotlib.axes.Axes, optional
+            Where it is drawn; a new figure where it is None.
+        legend : bool
+            Whether a legend of the labels, or of the categories, is drawn beside the map; a map of more than 30
+            categories has a scale in its place.
+
+        Returns
+        -------
+        matplotlib.axes.Axes
+
+        Raises
+        ------
+        MissingLibrary
+            Where matplotlib is not installed.
+
+        Examples
+        --------
+        >>> import matplotlib, numpy as np, rcell
+        >>> matplotlib.use("Agg")
+        >>> grid = rcell.run("r.out.ascii input=lc", lc=rcell.Map([[1, 2]], labels={1: "wood", 2: "water"}))[0]
+        >>> [text.get_text() for text in grid.plot().get_legend().get_texts()]
+        ['wood', 'water']
+        """
+        pyplot = need("matplotlib.pyplot", "plot", "to draw a map")
+        if ax is None:
+            ax = pyplot.subplots(layout="constrained")[1]
+        categories = self.categories()
+        places, colors, norm = self._colored(categories)
+        region = self.region
+        extent = (region.west, region.east, region.south, region.north)
+        image = ax.imshow(places, cmap=colors, norm=norm, interpolation="nearest", extent=extent)
+        ax.set_title(self.name)
+        if legend and 0 < len(categories) <= LEGEND_LIMIT:
+            self._add_legend(ax, categories, colors)
+        elif legend and categories:
+            ax.figure.colorbar(image, ax=ax)
+        return ax
+
+    def _colored(self, categories: list[int]) -> tuple[Any, Any, Any]:
+        """What is drawn, its colours, and its scale: places among few categories, else the categories themselves."""
+        matplotlib = need("matplotlib", "plot", "to draw a map")
+        colors_of = need("matplotlib.colors", "plot", "to draw a map")
+        if not 0 < len(categories) <= LEGEND_LIMIT:
+            return self.array, "viridis", None
+        palette = [color for name in _PALETTES for color in matplotlib.colormaps[name].colors]
+        places = np.searchsorted(categories, filled(self.array, categories[0]))
+        shown = masked(places, mask_of(self.array))
+        colors = colors_of.ListedColormap(palette[: len(categories)])
+        return shown, colors, colors_of.BoundaryNorm(np.arange(len(categories) + 1) - 0.5, len(categories))
+
+    def _add_legend(self, ax: Any, categories: list[int], colors: Any) -> None:
+        patches = need("matplotlib.patches", "plot", "to draw a map")
+        handles = [
+            patches.Patch(color=colors(place), label=self.labels.get(category, str(category)))
+            for place, category in enumerate(categories)
+        ]
+        ax.legend(handles=handles, loc="upper left", bbox_to_anchor=(1.02, 1.0), borderaxespad=0.0, frameon=False)
+
+    def picture(self) -> bytes:
+        """The map as a PNG, a pixel a cell, null transparent; a large map has a cell of some.
+
+        Raises
+        ------
+        MissingLibrary
+            Where matplotlib is not installed.
+
+        Examples
+        --------
+        >>> import numpy as np, rcell
+        >>> rcell.run("r.out.ascii input=lc", lc=np.array([[5, 7]]))[0].picture()[:4]
+        b'\\x89PNG'
+        """
+        return self._picture(max(self.region.shape))
+
+    def _picture(self, longest: int) -> bytes:
+        step = -(-max(self.region.shape) // longest)
+        small = Grid(self.name, self.array[::step, ::step], self.region, self.transform)
+        places, colors, norm = small._colored(self.categories())
+        image = need("matplotlib.cm", "plot", "to draw a map").ScalarMappable(norm, colors).to_rgba(places, bytes=True)
+        times = max(1, min(longest, THUMBNAIL) // max(places.shape))
+        png = io.BytesIO()
+        need("matplotlib.image", "plot", "to draw a map").imsave(png, image.repeat(times, 0).repeat(times, 1), format="png")
+        return png.getvalue()
+
+    def _repr_html_(self) -> str:
+        rows, cols = self.region.shape
+        told = f"<b>{html.escape(self.name)}</b>: {rows} rows, {cols} columns, {len(self.categories())} categories"
+        if not has("matplotlib"):
+            return f"<p>{told}</p>"
+        encoded = base64.b64encode(self._picture(THUMBNAIL)).decode()
+        return f'<p>{told}</p><img alt="{html.escape(self.name)}" src="data:image/png;base64,{encoded}">'
+
+    def __repr__(self) -> str:
+        return f"<Grid {self.name}: {self.region}>"

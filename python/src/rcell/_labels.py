@@ -1,0 +1,204 @@
+"""Labels of the categories of a raster: GDAL's category names and its attribute tables.
+
+rasterio has no call for them. GDAL's own Python (`osgeo`) reads and writes them where it is installed; without it they are
+read from and written to the file `.aux.xml` beside the raster, where GDAL keeps them.
+"""
+
+from __future__ import annotations
+
+import os
+import warnings
+import xml.etree.ElementTree as ElementTree
+from typing import Any, Mapping
+
+from ._libraries import has, need
+
+__all__ = ["read_labels", "write_labels"]
+
+# Category names are a list from 0 on: beyond so many, or with negative categories, an attribute table says the same in less.
+NAMES_LIMIT = 1 << 16
+# What GDAL calls the columns of a table of attributes: numbers of its enumerations.
+_INTEGER, _TEXT = 0, 2
+_USAGE_NAME, _USAGE_VALUE = 2, 5
+_VALUE_USAGES = (_USAGE_VALUE, 3)
+
+
+def read_labels(path: str, band: int) -> dict[int, str]:
+    """The labels of a band of a raster; empty where it has none.
+
+    Examples
+    --------
+    >>> read_labels("/nowhere.tif", 1)
+    {}
+    """
+    return _read_by_gdal(path, band) if has("osgeo") else _read_beside(path, band)
+
+
+def write_labels(path: str, labels: Mapping[int, str]) -> str | None:
+    """Gives the first band of a raster its labels.
+
+    Parameters
+    ----------
+    path : str
+        Of a raster that is written and closed.
+    labels : mapping of int to str
+
+    Returns
+    -------
+    str or None
+        The file beside the raster that now has them.
+    """
+    if not labels:
+        return None
+    if has("osgeo"):
+        _write_by_gdal(path, labels)
+    else:
+        _write_beside(path, labels)
+    beside = path + ".aux.xml"
+    return beside if os.path.exists(beside) else None
+
+
+def _fit_names(labels: Mapping[int, str]) -> bool:
+    return min(labels) >= 0 and max(labels) < NAMES_LIMIT
+
+
+def _names(labels: Mapping[int, str]) -> list[str]:
+    return [labels.get(category, "") for category in range(max(labels) + 1)]
+
+
+# By GDAL
+
+
+def _quiet_gdal() -> Any:
+    return need("osgeo.gdal", "gis", "to read labels")
+
+
+class _Exceptions:
+    """GDAL's exceptions for a while, the setting of the process put back after it."""
+
+    def __init__(self, gdal: Any) -> None:
+        self._gdal, self._were_used = gdal, bool(gdal.GetUseExceptions())
+
+    def __enter__(self) -> None:
+        self._gdal.UseExceptions()
+
+    def __exit__(self, *_: object) -> None:
+        if not self._were_used:
+            self._gdal.DontUseExceptions()
+
+
+def _read_by_gdal(path: str, band: int) -> dict[int, str]:
+    gdal = _quiet_gdal()
+    with _Exceptions(gdal):
+        try:
+            dataset = gdal.Open(path)
+        except RuntimeError:
+            return {}
+        layer = dataset.GetRasterBand(band)
+        # Straight after opening, some versions have category names only once something else was asked for.
+        layer.GetNoDataValue()
+        names = layer.GetRasterCategoryNames()
+        if names and any(names):
+            return {category: name for category, name in enumerate(names) if name}
+        table = layer.GetDefaultRAT()
+        return {} if table is None else _labels_of_table(table)
+
+
+def _labels_of_table(table: Any) -> dict[int, str]:
+    value, name = _columns([table.GetUsageOfCol(at) for at in range(table.GetColumnCount())],
+                           [table.GetNameOfCol(at) for at in range(table.GetColumnCount())])
+    if value is None or name is None:
+        return {}
+    rows = range(table.GetRowCount())
+    return {table.GetValueAsInt(row, value): text for row in rows if (text := table.GetValueAsString(row, name))}
+
+
+def _columns(usages: list[int], titles: list[str]) -> tuple[int | None, int | None]:
+    """Which columns of an attribute table have the values and the labels: by their use, else by usual titles."""
+
+    def first(wanted: tuple[int, ...], usual: tuple[str, ...]) -> int | None:
+        by_use = (at for at, usage in enumerate(usages) if usage in wanted)
+        by_title = (at for at, title in enumerate(titles) if title.lower() in usual)
+        return next(by_use, next(by_title, None))
+
+    return first(_VALUE_USAGES, ("value",)), first((_USAGE_NAME,), ("class_name", "class_names", "name", "label", "category"))
+
+
+def _write_by_gdal(path: str, labels: Mapping[int, str]) -> None:
+    gdal = _quiet_gdal()
+    with _Exceptions(gdal):
+        dataset = gdal.Open(path)
+        layer = dataset.GetRasterBand(1)
+        if _fit_names(labels):
+            layer.SetRasterCategoryNames(_names(labels))
+        else:
+            table = gdal.RasterAttributeTable()
+            table.CreateColumn("Value", gdal.GFT_Integer, gdal.GFU_MinMax)
+            table.CreateColumn("Class_Name", gdal.GFT_String, gdal.GFU_Name)
+            table.SetRowCount(len(labels))
+            for row, (category, label) in enumerate(sorted(labels.items())):
+                table.SetValueAsInt(row, 0, category)
+                table.SetValueAsString(row, 1, label)
+            layer.SetDefaultRAT(table)
+        dataset.FlushCache()
+
+
+# Beside the raster
+
+
+def _bands_beside(path: str) -> ElementTree.Element | None:
+    for candidate in (path + ".aux.xml", path):
+        try:
+            root = ElementTree.parse(candidate).getroot()
+        except (OSError, ElementTree.ParseError, ValueError):
+            continue
+        if root.tag in ("PAMDataset", "VRTDataset"):
+            return root
+    return None
+
+
+def _read_beside(path: str, band: int) -> dict[int, str]:
+    root = _bands_beside(path)
+    if root is None:
+        return {}
+    for element in [*root.findall("PAMRasterBand"), *root.findall("VRTRasterBand")]:
+        if element.get("band") == str(band):
+            names = [name.text or "" for name in element.findall("CategoryNames/Category")]
+            if any(names):
+                return {category: name for category, name in enumerate(names) if name}
+            table = element.find("GDALRasterAttributeTable")
+            return {} if table is None else _labels_of_element(table)
+    return {}
+
+
+def _labels_of_element(table: ElementTree.Element) -> dict[int, str]:
+    fields = table.findall("FieldDefn")
+    usages = [int(field.findtext("Usage", "0")) for field in fields]
+    value, name = _columns(usages, [field.findtext("Name", "") for field in fields])
+    if value is None or name is None:
+        return {}
+    rows = [[cell.text or "" for cell in row.findall("F")] for row in table.findall("Row")]
+    return {int(float(row[value])): row[name] for row in rows if row[name]}
+
+
+def _write_beside(path: str, labels: Mapping[int, str]) -> None:
+    root = _bands_beside(path)
+    if root is None or root.tag != "PAMDataset":
+        root = ElementTree.Element("PAMDataset")
+    band = ElementTree.SubElement(root, "PAMRasterBand", band="1")
+    if _fit_names(labels):
+        names = ElementTree.SubElement(band, "CategoryNames")
+        for name in _names(labels):
+            ElementTree.SubElement(names, "Category").text = name
+    else:
+        table = ElementTree.SubElement(band, "GDALRasterAttributeTable", tableType="thematic")
+        for at, (title, kind, usage) in enumerate([("Value", _INTEGER, _USAGE_VALUE), ("Class_Name", _TEXT, _USAGE_NAME)]):
+            field = ElementTree.SubElement(table, "FieldDefn", index=str(at))
+            for tag, text in (("Name", title), ("Type", str(kind)), ("Usage", str(usage))):
+                ElementTree.SubElement(field, tag).text = text
+        for at, (category, label) in enumerate(sorted(labels.items())):
+            row = ElementTree.SubElement(table, "Row", index=str(at))
+            ElementTree.SubElement(row, "F").text = str(category)
+            ElementTree.SubElement(row, "F").text = label
+    ElementTree.ElementTree(root).write(path + ".aux.xml", encoding="utf-8")
+    warnings.warn(f"GDAL's Python is not installed: the labels stand in {path}.aux.xml, which GDAL reads", stacklevel=4)

@@ -1,0 +1,36 @@
+"""Libraries that some calls need and the package does not."""
+
+from __future__ import annotations
+
+import importlib
+import importlib.util
+from typing import Any
+
+from ._errors import MissingLibrary
+
+__all__ = ["has", "need"]
+
+
+def has(library: str) -> bool:
+    """Whether a library can be imported.
+
+    Examples
+    --------
+    >>> has("numpy")
+    True
+    """
+    return importlib.util.find_spec(library) is not None
+
+
+def need(library: str, extra: str, purpose: str) -> Any:
+    """A module, by the full name that it has; a MissingLibrary where it is not installed.
+
+    Examples
+    --------
+    >>> need("numpy", "gis", "to count").__name__
+    'numpy'
+    """
+    try:
+        return importlib.import_module(library)
+    except ImportError:
+        raise MissingLibrary(library.partition(".")[0], extra, purpose) from None

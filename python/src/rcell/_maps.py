@@ -1,0 +1,367 @@
+"""Maps in: what a caller gives, as cells that the program takes."""
+
+from __future__ import annotations
+
+import os
+import warnings
+from dataclasses import dataclass, field
+from typing import Any, Iterator, Mapping, Protocol, Sequence
+
+import numpy as np
+from numpy.typing import ArrayLike
+
+from ._errors import BadMap
+from ._masked import data_of, is_masked_array, mask_of
+from ._region import Region, Transform
+from ._text import MAX_CATEGORY, NULL, Cells, Mask, range_of
+
+__all__ = ["ArrayMap", "Block", "Map", "Source", "checked", "whole_nodata"]
+
+# Cells of a block, about: large enough that a block costs more than its call, small enough for the cache of a processor.
+BLOCK_CELLS = 1 << 20
+# Beyond it a float of 32 bits does not have every whole number.
+_EXACT_FLOAT32 = 1 << 24
+
+
+@dataclass(frozen=True)
+class Block:
+    """Some whole rows of a map, or a window of it.
+
+    Attributes
+    ----------
+    cells : array of int8, uint8, int16, uint16 or int32, rows x cols
+    null : array of bool or None
+        True where a cell is null, aside from the nodata of its source.
+    """
+
+    cells: Cells
+    null: Mask | None
+
+
+class Source(Protocol):
+    """A map as the program needs it."""
+
+    @property
+    def region(self) -> Region:
+        """Its edges and its shape."""
+
+    @property
+    def transform(self) -> Transform:
+        """Its transform, which answers get."""
+
+    @property
+    def nodata(self) -> int | None:
+        """A value of cells that is null."""
+
+    @property
+    def labels(self) -> Mapping[int, str]:
+        """Labels of its categories."""
+
+    @property
+    def crs(self) -> Any:
+        """Its coordinate reference system, or None."""
+
+    def range(self) -> tuple[int, int]:
+        """A range of its cells, 0 among them; it may be a guess, for then some words are only slower to read."""
+
+    def blocks(self) -> Iterator[Block]:
+        """Its rows from north to south."""
+
+
+# Cells
+
+
+def whole_nodata(dtype: np.dtype[Any], value: float | None) -> int | None:
+    """The value that is null, where a block of this type does not mask it already.
+
+    Examples
+    --------
+    >>> whole_nodata(np.dtype("uint8"), 255.0), whole_nodata(np.dtype("uint8"), -9999.0)
+    (255, None)
+    """
+    if value is None or dtype.kind not in "iub" or dtype.itemsize > 2 or not float(value).is_integer():
+        return None
+    limits = np.iinfo(np.uint8 if dtype == np.bool_ else dtype)
+    return int(value) if limits.min <= value <= limits.max else None
+
+
+def checked(name: str, cells: Cells, null: Mask | None, nodata: float | None, first_row: int = 0, first_col: int = 0) -> Block:
+    """Cells of any type of whole numbers as a block.
+
+    Parameters
+    ----------
+    name : str
+        The name of the map, for the refusal.
+    cells : array, rows x cols
+    null : array of bool or None
+    nodata : float or None
+        The value that is null, compared by value.
+    first_row, first_col : int
+        The place of the first cell in the map, for the refusal.
+
+    Raises
+    ------
+    BadMap
+        With the first cell that is neither null nor a whole number from -2147483647 to 2147483647.
+    """
+    kind, size = cells.dtype.kind, cells.dtype.itemsize
+    if kind not in "iufb":
+        raise BadMap(name, f"not a map of whole numbers: its cells are of the type {cells.dtype}")
+    if kind == "b":
+        cells = cells.view(np.uint8)
+    if kind == "b" or (kind in "iu" and size <= 2):
+        return Block(cells, null)
+    null = _with_nodata(cells, null, nodata)
+    good = _good(cells)
+    if good is not None:
+        bad = ~good if null is None else ~(good | null)
+        if bad.any():
+            row, col = (int(place) for place in np.unravel_index(int(bad.argmax()), bad.shape))
+            raise _bad_cell(name, first_row + row + 1, first_col + col + 1, cells[row, col].item())
+    if null is not None and null.any():
+        cells = np.where(null, cells.dtype.type(0), cells)
+    if cells.dtype == np.float32 and cells.size and np.abs(cells).max() > _EXACT_FLOAT32:
+        warnings.warn(f"{name}: floats of 32 bits are not exact beyond {_EXACT_FLOAT32}, and the map has greater cells", stacklevel=2)
+    return Block(cells if cells.dtype == np.int32 else cells.astype(np.int32), null)
+
+
+def _with_nodata(cells: Cells, null: Mask | None, nodata: float | None) -> Mask | None:
+    """What is null, with the cells of nodata and those that are no number."""
+    found: list[Mask] = [] if null is None else [null]
+    if nodata is not None and nodata == nodata:
+        found.append(cells == nodata)
+    if cells.dtype.kind == "f":
+        found.append(np.isnan(cells))
+    return None if not found else found[0] if len(found) == 1 else np.logical_or.reduce(found)
+
+
+def _good(cells: Cells) -> Mask | None:
+    """Where cells are whole numbers in range; None where all are."""
+    if cells.dtype.kind == "f":
+        with np.errstate(invalid="ignore"):
+            return np.asarray((np.rint(cells) == cells) & (np.abs(cells) <= MAX_CATEGORY))
+    if cells.size == 0 or (cells.min() >= -MAX_CATEGORY and cells.max() <= MAX_CATEGORY):
+        return None
+    good = cells <= MAX_CATEGORY
+    return good & (cells >= -MAX_CATEGORY) if cells.dtype.kind == "i" else good
+
+
+def _bad_cell(name: str, row: int, col: int, value: float) -> BadMap:
+    number = f"{value:.15g}" if isinstance(value, float) else str(value)
+    beyond = ", beyond 2147483647 either way" if value == value and abs(value) > MAX_CATEGORY else ""
+    return BadMap(name, f"not a map of whole numbers: the cell at row {row}, column {col} is {number}{beyond}", row, col, value)
+
+
+# Maps in memory
+
+
+@dataclass(frozen=True)
+class ArrayMap:
+    """An array in memory as a map.
+
+    Parameters
+    ----------
+    name : str
+        The name of the map, for refusals.
+    array : array of whole numbers, rows x cols
+        Its type may be any integer, bool, or float where all cells are whole numbers; NaN is null.
+    region : Region
+    null : array of bool, optional
+        Of the same shape; True where a cell is null.
+    nodata_value : float, optional
+        A value that is null, compared by value.
+    labels : mapping, optional
+    crs : any, optional
+    exact_transform : tuple of six float, optional
+        The transform that answers get; that of the region where it is None.
+
+    Raises
+    ------
+    BadMap
+        Where the array is no map; a cell that is wrong is found when it is sent.
+    """
+
+    name: str
+    array: Cells
+    region: Region
+    null: Mask | None = None
+    nodata_value: float | None = None
+    labels: Mapping[int, str] = field(default_factory=dict)
+    crs: Any = None
+    exact_transform: Transform | None = None
+
+    def __post_init__(self) -> None:
+        _check_dimensions(self.name, self.array)
+        if self.array.shape != self.region.shape:
+            rows, cols = self.array.shape
+            raise BadMap(self.name, f"an array of {rows} x {cols} cells, and a region of {self.region.rows} x {self.region.cols}")
+
+    @property
+    def transform(self) -> Transform:
+        """The transform that answers get."""
+        return self.exact_transform or self.region.transform
+
+    @property
+    def nodata(self) -> int | None:
+        """The value that is null, where the blocks do not tell it."""
+        return whole_nodata(self.array.dtype, self.nodata_value)
+
+    def range(self) -> tuple[int, int]:
+        """The range of its cells, which costs one look at each."""
+        least, greatest = 0, 0
+        for block in self.blocks():
+            cells = block.cells if block.null is None else np.where(block.null, block.cells.dtype.type(0), block.cells)
+            low, high = range_of(cells, self.nodata)
+            least, greatest = min(least, low), max(greatest, high)
+        return least, greatest
+
+    def blocks(self) -> Iterator[Block]:
+        """Its rows from north to south."""
+        rows, cols = self.region.shape
+        step = max(1, BLOCK_CELLS // cols)
+        for row in range(0, rows, step):
+            null = None if self.null is None else self.null[row : row + step]
+            yield checked(self.name, np.ascontiguousarray(self.array[row : row + step]), null, self.nodata_value, row)
+
+
+def _check_dimensions(name: str, array: Any) -> None:
+    if array.ndim != 2:
+        shape = " x ".join(map(str, array.shape)) or "one number"
+        raise BadMap(name, f"an array of {array.ndim} dimensions ({shape}), and a map has two; of a raster's bands give one, as read(1)")
+    if array.size == 0:
+        raise BadMap(name, f"an array without cells ({array.shape[0]} x {array.shape[1]})")
+
+
+@dataclass(frozen=True)
+class Map:
+    """A map that is in memory, with all that an array can't say of itself.
+
+    Where an array alone is given to a call, it has cells of side 1; `(array, region)` and `(array, transform)` are short for
+    this class.
+
+    Parameters
+    ----------
+    array : array, masked array, or nested lists of whole numbers, rows x cols
+        Any integer type, bool, or floats that are whole numbers; what is masked, and NaN, is null.
+    region : Region, or a transform (rasterio's Affine or six numbers), optional
+    crs : any, optional
+        A reference system of rasterio or pyproj, or its well-known text.
+    nodata : float, optional
+        A value that is null.
+    labels : mapping of int to str, optional
+
+    Examples
+    --------
+    >>> import numpy as np, rcell
+    >>> land = rcell.Map(np.array([[1, 1], [2, 0]]), nodata=0, labels={1: "wood", 2: "water"})
+    >>> rcell.run("r.stats -c -l input=land", land=land)[0].rows
+    [(1, 'wood', 2), (2, 'water', 1), (None, None, 1)]
+    """
+
+    array: ArrayLike
+    region: Region | Sequence[float] | None = None
+    crs: Any = None
+    nodata: float | None = None
+    labels: Mapping[int, str] = field(default_factory=dict)
+
+    def source(self, name: str) -> ArrayMap:
+        """The same under a name, as the program needs it.
+
+        Examples
+        --------
+        >>> import rcell
+        >>> rcell.Map([[1, 2]]).source("land").region
+        Region(north=1, south=0, east=2, west=0, rows=1, cols=2)
+        """
+        given: Any = self.array
+        array = data_of(given) if is_masked_array(given) else np.asarray(given)
+        null = mask_of(given) if is_masked_array(given) else None
+        _check_dimensions(name, array)
+        array, null, region, transform = _placed(name, array, null, self.region)
+        return ArrayMap(name, array, region, null, self.nodata, self.labels, self.crs, transform)
+
+
+def _placed(name: str, array: Cells, null: Mask | None, place: Any) -> tuple[Cells, Mask | None, Region, Transform]:
+    """An array with its rows from north to south, its region and its transform."""
+    rows, cols = array.shape
+    if isinstance(place, Region):
+        return array, null, place, place.transform
+    if place is None:
+        region = in_region(name, Region.of_cells, rows, cols)
+        return array, null, region, region.transform
+    a, b, c, d, e, f = (float(number) for number in tuple(place)[:6])
+    if e > 0 and not b and not d:
+        array, null, e, f = array[::-1], None if null is None else null[::-1], -e, f + e * rows
+    transform = (a, b, c, d, e, f)
+    return array, null, in_region(name, Region.from_transform, transform, rows, cols), transform
+
+
+def in_region(name: str, make: Any, *words: Any) -> Region:
+    """A region; what it refuses is told of the map."""
+    try:
+        region: Region = make(*words)
+    except BadMap as refusal:
+        raise BadMap(name, refusal.text) from None
+    return region
+
+
+def source_of(name: str, given: Any) -> Source:
+    """What a caller gives as a map.
+
+    Parameters
+    ----------
+    name : str
+    given : path, array, masked array, (array, region or transform), Map, Grid, DataArray, dataset or band of rasterio
+
+    Raises
+    ------
+    BadMap
+        Where it can't be a map.
+    """
+    if hasattr(given, "blocks") and hasattr(given, "region"):
+        source: Source = given
+        return source
+    if isinstance(given, Map):
+        return given.source(name)
+    if hasattr(given, "as_map"):
+        return source_of(name, given.as_map())
+    if isinstance(given, (str, os.PathLike)):
+        from ._texts import open_path
+
+        return open_path(name, given)
+    module = type(given).__module__.partition(".")[0]
+    if module == "rasterio":
+        from ._rasters import open_raster
+
+        return open_raster(name, given)
+    if module == "xarray":
+        from ._xarray import source_of_data_array
+
+        return source_of_data_array(name, given)
+    if isinstance(given, tuple) and len(given) == 2 and isinstance(given[0], np.ndarray):
+        return Map(given[0], given[1]).source(name)
+    if isinstance(given, (np.ndarray, list)):
+        return Map(given).source(name)
+    raise BadMap(name, f"neither a path nor an array nor a raster, but a {type(given).__name__}")
+
+
+def sources_of(maps: Mapping[str, Any]) -> dict[str, Source]:
+    """All maps of a call, which have the region of the first.
+
+    Raises
+    ------
+    OtherRegion
+        Where one has not; it says which edges differ, and by how much.
+    """
+    from ._errors import OtherRegion, Refused
+
+    if not maps:
+        raise Refused("no map is given: name them, as lc=\"landcover.tif\"", status=2)
+    sources = {name: source_of(name, given) for name, given in maps.items()}
+    first_name, first = next(iter(sources.items()))
+    for name, source in sources.items():
+        if source.region != first.region:
+            told = "; ".join(first.region.differences(source.region))
+            text = f"not of the region of `{first_name}`, and nothing is resampled: {told}"
+            raise OtherRegion(name, f"{text}\n  {first_name}: {first.region}\n  {name}: {source.region}")
+    return sources

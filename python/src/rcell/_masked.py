@@ -1,0 +1,84 @@
+"""numpy's masked arrays, which numpy gives no types to."""
+
+from __future__ import annotations
+
+from typing import Any
+
+import numpy as np
+from numpy.typing import NDArray
+
+__all__ = ["MaskedCells", "compressed", "data_of", "filled", "is_masked_array", "mask_of", "masked"]
+
+MaskedCells = np.ma.MaskedArray[Any, Any]
+_ma: Any = np.ma
+
+
+def masked(cells: NDArray[Any], mask: NDArray[np.bool_]) -> MaskedCells:
+    """Cells that are masked where the mask is True.
+
+    Examples
+    --------
+    >>> masked(np.array([1, 2]), np.array([False, True])).tolist()
+    [1, None]
+    """
+    answer: MaskedCells = _ma.MaskedArray(cells, mask=mask)
+    return answer
+
+
+def filled(array: MaskedCells, value: int) -> NDArray[Any]:
+    """The cells, with a value in place of those that are masked.
+
+    Examples
+    --------
+    >>> filled(masked(np.array([1, 2]), np.array([False, True])), 0).tolist()
+    [1, 0]
+    """
+    answer: NDArray[Any] = _ma.filled(array, value)
+    return answer
+
+
+def compressed(array: MaskedCells) -> NDArray[Any]:
+    """The cells that are not masked, in one dimension.
+
+    Examples
+    --------
+    >>> compressed(masked(np.array([1, 2]), np.array([False, True]))).tolist()
+    [1]
+    """
+    answer: NDArray[Any] = array.compressed()  # type: ignore[no-untyped-call]
+    return answer
+
+
+def is_masked_array(given: Any) -> bool:
+    """Whether something is a masked array.
+
+    Examples
+    --------
+    >>> is_masked_array(np.array([1, 2]))
+    False
+    """
+    return isinstance(given, np.ma.MaskedArray)
+
+
+def data_of(array: MaskedCells) -> NDArray[Any]:
+    """The cells under the mask.
+
+    Examples
+    --------
+    >>> data_of(masked(np.array([1, 2]), np.array([False, True]))).tolist()
+    [1, 2]
+    """
+    answer: NDArray[Any] = _ma.getdata(array)
+    return answer
+
+
+def mask_of(array: MaskedCells) -> NDArray[np.bool_]:
+    """The mask, an element for each cell.
+
+    Examples
+    --------
+    >>> mask_of(np.ma.MaskedArray([1, 2])).tolist()
+    [False, False]
+    """
+    answer: NDArray[np.bool_] = _ma.getmaskarray(array)
+    return answer

@@ -1,0 +1,407 @@
+"""The program: where it is, and a run of it over pipes.
+
+No file is written and no thread is started. The program reads the grids in their order and then the script, and writes
+nothing before it has read them all; so each goes into a pipe of its own, one after the other, and then the output is read.
+"""
+
+from __future__ import annotations
+
+import os
+import re
+import shutil
+import subprocess
+import sys
+import sysconfig
+from dataclasses import dataclass
+from types import MappingProxyType
+from typing import Any, Callable, Iterator, Mapping, Sequence
+
+import numpy as np
+from numpy.typing import NDArray
+
+from ._errors import Killed, MissingProgram, OutOfMemory, RcellError, Refused, WriteFailed, WrongProgram
+from ._maps import Source
+from ._region import Region
+from ._script import SCRIPT_LIMIT, Plan, Statement, plan_of
+from ._text import NULL, Words, numbers_of
+from ._texts import TextMap
+
+__all__ = ["NULL", "Output", "execute", "find_program"]
+
+PIPE_BYTES = 1 << 20
+PIECE_BYTES = 1 << 22
+_MESSAGE = re.compile(r"rcell: ([^:]*):(\d+): (.*)")
+_F_SETPIPE_SZ = 1031
+
+Progress = Callable[[int], None]
+
+
+@dataclass(frozen=True)
+class Output:
+    """What one statement of a script wrote.
+
+    Attributes
+    ----------
+    statement : Statement
+        With the command, the line and the maps.
+    values : array
+        Of a table int64, entries x columns: the categories of each map, and the number of cells where it was asked for.
+        Of a map (`statement.is_of_cells`) int32, rows x cols. `NULL` stands for null in both.
+    """
+
+    statement: Statement
+    values: NDArray[Any]
+
+
+# Where it is
+
+
+def _candidates() -> Iterator[str]:
+    yield from filter(None, [os.environ.get("RCELL")])
+    for scheme in (None, "user"):
+        name = sysconfig.get_preferred_scheme("user") if scheme else sysconfig.get_default_scheme()
+        path = os.path.join(sysconfig.get_path("scripts", name), "rcell")
+        if os.path.isfile(path):
+            yield path
+    beside = os.path.join(os.path.dirname(sys.executable), "rcell")
+    if os.path.isfile(beside):
+        yield beside
+    yield from filter(None, [shutil.which("rcell")])
+
+
+_known: dict[str, tuple[int, int, int]] = {}
+
+
+def find_program(program: str | os.PathLike[str] | None = None) -> str:
+    """The path of the program.
+
+    Looked for in this order: the argument, the environment variable RCELL, the scripts of this installation of Python (where
+    the wheel puts it), the path.
+
+    Raises
+    ------
+    MissingProgram
+        Where there is none.
+    WrongProgram
+        Where it does not answer as this package needs it.
+    """
+    path = os.fspath(program) if program is not None else next(_candidates(), "")
+    if not path:
+        raise MissingProgram(
+            "the program rcell was not found: neither in the environment variable RCELL, nor beside this Python, nor on the path"
+        )
+    if not os.path.isfile(path) or not os.access(path, os.X_OK):
+        raise MissingProgram(f"the program {path} is not there, or may not be executed")
+    state = os.stat(path)
+    stamp = (state.st_ino, state.st_size, state.st_mtime_ns)
+    if _known.get(path) != stamp:
+        _probe(path)
+        _known[path] = stamp
+    return path
+
+
+_PROBE_GRID = b"north: 1\nsouth: 0\neast: 3\nwest: 0\nrows: 1\ncols: 3\nnull: ***\n007 *** 012 "
+_PROBE_SCRIPT = b"r.clump -d input=g output=k\nr.stats -c input=g,k after=7,1\nr.stats input=k null_value=end\nr.stats -1 input=k\n"
+_PROBE_ANSWER = b"12 2 1\n* * 1\n1\n2\nend\n1\n*\n2\n"
+
+
+def _probe(path: str) -> None:
+    """Runs the program once on a grid of three cells, with all that this package makes use of."""
+    try:
+        with _Run(path, ["g"]) as run:
+            run.write(0, _PROBE_GRID)
+            run.close_grid(0)
+            run.write_script(_PROBE_SCRIPT)
+            answer = b"".join(run.pieces())
+            status = run.end()[0]
+    except OSError as error:
+        raise MissingProgram(f"the program {path} cannot be executed: {error.strerror}") from None
+    if status != 0 or answer != _PROBE_ANSWER:
+        raise WrongProgram(f"{path} is not a program rcell of a version that this package knows")
+
+
+# A run
+
+
+class _Run:
+    """The program at work: a pipe for each grid and one for the script, its output and its message.
+
+    Leaving it ends the program, whatever has happened, and closes all pipes.
+    """
+
+    def __init__(self, path: str, names: Sequence[str], files: Mapping[str, str] = MappingProxyType({})) -> None:
+        self._writers: list[int] = []
+        readers: list[int] = []
+        try:
+            for name in (*names, ""):
+                if name in files:
+                    readers.append(os.open(files[name], os.O_RDONLY))
+                    self._writers.append(-1)
+                    continue
+                reader, writer = os.pipe()
+                readers.append(reader)
+                self._writers.append(writer)
+                _widen(writer)
+            words = [path, f"/dev/fd/{readers[-1]}", *(f"{name}=/dev/fd/{reader}" for name, reader in zip(names, readers))]
+            self._process = subprocess.Popen(
+                words, stdin=subprocess.DEVNULL, stdout=subprocess.PIPE, stderr=subprocess.PIPE, pass_fds=readers, bufsize=0
+            )
+        except BaseException:
+            for place in range(len(self._writers)):
+                self.close_grid(place)
+            raise
+        finally:
+            for reader in readers:
+                os.close(reader)
+        self.is_reading = True
+        assert self._process.stdout is not None and self._process.stderr is not None
+        _widen(self._process.stdout.fileno())
+
+    def __enter__(self) -> _Run:
+        return self
+
+    def __exit__(self, *_: object) -> None:
+        for place in range(len(self._writers)):
+            self.close_grid(place)
+        if self._process.poll() is None:
+            self._process.kill()
+        self._process.wait()
+        assert self._process.stdout is not None and self._process.stderr is not None
+        self._process.stdout.close()
+        self._process.stderr.close()
+
+    def write(self, place: int, data: bytes | memoryview) -> None:
+        """Writes all of the data to a grid's pipe; nothing more once the program has stopped reading."""
+        rest = memoryview(data)
+        try:
+            while rest and self.is_reading:
+                rest = rest[os.write(self._writers[place], rest) :]
+        except BrokenPipeError:
+            self.is_reading = False
+
+    def write_script(self, script: bytes) -> None:
+        self.write(-1, script)
+        self.close_grid(len(self._writers) - 1)
+
+    def close_grid(self, place: int) -> None:
+        if self._writers[place] >= 0:
+            os.close(self._writers[place])
+            self._writers[place] = -1
+
+    def pieces(self) -> Iterator[bytes]:
+        """The output, as it comes."""
+        assert self._process.stdout is not None
+        while True:
+            piece = os.read(self._process.stdout.fileno(), PIPE_BYTES)
+            if not piece:
+                return
+            yield piece
+
+    def end(self) -> tuple[int, str]:
+        """The status and the message, when all output has been read."""
+        assert self._process.stderr is not None
+        message = self._process.stderr.read().decode("utf-8", "surrogateescape")
+        return self._process.wait(), message
+
+
+def _widen(pipe: int) -> None:
+    """A pipe of a MiB, where the system allows it: fewer changes between the two processes."""
+    try:
+        import fcntl
+
+        fcntl.fcntl(pipe, _F_SETPIPE_SZ, PIPE_BYTES)
+    except (ImportError, OSError):
+        pass
+
+
+def execute(
+    script: str,
+    maps: Mapping[str, Source],
+    *,
+    wanted: Sequence[str] = (),
+    program: str | os.PathLike[str] | None = None,
+    progress: Progress | None = None,
+) -> list[Output]:
+    """Runs a script over maps of one region.
+
+    Parameters
+    ----------
+    script : str
+    maps : mapping of str to Source
+        By their names; at least one. Their regions are those of the first, or the program refuses.
+    wanted : sequence of str
+        Maps whose cells are answered after the outputs of the script.
+    program : path, optional
+    progress : callable, optional
+        Called with the number of cells of each block sent.
+
+    Returns
+    -------
+    list of Output
+        In the order of the script's statements, then those wanted.
+
+    Raises
+    ------
+    Refused
+        As the program refuses, with the line of the caller's script.
+    BadMap
+        Where a cell can't be sent.
+    OutOfMemory, Killed, MissingProgram, WrongProgram
+    """
+    path = find_program(program)
+    maps = dict(maps)
+    plan = plan_of(script, maps, wanted)
+    _check_length(script, plan)
+    region = next(iter(maps.values())).region
+    files = {name: source.path for name, source in maps.items() if isinstance(source, TextMap) and source.held is None}
+    with _Run(path, list(maps), files) as run:
+        for place, source in enumerate(maps.values()):
+            _send(run, place, source, progress)
+        run.write_script(plan.text)
+        reader = _Reader(run.pieces())
+        try:
+            outputs = [reader.output(statement, mark, region) for statement, mark in zip(plan.outputs, plan.marks)]
+            rest = reader.rest()
+        except _Short:
+            outputs, rest = [], b"short"
+            for _ in run.pieces():
+                pass
+        status, message = run.end()
+    if status:
+        raise _fault(status, message, plan, script)
+    if rest:
+        raise WrongProgram(f"{path} has written what this package does not understand")
+    return outputs
+
+
+def _send(run: _Run, place: int, source: Source, progress: Progress | None) -> None:
+    if isinstance(source, TextMap):
+        for piece in source.pieces():
+            run.write(place, piece)
+        run.close_grid(place)
+        return
+    words = Words(*source.range(), source.nodata)
+    run.write(place, source.region.header().encode() + b"null: " + words.null + b"\n")
+    for block in source.blocks():
+        if not run.is_reading:
+            break
+        for piece in words.pieces(block.cells, block.null):
+            run.write(place, piece)
+        if progress is not None:
+            progress(block.cells.size)
+    run.close_grid(place)
+
+
+def _check_length(script: str, plan: Plan) -> None:
+    own = len(script.encode("utf-8", "surrogateescape"))
+    if own <= SCRIPT_LIMIT < len(plan.text):
+        raise Refused(
+            f"the script has {own:,} bytes, and with the marks that part its outputs {len(plan.text):,}, over {SCRIPT_LIMIT:,}: make several runs",
+            "script",
+        )
+
+
+def _fault(status: int, message: str, plan: Plan, script: str) -> RcellError:
+    """The error of a run that ended in another status than 0."""
+    if status < 0:
+        return Killed(-status)
+    found = _MESSAGE.match(message.rstrip("\n"))
+    if not found:
+        return WrongProgram(f"the program ended in status {status} and said: {message.strip() or 'nothing'}")
+    source, line, text = found[1], int(found[2]), found[3]
+    content = None
+    if source == "script" and 0 < line <= len(plan.lines):
+        line = plan.lines[line - 1]
+        content = script.split("\n")[line - 1].rstrip("\r") if line else None
+    kind = OutOfMemory if status == 3 or text == "no memory" else Refused
+    return kind(text, source, line, status, content)
+
+
+class _Short(Exception):
+    """The output ended before it was whole; the status says why."""
+
+
+class _Reader:
+    """Parts the output of a run as it comes."""
+
+    def __init__(self, pieces: Iterator[bytes]) -> None:
+        self._pieces = pieces
+        self._held = b""
+
+    def _more(self) -> bool:
+        piece = next(self._pieces, b"")
+        self._held = self._held + piece if self._held else piece
+        return bool(piece)
+
+    def output(self, statement: Statement, mark: bytes | None, region: Region) -> Output:
+        if not statement.is_known:
+            raise _Short
+        if statement.is_of_cells:
+            return Output(statement, self._cells(region))
+        numbers = numbers_of(self._until(mark))
+        columns = len(statement.maps) + ("c" in statement.flags)
+        if numbers.size % columns:
+            raise _Short
+        return Output(statement, numbers.reshape(-1, columns))
+
+    def _cells(self, region: Region) -> NDArray[np.int32]:
+        """The next numbers, one for each cell; the text is never held whole."""
+        cells = np.empty(region.rows * region.cols, np.int32)
+        at = 0
+        while at < cells.size:
+            lines = self._held.rfind(b"\n") + 1
+            numbers = numbers_of(self._held[:lines], np.int32)
+            if at + numbers.size > cells.size:
+                at = self._last_cells(cells, at)
+                break
+            cells[at : at + numbers.size] = numbers
+            at += numbers.size
+            self._held = self._held[lines:]
+            if at < cells.size and not self._gather():
+                raise _Short
+        return cells.reshape(region.rows, region.cols)
+
+    def _last_cells(self, cells: NDArray[np.int32], at: int) -> int:
+        """Fills up the cells with the first lines of what is held, which has more."""
+        ends = np.flatnonzero(np.frombuffer(self._held, np.uint8) == ord("\n"))
+        end = int(ends[cells.size - at - 1]) + 1
+        try:
+            cells[at:] = numbers_of(self._held[:end], np.int32)
+        except ValueError:
+            raise _Short from None
+        self._held = self._held[end:]
+        return cells.size
+
+    def _gather(self) -> bool:
+        """Holds some more pieces; False where there is none."""
+        pieces, size = [self._held], 0
+        while size < PIECE_BYTES:
+            piece = next(self._pieces, b"")
+            if not piece:
+                break
+            pieces.append(piece)
+            size += len(piece)
+        self._held = b"".join(pieces)
+        return size > 0
+
+    def _until(self, mark: bytes | None) -> bytes:
+        """What comes before the line that is the mark, or all where there is none."""
+        if mark is None:
+            return self.rest()
+        line = b"\n" + mark + b"\n"
+        pieces, tail = [], b"\n" + self._held
+        while (at := tail.find(line)) < 0:
+            piece = next(self._pieces, b"")
+            if not piece:
+                raise _Short
+            known = max(len(tail) - len(line), 0)
+            pieces.append(tail[:known])
+            tail = tail[known:] + piece
+        pieces.append(tail[:at])
+        self._held = tail[at + len(line) :]
+        return b"".join(pieces)
+
+    def rest(self) -> bytes:
+        text = b"".join([self._held, *self._pieces])
+        self._held = b""
+        return text

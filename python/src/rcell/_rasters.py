@@ -1,0 +1,224 @@
+"""Rasters that rasterio opens, as maps: read by windows, never whole."""
+
+from __future__ import annotations
+
+import contextlib
+import functools
+import os
+import warnings
+from dataclasses import dataclass
+from typing import Any, Iterator, Mapping
+
+import numpy as np
+
+from ._errors import BadMap, ReadFailed
+from ._labels import read_labels
+from ._libraries import need
+from ._maps import BLOCK_CELLS, Block, checked, in_region, whole_nodata
+from ._region import Region, Transform
+from ._text import Mask, range_of
+
+__all__ = ["RasterMap", "open_raster"]
+
+_PURPOSE = "to read a raster"
+_IDENTITY: Transform = (1.0, 0.0, 0.0, 0.0, 1.0, 0.0)
+# Windows that are looked at for a guess of the range of the cells.
+_SAMPLES = 12
+
+
+def open_raster(name: str, given: Any) -> RasterMap:
+    """A raster as a map.
+
+    Parameters
+    ----------
+    name : str
+        The name of the map, for refusals.
+    given : path, rasterio.DatasetReader or rasterio.Band
+
+    Raises
+    ------
+    ReadFailed
+        Where it cannot be opened.
+    BadMap
+        Where it has several bands, scaled values, a rotated transform or control points in place of one.
+    """
+    rasterio = need("rasterio", "gis", _PURPOSE)
+    if isinstance(given, rasterio.Band):
+        return RasterMap.of_dataset(name, given.ds, int(given.bidx))
+    if isinstance(given, (str, os.PathLike)):
+        with _opened(name, os.fspath(given)) as dataset:
+            return RasterMap.of_dataset(name, dataset, None, os.fspath(given))
+    return RasterMap.of_dataset(name, given, None)
+
+
+@contextlib.contextmanager
+def _opened(name: str, path: str) -> Iterator[Any]:
+    """An open dataset; without a warning where it has no georeference."""
+    rasterio = need("rasterio", "gis", _PURPOSE)
+    with warnings.catch_warnings():
+        warnings.simplefilter("ignore", rasterio.errors.NotGeoreferencedWarning)
+        try:
+            dataset = rasterio.open(path)
+        except rasterio.errors.RasterioIOError as error:
+            raise ReadFailed(name, f"cannot open: {error}") from None
+    with dataset:
+        yield dataset
+
+
+@dataclass(frozen=True)
+class RasterMap:
+    """A band of a raster as a map; made by `open_raster`.
+
+    Attributes
+    ----------
+    name : str
+    path : str or None
+        What is opened for each reading; None where the caller's own dataset is read.
+    dataset : rasterio.DatasetReader or None
+    band : int
+    region : Region
+    transform : tuple of six float
+        With its rows from north to south.
+    crs : rasterio.crs.CRS or None
+    nodata_value : float or None
+    has_mask : bool
+        Whether null is told by a mask of its own, as well.
+    is_upside_down : bool
+        Whether its rows go from south to north.
+    """
+
+    name: str
+    path: str | None
+    dataset: Any
+    band: int
+    region: Region
+    transform: Transform
+    crs: Any
+    nodata_value: float | None
+    has_mask: bool
+    is_upside_down: bool
+    dtype: str
+    block_shape: tuple[int, int]
+    labels_path: str
+
+    @classmethod
+    def of_dataset(cls, name: str, dataset: Any, band: int | None, path: str | None = None) -> RasterMap:
+        """A band of an open dataset; the only one where it is None."""
+        enums = need("rasterio.enums", "gis", _PURPOSE)
+        band = _only_band(name, dataset, enums) if band is None else band
+        if dataset.scales[band - 1] != 1 or dataset.offsets[band - 1] != 0:
+            scale, offset = dataset.scales[band - 1], dataset.offsets[band - 1]
+            raise BadMap(name, f"its values are scaled: each cell times {scale:g}, plus {offset:g}; write them out as whole numbers first")
+        region, transform, is_upside_down = _place(name, dataset)
+        flags = dataset.mask_flag_enums[band - 1]
+        return cls(
+            name=name,
+            path=path,
+            dataset=None if path is not None else dataset,
+            band=band,
+            region=region,
+            transform=transform,
+            crs=dataset.crs or None,
+            nodata_value=dataset.nodatavals[band - 1],
+            has_mask=enums.MaskFlags.per_dataset in flags,
+            is_upside_down=is_upside_down,
+            dtype=dataset.dtypes[band - 1],
+            block_shape=dataset.block_shapes[band - 1],
+            labels_path=dataset.name,
+        )
+
+    @property
+    def nodata(self) -> int | None:
+        """The value that is null, where the blocks do not tell it."""
+        return whole_nodata(np.dtype(self.dtype), self.nodata_value)
+
+    @functools.cached_property
+    def labels(self) -> Mapping[int, str]:
+        """Category names, or the names of an attribute table."""
+        return read_labels(self.labels_path, self.band)
+
+    def range(self) -> tuple[int, int]:
+        """A guess, from some windows."""
+        least, greatest = 0, 0
+        with self._reading() as dataset:
+            for window in self._sample_windows():
+                block = self._block(dataset, *window)
+                cells = block.cells if block.null is None else np.where(block.null, block.cells.dtype.type(0), block.cells)
+                low, high = range_of(cells, self.nodata)
+                least, greatest = min(least, low), max(greatest, high)
+        return least, greatest
+
+    def blocks(self) -> Iterator[Block]:
+        """Its rows from north to south."""
+        rows, cols = self.region.shape
+        step = max(1, BLOCK_CELLS // cols)
+        step = max(step - step % self.block_shape[0], min(step, self.block_shape[0]))
+        with self._reading() as dataset:
+            for row in range(0, rows, step):
+                yield self._block(dataset, row, 0, min(step, rows - row), cols)
+
+    def window(self, row: int, col: int, rows: int, cols: int) -> Block:
+        """Some of its cells, counted from the north-west corner.
+
+        Raises
+        ------
+        ReadFailed
+            Where a part of the file is broken.
+        BadMap
+            Where a cell is no whole number in range.
+        """
+        with self._reading() as dataset:
+            return self._block(dataset, row, col, rows, cols)
+
+    @contextlib.contextmanager
+    def _reading(self) -> Iterator[Any]:
+        if self.path is None:
+            yield self.dataset
+        else:
+            with _opened(self.name, self.path) as dataset:
+                yield dataset
+
+    def _block(self, dataset: Any, row: int, col: int, rows: int, cols: int) -> Block:
+        rasterio = need("rasterio", "gis", _PURPOSE)
+        top = self.region.rows - row - rows if self.is_upside_down else row
+        window = rasterio.windows.Window(col, top, cols, rows)
+        try:
+            cells = dataset.read(self.band, window=window)
+            null: Mask | None = dataset.read_masks(self.band, window=window) == 0 if self.has_mask else None
+        except (rasterio.errors.RasterioError, OSError) as error:
+            raise ReadFailed(self.name, f"rows {row + 1} to {row + rows} cannot be read: {error}") from None
+        if self.is_upside_down:
+            cells, null = cells[::-1], None if null is None else null[::-1]
+        return checked(self.name, cells, null, self.nodata_value, row, col)
+
+    def _sample_windows(self) -> list[tuple[int, int, int, int]]:
+        """Windows of one block of the file each, spread over the map."""
+        rows, cols = self.region.shape
+        height, width = min(self.block_shape[0], rows), min(self.block_shape[1], cols)
+        down, across = -(-rows // height), -(-cols // width)
+        places = sorted({at * (down * across - 1) // max(_SAMPLES - 1, 1) for at in range(_SAMPLES)})
+        windows = [(place // across * height, place % across * width) for place in places]
+        return [(row, col, min(height, rows - row), min(width, cols - col)) for row, col in windows]
+
+
+def _only_band(name: str, dataset: Any, enums: Any) -> int:
+    bands = [band for band in dataset.indexes if dataset.colorinterp[band - 1] != enums.ColorInterp.alpha]
+    if len(bands) != 1:
+        raise BadMap(name, f"has {len(bands)} bands: give one, as rasterio.band(dataset, 1)")
+    return int(bands[0])
+
+
+def _place(name: str, dataset: Any) -> tuple[Region, Transform, bool]:
+    """The region, its transform from north to south, and whether the file has its rows the other way."""
+    rows, cols = dataset.height, dataset.width
+    a, b, c, d, e, f = transform = tuple(dataset.transform)[:6]
+    if transform == _IDENTITY:
+        if dataset.gcps[0]:
+            raise BadMap(name, "has ground control points and no transform: warp it first")
+        region = in_region(name, Region.of_cells, rows, cols)
+        return region, region.transform, False
+    is_upside_down = e > 0 and not b and not d
+    if is_upside_down:
+        e, f = -e, f + e * rows
+    turned = (a, b, c, d, e, f)
+    return in_region(name, Region.from_transform, turned, rows, cols), turned, is_upside_down

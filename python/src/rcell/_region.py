@@ -1,0 +1,259 @@
+"""The region of a map: its edges, as the program sees them, and its rows and columns."""
+
+from __future__ import annotations
+
+from dataclasses import dataclass
+from fractions import Fraction
+from typing import Sequence
+
+from ._errors import BadMap
+
+__all__ = ["Region", "Transform"]
+
+# a, b, c, d, e, f of x = a * column + b * row + c and y = d * column + e * row + f, as rasterio's Affine has them.
+Transform = tuple[float, float, float, float, float, float]
+
+DECIMALS = 8
+UNITS = 10**DECIMALS
+EDGE_LIMIT = 10**10 * UNITS
+SIDE_LIMIT = 65_535
+CELL_LIMIT = 2_147_483_647
+
+
+def _units(edge: float | Fraction) -> int:
+    """An edge in units of 10^-8, which is all that the program keeps of it."""
+    return int(round(Fraction(edge) * UNITS))
+
+
+def _edge_text(units: int) -> str:
+    whole, part = divmod(abs(units), UNITS)
+    sign = "-" if units < 0 else ""
+    return f"{sign}{whole}.{part:0{DECIMALS}d}".rstrip("0").rstrip(".")
+
+
+@dataclass(frozen=True, eq=False)
+class Region:
+    """Four edges, and a number of rows and columns.
+
+    The program keeps edges to 8 decimals, and so two regions are equal where their edges rounded to 8 decimals are.
+
+    Parameters
+    ----------
+    north, south, east, west : float
+        The outer edges of the outer cells, in the units of the map.
+    rows, cols : int
+        How many cells there are from north to south and from west to east, 1 to 65,535 each.
+
+    Raises
+    ------
+    BadMap
+        Where the program has no such region: an edge of more than ten digits before the point, north not above south or
+        east not above west once they are rounded, too many rows, columns or cells.
+
+    Examples
+    --------
+    >>> import rcell
+    >>> region = rcell.Region(north=300, south=0, east=200, west=0, rows=3, cols=2)
+    >>> region.transform
+    (100.0, 0.0, 0.0, 0.0, -100.0, 300.0)
+    >>> region == rcell.Region(300.000000001, 0, 200, 0, 3, 2)
+    True
+    """
+
+    north: float
+    south: float
+    east: float
+    west: float
+    rows: int
+    cols: int
+
+    def __post_init__(self) -> None:
+        for name in ("north", "south", "east", "west"):
+            edge = float(getattr(self, name))
+            if edge - edge != 0 or abs(_units(edge)) >= EDGE_LIMIT:
+                raise BadMap("region", f"an edge of more than ten digits: {name} is {edge:g}")
+        self._check_sizes()
+        north, south, east, west = self.units
+        if north <= south or east <= west:
+            low, high = ("south", "north") if north <= south else ("west", "east")
+            raise BadMap("region", f"{high} is not above {low} once they are rounded to {DECIMALS} decimals: {self}")
+
+    def _check_sizes(self) -> None:
+        if not (1 <= self.rows <= SIDE_LIMIT and 1 <= self.cols <= SIDE_LIMIT and self.rows * self.cols <= CELL_LIMIT):
+            size = f"{self.rows:,} rows and {self.cols:,} columns"
+            limits = f"1 to {SIDE_LIMIT:,} each, and {CELL_LIMIT:,} cells in all"
+            raise BadMap("region", f"{size}, where the program takes {limits}; for larger maps there is rcell.tiles")
+
+    @classmethod
+    def from_transform(cls, transform: Sequence[float], rows: int, cols: int) -> Region:
+        """The region of a transform that is not rotated, its rows from north to south.
+
+        Parameters
+        ----------
+        transform : sequence of float
+            An Affine of rasterio, or its first six numbers.
+        rows, cols : int
+            The shape of the map.
+
+        Returns
+        -------
+        Region
+
+        Raises
+        ------
+        BadMap
+            Where the transform is rotated, or turned over.
+
+        Examples
+        --------
+        >>> import rcell
+        >>> rcell.Region.from_transform((25, 0, 512300, 0, -25, 284450), 14, 22)
+        Region(north=284450.0, south=284100.0, east=512850.0, west=512300.0, rows=14, cols=22)
+        """
+        a, b, c, d, e, f = (float(number) for number in tuple(transform)[:6])
+        if b or d:
+            raise BadMap("region", f"a rotated transform {(a, b, c, d, e, f)}: warp the map to rows from west to east first")
+        if a <= 0 or e >= 0:
+            raise BadMap("region", f"a transform {(a, b, c, d, e, f)} whose rows are not from north to south, west to east")
+        south, east = Fraction(f) + Fraction(e) * rows, Fraction(c) + Fraction(a) * cols
+        return cls(f, float(south), float(east), c, rows, cols)
+
+    @classmethod
+    def of_cells(cls, rows: int, cols: int) -> Region:
+        """The region of an array alone: cells of side 1, the bottom left corner at 0, 0.
+
+        Examples
+        --------
+        >>> import rcell
+        >>> rcell.Region.of_cells(2, 3)
+        Region(north=2, south=0, east=3, west=0, rows=2, cols=3)
+        """
+        return cls(rows, 0, cols, 0, rows, cols)
+
+    @property
+    def units(self) -> tuple[int, int, int, int]:
+        """North, south, east and west in units of 10^-8, as the program compares them.
+
+        Examples
+        --------
+        >>> import rcell
+        >>> rcell.Region(1, 0, 2, 0, 1, 2).units
+        (100000000, 0, 200000000, 0)
+        """
+        return _units(self.north), _units(self.south), _units(self.east), _units(self.west)
+
+    @property
+    def shape(self) -> tuple[int, int]:
+        """Rows and columns, as numpy has them.
+
+        Examples
+        --------
+        >>> import rcell
+        >>> rcell.Region.of_cells(2, 3).shape
+        (2, 3)
+        """
+        return self.rows, self.cols
+
+    @property
+    def cell(self) -> tuple[float, float]:
+        """The height and the width of a cell, in the units of the map.
+
+        Examples
+        --------
+        >>> import rcell
+        >>> rcell.Region(300, 0, 100, 0, 3, 2).cell
+        (100.0, 50.0)
+        """
+        return (self.north - self.south) / self.rows, (self.east - self.west) / self.cols
+
+    @property
+    def transform(self) -> Transform:
+        """The six numbers of its transform, as `rasterio.Affine` takes them.
+
+        Examples
+        --------
+        >>> import rcell
+        >>> rcell.Region.of_cells(2, 3).transform
+        (1.0, 0.0, 0.0, 0.0, -1.0, 2.0)
+        """
+        height, width = self.cell
+        return width, 0.0, float(self.west), 0.0, -height, float(self.north)
+
+    def header(self) -> str:
+        """The six header lines of a grid of this region.
+
+        Examples
+        --------
+        >>> import rcell
+        >>> print(rcell.Region.of_cells(2, 3).header(), end="")
+        north: 2
+        south: 0
+        east: 3
+        west: 0
+        rows: 2
+        cols: 3
+        """
+        names = ("north", "south", "east", "west")
+        edges = "".join(f"{name}: {_edge_text(units)}\n" for name, units in zip(names, self.units))
+        return f"{edges}rows: {self.rows}\ncols: {self.cols}\n"
+
+    def window(self, row: int, col: int, rows: int, cols: int) -> Region:
+        """The region of some of its cells.
+
+        Parameters
+        ----------
+        row, col : int
+            The first row and column, from 0.
+        rows, cols : int
+            How many.
+
+        Returns
+        -------
+        Region
+
+        Examples
+        --------
+        >>> import rcell
+        >>> rcell.Region.of_cells(10, 10).window(2, 3, 4, 5)
+        Region(north=8.0, south=4.0, east=8.0, west=3.0, rows=4, cols=5)
+        """
+        north, west = Fraction(self.north), Fraction(self.west)
+        height = (north - Fraction(self.south)) / self.rows
+        width = (Fraction(self.east) - west) / self.cols
+        return Region(
+            float(north - height * row),
+            float(north - height * (row + rows)),
+            float(west + width * (col + cols)),
+            float(west + width * col),
+            rows,
+            cols,
+        )
+
+    def differences(self, other: Region) -> list[str]:
+        """In which edges and sizes another region differs from this one, and by how much; empty where they are equal.
+
+        Examples
+        --------
+        >>> import rcell
+        >>> rcell.Region.of_cells(2, 3).differences(rcell.Region(2, 0, 3.5, 0, 2, 3))
+        ['east is 3.5, not 3 (0.5 more)']
+        """
+        told = []
+        for name, mine, its in zip(("north", "south", "east", "west"), self.units, other.units):
+            if mine != its:
+                more = "more" if its > mine else "less"
+                told.append(f"{name} is {_edge_text(its)}, not {_edge_text(mine)} ({_edge_text(abs(its - mine))} {more})")
+        for name, mine, its in (("rows", self.rows, other.rows), ("cols", self.cols, other.cols)):
+            if mine != its:
+                told.append(f"{name} is {its}, not {mine} ({abs(its - mine)} {'more' if its > mine else 'less'})")
+        return told
+
+    def __eq__(self, other: object) -> bool:
+        return isinstance(other, Region) and self.units == other.units and self.shape == other.shape
+
+    def __hash__(self) -> int:
+        return hash((self.units, self.shape))
+
+    def __str__(self) -> str:
+        north, south, east, west = (_edge_text(units) for units in self.units)
+        return f"north {north}, south {south}, east {east}, west {west}, {self.rows} rows, {self.cols} columns"

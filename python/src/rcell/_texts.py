@@ -1,0 +1,154 @@
+"""Grids of the program's own form, which go to it as they are."""
+
+from __future__ import annotations
+
+import io
+import os
+import re
+import stat
+from dataclasses import dataclass, field
+from typing import Any, Iterator, Mapping
+
+from ._errors import BadMap, ReadFailed
+from ._maps import Block, Source, in_region
+from ._region import Region, Transform
+
+__all__ = ["TextMap", "open_path"]
+
+# A header of six short lines, and as many more as anyone may write before it.
+HEADER_BYTES = 1 << 16
+_KEYS = ("north", "south", "east", "west", "rows", "cols", "null", "type", "multiplier")
+_FIRST_LINE = re.compile(rb"\s*(?:%s):" % "|".join(_KEYS).encode())
+_VIRTUAL = re.compile(r"/vsi|[A-Za-z][A-Za-z0-9+.-]+:")
+
+
+@dataclass(frozen=True)
+class TextMap:
+    """A file that is a grid; made by `open_path`.
+
+    Attributes
+    ----------
+    name : str
+    path : str
+    region : Region
+    held : bytes or None
+        What has been read of a pipe, which can be read once; None for a file.
+    """
+
+    name: str
+    path: str
+    region: Region
+    held: bytes | None = None
+    stream: io.FileIO | None = None
+    labels: Mapping[int, str] = field(default_factory=dict)
+    crs: Any = None
+    nodata: int | None = None
+
+    @property
+    def transform(self) -> Transform:
+        """The transform that answers get."""
+        return self.region.transform
+
+    def range(self) -> tuple[int, int]:
+        """Not known: its cells are words already."""
+        return 0, 0
+
+    def blocks(self) -> Iterator[Block]:
+        """None: its text is sent as it is."""
+        return iter(())
+
+    def pieces(self) -> Iterator[bytes]:
+        """The text of a pipe, what has been read of it first."""
+        if self.held is None or self.stream is None:
+            return
+        yield self.held
+        with self.stream:
+            while piece := self.stream.read(1 << 20):
+                yield piece
+
+
+def open_path(name: str, path: str | os.PathLike[str]) -> Source:
+    """A path as a map: a grid of the program's own form, or anything that rasterio opens.
+
+    Raises
+    ------
+    ReadFailed
+        Where it cannot be opened.
+    BadMap
+        Where it can't be a map.
+    Refused
+        As the program refuses, where it is a grid with a bad header.
+    """
+    text = os.fspath(path)
+    if _VIRTUAL.match(text) and not os.path.exists(text):
+        return _raster(name, text)
+    try:
+        stream = io.FileIO(text)
+    except IsADirectoryError:
+        return _raster(name, text)
+    except OSError as error:
+        raise ReadFailed(name, f"cannot open: {text}: {error.strerror}") from None
+    is_file = stat.S_ISREG(os.fstat(stream.fileno()).st_mode)
+    head = _head_of(stream, is_file)
+    if _FIRST_LINE.match(head):
+        if is_file:
+            stream.close()
+        region = _region_of(name, head) or _refused_region(name, text, is_file)
+        return TextMap(name, text, region, None if is_file else head, None if is_file else stream)
+    stream.close()
+    if not is_file:
+        raise BadMap(name, f"{text} is no file, and its text is no grid: a raster is read from a file")
+    return _raster(name, text)
+
+
+def _raster(name: str, path: str) -> Source:
+    from ._rasters import open_raster
+
+    return open_raster(name, path)
+
+
+def _head_of(stream: io.FileIO, is_file: bool) -> bytes:
+    """The first bytes: of a file so many, of a pipe until the header is whole."""
+    head = b""
+    while len(head) < HEADER_BYTES:
+        piece = stream.read(HEADER_BYTES - len(head))
+        head += piece or b""
+        if not piece or is_file or not _FIRST_LINE.match(head) or _fields(head)[1]:
+            break
+    return head
+
+
+def _fields(head: bytes) -> tuple[dict[str, str], bool]:
+    """The header's values by their keys, and whether the first line of cells has been seen."""
+    fields: dict[str, str] = {}
+    for line in head.decode("latin-1").split("\n")[:-1]:
+        key, colon, value = line.strip().partition(":")
+        if not line.strip():
+            continue
+        if not colon or " " in key:
+            return fields, True
+        fields[key] = value.strip()
+    return fields, False
+
+
+def _region_of(name: str, head: bytes) -> Region | None:
+    """The region of a header; None where it is not one, which the program then says in its own words."""
+    fields = _fields(head + b"\n")[0]
+    try:
+        north, south, east, west = (float(fields[key]) for key in ("north", "south", "east", "west"))
+        rows, cols = int(fields["rows"]), int(fields["cols"])
+    except (KeyError, ValueError):
+        return None
+    try:
+        return in_region(name, Region, north, south, east, west, rows, cols)
+    except BadMap:
+        return None
+
+
+def _refused_region(name: str, path: str, is_file: bool) -> Region:
+    """Has the program refuse a grid whose header is bad."""
+    from ._program import execute
+
+    if is_file:
+        execute("", {name: TextMap(name, path, Region.of_cells(1, 1))})
+    raise BadMap(name, f"{path}: a header that is not that of a grid")

@@ -1,0 +1,17 @@
+"""The version of the package, which is that of the program that its wheel brings."""
+
+from __future__ import annotations
+
+from importlib import metadata
+
+__all__ = ["__version__"]
+
+
+def _version() -> str:
+    try:
+        return metadata.version("rcell")
+    except metadata.PackageNotFoundError:
+        return "0+source"
+
+
+__version__ = _version()

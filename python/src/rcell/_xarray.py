@@ -1,0 +1,178 @@
+"""DataArrays of xarray, as maps and as answers."""
+
+from __future__ import annotations
+
+from dataclasses import dataclass
+from typing import Any, Iterator, Mapping
+
+import numpy as np
+
+from ._crs import wkt_of
+from ._errors import BadMap
+from ._libraries import need
+from ._maps import BLOCK_CELLS, ArrayMap, Block, checked, in_region, whole_nodata
+from ._masked import MaskedCells, filled
+from ._region import Region, Transform
+from ._text import NULL, range_of
+
+__all__ = ["data_array_of", "source_of_data_array"]
+
+# By how much of a cell coordinates may be off the grid that they are taken for.
+_TOLERANCE = 1e-4
+
+
+@dataclass(frozen=True)
+class DataArrayMap:
+    """A DataArray of two dimensions as a map: blocks of it are computed one at a time, where Dask holds it."""
+
+    name: str
+    array: Any
+    region: Region
+    transform: Transform
+    crs: Any
+    nodata_value: float | None
+    labels: Mapping[int, str]
+
+    @property
+    def nodata(self) -> int | None:
+        """The value that is null, where the blocks do not tell it."""
+        return whole_nodata(self.array.dtype, self.nodata_value)
+
+    def range(self) -> tuple[int, int]:
+        """A guess, from the first rows."""
+        first = next(self.blocks())
+        cells = first.cells if first.null is None else np.where(first.null, first.cells.dtype.type(0), first.cells)
+        return range_of(cells, self.nodata)
+
+    def blocks(self) -> Iterator[Block]:
+        """Its rows from north to south."""
+        rows, cols = self.region.shape
+        chunks = self.array.chunks
+        step = max(1, BLOCK_CELLS // cols, chunks[0][0] if chunks else 1)
+        for row in range(0, rows, step):
+            cells = np.ascontiguousarray(self.array[row : row + step].values)
+            yield checked(self.name, cells, None, self.nodata_value, row)
+
+
+def source_of_data_array(name: str, array: Any) -> DataArrayMap | ArrayMap:
+    """A DataArray as a map.
+
+    Parameters
+    ----------
+    name : str
+    array : xarray.DataArray
+        Of two dimensions, rows first (others have one element), with coordinates of the centres of cells or none at all.
+        Null is NaN, and the value of `_FillValue`, `missing_value` or `nodata` among its attributes or its encoding. The
+        reference system is that of rioxarray's coordinate `spatial_ref`; labels are CF's `flag_values` and `flag_meanings`.
+
+    Raises
+    ------
+    BadMap
+        Where it can't be a map, or its coordinates are not evenly spaced.
+    """
+    flat = array.squeeze(drop=False)
+    if flat.ndim != 2 and array.ndim >= 2:
+        flat = array.squeeze([dim for dim in array.dims[:-2] if array.sizes[dim] == 1])
+    if flat.ndim != 2:
+        sizes = ", ".join(f"{dim} {array.sizes[dim]}" for dim in array.dims)
+        raise BadMap(name, f"a DataArray of {flat.ndim} dimensions ({sizes}), and a map has two: select one, as .isel(band=0)")
+    rows, cols = flat.shape
+    transform = _transform_of(name, flat)
+    if transform is not None and transform[4] > 0:
+        flat = flat[::-1]
+        a, b, c, d, e, f = transform
+        transform = (a, b, c, d, -e, f + e * rows)
+    if transform is None:
+        region = in_region(name, Region.of_cells, rows, cols)
+        transform = region.transform
+    else:
+        region = in_region(name, Region.from_transform, transform, rows, cols)
+    return DataArrayMap(name, flat, region, transform, _crs_of(array), _nodata_of(array), _flags_of(array))
+
+
+def _transform_of(name: str, array: Any) -> Transform | None:
+    """The transform of the coordinates; None where there are none."""
+    y, x = array.dims
+    if y not in array.coords or x not in array.coords:
+        return None
+    told = _told_transform(array)
+    north, height = _spacing(name, array[y], None if told is None else (told[5], told[4]))
+    west, width = _spacing(name, array[x], None if told is None else (told[2], told[0]))
+    if width < 0:
+        raise BadMap(name, f"its columns go from east to west: sort them, as .sortby({x!r})")
+    return (width, 0.0, west, 0.0, height, north)
+
+
+def _told_transform(array: Any) -> Transform | None:
+    """What rioxarray has kept of the transform, in GDAL's order; it is stale where the array was cut since."""
+    reference = array.coords.get("spatial_ref")
+    text = None if reference is None else reference.attrs.get("GeoTransform")
+    if not text:
+        return None
+    c, a, b, f, d, e = (float(number) for number in str(text).split())
+    return None if b or d else (a, b, c, d, e, f)
+
+
+def _spacing(name: str, coordinate: Any, told: tuple[float, float] | None) -> tuple[float, float]:
+    """The outer edge and the step of the centres along a dimension."""
+    centres = np.asarray(coordinate.values, dtype=np.float64)
+    count = centres.size
+    if told is not None:
+        edge, step = told
+        if np.abs(edge + step * (np.arange(count) + 0.5) - centres).max() <= abs(step) * _TOLERANCE:
+            return edge, step
+    if count == 1:
+        raise BadMap(name, f"one cell along {coordinate.name}: how large it is, is not told; give rcell.Map(array.values, region)")
+    step = (centres[-1] - centres[0]) / (count - 1)
+    off = np.abs(centres[0] + step * np.arange(count) - centres)
+    if step == 0 or off.max() > abs(step) * _TOLERANCE:
+        raise BadMap(name, f"its coordinate {coordinate.name} is not evenly spaced")
+    return float(centres[0] - step / 2), float(step)
+
+
+def _crs_of(array: Any) -> Any:
+    reference = array.coords.get("spatial_ref")
+    attributes = {} if reference is None else reference.attrs
+    return attributes.get("crs_wkt") or attributes.get("spatial_ref") or array.attrs.get("crs") or None
+
+
+def _nodata_of(array: Any) -> float | None:
+    for told in (array.attrs, array.encoding):
+        for key in ("_FillValue", "missing_value", "nodata"):
+            if told.get(key) is not None:
+                return float(np.asarray(told[key]).reshape(-1)[0])
+    return None
+
+
+def _flags_of(array: Any) -> dict[int, str]:
+    """Labels as CF has them: values, and words in their order."""
+    values, meanings = array.attrs.get("flag_values"), array.attrs.get("flag_meanings")
+    if values is None or not meanings:
+        return {}
+    codes = np.asarray(values).reshape(-1)
+    words = str(meanings).split()
+    return {int(code): word for code, word in zip(codes, words)} if len(codes) == len(words) else {}
+
+
+def data_array_of(array: MaskedCells, region: Region, transform: Transform, crs: Any, labels: Mapping[int, str], name: str) -> Any:
+    """A map as a DataArray of int32, with what xarray, rioxarray and CF know of rasters.
+
+    Null is -2147483648, which `_FillValue` says.
+    """
+    xarray = need("xarray", "xarray", "to answer a DataArray")
+    a, _, c, _, e, f = transform
+    attributes: dict[str, Any] = {"_FillValue": np.int32(NULL)}
+    if labels:
+        attributes["flag_values"] = np.array(sorted(labels), np.int32)
+        attributes["flag_meanings"] = " ".join("_".join(labels[category].split()) for category in sorted(labels))
+    reference = {"GeoTransform": " ".join(repr(number) for number in (c, a, 0.0, f, 0.0, e))}
+    wkt = wkt_of(crs)
+    if wkt:
+        reference |= {"crs_wkt": wkt, "spatial_ref": wkt}
+    coordinates = {
+        "y": f + e * (np.arange(region.rows) + 0.5),
+        "x": c + a * (np.arange(region.cols) + 0.5),
+        "spatial_ref": xarray.Variable((), 0, reference),
+    }
+    cells = filled(array, NULL).astype(np.int32, copy=False)
+    return xarray.DataArray(cells, coordinates, ("y", "x"), name, attributes | {"grid_mapping": "spatial_ref"})

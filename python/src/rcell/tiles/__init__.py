@@ -1,0 +1,15 @@
+"""Maps of any size: tiles of them go to a Dask cluster, and the answers are those of the undivided map.
+
+What holds of tiles is proved, in the crate `cell_laws` of this project: tables add up, a halo is enough, areas join along
+borders. Each step of this code names its law.
+"""
+
+from __future__ import annotations
+
+from ._cluster import ClusterFailed
+from ._engine import WorkerLost
+from .joining import TooManyCells
+from .mosaic import Mosaic, NeedlessTiles, TooLittleMemory
+from .mosaic import open_mosaic as open
+
+__all__ = ["ClusterFailed", "Mosaic", "NeedlessTiles", "TooLittleMemory", "TooManyCells", "WorkerLost", "open"]

@@ -1,0 +1,122 @@
+"""`python3 -m rcell tiles`: tables, maps and areas of maps of any size."""
+
+from __future__ import annotations
+
+import argparse
+import sys
+import warnings
+from collections.abc import Sequence
+from pathlib import Path
+from typing import Any
+
+from .._errors import MissingLibrary, OutOfMemory, RcellError, Refused
+from ._cluster import ClusterFailed
+from .mosaic import Mosaic, NeedlessTiles, TooLittleMemory, open_mosaic
+
+__all__ = ["main"]
+
+REFUSED, COMMAND_LINE, MEMORY, FILES = 1, 2, 3, 4
+"""The exit statuses of rcell."""
+
+
+def main(argv: Sequence[str]) -> int:
+    """Run `python3 -m rcell tiles` with the words after `tiles`, and return the exit status.
+
+    The statuses are those of the program: 0 done, 1 refused, 2 the command line, 3 memory, 4 files and workers.
+
+    Examples
+    --------
+    >>> from rcell.tiles._command import main
+    >>> main(["patches", "lc=nowhere.tif", "--workers", "1"])
+    4
+    """
+    try:
+        given = _parser().parse_args(argv)
+    except SystemExit as end:
+        return COMMAND_LINE if end.code else 0
+    with warnings.catch_warnings():
+        warnings.simplefilter("always", NeedlessTiles)
+        warnings.showwarning = lambda message, *_, **__: print(f"rcell: {message}", file=sys.stderr)
+        try:
+            with open_mosaic(dict(given.maps), size=given.size, scheduler=given.scheduler or given.workers) as mosaic:
+                given.act(mosaic, given)
+        except (RcellError, ClusterFailed, OSError) as fault:
+            print(f"rcell: {fault}", file=sys.stderr)
+            return _status(fault)
+    return 0
+
+
+def _status(fault: Exception) -> int:
+    if isinstance(fault, OutOfMemory | TooLittleMemory):
+        return MEMORY
+    if isinstance(fault, Refused):
+        return fault.status
+    return COMMAND_LINE if isinstance(fault, MissingLibrary) else FILES
+
+
+def _parser() -> argparse.ArgumentParser:
+    parser = argparse.ArgumentParser(prog="python3 -m rcell tiles", description="Maps of any size, by tiles.")
+    commands = parser.add_subparsers(required=True, metavar="COMMAND")
+    table = _command(commands, "table", _table, "the table of a script with one r.stats, as CSV")
+    table.add_argument("script", metavar="SCRIPT", help="a file, or - for standard input")
+    table.add_argument("--area", choices=["ha", "km2", "m2"], help="a column of areas")
+    table.add_argument("--percent", action="store_true", help="a column of percentages")
+    grid = _command(commands, "grid", _grid, "a map as a GeoTIFF")
+    grid.add_argument("script", metavar="EXPRESSION", help="NAME = EXPRESSION of r.mapcalc")
+    clump = _command(commands, "clump", _clump, "the connected areas of a map as a GeoTIFF")
+    patches = _command(commands, "patches", _patches, "the connected areas of a map with their sizes, as CSV")
+    for command in (grid, clump):
+        command.add_argument("--out", required=True, metavar="PATH", help="the GeoTIFF to write")
+    for command in (clump, patches):
+        command.add_argument("-d", "--diagonal", action="store_true", help="cells that touch at a corner are connected")
+    for command in (table, grid):
+        command.add_argument("maps", nargs="+", type=_named, metavar="NAME=PATH", help="maps, by their names")
+    for command in (clump, patches):
+        command.add_argument("maps", nargs=1, type=_named, metavar="NAME=PATH", help="a map, by its name")
+    return parser
+
+
+def _command(commands: Any, name: str, act: Any, text: str) -> argparse.ArgumentParser:
+    command: argparse.ArgumentParser = commands.add_parser(name, help=text, description=text)
+    command.set_defaults(act=act)
+    command.add_argument("--size", type=_positive, metavar="CELLS", help="rows and columns of a tile; chosen by memory if not given")
+    where = command.add_mutually_exclusive_group()
+    where.add_argument("--workers", type=_positive, metavar="N", help="processes on this machine; one a processor if not given")
+    where.add_argument("--scheduler", metavar="ADDRESS", help="a Dask scheduler")
+    return command
+
+
+def _positive(word: str) -> int:
+    if not word.isdecimal() or int(word) < 1:
+        raise argparse.ArgumentTypeError(f"a whole number from 1 is needed, not {word}")
+    return int(word)
+
+
+def _named(word: str) -> tuple[str, str]:
+    name, equals, path = word.partition("=")
+    if not equals or not name or not path:
+        raise argparse.ArgumentTypeError(f"NAME=PATH is needed, not {word}")
+    return name, path
+
+
+def _table(mosaic: Mosaic, given: argparse.Namespace) -> None:
+    script = sys.stdin.read() if given.script == "-" else Path(given.script).read_text("utf-8", "surrogateescape")
+    mosaic.table(script, given.area, given.percent).to_csv(sys.stdout, index=False)
+
+
+def _grid(mosaic: Mosaic, given: argparse.Namespace) -> None:
+    mosaic.grid(given.script, given.out)
+
+
+def _clump(mosaic: Mosaic, given: argparse.Namespace) -> None:
+    [name] = mosaic.names
+    print(mosaic.clump(name, given.out, given.diagonal))
+
+
+def _patches(mosaic: Mosaic, given: argparse.Namespace) -> None:
+    [name] = mosaic.names
+    mosaic.patches(name, given.diagonal).to_csv(sys.stdout, index=False)
+
+
+if __name__ == "__main__":
+    sys.exit(main(sys.argv[1:]))

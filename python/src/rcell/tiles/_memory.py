@@ -1,0 +1,120 @@
+"""What a task takes of memory, known before it starts."""
+
+from __future__ import annotations
+
+import math
+from collections.abc import Iterator
+from dataclasses import dataclass
+
+from .._region import CELL_LIMIT, SIDE_LIMIT
+from ._output import BLOCK
+from ._scripts import NO_REACH, Reach
+from ._sheet import Sheet
+from .joining import Rectangle
+
+__all__ = ["areas_demand", "Demand", "grid_demand", "sizes_demand", "table_demand", "places", "size_for"]
+
+WORKER = 165 * 10**6
+"""Bytes of a worker without a tile: Python, Dask, numpy and rasterio, the buffers of GDAL, of pipes and of text."""
+
+CELL = 4.15
+"""Bytes a cell that the program takes for a map without runs; GUIDE.md, "Large maps"."""
+
+RUN = 8.3
+"""Bytes a run of equal cells that it takes for a map of long runs."""
+
+CLUMP = 4
+"""Bytes a run that r.clump takes while it works."""
+
+TILES_EACH = 4
+"""At least so many tiles for each task at a time, so that no worker waits long for the last."""
+
+
+@dataclass(frozen=True)
+class Demand:
+    """What a task needs for each cell of its tile, halo included: first beside the program, then with its answer.
+
+    Attributes
+    ----------
+    read : int
+        Bytes a cell of the files as they are read.
+    maps : int
+        Maps that the program keeps, those that it makes among them.
+    clumps : int
+        How many of these r.clump makes.
+    answer : int
+        Bytes a cell of the answer, as it comes from the program.
+    after : int
+        Bytes a cell when the program has ended.
+    area : int
+        Bytes an area when the program has ended; there are at most as many areas as runs.
+    reach : Reach
+        The halo.
+    """
+
+    read: int
+    maps: int
+    clumps: int = 0
+    answer: int = 0
+    after: int = 0
+    area: int = 0
+    reach: Reach = NO_REACH
+
+    def bytes(self, rows: int, cols: int, runs: float = 1.0) -> int:
+        """Bytes that a worker and the program take together, at their peak, for a tile of so many rows and columns.
+
+        Parameters
+        ----------
+        rows, cols : int
+            Of the tile, without its halo.
+        runs : float
+            Runs of equal cells side by side, as a part of the cells; 1 is the most that there can be.
+        """
+        cells = (rows + self.reach.up + self.reach.down) * (cols + self.reach.left + self.reach.right)
+        program = self.maps * min(CELL, RUN * runs) + self.clumps * CLUMP * runs
+        return WORKER + math.ceil(cells * max(self.read + self.answer + program, self.after + self.area * runs))
+
+
+def table_demand(read: int, maps: int, reach: Reach) -> Demand:
+    """A table: what comes back is small."""
+    return Demand(read, maps, reach=reach)
+
+
+def grid_demand(read: int, maps: int, reach: Reach) -> Demand:
+    """A map of int32, of which the halo is cut off before it is sent."""
+    return Demand(read, maps, answer=4, after=8 if reach == NO_REACH else 12, reach=reach)
+
+
+def areas_demand(read: int) -> Demand:
+    """The numbers of areas in int32, and those of the whole in int64 at most, with a table of them."""
+    return Demand(read, maps=2, clumps=1, answer=4, after=read + 12, area=8)
+
+
+def sizes_demand(read: int) -> Demand:
+    """The numbers of areas in int32, then categories, cells and numbers of the whole, of each area."""
+    return Demand(read, maps=2, clumps=1, answer=4, after=read + 12, area=28)
+
+
+def size_for(demand: Demand, sheet: Sheet, memory: int, tasks: int) -> tuple[int, int]:
+    """Rows and columns of tiles that take at most so many bytes each.
+
+    Squares whose side is a multiple of the blocks that are written; bands of all columns where the file keeps whole rows
+    together, since each tile would have to read them whole.
+    """
+    halo = max(demand.reach.up + demand.reach.down, demand.reach.left + demand.reach.right)
+    side = min(math.isqrt(CELL_LIMIT), SIDE_LIMIT) - halo
+    enough = math.ceil(math.sqrt(sheet.rows * sheet.cols / (tasks * TILES_EACH)) / BLOCK) * BLOCK
+    side = min(side, enough) // BLOCK * BLOCK
+    while side > BLOCK and demand.bytes(side, side) > memory:
+        side -= BLOCK
+    if sheet.block[1] >= sheet.cols > side and sheet.cols + halo <= SIDE_LIMIT:
+        return max(side * side // sheet.cols, 1), sheet.cols
+    return side, side
+
+
+def places(sheet: Sheet, size: tuple[int, int]) -> Iterator[Rectangle]:
+    """The tiles, row by row; each cell is in one (law `grids_cover`)."""
+    rows, cols = size
+    for top in range(0, sheet.rows, rows):
+        for left in range(0, sheet.cols, cols):
+            yield Rectangle(top, left, min(rows, sheet.rows - top), min(cols, sheet.cols - left))

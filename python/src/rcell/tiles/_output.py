@@ -1,0 +1,139 @@
+"""GeoTIFFs written by windows: beside their name, read back, and renamed at the end."""
+
+from __future__ import annotations
+
+import os
+import warnings
+import zlib
+from collections.abc import Iterator, Mapping
+from contextlib import contextmanager, suppress
+from pathlib import Path
+from typing import TYPE_CHECKING, Any
+
+import numpy as np
+import numpy.typing as npt
+
+from .._errors import WriteFailed
+from .._geotiff import TILE, profile_of
+from .._labels import write_labels
+from .._libraries import need
+from .joining import Rectangle
+
+if TYPE_CHECKING:
+    from ._sheet import Sheet
+
+__all__ = ["BLOCK", "TileWriter", "tile_writer"]
+
+BLOCK = TILE
+"""Rows and columns of a block of the files written; tiles of a multiple of it write each block once."""
+
+PURPOSE = "to write a GeoTIFF"
+
+CACHE = 64 * 2**20
+"""Bytes that GDAL may keep of blocks not yet written, whatever the size of the machine."""
+
+
+class TileWriter:
+    """Takes the tiles of a map in any order; holds none of them.
+
+    GDAL reports what it cannot write when a file is closed on its own standard error alone, so that a full disk would leave
+    a broken file without a word. Each tile's checksum is kept therefore, and the file is read back.
+    """
+
+    def __init__(self, dataset: Any, path: Path) -> None:
+        self._dataset = dataset
+        self._path = path
+        self._sums: dict[Rectangle, int] = {}
+
+    def write(self, place: Rectangle, cells: npt.NDArray[Any]) -> None:
+        cells = np.ascontiguousarray(cells, dtype=self._dataset.dtypes[0])
+        self._sums[place] = zlib.crc32(cells.data)
+        with _told(self._path):
+            self._dataset.write(cells, 1, window=_window(place))
+
+    def check(self, path: Path) -> None:
+        """Raises OSError where the file does not have the tiles that were written."""
+        with need("rasterio", "gis", PURPOSE).open(path) as dataset:
+            for place, expected in self._sums.items():
+                if zlib.crc32(np.ascontiguousarray(dataset.read(1, window=_window(place))).data) != expected:
+                    raise OSError(f"the tile at row {place.top + 1}, column {place.left + 1} is not as it was written")
+
+
+def _window(place: Rectangle) -> Any:
+    return need("rasterio.windows", "gis", PURPOSE).Window(place.left, place.top, place.cols, place.rows)
+
+
+@contextmanager
+def tile_writer(path: str | os.PathLike[str], sheet: Sheet, dtype: str, nodata: int,
+                labels: Mapping[int, str] | None = None) -> Iterator[TileWriter]:
+    """A tiled, compressed GeoTIFF of a sheet under `path`, or nothing at all there.
+
+    The file is written beside `path` and takes its name once it has been read back whole. On any exception it is removed.
+
+    Raises
+    ------
+    WriteFailed
+        The disk is full, the folder is missing, or what was read back is not what was written.
+    """
+    rasterio = need("rasterio", "gis", PURPOSE)
+    final = Path(path)
+    beside = final.with_name(f".{final.stem}.{os.getpid()}.part{final.suffix}")
+    profile = profile_of(sheet.rows, sheet.cols, sheet.transform, sheet.crs, dtype, nodata) | {"zlevel": 1}
+    try:
+        with rasterio.Env(GDAL_CACHEMAX=CACHE), _warnings_off():
+            with _told(final):
+                dataset = rasterio.open(beside, "w", **profile)
+            writer = TileWriter(dataset, final)
+            try:
+                yield writer
+            finally:
+                with _told(final):
+                    dataset.close()
+            with _told(final):
+                _sync(beside)
+                writer.check(beside)
+                write_labels(str(beside), labels or {})
+                _rename(beside, final)
+    finally:
+        for name in (beside, _labels_beside(beside)):
+            with suppress(OSError):
+                name.unlink()
+
+
+def _labels_beside(path: Path) -> Path:
+    """Where GDAL keeps the labels of a GeoTIFF."""
+    return path.with_name(path.name + ".aux.xml")
+
+
+def _rename(beside: Path, final: Path) -> None:
+    """The labels first, so that a map never stands beside those of another."""
+    with suppress(FileNotFoundError):
+        _labels_beside(final).unlink()
+    os.replace(beside, final)
+    with suppress(FileNotFoundError):
+        os.replace(_labels_beside(beside), _labels_beside(final))
+
+
+@contextmanager
+def _told(path: Path) -> Iterator[None]:
+    """Faults of rasterio and of the system as `WriteFailed`."""
+    try:
+        yield
+    except (need("rasterio.errors", "gis", PURPOSE).RasterioError, OSError) as fault:
+        raise WriteFailed(f"{path} could not be written: {fault}") from fault
+
+
+@contextmanager
+def _warnings_off() -> Iterator[None]:
+    """Maps without georeference are maps of cells of side 1: no warning."""
+    with warnings.catch_warnings():
+        warnings.simplefilter("ignore", need("rasterio.errors", "gis", PURPOSE).NotGeoreferencedWarning)
+        yield
+
+
+def _sync(path: Path) -> None:
+    handle = os.open(path, os.O_RDONLY)
+    try:
+        os.fsync(handle)
+    finally:
+        os.close(handle)

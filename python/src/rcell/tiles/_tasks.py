@@ -1,0 +1,194 @@
+"""What a worker does with a tile. Each function stands alone: a task that is run again gives the same."""
+
+from __future__ import annotations
+
+from collections.abc import Iterable
+from dataclasses import dataclass
+from typing import Any
+
+import numpy as np
+import numpy.typing as npt
+
+from .._errors import OutOfMemory
+from .._maps import ArrayMap, Source
+from .._program import Output, execute
+from .._region import Region
+from .._text import NULL
+from ._scripts import NO_REACH, Assignment, Reach, Reclass, Stats, TileScript
+from ._sheet import MapFile, Sheet
+from .joining import Counts, Edges, Rectangle, TileNumbers, edges, merge, renumber
+
+__all__ = ["TileRun", "TileSizes", "edges_of", "grid_cells", "merge_all", "numbered_cells", "sizes_in_whole", "table_counts", "tile_sizes"]
+
+Integers = npt.NDArray[Any]
+
+
+def with_halo(place: Rectangle, reach: Reach, sheet: Sheet) -> Rectangle:
+    """A rectangle and what is read around it, as far as the map goes.
+
+    Where the reach would go beyond, the rectangle ends where the map does: the premise of the law `halo_is_enough`.
+    """
+    top, left = max(place.top - reach.up, 0), max(place.left - reach.left, 0)
+    low = min(place.top + place.rows + reach.down, sheet.rows)
+    right = min(place.left + place.cols + reach.right, sheet.cols)
+    return Rectangle(top, left, low - top, right - left)
+
+
+@dataclass(frozen=True)
+class TileRun:
+    """A script and the files that it reads, for each tile of a sheet."""
+
+    sheet: Sheet
+    files: tuple[MapFile, ...]
+    script: TileScript
+    inside: str
+    """A name that no map has: of the map that is 1 in a tile and null in its halo."""
+
+    @property
+    def made(self) -> int:
+        """How many maps the program has of a tile in all, those that it makes and the mask of a halo among them."""
+        has_halo = isinstance(self.script.statements[-1], Stats) and self.script.reach != NO_REACH
+        return len(self.files) + self.script.made + has_halo
+
+    def maps(self, outer: Rectangle) -> dict[str, Source]:
+        found: dict[str, Source] = {file.name: file.read(outer, self.sheet) for file in self.files}
+        if not found:  # a script of row() and the like reads no map, but its region has to come from one
+            found[self.inside] = ArrayMap(self.inside, np.broadcast_to(np.uint8(0), outer[2:]), Region.of_cells(*outer[2:]))
+        return found
+
+
+def run(text: str, maps: dict[str, Source], wanted: tuple[str, ...] = ()) -> list[Output]:
+    try:
+        return execute(text, maps, wanted=wanted)
+    except OutOfMemory as fault:
+        rows, cols = next(iter(maps.values())).region.shape
+        raise OutOfMemory(f"{fault.text} for a tile of {rows} x {cols} cells: give a smaller size", fault.source, 0, 3) from None
+
+
+def table_counts(task: TileRun, place: Rectangle) -> Counts:
+    """The table of a tile without its halo."""
+    stats = task.script.statements[-1]
+    assert isinstance(stats, Stats)
+    outer = with_halo(place, task.script.reach, task.sheet)
+    maps = task.maps(outer)
+    if outer == place:
+        text = task.script.text(place, task.sheet.rows, task.sheet.cols)
+        return as_counts(run(text, maps)[-1].values)
+    # The cells of the halo are other tiles' to count: a map more, and of the table the entries where it is not null.
+    after = None if stats.after is None else (*stats.after, "*")
+    counted = Stats(stats.line, stats.flags, (*stats.inputs, task.inside), after)
+    script = TileScript((*task.script.statements[:-1], counted), task.script.reach, task.script.row, task.script.col)
+    maps[task.inside] = ArrayMap(task.inside, mask_of(place, outer), Region.of_cells(*outer[2:]), nodata_value=0)
+    values = run(script.text(outer, task.sheet.rows, task.sheet.cols), maps)[-1].values
+    kept = values[values[:, -2] == 1]
+    if "N" in stats.flags:
+        kept = kept[(kept[:, :-2] != NULL).any(axis=1)]
+    return as_counts(np.delete(kept, -2, axis=1))
+
+
+def mask_of(place: Rectangle, outer: Rectangle) -> npt.NDArray[np.uint8]:
+    mask = np.zeros(outer[2:], dtype=np.uint8)
+    inner(mask, place, outer)[:] = 1
+    return mask
+
+
+def inner(cells: Integers, place: Rectangle, outer: Rectangle) -> Integers:
+    """The cells of a tile among those of the tile with its halo."""
+    top, left = place.top - outer.top, place.left - outer.left
+    return cells[top:top + place.rows, left:left + place.cols]
+
+
+def as_counts(values: Integers) -> Counts:
+    return Counts(values[:, :-1], values[:, -1])
+
+
+def merge_all(tables: list[Counts]) -> Counts:
+    """A node of the tree of merges (laws `tables_merge`, `merges_merge`)."""
+    return merge(tables)
+
+
+def grid_cells(task: TileRun, place: Rectangle) -> Integers:
+    """The map that a script makes last, over a tile: int32, `NULL` where it is null."""
+    outer = with_halo(place, task.script.reach, task.sheet)
+    last = task.script.statements[-1]
+    assert isinstance(last, Assignment | Reclass)
+    text = task.script.text(outer, task.sheet.rows, task.sheet.cols)
+    # Law `halo_is_enough`, or `reach_is_enough` where the script asks for rows and columns: inside of the halo the values
+    # are those over the whole.
+    cells = run(text, task.maps(outer), wanted=(last.output,))[-1].values
+    return np.ascontiguousarray(inner(cells, place, outer))
+
+
+def clumped(file: MapFile, sheet: Sheet, place: Rectangle, diagonal: bool) -> tuple[Integers, Integers]:
+    """The cells of a tile and the numbers of its areas, 0 where it is null (law `cut_outs_are_tiles`)."""
+    tile = file.read(place, sheet)
+    text = f"r.clump {'-d ' if diagonal else ''}input=cells output=areas"
+    numbers = run(text, {"cells": tile}, wanted=("areas",))[0].values
+    return tile.array, np.maximum(numbers, 0, out=numbers)
+
+
+def edges_of(file: MapFile, sheet: Sheet, place: Rectangle, diagonal: bool) -> Edges:
+    """What a tile gives to the joining."""
+    return edges(place, *clumped(file, sheet, place, diagonal))
+
+
+@dataclass(frozen=True, eq=False)
+class TileSizes:
+    """Areas of a tile by their numbers in the whole.
+
+    Attributes
+    ----------
+    numbers, categories, cells : ndarray, shape (n,)
+        Of the areas that touch no border: each is an area of the whole.
+    touching : Counts
+        Of the others, as a table of (number, category): two of the tile may be one area of the whole.
+    """
+
+    numbers: Integers
+    categories: Integers
+    cells: Integers
+    touching: Counts
+
+
+def tile_sizes(file: MapFile, sheet: Sheet, place: Rectangle, diagonal: bool, tile: TileNumbers) -> TileSizes:
+    """The areas of a tile with their numbers in the whole, their categories and their cells."""
+    categories, sizes = _areas(*clumped(file, sheet, place, diagonal), int(tile.begun[-1]))
+    within = np.ones(len(sizes), dtype=bool)
+    within[0] = False
+    within[tile.touching] = False
+    combinations = np.stack([tile.numbers, categories[tile.touching].astype(np.int64)], axis=1)
+    touching = merge([Counts(combinations, sizes[tile.touching].astype(np.int64))])
+    return TileSizes(renumber(np.flatnonzero(within), tile), categories[within], sizes[within], touching)
+
+
+def _areas(cells: Integers, numbers: Integers, areas: int) -> tuple[Integers, Integers]:
+    """Categories and cells of the areas of a tile, by their numbers in it; at 0 stands what is null."""
+    categories = np.zeros(areas + 1, dtype=np.int32)
+    with np.errstate(invalid="ignore"):  # what is null may have no whole number
+        for some, part in zip(cells, numbers):
+            categories[part] = some
+    return categories, np.bincount(numbers.reshape(-1), minlength=areas + 1).astype(np.int32)
+
+
+def sizes_in_whole(tiles: Iterable[TileSizes], areas: int) -> tuple[Integers, Integers]:
+    """Categories and cells of the areas of the whole, in the order of their numbers.
+
+    The table of a map of numbers and a map of categories is merged from those of its tiles (law `tables_merge`).
+    """
+    categories = np.zeros(areas, dtype=np.int32)
+    cells = np.zeros(areas, dtype=np.int64)
+    touching = []
+    for tile in tiles:
+        categories[tile.numbers - 1] = tile.categories
+        cells[tile.numbers - 1] = tile.cells
+        touching.append(tile.touching)
+    both = merge(touching)
+    categories[both.combinations[:, 0] - 1] = both.combinations[:, 1]
+    cells[both.combinations[:, 0] - 1] = both.cells
+    return categories, cells
+
+
+def numbered_cells(file: MapFile, sheet: Sheet, place: Rectangle, diagonal: bool, tile: TileNumbers, dtype: str) -> Integers:
+    """The cells of a tile with the numbers of the areas of the whole, 0 where it is null."""
+    _, numbers = clumped(file, sheet, place, diagonal)
+    return renumber(numbers, tile, out=numbers if numbers.dtype == dtype else np.empty(numbers.shape, dtype))

@@ -1,0 +1,377 @@
+"""Maps larger than a machine: tiles of them, worked on by Dask, with the answers of the undivided map."""
+
+from __future__ import annotations
+
+import os
+import warnings
+import weakref
+from collections.abc import Iterable, Mapping
+from typing import Any
+
+import numpy as np
+
+from .._errors import RcellError, Refused
+from .._labels import read_labels
+from .._libraries import has
+from .._maps import ArrayMap
+from .._program import execute
+from .._region import SIDE_LIMIT, Region
+from .._script import labels_in
+from .._table import Table
+from .._text import NULL
+from . import _tasks
+from ._cluster import SHARE, free_memory
+from ._engine import Engine
+from ._memory import Demand, areas_demand, grid_demand, places, size_for, sizes_demand, table_demand
+from ._output import tile_writer
+from ._scripts import COMMANDS, NO_REACH, Assignment, Clump, Reclass, Statement, Stats, TileScript, spare_name, statements
+from ._sheet import MapFile, Sheet, open_maps
+from .joining import Counts, Joined, Rectangle, join
+
+__all__ = ["Mosaic", "NeedlessTiles", "TooLittleMemory", "open_mosaic"]
+
+NO_AREA = 0
+"""What stands for null in a map of areas, whose numbers begin at 1."""
+
+
+class NeedlessTiles(UserWarning):
+    """The maps fit into the memory of this machine: one run of the program is as fast as tiles are."""
+
+
+class TooLittleMemory(RcellError, MemoryError):
+    """A tile of the size that was asked for may take more memory than a worker has."""
+
+
+def refused(script: str, statement: Statement | None, text: str) -> Refused:
+    """A refusal of ours, at the line of a statement."""
+    line = statement.line if statement else 0
+    return Refused(text, "script", line, 1, script.split("\n")[line - 1].rstrip("\r") if line else None)
+
+
+def open_mosaic(maps: Mapping[str, Any] | None = None, /, size: None | int | tuple[int, int] = None,
+                scheduler: None | int | str = None, **named: Any) -> Mosaic:
+    """Open maps of one grid, of any size, to be worked on by tiles.
+
+    No cell is read before it is asked for. Tiles are for maps that do not fit into memory; where they do, a warning
+    `NeedlessTiles` says so, since one run of the program is as fast.
+
+    Parameters
+    ----------
+    maps : mapping, optional
+        Maps by name, as in `named`; for names that Python has no keyword for.
+    size : int or tuple of two ints, optional
+        Rows and columns of a tile, in cells. Where it is not given, each task has the largest tiles that the memory of a
+        worker has room for, in multiples of 256.
+    scheduler : int or str, optional
+        The address of a Dask scheduler, whose workers have to see the files under the same paths and have this package and
+        the program; or a number of processes on this machine. Where it is not given, as many as there are processors.
+    **named : str or path
+        What rasterio opens, one band each, by the names that scripts have for them.
+
+    Returns
+    -------
+    Mosaic
+        Use it in a `with` statement, so that the processes end.
+
+    Raises
+    ------
+    ReadFailed
+        A file that cannot be opened.
+    BadMap
+        A file that is no map: several bands, rotated, scaled.
+    OtherRegion
+        Maps of different grids; it says which, and by how much.
+
+    Examples
+    --------
+    >>> import rcell.tiles
+    >>> with rcell.tiles.open(size=256, scheduler=2, lc="landcover.tif") as mosaic:  # doctest: +SKIP
+    ...     print(mosaic.table("r.stats -c input=lc"))
+    """
+    twice = set(maps or {}) & set(named)
+    if twice:
+        raise Refused(f"the map {min(twice)} is given twice", status=2)
+    if size is not None and min(np.atleast_1d(size)) < 1:
+        raise Refused(f"a tile has at least one row and one column, not {size}", status=2)
+    sheet, files = open_maps({**(maps or {}), **named})
+    mosaic = Mosaic(sheet, files, (size, size) if isinstance(size, int) else size, scheduler)
+    if mosaic.is_needless:
+        warnings.warn("the maps fit into the memory of this machine: rcell.table and rcell.grid are as fast, without tiles",
+                      NeedlessTiles, stacklevel=2)
+    return mosaic
+
+
+class Mosaic:
+    """Maps of one grid that are worked on by tiles; made by `rcell.tiles.open`.
+
+    Attributes
+    ----------
+    sheet : Sheet
+        Rows, columns, transform and coordinate reference system of the whole.
+    """
+
+    def __init__(self, sheet: Sheet, files: list[MapFile], size: tuple[int, int] | None, scheduler: None | int | str) -> None:
+        self.sheet = sheet
+        self._files = {file.name: file for file in files}
+        self._size = size
+        self._engine = Engine(scheduler)
+        self._end = weakref.finalize(self, self._engine.close)
+
+    def __enter__(self) -> Mosaic:
+        return self
+
+    def __exit__(self, *_: object) -> None:
+        self.close()
+
+    def close(self) -> None:
+        """End the processes of this machine, or leave the cluster as it was."""
+        self._engine.close()
+
+    def __repr__(self) -> str:
+        size = "chosen by memory" if self._size is None else f"of {self._size[0]} x {self._size[1]} cells"
+        return f"<Mosaic of {', '.join(self._files)}: {self.sheet.rows} x {self.sheet.cols} cells, tiles {size}>"
+
+    @property
+    def shape(self) -> tuple[int, int]:
+        """Rows and columns of the whole."""
+        return self.sheet.rows, self.sheet.cols
+
+    @property
+    def names(self) -> list[str]:
+        """The names of the maps."""
+        return list(self._files)
+
+    @property
+    def is_needless(self) -> bool:
+        """Whether one run of the program has room for all maps, and a map made of them."""
+        if max(self.shape) > SIDE_LIMIT or self.sheet.rows * self.sheet.cols >= 2**31:
+            return False
+        demand = Demand(read=0, maps=len(self._files) + 1)
+        return demand.bytes(*self.shape) < free_memory() * SHARE
+
+    def table(self, script: str, area: str | None = None, percent: bool = False) -> Any:
+        """The table of an r.stats over the whole; see `rcell.table`.
+
+        Each tile's table comes from the program, with the statements before it in the script; the tables are merged in a
+        tree. `r.mapcalc` may be among them, with offsets and with `row()` and its like, but no `r.clump`: areas go on
+        outside of tiles. `patches` counts those.
+
+        Parameters
+        ----------
+        script : str
+            With one r.stats, without `-1`.
+        area : {'ha', 'km2', 'm2'}, optional
+            A column of areas beside the cells.
+        percent : bool
+            A column of percentages.
+
+        Returns
+        -------
+        DataFrame, or a Table where pandas is not installed
+            As `rcell.table` answers.
+
+        Raises
+        ------
+        Refused
+            As the program refuses the script.
+        ReadFailed, WorkerLost, TooLittleMemory
+        """
+        stats, run = self._table_run(script)
+        counts = self._counts(run)
+        labels = self._labels(stats.inputs, script) if "l" in stats.flags else None
+        cells = counts.cells if "c" in stats.flags else None
+        answer = Table("r.stats", stats.line, stats.inputs, counts.combinations, cells, labels, cell=self.sheet.cell, crs=self.sheet.crs)
+        answer = answer if area is None else answer.with_area(area)
+        answer = answer.with_percent() if percent else answer
+        return answer.frame() if has("pandas") else answer
+
+    def _counts(self, run: _tasks.TileRun) -> Counts:
+        demand = table_demand(self._read(run), run.made, run.script.reach)
+        tiles = list(places(self.sheet, self._size_for(demand)))
+        memory = self._memory(demand, tiles[0])
+        with self._engine.tasks("table", len(tiles)) as tasks:
+            shared = tasks.shared(run)
+            leaves = [tasks.ask(_tasks.table_counts, shared, place, memory=memory) for place in tiles]
+            counts: Counts = tasks.merged(leaves, _tasks.merge_all)
+        return counts
+
+    def _labels(self, names: Iterable[str], script: str) -> dict[str, Mapping[int, str]]:
+        """Labels of maps: those of the rules that made them, or those that their files have."""
+        made = labels_in(script)
+        return {name: read_labels(self._files[name].path, self._files[name].band) if name in self._files else made.get(name, {})
+                for name in names}
+
+    def grid(self, script: str, path: str | os.PathLike[str]) -> None:
+        """Write the map of an expression as a GeoTIFF: tiled, compressed, int32, -2147483648 where it is null.
+
+        Each tile is read with a halo of the rows and columns that the expression reaches, taken from its offsets. The file
+        is written by windows, beside its name, read back, and renamed at the end: no process holds the whole.
+
+        `row()`, `col()`, `nrows()` and `ncols()` are those of the whole, whatever shape the tiles have: each tile is told of
+        its place (law `reach_is_enough`).
+
+        Parameters
+        ----------
+        script : str
+            An assignment `NAME = EXPRESSION`, or statements of which the last makes the map: r.mapcalc and r.reclass.
+        path : str or path
+            The GeoTIFF to write.
+
+        Raises
+        ------
+        Refused
+            As the program refuses the script.
+        WriteFailed
+            A full disk, a missing folder; nothing is left under `path`, and what was there before stays.
+        ReadFailed, WorkerLost, TooLittleMemory
+        """
+        run, labels = self._grid_run(script)
+        demand = grid_demand(self._read(run), run.made, run.script.reach)
+        tiles = list(places(self.sheet, self._size_for(demand)))
+        with tile_writer(path, self.sheet, "int32", NULL, labels) as writer, self._engine.tasks("grid", len(tiles)) as tasks:
+            shared = tasks.shared(run)
+            memory = self._memory(demand, tiles[0])
+            for place, cells in tasks.stream(_tasks.grid_cells, ((shared, tile) for tile in tiles), memory):
+                writer.write(tiles[place], cells)
+
+    def clump(self, name: str, path: str | os.PathLike[str], diagonal: bool = False) -> int:
+        """Write the map of the connected areas of a map as a GeoTIFF, 0 where it is null.
+
+        The numbers are those of `r.clump` over the undivided map: from 1, in the order of first cells. The file is of int32,
+        or of int64 where there are more than 2,147,483,647 areas. Each tile is clumped twice, first for the joining and then
+        for its cells: nothing of the size of the map is kept in between.
+
+        Parameters
+        ----------
+        name : str
+            One of the maps.
+        path : str or path
+            The GeoTIFF to write, as `grid` does.
+        diagonal : bool
+            Whether cells that touch at a corner are connected.
+
+        Returns
+        -------
+        int
+            How many areas there are.
+
+        Raises
+        ------
+        Refused, WriteFailed, ReadFailed, WorkerLost, TooLittleMemory
+        """
+        file = self._file(name)
+        demand = areas_demand(file.bytes)
+        tiles = list(places(self.sheet, self._size_for(demand)))
+        memory = self._memory(demand, tiles[0])
+        whole = self._joined(file, tiles, diagonal, memory)
+        dtype = "int32" if whole.areas < 2**31 else "int64"
+        calls = ((file, self.sheet, place, diagonal, tile, dtype) for place, tile in zip(tiles, whole.tiles))
+        with tile_writer(path, self.sheet, dtype, NO_AREA) as writer, self._engine.tasks("clump", len(tiles)) as tasks:
+            for at, cells in tasks.stream(_tasks.numbered_cells, calls, memory):
+                writer.write(tiles[at], cells)
+        return whole.areas
+
+    def patches(self, name: str, diagonal: bool = False) -> Any:
+        """The table of the connected areas of a map; the map of areas is never written.
+
+        Each tile is clumped twice, as by `clump`.
+
+        Parameters
+        ----------
+        name : str
+            One of the maps.
+        diagonal : bool
+            Whether cells that touch at a corner are connected.
+
+        Returns
+        -------
+        DataFrame, or a Table where pandas is not installed
+            `patch` (the number that r.clump gives in the undivided map, ascending from 1), `category`, `cells`. This process
+            holds it whole: 24 bytes for each area.
+
+        Raises
+        ------
+        Refused, ReadFailed, WorkerLost, TooLittleMemory
+        """
+        file = self._file(name)
+        demand = sizes_demand(file.bytes)
+        tiles = list(places(self.sheet, self._size_for(demand)))
+        memory = self._memory(demand, tiles[0])
+        whole = self._joined(file, tiles, diagonal, memory)
+        calls = ((file, self.sheet, place, diagonal, tile) for place, tile in zip(tiles, whole.tiles))
+        with self._engine.tasks("patches", len(tiles)) as tasks:
+            sizes = (tile for _, tile in tasks.stream(_tasks.tile_sizes, calls, memory))
+            categories, cells = _tasks.sizes_in_whole(sizes, whole.areas)
+        numbers = np.column_stack([np.arange(1, whole.areas + 1), categories])
+        answer = Table("r.clump", 0, ("patch", "category"), numbers, cells, cell=self.sheet.cell, crs=self.sheet.crs)
+        return answer.frame() if has("pandas") else answer
+
+    def _joined(self, file: MapFile, tiles: list[Rectangle], diagonal: bool, memory: int) -> Joined:
+        """The areas of tiles joined to those of the whole (law `numbers_join`)."""
+        with self._engine.tasks("areas", len(tiles)) as tasks:
+            found = [tasks.ask(_tasks.edges_of, file, self.sheet, place, diagonal, memory=memory) for place in tiles]
+            return join(tasks.take_each(found), diagonal)
+
+    def _file(self, name: str) -> MapFile:
+        if name not in self._files:
+            raise Refused(f"no map {name}: there are {', '.join(self._files)}", status=2)
+        return self._files[name]
+
+    # Scripts
+
+    def _judged(self, script: str) -> list[Statement]:
+        """The statements of a script, once the program has taken it over a map of one null cell."""
+        null = np.ones((1, 1), dtype=bool)
+        maps = {name: ArrayMap(name, np.zeros((1, 1), np.uint8), Region.of_cells(1, 1), null) for name in self._files}
+        execute(script, maps)
+        return statements(script)
+
+    def _table_run(self, script: str) -> tuple[Stats, _tasks.TileRun]:
+        found = self._judged(script)
+        tables = [statement for statement in found if isinstance(statement, Stats)]
+        if len(tables) != 1:
+            raise Refused(f"{len(tables)} lines of r.stats, where one is needed", "script")
+        stats = tables[0]
+        if "1" in stats.flags:
+            raise refused(script, stats, "-1 lists cells, of which there is no table to merge")
+        used = found[:found.index(stats)]
+        run = self._run(script, [*used, Stats(stats.line, stats.flags - {"l"} | {"c"}, stats.inputs, stats.after)])
+        if run.script.reach != NO_REACH and len(stats.inputs) > 15:
+            raise refused(script, stats, "16 maps, where an expression with offsets leaves room for 15 when it is done by tiles")
+        return stats, run
+
+    def _grid_run(self, script: str) -> tuple[_tasks.TileRun, Mapping[int, str]]:
+        lines = (line.split() for line in script.splitlines() if line.strip() and not line.lstrip().startswith("#"))
+        text = script if next(lines, [""])[0] in COMMANDS else f"r.mapcalc {script.strip()}"
+        found = self._judged(text)
+        if not found or not isinstance(found[-1], Assignment | Reclass):
+            raise refused(text, found[-1] if found else None, "the last line does not make a map by r.mapcalc or r.reclass")
+        return self._run(text, found), labels_in(text).get(found[-1].output, {})
+
+    def _run(self, script: str, found: list[Statement]) -> _tasks.TileRun:
+        run = TileScript.of(found, self._files)
+        for statement in run.statements:
+            if isinstance(statement, Clump):
+                raise refused(script, statement, "areas go on outside of a tile: Mosaic.clump writes them, Mosaic.patches counts them")
+        files = tuple(file for name, file in self._files.items() if name in run.maps)
+        taken = {*self._files, run.row, run.col, *(statement.output for statement in found if hasattr(statement, "output"))}
+        return _tasks.TileRun(self.sheet, files, run, spare_name("inside", taken))
+
+    # Memory
+
+    def _read(self, run: _tasks.TileRun) -> int:
+        return sum(file.bytes for file in run.files)
+
+    def _size_for(self, demand: Demand) -> tuple[int, int]:
+        room = self._engine.room()
+        if self._size is None:
+            return size_for(demand, self.sheet, room.memory, room.tasks)
+        rows, cols = min(self._size[0], self.sheet.rows), min(self._size[1], self.sheet.cols)
+        needed_bytes = demand.bytes(rows, cols)
+        if needed_bytes > room.most:
+            raise TooLittleMemory(f"a tile of {rows} x {cols} cells may take {needed_bytes:,} bytes, and a worker has {room.most:,}: "
+                                  "give a smaller size, or none")
+        return rows, cols
+
+    def _memory(self, demand: Demand, place: Rectangle) -> int:
+        return demand.bytes(place.rows, place.cols)

@@ -1,0 +1,455 @@
+"""Runs over arrays and grids, held against numpy and against the program by files; needs numpy alone."""
+
+from __future__ import annotations
+
+import collections
+import os
+import subprocess
+import sys
+import tempfile
+import threading
+import unittest
+from typing import Any
+
+import numpy as np
+
+import rcell
+from rcell._grid import Grid
+from rcell._program import execute
+from rcell._script import labels_in, plan_of, statements_of
+
+
+def by_files(script: str, **grids: bytes) -> tuple[int, bytes, str]:
+    """Status, output and message of the program itself, on files."""
+    with tempfile.TemporaryDirectory() as folder:
+        paths = []
+        for name, text in grids.items():
+            paths.append(f"{name}={folder}/{name}")
+            with open(f"{folder}/{name}", "wb") as file:
+                file.write(text)
+        with open(f"{folder}/script", "w", encoding="utf-8", errors="surrogateescape", newline="") as file:
+            file.write(script)
+        ran = subprocess.run([rcell.program(), f"{folder}/script", *paths], capture_output=True)
+    return ran.returncode, ran.stdout, ran.stderr.decode()
+
+
+def random_map(random: np.random.Generator, rows: int, cols: int, categories: int, null: float) -> Any:
+    cells = random.integers(1, categories + 1, (rows, cols)).astype(random.choice(["uint8", "int16", "int32", "int64", "float64"]))
+    return np.ma.MaskedArray(cells, mask=random.random((rows, cols)) < null)
+
+
+def text_of(array: Any) -> bytes:
+    return Grid("x", array.astype(np.int32), region := rcell.Region.of_cells(*array.shape), region.transform).text()
+
+
+LAND = np.array([[1, 1, 2, 0], [1, 2, 2, 2], [3, 3, 1, 1]], np.uint8)
+
+
+class Runs(unittest.TestCase):
+    def test_tables_are_those_of_numpy(self) -> None:
+        random = np.random.default_rng(3)
+        for _ in range(25):
+            rows, cols = random.integers(1, 12, 2).tolist()
+            a, b = (random_map(random, rows, cols, int(random.choice([2, 9, 12, 120])), float(random.choice([0, 0.2, 1]))) for _ in "ab")
+            counted: collections.Counter[Any] = collections.Counter(zip(a.reshape(-1).tolist(), b.reshape(-1).tolist()))
+            answer = rcell.run("r.stats -c input=a,b", a=a, b=b).tables[0]
+            self.assertEqual({(x, y): n for x, y, n in answer.rows}, dict(counted))
+
+    def test_the_numbers_are_those_of_the_program_by_files(self) -> None:
+        random = np.random.default_rng(4)
+        script = (
+            "r.mapcalc s = nmode(a[-1,0], a[0,-1], a, a[0,1], a[1,0]) + b * 1000000\nr.clump -d input=a output=k\n"
+            "r.stats -c input=s,k\nr.stats -cn input=a,b after=2,*\nr.out.ascii input=s null_value=x\nr.stats -1 input=k,a\nr.stats input=k\n"
+        )
+        for _ in range(10):
+            a, b = (random_map(random, 7, 9, 4, 0.2) for _ in "ab")
+            status, output, message = by_files(script, a=text_of(a), b=text_of(b))
+            self.assertEqual((status, message), (0, ""))
+            found = []
+            for answer in rcell.run(script, a=a, b=b):
+                if isinstance(answer, rcell.Grid):
+                    lines = answer.array.tolist()
+                    found.append(answer.region.header() + "null: x\n" + "".join(" ".join("x" if c is None else str(c) for c in row) + "\n" for row in lines))
+                else:
+                    found.append("".join(" ".join("*" if v is None else str(v) for v in row) + "\n" for row in answer.rows))
+            self.assertEqual("".join(found), output.decode())
+
+    def test_a_table_without_lines_between_others(self) -> None:
+        result = rcell.run("r.stats -cn input=lc after=3\nr.stats -c input=lc\nr.stats -cn input=lc after=3", lc=rcell.Map(LAND, nodata=0))
+        self.assertEqual([table.rows for table in result.tables], [[], [(1, 5), (2, 4), (3, 2), (None, 1)], []])
+
+    def test_a_script_that_writes_nothing(self) -> None:
+        result = rcell.run("", lc=LAND)
+        self.assertEqual((len(result), result.tables, result.grids, repr(result)), (0, [], {}, "<Result: no output>"))
+
+    def test_an_output_of_each_kind(self) -> None:
+        result = rcell.run("r.out.ascii input=lc null_value=-1\nr.stats -1 input=lc\nr.stats -1n input=lc\nr.stats input=lc", lc=rcell.Map(LAND, nodata=0))
+        self.assertEqual([type(output).__name__ for output in result], ["Grid", "Table", "Table", "Table"])
+        self.assertEqual([len(table) for table in result.tables], [12, 11, 4])
+        self.assertEqual(result[0:2], list(result)[:2])
+        self.assertEqual(repr(result), "<Result: r.out.ascii of lc, r.stats of lc, r.stats of lc, r.stats of lc>")
+
+    def test_grids_by_name(self) -> None:
+        script = "r.stats -c input=lc\nr.mapcalc twice = lc * 2\nr.stats -c input=twice"
+        self.assertEqual(rcell.grid(script, "twice", lc=LAND).array.tolist(), (LAND.astype(int) * 2).tolist())
+        self.assertEqual(rcell.grid("", "lc", lc=LAND).array.tolist(), LAND.tolist())
+        with self.assertRaises(rcell.Refused) as caught:
+            rcell.grid(script, "thrice", lc=LAND)
+        self.assertEqual(str(caught.exception), "arguments: no map thrice: there are lc, twice")
+
+    def test_names_that_are_no_keywords(self) -> None:
+        self.assertEqual(rcell.run("r.stats -c input=area,script", {"area": LAND}, script=LAND).tables[0].rows[0], (0, 0, 1))
+        with self.assertRaises(rcell.Refused):
+            rcell.run("", {"lc": LAND}, lc=LAND)
+        with self.assertRaises(rcell.Refused):
+            rcell.run("")
+
+    def test_grids_go_in_again(self) -> None:
+        areas = rcell.grid("r.clump input=lc output=areas", "areas", lc=rcell.Map(LAND, (25, 0, 500, 0, -25, 1000), nodata=0))
+        again = rcell.grid("", "areas", areas=areas)
+        self.assertEqual((again.array.tolist(), again.transform), (areas.array.tolist(), (25, 0, 500, 0, -25, 1000)))
+
+    def test_large_maps_come_in_pieces(self) -> None:
+        cells = np.arange(1_300 * 1_700, dtype=np.int32).reshape(1_300, 1_700) * 700 - 900_000_000
+        result = rcell.run("r.stats -c input=lc after=600000000\nr.out.ascii input=lc\nr.stats -c input=lc after=640000000\nr.out.ascii input=lc", lc=cells)
+        self.assertTrue((result[1].array == cells).all() and (result[3].array == cells).all())  # type: ignore[union-attr]
+        self.assertEqual([len(table) for table in result.tables], [int((cells > 6e8).sum()), int((cells > 6.4e8).sum())])
+
+    def test_threads_at_once(self) -> None:
+        found: list[Any] = []
+        threads = [threading.Thread(target=lambda: found.append(rcell.run("r.stats -c input=lc", lc=LAND)[0].rows)) for _ in range(8)]  # type: ignore[union-attr]
+        for thread in threads:
+            thread.start()
+        for thread in threads:
+            thread.join()
+        self.assertEqual(found, [[(0, 1), (1, 5), (2, 4), (3, 2)]] * 8)
+
+
+class Areas(unittest.TestCase):
+    def test_first_cells_and_sizes(self) -> None:
+        for diagonal in (False, True):
+            found = rcell.areas(rcell.Map(LAND, nodata=0, labels={1: "wood"}), diagonal=diagonal)
+            clump = rcell.grid(f"r.clump {'-d' if diagonal else ''} input=lc output=k", "k", lc=rcell.Map(LAND, nodata=0))
+            self.assertEqual(found.array.tolist(), clump.array.tolist())
+            numbers = clump.array.filled(0)
+            rows = [(k, int(LAND[numbers == k][0]), {1: "wood"}.get(int(LAND[numbers == k][0])), int((numbers == k).sum())) for k in range(1, numbers.max() + 1)]
+            self.assertEqual([row[:4] for row in found.table.rows], rows)
+            self.assertEqual(found.table.columns, ("area", "category", "label", "cells", "ha"))
+
+    def test_random_maps(self) -> None:
+        random = np.random.default_rng(5)
+        for _ in range(10):
+            rows, cols = random.integers(1, 15, 2).tolist()
+            a = random_map(random, rows, cols, 3, 0.3)
+            least = int(random.integers(1, 5))
+            whole, kept = rcell.areas(a), rcell.areas(a, least=least, classes=None)
+            large = {row[0] for row in whole.table.rows if row[2] >= least}  # type: ignore[operator]
+            self.assertEqual({row[0] for row in kept.table.rows}, large)
+            self.assertEqual(set(kept.categories()), large)
+            for number, category, cells, _ in whole.table.rows:
+                inside = whole.array.filled(0) == number
+                self.assertEqual((int(inside.sum()), set(a[inside].tolist())), (cells, {category}))
+
+    def test_classes(self) -> None:
+        found = rcell.areas(rcell.Map(LAND, nodata=0), classes=[2, 3, 99])
+        self.assertEqual([row[1:3] for row in found.table.rows], [(2, 4), (3, 2)])
+        self.assertEqual(len(rcell.areas(LAND, classes=[]).table), 0)
+
+    def test_nulls_alone(self) -> None:
+        found = rcell.areas(rcell.Map(np.zeros((2, 2), int), nodata=0))
+        self.assertEqual((found.array.tolist(), found.table.rows), ([[None, None], [None, None]], []))
+
+
+class Refusals(unittest.TestCase):
+    def test_each_has_the_words_of_the_program_and_the_line_of_the_script(self) -> None:
+        text = text_of(np.ma.MaskedArray(LAND))
+        for script in (
+            "r.stats -q input=lc", "r.stats -c input=nope", "\n# x\nr.mapcalc x = lc +\nr.stats -c input=lc", "r.stats -c input=lc\nr.reclass input=lc output=x\n1 = 1",
+            "r.stats -c input=lc\nr.stats -c input=lc\nr.mapcalc x = lc ^ 2", "r.reclass input=lc output=x\n1 = 2\nr.stats input=x", "r.out.ascii input=lc null_value=a:b",
+            "r.stats -c input=lc separator=xx", "r.stats input=lc,", "r.clump input=lc output=lc", "x", "r.stats -c input=lc after=1,2", "r.stats -1c input=lc",
+            "r.stats -c input=lc input=lc", "r.stats - input=lc", "r.mapcalc x = lc + é", "r.stats -c input=lc\r\nr.stat\r", "r.stats -c input=lc # c", "r.mapcalc lc = 1",
+        ):
+            with self.subTest(script=script):
+                status, _, message = by_files(script, lc=text)
+                with self.assertRaises(rcell.Refused) as caught:
+                    rcell.run(script, lc=LAND)
+                refusal = caught.exception
+                self.assertEqual(f"rcell: {refusal.source}:{refusal.line}: {refusal.text}\n", message)
+                self.assertEqual(refusal.status, status)
+                if refusal.line:
+                    self.assertEqual(refusal.content, script.split("\n")[refusal.line - 1].rstrip("\r"))
+
+    def test_the_mark_stands_under_the_column(self) -> None:
+        with self.assertRaises(rcell.Refused) as caught:
+            rcell.run("r.mapcalc\tx = lc + 1.5", lc=LAND)
+        self.assertEqual(str(caught.exception).splitlines()[1:], ["  r.mapcalc\tx = lc + 1.5", "           \t         ^"])
+
+    def test_maps(self) -> None:
+        for given, told in (
+            (np.zeros((2, 2, 2), int), "an array of 3 dimensions (2 x 2 x 2), and a map has two; of a raster's bands give one, as read(1)"),
+            (np.zeros((0, 2), int), "an array without cells (0 x 2)"),
+            (np.array([[1, 2.5]]), "not a map of whole numbers: the cell at row 1, column 2 is 2.5"),
+            (np.array([[1], [np.inf]]), "not a map of whole numbers: the cell at row 2, column 1 is inf, beyond 2147483647 either way"),
+            (np.array([[3 * 10**9]]), "not a map of whole numbers: the cell at row 1, column 1 is 3000000000, beyond 2147483647 either way"),
+            (np.array([[2**64 - 1]], np.uint64), "not a map of whole numbers: the cell at row 1, column 1 is 18446744073709551615, beyond 2147483647 either way"),
+            (np.array([[-(2**31)]], np.int32), "not a map of whole numbers: the cell at row 1, column 1 is -2147483648, beyond 2147483647 either way"),
+            (np.array([["a"]]), "not a map of whole numbers: its cells are of the type <U1"),
+            (np.array([[1j]]), "not a map of whole numbers: its cells are of the type complex128"),
+            (3, "neither a path nor an array nor a raster, but a int"),
+            ((LAND, rcell.Region.of_cells(4, 4)), "an array of 3 x 4 cells, and a region of 4 x 4"),
+            ((LAND, (1, 0.5, 0, 0, -1, 0)), "a rotated transform (1.0, 0.5, 0.0, 0.0, -1.0, 0.0): warp the map to rows from west to east first"),
+        ):
+            with self.subTest(told=told), self.assertRaises(rcell.BadMap) as caught:
+                rcell.run("r.stats -c input=lc", lc=given)
+            self.assertEqual(str(caught.exception), "lc: " + told)
+
+    def test_other_regions(self) -> None:
+        with self.assertRaises(rcell.OtherRegion) as caught:
+            rcell.run("", a=(LAND, (25, 0, 500, 0, -25, 1000)), b=(LAND, (25, 0, 500.5, 0, -25, 1000)))
+        self.assertEqual(str(caught.exception).splitlines(), [
+            "b: not of the region of `a`, and nothing is resampled: east is 600.5, not 600 (0.5 more); west is 500.5, not 500 (0.5 more)",
+            "  a: north 1000, south 925, east 600, west 500, 3 rows, 4 columns",
+            "  b: north 1000, south 925, east 600.5, west 500.5, 3 rows, 4 columns",
+        ])
+        taken = rcell.run("r.stats -c input=a,b", a=(LAND, (1, 0, 1 / 3, 0, -1, 3)), b=(LAND, (1, 0, 0.33333333, 0, -1, 3)))
+        self.assertEqual(len(taken), 1)
+
+    def test_what_is_taken(self) -> None:
+        for given in (LAND > 1, LAND.astype(float), LAND.astype(np.uint64), LAND[::-1, ::2], np.asfortranarray(LAND), LAND.tolist()):
+            rcell.run("r.stats -c input=lc", lc=given)
+        self.assertEqual(rcell.run("r.stats -c input=lc", lc=np.array([[1, np.nan]]))[0].rows, [(1, 1), (None, 1)])  # type: ignore[union-attr]
+        self.assertEqual(rcell.run("r.stats -c input=lc", lc=rcell.Map([[1, -(2**31)]], nodata=-(2**31)))[0].rows, [(1, 1), (None, 1)])  # type: ignore[union-attr]
+        with self.assertWarns(UserWarning):
+            rcell.run("", lc=np.array([[2**24 + 2]], np.float32))
+
+    def test_rows_from_south_to_north_are_turned(self) -> None:
+        self.assertEqual(rcell.grid("", "lc", lc=(LAND, (1, 0, 0, 0, 1, 0))).array.tolist(), LAND[::-1].tolist())
+
+    def test_tables_and_areas(self) -> None:
+        lc = rcell.Map(LAND, crs='GEOGCRS["WGS 84"]')
+        for words, told in (
+            (("r.stats -c input=lc", {"area": "ha"}), "area= needs a map in metres or feet: in degrees"),
+            (("r.stats -c input=lc", {"area": "acre"}), "area= is one of m2, ha, km2, and not 'acre'"),
+            (("r.stats input=lc", {"percent": True}), "percent= needs a table with cells: r.stats -c"),
+            (("r.stats -c input=lc", {"pivot": True}), "pivot= needs a table of two maps, and this one has 1"),
+            (("r.out.ascii input=lc", {}), "one table is asked for, and the script has r.out.ascii in line 1: rcell.run answers all outputs"),
+            (("# nothing", {}), "one table is asked for, and the script has no r.stats: rcell.run answers all outputs"),
+        ):
+            with self.subTest(told=told), self.assertRaises(rcell.Refused) as caught:
+                rcell.table(words[0], lc=lc, **words[1])  # type: ignore[arg-type]
+            self.assertIn(told, str(caught.exception))
+
+
+class Scripts(unittest.TestCase):
+    def test_labels_are_those_of_the_program(self) -> None:
+        for rules in (
+            "1 2 = 1 built up\n3 = NULL gone\n* = 9 rest", "1 = 1 a\n2 = 1 b\n3 = 1", "* = * kept\n1 = 5 x # y", "  1 = 1  two  blanks \r\n# c\n\n2 = +2 plus\n3 thru 1 = -3 minus", "1 = 1 a = b",
+        ):
+            script = f"r.reclass input=lc output=k\n{rules}\nend\nr.stats -ln input=k separator=tab"
+            status, output, message = by_files(script, lc=text_of(np.ma.MaskedArray(LAND)))
+            self.assertEqual((status, message), (0, ""))
+            told = {int(line.split("\t")[0]): line.split("\t")[1] for line in output.decode().splitlines()}
+            labels = labels_in(script).get("k", {})
+            self.assertEqual({category: label for category, label in told.items() if label}, {c: labels[c] for c in told if c in labels}, rules)
+
+    def test_no_line_of_an_output_is_a_mark(self) -> None:
+        script = "\n".join(f"r.stats -c input=lc,lc null_value={text}" for text in ("end", "e", "en", "nd")) + "\nr.stats -l input=lc,lc separator=e null_value=d"
+        plan = plan_of(script, ["lc"])
+        self.assertEqual([mark for mark in plan.marks], [b"end"] * 4 + [None])
+        sent = [line for line in plan.text.decode().split("\n") if line.startswith("r.stats") and "nothing" not in line]
+        self.assertEqual(sent, ["r.stats -c input=lc,lc"] * 4 + ["r.stats input=lc,lc"])
+        self.assertEqual([table.rows[0] for table in rcell.run(script, lc=rcell.Map(LAND, labels={0: "end"})).tables], [(0, 0, 1)] * 4 + [(0, "end", 0, "end")])
+
+    def test_the_mark_s_map_has_a_name_of_its_own(self) -> None:
+        script = "r.mapcalc nothing_0 = lc\nr.stats -c input=nothing_0\nr.stats -c input=lc"
+        self.assertEqual(len(rcell.run(script, lc=LAND, nothing_1=LAND)), 2)
+
+    def test_a_script_that_the_marks_make_too_long(self) -> None:
+        script = "r.stats -c input=lc\n" * 3 + "#" * 60_000 + "\n"
+        script += ("#" * 65_000 + "\n") * 15
+        script += "#" * (1_048_576 - len(script.encode()) - 1)
+        with self.assertRaises(rcell.Refused) as caught:
+            rcell.run(script, lc=LAND)
+        self.assertIn("with the marks that part its outputs", str(caught.exception))
+
+    def test_statements(self) -> None:
+        known = {script: statements_of(script)[0].is_known for script in (
+            "r.stats -cn input=a,b after=1,*", "r.stats -c in=a", "r.stats input=a b", "r.stats -z input=a", "r.mapcalc x = 1", "r.mapcalc = 1", "r.clump input=a,b output=c",
+            "r.out.ascii input=a null_value=:", "r.stats input=a null_value=" + "x" * 65, "g.region", "r.stats input=a" + " " * 65_535,
+        )}
+        self.assertEqual(list(known.values()), [True, False, False, False, True, False, False, False, False, False, False])
+
+
+class Programs(unittest.TestCase):
+    def setUp(self) -> None:
+        self.before = set(os.listdir("/proc/self/fd"))
+
+    def tearDown(self) -> None:
+        self.assertEqual(set(os.listdir("/proc/self/fd")), self.before, "a pipe was left open")
+        with self.assertRaises(ChildProcessError):
+            os.waitpid(-1, os.WNOHANG)
+
+    def program(self, body: str) -> Any:
+        """A program of a shell that stands in for rcell."""
+        folder = tempfile.TemporaryDirectory()
+        self.addCleanup(folder.cleanup)
+        path = f"{folder.name}/rcell"
+        with open(path, "w") as file:
+            file.write(f"#!/bin/sh\n{body}\n")
+        os.chmod(path, 0o755)
+        return path
+
+    def run_with(self, path: str, script: str = "r.stats -c input=lc", given: Any = LAND) -> Any:
+        from rcell import _program
+
+        state = os.stat(path)
+        _program._known[path] = (state.st_ino, state.st_size, state.st_mtime_ns)
+        return execute(script, {"lc": rcell.Map(given).source("lc")}, program=path)
+
+    def test_missing(self) -> None:
+        with self.assertRaises(rcell.MissingProgram):
+            rcell.program("/nowhere/rcell")
+        with tempfile.NamedTemporaryFile() as file, self.assertRaises(rcell.MissingProgram):
+            rcell.program(file.name)
+        path = self.program("")
+        with open(path, "w") as file_of_program:
+            file_of_program.write("no program")
+        with self.assertRaises(rcell.MissingProgram):
+            rcell.program(path)
+
+    def test_nowhere(self) -> None:
+        code = "import os, rcell._program as p\np.sysconfig.get_path = lambda *_: '/nowhere'\np.sys.executable = '/nowhere/python'\ntry: p.find_program()\nexcept p.MissingProgram as e: print(e)"
+        environment = {"PATH": "/nowhere", "PYTHONPATH": os.pathsep.join(sys.path)}
+        ran = subprocess.run([sys.executable, "-c", code], env=environment, capture_output=True, text=True)
+        self.assertEqual(ran.stdout, "the program rcell was not found: neither in the environment variable RCELL, nor beside this Python, nor on the path\n", ran.stderr)
+
+    def test_wrong(self) -> None:
+        for body in ("exit 0", "echo 7 1 1", "exit 3"):
+            with self.assertRaises(rcell.WrongProgram):
+                rcell.program(self.program(body))
+
+    def test_killed(self) -> None:
+        for signal, told in ((9, "SIGKILL): too little memory"), (15, "SIGTERM): someone ended it")):
+            with self.assertRaises(rcell.Killed) as caught:
+                self.run_with(self.program(f"kill -{signal} $$"))
+            self.assertIn(told, str(caught.exception))
+
+    def test_killed_in_the_middle(self) -> None:
+        with self.assertRaises(rcell.Killed):
+            self.run_with(self.program('head -c 100000 "${2#lc=}" > /dev/null; kill -9 $$'), given=np.ones((2_000, 2_000), np.uint8))
+
+    def test_out_of_memory(self) -> None:
+        with self.assertRaises(rcell.OutOfMemory) as caught:
+            self.run_with(self.program("echo 'rcell: script:1: no memory' >&2; exit 3"))
+        self.assertEqual((caught.exception.status, caught.exception.line, caught.exception.content), (3, 1, "r.stats -c input=lc"))
+
+    def test_output_that_is_not_understood(self) -> None:
+        for body in ("cat $1 > /dev/null; echo 1 2 3", "echo x; exit 7", "echo", "exit 0"):
+            with self.subTest(body=body), self.assertRaises(rcell.WrongProgram):
+                self.run_with(self.program(body), "r.stats -c input=lc\nr.out.ascii input=lc")
+
+    def test_an_array_that_fails_on_the_way(self) -> None:
+        cells = np.ones((3_000, 2_000))
+        cells[2_500, 7] = 0.5
+        with self.assertRaises(rcell.BadMap) as caught:
+            rcell.run("r.stats -c input=lc", lc=cells)
+        self.assertEqual((caught.exception.row, caught.exception.col), (2_501, 8))
+
+    def test_refused_before_it_is_read(self) -> None:
+        with self.assertRaises(rcell.Refused) as caught:
+            rcell.run("", {"no-name": np.ones((3_000, 2_000), np.uint8)})
+        self.assertEqual((caught.exception.text, caught.exception.status), ("bad grid argument", 2))
+
+
+class Texts(unittest.TestCase):
+    def file(self, text: bytes) -> str:
+        folder = tempfile.TemporaryDirectory()
+        self.addCleanup(folder.cleanup)
+        with open(f"{folder.name}/g", "wb") as file:
+            file.write(text)
+        return f"{folder.name}/g"
+
+    def test_a_grid_goes_as_it_is(self) -> None:
+        text = b"rows: 1\ncols: 3\nnorth: 10.50\nsouth: -.25\neast: 4.\nwest: +0\nnull: -9\nmultiplier: 3\n-9 9 -2\n"
+        path = self.file(text)
+        grid = rcell.grid("r.clump input=g output=k", "g", g=path)
+        self.assertEqual((grid.array.tolist(), grid.region), ([[None, 27, -6]], rcell.Region(10.5, -0.25, 4, 0, 1, 3)))
+        self.assertEqual(rcell.areas(path).table.rows[0][:3], (1, 27, 1))
+
+    def test_with_an_array_beside_it(self) -> None:
+        grid = rcell.Grid("lc", np.ma.MaskedArray(LAND.astype(np.int32)), region := rcell.Region(3, 0, 4, 0, 3, 4), region.transform)
+        self.assertEqual(len(rcell.run("r.stats -c input=a,b", a=self.file(grid.text()), b=LAND).tables[0]), 4)
+        with self.assertRaises(rcell.OtherRegion):
+            rcell.run("", a=self.file(grid.text()), b=LAND[:2])
+
+    def test_a_pipe_of_a_grid(self) -> None:
+        text = text_of(np.ma.MaskedArray(np.arange(90_000).reshape(300, 300)))
+        reader, writer = os.pipe()
+
+        def write() -> None:
+            for start, end in ((0, 10), *((at, at + 50_000) for at in range(10, len(text), 50_000))):
+                os.write(writer, text[start:end])
+            os.close(writer)
+
+        thread = threading.Thread(target=write)
+        thread.start()
+        self.assertEqual(rcell.grid("", "g", g=f"/dev/fd/{reader}").array.tolist(), np.arange(90_000).reshape(300, 300).tolist())
+        thread.join()
+        os.close(reader)
+
+    def test_bad_headers_are_refused_by_the_program(self) -> None:
+        for text, told in ((b"north: 3\nsouth: x\n1 2", "bad number"), (b"north: 3\nNORTH: 3\n1", "bad header line"), (b"north: 1\n", "missing key"), (b"rows: 70000\ncols: 1\nnorth: 1\nsouth: 0\neast: 1\nwest: 0\n1", "bad region")):
+            with self.subTest(text=text), self.assertRaises(rcell.Refused) as caught:
+                rcell.run("", g=self.file(text))
+            self.assertIn(told, caught.exception.text)
+            self.assertEqual(caught.exception.source, "g")
+
+    def test_cells_are_refused_with_their_line(self) -> None:
+        with self.assertRaises(rcell.Refused) as caught:
+            rcell.run("r.stats -c input=g", g=self.file(text_of(np.ma.MaskedArray(LAND)).replace(b"3", b"x", 1).replace(b"x", b"3", 1) + b"y"))
+        self.assertEqual((caught.exception.source, caught.exception.line > 7), ("g", True))
+
+    def test_no_such_file(self) -> None:
+        with self.assertRaises(rcell.ReadFailed) as caught:
+            rcell.run("", g="/nowhere/g")
+        self.assertEqual((str(caught.exception), caught.exception.status), ("g: cannot open: /nowhere/g: No such file or directory", 4))
+
+    def test_a_pipe_that_is_no_grid(self) -> None:
+        with self.assertRaises(rcell.BadMap):
+            rcell.run("", g="/dev/null")
+
+
+class Files(unittest.TestCase):
+    grid = rcell.Grid("lc", np.ma.MaskedArray(LAND.astype(np.int32)), rcell.Region(3, 0, 4, 0, 3, 4), (1, 0, 0, 0, -1, 3))
+
+    def test_written_and_read(self) -> None:
+        with tempfile.TemporaryDirectory() as folder:
+            path = self.grid.write(f"{folder}/lc.txt")
+            self.assertEqual(rcell.grid("", "lc", lc=path).array.tolist(), LAND.tolist())
+            self.assertEqual(os.listdir(folder), ["lc.txt"])
+
+    def test_nothing_half_written(self) -> None:
+        with self.assertRaises(rcell.WriteFailed):
+            self.grid.write("/nowhere/lc.txt")
+        with self.assertRaises(rcell.Refused):
+            self.grid.write("lc.png")
+        with tempfile.TemporaryDirectory() as folder:
+            os.mkdir(f"{folder}/lc.txt")
+            with self.assertRaises(rcell.WriteFailed):
+                self.grid.write(f"{folder}/lc.txt")
+            self.assertEqual(os.listdir(folder), ["lc.txt"])
+
+    def test_a_full_disk(self) -> None:
+        code = (
+            "import resource, signal, sys, rcell, numpy as np\nsignal.signal(signal.SIGXFSZ, signal.SIG_IGN)\nresource.setrlimit(resource.RLIMIT_FSIZE, (1000, 1000))\n"
+            "try: rcell.Grid('x', np.ma.MaskedArray(np.ones((99, 99), int)), rcell.Region.of_cells(99, 99), (1, 0, 0, 0, -1, 99)).write(sys.argv[1])\n"
+            "except rcell.WriteFailed as e: print('full', end='')"
+        )
+        with tempfile.TemporaryDirectory() as folder:
+            environment = {**os.environ, "PYTHONPATH": os.pathsep.join(sys.path)}
+            ran = subprocess.run([sys.executable, "-c", code, f"{folder}/x.txt"], capture_output=True, text=True, env=environment)
+            self.assertEqual((ran.stdout, os.listdir(folder)), ("full", []), ran.stderr)
+
+
+if __name__ == "__main__":
+    unittest.main()

@@ -1,0 +1,71 @@
+"""What the tests of tiles share: the program, a Dask scheduler of this process, and GeoTIFFs made of arrays."""
+
+from __future__ import annotations
+
+import os
+import shutil
+import warnings
+from collections.abc import Callable, Iterator
+from pathlib import Path
+from typing import Any
+
+import numpy as np
+import pytest
+from hypothesis import settings
+
+# The time of an example is the machine's affair.
+settings.register_profile("tiles", deadline=None)
+settings.load_profile("tiles")
+
+rasterio: Any = pytest.importorskip("rasterio")
+distributed: Any = pytest.importorskip("distributed")
+
+PROGRAM = Path(__file__).parents[3] / "bin" / "rcell"
+
+if "RCELL" not in os.environ and PROGRAM.exists():
+    os.environ["RCELL"] = str(PROGRAM)
+
+if not os.environ.get("RCELL") and not shutil.which("rcell"):
+    pytest.skip("the program rcell is not built", allow_module_level=True)
+
+from rcell.tiles import NeedlessTiles  # noqa: E402
+
+MakeTif = Callable[..., str]
+
+
+@pytest.fixture(autouse=True)
+def needless_tiles_are_fine() -> Iterator[None]:
+    with warnings.catch_warnings():
+        warnings.simplefilter("ignore", NeedlessTiles)
+        yield
+
+
+@pytest.fixture(scope="session")
+def scheduler() -> Iterator[str]:
+    """The address of a scheduler and a worker of two threads in this process: it starts at once."""
+    with distributed.LocalCluster(n_workers=1, threads_per_worker=2, processes=False, dashboard_address=None) as cluster:
+        yield cluster.scheduler_address
+
+
+def write_tif(path: Path | str, cells: Any, nodata: float | None = None, transform: Any = None, **options: Any) -> str:
+    transform = rasterio.Affine(25, 0, 1000, 0, -25, 5000) if transform is None else transform
+    profile = dict(driver="GTiff", count=1, width=cells.shape[1], height=cells.shape[0], dtype=cells.dtype, nodata=nodata,
+                   transform=transform, crs="EPSG:32633") | options
+    with rasterio.open(path, "w", **profile) as dataset:
+        dataset.write(np.asarray(cells), 1)
+    return str(path)
+
+
+@pytest.fixture
+def tif(tmp_path: Path) -> MakeTif:
+    """Writes an array as a GeoTIFF, and answers its path."""
+
+    def write(name: str, cells: Any, nodata: float | None = None, **options: Any) -> str:
+        return write_tif(tmp_path / f"{name}.tif", cells, nodata, **options)
+
+    return write
+
+
+def read_tif(path: str | Path) -> Any:
+    with rasterio.open(path) as dataset:
+        return dataset.read(1, masked=True)

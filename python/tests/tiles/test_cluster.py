@@ -1,0 +1,172 @@
+"""Workers that die, clients that die, clusters that are not there."""
+
+from __future__ import annotations
+
+import os
+import shutil
+import signal
+import subprocess
+import sys
+import tempfile
+import threading
+import time
+from pathlib import Path
+from typing import Any
+
+import numpy as np
+import psutil
+import pytest
+
+import rcell
+import rcell.tiles
+from rcell.tiles import _cluster
+from tests.tiles import whole
+from tests.tiles.conftest import MakeTif, read_tif, write_tif
+
+distributed: Any = pytest.importorskip("distributed")
+
+SOURCES = str(Path(rcell.__file__).parents[1])
+
+
+def program() -> str:
+    return rcell.program()
+
+
+@pytest.fixture
+def slow(tmp_path: Path, monkeypatch: pytest.MonkeyPatch) -> Path:
+    """A program that waits before it works, so that there is time to end a worker."""
+    return wrapped(tmp_path, monkeypatch, "sleep 0.5")
+
+
+def wrapped(folder: Path, monkeypatch: pytest.MonkeyPatch, before: str) -> Path:
+    wrapper = folder / "rcell"
+    wrapper.write_text(f'#!/bin/sh\n{before}\nexec {program()} "$@"\n')
+    wrapper.chmod(0o755)
+    monkeypatch.setenv("RCELL", str(wrapper))
+    return wrapper
+
+
+def leftovers(word: str) -> list[psutil.Process]:
+    """Processes whose command line has a word, this one left aside; a moment is given to those that are ending."""
+    for _ in range(100):
+        found = [process for process in psutil.process_iter(["cmdline"])
+                 if process.pid != os.getpid() and any(word in part for part in process.info["cmdline"] or [])]
+        if not found:
+            return []
+        time.sleep(0.2)
+    return found
+
+
+def folders() -> set[str]:
+    return {name for name in os.listdir(tempfile.gettempdir()) if name.startswith("rcell-tiles-")}
+
+
+def test_a_worker_that_is_killed_changes_no_number(tif: MakeTif, tmp_path: Path, slow: Path) -> None:
+    cells = whole.spiral(24)
+    before = folders()
+    with rcell.tiles.open(size=(6, 12), scheduler=2, lc=tif("lc", cells, whole.NULL_CELL)) as mosaic:
+        client = mosaic._engine.cluster.client
+        workers = list(client.run(os.getpid).values())
+
+        def kill() -> None:
+            time.sleep(1.0)
+            os.kill(workers[0], signal.SIGKILL)
+
+        thread = threading.Thread(target=kill)
+        thread.start()
+        count = mosaic.clump("lc", tmp_path / "p.tif")
+        sizes = mosaic.patches("lc")["cells"].tolist()
+        thread.join()
+        assert workers[0] not in client.run(os.getpid).values()
+    expected = whole.clump(cells, False)
+    assert count == expected.max()
+    assert np.array_equal(read_tif(tmp_path / "p.tif").filled(0), expected)
+    assert sizes == np.bincount(expected.ravel())[1:].tolist()
+    assert leftovers("rcell.tiles._cluster") == leftovers(str(slow)) == []
+    assert folders() == before
+
+
+def test_workers_that_die_each_time_are_told(tif: MakeTif, tmp_path: Path, monkeypatch: pytest.MonkeyPatch) -> None:
+    path = tif("lc", np.ones((4, 4), np.uint8))
+    wrapper = tmp_path / "deadly"
+    wrapper.write_text("#!/bin/sh\nkill -9 $PPID\n")
+    wrapper.chmod(0o755)
+    monkeypatch.setenv("RCELL", str(wrapper))  # workers have it; this process starts no program for clump
+    with rcell.tiles.open(size=4, scheduler=1, lc=path) as mosaic:
+        with pytest.raises(rcell.tiles.WorkerLost, match="areas: KilledWorker"):
+            mosaic.clump("lc", tmp_path / "p.tif")
+    assert not (tmp_path / "p.tif").exists()
+    assert list(tmp_path.glob(".*")) == []
+
+
+CLIENT = """
+import sys, warnings
+sys.path.insert(0, {sources!r})
+warnings.simplefilter("ignore")
+import rcell.tiles
+mosaic = rcell.tiles.open(size=2, scheduler=2, lc={path!r})
+mosaic._engine.cluster
+print("ready", flush=True)
+mosaic.clump("lc", {out!r})
+"""
+
+
+def test_a_client_that_is_killed_leaves_no_process(tmp_path: Path, slow: Path) -> None:
+    path = write_tif(tmp_path / "lc.tif", np.ones((20, 20), np.uint8))
+    before = folders()
+    code = CLIENT.format(sources=SOURCES, path=path, out=str(tmp_path / "p.tif"))
+    with subprocess.Popen([sys.executable, "-c", code], stdout=subprocess.PIPE, text=True) as client:
+        assert client.stdout is not None and client.stdout.readline() == "ready\n"
+        time.sleep(1)
+        client.kill()
+    assert leftovers("rcell.tiles._cluster") == leftovers(str(slow)) == []
+    assert folders() == before
+    assert not (tmp_path / "p.tif").exists()
+
+
+def test_a_script_needs_no_guard(tmp_path: Path) -> None:
+    """Dask's workers import the script that made them; below a process of their own they don't."""
+    path = write_tif(tmp_path / "lc.tif", np.ones((4, 4), np.uint8))
+    script = tmp_path / "script.py"
+    script.write_text(f"import sys, warnings\nsys.path.insert(0, {SOURCES!r})\nwarnings.simplefilter('ignore')\nimport rcell.tiles\n"
+                      f"with rcell.tiles.open(size=2, scheduler=1, lc={path!r}) as mosaic:\n"
+                      "    print(mosaic.table('r.stats -c input=lc').to_csv(index=False))\n")
+    done = subprocess.run([sys.executable, str(script)], capture_output=True, text=True, timeout=120)
+    assert (done.returncode, done.stdout, done.stderr) == (0, "lc,cells\n1,16\n\n", "")
+
+
+def test_a_mosaic_that_is_forgotten_ends_its_processes(tif: MakeTif) -> None:
+    mosaic = rcell.tiles.open(size=4, scheduler=1, lc=tif("lc", np.ones((4, 4), np.uint8)))
+    mosaic.table("r.stats -c input=lc")
+    del mosaic
+    assert leftovers("rcell.tiles._cluster") == []
+
+
+def test_a_scheduler_that_is_not_there_is_told(tif: MakeTif, monkeypatch: pytest.MonkeyPatch) -> None:
+    monkeypatch.setattr(_cluster, "CONNECT_SECONDS", 1)
+    with rcell.tiles.open(size=4, scheduler="tcp://127.0.0.1:9", lc=tif("lc", np.ones((4, 4), np.uint8))) as mosaic:
+        with pytest.raises(rcell.tiles.ClusterFailed, match="no scheduler at tcp://127.0.0.1:9"):
+            mosaic.table("r.stats -c input=lc")
+
+
+def test_processes_that_do_not_start_are_told(tif: MakeTif, monkeypatch: pytest.MonkeyPatch) -> None:
+    monkeypatch.setattr(sys, "executable", shutil.which("false"))
+    with rcell.tiles.open(size=4, scheduler=1, lc=tif("lc", np.ones((4, 4), np.uint8))) as mosaic:
+        with pytest.raises(rcell.tiles.ClusterFailed, match="did not start"):
+            mosaic.table("r.stats -c input=lc")
+
+
+def test_workers_without_room_for_a_tile_are_told(tif: MakeTif) -> None:
+    path = tif("lc", np.ones((40, 40), np.uint8))
+    with distributed.LocalCluster(n_workers=1, threads_per_worker=1, processes=False, dashboard_address=None,
+                                  resources={"memory": 10**6}) as cluster:
+        with rcell.tiles.open(size=40, scheduler=cluster.scheduler_address, lc=path) as mosaic:
+            with pytest.raises(rcell.tiles.TooLittleMemory, match="a tile of 40 x 40 cells may take"):
+                mosaic.table("r.stats -c input=lc")
+
+
+def test_a_scheduler_without_workers_is_told(tif: MakeTif) -> None:
+    with distributed.LocalCluster(n_workers=0, processes=False, dashboard_address=None) as cluster:
+        with rcell.tiles.open(scheduler=cluster.scheduler_address, lc=tif("lc", np.ones((4, 4), np.uint8))) as mosaic:
+            with pytest.raises(rcell.tiles.ClusterFailed, match="no workers"):
+                mosaic.table("r.stats -c input=lc")
