@@ -88,16 +88,17 @@ def run(case, folder, **more):
     return answer
 
 
-def refusal(parts, got):
-    """The source, line and number of bytes out where memory was refused; None where that is not told, or where what is out is
-    not the whole output of the statements before the line. `parts` has the output of each statement by its line."""
+def refusal(wanted, got):
+    """The source, line and number of bytes out where memory was refused; None where that is not told, where no such source is
+    among those of the run, or where what is out is not the whole output of the statements before the line. `wanted` is what
+    the run answers with memory enough."""
     told = NO_MEMORY.fullmatch(got.told)
     if got.status != 3 or not told:
         return None
-    source, line = told[1].decode(), int(told[2])
-    is_place = line == 0 or (source == "script" and line in dict(parts))
-    before = b"".join(output for at, output in parts if at < line)
-    return (source, line, len(before)) if is_place and got.output == before else None
+    source, line = told[1], int(told[2])
+    is_place = source in (b"arguments", b"script", *wanted.grids) if line == 0 else source == b"script" and line in dict(wanted.parts)
+    before = b"".join(output for at, output in wanted.parts if at < line)
+    return (source.decode(), line, len(before)) if is_place and got.output == before else None
 
 
 def refused_in_turn(case, folder, shim, room, wanted):
@@ -111,7 +112,7 @@ def refused_in_turn(case, folder, shim, room, wanted):
         asked = int(read(count) or b"0")
         if asked < at:
             return at - 1, wrong_refusals(case, found) if got == wanted else f"growth {at} was not asked for, and yet {got}"
-        told = refusal(wanted.parts, got)
+        told = refusal(wanted, got)
         if told:
             found.add(told)
         elif not (got == wanted and asked > at):

@@ -93,7 +93,7 @@ class Program:
 
 def is_told_refusal(expected, got):
     """Whether the answer tells that memory was refused, with what was written by the statements before that line."""
-    return cases.refusal(expected.parts, got) is not None
+    return cases.refusal(expected, got) is not None
 
 
 def answer_of_model(made: Made) -> model.Answer:

@@ -1,10 +1,12 @@
-/* Makes the reads and writes of a program fail or move little, and notes what they moved.
+/* Makes the reads and writes of a program fail, end or move little, and notes what they moved.
 
    READ_PIECE, WRITE_PIECE     the most bytes that one call moves; 0: as many as it asks for
    READ_FAILS, WRITE_FAILS     the number of the call, from 1, that fails with EIO (and all after it); 0: none
+   READ_ONCE                   1: only that read fails, and the next one goes on, as of a terminal or a bad disk
+   READ_ENDS                   the number of the read, from 1, that tells an end, once: the next one goes on, as of a terminal
    TELL_FAILS                  the same of writes to standard error
-   DEVICE_COUNTS               a file for the numbers: reads, bytes read before the first that failed and its descriptor, writes, the
-                               longest read and the longest write asked for
+   DEVICE_COUNTS               a file for the numbers: reads, bytes read before the first that failed or was made an end and its
+                               descriptor, writes, the longest read and the longest write asked for
    DEVICE_STATUS               a file for what the system says of the process at its end
 
    Only standard output counts as written, and each file that is read but no library. */
@@ -17,7 +19,7 @@ extern int *__errno_location(void);
 
 enum { SYS_READ = 0, SYS_WRITE = 1, IO_ERROR = 5, MOST_FILES = 4096, MOST_STATUS = 8192 };
 
-static long reads, writes, tells, failed_file = -1, longest_read, longest_write;
+static long reads, writes, tells, stopped_file = -1, longest_read, longest_write;
 static long moved[MOST_FILES];
 
 static long number(const char *name) {
@@ -35,6 +37,16 @@ static int fails(long at, const char *name) {
     return first > 0 && at >= first;
 }
 
+static int read_fails(long at) {
+    return number("READ_ONCE") ? at > 0 && at == number("READ_FAILS") : fails(at, "READ_FAILS");
+}
+
+static void note_stop(int file) {
+    if (stopped_file < 0) {
+        stopped_file = file;
+    }
+}
+
 static long io_error(void) {
     *__errno_location() = IO_ERROR;
     return -1;
@@ -45,11 +57,13 @@ long read(int file, void *to, unsigned long size) {
     if ((long)size > longest_read) {
         longest_read = (long)size;
     }
-    if (fails(reads, "READ_FAILS")) {
-        if (failed_file < 0) {
-            failed_file = file;
-        }
+    if (read_fails(reads)) {
+        note_stop(file);
         return io_error();
+    }
+    if (reads == number("READ_ENDS")) {
+        note_stop(file);
+        return 0;
     }
     long count = syscall(SYS_READ, file, to, piece_of("READ_PIECE", size));
     if (count > 0 && file >= 0 && file < MOST_FILES) {
@@ -95,7 +109,7 @@ __attribute__((destructor)) static void tell(void) {
     tell_status();
     int file = opened("DEVICE_COUNTS");
     if (file >= 0) {
-        long before = failed_file >= 0 && failed_file < MOST_FILES ? moved[failed_file] : 0;
-        dprintf(file, "%ld %ld %ld %ld %ld %ld\n", reads, before, failed_file, writes, longest_read, longest_write);
+        long before = stopped_file >= 0 && stopped_file < MOST_FILES ? moved[stopped_file] : 0;
+        dprintf(file, "%ld %ld %ld %ld %ld %ld\n", reads, before, stopped_file, writes, longest_read, longest_write);
     }
 }

@@ -6,13 +6,15 @@
     growths   each growth of memory refused in turn, over each case: status 3, and what is written is whole statements
     tests     the same over the built test programs of the crates: each ends by what it returns or asserts; in a call that
               leaves its object unchanged it is made again
-    reads     each read fails in turn, and reads move pieces of each size from 1 to 70 and a block more or less one
+    reads     each read fails in turn, for good and once only, each tells an end once, and reads move pieces of each size from 1
+              to 70 and a block more or less one
     writes    the same of writes, and standard error that takes nothing
     outputs   full, closed and waiting outputs, files limited to each size, a disk that fills
     inputs    pipes with names, standard input as script and as grid, readers that stop in the middle of a token
+    terminals each file on a terminal that tells an end at the start of a line and then goes on
     bytes     each proper prefix of each grid, script, rule block and expression; each byte turned to each of nine others
     stack     each case and the deepest expressions on a stack of 64 KiB
-    sizes     the greatest inputs
+    sizes     the greatest inputs, 2,000 grids and 1,200 maps made
     memory    the bytes a cell of each command, over patches and over noise
     times     times at 1,000, 10,000 and 100,000 of each kind of thing: none grows by more than its number
 
@@ -62,13 +64,14 @@ PARTS = {
     "writes": of_devices(hostile_devices.writes),
     "outputs": of_devices(hostile_devices.outputs),
     "inputs": of_devices(hostile_devices.inputs),
+    "terminals": of_devices(hostile_devices.terminals),
     "bytes": lambda report, program, shims, cases, settings: hostile_bytes.spoiled(report, program, cases.made, settings),
     "stack": lambda report, program, shims, cases, settings: hostile_sizes.stack(report, program, cases.made, settings),
     "sizes": of_sizes(hostile_sizes.greatest),
     "memory": of_sizes(hostile_sizes.memory),
     "times": of_sizes(hostile_sizes.growing),
 }
-NOT_SHORT = ("inputs", "sizes", "memory", "times")
+NOT_SHORT = ("inputs", "memory", "times")
 
 
 def processor_seconds():

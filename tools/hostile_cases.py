@@ -54,14 +54,24 @@ def with_text(made: Made, path: str, text: bytes) -> Made:
     return replace(made, files={**made.files, path: text})
 
 
-def answer_of_failing(made: Made, place: int, taken: int) -> model.Answer:
-    """What the model answers where the file at a place, the script being 0, gives so many bytes and then fails."""
+def answer_of_stopped(made: Made, place: int, stopped) -> model.Answer:
+    """What the model answers where the file at a place, the script being 0, gives what `stopped` makes of its text."""
     def given(at, path):
         text = made.files[path]
-        return Failing(text[:taken]) if at == place else text
+        return stopped(text) if at == place else text
 
     grids = [(name, given(at, path)) for at, (name, path) in enumerate(made.grids, 1)]
     return model.run(grids, given(0, "script"))
+
+
+def answer_of_failing(made: Made, place: int, taken: int) -> model.Answer:
+    """What the model answers where a file gives so many bytes and then fails."""
+    return answer_of_stopped(made, place, lambda text: Failing(text[:taken]))
+
+
+def answer_of_ending(made: Made, place: int, taken: int) -> model.Answer:
+    """What the model answers where a file gives so many bytes and then ends."""
+    return answer_of_stopped(made, place, lambda text: text[:taken])
 
 
 class Report:
@@ -91,5 +101,5 @@ class Report:
         return got == expected
 
 
-__all__ = ["LONGEST_WHOLE", "Made", "Report", "answer_of_failing", "answer_of_model", "Cases", "cases_of",
+__all__ = ["LONGEST_WHOLE", "Made", "Report", "answer_of_ending", "answer_of_failing", "answer_of_model", "Cases", "cases_of",
            "with_text"]

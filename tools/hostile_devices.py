@@ -1,17 +1,18 @@
-"""Each read and each write in turn: files that fail or give little, and outputs that fail, fill up, close or wait."""
+"""Each read and each write in turn: files that fail, end or give little, terminals, and outputs that fail, fill up, close or wait."""
 from __future__ import annotations
 
 import os
 import resource
 import signal
 import subprocess
+import termios
 import threading
 import time
 from typing import Callable, Optional
 
 import model
 from compare import Program, read
-from hostile_cases import LONGEST_WHOLE, Made, Report, answer_of_failing, answer_of_model
+from hostile_cases import LONGEST_WHOLE, Made, Report, answer_of_ending, answer_of_failing, answer_of_model
 
 PIECES = range(1, 71)
 SECONDS = 60  # the most that a run may take
@@ -22,14 +23,14 @@ class Devices:
 
     def __init__(self, program: Program, shim: str):
         self.program, self.shim = program, shim
-        self.reads = self.before = self.failed = self.writes = self.longest_read = self.longest_write = 0
+        self.reads = self.before = self.stopped = self.writes = self.longest_read = self.longest_write = 0
 
     def answer(self, made: Made, **more) -> model.Answer:
         self.program.put(made)
         more = {name: str(number) for name, number in more.items()}
         got = self.program.answer(made.words, LD_PRELOAD=self.shim, DEVICE_COUNTS=self.program.count, **more)
         numbers = [int(number) for number in read(self.program.count, b"0 0 0 0 0 0").split()]
-        self.reads, self.before, self.failed, self.writes, self.longest_read, self.longest_write = numbers
+        self.reads, self.before, self.stopped, self.writes, self.longest_read, self.longest_write = numbers
         os.unlink(self.program.count)
         return got
 
@@ -38,9 +39,9 @@ class Devices:
         sizes = {size + more for size in (self.longest_read, self.longest_write) if size for more in (-1, 0, 1)}
         return sorted(size for size in sizes if size > 0)
 
-    def place_of_failure(self) -> Optional[int]:
-        """Which file failed: the script is opened first, as 3, and then each grid."""
-        return self.failed - 3 if self.failed >= 0 else None
+    def place_of_stop(self) -> Optional[int]:
+        """Which file failed, or was made to end: the script is opened first, as 3, and then each grid."""
+        return self.stopped - 3 if self.stopped >= 0 else None
 
 
 def written(expected: model.Answer, count: int) -> model.Answer:
@@ -58,19 +59,28 @@ def places(count: int, settings) -> list[int]:
 # Reads
 
 
-def failing_reads(devices: Devices, made: Made, expected: model.Answer, settings) -> tuple[str, int]:
-    """Each read fails in turn, with all bytes a read and with one: what is wrong, and how many reads failed."""
-    failed = 0
+def stopped_read(devices: Devices, made: Made, expected: model.Answer, answer_of, **how) -> tuple[str, bool]:
+    """One read fails or tells an end: what is wrong, and whether a read was stopped so."""
+    got = devices.answer(made, **how)
+    place = devices.place_of_stop()
+    wanted = expected if place is None else answer_of(made, place, devices.before)
+    return "" if got == wanted else f"with {how}: {got}, and not {wanted}", place is not None
+
+
+def stopped_reads(devices: Devices, made: Made, expected: model.Answer, settings) -> tuple[str, int]:
+    """Each read fails in turn, for good and then once only, and each tells an end once, with all bytes a read and with one: what
+    is wrong, and how many reads were stopped so. A file that fails or ends once goes on if it is asked again."""
+    stopped = 0
     for piece in (0, 1):
         devices.answer(made, READ_PIECE=piece)
         for at in places(devices.reads + 1, settings):
-            got = devices.answer(made, READ_PIECE=piece, READ_FAILS=at)
-            place = devices.place_of_failure()
-            wanted = expected if place is None else answer_of_failing(made, place, devices.before)
-            failed += place is not None
-            if got != wanted:
-                return f"with read {at} of {piece or 'all'} bytes failing: {got}, and not {wanted}", failed
-    return "", failed
+            for answer_of, how in ((answer_of_failing, {"READ_FAILS": at}), (answer_of_failing, {"READ_FAILS": at, "READ_ONCE": 1}),
+                                   (answer_of_ending, {"READ_ENDS": at})):
+                wrong, was_stopped = stopped_read(devices, made, expected, answer_of, READ_PIECE=piece, **how)
+                stopped += was_stopped
+                if wrong:
+                    return wrong, stopped
+    return "", stopped
 
 
 def small_pieces(devices: Devices, made: Made, expected: model.Answer, variable: str, settings) -> tuple[str, int]:
@@ -92,7 +102,7 @@ def read_pieces(devices: Devices, made: Made, expected: model.Answer, settings) 
 
 
 def each_case(report: Report, devices: Devices, cases: dict[str, Made], settings, what: str, failing, pieces) -> None:
-    """The reads or writes of each case: each fails in turn, and then they move pieces."""
+    """The reads or writes of each case: each fails in turn (of reads, or ends), and then they move pieces."""
     failed = others = 0
     for name, made in cases.items():
         expected = answer_of_model(made)
@@ -101,11 +111,11 @@ def each_case(report: Report, devices: Devices, cases: dict[str, Made], settings
         failed, others = failed + count, others + more
         report.check(f"{what} of {name}", wrong or again)
     report.runs += failed + others
-    print(f"{what}: {len(cases)} cases, {failed} {what} failed in turn, {others} other runs")
+    print(f"{what}: {len(cases)} cases, {failed} {what} that failed or ended in turn, {others} other runs")
 
 
 def reads(report: Report, devices: Devices, cases: dict[str, Made], settings) -> None:
-    each_case(report, devices, cases, settings, "reads", failing_reads, read_pieces)
+    each_case(report, devices, cases, settings, "reads", stopped_reads, read_pieces)
 
 
 # Writes
@@ -321,3 +331,49 @@ def inputs(report: Report, devices: Devices, cases: dict[str, Made], settings) -
                 report.check("")
             runs += 1
     print(f"inputs: {len(chosen)} cases, {runs} runs through pipes, standard input and readers that wait")
+
+
+# Terminals
+
+MOST_TYPED = 2000  # a terminal takes some 4,000 bytes at a time
+END_OF_INPUT = b"\x04"  # at the start of a line it is an end that is told once
+LOCAL_MODES = 3
+
+
+def on_a_terminal(program: Program, made: Made, path: str, at: int) -> model.Answer:
+    """A run that reads one of its files from a terminal, which tells an end behind so many bytes and then goes on."""
+    ours, theirs = os.openpty()
+    try:
+        modes = termios.tcgetattr(theirs)
+        modes[LOCAL_MODES] &= ~termios.ECHO
+        termios.tcsetattr(theirs, termios.TCSANOW, modes)
+        os.write(ours, made.files[path][:at] + END_OF_INPUT + made.files[path][at:] + END_OF_INPUT)
+        os.unlink(path)
+        os.symlink(os.ttyname(theirs), path)
+        return ran(program, made.words)
+    finally:
+        os.unlink(path)
+        os.close(ours)
+        os.close(theirs)
+
+
+def may_be_typed(text: bytes) -> bool:
+    """Whether each byte of a text is itself on a terminal."""
+    return len(text) <= MOST_TYPED and all(byte == 10 or 32 <= byte < 127 for byte in text)
+
+
+def terminals(report: Report, devices: Devices, cases: dict[str, Made], settings) -> None:
+    """Each file of each case on a terminal that tells an end at the start of a line, and then goes on: the run ends there."""
+    program, runs = devices.program, 0
+    typed = [(name, made, path) for name, made in cases.items() for path in made.files if may_be_typed(made.files[path])]
+    for name, made, path in typed:
+        text, place, wrong = made.files[path], list(made.files).index(path), ""
+        starts = [at for at in range(len(text) + 1) if at == 0 or text[at - 1 : at] == b"\n"]
+        for at in settings.random.sample(starts, min(len(starts), settings.places)):
+            program.put(made)
+            got, wanted = on_a_terminal(program, made, path, at), answer_of_ending(made, place, at)
+            wrong = wrong or ("" if got == wanted else f"with an end behind {at} bytes: {got}, and not {wanted}")
+            runs += 1
+        report.check(f"a terminal as {path} of {name}", wrong)
+    report.runs += runs
+    print(f"terminals: {len(typed)} files, {runs} runs to an end that a terminal tells once")

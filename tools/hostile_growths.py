@@ -23,7 +23,7 @@ FIRST_REFUSED = b"rcell: arguments:0: no memory\n"  # the first growth is that o
 TEST = re.compile(r"^(\S+): test$", re.M)
 AGAIN = "_again"  # ends the name of a test that makes a refused call once more, over an object that is as before
 TOLD_AGAIN = b"made again"  # what such a test tells where it does so
-CALLS_AGAIN = 7  # the calls that leave their object unchanged, and a run
+CALLS_AGAIN = 8  # the calls that leave their object unchanged, and a run over a sink whose flush works or fails
 
 
 def build_shim(clang: str, path: str, source: str) -> None:

@@ -250,6 +250,13 @@ def growing(report: Report, program: Program, shim: str) -> None:
 # The greatest inputs
 
 
+def sums_in_a_chain(count: int) -> Made:
+    """Each map is one more than the map before it, and the last is counted."""
+    maps = [b"g", *(name_at(at) for at in range(count))]
+    lines = [b"r.mapcalc %s=%s+1\n" % (new, old) for old, new in zip(maps, maps[1:])]
+    return over(ONE_CELL, b"".join(lines) + b"r.stats -c input=%s\n" % maps[-1])
+
+
 def greatest(report: Report, program: Program, shim: str) -> None:
     wide = b"north: 1\nsouth: 0\neast: 65535\nwest: 0\nrows: 1\ncols: 65535\n" + b"1 2 3 4 5\n" * 13107
     most = {
@@ -257,6 +264,7 @@ def greatest(report: Report, program: Program, shim: str) -> None:
         "65535 columns": (over(wide, b"r.mapcalc x = g[0,255] * 2\nr.stats -c input=x\n"),
                           b"2 13056\n4 13056\n6 13056\n8 13056\n10 13056\n* 255\n"),
         "65535 rows": (over(HEADER % (65535, 1, 65535, 1) + b"7\n" * 65535, b"r.clump input=g output=c\nr.stats -c input=c\n"), b"1 65535\n"),
+        "1200 maps made": (sums_in_a_chain(1200), b"1201 1\n"),
         "2000 grids": (None, b"1 1\n"),
     }
     for name, (made, output) in most.items():

@@ -409,7 +409,7 @@ def run(grids: list[tuple[bytes, Given]], script: Given) -> Answer:
     except Refused as fault:
         return fault.answer()
     parts = tuple((line, statement.run(maps, region)) for line, statement in statements)
-    return Answer(0, b"".join(output for _, output in parts), b"", parts)
+    return Answer(0, b"".join(output for _, output in parts), b"", parts, tuple(name for name, _ in grids))
 
 
 def is_utf8(word: bytes) -> bool:

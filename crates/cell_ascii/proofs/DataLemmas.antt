@@ -1,11 +1,14 @@
 -- The whole data, from its rows and its end, and the whole text, from its header and its data.
-use Rattle.std.proofs.Common.{◌≡◌, ℕ, ◌-◌, ◌<◌, [], List, Option, Some, None, Result, Ok, Err, Bool, refl, ap, sym, ◌∙◌}
+use Rattle.std.proofs.Common.{◌≡◌, ℕ, ℤ, ◌-◌, ◌<◌, [], List, Option, Some, None, Result, Ok, Err, Bool, false, refl, ap, sym, subst, ◌∙◌}
 use Rattle.std.specs.Prelude.{if◌then◌else◌}
 use Rattle.std.specs.Option.{option_map, IfSome}
 use Rattle.cell_devices.specs.Device.{Coming}
 use Rattle.cell_core.specs.Grid.{CellValue, Grid, no_labels}
 use Rattle.cell_ascii_text.specs.Words.{start_of}
-use Rattle.cell_ascii_text.specs.Header.{◌>>=◌, At, at_line, Header, Keys, no_keys, header_of, header_from, header_of_text}
+use Rattle.cell_base.specs.Region.{RegionValue, region_fault}
+use Rattle.cell_base.specs.declared.region.RegionFault.{RegionFault}
+use Rattle.cell_ascii_text.specs.Header.{◌>>=◌, At, at_line, Header, Keys, judged, no_keys, header_of, header_from, header_of_text}
+use Rattle.cell_ascii_text.specs.Kinds.{IsOfText, is_read}
 use Rattle.cell_ascii_text.specs.Cells.{Reading, cell_from, many, end_of, data_from, grid_of}
 use Rattle.cell_ascii.specs.Reader.{rows_from}
 use Rattle.cell_ascii_text.specs.Places.{opening_fault}
@@ -14,6 +17,8 @@ use Rattle.cell_ascii.specs.GridReaders.{ReaderValue, place_in, opened_in, fault
 use Rattle.cell_ascii_header.specs.Opening.{header_seen}
 use Rattle.cell_scanner.specs.Ahead.{before_coming}
 use Rattle.cell_ascii_text.specs.declared.fault.GridFault.{GridFault}
+use Rattle.cell_ascii_text.specs.declared.fault.GridKind.{GridKind}
+use Rattle.cell_ascii_text.specs.declared.fault.GridKind.TheVariants.{MissingKey, Region}
 use Rattle.cell_ascii_header.proofs.MapLemmas.{known, map_same}
 use Rattle.cell_ascii.proofs.CellLemmas.{with_front, more_fails}
 use Rattle.cell_ascii_faults.proofs.GridFaultLemmas.{opening_agrees, opening_keeps_places}
@@ -101,23 +106,62 @@ header_faults (Some x) f h = rw h refl
 pub opening_fails : (a : Option Coming) (f : GridFault) → IfSome a (λ c. opening_fault c ≡ Some f) → IfSome a (λ c. grid_of c ≡ Err f)
 opening_fails a f told = header_faults a f (implied (λ c. opening_fault c ≡ Some f) (λ c. header_of_text c ≡ Err f) a (λ c. (opening_agrees c f).1) told)
 
-nothing_held : (r : Option Coming) → option_map (before_coming []) r ≡ r
+-- a text of which nothing is held
+pub nothing_held : (r : Option Coming) → option_map (before_coming []) r ≡ r
 nothing_held None = refl
 nothing_held (Some c) = refl
 
 -- the keys give no header
-pub open_fails : (keys : Keys) (word : List ℕ) (line : ℕ) (waiting : Bool) (r b : Option Coming) (f : GridFault)
-    → option_map (header_from 10 no_keys 1 0) (option_map (before_coming []) r) ≡ option_map (header_seen (Ok waiting) keys word line) b
-    → Err f ≡ at_line line (header_of keys) → IfSome r (λ c. header_of_text c ≡ Err f)
-open_fails keys word line waiting r b f e bad =
-    known (header_from 10 no_keys 1 0) (header_seen (Ok waiting) keys word line) r b (Err f)
-    (ap (option_map (header_from 10 no_keys 1 0)) (sym (nothing_held r)) ∙ e) (λ c. rw (← bad) refl)
+pub open_fails : (keys : Keys) (word : List ℕ) (line : ℕ) (waiting : Bool) (a b : Option Coming) (f : GridFault)
+    → option_map (header_from 10 no_keys 1 0) a ≡ option_map (header_seen (Ok waiting) keys word line) b
+    → Err f ≡ at_line line (header_of keys) → IfSome a (λ c. header_of_text c ≡ Err f)
+open_fails keys word line waiting a b f e bad =
+    known (header_from 10 no_keys 1 0) (header_seen (Ok waiting) keys word line) a b (Err f) e (λ c. rw (← bad) refl)
 
 -- the keys give a header
-pub open_reads : (keys : Keys) (word : List ℕ) (line : ℕ) (waiting : Bool) (r b : Option Coming) (h : Header)
-    → option_map (header_from 10 no_keys 1 0) (option_map (before_coming []) r) ≡ option_map (header_seen (Ok waiting) keys word line) b
+pub open_reads : (keys : Keys) (word : List ℕ) (line : ℕ) (waiting : Bool) (a b : Option Coming) (h : Header)
+    → option_map (header_from 10 no_keys 1 0) a ≡ option_map (header_seen (Ok waiting) keys word line) b
     → Ok h ≡ at_line line (header_of keys)
-    → option_map header_of_text r ≡ option_map (λ c. Ok (record { header = h; at = record { pending = (if waiting then Some word else None); line = line; run = 0; coming = c } })) b
-open_reads keys word line waiting r b h e good =
-    ap (option_map (header_from 10 no_keys 1 0)) (sym (nothing_held r)) ∙ e
+    → option_map header_of_text a ≡ option_map (λ c. Ok (record { header = h; at = record { pending = (if waiting then Some word else None); line = line; run = 0; coming = c } })) b
+open_reads keys word line waiting a b h e good =
+    e
     ∙ map_same (header_seen (Ok waiting) keys word line) (λ c. Ok (record { header = h; at = record { pending = (if waiting then Some word else None); line = line; run = 0; coming = c } })) b (λ c. rw (← good) refl)
+
+-- where each of the six keys stood, the header is judged by their region
+all_given : (k : Keys) (north south east west : ℤ) (rows cols : ℕ) → k.north ≡ Some north → k.south ≡ Some south → k.east ≡ Some east → k.west ≡ Some west → k.rows ≡ Some rows → k.cols ≡ Some cols
+    → judged k (region_fault (record { north = north; south = south; east = east; west = west; rows = rows; cols = cols })) ≡ header_of k
+all_given k north south east west rows cols n s e w r c = rw (n, s, e, w, r, c) refl
+
+-- what holds of the faults of all keys together
+module _ (P : GridKind → Type 0) (missing : P MissingKey) (region : (f : RegionFault) → P (Region f)) (k : Keys) where
+  judged_has : (r : Result RegionValue RegionFault) (kind : GridKind) → judged k r ≡ Err kind → P kind
+  judged_has (Ok given) kind e = cc
+  judged_has (Err f) kind e = let p : Region f ≡ kind = cc in subst P p (region f)
+
+  none_has : (kind : GridKind) → header_of k ≡ Err MissingKey → header_of k ≡ Err kind → P kind
+  none_has kind e is = let p : MissingKey ≡ kind = cc in subst P p missing
+
+  keys_have : (n s e w : Option ℤ) (r c : Option ℕ) (kind : GridKind) → k.north ≡ n → k.south ≡ s → k.east ≡ e → k.west ≡ w → k.rows ≡ r → k.cols ≡ c
+      → header_of k ≡ Err kind → P kind
+  keys_have None s e w r c kind en es ee ew er ec is = none_has kind (rw en refl) is
+  keys_have (Some n) None e w r c kind en es ee ew er ec is = none_has kind (rw (en, es) refl) is
+  keys_have (Some n) (Some s) None w r c kind en es ee ew er ec is = none_has kind (rw (en, es, ee) refl) is
+  keys_have (Some n) (Some s) (Some e) None r c kind en es ee ew er ec is = none_has kind (rw (en, es, ee, ew) refl) is
+  keys_have (Some n) (Some s) (Some e) (Some w) None c kind en es ee ew er ec is = none_has kind (rw (en, es, ee, ew, er) refl) is
+  keys_have (Some n) (Some s) (Some e) (Some w) (Some r) None kind en es ee ew er ec is = none_has kind (rw (en, es, ee, ew, er, ec) refl) is
+  keys_have (Some n) (Some s) (Some e) (Some w) (Some r) (Some c) kind en es ee ew er ec is =
+      judged_has (region_fault (record { north = n; south = s; east = e; west = w; rows = r; cols = c })) kind (all_given k n s e w r c en es ee ew er ec ∙ is)
+
+  header_has : (line : ℕ) (f : GridFault) → Err f ≡ at_line line (header_of k) → P f.kind
+  header_has line f e = by (header_of k) refl e
+    where
+      by : (r : Result Header GridKind) → header_of k ≡ r → Err f ≡ at_line line r → P f.kind
+      by (Ok h) is o = cc
+      by (Err kind) is o = let p : kind ≡ f.kind = cc in subst P p (keys_have k.north k.south k.east k.west k.rows k.cols kind refl refl refl refl refl refl is)
+
+-- keys that give no header are a fault of the text, and not of its source
+pub header_kind : (k : Keys) (line : ℕ) (f : GridFault) → Err f ≡ at_line line (header_of k) → IsOfText f.kind
+header_kind = header_has IsOfText tt (λ f. tt)
+
+pub header_told : (k : Keys) (line : ℕ) (f : GridFault) → Err f ≡ at_line line (header_of k) → is_read f.kind ≡ false
+header_told = header_has (λ kind. is_read kind ≡ false) refl (λ f. refl)

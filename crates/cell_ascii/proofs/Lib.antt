@@ -1,9 +1,3 @@
-pub mod HeldLemmas
 pub mod RowReadLemmas
-pub mod HeldRowLemmas
-pub mod AgainLemmas
-pub mod LaneLemmas
 pub mod CellLemmas
 pub mod DataLemmas
-pub mod BitLemmas
-pub mod WordLemmas

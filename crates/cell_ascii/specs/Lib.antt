@@ -1,5 +1,3 @@
--- Open readers of grid texts, and cells whose bytes are held.
+-- Open readers of grid texts.
 pub mod GridReaders
 pub mod Reader
-pub mod Held
-pub mod Words

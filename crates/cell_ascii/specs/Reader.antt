@@ -1,8 +1,9 @@
 -- What a reader is at, and what its calls answer.
-use Rattle.std.specs.Prelude.{ℕ, ◌≡◌, ◌+◌, ◌*◌, ◌^◌, ◌<◌, Bool, false, List, [], Option, None, Result, Ok, Err, IfSome}
+use Rattle.std.specs.Prelude.{ℕ, ◌≡◌, ◌+◌, ◌*◌, ◌^◌, ◌<◌, Bool, false, List, [], Option, Some, None, Result, Ok, Err, IfSome, if◌then◌else◌}
 use Rattle.cell_devices.specs.Device.{Coming}
 use Rattle.cell_core.specs.Grid.{CellValue}
 use Rattle.cell_scanner.specs.Ahead.{Ahead, to_come}
+use Rattle.cell_scanner.specs.Scan.{Scan}
 use Rattle.cell_ascii_text.specs.Words.{Start, Begins, Ends, Stops, word_from, fault}
 use Rattle.cell_ascii_text.specs.Header.{◌>>=◌, At, Header, Opened}
 use Rattle.cell_ascii_text.specs.Cells.{Reading, cell_from, many}
@@ -26,6 +27,11 @@ at_place p c = record { pending = p.pending; line = p.line; run = p.run; coming 
 -- the header that was read, and where the data begins
 abbrev pub opened_at : Place → Coming → Opened
 opened_at p c = record { header = p.header; at = at_place p c }
+
+-- the same of a scanner behind the header and the first word of the data, if there is one
+abbrev pub opened_by : Header × Bool → Scan → Coming → Opened
+opened_by (header, waiting) s c =
+    record { header = header; at = record { pending = (if waiting then Some s.word else None); line = s.line; run = 0; coming = c } }
 
 -- the next word, with its line
 abbrev pub token_of : Start → Result (ℕ × (List ℕ × Coming)) GridFault

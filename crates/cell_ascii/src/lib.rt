@@ -1,10 +1,8 @@
 //! Grid texts: how they are read, row by row or whole, and written (r.in.ascii, r.out.ascii).
 #![tactic(auto)]
 
-mod held;
 pub mod law;
 pub mod reader;
-mod words;
 
 pub use cell_ascii_text::fault;
-pub use cell_ascii_writer::{sticky_writer, writer};
+pub use cell_ascii_writer::writer;

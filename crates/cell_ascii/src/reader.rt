@@ -14,14 +14,15 @@ ghost use Rattle.cell_ascii_text.specs.Cells.{cell_of_word, cell_from, many, end
 ghost use Rattle.cell_ascii_text.specs.GridText.{Denotes};
 ghost use Rattle.cell_ascii_text.specs.Places.{opening_fault, text_fault};
 ghost use Rattle.cell_ascii_text.specs.RowPlaces.{cells_fault, end_fault};
-ghost use Rattle.cell_ascii.specs.Reader.{Place, at_place, opened_at, token_of, token_seen, reading_seen, always, IsPlaced, rows_from};
+ghost use Rattle.cell_ascii.specs.Reader.{Place, at_place, opened_at, opened_by, token_of, token_seen, reading_seen, always, IsPlaced, rows_from};
 ghost use Rattle.cell_ascii.specs.GridReaders.{place_in, opened_in, IsOpened, fault_of, has_failed, IsCutRow, IsChangedInFront};
 
-use crate::held::{Pace, cells_in};
-use crate::words::WordTable;
 use cell_ascii_header::header::Header;
 use cell_ascii_header::keys::Keys;
 use cell_ascii_header::opening;
+use cell_ascii_held::held::cells_in;
+use cell_ascii_held::pace::Pace;
+use cell_ascii_held::words::WordTable;
 use cell_ascii_text::fault::{GridFault, GridKind};
 use cell_core::cell::Cell;
 use cell_core::map::{CellMap, MapBuilder};
@@ -89,6 +90,29 @@ fn header_at(keys: Keys, line: u64) -> Result<Header, GridFault>
     keys.header().map_err(|kind| GridFault { kind, line })
 }
 
+// Reads the header of a text, of which nothing was read before, and the first word behind it. Answers what the header says, and
+// whether there was such a word.
+fn read_opening<R: Source>(scanner: &mut Scanner<R>) -> Result<(Header, bool), GridFault>
+    requires start { (scanner.old.line ≡ 1) × (scanner.old.run ≡ 0) }
+    ensures opened { IfOk result (λ r. option_map header_of_text (to_come scanner.old.ahead) ≡ option_map (λ c. Ok (opened_by r scanner.new c)) (to_come scanner.new.ahead)) }
+    ensures fault { IfErr result (λ f. IfSome (to_come scanner.old.ahead) (λ c. header_of_text c ≡ Err f)) }
+    ensures kind { IfErr result (λ f. IsOfText f.kind) }
+    ensures line { OnOk result (scanner.new.line < 2 ^ 62) }
+    ensures run { OnOk result (scanner.new.run ≡ 0) }
+    ensures heard { scanner.new.ahead.heard ≡ hears (tells_read result) scanner.old.ahead.heard }
+{
+    let mut keys = Keys::new();
+    let waiting = match opening::read_header(scanner, &mut keys) {
+        Ok(waiting) => waiting,
+        Err(fault) => return Err(fault),
+    };
+    scanner.end_run();
+    match header_at(keys, scanner.line()) {
+        Ok(header) => Ok((header, waiting)),
+        Err(fault) => Err(fault),
+    }
+}
+
 // The cell of the word that was read.
 fn cell_here<R: Source>(header: &Header, scanner: &Scanner<R>) -> Result<Cell, GridFault>
     ensures { result ≡ at_line scanner.now.line (cell_of_word header.now scanner.now.word) }
@@ -114,10 +138,10 @@ impl<R: Source> CellReader<R> {
         let Ok(mut scanner) = Scanner::new(alloc, source) else {
             return Err(NO_MEMORY);
         };
-        let mut keys = Keys::new();
-        let waiting = opening::read_header(&mut scanner, &mut keys)?;
-        scanner.end_run();
-        let header = header_at(keys, scanner.line())?;
+        let (header, waiting) = match read_opening(&mut scanner) {
+            Ok(opening) => opening,
+            Err(fault) => return Err(fault),
+        };
         let Ok(words) = WordTable::new(alloc, header) else {
             return Err(NO_MEMORY);
         };
@@ -136,6 +160,7 @@ impl<R: Source> CellReader<R> {
     }
 
     // Reads the cells whose bytes are held into the front of a row, and returns how many they are.
+    #[tactic(auto, using(cell_ascii_held::proofs::WordLemmas::lines_held))]
     fn held_cells(&mut self, row: &mut [Cell]) -> usize
         requires room { self.old.line + length row.old * 64 < 2 ^ 64 }
         ensures cells { option_map (λ c. many (cell_from self.old.header) result (at_place self.old c)) (to_come self.old.ahead)

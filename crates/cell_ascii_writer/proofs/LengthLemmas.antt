@@ -1,5 +1,5 @@
 -- How long a grid text is at the most.
-use Rattle.std.proofs.Common.{Option, Some, None, ◌≡◌, ◌∙◌, ◌+◌, ◌-◌, ◌*◌, ◌^◌, ◌/◌, ◌%◌, ◌<◌, ◌≤◌, ◌==◌, ◌&&◌, ℕ, ℤ, pos, negsuc, suc, Bool, true, false, List, [], ◌∷◌, ◌++◌, All, length, take, drop, map, reverse, get_or, codes, decimal, flat_map, unsigned_abs, refl, ap, sym, arith, subst, length-append, length-take, length-drop}
+use Rattle.std.proofs.Common.{Some, None, ◌≡◌, ◌+◌, ◌-◌, ◌*◌, ◌/◌, ◌%◌, ◌<◌, ◌≤◌, ◌==◌, ℕ, ℤ, pos, negsuc, suc, Bool, true, false, List, [], ◌∷◌, ◌++◌, All, length, drop, map, reverse, get_or, codes, decimal, flat_map, unsigned_abs, refl, arith, length-append, length-take, length-drop}
 use Rattle.std.specs.List.{join_with_byte, prefix_len}
 use Rattle.std.proofs.lemmas.Bool.Decides.{nat_tests}
 use Rattle.std.proofs.lemmas.Fmt.{length-decimal-le}
@@ -9,7 +9,6 @@ use Rattle.cell_ascii_text.specs.Header.{usual_null}
 use lib.Signed.{mag}
 use Rattle.std.proofs.lemmas.Int.{ints}
 use Rattle.std.proofs.lemmas.List.Elements.{All-map}
-use Rattle.std.specs.Prelude.{int_le}
 use Rattle.std.proofs.lemmas.Fmt.{length_signed_le}
 use Rattle.std.proofs.lemmas.List.{length-map}
 use Rattle.cell_base.specs.Cell.{IsCell, is_category}

@@ -1,26 +1,25 @@
--- A text that was printed through a block which was then emptied.
-use Rattle.std.proofs.Common.{◌≡◌, ◌∙◌, ℕ, ◌+◌, ◌<◌, Bool, true, false, List, [], ◌++◌, length, take, Option, Result, Ok, Err, refl, sym, ap, arith, append-nil, length-append}
+-- A text that was written through a block which was then emptied.
+use Rattle.std.proofs.Common.{◌≡◌, ◌∙◌, ℕ, ◌<◌, Bool, true, false, List, [], ◌++◌, length, take, Option, Ok, Err, refl, sym, ap, arith, append-nil, length-append}
 use Rattle.std.proofs.Math.Seq.{take-append_seam}
 use Rattle.cell_devices.specs.Device.{Faults, after_put, append_known}
-use Rattle.cell_devices.specs.Blocks.{capped}
-use Rattle.cell_devices.specs.Sticky.{StickyValue, Printed, fault_if}
+use Rattle.cell_devices.specs.Blocks.{capped, BlockValue, Appended, fault_if}
 use Rattle.cell_devices.specs.declared.sink.WriteFault.{WriteFault}
 
 -- a text that is shorter than the greatest count: it was put, or its first bytes were
-module _ {before now : Option (List ℕ)} {start faults : Faults} {text : List ℕ} {block : StickyValue} (p : Printed before start text now faults block) where
+module _ {before now : Option (List ℕ)} {start faults : Faults} {text : List ℕ} {block : BlockValue} (p : Appended before start text now faults block) where
   put_ends : block.failed ≡ false → block.held ≡ [] → p.front ≡ text
   put_ends good none = sym (append-nil p.front) ∙ ap (λ (l : List ℕ). p.front ++ l) (sym none ∙ rw good at p.held) ∙ p.whole
 
   -- all was put
-  pub printed_put : block.failed ≡ false → block.held ≡ [] → (now ≡ append_known before text) × ((block.written ≡ capped (length text)) × (faults ≡ start))
-  printed_put good none =
+  pub appended_put : block.failed ≡ false → block.held ≡ [] → (now ≡ append_known before text) × ((block.written ≡ capped (length text)) × (faults ≡ start))
+  appended_put good none =
       let front = put_ends good none in
       (p.taken ∙ ap (append_known before) front, (p.count ∙ ap (λ (l : List ℕ). capped (length l)) front, rw good at p.fails))
 
   -- a put was refused: what the sink took is told, and is not all
-  pub printed_cut : block.failed ≡ true → length text < 18446744073709551615
+  pub appended_cut : block.failed ≡ true → length text < 18446744073709551615
       → (now ≡ append_known before (take block.written text)) × ((block.written < length text) × (faults ≡ after_put start true))
-  printed_cut failed short =
+  appended_cut failed short =
       let some : 0 < length p.rest = rw failed at p.held in
       let whole = ap length p.whole in
       let few : length p.front < length text = omega (arith, some, whole, length-append p.front p.rest) in

@@ -1,8 +1,8 @@
--- Texts of cells that were made before; and text that is printed but for its last bytes.
+-- Texts of cells that were made before; and text that is appended but for its last bytes.
 use Rattle.std.specs.Prelude.{ℕ, ◌≡◌, ◌<◌, ◌≤◌, List, ◌∷◌, ◌++◌, Option}
 use Rattle.std.specs.Simd.Lanes.{digits_l}
 use Rattle.cell_devices.specs.Device.{Faults}
-use Rattle.cell_devices.specs.Sticky.{StickyValue, Appends}
+use Rattle.cell_devices.specs.Blocks.{BlockValue, Appends}
 use Rattle.cell_core.specs.Grid.{CellValue}
 use Rattle.cell_core.specs.Text.{cell_text}
 use Rattle.cell_ascii_writer.specs.declared.fields.Field.{Field}
@@ -20,8 +20,8 @@ pub record IsFieldOf (null_text : List ℕ) (cell : CellValue) (bytes size : ℕ
 abbrev pub IsField : List ℕ → Field → Type 0
 IsField null_text field = 0 < field.size → IsFieldOf null_text field.cell field.bytes field.size
 
--- a text is printed but for its last bytes, which are still to be
-pub record PrintsBut {S : Type 0} (taken : S → Option (List ℕ)) (faults : S → Faults) (old : S) (block : StickyValue) (text pending : List ℕ) (now : S) (new : StickyValue) : Type 0 where
+-- a text is appended but for its last bytes, which are still to be
+pub record AppendsBut {S : Type 0} (taken : S → Option (List ℕ)) (faults : S → Faults) (old : S) (block : BlockValue) (text pending : List ℕ) (now : S) (new : BlockValue) : Type 0 where
   pub front : List ℕ
   pub whole : front ++ pending ≡ text
   pub appends : Appends taken faults old block front now new

@@ -1,7 +1,6 @@
 -- The cells of a row as they are written, run by run.
-use Rattle.std.specs.Prelude.{ℕ, ◌<◌, List, ◌∷◌, ◌++◌, length, map, flat_map, replicate, Option}
+use Rattle.std.specs.Prelude.{ℕ, List, ◌∷◌, map, flat_map, replicate}
 use Rattle.std.specs.List.{join_with_byte}
-use Rattle.cell_devices.specs.Blocks.{BlockValue, Gathered}
 use Rattle.cell_core.specs.Grid.{CellValue}
 use Rattle.cell_core.specs.Text.{cell_text}
 
@@ -16,7 +15,3 @@ cells_text null_text cells = flat_map (λ cell. 32 ∷ cell_text null_text cell)
 -- the cells, with a space between each two
 abbrev pub joined_cells : List ℕ → List CellValue → List ℕ
 joined_cells null_text cells = join_with_byte 32 (map (cell_text null_text) cells)
-
--- the sink took less than what was gathered and the bytes
-abbrev pub FallsShort : Option (List ℕ) → BlockValue → List ℕ → ℕ → Type 0
-FallsShort taken old bytes written = (before : Option (List ℕ)) (text : List ℕ) → Gathered before text taken old → written < length (text ++ bytes)

@@ -2,5 +2,4 @@
 #![tactic(auto)]
 
 mod fields;
-pub mod sticky_writer;
 pub mod writer;

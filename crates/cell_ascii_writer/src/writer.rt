@@ -1,14 +1,16 @@
 //! Writing a map as a grid text.
 
-ghost use Rattle.std.specs.Prelude.{◌≡◌, ◌+◌, ◌*◌, ◌<◌, ◌≤◌, ◌==◌, [], ◌∷◌, ◌++◌, codes, decimal, drop, flat_map, length, replicate, reverse, take, OnOk, IfOk, IfErr, is_err};
-ghost use Rattle.std.specs.List.{prefix_len};
-ghost use Rattle.cell_devices.specs.Blocks.{Gathers, CutsOff, counted};
+ghost use Rattle.std.specs.Prelude.{◌≡◌, ◌+◌, ◌<◌, ◌≤◌, ◌==◌, [], ◌∷◌, ◌++◌, codes, decimal, drop, flat_map, length, replicate, reverse, take, OnOk, IfOk, IfErr, is_err};
+ghost use Rattle.std.specs.List.{All, prefix_len};
+ghost use Rattle.cell_devices.specs.Blocks.{Appends};
 ghost use Rattle.cell_devices.specs.Device.{append_known, after_put};
 ghost use Rattle.cell_core.specs.Grid.{row_at};
 ghost use Rattle.cell_core.specs.Runs.{AreRuns, written_out};
-ghost use Rattle.cell_ascii_writer.specs.WrittenRuns.{FallsShort, cells_text, joined_cells, times};
 ghost use Rattle.cell_ascii_text.specs.Writing.{IsNullText, coordinate_text, fraction_text, grid_text, line_of_key, null_line, region_text, row_text, units_text, without_zeros};
+ghost use Rattle.cell_ascii_writer.specs.Fields.{IsField, AppendsBut, low_bytes};
+ghost use Rattle.cell_ascii_writer.specs.WrittenRuns.{cells_text, joined_cells, times};
 
+use crate::fields::{FIELDS, Field, field_at, free_field, new_field, put_field};
 use cell_core::block::Block;
 use cell_core::cell::Cell;
 use cell_core::map::CellMap;
@@ -21,11 +23,14 @@ use itoa::Buffer;
 // The bytes of a space and of the longest text of a cell.
 const FIELD: usize = 65;
 
-// The least number of four digits.
-pub(crate) const LEAST_LONG: i32 = 1000;
-
 // How many units a coordinate of 1 has.
-pub(crate) const UNIT: u64 = 100000000;
+const UNIT: u64 = 100000000;
+
+// How many bytes of a row are gathered before they are pushed.
+const LINE: usize = 1024;
+
+// The most bytes of a field that is kept.
+const MOST_FIELD: usize = 8;
 
 // How many zeros stand at the end.
 fn zeros_at_end(digits: &[u8]) -> usize
@@ -36,7 +41,7 @@ fn zeros_at_end(digits: &[u8]) -> usize
 }
 
 // The digits without the zeros at their end.
-pub(crate) fn without_zeros(digits: &[u8]) -> &[u8]
+fn without_zeros(digits: &[u8]) -> &[u8]
     ensures value { result.now ≡ without_zeros digits.now }
     ensures len { length result.now ≤ length digits.now }
 {
@@ -45,7 +50,7 @@ pub(crate) fn without_zeros(digits: &[u8]) -> &[u8]
 
 // The eight digits of a part: those of its sum with 10^8, but for the 1 in front.
 #[tactic(auto, using(std::proofs::lemmas::Fmt::decimal_nonempty))]
-pub(crate) fn eight_digits(buffer: &mut Buffer, part: u64) -> &[u8]
+fn eight_digits(buffer: &mut Buffer, part: u64) -> &[u8]
     requires { part < 100000000 }
     ensures value { result.now ≡ drop 1 (decimal (100000000 + part)) }
     ensures len { length result.now ≤ 40 }
@@ -55,149 +60,88 @@ pub(crate) fn eight_digits(buffer: &mut Buffer, part: u64) -> &[u8]
 }
 
 // Writes a point and the eight digits of a part, without the zeros at their end, or nothing where it is 0.
-fn write_fraction<W: Sink>(out: &mut W, block: &mut Block, part: u64) -> Result<(), WriteFault>
+fn write_fraction<W: Sink>(out: &mut W, block: &mut Block, part: u64)
     requires { part < 100000000 }
-    ensures ok { OnOk result (Gathers (W.taken out.old) block.old (fraction_text part) (W.taken out.new) block.new) }
-    ensures err { IfErr result (λ fault. CutsOff (W.taken out.old) block.old (fraction_text part) (W.taken out.new) fault.written) }
-    ensures lost { IfErr result (λ fault. block.new ≡ record { held = []; written = fault.written }) }
-    ensures counted { counted block.new ≤ counted block.old + 41 }
-    ensures faults { W.faults out.new ≡ after_put (W.faults out.old) (is_err result) }
+    ensures { Appends W.taken W.faults out.old block.old (fraction_text part) out.new block.new }
 {
     if part == 0 {
-        return Ok(());
+        return;
     }
-    block.push(out, b".")?;
-    block.push(out, without_zeros(eight_digits(&mut Buffer::new(), part)))
+    block.push(out, b".");
+    block.push(out, without_zeros(eight_digits(&mut Buffer::new(), part)));
 }
 
 // Writes a number of units that is not negative.
-fn write_units<W: Sink>(out: &mut W, block: &mut Block, units: u64) -> Result<(), WriteFault>
-    ensures ok { OnOk result (Gathers (W.taken out.old) block.old (units_text units) (W.taken out.new) block.new) }
-    ensures err { IfErr result (λ fault. CutsOff (W.taken out.old) block.old (units_text units) (W.taken out.new) fault.written) }
-    ensures lost { IfErr result (λ fault. block.new ≡ record { held = []; written = fault.written }) }
-    ensures counted { counted block.new ≤ counted block.old + 81 }
-    ensures faults { W.faults out.new ≡ after_put (W.faults out.old) (is_err result) }
+fn write_units<W: Sink>(out: &mut W, block: &mut Block, units: u64)
+    ensures { Appends W.taken W.faults out.old block.old (units_text units) out.new block.new }
 {
-    block.push(out, Buffer::new().format(units / UNIT).as_bytes())?;
-    write_fraction(out, block, units % UNIT)
+    block.push(out, Buffer::new().format(units / UNIT).as_bytes());
+    write_fraction(out, block, units % UNIT);
 }
 
 // Writes a coordinate, in units of 10^-8.
-fn write_coordinate<W: Sink>(out: &mut W, block: &mut Block, units: i64) -> Result<(), WriteFault>
-    ensures ok { OnOk result (Gathers (W.taken out.old) block.old (coordinate_text units) (W.taken out.new) block.new) }
-    ensures err { IfErr result (λ fault. CutsOff (W.taken out.old) block.old (coordinate_text units) (W.taken out.new) fault.written) }
-    ensures lost { IfErr result (λ fault. block.new ≡ record { held = []; written = fault.written }) }
-    ensures counted { counted block.new ≤ counted block.old + 82 }
-    ensures faults { W.faults out.new ≡ after_put (W.faults out.old) (is_err result) }
+fn write_coordinate<W: Sink>(out: &mut W, block: &mut Block, units: i64)
+    ensures { Appends W.taken W.faults out.old block.old (coordinate_text units) out.new block.new }
 {
     if units < 0 {
-        block.push(out, b"-")?;
+        block.push(out, b"-");
     }
-    write_units(out, block, units.unsigned_abs())
+    write_units(out, block, units.unsigned_abs());
 }
 
 // Writes a key and what parts it from its value.
-fn write_key<W: Sink>(out: &mut W, block: &mut Block, key: &[u8]) -> Result<(), WriteFault>
-    requires { length key.now ≤ 5 }
-    ensures ok { OnOk result (Gathers (W.taken out.old) block.old (key.now ++ codes ": ") (W.taken out.new) block.new) }
-    ensures err { IfErr result (λ fault. CutsOff (W.taken out.old) block.old (key.now ++ codes ": ") (W.taken out.new) fault.written) }
-    ensures lost { IfErr result (λ fault. block.new ≡ record { held = []; written = fault.written }) }
-    ensures counted { counted block.new ≤ counted block.old + 7 }
-    ensures faults { W.faults out.new ≡ after_put (W.faults out.old) (is_err result) }
+fn write_key<W: Sink>(out: &mut W, block: &mut Block, key: &[u8])
+    ensures { Appends W.taken W.faults out.old block.old (key.now ++ codes ": ") out.new block.new }
 {
-    block.push(out, key)?;
-    block.push(out, b": ")
+    block.push(out, key);
+    block.push(out, b": ");
 }
 
 // Writes the header line of an edge, in units of 10^-8.
-fn write_edge<W: Sink>(
-    out: &mut W,
-    block: &mut Block,
-    key: &[u8],
-    edge: i64,
-) -> Result<(), WriteFault>
-    requires { length key.now ≤ 5 }
-    ensures ok { OnOk result (Gathers (W.taken out.old) block.old (line_of_key key.now (coordinate_text edge)) (W.taken out.new) block.new) }
-    ensures err { IfErr result (λ fault. CutsOff (W.taken out.old) block.old (line_of_key key.now (coordinate_text edge)) (W.taken out.new) fault.written) }
-    ensures lost { IfErr result (λ fault. block.new ≡ record { held = []; written = fault.written }) }
-    ensures counted { counted block.new ≤ counted block.old + 90 }
-    ensures faults { W.faults out.new ≡ after_put (W.faults out.old) (is_err result) }
+fn write_edge<W: Sink>(out: &mut W, block: &mut Block, key: &[u8], edge: i64)
+    ensures { Appends W.taken W.faults out.old block.old (line_of_key key.now (coordinate_text edge)) out.new block.new }
 {
-    write_key(out, block, key)?;
-    write_coordinate(out, block, edge)?;
-    block.push(out, b"\n")
+    write_key(out, block, key);
+    write_coordinate(out, block, edge);
+    block.push(out, b"\n");
 }
 
 // Writes a header line.
-fn write_line<W: Sink>(
-    out: &mut W,
-    block: &mut Block,
-    key: &[u8],
-    value: &[u8],
-) -> Result<(), WriteFault>
-    requires key { length key.now ≤ 5 }
-    requires value { length value.now ≤ 64 }
-    ensures ok { OnOk result (Gathers (W.taken out.old) block.old (line_of_key key.now value.now) (W.taken out.new) block.new) }
-    ensures err { IfErr result (λ fault. CutsOff (W.taken out.old) block.old (line_of_key key.now value.now) (W.taken out.new) fault.written) }
-    ensures lost { IfErr result (λ fault. block.new ≡ record { held = []; written = fault.written }) }
-    ensures counted { counted block.new ≤ counted block.old + 72 }
-    ensures faults { W.faults out.new ≡ after_put (W.faults out.old) (is_err result) }
+fn write_line<W: Sink>(out: &mut W, block: &mut Block, key: &[u8], value: &[u8])
+    ensures { Appends W.taken W.faults out.old block.old (line_of_key key.now value.now) out.new block.new }
 {
-    write_key(out, block, key)?;
-    block.push(out, value)?;
-    block.push(out, b"\n")
+    write_key(out, block, key);
+    block.push(out, value);
+    block.push(out, b"\n");
 }
 
 // Writes the header line of a number of rows or columns.
-fn write_side<W: Sink>(
-    out: &mut W,
-    block: &mut Block,
-    key: &[u8],
-    count: u32,
-) -> Result<(), WriteFault>
-    requires { length key.now ≤ 5 }
-    ensures ok { OnOk result (Gathers (W.taken out.old) block.old (line_of_key key.now (decimal count)) (W.taken out.new) block.new) }
-    ensures err { IfErr result (λ fault. CutsOff (W.taken out.old) block.old (line_of_key key.now (decimal count)) (W.taken out.new) fault.written) }
-    ensures lost { IfErr result (λ fault. block.new ≡ record { held = []; written = fault.written }) }
-    ensures counted { counted block.new ≤ counted block.old + 72 }
-    ensures faults { W.faults out.new ≡ after_put (W.faults out.old) (is_err result) }
+fn write_side<W: Sink>(out: &mut W, block: &mut Block, key: &[u8], count: u32)
+    ensures { Appends W.taken W.faults out.old block.old (line_of_key key.now (decimal count)) out.new block.new }
 {
-    write_line(out, block, key, Buffer::new().format(count).as_bytes())
+    write_line(out, block, key, Buffer::new().format(count).as_bytes());
 }
 
 // Writes the six lines of a region.
-fn write_region<W: Sink>(out: &mut W, block: &mut Block, region: Region) -> Result<(), WriteFault>
-    ensures ok { OnOk result (Gathers (W.taken out.old) block.old (region_text region) (W.taken out.new) block.new) }
-    ensures err { IfErr result (λ fault. CutsOff (W.taken out.old) block.old (region_text region) (W.taken out.new) fault.written) }
-    ensures lost { IfErr result (λ fault. block.new ≡ record { held = []; written = fault.written }) }
-    ensures counted { counted block.new ≤ counted block.old + 504 }
-    ensures faults { W.faults out.new ≡ after_put (W.faults out.old) (is_err result) }
+fn write_region<W: Sink>(out: &mut W, block: &mut Block, region: Region)
+    ensures { Appends W.taken W.faults out.old block.old (region_text region) out.new block.new }
 {
-    write_edge(out, block, b"north", region.north())?;
-    write_edge(out, block, b"south", region.south())?;
-    write_edge(out, block, b"east", region.east())?;
-    write_edge(out, block, b"west", region.west())?;
-    write_side(out, block, b"rows", region.rows())?;
-    write_side(out, block, b"cols", region.cols())
+    write_edge(out, block, b"north", region.north());
+    write_edge(out, block, b"south", region.south());
+    write_edge(out, block, b"east", region.east());
+    write_edge(out, block, b"west", region.west());
+    write_side(out, block, b"rows", region.rows());
+    write_side(out, block, b"cols", region.cols());
 }
 
 // Writes the line of the null text, where that is not the usual one.
-fn write_null_line<W: Sink>(
-    out: &mut W,
-    block: &mut Block,
-    null_text: &[u8],
-) -> Result<(), WriteFault>
-    requires { length null_text.now ≤ 64 }
-    ensures ok { OnOk result (Gathers (W.taken out.old) block.old (null_line null_text.now) (W.taken out.new) block.new) }
-    ensures err { IfErr result (λ fault. CutsOff (W.taken out.old) block.old (null_line null_text.now) (W.taken out.new) fault.written) }
-    ensures lost { IfErr result (λ fault. block.new ≡ record { held = []; written = fault.written }) }
-    ensures counted { counted block.new ≤ counted block.old + 72 }
-    ensures faults { W.faults out.new ≡ after_put (W.faults out.old) (is_err result) }
+fn write_null_line<W: Sink>(out: &mut W, block: &mut Block, null_text: &[u8])
+    ensures { Appends W.taken W.faults out.old block.old (null_line null_text.now) out.new block.new }
 {
     if null_text == b"*".as_slice() {
-        return Ok(());
+        return;
     }
-    write_line(out, block, b"null", null_text)
+    write_line(out, block, b"null", null_text);
 }
 
 // A space and a text, with spaces after them.
@@ -212,223 +156,255 @@ pub(crate) fn spaced(text: &[u8]) -> [u8; FIELD]
 
 // Writes a field, so many times. It is inlined, so that a field of a known length is copied without a call.
 #[inline(always)]
-fn write_copies<W: Sink>(
-    out: &mut W,
-    block: &mut Block,
-    field: &[u8],
-    count: u32,
-) -> Result<(), WriteFault>
-    requires { length field.now ≤ 65 }
-    ensures ok { OnOk result (Gathers (W.taken out.old) block.old (times count field.now) (W.taken out.new) block.new) }
-    ensures err { IfErr result (λ fault. CutsOff (W.taken out.old) block.old (times count field.now) (W.taken out.new) fault.written) }
-    ensures lost { IfErr result (λ fault. block.new ≡ record { held = []; written = fault.written }) }
-    ensures counted { counted block.new ≤ counted block.old + 65 * count }
-    ensures faults { W.faults out.new ≡ after_put (W.faults out.old) (is_err result) }
+fn write_copies<W: Sink>(out: &mut W, block: &mut Block, field: &[u8], count: u32)
+    ensures { Appends W.taken W.faults out.old block.old (times count field.now) out.new block.new }
 {
     for _ in 0..count {
-        block.push(out, field)?;
+        block.push(out, field);
     }
-    Ok(())
 }
 
 // Writes a space and a text, so many times.
-fn write_times<W: Sink>(
-    out: &mut W,
-    block: &mut Block,
-    text: &[u8],
-    count: u32,
-) -> Result<(), WriteFault>
+fn write_times<W: Sink>(out: &mut W, block: &mut Block, text: &[u8], count: u32)
     requires { length text.now ≤ 64 }
-    ensures ok { OnOk result (Gathers (W.taken out.old) block.old (times count (32 ∷ text.now)) (W.taken out.new) block.new) }
-    ensures err { IfErr result (λ fault. CutsOff (W.taken out.old) block.old (times count (32 ∷ text.now)) (W.taken out.new) fault.written) }
-    ensures lost { IfErr result (λ fault. block.new ≡ record { held = []; written = fault.written }) }
-    ensures counted { counted block.new ≤ counted block.old + 65 * count }
-    ensures faults { W.faults out.new ≡ after_put (W.faults out.old) (is_err result) }
+    ensures { Appends W.taken W.faults out.old block.old (times count (32 ∷ text.now)) out.new block.new }
 {
     let bytes = spaced(text);
-    write_copies(out, block, &bytes[..text.len() + 1], count)
+    write_copies(out, block, &bytes[..text.len() + 1], count);
 }
 
-// The digit of a number.
-fn digit(number: u32) -> u8
-    requires { number < 10 }
-    ensures { result ≡ 48 + number }
-{
-    b'0' + number as u8
-}
-
-// A space and a number of one digit.
-#[tactic(auto, using(std::proofs::lemmas::Fmt::decimal_digit))]
-pub(crate) fn one_digit(number: u32) -> [u8; 2]
-    requires { number < 10 }
-    ensures { result ≡ 32 ∷ decimal number }
-{
-    [b' ', digit(number)]
-}
-
-// A space and a number of two digits.
-#[tactic(auto, using(crate::proofs::ShortNumberLemmas::decimal_two))]
-pub(crate) fn two_digits(number: u32) -> [u8; 3]
-    requires { (10 ≤ number) × (number < 100) }
-    ensures { result ≡ 32 ∷ decimal number }
-{
-    [b' ', digit(number / 10), digit(number % 10)]
-}
-
-// A space and a number of three digits.
-#[tactic(auto, using(crate::proofs::ShortNumberLemmas::decimal_three))]
-pub(crate) fn three_digits(number: u32) -> [u8; 4]
-    requires { (100 ≤ number) × (number < 1000) }
-    ensures { result ≡ 32 ∷ decimal number }
-{
-    [
-        b' ',
-        digit(number / 100),
-        digit(number / 10 % 10),
-        digit(number % 10),
-    ]
-}
-
-// Writes a space and a number of up to three digits, so many times: straight into the block.
-fn write_short<W: Sink>(
-    out: &mut W,
-    block: &mut Block,
-    number: u32,
-    count: u32,
-) -> Result<(), WriteFault>
-    requires { number < 1000 }
-    ensures ok { OnOk result (Gathers (W.taken out.old) block.old (times count (32 ∷ decimal number)) (W.taken out.new) block.new) }
-    ensures err { IfErr result (λ fault. CutsOff (W.taken out.old) block.old (times count (32 ∷ decimal number)) (W.taken out.new) fault.written) }
-    ensures lost { IfErr result (λ fault. block.new ≡ record { held = []; written = fault.written }) }
-    ensures counted { counted block.new ≤ counted block.old + 65 * count }
-    ensures faults { W.faults out.new ≡ after_put (W.faults out.old) (is_err result) }
-{
-    if number < 10 {
-        write_copies(out, block, &one_digit(number), count)
-    } else if number < 100 {
-        write_copies(out, block, &two_digits(number), count)
-    } else {
-        write_copies(out, block, &three_digits(number), count)
-    }
-}
-
-// Writes a space and the cell of a run, as often as it stands there. Its text is made once.
-fn write_run<W: Sink>(
-    out: &mut W,
-    block: &mut Block,
-    cell: Cell,
-    count: u32,
-    null_text: &[u8],
-) -> Result<(), WriteFault>
+// Writes a space and the cell of a run, as often as it stands there, straight into the block. Its text is made once.
+fn write_long_run<W: Sink>(out: &mut W, block: &mut Block, cell: Cell, count: u32, null_text: &[u8])
     requires { length null_text.now ≤ 64 }
-    ensures ok { OnOk result (Gathers (W.taken out.old) block.old (cells_text null_text.now (replicate count cell)) (W.taken out.new) block.new) }
-    ensures err { IfErr result (λ fault. CutsOff (W.taken out.old) block.old (cells_text null_text.now (replicate count cell)) (W.taken out.new) fault.written) }
-    ensures lost { IfErr result (λ fault. block.new ≡ record { held = []; written = fault.written }) }
-    ensures counted { counted block.new ≤ counted block.old + 65 * count }
-    ensures faults { W.faults out.new ≡ after_put (W.faults out.old) (is_err result) }
+    ensures { Appends W.taken W.faults out.old block.old (cells_text null_text.now (replicate count cell)) out.new block.new }
 {
     match cell.get() {
         None => write_times(out, block, null_text, count),
-        Some(category) if category >= 0 && category < LEAST_LONG => {
-            write_short(out, block, category as u32, count)
-        }
         Some(category) => write_times(out, block, Buffer::new().format(category).as_bytes(), count),
     }
 }
 
-// Writes a space and a cell for each cell of the runs.
+// Pushes the bytes of a line up to a place. It is not inlined, as it would take registers from the loops over cells.
+#[inline(never)]
+fn push_line<W: Sink>(out: &mut W, block: &mut Block, line: &[u8], end: usize)
+    requires { end ≤ length line.now }
+    ensures { Appends W.taken W.faults out.old block.old (take end line.now) out.new block.new }
+{
+    block.push(out, &line[..end]);
+}
+
+// The same where no field has room behind them. Returns where the bytes end that are left.
+#[inline(always)]
+fn make_room<W: Sink>(out: &mut W, block: &mut Block, line: &[u8], end: usize) -> usize
+    requires room { length line.now ≡ 1024 }
+    requires within { end ≤ 1024 }
+    ensures text { AppendsBut W.taken W.faults out.old block.old (take end line.now) (take result line.now) out.new block.new }
+    ensures within { result ≤ 1016 }
+{
+    if end <= LINE - MOST_FIELD {
+        return end;
+    }
+    push_line(out, block, line, end);
+    0
+}
+
+// Writes a field, so many times, into a line from a place on, whose bytes before it are still to be pushed. Pushes the line
+// whenever it is full, and returns where the bytes end that are left.
+#[inline(always)]
+fn write_field<W: Sink>(
+    out: &mut W,
+    block: &mut Block,
+    line: &mut [u8],
+    start: usize,
+    field: (u64, u32),
+    count: u32,
+) -> usize
+    requires room { length line.old ≡ 1024 }
+    requires within { start ≤ 1024 }
+    requires few { field.1 ≤ 8 }
+    ensures text { AppendsBut W.taken W.faults out.old block.old (take start line.old ++ times count (low_bytes field.0 field.1)) (take result line.new) out.new block.new }
+    ensures within { result ≤ 1024 }
+{
+    let mut end = start;
+    for _ in 0..count {
+        let at = make_room(out, block, line, end);
+        put_field(line, at, field.0);
+        end = at + field.1 as usize;
+    }
+    end
+}
+
+// Writes a space and the cell of a run, as often as it stands there, in the same way, where its field is not kept.
+#[inline(never)]
+fn write_new_run<W: Sink>(
+    out: &mut W,
+    block: &mut Block,
+    fields: &mut [Field],
+    line: &mut [u8],
+    start: usize,
+    run: (Cell, u32),
+    null_text: &[u8],
+) -> usize
+    requires null { length null_text.now ≤ 64 }
+    requires kept { length fields.old ≡ 1024 }
+    requires known { All (IsField null_text.now) fields.old }
+    requires room { length line.old ≡ 1024 }
+    requires within { start ≤ 1024 }
+    ensures text { AppendsBut W.taken W.faults out.old block.old (take start line.old ++ cells_text null_text.now (replicate run.1 run.0)) (take result line.new) out.new block.new }
+    ensures within { result ≤ 1024 }
+    ensures known { All (IsField null_text.now) fields.new }
+{
+    let Some(field) = new_field(run.0, null_text, fields) else {
+        push_line(out, block, line, start);
+        write_long_run(out, block, run.0, run.1, null_text);
+        return 0;
+    };
+    write_field(out, block, line, start, field, run.1)
+}
+
+// The same, whether its field is kept or not.
+#[inline(always)]
+fn write_run<W: Sink>(
+    out: &mut W,
+    block: &mut Block,
+    fields: &mut [Field],
+    line: &mut [u8],
+    start: usize,
+    run: (Cell, u32),
+    null_text: &[u8],
+) -> usize
+    requires null { length null_text.now ≤ 64 }
+    requires kept { length fields.old ≡ 1024 }
+    requires known { All (IsField null_text.now) fields.old }
+    requires room { length line.old ≡ 1024 }
+    requires within { start ≤ 1024 }
+    ensures text { AppendsBut W.taken W.faults out.old block.old (take start line.old ++ cells_text null_text.now (replicate run.1 run.0)) (take result line.new) out.new block.new }
+    ensures within { result ≤ 1024 }
+    ensures known { All (IsField null_text.now) fields.new }
+{
+    let field = field_at(run.0, null_text, fields);
+    if field.size > 0 && field.cell == run.0 {
+        return write_field(out, block, line, start, (field.bytes, field.size), run.1);
+    }
+    write_new_run(out, block, fields, line, start, run, null_text)
+}
+
+// Writes a space and a cell for each cell of the runs, behind the bytes of a line that are still to be pushed.
 fn write_runs<W: Sink>(
     out: &mut W,
     block: &mut Block,
+    fields: &mut [Field],
+    line: &mut [u8],
+    start: usize,
     runs: Runs<'_>,
     null_text: &[u8],
-) -> Result<(), WriteFault>
-    requires { length null_text.now ≤ 64 }
-    ensures ok { OnOk result (Gathers (W.taken out.old) block.old (cells_text null_text.now (written_out runs.entry)) (W.taken out.new) block.new) }
-    ensures err { IfErr result (λ fault. CutsOff (W.taken out.old) block.old (cells_text null_text.now (written_out runs.entry)) (W.taken out.new) fault.written) }
-    ensures lost { IfErr result (λ fault. block.new ≡ record { held = []; written = fault.written }) }
-    ensures counted { counted block.new ≤ counted block.old + 65 * length (written_out runs.entry) }
-    ensures faults { W.faults out.new ≡ after_put (W.faults out.old) (is_err result) }
+)
+    requires null { length null_text.now ≤ 64 }
+    requires kept { length fields.old ≡ 1024 }
+    requires known { All (IsField null_text.now) fields.old }
+    requires room { length line.old ≡ 1024 }
+    requires within { start ≤ 1024 }
+    ensures text { Appends W.taken W.faults out.old block.old (take start line.old ++ cells_text null_text.now (written_out runs.entry)) out.new block.new }
+    ensures known { All (IsField null_text.now) fields.new }
 {
+    let mut end = start;
     for (cell, count) in runs {
-        write_run(out, block, cell, count, null_text)?;
+        end = write_run(out, block, fields, line, end, (cell, count), null_text);
     }
-    Ok(())
+    push_line(out, block, line, end);
 }
 
 // Writes the cells of the runs of a row, with a space between each two.
 fn write_cells<W: Sink>(
     out: &mut W,
     block: &mut Block,
+    fields: &mut [Field],
+    line: &mut [u8],
     runs: Runs<'_>,
     null_text: &[u8],
-) -> Result<(), WriteFault>
+)
     requires null { length null_text.now ≤ 64 }
     requires runs { AreRuns runs }
-    ensures ok { OnOk result (Gathers (W.taken out.old) block.old (joined_cells null_text.now (written_out runs.entry)) (W.taken out.new) block.new) }
-    ensures err { IfErr result (λ fault. CutsOff (W.taken out.old) block.old (joined_cells null_text.now (written_out runs.entry)) (W.taken out.new) fault.written) }
-    ensures lost { IfErr result (λ fault. block.new ≡ record { held = []; written = fault.written }) }
-    ensures counted { counted block.new ≤ counted block.old + (75 + 65 * length (written_out runs.entry)) }
-    ensures faults { W.faults out.new ≡ after_put (W.faults out.old) (is_err result) }
+    requires kept { length fields.old ≡ 1024 }
+    requires known { All (IsField null_text.now) fields.old }
+    requires room { length line.old ≡ 1024 }
+    ensures text { Appends W.taken W.faults out.old block.old (joined_cells null_text.now (written_out runs.entry)) out.new block.new }
+    ensures known { All (IsField null_text.now) fields.new }
 {
     let mut others = runs;
     let Some(first) = others.next() else {
-        return Ok(());
+        return;
     };
-    write_cell(out, block, first.0, null_text)?;
-    write_run(out, block, first.0, first.1 - 1, null_text)?;
-    write_runs(out, block, others, null_text)
+    write_cell(out, block, first.0, null_text);
+    let others_alike = (first.0, first.1 - 1);
+    let end = write_run(out, block, fields, line, 0, others_alike, null_text);
+    write_runs(out, block, fields, line, end, others, null_text);
 }
 
 // Writes the line of a row.
 fn write_row<W: Sink>(
     out: &mut W,
     block: &mut Block,
+    fields: &mut [Field],
+    line: &mut [u8],
     map: &CellMap,
     row: u32,
     null_text: &[u8],
-) -> Result<(), WriteFault>
+)
     requires null { length null_text.now ≤ 64 }
     requires row { row < map.now.region.rows }
-    requires cols { map.now.region.cols ≤ 65535 }
-    ensures ok { OnOk result (Gathers (W.taken out.old) block.old (row_text null_text.now (row_at map.now row)) (W.taken out.new) block.new) }
-    ensures err { IfErr result (λ fault. CutsOff (W.taken out.old) block.old (row_text null_text.now (row_at map.now row)) (W.taken out.new) fault.written) }
-    ensures short { IfErr result (λ fault. FallsShort (W.taken out.old) block.old (row_text null_text.now (row_at map.now row)) fault.written) }
-    ensures lost { IfErr result (λ fault. block.new ≡ record { held = []; written = fault.written }) }
-    ensures counted { counted block.new ≤ counted block.old + 76 * 65535 }
-    ensures faults { W.faults out.new ≡ after_put (W.faults out.old) (is_err result) }
+    requires kept { length fields.old ≡ 1024 }
+    requires known { All (IsField null_text.now) fields.old }
+    requires room { length line.old ≡ 1024 }
+    ensures text { Appends W.taken W.faults out.old block.old (row_text null_text.now (row_at map.now row)) out.new block.new }
+    ensures known { All (IsField null_text.now) fields.new }
 {
-    write_cells(out, block, map.runs(row), null_text)?;
-    block.push(out, b"\n")
+    write_cells(out, block, fields, line, map.runs(row), null_text);
+    block.push(out, b"\n");
 }
 
 // Writes the lines of all rows.
-fn write_rows<W: Sink>(
-    out: &mut W,
-    block: &mut Block,
-    map: &CellMap,
-    null_text: &[u8],
-) -> Result<(), WriteFault>
+fn write_rows<W: Sink>(out: &mut W, block: &mut Block, map: &CellMap, null_text: &[u8])
     requires { length null_text.now ≤ 64 }
-    ensures ok { OnOk result (Gathers (W.taken out.old) block.old (flat_map (row_text null_text.now) map.now.rows) (W.taken out.new) block.new) }
-    ensures err { IfErr result (λ fault. CutsOff (W.taken out.old) block.old (flat_map (row_text null_text.now) map.now.rows) (W.taken out.new) fault.written) }
-    ensures short { IfErr result (λ fault. FallsShort (W.taken out.old) block.old (flat_map (row_text null_text.now) map.now.rows) fault.written) }
-    ensures lost { IfErr result (λ fault. block.new ≡ record { held = []; written = fault.written }) }
-    ensures counted { counted block.new ≤ counted block.old + 76 * 65535 * 65535 }
-    ensures faults { W.faults out.new ≡ after_put (W.faults out.old) (is_err result) }
+    ensures { Appends W.taken W.faults out.old block.old (flat_map (row_text null_text.now) map.now.rows) out.new block.new }
 {
+    let mut fields = [free_field(); FIELDS];
+    let mut line = [0u8; LINE];
     for row in 0..map.region().rows() {
-        write_row(out, block, map, row, null_text)?;
+        if block.has_failed() {
+            return;
+        }
+        write_row(out, block, &mut fields, &mut line, map, row, null_text);
     }
-    Ok(())
 }
 
-/// Writes the grid text of a map, and answers its number of bytes.
+/// Writes the grid text of a map through a block.
 ///
 /// These are the six lines of the region, the line of the null text where that is not `*`, and a
 /// line for each row, with one space between the cells (r.out.ascii manual). A coordinate is
 /// printed exactly, a category in decimal, and null as the null text: 1 to 64 bytes, none of them
-/// a blank, a line feed or a colon (profile). Each put carries a few KiB. Takes no memory.
+/// a blank, a line feed or a colon (profile). Takes no memory. After a refused put nothing more is written.
+pub fn write_grid<W: Sink>(out: &mut W, block: &mut Block, map: &CellMap, null_text: &[u8])
+    requires { length null_text.now ≤ 64 }
+    ensures { Appends W.taken W.faults out.old block.old (grid_text null_text.now map.now) out.new block.new }
+{
+    write_region(out, block, map.region());
+    write_null_line(out, block, null_text);
+    write_rows(out, block, map, null_text);
+}
+
+// Says that the lines of a region are short, and its sides. Does nothing.
+fn region_is_short(region: Region)
+    ensures lines { length (region_text region) ≤ 256 }
+    ensures rows { region.rows ≤ 65535 }
+    ensures cols { region.cols ≤ 65535 }
+{
+    let _ = (region.north(), region.south());
+    let _ = (region.east(), region.west());
+    let _ = region.rows();
+}
+
+/// Writes the grid text of a map to a sink, and answers its number of bytes. Each put carries a few KiB. Takes no memory.
 ///
 /// # Errors
 ///
@@ -438,16 +414,16 @@ pub fn write_map<W: Sink>(map: &CellMap, null_text: &[u8], out: &mut W) -> Resul
     ensures ok { OnOk result (W.taken out.new ≡ append_known (W.taken out.old) (grid_text null_text.now map.now)) }
     ensures length { IfOk result (λ n. n ≡ length (grid_text null_text.now map.now)) }
     ensures err { IfErr result (λ fault. W.taken out.new ≡ append_known (W.taken out.old) (take fault.written (grid_text null_text.now map.now))) }
-    ensures within { IfErr result (λ fault. fault.written ≤ length (grid_text null_text.now map.now)) }
     ensures short { IfErr result (λ fault. fault.written < length (grid_text null_text.now map.now)) }
     ensures faults { W.faults out.new ≡ after_put (W.faults out.old) (is_err result) }
 {
+    region_is_short(map.region());
+    map.cells_are_in_range();
     let mut block = Block::new();
-    // The proof looks at the number of rows: the text goes on after its header.
-    let _ = map.region().rows();
-    write_region(out, &mut block, map.region())?;
-    write_null_line(out, &mut block, null_text)?;
-    write_rows(out, &mut block, map, null_text)?;
-    block.empty(out)?;
-    Ok(block.written())
+    write_grid(out, &mut block, map, null_text);
+    block.empty(out);
+    match block.outcome() {
+        Ok(()) => Ok(block.written()),
+        Err(fault) => Err(fault),
+    }
 }

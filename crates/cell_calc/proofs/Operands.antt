@@ -5,7 +5,7 @@ use Rattle.std.proofs.lemmas.List.{take_all, length-map, length-take-le, length-
 use Rattle.std.proofs.lemmas.List.Elements.{All-head, All-push, All-same, All-tail, All-take}
 use Rattle.std.specs.Prelude.{All, OnOk, reverse}
 use Rattle.cell_core.specs.Grid.{CellValue}
-use Rattle.cell_formulas.specs.declared.step.Step.{Step}
+use Rattle.cell_steps.specs.declared.bound.Step.{Step}
 use Rattle.cell_calc.specs.declared.strip.Operand.{Operand}
 use Rattle.cell_calc.specs.declared.strip.Strip.{Strip}
 use Rattle.cell_calc.specs.Window.{Window}

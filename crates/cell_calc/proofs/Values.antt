@@ -5,8 +5,8 @@ use Rattle.std.proofs.lemmas.Int.{ints}
 use Rattle.std.proofs.lemmas.List.Elements.{All-head, All-tail}
 use Rattle.cell_core.specs.Grid.{Grid, CellValue}
 use Rattle.cell_language.specs.Grammatical.{up_by, down_by}
-use Rattle.cell_formulas.specs.declared.step.Step.{Step}
-use Rattle.cell_formulas.specs.declared.step.Step.TheVariants as step
+use Rattle.cell_steps.specs.declared.bound.Step.{Step}
+use Rattle.cell_steps.specs.declared.bound.Step.TheVariants as step
 use Rattle.cell_formulas.specs.Formula.{Formula, Formulas, NoFormulas, Then}
 use Rattle.cell_formulas.specs.Reach.{IsProper, top_of, up_of, down_of}
 use Rattle.cell_operations.specs.Applied.{Spot, applied, called, negated, inverted}

@@ -11,9 +11,9 @@ use crate::strip::{Operand, Spare, Strip};
 use crate::window::RowWindow;
 use cell_core::cell::Cell;
 use cell_core::memory::Memory;
-use cell_formulas::step::Step;
 use cell_rows::calls::call;
 use cell_rows::rows;
+use cell_steps::bound::Step;
 use cell_tokens::function::Function;
 use std::alloc::Global;
 

@@ -17,7 +17,7 @@ use cell_core::cell::Cell;
 use cell_core::memory::Memory;
 use cell_core::region::Region;
 use cell_formulas::bound::Bound;
-use cell_formulas::step::Step;
+use cell_steps::bound::Step;
 use std::alloc::Global;
 
 // The columns whose values are worked out at a time, so that the rows that a value needs stay near.

@@ -17,10 +17,10 @@ behind [] x (suc i) e = absurd (let no : ⊥ = omega arith in no)
 behind (y ∷ xs) x zero e = absurd (let no : ⊥ = omega arith in no)
 behind (y ∷ xs) x (suc i) e = behind xs x i (omega arith)
 
-pub reach_more : (f : Formula) (windows : List Window) (n : ℕ) (w : Window) → length windows ≡ n
-    → ((i : ℕ) → i < n → HasReach 0 (up_of i f) (down_of i f) (slice_get windows i)) → HasReach 0 (up_of n f) (down_of n f) (Some w)
-    → (i : ℕ) → i < n + 1 → HasReach 0 (up_of i f) (down_of i f) (slice_get (windows ++ w ∷ []) i)
-reach_more f windows n w count held new =
-    below_more (λ i. HasReach 0 (up_of i f) (down_of i f) (slice_get (windows ++ w ∷ []) i)) n
+pub reach_more : (f : Formula) (row : ℕ) (windows : List Window) (n : ℕ) (w : Window) → length windows ≡ n
+    → ((i : ℕ) → i < n → HasReach row (up_of i f) (down_of i f) (slice_get windows i)) → HasReach row (up_of n f) (down_of n f) (Some w)
+    → (i : ℕ) → i < n + 1 → HasReach row (up_of i f) (down_of i f) (slice_get (windows ++ w ∷ []) i)
+reach_more f row windows n w count held new =
+    below_more (λ i. HasReach row (up_of i f) (down_of i f) (slice_get (windows ++ w ∷ []) i)) n
     (λ i lt. let short : i < length windows = omega arith in rw (before windows (w ∷ []) i short) (held i lt))
     (rw (behind windows w n count) new)

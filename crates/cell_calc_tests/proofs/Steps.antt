@@ -11,9 +11,9 @@ use Rattle.cell_formulas.specs.Value.{value, values}
 use Rattle.cell_calc_tests.specs.Steps.{arity, step_value, after, IsProperStep}
 use Rattle.cell_language.specs.Grammatical.{IsGrammatical, AreGrammatical}
 use Rattle.cell_language.specs.Postfix.{postfix, postfix_all}
-use Rattle.cell_language.specs.Term.{Term, Number, Map, Negated, Not, Binary, Call, Terms, NoTerms, Then, count}
-use Rattle.cell_language.specs.declared.step.Step.{Step}
-use Rattle.cell_language.specs.declared.step.Step.TheVariants as step
+use Rattle.cell_grammar.specs.Term.{Term, Number, Map, Negated, Not, Binary, Call, Terms, NoTerms, Then, count}
+use Rattle.cell_steps.specs.declared.named.Step.{Step}
+use Rattle.cell_steps.specs.declared.named.Step.TheVariants as step
 
 -- so many values
 length-values : (names : List (List ℕ)) (maps : List Grid) (s : Spot) (xs : Terms) → length (values (placed_all names xs) maps s) ≡ count xs

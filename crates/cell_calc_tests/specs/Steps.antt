@@ -5,8 +5,8 @@ use Rattle.cell_core.specs.Grid.{Grid, CellValue}
 use Rattle.cell_base.specs.Name.{place_of}
 use Rattle.cell_operations.specs.Applied.{Spot, negated, inverted, applied, called}
 use Rattle.cell_operations.specs.Offsets.{cell_in}
-use Rattle.cell_language.specs.declared.step.Step.{Step}
-use Rattle.cell_language.specs.declared.step.Step.TheVariants.{Number, Map, Negated, Not, Binary, Call}
+use Rattle.cell_steps.specs.declared.named.Step.{Step}
+use Rattle.cell_steps.specs.declared.named.Step.TheVariants.{Number, Map, Negated, Not, Binary, Call}
 
 -- how many operands a step takes
 abbrev pub arity : Step → ℕ

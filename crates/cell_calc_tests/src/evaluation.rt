@@ -1,4 +1,4 @@
-//! Values along the first row, and what a refused growth leaves there.
+//! Values along a row, and what a refused growth leaves there.
 
 ghost use Rattle.std.specs.Prelude.{◌≡◌, ◌<◌, ◌≤◌, ℕ, length, slice_get, IfOk};
 ghost use Rattle.cell_formulas.specs.Reach.{top_of, up_of, down_of};
@@ -8,45 +8,69 @@ use cell_calc::Bound;
 use cell_calc::evaluation::eval_row;
 use cell_calc::window::RowWindow;
 use cell_core::cell::Cell;
+use cell_core::map::CellMap;
 use cell_core::memory::Memory;
 use cell_core::shelf::Shelf;
 use std::alloc::Global;
 
-// A window for each map that is read, at the first row.
-fn open(alloc: Global, bound: &Bound, shelf: &Shelf) -> Result<Vec<RowWindow>, Memory>
-    requires { top_of bound.now ≤ length shelf.now.maps }
-    ensures { IfOk result (λ windows. (i : ℕ) → i < top_of bound.now → HasReach 0 (up_of i bound.now) (down_of i bound.now) (slice_get windows.items i)) }
+// A window over a map that was moved down to a row.
+fn moved(
+    alloc: Global,
+    map: &CellMap,
+    above: u32,
+    below: u32,
+    row: u32,
+) -> Result<RowWindow, Memory>
+    requires above { above ≤ 255 }
+    requires below { below ≤ 255 }
+    requires row { row < map.now.region.rows }
+    ensures { IfOk result (λ w. (w.centre ≡ row) × ((w.above ≡ above) × (w.below ≡ below))) }
+{
+    let mut window = RowWindow::new(alloc, map, above, below)?;
+    for _ in 0..row {
+        window.advance(map);
+    }
+    Ok(window)
+}
+
+// A window for each map that is read, at a row.
+fn open(alloc: Global, bound: &Bound, shelf: &Shelf, row: u32) -> Result<Vec<RowWindow>, Memory>
+    requires maps { top_of bound.now ≤ length shelf.now.maps }
+    requires row { row < shelf.now.region.rows }
+    ensures { IfOk result (λ windows. (i : ℕ) → i < top_of bound.now → HasReach row (up_of i bound.now) (down_of i bound.now) (slice_get windows.items i)) }
 {
     let mut windows = Vec::new(alloc);
     for i in 0..bound.top() {
         let (up, down) = bound.reach(i);
-        windows.push(RowWindow::new(alloc, shelf.map(i), up, down)?)?;
+        windows.push(moved(alloc, shelf.map(i), up, down, row)?)?;
     }
     Ok(windows)
 }
 
-/// Writes the values along the first row into a slice, and where memory was refused does so again. Answers, where it was,
+/// Writes the values along a row into a slice, and where memory was refused does so again. Answers, where it was,
 /// whether the slice was unchanged before that.
 ///
 /// # Errors
 ///
 /// [`Memory`] where memory was refused twice, or for a window.
-pub fn first_row(
+pub fn values_along(
     alloc: Global,
     bound: &Bound,
     shelf: &Shelf,
+    row: u32,
     cells: &mut [Cell],
 ) -> Result<Option<bool>, Memory>
     requires maps { top_of bound.now ≤ length shelf.now.maps }
+    requires row { row < shelf.now.region.rows }
     requires width { length cells.old ≡ shelf.now.region.cols }
 {
     let region = shelf.region();
-    let windows = open(alloc, bound, shelf)?;
+    let windows = open(alloc, bound, shelf, row)?;
     let before = Vec::from_slice(alloc, cells)?;
-    if eval_row(alloc, bound, &region, 0, windows.as_slice(), cells).is_ok() {
+    if eval_row(alloc, bound, &region, row, windows.as_slice(), cells).is_ok() {
         return Ok(None);
     }
     let is_unchanged = before.iter().eq(cells.iter());
-    eval_row(alloc, bound, &region, 0, windows.as_slice(), cells)?;
+    eval_row(alloc, bound, &region, row, windows.as_slice(), cells)?;
     Ok(Some(is_unchanged))
 }

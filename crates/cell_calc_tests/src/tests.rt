@@ -1,6 +1,6 @@
 //! Worked values of expressions over a map of three rows.
 
-use crate::evaluation::first_row;
+use crate::evaluation::values_along;
 use cell_calc::{Bound, CalcFault, CalcKind, Expr, parse, resolve};
 use cell_core::cell::Cell;
 use cell_core::map::{CellMap, MapBuilder};
@@ -198,15 +198,21 @@ fn unknown_names_are_found(rt: HostRuntime) -> Result<(), Fail> {
     Ok(())
 }
 
-// Writes an expression's values along the first row into a slice, again where memory was refused, and answers as
-// [`first_row`] does.
-fn worked_row(alloc: Global, text: &[u8], cells: &mut [Cell]) -> Result<Option<bool>, Fail> {
+// Writes an expression's values along a row into a slice, again where memory was refused, and answers as
+// [`values_along`] does.
+fn worked_row(
+    alloc: Global,
+    text: &[u8],
+    row: u32,
+    cells: &mut [Cell],
+) -> Result<Option<bool>, Fail> {
     let bound = bound_of(alloc, &worked_names(alloc)?, text)?;
     let shelf = worked_shelf(alloc)?;
-    if bound.top() > shelf.len() || shelf.region().cols() as usize != cells.len() {
+    let region = shelf.region();
+    if bound.top() > shelf.len() || region.rows() <= row || region.cols() as usize != cells.len() {
         return Err("no such map".into());
     }
-    first_row(alloc, &bound, &shelf, cells).map_err(|_| "no memory".into())
+    values_along(alloc, &bound, &shelf, row, cells).map_err(|_| "no memory".into())
 }
 
 // Run as it is, each growth is granted: tools/hostile.py refuses them in turn, one in each run, and wants the row to be
@@ -215,11 +221,21 @@ fn worked_row(alloc: Global, text: &[u8], cells: &mut [Cell]) -> Result<Option<b
 fn a_refused_row_is_evaluated_again(rt: HostRuntime) -> Result<(), Fail> {
     let text = b"(g + 1) * (g[1,0] + 1) + max(g, mode(g, 1))";
     let mut cells = [cell_of(77); 4];
-    if let Some(is_unchanged) = worked_row(rt.alloc(), text, &mut cells)? {
+    if let Some(is_unchanged) = worked_row(rt.alloc(), text, 0, &mut cells)? {
         let _ = eprintln!(rt; "made again");
         assert!(rt; is_unchanged);
     }
     for (cell, wanted) in cells.iter().zip([5, 7, 11, NULL].iter()) {
+        assert_eq!(rt; number_of(*cell), *wanted);
+    }
+    Ok(())
+}
+
+#[test]
+fn a_row_is_evaluated_from_windows_that_were_moved(rt: HostRuntime) -> Result<(), Fail> {
+    let mut cells = [cell_of(77); 4];
+    worked_row(rt.alloc(), b"g[1,0] + g[-1,0]", 1, &mut cells)?;
+    for (cell, wanted) in cells.iter().zip([4, 4, 3, NULL].iter()) {
         assert_eq!(rt; number_of(*cell), *wanted);
     }
     Ok(())

@@ -47,6 +47,7 @@ fn a_window_moves_down_the_map(rt: HostRuntime) -> Result<(), Fail> {
         &[(-1, 0, NULL), (0, -1, NULL), (1, 0, 1), (1, 4, NULL)],
     )?;
     window.advance(&map);
+    assert_eq!(rt; window.centre(), 1);
     expect_window(&rt, &window, &[(-1, 2, 2), (1, 0, 3)])?;
     window.advance(&map);
     assert_eq!(rt; window.centre(), 2);

@@ -5,7 +5,7 @@ use Rattle.cell_base.specs.Name.{place_of}
 use Rattle.cell_formulas.specs.Binding.{placed, placed_all, IsBindingFault}
 use Rattle.cell_formulas.specs.Formula.{Formula}
 use Rattle.cell_formulas.specs.Reach.{top_of, top_of_all}
-use Rattle.cell_language.specs.Term.{Term, Number, Map, Negated, Not, Binary, Call, Terms, NoTerms, Then}
+use Rattle.cell_grammar.specs.Term.{Term, Number, Map, Negated, Not, Binary, Call, Terms, NoTerms, Then}
 use Rattle.cell_language.specs.Unknown.{first_of, unplaced, first_unknown, first_unknown_all}
 use Rattle.cell_options.proofs.PlaceLemmas.{place_of-within}
 use Rattle.cell_language.specs.Assignment.{IsAssignmentText}

@@ -11,4 +11,4 @@ pub mod shelf;
 pub mod text;
 
 pub use cell_base::{cell, memory, name, region};
-pub use cell_devices::{block, device, sink, source, sticky};
+pub use cell_devices::{block, device, sink, source};

@@ -1,7 +1,8 @@
 //! Blocks: when what they gather goes out, and what a full sink leaves of it.
 
 use cell_core::block::Block;
-use cell_core::sink::{MemorySink, WriteFault};
+use cell_core::device::DeviceFault;
+use cell_core::sink::{MemorySink, Sink, WriteFault};
 use std::alloc::Global;
 use std::test::Fail;
 
@@ -12,10 +13,38 @@ fn pushed(
     sink: &mut MemorySink,
     byte: u8,
     count: usize,
-) -> Result<(Result<(), WriteFault>, u64, usize), Fail> {
+) -> Result<(u64, usize), Fail> {
     let bytes = vec![in alloc; byte; count]?;
-    let ended = block.push(sink, bytes.as_slice());
-    Ok((ended, block.written(), sink.bytes().len()))
+    block.push(sink, bytes.as_slice());
+    Ok((block.written(), sink.bytes().len()))
+}
+
+// A sink that refuses one put, and would take all others. It counts its calls.
+#[derive(Drop)]
+struct RefusesOnce {
+    calls: u32,
+    refused: bool,
+}
+
+impl Sink for RefusesOnce {
+    ghost use Rattle.std.specs.Prelude.{None, false};
+
+    ghost taken = { λ _. None };
+
+    ghost faults = { λ s. record { refused = s.refused; unflushed = false } };
+
+    fn put(&mut self, bytes: &[u8]) -> Result<usize, DeviceFault> {
+        self.calls = self.calls.saturating_add(1);
+        if !self.refused {
+            self.refused = true;
+            return Err(DeviceFault);
+        }
+        Ok(bytes.len())
+    }
+
+    fn flush(&mut self) -> Result<(), DeviceFault> {
+        Ok(())
+    }
 }
 
 // Bytes, how many of them are pushed, and how many bytes are out then.
@@ -45,10 +74,10 @@ fn puts_out_what_is_more_than_a_block(rt: HostRuntime) -> Result<(), Fail> {
     let mut block = Block::new();
     for (byte, count, out) in PUSHES {
         let found = pushed(rt.alloc(), &mut block, &mut sink, byte, count)?;
-        assert_eq!(rt; found, (Ok(()), out as u64, out), "{count} bytes {byte}");
+        assert_eq!(rt; found, (out as u64, out), "{count} bytes {byte}");
     }
-    assert_eq!(rt; block.empty(&mut sink), Ok(()));
-    assert_eq!(rt; block.written(), 9098);
+    block.empty(&mut sink);
+    assert_eq!(rt; (block.outcome(), block.written()), (Ok(()), 9098));
     for (place, byte) in ENDS {
         assert_eq!(rt;
             sink.bytes().get(place).copied(),
@@ -60,31 +89,48 @@ fn puts_out_what_is_more_than_a_block(rt: HostRuntime) -> Result<(), Fail> {
 }
 
 #[test]
-fn holds_nothing_after_a_fault(rt: HostRuntime) -> Result<(), Fail> {
+fn remembers_a_refused_put(rt: HostRuntime) -> Result<(), Fail> {
     let mut sink = MemorySink::new(vec![in rt.alloc(); 0u8; 4100]?, 4096, false);
     let mut block = Block::new();
-    assert_eq!(rt; block.push(&mut sink, &[b'a'; 4000]), Ok(()));
-    assert_eq!(rt; block.push(&mut sink, &[b'b'; 200]), Ok(()));
-    assert_eq!(rt;
-        block.push(&mut sink, &[b'c'; 4000]),
-        Err(WriteFault { written: 4100 })
-    );
+    block.push(&mut sink, &[b'a'; 4000]);
+    block.push(&mut sink, &[b'b'; 200]);
+    assert!(rt; !block.has_failed());
+    block.push(&mut sink, &[b'c'; 4000]);
+    assert!(rt; block.has_failed());
     assert_eq!(rt; (block.written(), sink.bytes().len()), (4100, 4100));
-    assert_eq!(rt; block.empty(&mut sink), Ok(()));
-    assert_eq!(rt; block.push(&mut sink, b"d"), Ok(()));
-    assert_eq!(rt; block.empty(&mut sink), Err(WriteFault { written: 4100 }));
+    block.empty(&mut sink);
+    block.push(&mut sink, b"d");
+    block.empty(&mut sink);
+    assert_eq!(rt; block.outcome(), Err(WriteFault { written: 4100 }));
     Ok(())
+}
+
+#[test]
+fn puts_nothing_after_a_refused_put(rt: HostRuntime) {
+    let mut sink = RefusesOnce {
+        calls: 0,
+        refused: false,
+    };
+    let mut block = Block::new();
+    block.push(&mut sink, b"a");
+    block.empty(&mut sink);
+    for length in [1, 4096, 5000] {
+        block.push(&mut sink, &[b'b'; 5000][..length]);
+        block.empty(&mut sink);
+    }
+    assert_eq!(rt;
+        (sink.calls, block.outcome()),
+        (1, Err(WriteFault { written: 0 }))
+    );
 }
 
 #[test]
 fn a_long_slice_that_is_cut_off_is_counted(rt: HostRuntime) -> Result<(), Fail> {
     let mut sink = MemorySink::new(vec![in rt.alloc(); 0u8; 5000]?, 1000, false);
     let mut block = Block::new();
-    assert_eq!(rt; block.push(&mut sink, b"ab"), Ok(()));
-    assert_eq!(rt;
-        block.push(&mut sink, &[b'c'; 6000]),
-        Err(WriteFault { written: 5000 })
-    );
+    block.push(&mut sink, b"ab");
+    block.push(&mut sink, &[b'c'; 6000]);
+    assert_eq!(rt; block.outcome(), Err(WriteFault { written: 5000 }));
     assert_eq!(rt; sink.bytes().get(..3), Some(b"abc".as_slice()));
     Ok(())
 }

@@ -78,7 +78,10 @@ fn gives_the_runs_of_cells(rt: HostRuntime) -> Result<(), Fail> {
 fn keeps_a_long_row_as_one_run(rt: HostRuntime) -> Result<(), Fail> {
     let row = vec![in rt.alloc(); 7; 65535]?;
     let map = map_of(rt.alloc(), 1, 65535, &row)?.ok_or("a map")?;
-    expect_runs(&rt, &map, 0, &[(7, 65535)])
+    expect_runs(&rt, &map, 0, &[(7, 65535)])?;
+    let row = vec![in rt.alloc(); 5; 32767]?;
+    let map = map_of(rt.alloc(), 1, 32767, &row)?.ok_or("a map")?;
+    expect_runs(&rt, &map, 0, &[(5, 32767)])
 }
 
 const FIVE: [i32; 5] = [7, -2147483647, -2147483647, NULL, 0];

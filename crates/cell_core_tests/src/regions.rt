@@ -16,6 +16,7 @@ fn tells_the_first_fault(rt: HostRuntime) {
         (1, 0, 1, 0, 0, 0, Some(RegionFault::BadRows)),
         (1, 0, 1, 0, 1, 0, Some(RegionFault::BadCols)),
         (1, 0, 1, 0, 65535, 32768, None),
+        (1, 0, 1, 0, 32768, 1, None),
         (1, 0, 1, 0, 65535, 32769, Some(RegionFault::TooManyCells)),
         (0, 0, 1, 0, 65535, 32769, Some(RegionFault::BadExtent)),
         (0, 0, 1, 0, 65536, 1, Some(RegionFault::BadExtent)),

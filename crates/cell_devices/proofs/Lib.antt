@@ -1,4 +1,3 @@
 pub mod BlockLemmas
 pub mod DeviceLemmas
-pub mod GatherLemmas
-pub mod StickyLemmas
+pub mod PieceLemmas

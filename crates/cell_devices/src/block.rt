@@ -1,9 +1,9 @@
-//! Output gathered in a block, so that each put carries a few KiB.
+//! Output gathered in a block, so that each put carries a few KiB. The block remembers a refused put, so that those who write
+//! through it ask for the fault once.
 
-ghost use Rattle.std.specs.Prelude.{◌≡◌, ℕ, ◌+◌, ◌-◌, ◌<◌, ◌≤◌, List, [], ◌++◌, length, take, Option, OnOk, IfOk, IfErr, is_err};
-ghost use Rattle.std.specs.Result.{result_map_both};
-ghost use Rattle.cell_devices.specs.Device.{append_known, after_put};
-ghost use Rattle.cell_devices.specs.Blocks.{BlockValue, room, Gathered, Gathers, Empties, PutsAll, Cuts, CutsOff, capped, counted, empty_block};
+ghost use Rattle.std.specs.Prelude.{◌≡◌, ℕ, ◌+◌, ◌≤◌, List, [], ◌++◌, length, take, Option, false};
+ghost use Rattle.cell_devices.specs.Device.{Faults};
+ghost use Rattle.cell_devices.specs.Blocks.{BlockValue, room, Appended, Appends, empty_block, settled, fault_if};
 
 use crate::sink::{Sink, WriteFault, put_bytes};
 use std::marker::Model;
@@ -11,14 +11,15 @@ use std::marker::Model;
 // The number of bytes that a block holds at most.
 const ROOM: usize = 4096;
 
-/// Bytes held until they fill a block, and the number of bytes that the sink took.
+/// Bytes held until they fill a block, the number of bytes that the sink took, and whether it refused a put.
 ///
-/// It takes no memory. After a fault it holds nothing.
+/// It takes no memory. After a refused put nothing more is put.
 #[derive(Drop)]
 pub struct Block {
     bytes: [u8; ROOM],
     len: usize,
     written: u64,
+    failed: bool,
 }
 
 impl Model for Block {
@@ -27,36 +28,22 @@ impl Model for Block {
 
     ghost Value = { BlockValue };
 
-    ghost view = { λ block. record { held = take block.len block.bytes; written = block.written } };
+    ghost view = { λ block. record { held = take block.len block.bytes; written = block.written; failed = block.failed } };
 
     ghost invariant = { λ block. block.len ≤ room };
 }
 
-// Puts all the bytes, and returns how many the sink took in all.
-fn put_counted<W: Sink>(out: &mut W, bytes: &[u8], written: u64) -> Result<u64, WriteFault>
-    ensures ok { OnOk result (W.taken out.new ≡ append_known (W.taken out.old) bytes.now) }
-    ensures all { IfOk result (λ count. count ≡ capped (written + length bytes.now)) }
-    ensures err { IfErr result (λ fault. (count : ℕ) × (count < length bytes.now) × (W.taken out.new ≡ append_known (W.taken out.old) (take count bytes.now)) × (fault.written ≡ capped (written + count))) }
-    ensures faults { W.faults out.new ≡ after_put (W.faults out.old) (is_err result) }
-{
-    match put_bytes(out, bytes) {
-        Ok(()) => Ok(written.saturating_add(bytes.len() as u64)),
-        Err(fault) => Err(WriteFault {
-            written: written.saturating_add(fault.written),
-        }),
-    }
-}
-
 impl Block {
-    /// A block that holds nothing.
+    /// A block through which nothing was written.
     pub fn new() -> Block
         ensures value { result ≡ empty_block }
-        ensures nothing { (before : Option (List ℕ)) → Gathered before [] before result }
+        ensures nothing { (before : Option (List ℕ)) (start : Faults) → Appended before start [] before start result }
     {
         Block {
             bytes: [0; ROOM],
             len: 0,
             written: 0,
+            failed: false,
         }
     }
 
@@ -67,22 +54,35 @@ impl Block {
         self.written
     }
 
+    /// Whether the sink refused a put.
+    pub fn has_failed(&self) -> bool
+        ensures { result ≡ self.now.failed }
+    {
+        self.failed
+    }
+
+    /// Whether all went well.
+    ///
+    /// # Errors
+    ///
+    /// `WriteFault` with the number of bytes that the sink took in all, where it refused a put.
+    pub fn outcome(&self) -> Result<(), WriteFault>
+        ensures { result ≡ fault_if self.now.failed self.now.written }
+    {
+        if self.has_failed() {
+            return Err(WriteFault {
+                written: self.written(),
+            });
+        }
+        Ok(())
+    }
+
     // The number of bytes held.
     fn len(&self) -> usize
         ensures value { result ≡ length self.now.held }
         ensures within { result ≤ room }
     {
         self.len
-    }
-
-    // Holds the bytes.
-    fn keep(&mut self, bytes: &[u8])
-        requires { length self.old.held + length bytes.now ≤ room }
-        ensures { self.new ≡ record { held = self.old.held ++ bytes.now; written = self.old.written } }
-    {
-        let end = self.len + bytes.len();
-        self.bytes[self.len..end].copy_from_slice(bytes);
-        self.len = end;
     }
 
     // The bytes held.
@@ -92,113 +92,80 @@ impl Block {
         &self.bytes[..self.len]
     }
 
-    // Holds nothing, after the sink took so many bytes in all.
-    fn renew(&mut self, written: u64)
-        ensures { self.new ≡ record { held = []; written = written } }
+    // Holds the bytes.
+    fn keep(&mut self, bytes: &[u8])
+        requires { length self.old.held + length bytes.now ≤ room }
+        ensures { self.new ≡ record { held = self.old.held ++ bytes.now; written = self.old.written; failed = self.old.failed } }
     {
-        self.len = 0;
-        self.written = written;
+        let end = self.len + bytes.len();
+        self.bytes[self.len..end].copy_from_slice(bytes);
+        self.len = end;
     }
 
-    // Holds nothing, and counts what the sink took in all, whether or not it failed.
-    fn settle(&mut self, put: Result<u64, WriteFault>) -> Result<(), WriteFault>
-        ensures ok { IfOk put (λ written. self.new ≡ record { held = []; written = written }) }
-        ensures err { IfErr put (λ fault. self.new ≡ record { held = []; written = fault.written }) }
-        ensures value { result ≡ result_map_both (λ _. tt) (λ fault. fault) put }
+    // Holds nothing, after so many bytes were put or a put was refused.
+    fn settle(&mut self, put: Result<(), WriteFault>, all: u64)
+        requires { self.old.failed ≡ false }
+        ensures { self.new ≡ settled self.old put all }
     {
-        match put {
-            Ok(written) => {
-                self.renew(written);
-                Ok(())
-            }
+        let taken = match put {
+            Ok(()) => all,
             Err(fault) => {
-                self.renew(fault.written);
-                Err(fault)
+                self.failed = true;
+                fault.written
             }
+        };
+        self.written = self.written.saturating_add(taken);
+        self.len = 0;
+    }
+
+    /// Puts what is held on the sink, unless it refused a put.
+    pub fn empty<W: Sink>(&mut self, out: &mut W)
+        ensures appends { Appends W.taken W.faults out.old self.old [] out.new self.new }
+        ensures held { self.new.failed ≡ false → self.new.held ≡ [] }
+    {
+        if self.has_failed() {
+            return;
         }
-    }
-
-    /// Puts what is held on the sink.
-    ///
-    /// # Errors
-    ///
-    /// `WriteFault` with the number of bytes that the sink took in all, where it failed. What it did not take is lost.
-    pub fn empty<W: Sink>(&mut self, out: &mut W) -> Result<(), WriteFault>
-        ensures ok { OnOk result (Empties (W.taken out.old) self.old (W.taken out.new) self.new) }
-        ensures all { OnOk result (PutsAll (W.taken out.old) self.old (W.taken out.new) self.new) }
-        ensures held { OnOk result (self.new.held ≡ []) }
-        ensures err { IfErr result (λ fault. Cuts (W.taken out.old) self.old (W.taken out.new) fault.written) }
-        ensures short { IfErr result (λ fault. fault.written < counted self.old) }
-        ensures lost { IfErr result (λ fault. self.new ≡ record { held = []; written = fault.written }) }
-        ensures counted { counted self.new ≤ counted self.old }
-        ensures faults { W.faults out.new ≡ after_put (W.faults out.old) (is_err result) }
-    {
-        let put = put_counted(out, self.bytes(), self.written());
-        self.settle(put)
-    }
-
-    /// Counts bytes that the sink took past the block, which holds nothing.
-    pub fn count(&mut self, bytes: u64)
-        requires { self.old.held ≡ [] }
-        ensures value { self.new ≡ record { held = []; written = capped (self.old.written + bytes) } }
-        // Where the sink took a whole text, it follows what was gathered.
-        ensures ok { (taken : Option (List ℕ)) (text : List ℕ) → bytes ≡ length text → Gathers taken self.old text (append_known taken text) self.new }
-        // Where it took a prefix of a text, it failed within what was gathered and that text.
-        ensures err { (taken : Option (List ℕ)) (text : List ℕ) → bytes ≤ length text → CutsOff taken self.old text (append_known taken (take bytes text)) self.new.written }
-    {
-        self.renew(self.written().saturating_add(bytes));
+        let all = self.len() as u64;
+        let put = put_bytes(out, self.bytes());
+        self.settle(put, all);
     }
 
     // Puts the bytes on the sink, past the block, which holds nothing.
-    fn put_long<W: Sink>(&mut self, out: &mut W, bytes: &[u8]) -> Result<(), WriteFault>
-        requires { self.old.held ≡ [] }
-        ensures ok { OnOk result (Gathers (W.taken out.old) self.old bytes.now (W.taken out.new) self.new) }
-        ensures err { IfErr result (λ fault. CutsOff (W.taken out.old) self.old bytes.now (W.taken out.new) fault.written) }
-        ensures short { IfErr result (λ fault. fault.written < counted self.old + length bytes.now) }
-        ensures lost { IfErr result (λ fault. self.new ≡ record { held = []; written = fault.written }) }
-        ensures counted { counted self.new ≤ counted self.old + length bytes.now }
-        ensures faults { W.faults out.new ≡ after_put (W.faults out.old) (is_err result) }
+    fn put_long<W: Sink>(&mut self, out: &mut W, bytes: &[u8])
+        requires failed { self.old.failed ≡ false }
+        requires held { self.old.held ≡ [] }
+        ensures { Appends W.taken W.faults out.old self.old bytes.now out.new self.new }
     {
-        let put = put_counted(out, bytes, self.written());
-        self.settle(put)
+        let put = put_bytes(out, bytes);
+        self.settle(put, bytes.len() as u64);
     }
 
     // Puts what is held on the sink, and then gathers the bytes, or puts them too where they are more than a block holds.
     #[cold]
-    fn push_past<W: Sink>(&mut self, out: &mut W, bytes: &[u8]) -> Result<(), WriteFault>
-        ensures ok { OnOk result (Gathers (W.taken out.old) self.old bytes.now (W.taken out.new) self.new) }
-        ensures err { IfErr result (λ fault. CutsOff (W.taken out.old) self.old bytes.now (W.taken out.new) fault.written) }
-        ensures short { IfErr result (λ fault. fault.written < counted self.old + length bytes.now) }
-        ensures lost { IfErr result (λ fault. self.new ≡ record { held = []; written = fault.written }) }
-        ensures counted { counted self.new ≤ counted self.old + length bytes.now }
-        ensures faults { W.faults out.new ≡ after_put (W.faults out.old) (is_err result) }
+    fn push_past<W: Sink>(&mut self, out: &mut W, bytes: &[u8])
+        ensures { Appends W.taken W.faults out.old self.old bytes.now out.new self.new }
     {
-        self.empty(out)?;
+        self.empty(out);
+        if self.has_failed() {
+            return;
+        }
         if bytes.len() > ROOM {
-            return self.put_long(out, bytes);
+            self.put_long(out, bytes);
+            return;
         }
         self.keep(bytes);
-        Ok(())
     }
 
-    /// Gathers the bytes, of any number, and puts on the sink what does not fit the block.
-    ///
-    /// # Errors
-    ///
-    /// `WriteFault` with the number of bytes that the sink took in all, where it failed. What it did not take is lost.
+    /// Gathers the bytes, of any number, and puts on the sink what does not fit the block, unless it refused a put.
     #[inline]
-    pub fn push<W: Sink>(&mut self, out: &mut W, bytes: &[u8]) -> Result<(), WriteFault>
-        ensures ok { OnOk result (Gathers (W.taken out.old) self.old bytes.now (W.taken out.new) self.new) }
-        ensures err { IfErr result (λ fault. CutsOff (W.taken out.old) self.old bytes.now (W.taken out.new) fault.written) }
-        ensures short { IfErr result (λ fault. fault.written < counted self.old + length bytes.now) }
-        ensures lost { IfErr result (λ fault. self.new ≡ record { held = []; written = fault.written }) }
-        ensures counted { counted self.new ≤ counted self.old + length bytes.now }
-        ensures faults { W.faults out.new ≡ after_put (W.faults out.old) (is_err result) }
+    pub fn push<W: Sink>(&mut self, out: &mut W, bytes: &[u8])
+        ensures { Appends W.taken W.faults out.old self.old bytes.now out.new self.new }
     {
         if bytes.len() > ROOM - self.len() {
-            return self.push_past(out, bytes);
+            self.push_past(out, bytes);
+            return;
         }
         self.keep(bytes);
-        Ok(())
     }
 }

@@ -5,4 +5,3 @@ pub mod block;
 pub mod device;
 pub mod sink;
 pub mod source;
-pub mod sticky;

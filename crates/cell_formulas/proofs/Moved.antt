@@ -5,8 +5,8 @@ use Rattle.std.proofs.Math.Seq.{take-append_seam, drop-append_seam}
 use Rattle.std.proofs.lemmas.List.{map-append, map_more}
 use Rattle.std.proofs.lemmas.List.Elements.{All-take, All-drop, All-same, All-head, All-more, All-weaker}
 use Rattle.cell_core.specs.Grid.{Grid}
-use Rattle.cell_formulas.specs.declared.step.Step.{Step}
-use Rattle.cell_formulas.specs.declared.step.Step.TheVariants as step
+use Rattle.cell_steps.specs.declared.bound.Step.{Step}
+use Rattle.cell_steps.specs.declared.bound.Step.TheVariants as step
 use Rattle.cell_formulas.specs.Compact.{ArePicked}
 use Rattle.cell_formulas.specs.Formula.{Formula, Number, Map, Negated, Not, Binary, Call, Formulas, NoFormulas, Then, count}
 use Rattle.cell_formulas.specs.Reach.{IsProper, AreProper}

@@ -12,8 +12,8 @@ use Rattle.cell_formulas.specs.parts.Placing.{placed_step}
 use Rattle.cell_formulas.specs.Postfix as places
 use Rattle.cell_language.specs.Grammatical.{IsGrammatical, AreGrammatical}
 use Rattle.cell_language.specs.Postfix.{postfix, postfix_all}
-use Rattle.cell_language.specs.Term.{Term, Number, Map, Negated, Not, Binary, Call, Terms, NoTerms, Then, count}
-use Rattle.cell_language.specs.declared.step.Step.TheVariants as step
+use Rattle.cell_grammar.specs.Term.{Term, Number, Map, Negated, Not, Binary, Call, Terms, NoTerms, Then, count}
+use Rattle.cell_steps.specs.declared.named.Step.TheVariants as step
 
 -- so many arguments
 count-placed : (names : List (List ℕ)) (xs : Terms) → formula.count (placed_all names xs) ≡ count xs

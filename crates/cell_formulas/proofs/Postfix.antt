@@ -4,8 +4,8 @@ use Rattle.std.proofs.Math.Seq.{take-append_seam, drop-append_seam}
 use Rattle.std.proofs.lemmas.List.{length-map}
 use Rattle.cell_tokens.specs.declared.function.Function.{Function}
 use Rattle.cell_tokens.specs.declared.operator.Operator.{Operator}
-use Rattle.cell_formulas.specs.declared.step.Step.{Step}
-use Rattle.cell_formulas.specs.declared.step.Step.TheVariants as step
+use Rattle.cell_steps.specs.declared.bound.Step.{Step}
+use Rattle.cell_steps.specs.declared.bound.Step.TheVariants as step
 use Rattle.cell_formulas.specs.Formula.{Formula, Number, Map, Negated, Not, Binary, Call, Formulas, NoFormulas, Then, count}
 use Rattle.cell_formulas.specs.Reach.{IsProper}
 use Rattle.cell_formulas.specs.Postfix.{postfix, postfix_all, arity, after, AreEnough, arguments, built, formula_of, AreBound}

@@ -6,7 +6,7 @@ use Rattle.cell_formulas.specs.Formula as formula
 use Rattle.cell_formulas.specs.Formula.{Formula, Formulas}
 use Rattle.cell_tokens.specs.declared.fault.CalcFault.{CalcFault}
 use Rattle.cell_tokens.specs.declared.fault.CalcKind.TheVariants.{UnknownMap, Memory}
-use Rattle.cell_language.specs.Term.{Term, Number, Map, Negated, Not, Binary, Call, Terms, NoTerms, Then}
+use Rattle.cell_grammar.specs.Term.{Term, Number, Map, Negated, Not, Binary, Call, Terms, NoTerms, Then}
 use Rattle.cell_language.specs.Unknown.{first_unknown}
 
 abbrev mutual

@@ -1,7 +1,7 @@
 -- Expressions as lists of steps: the operands first, and then what is done with them.
 use Rattle.std.specs.Prelude.{◌≡◌, ◌≤◌, ◌+◌, ◌-◌, ℕ, List, [], ◌∷◌, ◌++◌, length, take, drop, slice_index_or}
-use Rattle.cell_formulas.specs.declared.step.Step.{Step}
-use Rattle.cell_formulas.specs.declared.step.Step.TheVariants as step
+use Rattle.cell_steps.specs.declared.bound.Step.{Step}
+use Rattle.cell_steps.specs.declared.bound.Step.TheVariants as step
 use Rattle.cell_formulas.specs.Formula.{Formula, Number, Map, Negated, Not, Binary, Call, Formulas, NoFormulas, Then, count}
 use Rattle.cell_formulas.specs.Reach.{IsProper}
 

@@ -8,12 +8,12 @@ ghost use Rattle.cell_formulas.specs.parts.Placing.{placed_step};
 ghost use Rattle.cell_language.specs.Unknown.{first_unknown};
 
 use crate::bound::Bound;
-use crate::step::Step;
 use cell_core::memory::Memory;
 use cell_core::name::{Name, Names};
 use cell_language::expr::Expr;
 use cell_language::fault::{CalcFault, CalcKind};
-use cell_language::step;
+use cell_steps::bound::Step;
+use cell_steps::named;
 use std::alloc::Global;
 
 fn place_of(name: &Name, names: &Names) -> usize
@@ -26,12 +26,12 @@ fn place_of(name: &Name, names: &Names) -> usize
 }
 
 // The same step with its name replaced by its place.
-fn placed(step: &step::Step, names: &Names) -> Step
+fn placed(step: &named::Step, names: &Names) -> Step
     ensures { result ≡ placed_step names.now step.now }
 {
     match step {
-        step::Step::Number(n) => Step::Number(*n),
-        step::Step::Map {
+        named::Step::Number(n) => Step::Number(*n),
+        named::Step::Map {
             name,
             down,
             right,
@@ -41,14 +41,14 @@ fn placed(step: &step::Step, names: &Names) -> Step
             down: *down,
             right: *right,
         },
-        step::Step::Negated => Step::Negated,
-        step::Step::Not => Step::Not,
-        step::Step::Binary(operator) => Step::Binary(*operator),
-        step::Step::Call(function, count) => Step::Call(*function, *count),
+        named::Step::Negated => Step::Negated,
+        named::Step::Not => Step::Not,
+        named::Step::Binary(operator) => Step::Binary(*operator),
+        named::Step::Call(function, count) => Step::Call(*function, *count),
     }
 }
 
-fn all_placed(alloc: Global, steps: &[step::Step], names: &Names) -> Result<Vec<Step>, Memory>
+fn all_placed(alloc: Global, steps: &[named::Step], names: &Names) -> Result<Vec<Step>, Memory>
     ensures { IfOk result (λ found. found.items ≡ map (placed_step names.now) steps.now) }
 {
     let mut found = Vec::with_capacity(alloc, steps.len())?;

@@ -5,7 +5,7 @@ ghost use Rattle.cell_formulas.specs.Postfix.{postfix};
 ghost use Rattle.cell_formulas.specs.Reach.{top_of, up_of, down_of, IsProper};
 ghost use Rattle.cell_formulas.specs.parts.Steps.{greatest, top_step, up_step, down_step, IsProperStep};
 
-use crate::step::Step;
+use cell_steps::bound::Step;
 use std::marker::Model;
 
 /// An expression whose maps are places in a list of maps.

@@ -10,8 +10,8 @@ ghost use Rattle.cell_formulas.specs.Value.{value};
 ghost use Rattle.cell_formulas.specs.parts.Steps.{greatest, top_step, moved_step, index_in, IsListed, IsReading};
 
 use crate::bound::Bound;
-use crate::step::Step;
 use cell_core::memory::Memory;
+use cell_steps::bound::Step;
 use std::alloc::Global;
 
 // Where a place stands in a list: past its end, if it does not.

@@ -4,4 +4,3 @@
 pub mod binding;
 pub mod bound;
 pub mod compacting;
-pub mod step;

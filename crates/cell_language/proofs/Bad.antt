@@ -13,19 +13,19 @@ use Rattle.cell_tokens.specs.declared.token.Token.{Token}
 use Rattle.cell_tokens.specs.declared.token.Token.TheVariants as token
 use Rattle.cell_tokens.specs.Function.{function_of, accepts}
 use Rattle.cell_language.specs.Assignment.{IsAssignment}
-use Rattle.cell_language.specs.Grammar as grammar
-use Rattle.cell_language.specs.Grammar.{AreCalled, AreArguments}
+use Rattle.cell_grammar.specs.Grammar as grammar
+use Rattle.cell_grammar.specs.Grammar.{AreCalled, AreArguments}
 use Rattle.cell_language.specs.GrammarFault as grammar_fault
-use Rattle.cell_language.specs.GrammarFault.{IsOffsetSign, IsBeforeNumber, Tells, TellsNone}
-use Rattle.cell_language.specs.Reading as reading
-use Rattle.cell_language.specs.Reading.{offset, Outcome, Got, GotAll, Stops, State, Operand, Called, move, judged, Reads}
-use Rattle.cell_language.specs.Shape.{shape_of, shape, CanGoOn}
-use Rattle.cell_language.specs.Term.{Terms, count}
+use Rattle.cell_language.specs.GrammarFault.{IsOffsetSign, IsBeforeNumber, CanGoOn, Tells, TellsNone}
+use Rattle.cell_grammar.specs.Reading as reading
+use Rattle.cell_grammar.specs.Reading.{offset, Outcome, Got, GotAll, Stops, State, Operand, Called, move, judged, Reads}
+use Rattle.cell_grammar.specs.Shape.{shape_of, shape}
+use Rattle.cell_grammar.specs.Term.{Terms, count}
 use Rattle.cell_tokens.specs.Token.{number_at, name_at, sign_at}
-use Rattle.cell_language.proofs.Complete.{one_outcome, is_called_read, offset_read}
-use Rattle.cell_language.proofs.Occurs.{left, find}
-use Rattle.cell_language.proofs.Splits.{in_first, in_second, Stays, stays, not_longer, not_nothing}
-use Rattle.cell_language.proofs.Walk.{shape_append}
+use Rattle.cell_grammar.proofs.Complete.{one_outcome, is_called_read, offset_read}
+use Rattle.cell_grammar.proofs.Occurs.{left, find}
+use Rattle.cell_grammar.proofs.Splits.{in_first, in_second, Stays, stays, not_longer, not_nothing}
+use Rattle.cell_grammar.proofs.Walk.{shape_append}
 
 -- the shape of a first part
 split_shape : (ts : List Token) (us : List Token) (vs : List Placed) → shape vs ≡ ts ++ us → (ws xs : List Placed) × (vs ≡ ws ++ xs) × (shape ws ≡ ts)

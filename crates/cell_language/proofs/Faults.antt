@@ -1,5 +1,5 @@
 -- Where reading ends too early, that is the first fault that the tokens tell.
-use Rattle.std.proofs.Common.{◌≡◌, ℕ, List, [], ◌∷◌, ◌++◌, Some, None, refl, sym, ap, ◌∙◌, subst, append_assoc, append-nil, inl, inr, arith}
+use Rattle.std.proofs.Common.{◌≡◌, ℕ, List, [], ◌∷◌, ◌++◌, Option, Some, None, refl, sym, ap, ◌∙◌, subst, append_assoc, append-nil, inl, inr, arith}
 use Rattle.std.specs.Prelude.{◌+◌, length, Result, Ok, Err, IfErr, MatchResult}
 use Rattle.std.proofs.lemmas.List.{append_cancel_right}
 use Rattle.cell_language.specs.declared.assignment.Assignment.{Assignment}
@@ -13,26 +13,44 @@ use Rattle.cell_tokens.specs.declared.token.Sign.TheVariants.{OpenParenthesis, C
 use Rattle.cell_tokens.specs.declared.token.Token.{Token}
 use Rattle.cell_tokens.specs.declared.token.Token.TheVariants as token
 use Rattle.cell_language.specs.Assignment.{IsAssignment}
-use Rattle.cell_language.specs.Grammar as grammar
-use Rattle.cell_language.specs.Grammar.{IsExpression}
-use Rattle.cell_language.specs.GrammarFault.{IsInBrackets, Tells, column_of, IsNone, IsGrammarFault, IsFaultOf, IsTextFault}
-use Rattle.cell_language.specs.Reading.{Outcome, Got, Stops, Expression, IsNot, Reads, tail}
-use Rattle.cell_language.specs.Shape.{shape_of, shape, CanGoOn}
+use Rattle.cell_grammar.specs.Grammar as grammar
+use Rattle.cell_grammar.specs.Grammar.{IsExpression}
+use Rattle.cell_language.specs.GrammarFault.{IsInBrackets, CanGoOn, Tells, column_of, IsNone, IsGrammarFault, IsFaultOf, IsTextFault}
+use Rattle.cell_grammar.specs.Reading.{Outcome, Got, Stops, Expression, IsNot, Reads, tail}
+use Rattle.cell_grammar.specs.Shape.{shape_of, shape}
 use Rattle.cell_language.specs.Stopping.{StopsAt, IsAfter, fault_of}
-use Rattle.cell_language.specs.Term.{Term}
+use Rattle.cell_grammar.specs.Term.{Term}
 use Rattle.cell_tokens.specs.Token.{number_at, name_at, sign_at, head}
 use Rattle.cell_tokens.specs.Tokens.{fault, token_list}
 use Rattle.cell_language.proofs.Bad.{can_before, HasNoBad, tells_none, none_in_nothing, none_in_one, none_in_assignment, none_in_call, called_end}
-use Rattle.cell_language.proofs.Complete.{one_outcome, read_all}
+use Rattle.cell_grammar.proofs.Complete.{one_outcome, read_all}
 use Rattle.cell_language.proofs.Law.{one}
-use Rattle.cell_language.proofs.Occurs.{find}
-use Rattle.cell_language.proofs.Refused.{Refuses, quiet_step, walked}
-use Rattle.cell_language.proofs.Sound.{raise, sound, sound_all, front_is}
+use Rattle.cell_grammar.proofs.Occurs.{find}
+use Rattle.cell_grammar.proofs.Refused.{Refuses, quiet_step, walked}
+use Rattle.cell_grammar.proofs.Sound.{raise, sound, sound_all, front_is}
 use Rattle.cell_language.proofs.Steps.{after_is}
 use Rattle.cell_language.proofs.Told.{far_in_brackets}
-use Rattle.cell_language.proofs.Viable.{IsSegment, SomeExpression, viable}
-use Rattle.cell_language.proofs.Walk as place
-use Rattle.cell_language.proofs.Walk.{Start, step_on, walk, walk_both, cannot}
+use Rattle.cell_grammar.proofs.Viable.{IsSegment, SomeExpression, viable}
+use Rattle.cell_grammar.proofs.Walk as place
+use Rattle.cell_grammar.proofs.Walk.{Place, Start, Lands, step_on, walk, walk_none, walk_both, expression_makes}
+
+-- the tokens of an assignment are walked to the end
+assignment_makes : (ts : List Placed) (a : Assignment) → IsAssignment ts a → Lands [] (walk (Some Start) (shape ts))
+assignment_makes ts a h = subst (λ l. Lands [] (walk (Some Start) (shape l))) (sym h.3) (expression_makes h.4 [])
+
+not_landed : (p : Option Place) (ts : List Token) → p ≡ None → Lands [] (walk p ts) → ⊥
+not_landed p ts e (inl l) =
+    let n : walk p ts ≡ None = ap (λ q. walk q ts) e ∙ walk_none ts in
+    cc
+not_landed p ts e (inr l) =
+    let n : walk p ts ≡ None = ap (λ q. walk q ts) e ∙ walk_none ts in
+    cc
+
+-- tokens that cannot be walked cannot go on
+cannot : (ts : List Placed) → walk (Some Start) (shape ts) ≡ None → CanGoOn ts → ⊥
+cannot ts e (us, after, a, alike, h) =
+    not_landed (walk (Some Start) (shape us)) (shape after) (ap (walk (Some Start)) alike ∙ e)
+    (subst (Lands []) (walk_both (Some Start) us after) (assignment_makes (us ++ after) a h))
 
 none_of_nothing : IsNone []
 none_of_nothing a h =

@@ -4,16 +4,16 @@ use Rattle.cell_tokens.specs.declared.token.Placed.{Placed}
 use Rattle.cell_tokens.specs.declared.token.Sign.TheVariants.{Question, Colon, CloseParenthesis, Comma, Assign}
 use Rattle.cell_tokens.specs.declared.token.Token.{Token}
 use Rattle.cell_tokens.specs.declared.token.Token.TheVariants as token
-use Rattle.cell_language.specs.Grammar as grammar
-use Rattle.cell_language.specs.Grammar.{IsOffset, AreOffsets, Stands, IsExpression, AreCalled, AreArguments, below, joined, choice}
+use Rattle.cell_grammar.specs.Grammar as grammar
+use Rattle.cell_grammar.specs.Grammar.{IsOffset, AreOffsets, Stands, IsExpression, AreCalled, AreArguments, below, joined, choice}
 use Rattle.cell_language.specs.Grammatical.{up_by, down_by, IsGrammatical, AreGrammatical}
-use Rattle.cell_language.specs.Reading.{Got, Expression, Reads}
+use Rattle.cell_grammar.specs.Reading.{Got, Expression, Reads}
 use Rattle.cell_tokens.specs.Spelling as spelling
 use Rattle.cell_tokens.specs.Spelling.{Spells, AreSpelled}
-use Rattle.cell_language.specs.Term.{Term, Terms}
+use Rattle.cell_grammar.specs.Term.{Term, Terms}
 use Rattle.cell_tokens.specs.Token.{sign_at, name_at, IsCategory, AreCategories}
 use Rattle.cell_language.proofs.Faults.{Begins, begins_is}
-use Rattle.cell_language.proofs.Sound.{sound_all}
+use Rattle.cell_grammar.proofs.Sound.{sound_all}
 
 both : (ts us : List Placed) → AreCategories (ts ++ us) → AreCategories ts × AreCategories us
 both [] us h = (tt, h)

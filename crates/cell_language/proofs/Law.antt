@@ -5,8 +5,8 @@ use Rattle.cell_tokens.specs.declared.token.Placed.{Placed}
 use Rattle.cell_tokens.specs.declared.token.Token.{Token}
 use Rattle.cell_tokens.specs.declared.token.Token.TheVariants as token
 use Rattle.cell_language.specs.Assignment.{IsAssignment}
-use Rattle.cell_language.specs.Grammar.{IsExpression}
-use Rattle.cell_language.proofs.Complete.{one_expression}
+use Rattle.cell_grammar.specs.Grammar.{IsExpression}
+use Rattle.cell_grammar.proofs.Complete.{one_expression}
 
 same_assignment : (a b : Assignment) → a.target ≡ b.target → a.expr ≡ b.expr → a ≡ b
 same_assignment a b e f =

@@ -1,16 +1,7 @@
-pub mod Complete
 pub mod Law
-pub mod Sound
 pub mod Told
 pub mod Steps
-pub mod Splits
-pub mod Walk
-pub mod Refused
-pub mod Viable
-pub mod Occurs
 pub mod Bad
 pub mod Faults
-pub mod Total
-pub mod Judged
 pub mod Grammatical
 pub mod PostfixLemmas

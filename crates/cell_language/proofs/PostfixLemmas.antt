@@ -1,10 +1,10 @@
 -- What holds of the steps of a term.
 use Rattle.std.proofs.Common.{◌≡◌, ℕ, List, [], ◌∷◌, ◌++◌, Option, Some, None, refl, sym, ap, ◌∙◌, append_assoc, append-nil}
-use Rattle.cell_language.specs.declared.step.Step.{Step}
-use Rattle.cell_language.specs.declared.step.Step.TheVariants as step
+use Rattle.cell_steps.specs.declared.named.Step.{Step}
+use Rattle.cell_steps.specs.declared.named.Step.TheVariants as step
 use Rattle.cell_language.specs.Code.{built_postfix}
 use Rattle.cell_language.specs.Postfix.{postfix, postfix_all}
-use Rattle.cell_language.specs.Term.{Term, Number, Map, Negated, Not, Binary, Call, Terms, NoTerms, Then, count}
+use Rattle.cell_grammar.specs.Term.{Term, Number, Map, Negated, Not, Binary, Call, Terms, NoTerms, Then, count}
 use Rattle.cell_language.specs.Unknown.{first_of, first_unknown, first_unknown_all}
 use Rattle.cell_language.specs.parts.Built.{built}
 use Rattle.cell_language.specs.parts.Unplaced.{first_unplaced}

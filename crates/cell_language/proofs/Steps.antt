@@ -12,8 +12,8 @@ use Rattle.cell_language.specs.declared.parsing.Stop.{Stop}
 use Rattle.cell_language.specs.declared.parsing.Stop.TheVariants.{Memory, At}
 use Rattle.cell_language.specs.declared.reader.Frame.{Frame}
 use Rattle.cell_language.specs.declared.reader.Frame.TheVariants as frame
-use Rattle.cell_language.specs.declared.step.Step.{Step}
-use Rattle.cell_language.specs.declared.step.Step.TheVariants as step
+use Rattle.cell_steps.specs.declared.named.Step.{Step}
+use Rattle.cell_steps.specs.declared.named.Step.TheVariants as step
 use Rattle.cell_tokens.specs.declared.token.Placed.{Placed}
 use Rattle.cell_tokens.specs.declared.token.Sign.{Sign}
 use Rattle.cell_tokens.specs.declared.token.Sign.TheVariants.{Minus, Exclamation, Question, Colon, OpenParenthesis, CloseParenthesis, OpenBracket, Comma}
@@ -22,15 +22,15 @@ use Rattle.cell_tokens.specs.declared.token.Token.TheVariants as token
 use Rattle.cell_tokens.specs.Function.{function_of, accepts}
 use Rattle.cell_tokens.specs.Operator.{level_of}
 use Rattle.cell_language.specs.Postfix.{postfix, postfix_all}
-use Rattle.cell_language.specs.Reading as reading
-use Rattle.cell_language.specs.Reading.{Part, tail, Outcome, Got, GotAll, Stops, State, Operand, More, Expression, Choice, AfterQuestion, Called, Onward, next, GoesOn, IsNot, BeginsNone, negate, invert, closed, close, join, choose, move, judged, call, add, Reads, nothing, whole, stopped, done, expression, unread, unchosen, unasked, no_colon, otherwise, arguments, halted, unended}
+use Rattle.cell_grammar.specs.Reading as reading
+use Rattle.cell_grammar.specs.Reading.{Part, tail, Outcome, Got, GotAll, Stops, State, Operand, More, Expression, Choice, AfterQuestion, Called, Onward, next, GoesOn, IsNot, BeginsNone, negate, invert, closed, close, join, choose, move, judged, call, add, Reads, nothing, whole, stopped, done, expression, unread, unchosen, unasked, no_colon, otherwise, arguments, halted, unended}
 use Rattle.cell_language.specs.Stopping.{StopsAt, IsPartStop, IsAfter, IsCallOf}
-use Rattle.cell_language.specs.Term.{Term, Number, Map, Negated, Not, Binary, Call, Terms, NoTerms, Then, count}
+use Rattle.cell_grammar.specs.Term.{Term, Number, Map, Negated, Not, Binary, Call, Terms, NoTerms, Then, count}
 use Rattle.cell_tokens.specs.Token.{number_at, name_at, sign_at, head}
 use Rattle.cell_language.specs.parts.Built.{built}
 use Rattle.cell_language.specs.parts.Waiting.{add_all, Fills, Awaits, IsRead, latest_first}
 use Rattle.cell_language.proofs.PostfixLemmas.{are_of_built}
-use Rattle.cell_language.proofs.Sound.{front_is}
+use Rattle.cell_grammar.proofs.Sound.{front_is}
 
 -- a sign at the front, as it stands there
 pub after_is : (s : Sign) (ts us : List Placed) → IsAfter s ts us → (c : ℕ) × (ts ≡ sign_at s c ∷ us)

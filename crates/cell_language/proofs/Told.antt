@@ -11,14 +11,14 @@ use Rattle.cell_tokens.specs.declared.token.Sign.TheVariants.{Plus, Minus, OpenP
 use Rattle.cell_tokens.specs.declared.token.Token.{Token}
 use Rattle.cell_tokens.specs.declared.token.Token.TheVariants as token
 use Rattle.cell_tokens.specs.Function.{accepts}
-use Rattle.cell_language.specs.Grammar.{IsOffset}
+use Rattle.cell_grammar.specs.Grammar.{IsOffset}
 use Rattle.cell_language.specs.GrammarFault as grammar_fault
 use Rattle.cell_language.specs.GrammarFault.{IsOffsetSign, IsBeforeNumber, IsInBrackets}
-use Rattle.cell_language.specs.Reading as reading
-use Rattle.cell_language.specs.Reading.{Part, tail, and_then, distance_at, distance, signed, offset_at, offset, comma_at, bracket_at, to_bracket, Outcome, Got, GotAll, Stops, State, Operand, Whole, More, Expression, Choice, AfterQuestion, Called, Arguments, Onward, negate, invert, closed, close, join, choose, move, judged, call, add, Reads, nothing, whole, stopped, done, more, expression, unread, unchosen, asked, unasked, no_colon, otherwise, arguments, halted, unended}
-use Rattle.cell_language.specs.Term.{Term, Negated, Not, Binary, Call, NoTerms, Then, count}
+use Rattle.cell_grammar.specs.Reading as reading
+use Rattle.cell_grammar.specs.Reading.{Part, tail, and_then, distance_at, distance, signed, offset_at, offset, comma_at, bracket_at, to_bracket, Outcome, Got, GotAll, Stops, State, Operand, Whole, More, Expression, Choice, AfterQuestion, Called, Arguments, Onward, negate, invert, closed, close, join, choose, move, judged, call, add, Reads, nothing, whole, stopped, done, more, expression, unread, unchosen, asked, unasked, no_colon, otherwise, arguments, halted, unended}
+use Rattle.cell_grammar.specs.Term.{Term, Negated, Not, Binary, Call, NoTerms, Then, count}
 use Rattle.cell_tokens.specs.Token.{name_at, sign_at, head}
-use Rattle.cell_language.proofs.Sound.{mapped, IsPartOf, IsSign, AreBoth, front_is, sound_offset, sound_offsets, sound_comma, sound_bracket}
+use Rattle.cell_grammar.proofs.Sound.{mapped, IsPartOf, IsSign, AreBoth, front_is, sound_offset, sound_offsets, sound_comma, sound_bracket}
 
 -- if the fault is a number that is too far, it comes after tokens of which this holds
 abbrev IsToldIn : (List Placed → Type 0) → CalcKind → List Placed → List Placed → Type 0

@@ -3,7 +3,7 @@ use Rattle.std.specs.Prelude.{◌≡◌, ℕ, List, ◌∷◌, IsOkAnd}
 use Rattle.cell_language.specs.declared.assignment.Assignment.{Assignment}
 use Rattle.cell_tokens.specs.declared.token.Placed.{Placed}
 use Rattle.cell_tokens.specs.declared.token.Sign.TheVariants.{Assign}
-use Rattle.cell_language.specs.Grammar.{IsExpression}
+use Rattle.cell_grammar.specs.Grammar.{IsExpression}
 use Rattle.cell_tokens.specs.Token.{name_at, sign_at}
 use Rattle.cell_tokens.specs.Tokens.{token_list}
 

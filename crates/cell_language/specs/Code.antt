@@ -6,10 +6,10 @@ use Rattle.cell_tokens.specs.declared.function.Function.{Function}
 use Rattle.cell_tokens.specs.declared.function.Function.TheVariants.{If, IsNull, Null, Abs, Min, Max, Mode, Row, Column, RowCount, ColumnCount, Eval, KnownMin, KnownMax, KnownMode}
 use Rattle.cell_tokens.specs.declared.operator.Operator.{Operator}
 use Rattle.cell_tokens.specs.declared.operator.Operator.TheVariants.{Times, Divide, Modulo, Plus, Minus, Less, LessEqual, Greater, GreaterEqual, Equal, NotEqual, And, Or, KnownAnd, KnownOr}
-use Rattle.cell_language.specs.declared.step.Step as declared
-use Rattle.cell_language.specs.declared.step.Step.TheVariants as steps
+use Rattle.cell_steps.specs.declared.named.Step as declared
+use Rattle.cell_steps.specs.declared.named.Step.TheVariants as steps
 use Rattle.cell_language.specs.Postfix.{postfix, postfix_all}
-use Rattle.cell_language.specs.Term.{Term, Number, Map, Negated, Not, Binary, Call, Terms, NoTerms, Then, count}
+use Rattle.cell_grammar.specs.Term.{Term, Number, Map, Negated, Not, Binary, Call, Terms, NoTerms, Then, count}
 use Rattle.cell_language.specs.parts.Built.{gathered, below, put, after, built, topmost}
 
 -- what stands at a place of a list

@@ -9,9 +9,9 @@ use Rattle.cell_tokens.specs.declared.token.Placed.{Placed}
 use Rattle.cell_tokens.specs.declared.token.Sign.TheVariants.{OpenParenthesis, OpenBracket, Comma, Minus, Plus}
 use Rattle.cell_language.specs.Assignment.{IsAssignment}
 use Rattle.cell_tokens.specs.Function.{function_of, accepts}
-use Rattle.cell_language.specs.Grammar.{IsOffset, AreCalled}
-use Rattle.cell_language.specs.Shape.{CanGoOn}
-use Rattle.cell_language.specs.Term.{Terms, count}
+use Rattle.cell_grammar.specs.Grammar.{IsOffset, AreCalled}
+use Rattle.cell_grammar.specs.Shape.{shape}
+use Rattle.cell_grammar.specs.Term.{Terms, count}
 use Rattle.cell_tokens.specs.Token.{number_at, name_at, sign_at}
 use Rattle.cell_tokens.specs.Tokens.{fault, no_memory, token_list}
 
@@ -19,6 +19,13 @@ use Rattle.cell_tokens.specs.Tokens.{fault, no_memory, token_list}
 abbrev pub column_of : (end : ℕ) → List Placed → ℕ
 column_of end [] = end
 column_of end (s ∷ rest) = s.column
+
+-- by its shape the list can go on: some assignment begins so, with other names and numbers in the
+-- place of its own (so any name before `(` calls, with any number of arguments, and any number is an
+-- offset)
+abbrev pub CanGoOn : List Placed → Type 0
+CanGoOn ts =
+    (us after : List Placed) × (a : Assignment) × (shape us ≡ shape ts) × IsAssignment (us ++ after) a
 
 -- the list stands for no assignment
 abbrev pub IsNone : List Placed → Type 0

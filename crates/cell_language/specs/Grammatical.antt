@@ -1,7 +1,7 @@
 -- What holds of each expression of the grammar (offsets, numbers of arguments: r.mapcalc manual; their limits: profile).
 use Rattle.std.specs.Prelude.{◌≤◌, IsTrue, ℕ, zero, suc, ℤ, pos, negsuc}
 use Rattle.cell_tokens.specs.Function.{accepts}
-use Rattle.cell_language.specs.Term.{Term, Number, Map, Negated, Not, Binary, Call, Terms, NoTerms, Then, count}
+use Rattle.cell_grammar.specs.Term.{Term, Number, Map, Negated, Not, Binary, Call, Terms, NoTerms, Then, count}
 
 -- the rows up, or columns to the left, that an offset asks for
 abbrev pub up_by : ℤ → ℕ

@@ -10,7 +10,7 @@ use Rattle.cell_tokens.specs.declared.token.Sign.{Sign}
 use Rattle.cell_tokens.specs.declared.token.Sign.TheVariants.{OpenParenthesis}
 use Rattle.cell_tokens.specs.declared.token.Token.TheVariants as token
 use Rattle.cell_language.specs.GrammarFault.{column_of}
-use Rattle.cell_language.specs.Reading.{State, Stops, Reads, Part, tail}
+use Rattle.cell_grammar.specs.Reading.{State, Stops, Reads, Part, tail}
 use Rattle.cell_tokens.specs.Token.{head}
 
 -- reading stops there, if memory lasts

@@ -1,7 +1,7 @@
 -- The first map name of an expression, by place in the text, that is not among some names (profile).
 use Rattle.std.specs.Prelude.{ℕ, List, Option, Some, None}
 use Rattle.cell_base.specs.Name.{place_of}
-use Rattle.cell_language.specs.Term.{Term, Number, Map, Negated, Not, Binary, Call, Terms, NoTerms, Then}
+use Rattle.cell_grammar.specs.Term.{Term, Number, Map, Negated, Not, Binary, Call, Terms, NoTerms, Then}
 
 -- the first of two columns
 abbrev pub first_of : Option ℕ → Option ℕ → Option ℕ

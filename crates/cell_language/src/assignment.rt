@@ -5,7 +5,6 @@ ghost use Rattle.cell_language.specs.declared.assignment.Assignment.{Assignment}
 ghost use Rattle.cell_tokens.specs.declared.token.Placed.{Placed};
 ghost use Rattle.cell_language.specs.Assignment.{IsAssignment, IsAssignmentText};
 ghost use Rattle.cell_language.specs.GrammarFault.{IsTextFault};
-ghost use Rattle.cell_language.specs.GrammarLaw.{OneGrammarFault, EachListIsJudged};
 
 use crate::expr::Expr;
 use crate::parsing::assignment;
@@ -41,14 +40,4 @@ pub fn parse(alloc: Global, text: &[u8]) -> Result<Assignment, CalcFault>
 /// A list of tokens stands for no second assignment.
 pub fn one_assignment()
     ensures { (ts : List Placed) (a b : Assignment) → IsAssignment ts a → IsAssignment ts b → a ≡ b }
-{}
-
-/// A list of tokens has no second fault of the grammar: it is the first that reading from the left can tell.
-pub fn one_grammar_fault()
-    ensures { OneGrammarFault }
-{}
-
-/// Each list of tokens stands for an assignment, or has a fault of the grammar.
-pub fn each_list_is_judged()
-    ensures { EachListIsJudged }
 {}

@@ -5,9 +5,9 @@ ghost use Rattle.cell_language.specs.Grammatical.{IsGrammatical};
 ghost use Rattle.cell_language.specs.Postfix.{postfix};
 ghost use Rattle.cell_language.specs.Unknown.{first_unknown};
 
-use crate::step::Step;
 use crate::unknown::first_unplaced;
 use cell_base::name::Names;
+use cell_steps::named::Step;
 use std::marker::Model;
 
 /// An expression of r.mapcalc: its numbers are categories, its offsets from -255 to 255, and each call has a
@@ -19,7 +19,7 @@ pub struct Expr {
 
 impl Model for Expr {
     ghost use Rattle.cell_language.specs.Code.{term_code};
-    ghost use Rattle.cell_language.specs.Term.{Term};
+    ghost use Rattle.cell_grammar.specs.Term.{Term};
     ghost use Rattle.cell_language.specs.parts.Built.{built, AreOfExpression};
 
     ghost Value = { Term };

@@ -5,7 +5,6 @@ pub mod assignment;
 pub mod expr;
 mod parsing;
 mod reader;
-pub mod step;
 mod unknown;
 
 pub use cell_tokens::{fault, function, operator, token, tokens};

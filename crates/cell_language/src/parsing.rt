@@ -5,7 +5,7 @@ ghost use Rattle.cell_language.specs.declared.assignment.Assignment.{Assignment}
 ghost use Rattle.cell_language.specs.declared.parsing.Stop.TheVariants.{Memory};
 ghost use Rattle.cell_language.specs.Assignment.{IsAssignment};
 ghost use Rattle.cell_language.specs.GrammarFault.{IsFaultOf, column_of};
-ghost use Rattle.cell_language.specs.Reading.{next, offset, distance, offsets, GoesOn, IsNot};
+ghost use Rattle.cell_grammar.specs.Reading.{next, offset, distance, offsets, GoesOn, IsNot};
 ghost use Rattle.cell_language.specs.Stopping.{IsPart, IsAfter, fault_of};
 ghost use Rattle.cell_tokens.specs.Token.{head, AreCategories};
 

@@ -5,15 +5,15 @@ ghost use Rattle.cell_language.specs.declared.parsing.Stop.TheVariants.{Memory};
 ghost use Rattle.cell_language.specs.declared.reader.Frame.TheVariants as frame;
 ghost use Rattle.cell_tokens.specs.declared.token.Sign.TheVariants.{OpenParenthesis};
 ghost use Rattle.cell_language.specs.Postfix.{postfix};
-ghost use Rattle.cell_language.specs.Reading.{State, Operand, Expression, Got, Reads, IsNot};
+ghost use Rattle.cell_grammar.specs.Reading.{State, Operand, Expression, Got, Reads, IsNot};
 ghost use Rattle.cell_language.specs.Stopping.{StopsAt, IsAfter, IsCallOf};
 ghost use Rattle.cell_tokens.specs.Token.{head, name_at};
 ghost use Rattle.cell_language.specs.parts.Built.{built};
 ghost use Rattle.cell_language.specs.parts.Waiting.{IsAwaited, IsResumed, IsRead, Goes, waiting, latest_first, tokens_of, work};
 
 use crate::parsing::{Stop, after_sign, copied, first, next, offsets};
-use crate::step::Step;
 use cell_base::name::Name;
+use cell_steps::named::Step;
 use cell_tokens::fault::CalcKind;
 use cell_tokens::function::{Function, accepts, function_of};
 use cell_tokens::operator::{Operator, TOP_LEVEL, level_of};

@@ -3,8 +3,8 @@
 ghost use Rattle.std.specs.Prelude.{◌≡◌};
 ghost use Rattle.cell_language.specs.parts.Unplaced.{first_unplaced, unplaced_at};
 
-use crate::step::Step;
 use cell_base::name::Names;
+use cell_steps::named::Step;
 
 // The column of a map name that has no place among the names.
 fn unplaced(step: &Step, names: &Names) -> Option<u32>

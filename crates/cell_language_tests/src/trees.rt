@@ -3,7 +3,7 @@
 use cell_language::assignment::parse;
 use cell_language::function::Function;
 use cell_language::operator::Operator;
-use cell_language::step::Step;
+use cell_steps::named::Step;
 use std::alloc::Global;
 use std::test::Fail;
 

@@ -12,7 +12,7 @@ use Rattle.cell_core.specs.declared.shelf.ShelfFault.{ShelfFault}
 use Rattle.cell_core.specs.declared.shelf.ShelfFault.TheVariants.{Exists, OtherRegion, Memory}
 use Rattle.cell_ascii_text.specs.Cells.{grid_of}
 use Rattle.cell_loading.specs.Sources.{AllKnown, known_of, coming_of}
-use Rattle.cell_loading.specs.Faults.{IsOfInput, IsBeforeExecution, IsTold}
+use Rattle.cell_loading.specs.Faults.{IsOfInput, IsOfGrid, IsBeforeExecution, IsTold}
 use Rattle.cell_loading.specs.parts.Refused.{of_shelf}
 use Rattle.cell_loading.specs.Loading.{added, placed, with_grid, shelf_from, then_grids}
 use Rattle.cell_loading.specs.declared.fault.RunFault.{RunFault}
@@ -56,6 +56,11 @@ pub refused-told : (grid : ℕ) (fault : ShelfFault) (count : ℕ) → grid < co
 refused-told grid Exists count within = within
 refused-told grid OtherRegion count within = within
 refused-told grid Memory count within = tt
+
+pub refused-whose : (grid : ℕ) (fault : ShelfFault) → IsOfGrid grid (of_shelf grid fault)
+refused-whose grid Exists = refl
+refused-whose grid OtherRegion = refl
+refused-whose grid Memory = tt
 
 -- the first map makes the shelf
 pub added-first : (grid : ℕ) (region : RegionValue) (name : List ℕ) (map : Grid) → map.region ≡ region → added grid (record { region = region; names = []; maps = [] }) name map None ≡ Ok (record { region = region; names = name ∷ []; maps = map ∷ [] })

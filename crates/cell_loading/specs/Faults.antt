@@ -16,6 +16,17 @@ IsOfInput (Script fault) = fault.kind ≢ script_kinds.Memory
 IsOfInput (Memory line) = ⊥
 IsOfInput Write = ⊥
 
+-- a fault that names a grid names this one
+abbrev pub IsOfGrid : ℕ → RunFault → Type 0
+IsOfGrid grid (GridTwice named) = named ≡ grid
+IsOfGrid grid (GridRegion named) = named ≡ grid
+IsOfGrid grid (Grid named fault) = named ≡ grid
+IsOfGrid grid ScriptRead = ⊤
+IsOfGrid grid ScriptSize = ⊤
+IsOfGrid grid (Script fault) = ⊤
+IsOfGrid grid (Memory line) = ⊤
+IsOfGrid grid Write = ⊤
+
 -- being out of memory
 abbrev pub IsOfMemory : RunFault → Type 0
 IsOfMemory (GridTwice grid) = ⊥

@@ -3,7 +3,7 @@
 ghost use Rattle.std.specs.Prelude.{ℕ, ◌≡◌, ◌+◌, ◌<◌, IsSome, IfOk, IfErr, Ok, Err, Some, length, vec_len};
 ghost use Rattle.cell_base.specs.Name.{place_of};
 ghost use Rattle.cell_ascii_text.specs.Cells.{grid_of};
-ghost use Rattle.cell_loading.specs.Faults.{IsOfInput, IsBeforeExecution, IsTold};
+ghost use Rattle.cell_loading.specs.Faults.{IsOfInput, IsOfGrid, IsBeforeExecution, IsTold};
 ghost use Rattle.cell_loading.specs.Loading.{added, placed, with_grid, shelf_of};
 ghost use Rattle.cell_loading.specs.Sources.{AllKnown, known_of, coming_of};
 ghost use Rattle.cell_loading.specs.parts.Refused.{of_shelf};
@@ -34,6 +34,7 @@ fn added(mut shelf: Shelf, grid: usize, name: Name, map: CellMap) -> Result<Shel
     ensures fault { IfErr result (λ f. IsOfInput f → added grid shelf name map (place_of name shelf.names) ≡ Err f) }
     ensures early { IfErr result IsBeforeExecution }
     ensures told { (count : ℕ) → grid < count → IfErr result (IsTold count) }
+    ensures whose { IfErr result (IsOfGrid grid) }
 {
     match shelf.add(name, map) {
         Ok(()) => Ok(shelf),
@@ -53,6 +54,7 @@ fn placed(
     ensures fault { IfErr result (λ f. IsOfInput f → placed grid shelf name map ≡ Err f) }
     ensures early { IfErr result IsBeforeExecution }
     ensures told { (count : ℕ) → grid < count → IfErr result (IsTold count) }
+    ensures whose { IfErr result (IsOfGrid grid) }
 {
     match shelf {
         Some(shelf) => added(shelf, grid, name, map),
@@ -75,6 +77,7 @@ fn with_grid<R: Source + Drop>(
     ensures fault { IsSome (R.coming source) → IfErr result (λ f. IsOfInput f → with_grid grid shelf name (grid_of (coming_of R.coming source)) ≡ Err f) }
     ensures early { IfErr result IsBeforeExecution }
     ensures told { (count : ℕ) → grid < count → IfErr result (IsTold count) }
+    ensures whose { IfErr result (IsOfGrid grid) }
 {
     let map = match read_map(alloc, source) {
         Ok(map) => map,

@@ -246,13 +246,6 @@ impl<R: Source> Scanner<R> {
         self.input.held()
     }
 
-    /// Whether a further blank may come.
-    pub fn has_room(&self) -> bool
-        ensures { result ≡ true → self.now.run < 1048576 }
-    {
-        self.run < 1048576
-    }
-
     /// Whether no blank was passed since the last word.
     pub fn is_behind_word(&self) -> bool
         ensures { result ≡ true → self.now.run ≡ 0 }

@@ -3,3 +3,4 @@ pub mod PlaceLemmas
 pub mod ReadingLemmas
 pub mod SoundLemmas
 pub mod GroupingLemmas
+pub mod TotalLemmas

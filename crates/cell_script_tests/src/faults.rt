@@ -45,6 +45,7 @@ fn tells_the_first_fault(rt: HostRuntime) -> Result<(), Fail> {
         ("r.stats input=g after=1x", combination, 1),
         ("r.stats input=g after=", combination, 1),
         ("r.stats input=g after=1,2", width, 1),
+        ("r.stats -c input=g,g after=1", width, 1),
         (
             "r.out.ascii input=1a null_value=a:b",
             ScriptKind::BadName,

@@ -1,6 +1,6 @@
 pub mod CellsLemmas
 pub mod LawLemmas
-pub mod PrintLemmas
+pub mod LineLemmas
 pub mod RestLemmas
 pub mod SortedLemmas
 pub mod TableLemmas

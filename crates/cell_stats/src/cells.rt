@@ -1,8 +1,7 @@
 //! The printed form of cells, line by line.
 
-ghost use Rattle.std.specs.Prelude.{◌≡◌, ◌<◌, ◌≤◌, [], All, length, flat_map, replicate, OnOk, IfOk, IfErr, is_err};
-ghost use Rattle.cell_devices.specs.Blocks.{Gathers, CutsOff};
-ghost use Rattle.cell_devices.specs.Device.{after_put};
+ghost use Rattle.std.specs.Prelude.{◌≡◌, ◌<◌, ◌≤◌, [], All, length, flat_map, replicate, IfOk};
+ghost use Rattle.cell_devices.specs.Blocks.{Appends};
 ghost use Rattle.cell_base.specs.Region.{IsRegion};
 ghost use Rattle.cell_combinations.specs.Combinations.{row_combinations};
 ghost use Rattle.cell_combinations.specs.LeftOut.{kept};
@@ -15,7 +14,7 @@ use cell_core::block::Block;
 use cell_core::cell::Cell;
 use cell_core::memory::Memory;
 use cell_core::shelf::Shelf;
-use cell_core::sink::{Sink, WriteFault};
+use cell_core::sink::Sink;
 use cell_counts::cursor::{Cursor, cursors_of, pass_all, restart_all};
 use cell_counts::selection::Selection;
 use std::alloc::Global;
@@ -24,8 +23,8 @@ use std::marker::Model;
 /// The memory for a walk over the cells of several maps of a shelf. It is seen as their number.
 #[derive(Drop)]
 pub struct CellWalk<'a> {
-    pub(crate) cursors: Vec<Cursor<'a>>,
-    pub(crate) cells: Vec<Cell>,
+    cursors: Vec<Cursor<'a>>,
+    cells: Vec<Cell>,
 }
 
 impl<'a> Model for CellWalk<'a> {
@@ -62,22 +61,18 @@ fn write_lines<W: Sink>(
     cells: &[Cell],
     count: u32,
     format: &Format,
-) -> Result<(), WriteFault>
+)
     requires picked { All (λ i. i < length selection.shelf.now.maps) selection.picks.now }
     requires some { 0 < length selection.picks.now }
     requires width { length cells.now ≡ length selection.picks.now }
-    ensures ok { OnOk result (Gathers (W.taken out.old) block.old (flat_map (cell_line format.now selection.entry.shelf.now.maps selection.entry.picks.now) (kept selection.entry.skip (replicate count cells.now))) (W.taken out.new) block.new) }
-    ensures err { IfErr result (λ fault. CutsOff (W.taken out.old) block.old (flat_map (cell_line format.now selection.entry.shelf.now.maps selection.entry.picks.now) (kept selection.entry.skip (replicate count cells.now))) (W.taken out.new) fault.written) }
-    ensures lost { IfErr result (λ fault. block.new ≡ record { held = []; written = fault.written }) }
-    ensures faults { W.faults out.new ≡ after_put (W.faults out.old) (is_err result) }
+    ensures { Appends W.taken W.faults out.old block.old (flat_map (cell_line format.now selection.entry.shelf.now.maps selection.entry.picks.now) (kept selection.entry.skip (replicate count cells.now))) out.new block.new }
 {
     if is_left_out(selection.skip, cells) {
-        return Ok(());
+        return;
     }
     for line in 0..count {
-        write_cell_line(out, block, selection.shelf, selection.picks, cells, format)?;
+        write_cell_line(out, block, selection.shelf, selection.picks, cells, format);
     }
-    Ok(())
 }
 
 // Writes the lines of the cells of a row.
@@ -89,37 +84,29 @@ fn write_row<'a, W: Sink>(
     row: u32,
     cursors: &mut [Cursor<'a>],
     cells: &mut [Cell],
-) -> Result<(), WriteFault>
+)
     requires picked { All (λ i. i < length selection.shelf.now.maps) selection.picks.now }
     requires some { 0 < length selection.picks.now }
     requires row_in_range { row < selection.shelf.now.region.rows }
     requires cursors { length cursors.old ≡ length selection.picks.now }
     requires cells { length cells.old ≡ length selection.picks.now }
-    ensures ok { OnOk result (Gathers (W.taken out.old) block.old (flat_map (cell_line format.now selection.entry.shelf.now.maps selection.entry.picks.now) (kept selection.entry.skip (row_combinations selection.entry.shelf.now.maps selection.entry.picks.now selection.entry.shelf.now.region.cols row))) (W.taken out.new) block.new) }
-    ensures err { IfErr result (λ fault. CutsOff (W.taken out.old) block.old (flat_map (cell_line format.now selection.entry.shelf.now.maps selection.entry.picks.now) (kept selection.entry.skip (row_combinations selection.entry.shelf.now.maps selection.entry.picks.now selection.entry.shelf.now.region.cols row))) (W.taken out.new) fault.written) }
-    ensures lost { IfErr result (λ fault. block.new ≡ record { held = []; written = fault.written }) }
-    ensures faults { W.faults out.new ≡ after_put (W.faults out.old) (is_err result) }
+    ensures { Appends W.taken W.faults out.old block.old (flat_map (cell_line format.now selection.entry.shelf.now.maps selection.entry.picks.now) (kept selection.entry.skip (row_combinations selection.entry.shelf.now.maps selection.entry.picks.now selection.entry.shelf.now.region.cols row))) out.new block.new }
 {
     let cols = selection.shelf.region().cols();
     restart_all(cursors, selection.shelf, selection.picks, row);
     let mut col = 0;
     let mut count = pass_all(cursors, 0, cols, cells);
     while col < cols {
-        write_lines(out, block, selection, cells, count, format)?;
+        write_lines(out, block, selection, cells, count, format);
         col += count;
         count = pass_all(cursors, count, cols - col, cells);
     }
-    Ok(())
 }
 
 /// Writes a line for each cell of the picked maps that is not left out, row by row from the top left. The walk has the memory
 /// for it, so that it takes none.
 ///
-/// The text is gathered in the block, which goes on holding its last part.
-///
-/// # Errors
-///
-/// [`WriteFault`] with the number of bytes that the sink took of all that was gathered, where it failed.
+/// The text is gathered in the block, which goes on holding its last part. After a refused put nothing more is written.
 pub fn write_cells<'a, W: Sink>(
     out: &mut W,
     block: &mut Block,
@@ -128,14 +115,11 @@ pub fn write_cells<'a, W: Sink>(
     picks: &[usize],
     skip: Skip,
     format: &Format,
-) -> Result<(), WriteFault>
+)
     requires picked { All (λ i. i < length shelf.now.maps) picks.now }
     requires some { 0 < length picks.now }
     requires width { walk ≡ length picks.now }
-    ensures ok { OnOk result (Gathers (W.taken out.old) block.old (cells_text format.now skip shelf.now.maps picks.now shelf.now.region.rows shelf.now.region.cols) (W.taken out.new) block.new) }
-    ensures err { IfErr result (λ fault. CutsOff (W.taken out.old) block.old (cells_text format.now skip shelf.now.maps picks.now shelf.now.region.rows shelf.now.region.cols) (W.taken out.new) fault.written) }
-    ensures lost { IfErr result (λ fault. block.new ≡ record { held = []; written = fault.written }) }
-    ensures faults { W.faults out.new ≡ after_put (W.faults out.old) (is_err result) }
+    ensures { Appends W.taken W.faults out.old block.old (cells_text format.now skip shelf.now.maps picks.now shelf.now.region.rows shelf.now.region.cols) out.new block.new }
 {
     let CellWalk {
         mut cursors,
@@ -145,7 +129,9 @@ pub fn write_cells<'a, W: Sink>(
     let cells = cells.as_mut_slice();
     let selection = Selection { shelf, picks, skip };
     for row in 0..shelf.region().rows() {
-        write_row(out, block, selection, format, row, cursors, cells)?;
+        if block.has_failed() {
+            return;
+        }
+        write_row(out, block, selection, format, row, cursors, cells);
     }
-    Ok(())
 }

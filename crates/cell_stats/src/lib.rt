@@ -5,8 +5,6 @@ pub mod cells;
 pub mod format;
 pub mod law;
 pub mod printing;
-pub mod sticky_cells;
-pub mod sticky_printing;
 pub mod table;
 pub mod tallying;
 

@@ -1,10 +1,9 @@
 //! The printed form of tables and of cells.
 
-ghost use Rattle.std.specs.Prelude.{◌≡◌, ◌<◌, [], ◌∷◌, ◌++◌, All, length, flat_map, replicate, OnOk, IfErr, IfSome, is_err};
+ghost use Rattle.std.specs.Prelude.{◌≡◌, ◌<◌, [], ◌∷◌, ◌++◌, All, length, flat_map, replicate, IfSome};
 ghost use Rattle.std.specs.List.{join_with_byte};
 ghost use Rattle.std.specs.Option.{option_map};
-ghost use Rattle.cell_devices.specs.Blocks.{Gathers, CutsOff};
-ghost use Rattle.cell_devices.specs.Device.{after_put};
+ghost use Rattle.cell_devices.specs.Blocks.{Appends};
 ghost use Rattle.cell_stats.specs.TableText.{cell_line, combination_fields, count_fields, label_in, pair_line, printed_pairs, table_text};
 ghost use Rattle.cell_stats.specs.parts.Preceded.{next_text, others_text, pick_text, preceded};
 
@@ -14,12 +13,12 @@ use cell_combinations::combination::Combo;
 use cell_core::block::Block;
 use cell_core::cell::Cell;
 use cell_core::shelf::Shelf;
-use cell_core::sink::{Sink, WriteFault};
+use cell_core::sink::Sink;
 use cell_core::text::write_cell;
 use itoa::Buffer;
 
 // The label of a cell of a map.
-pub(crate) fn label_of<'a>(shelf: &'a Shelf, place: usize, cell: Cell) -> &'a [u8]
+fn label_of<'a>(shelf: &'a Shelf, place: usize, cell: Cell) -> &'a [u8]
     requires { place < length shelf.now.maps }
     ensures { result.now ≡ label_in shelf.now.maps place cell }
 {
@@ -33,19 +32,11 @@ pub(crate) fn label_of<'a>(shelf: &'a Shelf, place: usize, cell: Cell) -> &'a [u
 }
 
 // Writes a separator and a field.
-fn write_next<W: Sink>(
-    out: &mut W,
-    block: &mut Block,
-    separator: u8,
-    field: &[u8],
-) -> Result<(), WriteFault>
-    ensures ok { OnOk result (Gathers (W.taken out.old) block.old (separator ∷ field.now) (W.taken out.new) block.new) }
-    ensures err { IfErr result (λ fault. CutsOff (W.taken out.old) block.old (separator ∷ field.now) (W.taken out.new) fault.written) }
-    ensures lost { IfErr result (λ fault. block.new ≡ record { held = []; written = fault.written }) }
-    ensures faults { W.faults out.new ≡ after_put (W.faults out.old) (is_err result) }
+fn write_next<W: Sink>(out: &mut W, block: &mut Block, separator: u8, field: &[u8])
+    ensures { Appends W.taken W.faults out.old block.old (separator ∷ field.now) out.new block.new }
 {
-    block.push(out, &[separator])?;
-    block.push(out, field)
+    block.push(out, &[separator]);
+    block.push(out, field);
 }
 
 // Writes a cell of a map, and its label with labels.
@@ -56,18 +47,15 @@ fn write_pick<W: Sink>(
     place: usize,
     cell: Cell,
     format: &Format,
-) -> Result<(), WriteFault>
+)
     requires { place < length shelf.now.maps }
-    ensures ok { OnOk result (Gathers (W.taken out.old) block.old (pick_text format.now shelf.now.maps place cell) (W.taken out.new) block.new) }
-    ensures err { IfErr result (λ fault. CutsOff (W.taken out.old) block.old (pick_text format.now shelf.now.maps place cell) (W.taken out.new) fault.written) }
-    ensures lost { IfErr result (λ fault. block.new ≡ record { held = []; written = fault.written }) }
-    ensures faults { W.faults out.new ≡ after_put (W.faults out.old) (is_err result) }
+    ensures { Appends W.taken W.faults out.old block.old (pick_text format.now shelf.now.maps place cell) out.new block.new }
 {
-    write_cell(out, block, cell, format.null_text())?;
+    write_cell(out, block, cell, format.null_text());
     if !format.labels() {
-        return Ok(());
+        return;
     }
-    write_next(out, block, format.separator(), label_of(shelf, place, cell))
+    write_next(out, block, format.separator(), label_of(shelf, place, cell));
 }
 
 // Writes a separator and a cell of a map, and its label with labels.
@@ -78,15 +66,12 @@ fn write_next_pick<W: Sink>(
     place: usize,
     cell: Cell,
     format: &Format,
-) -> Result<(), WriteFault>
+)
     requires { place < length shelf.now.maps }
-    ensures ok { OnOk result (Gathers (W.taken out.old) block.old (next_text format.now shelf.now.maps (place, cell)) (W.taken out.new) block.new) }
-    ensures err { IfErr result (λ fault. CutsOff (W.taken out.old) block.old (next_text format.now shelf.now.maps (place, cell)) (W.taken out.new) fault.written) }
-    ensures lost { IfErr result (λ fault. block.new ≡ record { held = []; written = fault.written }) }
-    ensures faults { W.faults out.new ≡ after_put (W.faults out.old) (is_err result) }
+    ensures { Appends W.taken W.faults out.old block.old (next_text format.now shelf.now.maps (place, cell)) out.new block.new }
 {
-    block.push(out, &[format.separator()])?;
-    write_pick(out, block, shelf, place, cell, format)
+    block.push(out, &[format.separator()]);
+    write_pick(out, block, shelf, place, cell, format);
 }
 
 // Writes the cells of all maps but the first, each after a separator.
@@ -97,18 +82,14 @@ fn write_others<W: Sink>(
     picks: &[usize],
     cells: &[Cell],
     format: &Format,
-) -> Result<(), WriteFault>
+)
     requires picked { All (λ i. i < length shelf.now.maps) picks.now }
     requires width { length cells.now ≡ length picks.now }
-    ensures ok { OnOk result (Gathers (W.taken out.old) block.old (others_text format.now shelf.now.maps picks.now cells.now) (W.taken out.new) block.new) }
-    ensures err { IfErr result (λ fault. CutsOff (W.taken out.old) block.old (others_text format.now shelf.now.maps picks.now cells.now) (W.taken out.new) fault.written) }
-    ensures lost { IfErr result (λ fault. block.new ≡ record { held = []; written = fault.written }) }
-    ensures faults { W.faults out.new ≡ after_put (W.faults out.old) (is_err result) }
+    ensures { Appends W.taken W.faults out.old block.old (others_text format.now shelf.now.maps picks.now cells.now) out.new block.new }
 {
     for i in 0..cells.len() {
-        write_next_pick(out, block, shelf, picks[i], cells[i], format)?;
+        write_next_pick(out, block, shelf, picks[i], cells[i], format);
     }
-    Ok(())
 }
 
 // Writes the cells of all maps.
@@ -119,40 +100,29 @@ fn write_combination<W: Sink>(
     picks: &[usize],
     cells: &[Cell],
     format: &Format,
-) -> Result<(), WriteFault>
+)
     requires picked { All (λ i. i < length shelf.now.maps) picks.now }
     requires some { 0 < length picks.now }
     requires width { length cells.now ≡ length picks.now }
-    ensures ok { OnOk result (Gathers (W.taken out.old) block.old (join_with_byte format.now.separator (combination_fields format.now shelf.now.maps picks.now cells.now)) (W.taken out.new) block.new) }
-    ensures err { IfErr result (λ fault. CutsOff (W.taken out.old) block.old (join_with_byte format.now.separator (combination_fields format.now shelf.now.maps picks.now cells.now)) (W.taken out.new) fault.written) }
-    ensures lost { IfErr result (λ fault. block.new ≡ record { held = []; written = fault.written }) }
-    ensures faults { W.faults out.new ≡ after_put (W.faults out.old) (is_err result) }
+    ensures { Appends W.taken W.faults out.old block.old (join_with_byte format.now.separator (combination_fields format.now shelf.now.maps picks.now cells.now)) out.new block.new }
 {
-    write_pick(out, block, shelf, picks[0], cells[0], format)?;
-    write_others(out, block, shelf, &picks[1..], &cells[1..], format)
+    write_pick(out, block, shelf, picks[0], cells[0], format);
+    write_others(out, block, shelf, &picks[1..], &cells[1..], format);
 }
 
 // Writes the count after a separator, with counts.
-fn write_count<W: Sink>(
-    out: &mut W,
-    block: &mut Block,
-    count: u64,
-    format: &Format,
-) -> Result<(), WriteFault>
-    ensures ok { OnOk result (Gathers (W.taken out.old) block.old (preceded format.now.separator (count_fields format.now count)) (W.taken out.new) block.new) }
-    ensures err { IfErr result (λ fault. CutsOff (W.taken out.old) block.old (preceded format.now.separator (count_fields format.now count)) (W.taken out.new) fault.written) }
-    ensures lost { IfErr result (λ fault. block.new ≡ record { held = []; written = fault.written }) }
-    ensures faults { W.faults out.new ≡ after_put (W.faults out.old) (is_err result) }
+fn write_count<W: Sink>(out: &mut W, block: &mut Block, count: u64, format: &Format)
+    ensures { Appends W.taken W.faults out.old block.old (preceded format.now.separator (count_fields format.now count)) out.new block.new }
 {
     if !format.counts() {
-        return Ok(());
+        return;
     }
     write_next(
         out,
         block,
         format.separator(),
         Buffer::new().format(count).as_bytes(),
-    )
+    );
 }
 
 // Writes the line of a pair.
@@ -164,18 +134,15 @@ fn write_pair<W: Sink>(
     cells: &[Cell],
     count: u64,
     format: &Format,
-) -> Result<(), WriteFault>
+)
     requires picked { All (λ i. i < length shelf.now.maps) picks.now }
     requires some { 0 < length picks.now }
     requires width { length cells.now ≡ length picks.now }
-    ensures ok { OnOk result (Gathers (W.taken out.old) block.old (pair_line format.now shelf.now.maps picks.now (cells.now, count)) (W.taken out.new) block.new) }
-    ensures err { IfErr result (λ fault. CutsOff (W.taken out.old) block.old (pair_line format.now shelf.now.maps picks.now (cells.now, count)) (W.taken out.new) fault.written) }
-    ensures lost { IfErr result (λ fault. block.new ≡ record { held = []; written = fault.written }) }
-    ensures faults { W.faults out.new ≡ after_put (W.faults out.old) (is_err result) }
+    ensures { Appends W.taken W.faults out.old block.old (pair_line format.now shelf.now.maps picks.now (cells.now, count)) out.new block.new }
 {
-    write_combination(out, block, shelf, picks, cells, format)?;
-    write_count(out, block, count, format)?;
-    block.push(out, b"\n")
+    write_combination(out, block, shelf, picks, cells, format);
+    write_count(out, block, count, format);
+    block.push(out, b"\n");
 }
 
 // Writes the line of a cell.
@@ -186,27 +153,20 @@ pub(crate) fn write_cell_line<W: Sink>(
     picks: &[usize],
     cells: &[Cell],
     format: &Format,
-) -> Result<(), WriteFault>
+)
     requires picked { All (λ i. i < length shelf.now.maps) picks.now }
     requires some { 0 < length picks.now }
     requires width { length cells.now ≡ length picks.now }
-    ensures ok { OnOk result (Gathers (W.taken out.old) block.old (cell_line format.now shelf.now.maps picks.now cells.now) (W.taken out.new) block.new) }
-    ensures err { IfErr result (λ fault. CutsOff (W.taken out.old) block.old (cell_line format.now shelf.now.maps picks.now cells.now) (W.taken out.new) fault.written) }
-    ensures lost { IfErr result (λ fault. block.new ≡ record { held = []; written = fault.written }) }
-    ensures faults { W.faults out.new ≡ after_put (W.faults out.old) (is_err result) }
+    ensures { Appends W.taken W.faults out.old block.old (cell_line format.now shelf.now.maps picks.now cells.now) out.new block.new }
 {
-    write_combination(out, block, shelf, picks, cells, format)?;
-    block.push(out, b"\n")
+    write_combination(out, block, shelf, picks, cells, format);
+    block.push(out, b"\n");
 }
 
 /// Writes a line for each entry of a table of the picked maps, or for each whose combination is greater than the one given.
 /// Takes no memory.
 ///
-/// The text is gathered in the block, which goes on holding its last part.
-///
-/// # Errors
-///
-/// [`WriteFault`] with the number of bytes that the sink took of all that was gathered, where it failed.
+/// The text is gathered in the block, which goes on holding its last part. After a refused put nothing more is written.
 pub fn write_table<W: Sink>(
     out: &mut W,
     block: &mut Block,
@@ -215,19 +175,18 @@ pub fn write_table<W: Sink>(
     shelf: &Shelf,
     picks: &[usize],
     format: &Format,
-) -> Result<(), WriteFault>
+)
     requires picked { All (λ i. i < length shelf.now.maps) picks.now }
     requires some { 0 < length picks.now }
     requires width { table.now.width ≡ length picks.now }
     requires after { IfSome after (λ k. length k.now ≡ length picks.now) }
-    ensures ok { OnOk result (Gathers (W.taken out.old) block.old (table_text format.now shelf.now.maps picks.now (printed_pairs (option_map (λ k. k.now) after.entry) table.now.pairs)) (W.taken out.new) block.new) }
-    ensures err { IfErr result (λ fault. CutsOff (W.taken out.old) block.old (table_text format.now shelf.now.maps picks.now (printed_pairs (option_map (λ k. k.now) after.entry) table.now.pairs)) (W.taken out.new) fault.written) }
-    ensures lost { IfErr result (λ fault. block.new ≡ record { held = []; written = fault.written }) }
-    ensures faults { W.faults out.new ≡ after_put (W.faults out.old) (is_err result) }
+    ensures { Appends W.taken W.faults out.old block.old (table_text format.now shelf.now.maps picks.now (printed_pairs (option_map (λ k. k.now) after.entry) table.now.pairs)) out.new block.new }
 {
     let entries = table.printed(after);
     for (combo, count) in entries {
-        write_pair(out, block, shelf, picks, combo.cells(), *count, format)?;
+        if block.has_failed() {
+            return;
+        }
+        write_pair(out, block, shelf, picks, combo.cells(), *count, format);
     }
-    Ok(())
 }

@@ -34,8 +34,8 @@ fn table_in_room(
     let table = tally(alloc, shelf, picks, skip)?;
     let mut out = MemorySink::new(vec![in alloc; 0u8; room]?, 3, false);
     let mut block = Block::new();
-    let written = if after.is_empty() {
-        write_table(&mut out, &mut block, &table, None, shelf, picks, format)
+    if after.is_empty() {
+        write_table(&mut out, &mut block, &table, None, shelf, picks, format);
     } else {
         let combo = Combo::read(alloc, after, picks.len())?;
         write_table(
@@ -46,14 +46,11 @@ fn table_in_room(
             shelf,
             picks,
             format,
-        )
-    };
-    let ended = match written {
-        Ok(()) => block.empty(&mut out),
-        Err(fault) => Err(fault),
-    };
+        );
+    }
+    block.empty(&mut out);
     let bytes = Vec::from_slice(alloc, out.bytes())?;
-    Ok((bytes, ended))
+    Ok((bytes, block.outcome()))
 }
 
 // The table's text is the wanted one.
@@ -87,8 +84,9 @@ fn expect_cells<R: Abort + AllocGlobal>(
     let mut out = MemorySink::new(vec![in rt.alloc(); 0u8; 4096]?, 3, false);
     let mut block = Block::new();
     let walk = CellWalk::new(rt.alloc(), shelf, picks)?;
-    write_cells(&mut out, &mut block, walk, shelf, picks, skip, format)?;
-    block.empty(&mut out)?;
+    write_cells(&mut out, &mut block, walk, shelf, picks, skip, format);
+    block.empty(&mut out);
+    assert_eq!(rt; block.outcome(), Ok(()));
     assert_eq!(rt; out.bytes(), wanted.as_bytes());
     Ok(())
 }
@@ -299,7 +297,7 @@ fn sink_without_room(rt: HostRuntime) -> Result<(), Fail> {
     Ok(())
 }
 
-// What a sink of so much room takes of the cells, by blocks; the block holds nothing more then.
+// What a sink of so much room takes of the cells, by blocks; the block puts nothing more then.
 fn expect_cells_cut<R: Abort + AllocGlobal>(
     rt: &R,
     shelf: &Shelf,
@@ -315,10 +313,10 @@ fn expect_cells_cut<R: Abort + AllocGlobal>(
     let mut block = Block::new();
     let walk = CellWalk::new(rt.alloc(), shelf, picks)?;
     let skip = Skip::Nothing;
-    let ended = write_cells(&mut out, &mut block, walk, shelf, picks, skip, format);
-    assert!(rt; ended == Err(WriteFault { written }));
-    assert_eq!(rt; block.written(), written);
-    assert!(rt; block.empty(&mut out) == Ok(()));
+    write_cells(&mut out, &mut block, walk, shelf, picks, skip, format);
+    assert!(rt; block.has_failed());
+    block.empty(&mut out);
+    assert!(rt; block.outcome() == Err(WriteFault { written }));
     Ok(Vec::from_slice(rt.alloc(), out.bytes())?)
 }
 

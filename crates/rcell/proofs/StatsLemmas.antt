@@ -9,7 +9,7 @@ use Rattle.cell_stats.specs.TableText.{FormatValue, table_text, printed_pairs, l
 use Rattle.cell_stats.specs.Tables.{Pairs, table_of}
 use Rattle.cell_combinations.specs.declared.skip.Skip.TheVariants.{Nothing}
 use Rattle.rcell.specs.Output.{combinations_of, format_of, stats_text}
-use Rattle.rcell.specs.StatsLaw.{IsTableOf, TablesArePrinted, CountsCoverTheRegion}
+use Rattle.rcell.specs.StatsLaw.{IsTableOf, TablesAreAppended, CountsCoverTheRegion}
 
 printed : TableAgrees → (shelf : ShelfValue) (places : List ℕ) (options : StatsOptions) (pairs : Pairs) → options.cells ≡ false → IsTableOf shelf places options pairs
     → stats_text shelf places options ≡ table_text (format_of options) shelf.maps places (printed_pairs options.after pairs)
@@ -17,7 +17,7 @@ printed agrees shelf places options pairs cells is =
     let same : pairs ≡ table_of options.skip (combinations_of shelf places) = (agrees options.skip (combinations_of shelf places)).1 pairs is in
     rw (cells, same) refl
 
-pub tables-printed : TableAgrees → TablesArePrinted
+pub tables-printed : TableAgrees → TablesAreAppended
 tables-printed agrees shelf places options cells = (
   (table_of options.skip (combinations_of shelf places), (agrees options.skip (combinations_of shelf places)).0),
   λ pairs is. printed agrees shelf places options pairs cells is,

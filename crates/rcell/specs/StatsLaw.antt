@@ -14,8 +14,8 @@ abbrev pub IsTableOf : ShelfValue → List ℕ → StatsOptions → Pairs → Ty
 IsTableOf shelf places options pairs = IsTable options.skip (combinations_of shelf places) pairs
 
 -- without `-1`, r.stats writes the printed form of every list that is a table of its maps, or of its rest after a combination; and there is such a list
-abbrev pub TablesArePrinted : Type 0
-TablesArePrinted = (shelf : ShelfValue) (places : List ℕ) (options : StatsOptions) → options.cells ≡ false
+abbrev pub TablesAreAppended : Type 0
+TablesAreAppended = (shelf : ShelfValue) (places : List ℕ) (options : StatsOptions) → options.cells ≡ false
     → ((pairs : Pairs) × IsTableOf shelf places options pairs)
     × ((pairs : Pairs) → IsTableOf shelf places options pairs
     → command_text shelf (Stats places options) ≡ table_text (format_of options) shelf.maps places (printed_pairs options.after pairs))

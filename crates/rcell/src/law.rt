@@ -1,7 +1,7 @@
 //! Laws of output, in the words of the subject.
 
 ghost use Rattle.rcell.specs.OutputLaw.{OneOutput, PartsJoin};
-ghost use Rattle.rcell.specs.StatsLaw.{CountsCoverTheRegion, TablesArePrinted};
+ghost use Rattle.rcell.specs.StatsLaw.{CountsCoverTheRegion, TablesAreAppended};
 
 use cell_clump::law::clumping_is_one;
 use cell_stats::law::{counts_add_up, table_lists_what_occurs};
@@ -22,7 +22,7 @@ pub fn parts_join()
 /// What r.stats writes, but for `-1`, is the printed form of every list that is a table of its maps, or of its rest after
 /// a combination; and there is such a list.
 pub fn tables_are_printed()
-    ensures { TablesArePrinted }
+    ensures { TablesAreAppended }
 {
     table_lists_what_occurs();
 }

@@ -2,6 +2,7 @@
 
 ghost use Rattle.std.specs.Prelude.{◌≡◌, ◌≤◌, length, IfOk};
 
+use crate::runs::FIVE_COMMANDS;
 use cell_ascii::fault::{GridFault, GridKind};
 use cell_core::device::DeviceFault;
 use cell_core::name::Name;
@@ -20,8 +21,10 @@ const HEADER: &[u8] = b"north: 3\nsouth: 0\neast: 4\nwest: 0\nrows: 3\ncols: 4\n
 // The last cell of the grid and its line feed.
 const LAST_CELL: usize = 2;
 
-const SCRIPT: &[u8] =
-    b"r.stats -c input=g\nr.clump input=g output=c\nr.mapcalc x = c[1,0] + 1\nr.out.ascii input=x\n";
+const SCRIPT: &[u8] = FIVE_COMMANDS;
+
+// How many bytes it asks for.
+const ALL_BYTES: u64 = 111;
 
 /// The most bytes of a script.
 const MOST_BYTES: usize = 1048576;
@@ -108,24 +111,38 @@ impl<'a> Source for Unknown<'a> {
     }
 }
 
-// A sink of so much room that counts its flushes.
+// A sink of so much room, whose flush fails or not. It counts its flushes.
 #[derive(Drop)]
 struct Counting {
     room: usize,
-    has_failed: bool,
+    flush_fails: bool,
+    refused: bool,
+    unflushed: bool,
     flushes: u32,
 }
 
+impl Counting {
+    fn new(room: usize, flush_fails: bool) -> Counting {
+        Counting {
+            room,
+            flush_fails,
+            refused: false,
+            unflushed: false,
+            flushes: 0,
+        }
+    }
+}
+
 impl Sink for Counting {
-    ghost use Rattle.std.specs.Prelude.{None, false};
+    ghost use Rattle.std.specs.Prelude.{None};
 
     ghost taken = { λ _. None };
 
-    ghost faults = { λ s. record { refused = s.has_failed; unflushed = false } };
+    ghost faults = { λ s. record { refused = s.refused; unflushed = s.unflushed } };
 
     fn put(&mut self, bytes: &[u8]) -> Result<usize, DeviceFault> {
         if bytes.len() > self.room {
-            self.has_failed = true;
+            self.refused = true;
             return Err(DeviceFault);
         }
         self.room -= bytes.len();
@@ -134,6 +151,10 @@ impl Sink for Counting {
 
     fn flush(&mut self) -> Result<(), DeviceFault> {
         self.flushes = self.flushes.saturating_add(1);
+        if self.flush_fails {
+            self.unflushed = true;
+            return Err(DeviceFault);
+        }
         Ok(())
     }
 }
@@ -173,7 +194,7 @@ fn expect_refused<'a, R: Abort + AllocGlobal>(
 #[test]
 fn each_read_fails_in_turn(rt: HostRuntime) -> Result<(), Fail> {
     let mut line = 1u64;
-    for count in 0..GRID.len() {
+    for count in 0..=GRID.len() {
         let grid = Unknown::new(&GRID[..count], Then::Fails);
         let script = Unknown::new(SCRIPT, Then::Ends);
         let kind = GridKind::Read;
@@ -182,11 +203,11 @@ fn each_read_fails_in_turn(rt: HostRuntime) -> Result<(), Fail> {
             fault: GridFault { kind, line },
         };
         expect_refused(&rt, script, grid, 4, fault)?;
-        if GRID[count] == b'\n' {
+        if GRID.get(count) == Some(&b'\n') {
             line = line.saturating_add(1);
         }
     }
-    for count in 0..SCRIPT.len() {
+    for count in 0..=SCRIPT.len() {
         let grid = Unknown::new(GRID, Then::Ends);
         let script = Unknown::new(&SCRIPT[..count], Then::Fails);
         expect_refused(&rt, script, grid, 4, RunFault::ScriptRead)?;
@@ -258,7 +279,7 @@ fn nothing_is_read_behind_an_end(rt: HostRuntime) -> Result<(), Fail> {
 
 #[test]
 fn each_prefix_of_a_grid_is_refused(rt: HostRuntime) -> Result<(), Fail> {
-    for count in 0..GRID.len() - LAST_CELL {
+    for count in 0..=GRID.len() - LAST_CELL {
         let grid = Unknown::new(&GRID[..count], Then::Ends);
         let script = Unknown::new(SCRIPT, Then::Ends);
         let mut out = MemorySink::new(vec![in rt.alloc(); 0u8; 200]?, 3, false);
@@ -322,52 +343,158 @@ fn a_script_may_have_a_mebibyte(rt: HostRuntime) -> Result<(), Fail> {
 
 #[test]
 fn is_flushed_once_unless_refused_or_failed(rt: HostRuntime) -> Result<(), Fail> {
-    for (script, room, status, flushes) in [
-        (SCRIPT, 200, 0, 1),
-        (b"# nothing is asked for\n", 0, 0, 1),
-        (SCRIPT, 9, 4, 0),
-        (b"r.stats -c input=g\nr.stats -c input=h\n", 200, 1, 0),
+    for (script, room, flush_fails, status, written, flushes) in [
+        (SCRIPT, 200, false, 0, ALL_BYTES, 1),
+        (SCRIPT, 200, true, 4, ALL_BYTES, 1),
+        (b"# nothing is asked for\n".as_slice(), 0, false, 0, 0, 1),
+        (b"# nothing is asked for\n", 0, true, 4, 0, 1),
+        (SCRIPT, 9, false, 4, 0, 0),
+        (SCRIPT, 9, true, 4, 0, 0),
     ] {
-        let mut out = Counting {
-            room,
-            has_failed: false,
-            flushes: 0,
-        };
+        let mut out = Counting::new(room, flush_fails);
         let script = Unknown::new(script, Then::Ends);
         let grid = Unknown::new(GRID, Then::Ends);
         let outcome = run_sources(rt.alloc(), script, grid, &mut out)?;
-        assert_eq!(rt; (outcome.status, out.flushes), (status, flushes));
+        let wanted = Outcome {
+            status,
+            written,
+            fault: if status == 4 {
+                Some(RunFault::Write)
+            } else {
+                None
+            },
+        };
+        assert_eq!(rt; outcome, wanted);
+        assert_eq!(rt; out.flushes, flushes);
     }
     Ok(())
 }
 
-fn counted<R: AllocGlobal>(rt: &R) -> Result<(Outcome, u32), Fail> {
-    let mut out = Counting {
-        room: 200,
-        has_failed: false,
-        flushes: 0,
-    };
+// Runs a script over named grids, after the bytes of each of which the same comes.
+fn run_grids<'a, W: Sink>(
+    alloc: Global,
+    script: Unknown<'a>,
+    grids: &[(&'a [u8], &'a [u8])],
+    then: Then<'a>,
+    out: &mut W,
+) -> Result<Outcome, Fail> {
+    let mut named = Vec::new(alloc);
+    for (name, text) in grids {
+        let name = Name::read(alloc, *name).map_err(|_| "no name")?;
+        named
+            .push((name, Unknown::new(*text, then)))
+            .map_err(|_| "no memory")?;
+    }
+    if named.is_empty() {
+        Err("no grid")?;
+    }
+    Ok(run(alloc, script, named, out))
+}
+
+const ONE_GRID: &[(&[u8], &[u8])] = &[(b"g", GRID)];
+
+const SAME_NAMES: &[(&[u8], &[u8])] = &[(b"g", GRID), (b"g", GRID)];
+
+const OTHER_REGIONS: &[(&[u8], &[u8])] = &[
+    (b"g", GRID),
+    (
+        b"h",
+        b"north: 1\nsouth: 0\neast: 1\nwest: 0\nrows: 1\ncols: 1\n7\n",
+    ),
+];
+
+const BAD_CELL: &[(&[u8], &[u8])] = &[(
+    b"g",
+    b"north: 1\nsouth: 0\neast: 1\nwest: 0\nrows: 1\ncols: 1\nx\n",
+)];
+
+// A sink is not called where the grids or the script are refused, whether or not its flush would fail.
+#[test]
+fn what_is_refused_is_not_flushed(rt: HostRuntime) -> Result<(), Fail> {
+    let long = vec![in rt.alloc(); b'#'; MOST_BYTES + 1]?;
+    for (grids, then, script, script_then, status) in [
+        (BAD_CELL, Then::Ends, SCRIPT, Then::Ends, 1),
+        (OTHER_REGIONS, Then::Ends, SCRIPT, Then::Ends, 1),
+        (SAME_NAMES, Then::Ends, SCRIPT, Then::Ends, 1),
+        (ONE_GRID, Then::Fails, SCRIPT, Then::Ends, 4),
+        (ONE_GRID, Then::Ends, SCRIPT, Then::Fails, 4),
+        (ONE_GRID, Then::Ends, long.as_slice(), Then::Ends, 1),
+        (
+            ONE_GRID,
+            Then::Ends,
+            b"r.stats -c input=g\nr.stats -c input=h\n",
+            Then::Ends,
+            1,
+        ),
+    ] {
+        for flush_fails in [false, true] {
+            let mut out = Counting::new(200, flush_fails);
+            let script = Unknown::new(script, script_then);
+            let outcome = run_grids(rt.alloc(), script, grids, then, &mut out)?;
+            assert_eq!(rt; (outcome.status, outcome.written), (status, 0));
+            assert_eq!(rt; (out.room, out.refused, out.flushes), (200, false, 0));
+        }
+    }
+    Ok(())
+}
+
+fn counted<R: AllocGlobal>(rt: &R, flush_fails: bool) -> Result<(Outcome, u32), Fail> {
+    let mut out = Counting::new(200, flush_fails);
     let script = Unknown::new(SCRIPT, Then::Ends);
     let grid = Unknown::new(GRID, Then::Ends);
     let outcome = run_sources(rt.alloc(), script, grid, &mut out)?;
     Ok((outcome, out.flushes))
 }
 
-// A run that is out of memory in a statement is flushed once, as one that is done; one that is out of memory before is not.
+// How many bytes are out where memory is refused at a line of the script.
+fn written_before(line: u64) -> u64 {
+    if line < 2 {
+        0
+    } else if line < 8 {
+        16
+    } else {
+        37
+    }
+}
+
+// What a run tells that is out of memory, and how often it is flushed: once in a statement, as one that is done, and not
+// before.
+fn expect_out_of_memory<R: Abort>(rt: &R, outcome: Outcome, flushes: u32) {
+    let line = match outcome.fault {
+        Some(RunFault::Memory { line }) => line,
+        _ => 0,
+    };
+    assert_eq!(rt;
+        (outcome.status, outcome.written, flushes),
+        (3, written_before(line), u32::from(line > 0))
+    );
+}
+
 #[test]
 fn a_run_out_of_memory_is_flushed_and_made_again(rt: HostRuntime) -> Result<(), Fail> {
-    let (outcome, flushes) = counted(&rt)?;
+    let (outcome, flushes) = counted(&rt, false)?;
     if outcome.status == 0 {
         assert_eq!(rt; flushes, 1);
         return Ok(());
     }
-    let is_in_statement = match outcome.fault {
-        Some(RunFault::Memory { line }) => line > 0,
-        _ => false,
-    };
-    assert_eq!(rt; (outcome.status, flushes), (3, u32::from(is_in_statement)));
+    expect_out_of_memory(&rt, outcome, flushes);
     let _ = eprintln!(rt; "made again");
-    let (again, flushes) = counted(&rt)?;
+    let (again, flushes) = counted(&rt, false)?;
     assert_eq!(rt; (again.status, flushes), (0, 1));
+    Ok(())
+}
+
+// A flush that fails turns a run that is done into a failed write, and changes nothing of one that is out of memory.
+#[test]
+fn a_run_out_of_memory_stays_so_and_is_made_again(rt: HostRuntime) -> Result<(), Fail> {
+    let (outcome, flushes) = counted(&rt, true)?;
+    if outcome.status == 4 {
+        assert_eq!(rt; (outcome.written, flushes), (ALL_BYTES, 1));
+        return Ok(());
+    }
+    expect_out_of_memory(&rt, outcome, flushes);
+    let _ = eprintln!(rt; "made again");
+    let (again, flushes) = counted(&rt, true)?;
+    assert_eq!(rt; (again.status, again.written, flushes), (4, ALL_BYTES, 1));
     Ok(())
 }

@@ -157,7 +157,7 @@ fn puts_out_grids(rt: HostRuntime) -> Result<(), Fail> {
 }
 
 // Each of the five commands.
-const FIVE_COMMANDS: &[u8] =
+pub(crate) const FIVE_COMMANDS: &[u8] =
     b"r.stats -c input=g\nr.clump input=g output=c\nr.mapcalc x = c[1,0] + 1\nr.reclass input=g output=r\n1 thru 3 = 7 low\nend\nr.stats -cl input=r\nr.out.ascii input=x\n";
 
 const FIVE_TEXTS: &[u8] =
@@ -175,6 +175,7 @@ fn writes_what_each_command_asks_for(rt: HostRuntime) -> Result<(), Fail> {
     let outcome = run_texts(alloc, &[(b"g", GRID)], FIVE_COMMANDS, &mut unflushed)?;
     assert_eq!(rt; (outcome.status, outcome.written), (4, 111));
     assert_eq!(rt; outcome.fault, Some(RunFault::Write));
+    assert_eq!(rt; unflushed.bytes(), FIVE_TEXTS);
     Ok(())
 }
 

@@ -4,8 +4,8 @@ use Rattle.cell_core.specs.Grid.{CellValue}
 use Rattle.cell_operations.specs.Applied.{Spot, spot, applied, called, negated, inverted}
 use Rattle.cell_operations.specs.Offsets.{item_at}
 use Rattle.cell_calc.specs.Window.{Window}
-use Rattle.cell_formulas.specs.declared.step.Step.{Step}
-use Rattle.cell_formulas.specs.declared.step.Step.TheVariants as step
+use Rattle.cell_steps.specs.declared.bound.Step.{Step}
+use Rattle.cell_steps.specs.declared.bound.Step.TheVariants as step
 use Rattle.cell_calc.specs.declared.strip.Operand.{Operand}
 use Rattle.cell_calc.specs.declared.strip.Operand.TheVariants as operand
 use Rattle.cell_calc.specs.declared.strip.Strip.{Strip}

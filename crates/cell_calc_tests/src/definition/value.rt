@@ -19,7 +19,7 @@ use cell_core::region::Region;
 use cell_core::shelf::Shelf;
 use cell_language::expr::Expr;
 use cell_language::function::Function;
-use cell_language::step::Step;
+use cell_steps::named::Step;
 use std::alloc::Global;
 
 fn item_at(cells: &[Cell], i: i64) -> Cell

@@ -2,10 +2,10 @@
 use Rattle.std.specs.Prelude.{ℕ, List}
 use Rattle.std.specs.Option.{unwrap_or}
 use Rattle.cell_base.specs.Name.{place_of}
-use Rattle.cell_formulas.specs.declared.step.Step.{Step}
-use Rattle.cell_formulas.specs.declared.step.Step.TheVariants as step
-use Rattle.cell_language.specs.declared.step.Step as named
-use Rattle.cell_language.specs.declared.step.Step.TheVariants.{Number, Map, Negated, Not, Binary, Call}
+use Rattle.cell_steps.specs.declared.bound.Step.{Step}
+use Rattle.cell_steps.specs.declared.bound.Step.TheVariants as step
+use Rattle.cell_steps.specs.declared.named.Step as named
+use Rattle.cell_steps.specs.declared.named.Step.TheVariants.{Number, Map, Negated, Not, Binary, Call}
 
 -- the same step with a place for its name
 abbrev pub placed_step : List (List ℕ) → named.Step → Step

@@ -1,7 +1,7 @@
 -- What single steps say of the expression that they are of.
 use Rattle.std.specs.Prelude.{◌≡◌, ◌≤◌, ◌<◌, ◌+◌, ◌^◌, ◌==◌, ℕ, List, [], ◌∷◌, length, max, if◌then◌else◌}
-use Rattle.cell_formulas.specs.declared.step.Step.{Step}
-use Rattle.cell_formulas.specs.declared.step.Step.TheVariants.{Number, Map, Negated, Not, Binary, Call}
+use Rattle.cell_steps.specs.declared.bound.Step.{Step}
+use Rattle.cell_steps.specs.declared.bound.Step.TheVariants.{Number, Map, Negated, Not, Binary, Call}
 use Rattle.cell_language.specs.Grammatical.{up_by, down_by}
 
 -- one more than the place that a step reads, 0 where it reads none

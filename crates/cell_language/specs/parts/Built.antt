@@ -1,10 +1,10 @@
 -- The term that steps in postfix order build on a stack.
 use Rattle.std.specs.Prelude.{ℕ, zero, suc, List, [], ◌∷◌, ◌≡◌}
-use Rattle.cell_language.specs.declared.step.Step.{Step}
-use Rattle.cell_language.specs.declared.step.Step.TheVariants as step
+use Rattle.cell_steps.specs.declared.named.Step.{Step}
+use Rattle.cell_steps.specs.declared.named.Step.TheVariants as step
 use Rattle.cell_language.specs.Grammatical.{IsGrammatical}
 use Rattle.cell_language.specs.Postfix.{postfix}
-use Rattle.cell_language.specs.Term.{Term, Number, Map, Negated, Not, Binary, Call, Terms, NoTerms, Then}
+use Rattle.cell_grammar.specs.Term.{Term, Number, Map, Negated, Not, Binary, Call, Terms, NoTerms, Then}
 
 -- so many terms from the top of the stack, in front of others
 abbrev pub gathered : ℕ → List Term → Terms → Terms

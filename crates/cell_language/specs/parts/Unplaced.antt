@@ -1,8 +1,8 @@
 -- The first map name of steps in postfix order that is not among some names.
 use Rattle.std.specs.Prelude.{ℕ, List, [], ◌∷◌, Option, None}
 use Rattle.cell_base.specs.Name.{place_of}
-use Rattle.cell_language.specs.declared.step.Step.{Step}
-use Rattle.cell_language.specs.declared.step.Step.TheVariants as step
+use Rattle.cell_steps.specs.declared.named.Step.{Step}
+use Rattle.cell_steps.specs.declared.named.Step.TheVariants as step
 use Rattle.cell_language.specs.Unknown.{first_of, unplaced}
 
 -- the column of the name, if the step reads a map whose name is not among the names

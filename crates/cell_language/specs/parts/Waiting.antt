@@ -6,12 +6,12 @@ use Rattle.cell_language.specs.declared.reader.Frame.TheVariants as frame
 use Rattle.cell_language.specs.declared.reader.Reader.{Reader}
 use Rattle.cell_language.specs.declared.reader.Turn.{Turn}
 use Rattle.cell_language.specs.declared.reader.Turn.TheVariants as turn
-use Rattle.cell_language.specs.declared.step.Step.{Step}
+use Rattle.cell_steps.specs.declared.named.Step.{Step}
 use Rattle.cell_tokens.specs.declared.token.Placed.{Placed}
 use Rattle.cell_language.specs.Postfix.{postfix, postfix_all}
-use Rattle.cell_language.specs.Reading.{Outcome, Got, State, Operand, More, Choice, AfterQuestion, Onward, Reads, negate, invert, close, join, choose, call, add}
+use Rattle.cell_grammar.specs.Reading.{Outcome, Got, State, Operand, More, Choice, AfterQuestion, Onward, Reads, negate, invert, close, join, choose, call, add}
 use Rattle.cell_language.specs.Stopping.{StopsAt}
-use Rattle.cell_language.specs.Term.{Term, Terms, NoTerms, Then, count}
+use Rattle.cell_grammar.specs.Term.{Term, Terms, NoTerms, Then, count}
 
 -- arguments, before others
 abbrev pub add_all : Terms → Outcome → Outcome

@@ -7,8 +7,7 @@ use Rattle.cell_ascii_text.specs.Writing.{grid_text}
 use Rattle.cell_devices.specs.Device.{Faults, append_known}
 use Rattle.cell_core.specs.Grid.{Grid}
 use Rattle.cell_core.specs.Shelf.{ShelfValue}
-use Rattle.cell_devices.specs.Blocks.{capped}
-use Rattle.cell_devices.specs.Sticky.{StickyValue, Printed, Appends}
+use Rattle.cell_devices.specs.Blocks.{capped, BlockValue, Appended, Appends}
 use Rattle.cell_script.specs.Known.{known_after}
 use Rattle.cell_commands.specs.Fitting.{FitsCommand}
 use Rattle.cell_script.specs.Fitting.{Fits}
@@ -23,10 +22,10 @@ use Rattle.rcell.specs.runs.Execution.{IsBefore, IsWithin}
 use Rattle.rcell.specs.runs.Outcomes.{IsDone}
 use Rattle.rcell.proofs.OutputLemmas.{Executes-append}
 
--- all was printed, and is put
-module _ {before now : Option (List ℕ)} {start faults : Faults} {text : List ℕ} {block : StickyValue} (p : Printed before start text now faults block) where
-  pub printed_put : block.failed ≡ false → block.held ≡ [] → (now ≡ append_known before text) × ((block.written ≡ capped (length text)) × (faults ≡ start))
-  printed_put good none =
+-- all was appended, and is put
+module _ {before now : Option (List ℕ)} {start faults : Faults} {text : List ℕ} {block : BlockValue} (p : Appended before start text now faults block) where
+  pub appended_put : block.failed ≡ false → block.held ≡ [] → (now ≡ append_known before text) × ((block.written ≡ capped (length text)) × (faults ≡ start))
+  appended_put good none =
       let rest : [] ≡ p.rest = sym none ∙ rw good at p.held in
       let front : p.front ≡ text = sym (append-nil p.front) ∙ ap (λ (l : List ℕ). p.front ++ l) rest ∙ p.whole in
       (p.taken ∙ ap (append_known before) front, (p.count ∙ ap (λ (l : List ℕ). capped (length l)) front, rw good at p.fails))
@@ -61,20 +60,20 @@ module _ (statements : List Statement) (i : ℕ) (s : Statement) (h : i < length
       subst (λ (l : List Statement). Executes shelf l (text ++ command_text after s.command) next) list
       (Executes-append (take i statements) (s ∷ []) shelf after next text (command_text after s.command) executed last)
 
-  module _ {shelf after : ShelfValue} {before taken : Option (List ℕ)} {start faults : Faults} {old : StickyValue} (executed : HasExecuted shelf (take i statements) before start taken faults old after) where
+  module _ {shelf after : ShelfValue} {before taken : Option (List ℕ)} {start faults : Faults} {old : BlockValue} (executed : HasExecuted shelf (take i statements) before start taken faults old after) where
     -- the statement at place i is executed, and the block emptied
-    pub executed_more : {next : ShelfValue} {S : Type 0} {known : S → Option (List ℕ)} {failing : S → Faults} {was now : S} {new : StickyValue} → taken ≡ known was → faults ≡ failing was → IsAfter after s.command next
+    pub executed_more : {next : ShelfValue} {S : Type 0} {known : S → Option (List ℕ)} {failing : S → Faults} {was now : S} {new : BlockValue} → taken ≡ known was → faults ≡ failing was → IsAfter after s.command next
         → Appends known failing was old (command_text after s.command) now new → HasExecuted shelf (take (i + 1) statements) before start (known now) (failing now) new next
     executed_more {next} t f step appends = record {
       text = executed.text ++ command_text after s.command;
       executed = more shelf after next executed.text executed.executed step;
-      printed = appends.adds before start executed.text (rw (t, f) at executed.printed);
+      appended = appends.adds before start executed.text (rw (t, f) at executed.appended);
     }
 
     -- memory was refused to the statement at place i
     pub before_at : old.failed ≡ false → old.held ≡ [] → IsBefore shelf statements before taken old.written s.line
     before_at good none =
-        let put = printed_put executed.printed good none in
+        let put = appended_put executed.appended good none in
         record {
           first = take i statements;
           statement = s;
@@ -89,25 +88,25 @@ module _ (statements : List Statement) (i : ℕ) (s : Statement) (h : i < length
         }
 
 -- the sink refused a put
-pub executed_within : (shelf after : ShelfValue) (statements : List Statement) (i : ℕ) (before now : Option (List ℕ)) (start faults : Faults) (block : StickyValue)
+pub executed_within : (shelf after : ShelfValue) (statements : List Statement) (i : ℕ) (before now : Option (List ℕ)) (start faults : Faults) (block : BlockValue)
     → HasExecuted shelf (take i statements) before start now faults block after → IsWithin shelf statements before now block.written
 executed_within shelf after statements i before now start faults block executed = record {
   first = take i statements;
   others = drop i statements;
   whole = take-append-drop i statements;
-  prefix = executed.printed.front;
-  rest = executed.printed.rest;
+  prefix = executed.appended.front;
+  rest = executed.appended.rest;
   after = after;
-  executed = subst (λ (t : List ℕ). Executes shelf (take i statements) t after) (sym executed.printed.whole) executed.executed;
-  taken = executed.printed.taken;
-  count = executed.printed.count;
+  executed = subst (λ (t : List ℕ). Executes shelf (take i statements) t after) (sym executed.appended.whole) executed.executed;
+  taken = executed.appended.taken;
+  count = executed.appended.count;
 }
 
 -- all statements were executed
-pub executed_all : (shelf after : ShelfValue) (statements first : List Statement) (before now : Option (List ℕ)) (start faults : Faults) (block : StickyValue) → first ≡ statements → block.failed ≡ false → block.held ≡ []
+pub executed_all : (shelf after : ShelfValue) (statements first : List Statement) (before now : Option (List ℕ)) (start faults : Faults) (block : BlockValue) → first ≡ statements → block.failed ≡ false → block.held ≡ []
     → HasExecuted shelf first before start now faults block after → IsDone shelf statements before now block.written
 executed_all shelf after statements first before now start faults block all good none executed =
-    let put = printed_put executed.printed good none in
+    let put = appended_put executed.appended good none in
     record {
       text = executed.text;
       output = (after, subst (λ (l : List Statement). Executes shelf l executed.text after) all executed.executed);

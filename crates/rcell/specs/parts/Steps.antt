@@ -1,7 +1,7 @@
 -- One statement of an execution, and the bytes around it.
 use Rattle.std.specs.Prelude.{ℕ, Bool, true, false, List, Option, Result, Ok, Err}
 use Rattle.cell_devices.specs.Device.{Faults}
-use Rattle.cell_devices.specs.Sticky.{StickyValue, Printed}
+use Rattle.cell_devices.specs.Blocks.{BlockValue, Appended}
 use Rattle.cell_core.specs.Shelf.{ShelfValue}
 use Rattle.cell_script.specs.declared.statement.Statement.{Statement}
 use Rattle.rcell.specs.Output.{Executes}
@@ -19,8 +19,8 @@ abbrev pub stops_write : {A : Type 0} → Result A Stopped → Bool
 stops_write (Ok x) = false
 stops_write (Err stopped) = is_write stopped.stop
 
--- the first statements were executed, and their output was printed
-pub record HasExecuted (shelf : ShelfValue) (first : List Statement) (before : Option (List ℕ)) (start : Faults) (now : Option (List ℕ)) (faults : Faults) (block : StickyValue) (after : ShelfValue) : Type 0 where
+-- the first statements were executed, and their output was appended
+pub record HasExecuted (shelf : ShelfValue) (first : List Statement) (before : Option (List ℕ)) (start : Faults) (now : Option (List ℕ)) (faults : Faults) (block : BlockValue) (after : ShelfValue) : Type 0 where
   pub text : List ℕ
   pub executed : Executes shelf first text after
-  pub printed : Printed before start text now faults block
+  pub appended : Appended before start text now faults block

@@ -2,7 +2,7 @@
 
 ghost use Rattle.std.specs.Prelude.{◌≡◌, OnOk, OnErr, IfOk, IfErr};
 ghost use Rattle.cell_devices.specs.Device.{after_put};
-ghost use Rattle.cell_devices.specs.Sticky.{Appends};
+ghost use Rattle.cell_devices.specs.Blocks.{Appends};
 ghost use Rattle.cell_script.specs.Known.{known_after};
 ghost use Rattle.cell_commands.specs.Fitting.{FitsCommand};
 ghost use Rattle.cell_script.specs.Fitting.{Fits};
@@ -12,12 +12,12 @@ ghost use Rattle.rcell.specs.parts.Steps.{stops_write};
 ghost use Rattle.rcell.specs.runs.Execution.{Stops};
 ghost use Rattle.rcell.specs.runs.Outcomes.{IsDone};
 
-use crate::runs::tables::put_stats;
-use cell_ascii::sticky_writer::print_map;
+use crate::runs::tables::write_stats;
+use cell_ascii::writer::write_grid;
+use cell_core::block::Block;
 use cell_core::memory::Memory;
 use cell_core::shelf::Shelf;
 use cell_core::sink::Sink;
-use cell_core::sticky::StickyBlock;
 use cell_making::making::{make_classes, make_numbers, make_values};
 use cell_script::statement::{Command, Statement};
 use std::alloc::Global;
@@ -63,7 +63,7 @@ fn execute_statement<W: Sink>(
     alloc: Global,
     shelf: &mut Shelf,
     statement: &Statement,
-    block: &mut StickyBlock,
+    block: &mut Block,
     out: &mut W,
 ) -> Result<(), Memory>
     requires { FitsCommand shelf.old.names statement.now.command }
@@ -86,10 +86,10 @@ fn execute_statement<W: Sink>(
             joining,
         } => make_numbers(alloc, shelf, *place, target, *joining),
         Command::Stats { places, options } => {
-            put_stats(alloc, shelf, places.as_slice(), options, block, out)
+            write_stats(alloc, shelf, places.as_slice(), options, block, out)
         }
         Command::OutAscii { place, null_text } => {
-            print_map(out, block, shelf.map(*place), null_text.bytes());
+            write_grid(out, block, shelf.map(*place), null_text.bytes());
             Ok(())
         }
     }
@@ -112,7 +112,7 @@ pub fn execute<W: Sink>(
     ensures err { IfErr result (λ s. Stops shelf.old statements.now (W.taken out.old) (W.taken out.new) s.written s.stop) }
     ensures faults { W.faults out.new ≡ after_put (W.faults out.old) (stops_write result) }
 {
-    let mut block = StickyBlock::new();
+    let mut block = Block::new();
     for statement in statements {
         match execute_statement(alloc, shelf, statement, &mut block, out) {
             Ok(()) => block.empty(out),

@@ -121,6 +121,8 @@ pub fn run<R: Source + Drop, W: Sink>(
         → IfSome result.fault (λ f. IsOfInput f → IsRefusal (known_of R.coming grids.items) (coming_of R.coming script) f) }
     // A run that is refused before execution writes nothing, and no call of the sink fails.
     ensures nothing { IfSome result.fault (λ f. IsBeforeExecution f → (W.taken out.new ≡ W.taken out.old) × ((W.faults out.new ≡ W.faults out.old) × (result.written ≡ 0))) }
+    // It leaves the sink as it was: nothing is put, and it is not flushed.
+    ensures untouched { IfSome result.fault (λ f. IsBeforeExecution f → out.new ≡ out.old) }
     // A run that stops out of memory has written the whole output of the statements before the one that it tells; one that
     // stops at a failing sink has written a prefix of the output, and tells its length.
     ensures stopped { AllKnown R.coming grids.items → IsSome (R.coming script) → IfSome result.fault (λ f. IsInExecution f

@@ -2,19 +2,18 @@
 
 ghost use Rattle.std.specs.Prelude.{◌≡◌, ◌<◌, ◌≤◌, All, length, OnOk, OnErr, IfSome};
 ghost use Rattle.std.specs.Option.{option_map};
-ghost use Rattle.cell_devices.specs.Sticky.{Appends};
+ghost use Rattle.cell_devices.specs.Blocks.{Appends};
 ghost use Rattle.rcell.specs.Output.{stats_text, format_of};
 
+use cell_core::block::Block;
 use cell_core::memory::Memory;
 use cell_core::shelf::Shelf;
 use cell_core::sink::Sink;
-use cell_core::sticky::StickyBlock;
 use cell_script::statement::StatsOptions;
-use cell_stats::cells::CellWalk;
+use cell_stats::cells::{CellWalk, write_cells};
 use cell_stats::combination::Combo;
 use cell_stats::format::Format;
-use cell_stats::sticky_cells::write_cells;
-use cell_stats::sticky_printing::write_table;
+use cell_stats::printing::write_table;
 use cell_stats::tallying::tally;
 use std::alloc::Global;
 
@@ -45,12 +44,12 @@ fn after_of<'a>(options: &'a StatsOptions) -> Option<&'a Combo>
 /// # Errors
 ///
 /// `Memory`, where memory is refused: nothing is written then.
-pub fn put_stats<W: Sink>(
+pub fn write_stats<W: Sink>(
     alloc: Global,
     shelf: &Shelf,
     places: &[usize],
     options: &StatsOptions,
-    block: &mut StickyBlock,
+    block: &mut Block,
     out: &mut W,
 ) -> Result<(), Memory>
     requires within { All (λ place. place < length shelf.now.maps) places.now }

@@ -6,8 +6,9 @@ use Rattle.cell_devices.specs.Asking.{hears}
 use Rattle.cell_scanner.specs.Ahead.{to_come}
 use Rattle.cell_ascii_text.specs.Cells.{cell_from}
 use Rattle.cell_ascii.specs.Reader.{at_place}
-use Rattle.cell_ascii.proofs.HeldRowLemmas.{filled, filled-length, part-front, part-rest}
-use Rattle.cell_ascii.proofs.RowReadLemmas.{row_more, row_some, row_cut}
+use Rattle.cell_ascii_held.proofs.HeldRowLemmas.{filled, filled-length, part-front, part-rest}
+use Rattle.cell_ascii_held.proofs.ManyLemmas.{row_more, row_some}
+use Rattle.cell_ascii.proofs.RowReadLemmas.{row_cut}
 use Rattle.cell_ascii.proofs.reader.read_row.Goals as goal
 
 pub returns-then-i-row-clause-row : goal.returns-then-i-row-clause-row

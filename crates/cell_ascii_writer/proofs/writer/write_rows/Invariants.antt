@@ -1,11 +1,14 @@
-use Rattle.std.proofs.Common.{◌≡◌, ◌≤◌, ◌+◌, ◌*◌, take, flat_map}
-use Rattle.cell_devices.specs.Blocks.{Gathers, counted}
+use Rattle.std.proofs.Common.{◌≡◌, length, take, flat_map}
+use Rattle.std.specs.List.{All}
+use Rattle.cell_devices.specs.Blocks.{Appends}
 use Rattle.cell_ascii_text.specs.Writing.{row_text}
+use Rattle.cell_ascii_writer.specs.Fields.{IsField}
 use Rattle.cell_ascii_writer.proofs.writer.write_rows.Given as goal
 
 abbrev pub invariant-loop-row : goal.invariant-loop-row
 invariant-loop-row g l = record {
-  gathers : Gathers (g.W.Sink.taken l.fn.out) l.fn.block (flat_map (row_text l.null_text) (take l.row l.map.rows)) (g.W.Sink.taken l.out) l.block;
-  counted : counted l.block ≤ counted l.fn.block + 76 * 65535 * l.row;
-  faults : g.W.Sink.faults l.out ≡ g.W.Sink.faults l.fn.out;
+  text : Appends g.W.Sink.taken g.W.Sink.faults l.fn.out l.fn.block (flat_map (row_text l.null_text) (take l.row l.map.rows)) l.out l.block;
+  kept : length l.fields ≡ 1024;
+  known : All (IsField l.null_text) l.fields;
+  room : length l.line ≡ 1024;
 }

@@ -1,49 +1,15 @@
-use Rattle.std.proofs.Common.{◌≡◌, ◌∙◌, ap, sym, rules, None, Some, w32, to_z, of_z}
-use Rattle.std.specs.Fmt.{signed_decimal}
+use Rattle.std.proofs.Common.{◌≡◌, refl, ap, ◌∙◌, ◌∷◌}
+use Rattle.cell_core.specs.Grid.{CellValue}
 use Rattle.cell_core.specs.Text.{cell_text}
+use Rattle.cell_ascii_writer.specs.Fields.{low_bytes}
 use Rattle.cell_ascii_writer.proofs.RunWritingLemmas.{times_cells}
-use Rattle.cell_ascii_writer.proofs.ShortNumberLemmas.{signed_positive}
 use Rattle.cell_ascii_writer.proofs.writer.write_run.Goals as goal
 
-pub write_times-requires : goal.write_times-requires
-write_times-requires g c = c.requires
-
-pub returns-in-None : goal.returns-in-None
-returns-in-None g c =
-    let cell : c.args.cell ≡ None = sym c.get.ensures.value ∙ c.in-None.is in
-    record {
-      ok = rw (cell, ← times_cells c.args.null_text.now c.args.count None) c.write_times.ensures.ok;
-      err = rw (cell, ← times_cells c.args.null_text.now c.args.count None) c.write_times.ensures.err;
-      lost = c.write_times.ensures.lost;
-      counted = c.write_times.ensures.counted;
-      faults = c.write_times.ensures.faults;
-    }
-
-pub returns-in-Some : goal.returns-in-Some
-returns-in-Some g c =
+pub returns-then-eq-clause-text : goal.returns-then-eq-clause-text
+returns-then-eq-clause-text g c =
     let null = c.args.null_text.now in
-    let cell : c.args.cell ≡ Some c.in-Some.category = sym c.get.ensures.value ∙ c.in-Some.is in
-    let same : to_z w32 (of_z w32 c.in-Some.category) ≡ c.in-Some.category = search rules in
-    let text = ap signed_decimal (sym same) ∙ signed_positive (to_z w32 (of_z w32 c.in-Some.category)) c.if-category-ge0.true in
-    record {
-      ok = rw (cell, ← times_cells null c.args.count (Some c.in-Some.category), text) c.write_short.ensures.ok;
-      err = rw (cell, ← times_cells null c.args.count (Some c.in-Some.category), text) c.write_short.ensures.err;
-      lost = c.write_short.ensures.lost;
-      counted = c.write_short.ensures.counted;
-      faults = c.write_short.ensures.faults;
-    }
-
-pub returns-in-Some-2 : goal.returns-in-Some-2
-returns-in-Some-2 g c =
-    let null = c.args.null_text.now in
-    let written = c.write_times-in-Some-2.ensures in
-    let cell : c.args.cell ≡ Some c.in-Some.category = sym c.get.ensures.value ∙ c.in-Some.is in
-    let same : to_z w32 (of_z w32 c.in-Some.category) ≡ c.in-Some.category = search rules in
-    let text : c.as_bytes.result.now ≡ cell_text null (Some c.in-Some.category) = c.as_bytes.ensures.value ∙ c.format.ensures.text ∙ ap signed_decimal same in
-    record {
-      ok = rw (cell, ← times_cells null c.args.count (Some c.in-Some.category), ← text) written.ok;
-      err = rw (cell, ← times_cells null c.args.count (Some c.in-Some.category), ← text) written.err;
-      lost = written.lost;
-      counted = written.counted;
-      faults = written.faults;
-    }
+    let field = c.field_at-field.result in
+    let same : field.cell ≡ c.args.run.0 = c.if-eq.ensures.same.0 refl in
+    let text : low_bytes field.bytes field.size ≡ 32 ∷ cell_text null c.args.run.0 =
+    (c.field_at-field.ensures c.if-field-gt0.true).text ∙ ap (λ (v : CellValue). 32 ∷ cell_text null v) same in
+    rw (← times_cells null c.args.run.1 c.args.run.0, ← text) c.write_field.ensures.text

@@ -1,13 +1,16 @@
-use Rattle.std.proofs.Common.{◌≡◌, ◌≤◌, ◌+◌, ◌*◌, ◌++◌, length}
-use Rattle.cell_devices.specs.Blocks.{Gathers, counted}
+use Rattle.std.proofs.Common.{◌≡◌, ◌≤◌, ◌++◌, length, take}
+use Rattle.std.specs.List.{All}
 use Rattle.cell_core.specs.Runs.{written_out}
+use Rattle.cell_ascii_writer.specs.Fields.{IsField, AppendsBut}
 use Rattle.cell_ascii_writer.specs.WrittenRuns.{cells_text}
 use Rattle.cell_ascii_writer.proofs.writer.write_runs.Given as goal
 
 abbrev pub invariant-loop-cell : goal.invariant-loop-cell
 invariant-loop-cell g l = record {
-  gathers : Gathers (g.W.Sink.taken l.fn.out) l.fn.block (cells_text l.null_text (written_out l.yielded)) (g.W.Sink.taken l.out) l.block;
+  text : AppendsBut g.W.Sink.taken g.W.Sink.faults l.fn.out l.fn.block (take l.start l.fn.line ++ cells_text l.null_text (written_out l.yielded)) (take l.end l.line) l.out l.block;
   whole : l.yielded ++ l.cell-iterator ≡ l.fn.runs;
-  counted : counted l.block ≤ counted l.fn.block + 65 * length (written_out l.yielded);
-  faults : g.W.Sink.faults l.out ≡ g.W.Sink.faults l.fn.out;
+  room : length l.line ≡ 1024;
+  within : l.end ≤ 1024;
+  kept : length l.fields ≡ 1024;
+  known : All (IsField l.null_text) l.fields;
 }

@@ -1,48 +1,5 @@
-use Rattle.std.proofs.lemmas.Result.{err_from_is_err_and, IfErr-weaker, IfOk-from_err, IfOk-weaker}
-use Rattle.cell_devices.proofs.GatherLemmas.{CutsOff-first, CutsOff-second, Gathers-then}
-use Rattle.cell_ascii_writer.proofs.WriterLemmas.{counted_more, counted_most, counted_then, faults_then}
+use Rattle.cell_devices.proofs.BlockLemmas.{appends_then}
 use Rattle.cell_ascii_writer.proofs.writer.write_units.Goals as goal
 
-pub returns-in_err-push-clause-err : goal.returns-in_err-push-clause-err
-returns-in_err-push-clause-err g c =
-    let p = err_from_is_err_and c.from_residual.result c.from_residual.ensures.1 in
-    rw (p.1, p.2, ← c.format.ensures.text, ← c.as_bytes.ensures.value) (CutsOff-first _ _ _ _ _ _ c.in_err-push.ensures.err)
-
-pub returns-clause-err : goal.returns-clause-err
-returns-clause-err g c =
-    rw (← c.format.ensures.text, ← c.as_bytes.ensures.value)
-    (IfErr-weaker c.write_fraction.result _ _ (λ fault cuts. CutsOff-second _ _ _ _ _ _ _ fault.written c.in_ok-push.ensures.ok cuts) c.write_fraction.ensures.err)
-
-pub returns-in_err-push-clause-ok : goal.returns-in_err-push-clause-ok
-returns-in_err-push-clause-ok g c = IfOk-from_err c.from_residual.result _ c.from_residual.ensures.0
-
-pub returns-in_err-push-clause-lost : goal.returns-in_err-push-clause-lost
-returns-in_err-push-clause-lost g c =
-    let p = err_from_is_err_and c.from_residual.result c.from_residual.ensures.1 in
-    rw (p.1, p.2) c.in_err-push.ensures.lost
-
-pub returns-in_err-push-clause-counted : goal.returns-in_err-push-clause-counted
-returns-in_err-push-clause-counted g c =
-    counted_more _ _ 40 41 (counted_most _ _ _ 40 (rw c.as_bytes.ensures.len at c.in_err-push.ensures.counted) c.format.ensures.short)
-
-pub returns-in_err-push-clause-faults : goal.returns-in_err-push-clause-faults
-returns-in_err-push-clause-faults g c =
-    let p = err_from_is_err_and c.from_residual.result c.from_residual.ensures.1 in
-    rw (p.1) c.in_err-push.ensures.faults
-
-pub returns-clause-ok : goal.returns-clause-ok
-returns-clause-ok g c =
-    rw (← c.format.ensures.text, ← c.as_bytes.ensures.value)
-    (IfOk-weaker c.write_fraction.result _ _ (λ _ gathers. Gathers-then _ _ _ _ _ _ _ _ c.in_ok-push.ensures.ok gathers) c.write_fraction.ensures.ok)
-
-pub returns-clause-lost : goal.returns-clause-lost
-returns-clause-lost g c = c.write_fraction.ensures.lost
-
-pub returns-clause-counted : goal.returns-clause-counted
-returns-clause-counted g c =
-    let short =
-    counted_most _ _ _ 40 (rw c.as_bytes.ensures.len at c.in_ok-push.ensures.counted) c.format.ensures.short in
-    counted_then _ _ _ 40 41 c.write_fraction.ensures.counted short
-
-pub returns-clause-faults : goal.returns-clause-faults
-returns-clause-faults g c = faults_then _ _ _ _ c.write_fraction.ensures.faults c.in_ok-push.ensures.faults
+pub returns : goal.returns
+returns g c = rw (← c.format.ensures.text, ← c.as_bytes.ensures.value) (appends_then c.push.ensures c.write_fraction.ensures)

@@ -8,5 +8,5 @@ abbrev pub invariant-loop-i : goal.invariant-loop-i
 invariant-loop-i l =
     record {
       count : length l.windows.items ≡ l.i;
-      reach : (i : ℕ) → i < l.i → HasReach 0 (up_of i l.bound) (down_of i l.bound) (slice_get l.windows.items i);
+      reach : (i : ℕ) → i < l.i → HasReach l.row (up_of i l.bound) (down_of i l.bound) (slice_get l.windows.items i);
     }

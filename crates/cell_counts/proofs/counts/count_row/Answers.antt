@@ -55,7 +55,7 @@ fewer col some within = omega arith
 at_end : (count : ℕ) {col last cols : ℕ} → col + count ≤ last → last ≤ col → last ≡ cols → col ≡ cols
 at_end count within ended same = omega arith
 
-sum_fits : (col : ℕ) {total counted count more cols : ℕ} → total ≡ counted → counted < 2 ^ 63 → more ≡ count
+sum_fits : (col : ℕ) {total counted count more cols : ℕ} → total ≡ counted → counted < 2 ^ 63 → more ≤ count
     → col + count ≤ cols → cols ≤ 65535 → total + more < 2 ^ 64
 sum_fits col same small is within wide = omega arith
 
@@ -115,7 +115,8 @@ add-requires-clause-fits c = λ k.
     let wide = at_most same_cols region.cols_most in
     let few = part c.loop-col.count inv.most wide in
     let small = count_small c.args.selection.shelf.now.maps picks cols c.args.selection.skip k c.args.row c.loop-col.col few_rows few region.cols_most in
-    sum_fits c.loop-col.col total small c.from.ensures inv.most wide
+    let more : c.from.result ≤ c.loop-col.count = omega arith in
+    sum_fits c.loop-col.col total small more inv.most wide
 
 pub loop-col-preserved : goal.loop-col-preserved
 loop-col-preserved c =

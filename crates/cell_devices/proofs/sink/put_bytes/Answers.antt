@@ -1,4 +1,4 @@
-use Rattle.std.proofs.Common.{◌≡◌, ◌∙◌, ◌+◌, ◌-◌, ◌<◌, ◌≤◌, ◌||◌, ℕ, List, [], Option, Some, None, Bool, true, false, length, take, drop, refl, sym, ap, take_all, append-nil, length-drop, arith}
+use Rattle.std.proofs.Common.{◌≡◌, ◌∙◌, ◌+◌, ◌-◌, ◌<◌, ◌≤◌, ℕ, List, [], Option, Some, None, true, length, take, drop, refl, sym, ap, take_all, append-nil, length-drop, arith}
 use Rattle.cell_devices.specs.Device.{Faults, after_put, append_known}
 use Rattle.cell_devices.proofs.DeviceLemmas.{put_more, whole_rest}
 use Rattle.cell_devices.proofs.sink.put_bytes.Goals as goal

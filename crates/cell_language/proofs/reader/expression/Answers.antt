@@ -1,5 +1,5 @@
 use Rattle.std.proofs.lemmas.Result.{err_from_is_err_and}
-use Rattle.cell_language.specs.Reading.{Expression}
+use Rattle.cell_grammar.specs.Reading.{Expression}
 use Rattle.cell_language.proofs.Steps.{begins, resumes, ends}
 use Rattle.cell_language.proofs.reader.expression.Goals as goal
 

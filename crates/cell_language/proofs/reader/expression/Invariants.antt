@@ -1,4 +1,4 @@
-use Rattle.cell_language.specs.Reading.{Expression}
+use Rattle.cell_grammar.specs.Reading.{Expression}
 use Rattle.cell_language.specs.parts.Waiting.{IsTurn, tokens_of, work}
 use Rattle.cell_language.proofs.reader.expression.Given as goal
 

@@ -1,4 +1,4 @@
-use Rattle.cell_loading.proofs.LoadingLemmas.{added-refused, added-same, refused-early, refused-told}
+use Rattle.cell_loading.proofs.LoadingLemmas.{added-refused, added-same, refused-early, refused-told, refused-whose}
 use Rattle.cell_loading.proofs.loading.added.Goals as goal
 
 pub returns-in-Ok-clause-ok : goal.returns-in-Ok-clause-ok
@@ -28,3 +28,9 @@ returns-in-Err-clause-early c = rw c.of_shelf.ensures (refused-early c.args.grid
 
 pub returns-in-Err-clause-told : goal.returns-in-Err-clause-told
 returns-in-Err-clause-told c = rw c.of_shelf.ensures (refused-told c.args.grid c.in-Err.refused.fault)
+
+pub returns-in-Ok-clause-whose : goal.returns-in-Ok-clause-whose
+returns-in-Ok-clause-whose c = tt
+
+pub returns-in-Err-clause-whose : goal.returns-in-Err-clause-whose
+returns-in-Err-clause-whose c = rw c.of_shelf.ensures (refused-whose c.args.grid c.in-Err.refused.fault)

@@ -28,3 +28,9 @@ returns-in-Some-clause-early c = c.added.ensures.early
 
 pub returns-in-Some-clause-told : goal.returns-in-Some-clause-told
 returns-in-Some-clause-told c = c.added.ensures.told
+
+pub returns-in-None-clause-whose : goal.returns-in-None-clause-whose
+returns-in-None-clause-whose c = c.added-in-None.ensures.whose
+
+pub returns-in-Some-clause-whose : goal.returns-in-Some-clause-whose
+returns-in-Some-clause-whose c = c.added.ensures.whose

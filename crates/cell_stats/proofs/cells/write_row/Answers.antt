@@ -1,12 +1,8 @@
-use Rattle.std.proofs.Common.{◌≡◌, ◌<◌, ◌≤◌, ◌+◌, ◌-◌, ◌++◌, ℕ, Fits, w32, length, map, replicate, arith, refl, ap, sym, ◌∙◌}
-use Rattle.std.proofs.lemmas.Result.{err_from_is_err_and}
+use Rattle.std.proofs.Common.{◌≡◌, ◌<◌, ◌≤◌, ◌+◌, ◌-◌, ℕ, Fits, w32, length, arith, ap, sym, ◌∙◌}
 use Rattle.std.proofs.lemmas.List.{length-map}
-use Rattle.std.specs.List.{range_with_len}
-use Rattle.cell_devices.proofs.GatherLemmas.{CutsOff-second, Gathers-none, Gathers-then}
+use Rattle.cell_devices.proofs.BlockLemmas.{appends_none, appends_then}
 use Rattle.cell_base.specs.Region.{RegionValue}
-use Rattle.cell_combinations.specs.Combinations.{combination_at, row_combinations}
-use Rattle.cell_stats.proofs.CellsLemmas.{lines, lines-row, lines-stretch}
-use Rattle.cell_stats.proofs.PrintLemmas.{cut-first, faults_still}
+use Rattle.cell_stats.proofs.CellsLemmas.{lines-stretch}
 use Rattle.cell_counts.specs.Cursors.{CursorValue}
 use Rattle.cell_counts.proofs.WalkLemmas.{alike, alive, passed-on}
 use Rattle.cell_stats.proofs.cells.write_row.Goals as goal
@@ -48,8 +44,7 @@ loop-col-init g c =
     let same_cols : c.cols-cols.result ≡ cols = c.cols-cols.ensures.value ∙ ap (λ (r : RegionValue). r.cols) c.region.ensures.value in
     let here = passed-on maps row 0 0 c.restart_all.new.cursors first.new.cursors picks first.ensures.passed c.restart_all.ensures.cells in
     record {
-      gathers = Gathers-none _ _;
-      faults = refl;
+      appends = appends_none;
       width = first.auto.cells ∙ c.requires.cells;
       to_come = here;
       ready = first.ensures.ready;
@@ -61,25 +56,6 @@ loop-col-init g c =
           first.ensures.ready) h;
       most = from_start first.ensures.most;
     }
-
-pub returns-in_err-write_lines-clause-err : goal.returns-in_err-write_lines-clause-err
-returns-in_err-write_lines-clause-err g c =
-    let p = err_from_is_err_and c.from_residual.result c.from_residual.ensures.1 in
-    let maps = c.args.selection.shelf.now.maps in
-    let picks = c.args.selection.picks.now in
-    let row = c.args.row in
-    let inv = c.loop-col.invariant in
-    let col = c.loop-col.col in
-    let count = c.loop-col.count in
-    let cells = c.loop-col.cells in
-    let cols = c.args.selection.shelf.now.region.cols in
-    let f = combination_at maps picks row in
-    let text = lines c.args.format.now maps picks c.args.selection.skip in
-    let same_cols : c.cols-cols.result ≡ cols = c.cols-cols.ensures.value ∙ ap (λ (r : RegionValue). r.cols) c.region.ensures.value in
-    let most = within inv.most same_cols in
-    let parts = lines-row c.args.format.now maps picks c.args.selection.skip row col count cols cells (λ j h. alike maps row col c.loop-col.cursors picks count j inv.to_come inv.least h ∙ sym inv.cells) most in
-    rw (p.1, p.2) (cut-first _ _ (text (map f (range_with_len 0 col)) ++ text (replicate count cells)) (text (map f (range_with_len (col + count) (cols - (col + count))))) (text (row_combinations maps picks cols row)) parts _ _
-    (CutsOff-second _ _ _ _ _ _ _ _ inv.gathers c.in_err-write_lines.ensures.err))
 
 pub loop-col-preserved : goal.loop-col-preserved
 loop-col-preserved g c =
@@ -96,8 +72,7 @@ loop-col-preserved g c =
     let here = passed-on maps row col count c.loop-col.cursors next.new.cursors picks next.ensures.passed inv.to_come in
     let longer = lines-stretch c.args.format.now maps picks c.args.selection.skip row col count cells (λ j h. alike maps row col c.loop-col.cursors picks count j inv.to_come inv.least h ∙ sym inv.cells) in
     record {
-      gathers = rw longer (Gathers-then _ _ _ _ _ _ _ _ inv.gathers c.in_ok-write_lines.ensures.ok);
-      faults = faults_still _ _ _ c.in_ok-write_lines.ensures.faults inv.faults;
+      appends = rw longer (appends_then inv.appends c.write_lines.ensures);
       width = next.auto.cells ∙ inv.width;
       to_come = here;
       ready = next.ensures.ready;
@@ -110,28 +85,15 @@ loop-col-preserved g c =
       most = still_within inv.most next.ensures.most;
     }
 
-pub returns-clause-ok : goal.returns-clause-ok
-returns-clause-ok g c =
+pub returns : goal.returns
+returns g c =
     let maps = c.args.selection.shelf.now.maps in
     let picks = c.args.selection.picks.now in
     let cols = c.args.selection.shelf.now.region.cols in
     let same_cols : c.cols-cols.result ≡ cols = c.cols-cols.ensures.value ∙ ap (λ (r : RegionValue). r.cols) c.region.ensures.value in
     let inv = c.loop-col.invariant in
     let last = at_end c.loop-col.count inv.most c.loop-col-test.false same_cols in
-    rw last at inv.gathers
-
-pub returns-in_err-write_lines-clause-ok : goal.returns-in_err-write_lines-clause-ok
-returns-in_err-write_lines-clause-ok g c = let p = err_from_is_err_and c.from_residual.result c.from_residual.ensures.1 in rw (p.1) tt
-
-pub returns-in_err-write_lines-clause-lost : goal.returns-in_err-write_lines-clause-lost
-returns-in_err-write_lines-clause-lost g c =
-    let p = err_from_is_err_and c.from_residual.result c.from_residual.ensures.1 in
-    rw (p.1, p.2) c.in_err-write_lines.ensures.lost
-
-pub returns-in_err-write_lines-clause-faults : goal.returns-in_err-write_lines-clause-faults
-returns-in_err-write_lines-clause-faults g c =
-    let p = err_from_is_err_and c.from_residual.result c.from_residual.ensures.1 in
-    rw (p.1) (rw c.loop-col.invariant.faults at c.in_err-write_lines.ensures.faults)
+    rw last at inv.appends
 
 pub restart_all-requires-clause-picked : goal.restart_all-requires-clause-picked
 restart_all-requires-clause-picked g c = c.requires.picked
@@ -178,12 +140,3 @@ pass_all-count-requires-in-loop-col-clause-width g c =
 
 pub loop-col-smaller : goal.loop-col-smaller
 loop-col-smaller g c = fewer c.loop-col.col (c.loop-col.invariant.some c.loop-col-test.true) c.loop-col.invariant.most
-
-pub returns-clause-err : goal.returns-clause-err
-returns-clause-err g c = tt
-
-pub returns-clause-lost : goal.returns-clause-lost
-returns-clause-lost g c = tt
-
-pub returns-clause-faults : goal.returns-clause-faults
-returns-clause-faults g c = c.loop-col.invariant.faults

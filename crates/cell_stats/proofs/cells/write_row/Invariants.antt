@@ -1,6 +1,6 @@
 use Rattle.std.proofs.Common.{◌≡◌, ◌+◌, ◌-◌, ◌<◌, ◌≤◌, length, map, drop, All}
 use Rattle.std.specs.List.{range_with_len}
-use Rattle.cell_devices.specs.Blocks.{Gathers}
+use Rattle.cell_devices.specs.Blocks.{Appends}
 use Rattle.cell_combinations.specs.Combinations.{combination_at}
 use Rattle.cell_counts.specs.Cursors.{to_come, IsReady, row_in}
 use Rattle.cell_stats.proofs.CellsLemmas.{lines}
@@ -8,8 +8,7 @@ use Rattle.cell_stats.proofs.cells.write_row.Given as goal
 
 abbrev pub invariant-loop-col : goal.invariant-loop-col
 invariant-loop-col g l = record {
-  gathers : Gathers (g.W.Sink.taken l.fn.out) l.fn.block (lines l.format l.selection.shelf.now.maps l.selection.picks.now l.selection.skip (map (combination_at l.selection.shelf.now.maps l.selection.picks.now l.row) (range_with_len 0 l.col))) (g.W.Sink.taken l.out) l.block;
-  faults : g.W.Sink.faults l.out ≡ g.W.Sink.faults l.fn.out;
+  appends : Appends g.W.Sink.taken g.W.Sink.faults l.fn.out l.fn.block (lines l.format l.selection.shelf.now.maps l.selection.picks.now l.selection.skip (map (combination_at l.selection.shelf.now.maps l.selection.picks.now l.row) (range_with_len 0 l.col))) l.out l.block;
   width : length l.cells ≡ length l.selection.picks.now;
   to_come : map to_come l.cursors ≡ map (λ p. drop l.col (row_in l.selection.shelf.now.maps l.row p)) l.selection.picks.now;
   ready : All IsReady l.cursors;

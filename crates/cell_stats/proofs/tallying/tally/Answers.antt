@@ -6,15 +6,17 @@ use Rattle.cell_stats.proofs.TableLemmas.{IsTable-listed, one_table_kept, table_
 use Rattle.cell_stats.proofs.WidthLemmas.{table-wide}
 use Rattle.cell_stats.proofs.tallying.tally.Goals as goal
 
+pub of-requires-clause-ascending : goal.of-requires-clause-ascending
+of-requires-clause-ascending c = c.in_ok-entries.ensures.ascending
+
 pub of-requires-clause-wide : goal.of-requires-clause-wide
 of-requires-clause-wide c =
     let maps = c.args.shelf.now.maps in
     let picks = c.args.picks.now in
-    let skip = c.args.skip in
     let region = c.args.shelf.now.region in
     let counted = c.in_ok-entries.ensures in
-    let table = IsTable-listed skip (all_combinations maps picks region.rows region.cols) c.in_ok-entries.entries.items counted.ascending counted.counts counted.no_zero in
-    table-wide maps picks skip region.rows region.cols c.in_ok-entries.entries.items table
+    let table = IsTable-listed _ (all_combinations maps picks region.rows region.cols) c.in_ok-entries.entries.items counted.ascending counted.counts counted.no_zero in
+    table-wide maps picks _ region.rows region.cols c.in_ok-entries.entries.items table
 
 pub returns-clause-table : goal.returns-clause-table
 returns-clause-table c =

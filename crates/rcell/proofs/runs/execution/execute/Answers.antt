@@ -1,18 +1,18 @@
 use Rattle.std.proofs.Common.{◌≡◌, ◌∙◌, ◌+◌, List, [], append-nil, take, length, refl, ap, sym}
 use Rattle.std.proofs.lemmas.List.{take_all}
 use Rattle.cell_script.specs.Known.{known_after}
-use Rattle.cell_devices.specs.Sticky.{StickyValue}
-use Rattle.cell_devices.proofs.StickyLemmas.{appends_then}
+use Rattle.cell_devices.specs.Blocks.{BlockValue}
+use Rattle.cell_devices.proofs.BlockLemmas.{appends_then}
 use Rattle.rcell.specs.Output.{command_text}
-use Rattle.rcell.proofs.runs.ExecutionLemmas.{executed_all, executed_more, executed_within, before_at, fits_more, printed_put}
+use Rattle.rcell.proofs.runs.ExecutionLemmas.{executed_all, executed_more, executed_within, before_at, fits_more, appended_put}
 use Rattle.rcell.proofs.runs.execution.execute.Goals as goal
 
 pub loop-statement-init : goal.loop-statement-init
 loop-statement-init g c = record {
-  executed = record { text = []; executed = (refl, refl); printed = c.new-block.ensures.nothing _ _ };
+  executed = record { text = []; executed = (refl, refl); appended = c.new-block.ensures.nothing _ _ };
   fits = c.requires;
-  good = ap (λ (b : StickyValue). b.failed) c.new-block.ensures.value;
-  held = ap (λ (b : StickyValue). b.held) c.new-block.ensures.value;
+  good = ap (λ (b : BlockValue). b.failed) c.new-block.ensures.value;
+  held = ap (λ (b : BlockValue). b.held) c.new-block.ensures.value;
 }
 
 pub execute_statement-requires : goal.execute_statement-requires
@@ -56,5 +56,5 @@ returns-then-has_failed-clause-err g c =
 pub returns-then-has_failed-clause-faults : goal.returns-then-has_failed-clause-faults
 returns-then-has_failed-clause-faults g c =
     let both = appends_then c.in-Ok.ensures.ok c.empty.ensures.appends in
-    let printed = both.adds _ _ _ c.loop-statement.invariant.executed.printed in
-    rw c.stopped_by.ensures (rw (sym c.has_failed.ensures ∙ c.if-has_failed.true) at printed.fails)
+    let appended = both.adds _ _ _ c.loop-statement.invariant.executed.appended in
+    rw c.stopped_by.ensures (rw (sym c.has_failed.ensures ∙ c.if-has_failed.true) at appended.fails)

@@ -1,7 +1,7 @@
 use Rattle.std.proofs.Common.{◌≡◌, Result, Ok, Err, refl}
 use Rattle.std.specs.Result.{OnOk, OnErr}
 use Rattle.cell_ascii_text.specs.Writing.{grid_text}
-use Rattle.cell_devices.proofs.StickyLemmas.{appends_none}
+use Rattle.cell_devices.proofs.BlockLemmas.{appends_none}
 use Rattle.rcell.specs.Output.{command_text, stats_text}
 use Rattle.rcell.proofs.runs.ExecutionLemmas.{grid_command, stats_command}
 use Rattle.rcell.proofs.runs.execution.execute_statement.Goals as goal
@@ -51,19 +51,19 @@ pub returns-in-Clump-clause-err : goal.returns-in-Clump-clause-err
 returns-in-Clump-clause-err g c = whenever_err c.make_numbers.result _ (refl, refl)
 
 pub returns-in-Stats-clause-after : goal.returns-in-Stats-clause-after
-returns-in-Stats-clause-after g c = whenever_ok c.put_stats.result _ (rw c.in-Stats.is refl)
+returns-in-Stats-clause-after g c = whenever_ok c.write_stats.result _ (rw c.in-Stats.is refl)
 
 pub returns-in-Stats-clause-names : goal.returns-in-Stats-clause-names
-returns-in-Stats-clause-names g c = whenever_ok c.put_stats.result _ (rw c.in-Stats.is refl)
+returns-in-Stats-clause-names g c = whenever_ok c.write_stats.result _ (rw c.in-Stats.is refl)
 
 pub returns-in-Stats-clause-ok : goal.returns-in-Stats-clause-ok
 returns-in-Stats-clause-ok g c =
     let same : stats_text c.args.shelf.now c.as_slice.result.now c.in-Stats.options ≡ command_text c.args.shelf.now c.args.statement.now.command =
     rw c.as_slice.ensures (stats_command c.args.shelf.now c.args.statement.now.command _ _ c.in-Stats.is) in
-    rw (← same) c.put_stats.ensures.ok
+    rw (← same) c.write_stats.ensures.ok
 
 pub returns-in-Stats-clause-err : goal.returns-in-Stats-clause-err
-returns-in-Stats-clause-err g c = c.put_stats.ensures.err
+returns-in-Stats-clause-err g c = c.write_stats.ensures.err
 
 pub returns-in-OutAscii-clause-after : goal.returns-in-OutAscii-clause-after
 returns-in-OutAscii-clause-after g c = rw c.in-OutAscii.is refl
@@ -75,4 +75,4 @@ pub returns-in-OutAscii-clause-ok : goal.returns-in-OutAscii-clause-ok
 returns-in-OutAscii-clause-ok g c =
     let same : grid_text c.bytes.result.now c.map.result.now ≡ command_text c.args.shelf.now c.args.statement.now.command =
     rw c.bytes.ensures.value (grid_command c.args.shelf.now c.args.statement.now.command _ _ _ c.in-OutAscii.is c.map.ensures.value) in
-    rw (← same) c.print_map.ensures
+    rw (← same) c.write_grid.ensures

@@ -1,0 +1,8 @@
+pub mod ManyLemmas
+pub mod HeldLemmas
+pub mod HeldRowLemmas
+pub mod AgainLemmas
+pub mod LaneLemmas
+mod ByteLemmas
+pub mod BitLemmas
+pub mod WordLemmas

@@ -1,0 +1,3 @@
+-- Cells whose bytes are held.
+pub mod Held
+pub mod Words

@@ -1,0 +1,49 @@
+-- Text that is appended but for its last bytes.
+use Rattle.std.proofs.Common.{◌≡◌, ◌∙◌, ℕ, List, [], ◌++◌, Option, refl, sym, ap, append_assoc, append-nil, subst, arith, ◌<◌, replicate, get_or}
+use Rattle.cell_devices.specs.Device.{Faults}
+use Rattle.cell_devices.specs.Blocks.{BlockValue, Appends}
+use Rattle.cell_devices.proofs.BlockLemmas.{appends_none, appends_then}
+use Rattle.std.specs.List.{All}
+use Rattle.std.proofs.lemmas.List.{length-replicate, get_or-replicate}
+use Rattle.cell_ascii_writer.specs.Fields.{IsField, AppendsBut}
+use Rattle.cell_ascii_writer.specs.declared.fields.Field.{Field}
+
+module _ {S : Type 0} {taken : S → Option (List ℕ)} {faults : S → Faults} {old : S} {block : BlockValue} where
+  -- nothing is appended yet
+  pub pending_none : (text : List ℕ) → AppendsBut taken faults old block text text old block
+  pending_none text = record { front = []; whole = refl; appends = appends_none }
+
+  -- more bytes are still to be appended
+  pub pending_more : {text pending : List ℕ} {now : S} {new : BlockValue} (more : List ℕ) → AppendsBut taken faults old block text pending now new
+      → AppendsBut taken faults old block (text ++ more) (pending ++ more) now new
+  pending_more {text} {pending} more p = record {
+    front = p.front;
+    whole = sym (append_assoc p.front pending more) ∙ ap (λ (l : List ℕ). l ++ more) p.whole;
+    appends = p.appends;
+  }
+
+  -- some of them are appended
+  pub pending_then : {text pending rest : List ℕ} {mid now : S} {middle new : BlockValue} → AppendsBut taken faults old block text pending mid middle → AppendsBut taken faults mid middle pending rest now new
+      → AppendsBut taken faults old block text rest now new
+  pending_then {text} {pending} {rest} first second = record {
+    front = first.front ++ second.front;
+    whole = append_assoc first.front second.front rest ∙ ap (λ (l : List ℕ). first.front ++ l) second.whole ∙ first.whole;
+    appends = appends_then first.appends second.appends;
+  }
+
+  -- all of them are
+  pub pending_all : {text pending : List ℕ} {mid now : S} {middle new : BlockValue} → AppendsBut taken faults old block text pending mid middle → Appends taken faults mid middle pending now new
+      → Appends taken faults old block text now new
+  pending_all {text} {pending} {mid} {now} {middle} {new} first second =
+      subst (λ (t : List ℕ). Appends taken faults old block t now new) first.whole (appends_then first.appends second)
+
+  -- and none is left
+  pub pending_done : {text : List ℕ} {now : S} {new : BlockValue} → Appends taken faults old block text now new → AppendsBut taken faults old block text [] now new
+  pending_done {text} all = record { front = text; whole = append-nil text; appends = all }
+
+-- free fields
+pub free_fields : (null : List ℕ) (n : ℕ) (field : Field) → field.size ≡ 0 → All (IsField null) (replicate n field)
+free_fields null n field free = λ k d within some.
+    let few : k < n = omega (arith, within, length-replicate n field) in
+    let same : get_or (replicate n field) k d ≡ field = get_or-replicate n k field d few in
+    absurd (omega (arith, some, ap (λ (f : Field). f.size) same, free))

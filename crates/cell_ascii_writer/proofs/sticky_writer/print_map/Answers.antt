@@ -1,5 +1,0 @@
-use Rattle.cell_devices.proofs.StickyLemmas.{appends_then}
-use Rattle.cell_ascii_writer.proofs.sticky_writer.print_map.Goals as goal
-
-pub returns : goal.returns
-returns g c = appends_then (appends_then (rw c.region.ensures.value at c.write_region.ensures) c.write_null_line.ensures) c.write_rows.ensures

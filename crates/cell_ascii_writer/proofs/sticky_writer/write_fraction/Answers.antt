@@ -1,8 +1,0 @@
-use Rattle.cell_devices.proofs.StickyLemmas.{appends_then}
-use Rattle.cell_ascii_writer.proofs.WriterLemmas.{fraction_text-some}
-use Rattle.cell_ascii_writer.proofs.sticky_writer.write_fraction.Goals as goal
-
-pub returns : goal.returns
-returns g c =
-    rw (fraction_text-some c.args.part c.if-part-eq0.false, ← c.eight_digits.ensures.value, ← c.without_zeros.ensures.value)
-    (appends_then c.push.ensures c.push-2.ensures)

@@ -1,4 +1,0 @@
-use Rattle.cell_ascii_writer.proofs.sticky_writer.write_times.Goals as goal
-
-pub returns : goal.returns
-returns g c = rw c.spaced-bytes.ensures at c.write_copies.ensures

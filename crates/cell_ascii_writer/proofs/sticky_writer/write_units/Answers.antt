@@ -1,5 +1,0 @@
-use Rattle.cell_devices.proofs.StickyLemmas.{appends_then}
-use Rattle.cell_ascii_writer.proofs.sticky_writer.write_units.Goals as goal
-
-pub returns : goal.returns
-returns g c = rw (← c.format.ensures.text, ← c.as_bytes.ensures.value) (appends_then c.push.ensures c.write_fraction.ensures)

@@ -1,0 +1,12 @@
+use Rattle.std.proofs.Common.{◌≡◌, ℕ}
+use Rattle.cell_calc.specs.Window.{IsWindowOf}
+use Rattle.cell_calc_tests.proofs.evaluation.moved.Given as goal
+
+abbrev pub invariant-loop : goal.invariant-loop
+invariant-loop l =
+    record {
+      window : IsWindowOf l.window l.map;
+      centre : l.window.centre ≡ l.index;
+      above : l.window.above ≡ l.above;
+      below : l.window.below ≡ l.below;
+    }

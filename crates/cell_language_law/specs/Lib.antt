@@ -1,0 +1,2 @@
+-- Laws of the faults of the grammar.
+pub mod GrammarLaw

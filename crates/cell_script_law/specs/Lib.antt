@@ -1,0 +1,2 @@
+-- The law that each text of a script is judged.
+pub mod JudgedLaw

@@ -1,5 +1,0 @@
-use Rattle.cell_devices.proofs.StickyLemmas.{appends_then}
-use Rattle.cell_stats.proofs.sticky_printing.write_cell_line.Goals as goal
-
-pub returns : goal.returns
-returns g c = appends_then c.write_combination.ensures c.push.ensures

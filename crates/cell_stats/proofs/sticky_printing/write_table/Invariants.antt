@@ -1,7 +1,0 @@
-use Rattle.std.proofs.Common.{take, flat_map}
-use Rattle.cell_devices.specs.Sticky.{Appends}
-use Rattle.cell_stats.specs.TableText.{pair_line}
-use Rattle.cell_stats.proofs.sticky_printing.write_table.Given as goal
-
-abbrev pub invariant-loop-combo : goal.invariant-loop-combo
-invariant-loop-combo g l = Appends g.W.Sink.taken g.W.Sink.faults l.fn.out l.fn.block (flat_map (pair_line l.format l.shelf.maps l.picks) (take l.combo-index l.entries)) l.out l.block

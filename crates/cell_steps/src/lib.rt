@@ -1,0 +1,6 @@
+//! The steps of expressions. Of the crates of the program only those that make and evaluate expressions list this one, so
+//! that no other can name a step.
+#![tactic(auto)]
+
+pub mod bound;
+pub mod named;
