@@ -80,6 +80,7 @@ impl Header {
         }
     }
 
+    /// The region of the header.
     pub fn region(&self) -> Region
         ensures { result ≡ self.now.region }
     {

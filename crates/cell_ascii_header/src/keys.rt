@@ -92,6 +92,7 @@ fn judged(
 }
 
 impl Keys {
+    /// Keys of which none was given.
     pub fn new() -> Keys
         ensures { result ≡ no_keys }
     {

@@ -27,6 +27,7 @@ pub struct Pace {
 }
 
 impl Pace {
+    /// The pace of a reader that has read nothing yet.
     pub fn new() -> Pace {
         Pace {
             singles: 0,

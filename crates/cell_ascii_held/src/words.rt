@@ -335,6 +335,7 @@ impl WordTable {
         Ok(WordTable { header, entries })
     }
 
+    /// The header by which words are read as cells.
     pub fn header(&self) -> &Header
         ensures { result.now ≡ self.now }
     {

@@ -191,7 +191,7 @@ impl Names {
         }
     }
 
-    // Puts a name last that is not there yet, or gives it back where memory was refused.
+    /// Puts a name last that is not there yet, or gives it back where memory was refused.
     pub fn keep(&mut self, name: Name) -> Result<(), Name>
         requires { place_of name self.old ≡ None }
         ensures ok { OnOk result (self.new ≡ self.old ++ name ∷ []) }

@@ -3,7 +3,7 @@
 ghost use Rattle.std.specs.Prelude.{◌≡◌, ℕ, ◌<◌, ◌≤◌, length, slice_index};
 ghost use Rattle.cell_clump.specs.parts.Labels.{PointDown, TellsOpen, after_join};
 
-// The open label that a label leads to. The way to it is halved, after its first step.
+/// The open label that a label leads to. The way to it is halved, after its first step.
 pub fn open_label(table: &mut [u32], label: u32) -> u32
     requires down { PointDown table.old }
     requires inside { label < length table.old }
@@ -21,7 +21,7 @@ pub fn open_label(table: &mut [u32], label: u32) -> u32
     at
 }
 
-// Joins two labels: of the open labels that they lead to the greater is closed, and points to the smaller.
+/// Joins two labels: of the open labels that they lead to the greater is closed, and points to the smaller.
 pub fn join_labels(table: &mut [u32], one: u32, other: u32)
     requires down { PointDown table.old }
     requires one_inside { one < length table.old }

@@ -126,7 +126,7 @@ fn number_row(
     next
 }
 
-// The map of the numbers of a map's cells, of the table of its labels.
+/// The map of the numbers of a map's cells, of the table of its labels.
 pub fn number_cells(
     alloc: Global,
     map: &CellMap,

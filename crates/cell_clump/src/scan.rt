@@ -52,7 +52,7 @@ fn label_row(
     Ok(())
 }
 
-// The table of the labels of a map, once those of each two adjacent cells of one category were joined.
+/// The table of the labels of a map, once those of each two adjacent cells of one category were joined.
 pub fn label_cells(alloc: Global, map: &CellMap, joining: Joining) -> Result<Vec<u32>, Memory>
     ensures { IfOk result (λ table. AreLabels joining map.now table.items) }
 {

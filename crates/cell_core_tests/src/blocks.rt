@@ -106,7 +106,7 @@ fn remembers_a_refused_put(rt: HostRuntime) -> Result<(), Fail> {
 }
 
 #[test]
-fn puts_nothing_after_a_refused_put(rt: HostRuntime) {
+fn puts_nothing_after_a_refused_put(rt: HostRuntime) -> Result<(), Fail> {
     let mut sink = RefusesOnce {
         calls: 0,
         refused: false,
@@ -115,13 +115,15 @@ fn puts_nothing_after_a_refused_put(rt: HostRuntime) {
     block.push(&mut sink, b"a");
     block.empty(&mut sink);
     for length in [1, 4096, 5000] {
-        block.push(&mut sink, &[b'b'; 5000][..length]);
+        let bytes = vec![in rt.alloc(); b'b'; length]?;
+        block.push(&mut sink, bytes.as_slice());
         block.empty(&mut sink);
     }
     assert_eq!(rt;
         (sink.calls, block.outcome()),
         (1, Err(WriteFault { written: 0 }))
     );
+    Ok(())
 }
 
 #[test]

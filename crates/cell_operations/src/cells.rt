@@ -40,6 +40,7 @@ fn found(number: Option<i32>) -> Cell
     }
 }
 
+/// 1 where something holds, 0 where not.
 #[inline(always)]
 pub fn truth(holds: bool) -> Cell
     ensures { result ≡ truth holds }
@@ -54,6 +55,7 @@ fn is_zero(x: i32) -> bool
     x == 0
 }
 
+/// Whether a cell is null.
 #[inline(always)]
 pub fn is_null(a: Cell) -> bool
     ensures { result ≡ is_null a }
@@ -134,6 +136,7 @@ fn remainder_of(x: i32, y: i32) -> Cell
     found(x.checked_rem(y))
 }
 
+/// `a + b`; null where one of them is null, or the sum is out of range (profile).
 #[inline(always)]
 pub fn sum(a: Cell, b: Cell) -> Cell
     ensures { result ≡ applied operator.Plus a b }
@@ -144,6 +147,7 @@ pub fn sum(a: Cell, b: Cell) -> Cell
     }
 }
 
+/// `a - b`; null where one of them is null, or the difference is out of range (profile).
 #[inline(always)]
 pub fn difference(a: Cell, b: Cell) -> Cell
     ensures { result ≡ applied operator.Minus a b }
@@ -154,6 +158,7 @@ pub fn difference(a: Cell, b: Cell) -> Cell
     }
 }
 
+/// `a * b`; null where one of them is null, or the product is out of range (profile).
 #[inline(always)]
 pub fn product(a: Cell, b: Cell) -> Cell
     ensures { result ≡ applied operator.Times a b }
@@ -164,6 +169,7 @@ pub fn product(a: Cell, b: Cell) -> Cell
     }
 }
 
+/// `a / b`, cut off towards zero; null where one of them is null, or `b` is 0 (GRASS manual: r.mapcalc).
 #[inline(always)]
 pub fn quotient(a: Cell, b: Cell) -> Cell
     ensures { result ≡ applied operator.Divide a b }
@@ -180,6 +186,7 @@ pub fn quotient(a: Cell, b: Cell) -> Cell
     }
 }
 
+/// `a % b`, with the sign of `a`; null where one of them is null, or `b` is 0 (profile).
 #[inline(always)]
 pub fn remainder(a: Cell, b: Cell) -> Cell
     ensures { result ≡ applied operator.Modulo a b }
@@ -196,6 +203,7 @@ pub fn remainder(a: Cell, b: Cell) -> Cell
     }
 }
 
+/// `a < b` as 1 or 0; null where one of them is null.
 #[inline(always)]
 pub fn less(a: Cell, b: Cell) -> Cell
     ensures { result ≡ applied operator.Less a b }
@@ -206,6 +214,7 @@ pub fn less(a: Cell, b: Cell) -> Cell
     }
 }
 
+/// `a <= b` as 1 or 0; null where one of them is null.
 #[inline(always)]
 pub fn less_equal(a: Cell, b: Cell) -> Cell
     ensures { result ≡ applied operator.LessEqual a b }
@@ -216,6 +225,7 @@ pub fn less_equal(a: Cell, b: Cell) -> Cell
     }
 }
 
+/// `a > b` as 1 or 0; null where one of them is null.
 #[inline(always)]
 pub fn greater(a: Cell, b: Cell) -> Cell
     ensures { result ≡ applied operator.Greater a b }
@@ -226,6 +236,7 @@ pub fn greater(a: Cell, b: Cell) -> Cell
     }
 }
 
+/// `a >= b` as 1 or 0; null where one of them is null.
 #[inline(always)]
 pub fn greater_equal(a: Cell, b: Cell) -> Cell
     ensures { result ≡ applied operator.GreaterEqual a b }
@@ -236,6 +247,7 @@ pub fn greater_equal(a: Cell, b: Cell) -> Cell
     }
 }
 
+/// `a == b` as 1 or 0; null where one of them is null.
 #[inline(always)]
 pub fn equal(a: Cell, b: Cell) -> Cell
     ensures { result ≡ applied operator.Equal a b }
@@ -246,6 +258,7 @@ pub fn equal(a: Cell, b: Cell) -> Cell
     }
 }
 
+/// `a != b` as 1 or 0; null where one of them is null.
 #[inline(always)]
 pub fn not_equal(a: Cell, b: Cell) -> Cell
     ensures { result ≡ applied operator.NotEqual a b }
@@ -256,6 +269,7 @@ pub fn not_equal(a: Cell, b: Cell) -> Cell
     }
 }
 
+/// `a && b` as 1 or 0; null where one of them is null.
 #[inline(always)]
 pub fn and(a: Cell, b: Cell) -> Cell
     ensures { result ≡ applied operator.And a b }
@@ -266,6 +280,7 @@ pub fn and(a: Cell, b: Cell) -> Cell
     }
 }
 
+/// `a || b` as 1 or 0; null where one of them is null.
 #[inline(always)]
 pub fn or(a: Cell, b: Cell) -> Cell
     ensures { result ≡ applied operator.Or a b }
@@ -276,6 +291,7 @@ pub fn or(a: Cell, b: Cell) -> Cell
     }
 }
 
+/// The lesser of two cells; null where one of them is null.
 #[inline(always)]
 pub fn lesser(a: Cell, b: Cell) -> Cell
     ensures { result ≡ lesser a b }
@@ -286,6 +302,7 @@ pub fn lesser(a: Cell, b: Cell) -> Cell
     }
 }
 
+/// The greater of two cells; null where one of them is null.
 #[inline(always)]
 pub fn larger(a: Cell, b: Cell) -> Cell
     ensures { result ≡ greater a b }
@@ -296,6 +313,7 @@ pub fn larger(a: Cell, b: Cell) -> Cell
     }
 }
 
+/// `a &&& b`: 0 where one of them is 0, whatever the other is; else as `a && b` (GRASS manual: r.mapcalc).
 #[inline(always)]
 pub fn known_and(a: Cell, b: Cell) -> Cell
     ensures { result ≡ applied operator.KnownAnd a b }
@@ -309,6 +327,7 @@ pub fn known_and(a: Cell, b: Cell) -> Cell
     fit(1)
 }
 
+/// `a ||| b`: 1 where one of them is neither null nor 0, whatever the other is; else as `a || b` (GRASS manual: r.mapcalc).
 #[inline(always)]
 pub fn known_or(a: Cell, b: Cell) -> Cell
     ensures { result ≡ applied operator.KnownOr a b }
@@ -322,6 +341,7 @@ pub fn known_or(a: Cell, b: Cell) -> Cell
     fit(0)
 }
 
+/// The lesser of two cells, or the one that is not null.
 #[inline(always)]
 pub fn known_lesser(a: Cell, b: Cell) -> Cell
     ensures { result ≡ known_lesser a b }
@@ -335,6 +355,7 @@ pub fn known_lesser(a: Cell, b: Cell) -> Cell
     lesser(a, b)
 }
 
+/// The greater of two cells, or the one that is not null.
 #[inline(always)]
 pub fn known_larger(a: Cell, b: Cell) -> Cell
     ensures { result ≡ known_greater a b }
@@ -348,6 +369,7 @@ pub fn known_larger(a: Cell, b: Cell) -> Cell
     larger(a, b)
 }
 
+/// `-a`; null where `a` is null.
 #[tactic(auto, using(crate::proofs::Fit::fit_checked))]
 #[inline(always)]
 pub fn negated(a: Cell) -> Cell
@@ -359,6 +381,7 @@ pub fn negated(a: Cell) -> Cell
     }
 }
 
+/// `!a`: 1 where `a` is 0, 0 where it is another number, null where it is null.
 #[inline(always)]
 pub fn inverted(a: Cell) -> Cell
     ensures { result ≡ inverted a }
@@ -369,6 +392,7 @@ pub fn inverted(a: Cell) -> Cell
     }
 }
 
+/// `abs(a)`; null where `a` is null.
 #[tactic(auto, using(crate::proofs::Fit::fit_checked))]
 #[inline(always)]
 pub fn size(a: Cell) -> Cell
@@ -380,6 +404,7 @@ pub fn size(a: Cell) -> Cell
     }
 }
 
+/// `if(condition, yes, no)`: `no` where the condition is 0, `yes` where it is another number, null where it is null.
 #[inline(always)]
 pub fn chosen(condition: Cell, yes: Cell, no: Cell) -> Cell
     ensures { result ≡ chosen condition yes no }
@@ -390,6 +415,7 @@ pub fn chosen(condition: Cell, yes: Cell, no: Cell) -> Cell
     }
 }
 
+/// `isnull(a)`: 1 where `a` is null, 0 where not.
 #[inline(always)]
 pub fn nullness(a: Cell) -> Cell
     ensures { result ≡ truth (is_null a) }

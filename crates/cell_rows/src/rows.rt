@@ -170,6 +170,7 @@ fn shift_over_the_edge(source: &[Cell], from: usize, right: i32, row: &mut [Cell
     }
 }
 
+/// `isnull` of each cell of a row, in place.
 pub fn nullness(row: &mut [Cell])
     ensures width { length row.new ≡ length row.old }
     ensures each { (c : ℕ) → c < length row.old → at row.new c ≡ truth (is_null (at row.old c)) }
@@ -177,6 +178,7 @@ pub fn nullness(row: &mut [Cell])
     each(row, cells::nullness);
 }
 
+/// `abs` of each cell of a row, in place.
 pub fn size(row: &mut [Cell])
     ensures width { length row.new ≡ length row.old }
     ensures each { (c : ℕ) → c < length row.old → at row.new c ≡ size_of (at row.old c) }
@@ -184,6 +186,7 @@ pub fn size(row: &mut [Cell])
     each(row, cells::size);
 }
 
+/// `-` of each cell of a row, in place.
 pub fn negate(row: &mut [Cell])
     ensures width { length row.new ≡ length row.old }
     ensures each { (c : ℕ) → c < length row.old → at row.new c ≡ negated (at row.old c) }
@@ -191,6 +194,7 @@ pub fn negate(row: &mut [Cell])
     each(row, cells::negated);
 }
 
+/// `!` of each cell of a row, in place.
 pub fn invert(row: &mut [Cell])
     ensures width { length row.new ≡ length row.old }
     ensures each { (c : ℕ) → c < length row.old → at row.new c ≡ inverted (at row.old c) }
@@ -198,6 +202,7 @@ pub fn invert(row: &mut [Cell])
     each(row, cells::inverted);
 }
 
+/// `if(a)` of each cell of a row, in place: 1 where it is neither null nor 0.
 pub fn truth(row: &mut [Cell])
     ensures width { length row.new ≡ length row.old }
     ensures each { (c : ℕ) → c < length row.old → at row.new c ≡ chosen (at row.old c) (Some (pos 1)) (Some (pos 0)) }

@@ -44,6 +44,11 @@ impl<R: Source> Model for Input<R> {
 }
 
 impl<R: Source> Input<R> {
+    /// An input of which nothing was read. It takes the memory of a block.
+    ///
+    /// # Errors
+    ///
+    /// `Memory`, where memory is refused.
     pub fn new(alloc: Global, source: R) -> Result<Input<R>, Memory>
     where
         R: Drop,

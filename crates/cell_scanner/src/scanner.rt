@@ -270,6 +270,7 @@ impl<R: Source> Scanner<R> {
         self.input.pass(n);
     }
 
+    /// The line at which the scanner stands, from 1.
     pub fn line(&self) -> u64
         ensures { result ≡ self.now.line }
     {
@@ -284,6 +285,11 @@ impl<R: Source> Scanner<R> {
         &self.word[..self.len]
     }
 
+    /// A scanner at the first byte of a source.
+    ///
+    /// # Errors
+    ///
+    /// `Memory`, where memory is refused.
     pub fn new(alloc: Global, source: R) -> Result<Scanner<R>, Memory>
     where
         R: Drop,

@@ -194,7 +194,7 @@ fn expect_refused<'a, R: Abort + AllocGlobal>(
 #[test]
 fn each_read_fails_in_turn(rt: HostRuntime) -> Result<(), Fail> {
     let mut line = 1u64;
-    for count in 0..=GRID.len() {
+    for count in 0..GRID.len() + 1 {
         let grid = Unknown::new(&GRID[..count], Then::Fails);
         let script = Unknown::new(SCRIPT, Then::Ends);
         let kind = GridKind::Read;
@@ -207,7 +207,7 @@ fn each_read_fails_in_turn(rt: HostRuntime) -> Result<(), Fail> {
             line = line.saturating_add(1);
         }
     }
-    for count in 0..=SCRIPT.len() {
+    for count in 0..SCRIPT.len() + 1 {
         let grid = Unknown::new(GRID, Then::Ends);
         let script = Unknown::new(&SCRIPT[..count], Then::Fails);
         expect_refused(&rt, script, grid, 4, RunFault::ScriptRead)?;
@@ -279,7 +279,7 @@ fn nothing_is_read_behind_an_end(rt: HostRuntime) -> Result<(), Fail> {
 
 #[test]
 fn each_prefix_of_a_grid_is_refused(rt: HostRuntime) -> Result<(), Fail> {
-    for count in 0..=GRID.len() - LAST_CELL {
+    for count in 0..GRID.len() - LAST_CELL + 1 {
         let grid = Unknown::new(&GRID[..count], Then::Ends);
         let script = Unknown::new(SCRIPT, Then::Ends);
         let mut out = MemorySink::new(vec![in rt.alloc(); 0u8; 200]?, 3, false);
