@@ -9,8 +9,7 @@ MOST_FUNCTIONS, MOST_CODE, MOST_PROOFS = 50, 800, 2500
 # Names that mean the same wherever they stand: Rust's own, and those that std's traits ask for.
 COMMON_FUNCTIONS = {"new", "len", "get", "next", "from", "is_empty", "bytes", "drop", "clone"}
 COMMON_FILES = {"lib", "main", "law"}
-# Files of worked examples: each is proved by computation, and nothing cites it.
-WORKED = re.compile(r"Example|Worked")
+COMMON_SPECS = {"Lib", "parts"}
 ANSWERS = {"Answers.antt", "Invariants.antt", "Proof.antt"}
 # The crates that the steps of an expression are for: those that make them, and the one that evaluates them.
 CRATES_OF_STEPS = {"cell_language", "cell_formulas", "cell_calc"}
@@ -68,13 +67,17 @@ def in_several(places, what):
 
 def names():
     """Names that stand for several things: of modules, public functions, definitions and types."""
-    modules, functions, definitions, types = (defaultdict(set) for _ in range(4))
+    modules, files, functions, definitions, types = (defaultdict(set) for _ in range(5))
     for _, path, text in sources.read_files("src"):
         name = path.rpartition("/")[2].removesuffix(".rt")
         if name not in COMMON_FILES:
             modules[name].add(path)
         for match in re.finditer(r"^(?:pub(?:\(crate\))? )?(?:struct|enum|trait|type) (\w+)", sources.blank_literals(text), re.MULTILINE):
             types[match.group(1)].add(path)
+    for _, path, _ in sources.read_files("specs"):
+        name = path.rpartition("/")[2].removesuffix(".antt")
+        if name not in COMMON_SPECS:
+            files[name].add(path)
     for it in sources.read_functions():
         if it.is_public and not it.is_of_trait_impl and not it.container.startswith(("pub trait", "trait")) and it.name not in COMMON_FUNCTIONS:
             functions[it.name].add(it.path)
@@ -82,7 +85,7 @@ def names():
         definitions[it.name].add(it.path)
         if it.kind in ("record", "data"):
             types[it.name].add(it.path)
-    return [line for places, what in ((modules, "module"), (functions, "function"), (definitions, "definition"), (types, "type"))
+    return [line for places, what in ((modules, "module"), (files, "specs"), (functions, "function"), (definitions, "definition"), (types, "type"))
             for line in in_several(places, what)]
 
 
@@ -132,28 +135,16 @@ def reached_from(edges, starts):
     return seen
 
 
-def words_in_use(dead):
-    """The words that stand in lines of a crate other than imports, comments and the dead definitions themselves."""
-    own = defaultdict(set)
-    for it in dead:
-        own[it.path].update(range(it.line, it.line + len(it.lines)))
-    used = set()
-    for kind in ("src", "specs", "proofs"):
-        for crate, path, text in sources.read_files(kind, True):
-            for number, line in enumerate(text.split("\n"), 1):
-                if number not in own[path] and not sources.is_import(line) and not re.match(r"\s*--", line):
-                    used.update((crate, word) for word in re.findall(r"[^\s(){}\[\],;.:=→]+", line))
-    return used
-
-
-def dead():
-    """Lemmas and definitions that nothing stands on."""
+def uncited():
+    """Definitions that no clause, definition or proof cites."""
     seen = reached_from(citations(("specs", "proofs")), [None])
-    found = [it for kind in ("specs", "proofs") for key, it in sources.read_definitions(kind, True).items()
-             if key not in seen and it.path.rpartition("/")[2] not in ANSWERS]
-    used = words_in_use(found)
-    found = [it for it in found if (it.crate, it.name) not in used and not WORKED.search(it.path)]
+    found = [it for key, it in sources.read_definitions("specs").items() if key not in seen and it.kind != "lemma" and not is_infix(it.name)]
     return [f"{it.path} {it.name}" for it in sorted(found, key=lambda it: (it.path, it.line))]
+
+
+def is_infix(name):
+    """Whether a name is that of an operator, which stands among its operands without its marks."""
+    return "◌" in name
 
 
 def citing_of_public():
@@ -191,5 +182,5 @@ def unused_edges():
     return found
 
 
-ALL = {it.__name__: it for it in (wide_clauses, widest_clauses, wide_proofs, crate_limits, undocumented, names, dead, parts, steps, unused_edges)}
+ALL = {it.__name__: it for it in (wide_clauses, widest_clauses, wide_proofs, crate_limits, undocumented, names, uncited, parts, steps, unused_edges)}
 COUNTED = {"wide_clauses", "widest_clauses", "wide_proofs"}
