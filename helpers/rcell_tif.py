@@ -1,0 +1,475 @@
+"""Rasters that GDAL reads as grids of rcell, and grids as GeoTIFFs. Needs numpy; GDAL's Python only where a file is opened.
+
+    CellText(null_values).of(block, null)   a block of an array as the rows of a grid
+    Region.of_transform(..), .header()      edges as rcell takes them, exactly from a geotransform
+    write_grid(dataset, number, write, ..)  a band of an open dataset as a grid, block by block
+    read_header(read), read_cells(..)       a grid's header, and its cells as arrays of 32 bits
+    write_tif(grid, path, ..)               a grid as a GeoTIFF
+
+What can't be a grid raises `Refused` with a sentence. Nothing here changes a setting of GDAL.
+"""
+import re
+import warnings
+from fractions import Fraction
+
+import numpy as np
+
+GREATEST = 2147483647  # of a cell, either way
+NULL = -GREATEST - 1  # of arrays that a grid is read into, and of the GeoTIFFs that are written
+GREATEST_SIDE, MOST_CELLS = 65535, 2147483647
+EDGE_DIGITS, EDGE_DECIMALS = 10, 8
+EDGES = ("north", "south", "east", "west")
+BLOCK_CELLS = 1 << 22  # cells that are turned at once
+WIDEST_TABLE = 1 << 18  # categories from the least to the greatest that a table of words is made for
+PIECE = 1 << 22  # bytes of a grid that are read at once
+MOST_HEADER = 1 << 16  # bytes within which the header of a grid ends
+
+
+class Refused(Exception):
+    """A sentence that says why a raster can't be a grid, or a grid no raster."""
+
+
+# Regions
+
+
+def edge_text(value):
+    """An edge with at most 8 decimals, without zeros at its end."""
+    size = round(abs(value) * 10**EDGE_DECIMALS)
+    whole, fraction = divmod(size, 10**EDGE_DECIMALS)
+    digits = ("%d.%0*d" % (whole, EDGE_DECIMALS, fraction)).rstrip("0").rstrip(".")
+    return "-" + digits if value < 0 and size else digits
+
+
+class Region:
+    """Four edges (Fractions, as they are written in a grid) and the numbers of rows and columns."""
+
+    def __init__(self, north, south, east, west, rows, cols):
+        self.rows, self.cols = rows, cols
+        self.texts = {edge: edge_text(value) for edge, value in zip(EDGES, (north, south, east, west))}
+        self.check()
+
+    def __getattr__(self, edge):
+        if edge in EDGES:
+            return Fraction(self.texts[edge])
+        raise AttributeError(edge)
+
+    def check(self):
+        if not (0 < self.rows <= GREATEST_SIDE and 0 < self.cols <= GREATEST_SIDE and self.rows * self.cols <= MOST_CELLS):
+            raise Refused("%d rows of %d cells: rcell takes %d of each, and %d cells in all; cut the map into tiles "
+                          "(gdal_translate -srcwin)" % (self.rows, self.cols, GREATEST_SIDE, MOST_CELLS))
+        for edge in EDGES:
+            if len(self.texts[edge].lstrip("-").partition(".")[0]) > EDGE_DIGITS:
+                raise Refused("the edge %s has more than %d digits before its point" % (edge, EDGE_DIGITS))
+        if self.north <= self.south or self.east <= self.west:
+            raise Refused("north is not above south, or east not above west, to %d decimals" % EDGE_DECIMALS)
+
+    @classmethod
+    def of_transform(cls, transform, rows, cols):
+        """The region of a geotransform of GDAL (None: cells of side 1), and whether its first row is the southern one."""
+        if transform is None:
+            return cls(Fraction(rows), Fraction(0), Fraction(cols), Fraction(0), rows, cols), False
+        left, wide, skew_x, top, skew_y, high = (Fraction(value) for value in transform)
+        if skew_x or skew_y or wide <= 0 or high == 0:
+            raise Refused("the raster is rotated or mirrored: gdalwarp -r near puts it upright")
+        ends = sorted((top, top + high * rows))
+        return cls(ends[1], ends[0], left + wide * cols, left, rows, cols), high > 0
+
+    def transform(self):
+        """The geotransform of GDAL."""
+        wide, high = (self.east - self.west) / self.cols, (self.north - self.south) / self.rows
+        return tuple(float(value) for value in (self.west, wide, 0, self.north, 0, -high))
+
+    def header(self):
+        lines = ["%s: %s\n" % (edge, self.texts[edge]) for edge in EDGES]
+        return "".join(lines + ["rows: %d\ncols: %d\n" % (self.rows, self.cols)]).encode()
+
+    def with_edges_of(self, other, name):
+        """This region with the edges of another of as many rows and columns, which may be off by half a cell."""
+        if (self.rows, self.cols) != (other.rows, other.cols):
+            raise Refused("%s has %d rows of %d cells, and the map %d of %d"
+                          % (name, other.rows, other.cols, self.rows, self.cols))
+        for edge in EDGES:
+            length = self.east - self.west if edge in ("east", "west") else self.north - self.south
+            count = self.cols if edge in ("east", "west") else self.rows
+            if abs(getattr(self, edge) - getattr(other, edge)) * 2 * count > length:
+                raise Refused("%s: %s in %s, and %s in the map: more than half a cell apart"
+                              % (edge, other.texts[edge], name, self.texts[edge]))
+        return other
+
+
+# Cells to text
+
+
+def words_of(texts):
+    """Texts with a separator behind each, as an array of numbers of 2, 4 or 8 bytes, filled up with NUL bytes."""
+    longest = max(len(text) for text in texts) + 1
+    width = next(width for width in (2, 4, 8, 16) if longest <= width)
+    table = np.array([text + b" " for text in texts], "S%d" % width)
+    return table.view("u%d" % width) if width <= 8 else table
+
+
+def four_digits(number, is_padded):
+    return b"%04d" % number if is_padded else b"%d" % number
+
+
+class CellText:
+    """Blocks of cells as the rows of a grid: categories of a narrow range by a table of words, others by their digits."""
+
+    _parts = None
+
+    def __init__(self, null_values=()):
+        """Cells of these whole numbers are null."""
+        self.null_values = sorted(set(null_values))
+        self.table, self.least, self.greatest = None, 0, -1
+
+    def of(self, block, null=None):
+        """The text of a block of two dimensions of a whole-number type; null are the cells where `null` is true, too."""
+        kind = np.iinfo(block.dtype)
+        values = [value for value in self.null_values if kind.min <= value <= kind.max]
+        least, greatest = int(block.min()), int(block.max())
+        if greatest - least >= WIDEST_TABLE or least < -GREATEST or greatest > GREATEST:
+            null = self.all_nulls(block, values, null)
+            kept = block[~null]
+            least, greatest = (int(kept.min()), int(kept.max())) if kept.size else (0, 0)
+            self.check(block, null, least, greatest)
+            block, values = np.where(null, block.dtype.type(least), block), []
+        if greatest - least >= WIDEST_TABLE:
+            return self.by_digits(block, null)
+        return self.by_table(block, null, least, greatest)
+
+    @staticmethod
+    def all_nulls(block, values, null):
+        null = np.zeros(block.shape, bool) if null is None else null
+        for value in values:
+            null = null | (block == block.dtype.type(value))
+        return null
+
+    @staticmethod
+    def check(block, null, least, greatest):
+        if least < -GREATEST or greatest > GREATEST:
+            bad = ~null & ((block > GREATEST) | (block < -GREATEST) if block.dtype.kind == "i" else block > GREATEST)
+            row, col = np.argwhere(bad)[0]
+            raise BadCell(int(row), int(col), "%d is beyond %d" % (int(block[row, col]), GREATEST))
+
+    def by_table(self, block, null, least, greatest):
+        if self.table is None or least < self.least or greatest > self.greatest:
+            self.least = least if self.table is None else min(least, self.least)
+            self.greatest = greatest if self.table is None else max(greatest, self.greatest)
+            if self.greatest - self.least >= WIDEST_TABLE:
+                self.least, self.greatest = least, greatest
+            nulls = set(self.null_values)
+            texts = [b"*" if value in nulls else b"%d" % value for value in range(self.least, self.greatest + 1)]
+            self.table = words_of(texts + [b"*"])
+            self.is_even = len({len(text) for text in texts}) == 1 == len(texts[0])
+        index = block.astype(np.intp)
+        index -= self.least
+        if null is not None:
+            index[null] = len(self.table) - 1
+        words = np.take(self.table, index, mode="clip")
+        width = words.dtype.itemsize
+        return joined(words.view(np.uint8).reshape(block.shape[0], block.shape[1], width), self.is_even and width == 2)
+
+    @classmethod
+    def parts(cls):
+        """Words of the first two digits with the sign, and of four digits with and without leading zeros."""
+        if cls._parts is None:
+            signed = [sign + (b"%d" % top if top else b"") for sign in (b"", b"-") for top in range(22)]
+            tables = [np.array(signed + [b"*"], "S4").view("u4")]
+            padded = [b"%04d" % number for number in range(10000)]
+            plain = [b"%d" % number for number in range(10000)]
+            tables.append(np.array([b""] + plain[1:] + padded + [b""], "S4").view("u4"))
+            tables.append(np.array(plain + padded + [b""], "S4").view("u4"))
+            cls._parts = tables
+        return cls._parts
+
+    def by_digits(self, block, null):
+        top_words, middle_words, low_words = self.parts()
+        size = np.abs(block.astype(np.int64)).astype(np.uint32)
+        upper = size // 10000
+        top = upper // 10000
+        text = np.empty(block.shape + (4,), np.uint32)
+        text[..., 0] = top_words[np.where(null, 44, top + (block < 0) * np.uint32(22))]
+        text[..., 1] = middle_words[np.where(null, 20000, upper - top * 10000 + (top > 0) * np.uint32(10000))]
+        text[..., 2] = low_words[np.where(null, 20000, size - upper * 10000 + (upper > 0) * np.uint32(10000))]
+        text[..., 3] = np.frombuffer(b" \0\0\0", np.uint32)[0]
+        return joined(text.view(np.uint8).reshape(block.shape[0], block.shape[1], 16), False)
+
+
+def joined(text, is_full):
+    """The bytes of words, a line feed after each row, without the NUL bytes that fill them up."""
+    last = text[:, -1]
+    ends = (last == 32).argmax(axis=1)
+    last[np.arange(len(last)), ends] = 10
+    return text.tobytes() if is_full else text.tobytes().translate(None, b"\0")
+
+
+class BadCell(Refused):
+    """A cell that no grid has: its row and column in its block or map, from 0, and what is wrong with it."""
+
+    def __init__(self, row, col, fault):
+        super().__init__("the cell in row %d, column %d: %s" % (row + 1, col + 1, fault))
+        self.row, self.col, self.fault = row, col, fault
+
+
+def whole_cells(block, null_values):
+    """A block of decimals as whole numbers, with the cells that are null; NaN is."""
+    null = np.isnan(block)
+    for value in null_values:
+        null |= block == block.dtype.type(value)
+    bad = ~null & (block != np.rint(block)) | np.isinf(block) & ~null
+    if not bad.any():
+        bad = ~null & (np.abs(block) > GREATEST)
+    if bad.any():
+        row, col = np.argwhere(bad)[0]
+        value = block[row, col]
+        beyond = "is beyond %d" % GREATEST if value == np.rint(value) else "is not a whole number (round the map first)"
+        raise BadCell(int(row), int(col), "%s %s" % (repr(float(value)), beyond))
+    return np.where(null, 0, block).astype(np.int64), null
+
+
+# A band to a grid
+
+
+def null_values_of(band, given):
+    """The values that are null: the given one, or that of the band; `none` for no one."""
+    if given is not None:
+        return [] if given == "none" else [float(given) if re.search("[.eEnN]", given) else int(given)]
+    value = band.GetNoDataValue()
+    getter = {"Int64": "GetNoDataValueAsInt64", "UInt64": "GetNoDataValueAsUInt64"}
+    from osgeo import gdal
+    exact = getattr(band, getter.get(gdal.GetDataTypeName(band.DataType), ""), None)
+    if value is not None and exact is not None:
+        value = exact()
+    return [] if value is None else [value]
+
+
+def mask_of(band, given):
+    """The band of the mask where the raster has one of its own, or an alpha band."""
+    from osgeo import gdal
+    flags = band.GetMaskFlags()
+    if given is not None or flags & (gdal.GMF_ALL_VALID | gdal.GMF_NODATA) or not flags & (gdal.GMF_PER_DATASET | gdal.GMF_ALPHA):
+        return None
+    return band.GetMaskBand()
+
+
+def blocks_of(band, is_turned):
+    """The places of blocks of whole rows, from the north: first row, how many."""
+    rows, cols = band.YSize, band.XSize
+    high = band.GetBlockSize()[1]
+    step = max(1, BLOCK_CELLS // cols)
+    step = step // high * high if step >= high else step
+    starts = range(0, rows, step)
+    return [(start, min(step, rows - start)) for start in (reversed(starts) if is_turned else starts)]
+
+
+def write_grid(dataset, number, write, nodata=None, like=None, like_name="the other grid"):
+    """Writes a band of a dataset as a grid: its region, edges exactly from the geotransform, then its cells block by block."""
+    band = dataset.GetRasterBand(number)
+    region, is_turned = Region.of_transform(dataset.GetGeoTransform(can_return_null=True), band.YSize, band.XSize)
+    if like is not None:
+        region = region.with_edges_of(like, like_name)
+    values, mask = null_values_of(band, nodata), mask_of(band, nodata)
+    whole = [int(value) for value in values if value == value and abs(value) < 2**64 and value == int(value)]
+    texts = CellText(whole)
+    write(region.header())
+    for first, count in blocks_of(band, is_turned):
+        block = read_block(band, first, count)
+        null = read_block(mask, first, count) == 0 if mask is not None else None
+        try:
+            write(text_of(block, null, values, texts, is_turned))
+        except BadCell as fault:
+            row = first + (count - 1 - fault.row if is_turned else fault.row)
+            raise BadCell(row, fault.col, fault.fault) from None
+    return region
+
+
+def text_of(block, null, values, texts, is_turned):
+    if block.dtype.kind == "c":
+        raise Refused("the cells are complex numbers")
+    if block.dtype.kind == "f":
+        block, is_null = whole_cells(block, values)
+        null = is_null if null is None else null | is_null
+        texts = CellText()
+    if is_turned:
+        block, null = block[::-1], null if null is None else null[::-1]
+    return texts.of(block, null)
+
+
+def read_block(band, first, count):
+    block = band.ReadAsArray(0, first, band.XSize, count)
+    if block is None:
+        raise Refused("rows %d to %d can't be read" % (first + 1, first + count))
+    return block
+
+
+def one_band(dataset, number=None):
+    """The number of the band: the given one, or the only one that is no alpha band."""
+    from osgeo import gdal
+    count = dataset.RasterCount
+    if count == 0:
+        names = [name for name, _ in dataset.GetSubDatasets()]
+        raise Refused("there is no band in it" + ("; take one of its parts:\n    " + "\n    ".join(names) if names else ""))
+    if number is not None:
+        if not 1 <= number <= count:
+            raise Refused("there is no band %d: it has %d" % (number, count))
+        return number
+    kept = [at for at in range(1, count + 1)
+            if dataset.GetRasterBand(at).GetColorInterpretation() != gdal.GCI_AlphaBand]
+    if len(kept) != 1:
+        raise Refused("%d bands: say which by --band" % count)
+    return kept[0]
+
+
+# Grids to arrays
+
+
+class Grid:
+    """An open grid: its region, null text and multiplier, and the rest of what was read."""
+
+    def __init__(self, read):
+        """`read` answers the next bytes, of at most so many, and none at the end."""
+        self.read = read
+        start = b""
+        while len(start) < MOST_HEADER:
+            more = read(MOST_HEADER - len(start))
+            if not more:
+                break
+            start += more
+        self.values, at = {}, 0
+        while at < len(start):
+            end = start.find(b"\n", at)
+            end = len(start) if end < 0 else end
+            key, colon, value = start[at:end].strip(b" \t\r").partition(b":")
+            if not colon and key:
+                break
+            if key:
+                self.keep(key.decode("ascii", "backslashreplace"), value.strip(b" \t\r"))
+            at = end + 1
+        self.rest = start[at:]
+        self.null = self.values.get("null", b"*")
+        self.multiplier = self.whole("multiplier") if "multiplier" in self.values else 1
+        self.region = self.found_region()
+
+    def keep(self, key, value):
+        if key not in EDGES + ("rows", "cols", "null", "type", "multiplier") or key in self.values or not value:
+            raise Refused("it is not a grid of rcell: its header has the line %r" % (key + ": " + repr(value)[2:-1]))
+        self.values[key] = value
+
+    def whole(self, key):
+        text = self.values.get(key, b"")
+        if not re.fullmatch(rb"[+-]?[0-9]{1,10}", text):
+            raise Refused("it is not a grid of rcell: %s: is %s" % (key, repr(text)[2:-1] or "missing"))
+        return int(text)
+
+    def found_region(self):
+        for edge in EDGES:
+            if not re.fullmatch(rb"[+-]?(?=\.?[0-9])[0-9]{0,10}(\.[0-9]{0,8})?", self.values.get(edge, b"")):
+                raise Refused("it is not a grid of rcell: %s: is %s" % (edge, repr(self.values.get(edge, b""))[2:-1] or "missing"))
+        edges = (Fraction(self.values[edge].decode().rstrip(".")) for edge in EDGES)
+        return Region(*edges, self.whole("rows"), self.whole("cols"))
+
+    def cells(self):
+        """The cells as arrays of 32 bits of any length, one after another, NULL for null."""
+        wanted = self.region.rows * self.region.cols
+        count = 0
+        for piece in self.pieces():
+            cells = self.numbers(piece, count)
+            count += len(cells)
+            if count > wanted:
+                break
+            yield cells
+        if count != wanted:
+            raise Refused("%d rows of %d cells were announced, and there are %s cells"
+                          % (self.region.rows, self.region.cols, "more" if count > wanted else count))
+
+    def pieces(self):
+        rest = self.rest
+        while True:
+            more = self.read(PIECE)
+            rest += more
+            end = len(rest) if not more else max(rest.rfind(b"\n"), rest.rfind(b" "), rest.rfind(b"\t")) + 1
+            if end == 0 and len(rest) > PIECE:
+                raise Refused("there is a word of over %d bytes" % PIECE)
+            yield rest[:end]
+            rest = rest[end:]
+            if not more:
+                return
+
+    def numbers(self, piece, before):
+        if self.null == b"*":
+            text = piece.replace(b"*", b"%d" % NULL)
+        else:
+            word = rb"(?<![^ \t\r\n])%s(?![^ \t\r\n])" % re.escape(self.null)
+            text = re.sub(word, b"%d" % NULL, piece)
+        with warnings.catch_warnings():
+            warnings.simplefilter("error")
+            try:
+                cells = np.fromstring(text, np.int64, sep=" ") if text.strip() else np.zeros(0, np.int64)
+            except (DeprecationWarning, ValueError):
+                cells = None
+        if cells is None or len(cells) != words_in(text) or b"\v" in text or b"\f" in text:
+            raise self.bad_cell(piece, before)
+        return self.multiplied(cells, before)
+
+    def multiplied(self, cells, before):
+        null = cells == NULL
+        if (self.null == b"*" and null.any()) or self.multiplier != 1:
+            cells = np.where(null, NULL, cells.clip(-GREATEST - 1, GREATEST + 1) * self.multiplier)
+        if (~null & ((cells > GREATEST) | (cells < -GREATEST))).any():
+            at = int(np.argmax(~null & ((cells > GREATEST) | (cells < -GREATEST))))
+            raise self.bad_place(before + at, "beyond %d" % GREATEST)
+        return cells.astype(np.int32)
+
+    def bad_cell(self, piece, before):
+        whole = re.compile(rb"[+-]?[0-9]+")
+        words = re.findall(rb"[^ \t\r\n]+", piece)
+        at = next((at for at, word in enumerate(words) if word != self.null and not whole.fullmatch(word)), 0)
+        return self.bad_place(before + at, "%s is not a whole number" % repr(words[at][:64])[2:-1])
+
+    def bad_place(self, at, fault):
+        return BadCell(at // self.region.cols, at % self.region.cols, fault)
+
+
+def words_in(text):
+    """How many words a text has."""
+    is_blank = np.frombuffer(b" " + text, np.uint8) <= 32
+    return int(np.count_nonzero(is_blank[:-1] & ~is_blank[1:]))
+
+
+def rows_of(grid):
+    """Blocks of whole rows of a grid, as arrays of two dimensions."""
+    cols, kept, size = grid.region.cols, [], 0
+    for cells in grid.cells():
+        kept.append(cells)
+        size += len(cells)
+        if size >= cols:
+            cells = np.concatenate(kept)
+            end = size // cols * cols
+            yield cells[:end].reshape(-1, cols)
+            kept, size = [cells[end:]], size - end
+
+
+def write_tif(grid, path, like=None):
+    """Writes a grid as a GeoTIFF of 32 bits, with the georeference of `like`, an open dataset of as many rows and columns."""
+    from osgeo import gdal
+    transform = grid.region.transform()
+    if like is not None:
+        other, is_turned = Region.of_transform(like.GetGeoTransform(can_return_null=True), like.RasterYSize, like.RasterXSize)
+        if is_turned:
+            raise Refused("the first row of %s is the southern one" % like.GetDescription())
+        grid.region.with_edges_of(other, like.GetDescription())
+        transform = like.GetGeoTransform(can_return_null=True)
+    options = ["COMPRESS=DEFLATE", "TILED=YES", "BIGTIFF=IF_SAFER"]
+    made = gdal.GetDriverByName("GTiff").Create(path, grid.region.cols, grid.region.rows, 1, gdal.GDT_Int32, options)
+    if made is None:
+        raise Refused("%s can't be written" % path)
+    if transform is not None:
+        made.SetGeoTransform(transform)
+    if like is not None:
+        made.SetProjection(like.GetProjection())
+    band, row = made.GetRasterBand(1), 0
+    band.SetNoDataValue(NULL)
+    for block in rows_of(grid):
+        band.WriteArray(block, 0, row)
+        row += len(block)
+    made.FlushCache()
