@@ -1,0 +1,113 @@
+"""What rcell-explain says: faults with their causes from messages.json, and how a line with its marks is shown."""
+import json
+import os
+import re
+
+ROOM = 100  # characters of a line that are shown
+FILLED = re.compile(r"\{([a-z_]+)\}")
+INDENT = "    "
+
+
+class Fault:
+    """A fault of a line of the script: what rcell says of it, which of the causes it is, and what to write instead.
+
+    `start` and `end` are bytes of the line. `fixes` mend it, where it can be mended: each has a place in the line, and what
+    takes that place.
+    """
+
+    def __init__(self, line, start, end, text, cause, values=None, fix=None):
+        self.line, self.start, self.end, self.text, self.cause = line, start, end, text, cause
+        self.values = values or {}
+        self.fixes = [] if fix is None else [(start, end, fix)]
+
+    def __repr__(self):
+        return "Fault(%d, %d, %d, %r, %r)" % (self.line, self.start, self.end, self.text, self.cause)
+
+
+def folder():
+    """Where messages.json is: beside this module."""
+    return os.path.dirname(os.path.realpath(__file__))
+
+
+def filled(text, values):
+    return FILLED.sub(lambda found: str(values.get(found[1], found[0])), text)
+
+
+def unlinked(text):
+    """A text of the table without the links of the document."""
+    return re.sub(r"\[([^]]*)\]\([^)]*\)", lambda found: "%s in docs/COMMANDS.md" % found[1], text)
+
+
+class Messages:
+    """The messages of rcell with their causes."""
+
+    def __init__(self):
+        with open(os.path.join(folder(), "messages.json"), encoding="utf-8") as file:
+            read = json.load(file)
+        self.parts = read["parts"]
+        self.warnings = {warning["name"]: warning for warning in read["warnings"]}
+        self.titles = {"arguments": 0, "files": 1, "grid": 2, "script": 3, "expression": 4}
+
+    def causes(self, part, text):
+        """The causes of a message of a part."""
+        for message in self.parts[self.titles[part]]["messages"]:
+            if message["text"] == text:
+                return message["causes"]
+        return []
+
+    def said(self, part, text, name, values):
+        """What a cause says, filled in: the cause, and what to write instead."""
+        cause = next(cause for cause in self.causes(part, text) if cause["name"] == name)
+        return filled(cause["cause"], values), unlinked(filled(cause["instead"], values))
+
+    def all_said(self, part, text):
+        """All causes of a message, with their examples: where it can't be known which it is."""
+        for cause in self.causes(part, text):
+            example = cause.get("example", {})
+            yield filled(cause["cause"], example), unlinked(filled(cause["instead"], example))
+
+    def warned(self, name, values):
+        warning = self.warnings[name]
+        return filled(warning["cause"], values), filled(warning.get("instead", ""), values)
+
+
+# Lines as a terminal can show them
+
+
+def printable(text):
+    return "".join(c if c.isprintable() else "\\x%02x" % ord(c) if ord(c) < 256 else "\\u%04x" % ord(c) for c in text)
+
+
+def shown(text):
+    """Bytes, or text of one character a byte, as a terminal can show them."""
+    raw = text.encode("latin-1") if isinstance(text, str) else text
+    return printable(raw.decode("utf-8", "backslashreplace").replace("\t", " "))
+
+
+def marked(line, spans):
+    """A line and beneath it marks of its spans (bytes from start to end), both cut to what is about the first span."""
+    raw = line.encode("latin-1") if isinstance(line, str) else line
+    first = min(start for start, _ in spans)
+    begin = 0 if len(raw) <= ROOM else max(0, min(first - ROOM // 3, len(raw) - ROOM))
+    end = min(len(raw), begin + ROOM)
+    text, marks = "", ""
+    if begin:
+        text, marks = "..", "  "
+    at = begin
+    while at < end:
+        width = next((size for size in (1, 2, 3, 4) if is_character(raw[at : at + size])), 1)
+        piece = shown(raw[at : at + width])
+        is_in = any(start <= at < max(stop, start + 1) for start, stop in spans)
+        text += piece
+        marks += ("^" if is_in else " ") * len(piece)
+        at += width
+    if any(start >= end for start, _ in spans):
+        marks = marks.ljust(len(text)) + "^"
+    return text + (".." if end < len(raw) else ""), marks.rstrip()
+
+
+def is_character(raw):
+    try:
+        return len(raw.decode("utf-8")) == 1
+    except UnicodeDecodeError:
+        return False

@@ -1,0 +1,442 @@
+"""What rcell-explain does: it runs rcell, and explains its message."""
+import difflib
+import os
+import re
+import sys
+
+from rcell_advice import INDENT, Messages, marked, shown
+from rcell_grids import EDGES, FORGOTTEN, GridFile, SIX, SOUGHT, cause_of, quoted
+from rcell_run import Missing, Run, found_program
+from rcell_script import MODULES, Script, is_name
+
+MESSAGE = re.compile(r"rcell: ([A-Za-z0-9_.]+):([0-9]+): (.*)")
+COLUMN = re.compile(r" at column ([0-9]+)$")
+MOST_FAULTS = 200
+MOST_COUNTED = 1 << 30  # bytes of a grid whose words are counted
+
+
+class Explanation:
+    """The lines that stand beneath a message."""
+
+    def __init__(self, run, words):
+        self.run, self.words, self.messages = run, words, Messages()
+        self.lines = []
+
+    def say(self, text=""):
+        self.lines.append(INDENT + text if text else "")
+
+    def say_cause(self, cause, instead):
+        self.say("- " + cause)
+        if instead:
+            self.say("  instead: " + instead)
+
+    def say_all(self, part, text):
+        """All causes of a message: it can't be known which it is."""
+        said = list(self.messages.all_said(part, text))
+        if len(said) > 1:
+            self.say("it may be:")
+        for cause, instead in said:
+            self.say_cause(cause, instead)
+
+    def say_known(self, part, text, name, values):
+        self.say_cause(*self.messages.said(part, text, name, values))
+
+    # Which message it is
+
+    def explain(self, source, line, text):
+        column = COLUMN.search(text)
+        text = COLUMN.sub("", text)
+        names = [name for name, _ in self.run.given.grids]
+        if text.startswith("write failed"):
+            self.explain_write(text)
+        elif source == "arguments":
+            self.explain_arguments(line, text)
+        elif text in ("cannot open", "read failed"):
+            self.explain_file(source, text, names)
+        elif source in names and not column and self.messages.causes("grid", text) and not (
+                source == "script" and self.messages.causes("script", text)):
+            self.explain_grid(source, line, text)
+        elif source == "script":
+            self.explain_script(line, text, "expression" if column else "script")
+        if source != "script":
+            self.further_faults(0)
+
+    # The command line
+
+    def explain_arguments(self, line, text):
+        if text.startswith("usage"):
+            dashed = next((word for word in self.words if word.startswith("-")), None)
+            if dashed is not None:
+                self.say_known("arguments", text, "option", {"word": quoted(dashed)})
+            elif len(self.words) < 2:
+                self.say_known("arguments", text, "few words", {})
+            else:
+                self.say_known("arguments", text, "not utf-8", {})
+        elif text == "bad grid argument" and line <= len(self.words):
+            self.explain_word(line, text)
+        else:
+            self.say_all("arguments", text)
+
+    def explain_word(self, line, text):
+        word = self.words[line - 1]
+        name, equals, path = word.partition("=")
+        near = self.words[line] if line < len(self.words) else ""
+        first = self.words[0]
+        if "=" in first and is_name(first.split("=")[0]) and not os.path.exists(first):
+            script = next((it for it in self.words if "=" not in it), word)
+            others = [it for it in self.words if it != script]
+            self.say_known("arguments", text, "script not first", {"fixed": " ".join(["rcell", quoted(script)] + [quoted(it) for it in others])})
+        elif word == "=" or (not equals and near.startswith("=")) or (equals and not path and near and "=" not in near):
+            parts = self.words[1:]
+            fixed = re.sub(r" *= *", "=", " ".join(parts))
+            self.say_known("arguments", text, "blanks", {"fixed": shown(fixed.encode("utf-8", "surrogateescape"))})
+        elif not equals:
+            stem = re.sub(r"[^A-Za-z0-9_.]", "_", os.path.basename(word).split(".")[0]) or "map"
+            stem = stem if is_name(stem) else "m_" + stem
+            self.say_known("arguments", text, "no name", {"word": quoted(word), "name": stem})
+        elif not path:
+            self.say_known("arguments", text, "no path", {"name": quoted(name)})
+        else:
+            fixed = re.sub(r"[^A-Za-z0-9_.]", "_", name)
+            fixed = fixed if is_name(fixed) else "m_" + fixed[:60]
+            self.say_known("arguments", text, "bad name", {"name": quoted(name), "fixed": quoted("%s=%s" % (fixed, path))})
+
+    # Files
+
+    def explain_file(self, source, text, names):
+        paths = [given.path for name, given in self.run.given.grids if name == source]
+        if source == "script" and self.run.given.script:
+            paths.insert(0, self.run.given.script.path)
+        bad = [path for path in paths if self.file_cause(text, path)]
+        if not bad:
+            self.say_all("files", text)
+            return
+        cause, values = self.file_cause(text, bad[0])
+        self.say_known("files", text, cause, dict(values, path=quoted(bad[0])))
+
+    @staticmethod
+    def file_cause(text, path):
+        """Why a file can't be opened or read, with values for its advice; None where that is not seen."""
+        if text == "read failed":
+            return ("folder", {}) if os.path.isdir(path) else ("device", {})
+        if os.path.exists(path):
+            return None if os.access(path, os.R_OK) else ("not readable", {})
+        if path.startswith("~"):
+            return "tilde", {"fixed": quoted("$HOME" + path[1:]) if path.startswith("~/") else quoted(os.path.expanduser(path))}
+        parts = path.split(",")
+        if len(parts) > 1 and os.path.exists(parts[0]):
+            return "comma", {"fixed": " ".join(quoted(part) for part in parts)}
+        folder = os.path.dirname(path) or "."
+        try:
+            near = difflib.get_close_matches(os.path.basename(path), os.listdir(folder), n=1, cutoff=0.6)
+        except OSError:
+            return "no file", {"near": ": there is no folder %s" % quoted(folder)}
+        return "no file", {"near": "; the nearest name is `%s`" % quoted(os.path.join(os.path.dirname(path), near[0])) if near else ""}
+
+    def explain_write(self, text):
+        self.say_all("files", "write failed after N bytes")
+
+    # Grids
+
+    def grid(self, name):
+        """The grid of this name that the message is about: the last one."""
+        given = [given for at, given in self.run.given.grids if at == name][-1]
+        return GridFile(name, given.path, given.start(), given.line), given
+
+    def explain_grid(self, source, line, text):
+        grid, given = self.grid(source)
+        if text == "other region":
+            self.explain_region(grid)
+            return
+        if text in ("too few cells", "too many cells"):
+            self.say_known("grid", text, text, self.counted(grid, given))
+            return
+        found = cause_of(grid, line, text)
+        if found is None:
+            if given.is_kept and given.line(line) is None and line:
+                self.say("grid %s came through a pipe, and line %d is not kept: run it on a file" % (source, line))
+            self.say_all("grid", text)
+            return
+        cause, values, spans = found
+        raw = given.line(line)
+        if raw is not None and spans:
+            for it in marked(raw, spans):
+                self.say("  " + it)
+        self.say_known("grid", text, cause, values)
+        if cause in ("fraction", "no number", "null text", "beyond", "decimal nodata", "unsigned nodata") and line > 6:
+            self.say("  (if rcell-aaigrid made the file, this is line %d of the .asc, or %d where that has dx and dy)" % (line - 1, line))
+
+    def counted(self, grid, given):
+        """How many cells there are, and the first line that has more or fewer than the others."""
+        try:
+            rows, cols = int(grid.values["rows"]), int(grid.values["cols"])
+        except (KeyError, ValueError):
+            return {"counted": "", "odd": ""}
+        count, size, odd, number, rest = 0, 0, None, 0, b""
+        for piece in given.pieces():
+            size += len(piece)
+            lines = (rest + piece).split(b"\n")
+            rest = lines.pop()
+            if size > MOST_COUNTED or len(rest) > 1 << 24:
+                return {"counted": "", "odd": ""}
+            for text in lines:
+                number += 1
+                count, odd = self.count_line(grid, number, text, cols, count, odd)
+        count, odd = self.count_line(grid, number + 1, rest, cols, count, odd)
+        if count == 0:
+            return {"counted": "", "odd": ""}
+        is_by_rows = odd is None or odd[0] != grid.data_line
+        said = " (line %d has %d words, and not %d)" % (odd[0], odd[1], cols) if odd and is_by_rows else ""
+        if count == rows * cols:
+            return {"counted": "", "odd": ""}
+        joint = "of" if count < rows * cols else "in the place of"
+        return {"counted": ": %d %s %d" % (count, joint, rows * cols), "odd": said}
+
+    @staticmethod
+    def count_line(grid, number, text, cols, count, odd):
+        if number < grid.data_line:
+            return count, odd
+        words = len(text.split())
+        return count + words, (number, words) if odd is None and words not in (0, cols) else odd
+
+    def explain_region(self, grid):
+        first, _ = self.grid(self.run.given.grids[0][0]) if self.run.given.grids[0][0] != grid.name else self.first_grid()
+        names = (first.name, grid.name)
+        wide = max(len(name) for name in names + tuple(first.values.get(key, "") for key in SIX)) + 2
+        self.say("  %-8s%s%s" % ("", names[0].ljust(wide), names[1]))
+        differs = []
+        for key in SIX:
+            values = [shown(it.values.get(key, "?")) for it in (first, grid)]
+            is_same = same_number(*values)
+            differs += [] if is_same else [key]
+            self.say("  %-8s%s%s%s" % (key, values[0].ljust(wide), values[1], "" if is_same else "   <- differs"))
+        if differs and all(key in EDGES for key in differs) and is_near(first, grid):
+            edits = "; ".join("s/^%s:.*/%s: %s/" % (key, key, shown(first.values[key])) for key in differs)
+            self.say_known("grid", "other region", "rounding", {"fixed": "sed '%s' %s > NEW" % (edits, quoted(grid.path))})
+        else:
+            self.say_known("grid", "other region", "edges", {})
+            self.say_warp(first, differs)
+
+    def first_grid(self):
+        name, given = self.run.given.grids[0]
+        return GridFile(name, given.path, given.start(), given.line), given
+
+    def say_warp(self, first, differs):
+        if differs and all(key in first.values for key in SIX):
+            self.say("  to the region of %s: gdalwarp -te %s %s %s %s -ts %s %s -r near MAP.tif NEW.tif"
+                     % ((first.name,) + tuple(shown(first.values[key]) for key in ("west", "south", "east", "north", "cols", "rows"))))
+
+    # The script
+
+    def script(self):
+        given = self.run.given.script
+        if given is None or not given.start(1):
+            return None
+        return Script(given.start((1 << 20) + 1), [name for name, _ in self.run.given.grids], quoted(given.path))
+
+    def explain_script(self, line, text, part):
+        script = self.script()
+        if script is None or text == "no memory":
+            self.say_all(part, text)
+            return
+        here = [fault for fault in script.faults if fault.line == line]
+        if any(fault.text == text for fault in here):
+            self.say_line(script, line, here, text)
+        else:
+            self.say_source(script, line, [])
+            self.say_all(part, text)
+        self.further_faults(line, script)
+
+    def further_faults(self, line, script=None):
+        """The faults of the lines behind the one that the message names."""
+        script = script or self.script()
+        if script is None:
+            return
+        others = sorted({fault.line for fault in script.faults if fault.line > line})
+        if not others:
+            return
+        self.say()
+        self.lines.append("rcell-explain: %s faults of the script:" % ("further" if line else "there are"))
+        for number in others[:MOST_FAULTS]:
+            here = [fault for fault in script.faults if fault.line == number]
+            self.lines.append("script:%d: %s" % (number, first_of(here).text))
+            self.say_line(script, number, here, first_of(here).text)
+        if len(others) > MOST_FAULTS:
+            self.say("and %d lines more" % (len(others) - MOST_FAULTS))
+
+    def say_source(self, script, line, faults):
+        if not 1 <= line <= len(script.lines):
+            return
+        spans = [(fault.start, fault.end) for fault in faults]
+        text, marks = marked(script.lines[line - 1], spans or [(0, 0)])
+        self.say("  " + text)
+        if spans:
+            self.say("  " + marks)
+
+    def say_line(self, script, line, faults, text):
+        faults = sorted(faults, key=lambda fault: (fault.text != text, order_of(fault)))
+        self.say_source(script, line, faults)
+        told = set()
+        for fault in faults:
+            part = "expression" if is_of_expression(script, fault) else "script"
+            said = self.messages.said(part, fault.text, fault.cause, fault.values)
+            if said not in told:
+                self.say_cause(*said)
+            told.add(said)
+        whole = next((fault.values["whole"] for fault in faults if "whole" in fault.values), None)
+        mended = [whole] if whole else mended_lines(script, line, faults)
+        if mended:
+            self.say("write:")
+            for it in mended:
+                self.say("  " + shown(it))
+
+
+def order_of(fault):
+    """The order in which rcell tells the faults of a line: its form, a missing option, an unknown map, one that exists."""
+    return {"missing option": 1, "unknown map": 2, "map exists": 3}.get(fault.text, 0), fault.start
+
+
+def first_of(faults):
+    return min(faults, key=order_of)
+
+
+def is_of_expression(script, fault):
+    """Whether a fault is told with a column."""
+    if not 1 <= fault.line <= len(script.lines):
+        return False
+    is_mapcalc = (script.lines[fault.line - 1].split() or [""])[0].lower() == "r.mapcalc"
+    return is_mapcalc and fault.text not in ("map exists", "unknown command", "line too long")
+
+
+def mended_lines(script, line, faults):
+    """The line as it is to be written, where all its faults can be mended and nothing else is wrong with it."""
+    if any(not fault.fixes for fault in faults):
+        return []
+    text, last = script.lines[line - 1], len(script.lines[line - 1]) + 1
+    fixes = sorted({fix for fault in faults for fix in fault.fixes}, reverse=True)
+    for start, end, by in fixes:
+        if end > last:
+            continue
+        text, last = text[:start] + by + text[end:], start
+    lines = [re.sub(r"[ \t]+", " ", it).strip() for it in text.split("\n")]
+    lines = [it for it in lines if it]
+    return lines if lines and is_right(script, line, lines) else []
+
+
+def is_right(script, line, lines):
+    """Whether lines in the place of one have no fault, over the maps that are known there."""
+    known = [name for name, whence in script.known.items() if whence == "a grid" or int(whence.split()[-1]) < line]
+    text = "\n".join(lines)
+    if lines[0].split()[0] == "r.reclass" and len(lines) == 1:
+        text += "\nend"
+    is_rule = lines[0][0] in "*+-0123456789"
+    if is_rule:
+        text, known = "r.reclass input=a output=b\n%s\nend" % text, ["a"]
+    if lines[0] == "end":
+        return True
+    return not Script(text.encode("latin-1"), known).faults
+
+
+def same_number(one, other):
+    """Whether two values of headers are the same number."""
+    from fractions import Fraction
+
+    try:
+        return Fraction(one) == Fraction(other)
+    except (ValueError, ZeroDivisionError):
+        return one == other
+
+
+def is_near(first, grid):
+    """Whether edges differ by less than half a cell."""
+    from fractions import Fraction
+
+    try:
+        values = {key: Fraction(first.values[key]) for key in SIX}
+        others = {key: Fraction(grid.values[key]) for key in SIX}
+    except (KeyError, ValueError, ZeroDivisionError):
+        return False
+    high = (values["north"] - values["south"]) / values["rows"] / 2
+    wide = (values["east"] - values["west"]) / values["cols"] / 2
+    return all(abs(values[key] - others[key]) < (high if key in ("north", "south") else wide) for key in EDGES)
+
+
+# Warnings of a run that is done
+
+
+def warnings_of(run):
+    """What was taken and is seldom meant: places and names of warnings with their values."""
+    given = run.given
+    found = []
+    if given.script is not None:
+        text = given.script.start((1 << 20) + 1)
+        script = Script(text, [name for name, _ in given.grids])
+        if not script.faults:
+            found += [("script:%d: " % line if line else "script: ", name, values) for line, name, values in script.warnings]
+    for name, file in given.grids:
+        for word in forgotten_in(file):
+            values = {"name": name, "word": word.decode(), "path": quoted(file.path)}
+            found.append(("%s: " % name, "forgotten nodata", values))
+    return found
+
+
+def forgotten_in(file):
+    """Words that look like a nodata value which the header does not name."""
+    grid = GridFile("", file.path, file.start(), file.line)
+    wanted = [word for word in FORGOTTEN if word != grid.null()]
+    seen, last = [], b""
+    for piece in file.pieces():
+        for word in [word for word in wanted if word not in seen]:
+            if SOUGHT[word] in piece and word in (last[-64:] + piece).split():
+                seen.append(word)
+        last = piece
+    return seen
+
+
+# The run
+
+
+def tell(lines):
+    text = "".join(line + "\n" for line in lines)
+    sys.stderr.write(text.encode("utf-8", "backslashreplace").decode("utf-8"))
+    sys.stderr.flush()
+
+
+def explained(run, words):
+    told = run.told.decode("utf-8", "replace")
+    found = MESSAGE.match(told)
+    if found is None:
+        return []
+    explanation = Explanation(run, words)
+    explanation.explain(found[1], int(found[2]), found[3])
+    return explanation.lines
+
+
+def ended(status):
+    """What is told of a run that a signal ended."""
+    why = " (the system takes a program away when memory is short)" if status == -9 else ""
+    return ["rcell-explain: rcell was ended by signal %d%s" % (-status, why)]
+
+
+def main(words, folder):
+    try:
+        program = found_program(folder)
+        run = Run(program, words)
+    except (Missing, OSError) as fault:
+        tell(["rcell-explain: %s" % fault])
+        sys.exit(127)
+    sys.stderr.buffer.write(run.told)
+    sys.stderr.buffer.flush()
+    status = run.status
+    if status == 0:
+        messages = Messages()
+        for place, name, values in warnings_of(run):
+            cause, instead = messages.warned(name, values)
+            tell(["rcell-explain: warning: %s%s" % (place, cause)] + ([INDENT + instead] if instead else []))
+    elif status < 0:
+        tell(ended(status))
+        status = 128 - status
+    else:
+        tell(explained(run, words))
+    sys.stderr.flush()
+    os._exit(status)  # a thread may wait for a pipe that nobody writes

@@ -1,0 +1,187 @@
+"""Runs rcell, and keeps of what it reads through pipes what its message may be about.
+
+    found_program(folder)     the path of rcell
+    Given(words)              the script and the grids of a command line
+    Run(program, words)       a run: its status and message, and the files that were given
+"""
+import os
+import shutil
+import stat
+import subprocess
+import threading
+
+MOST_START = 1 << 16  # bytes of the beginning of a file that are looked at
+MOST_TAIL = 1 << 22  # bytes of a pipe that are kept: a message is about what was read last
+MOST_SCRIPT = (1 << 20) + 1
+PIECE = 1 << 16
+LONGEST_LINE = 1 << 20  # bytes of a line that are looked at
+
+
+class Missing(Exception):
+    """There is no rcell."""
+
+
+def found_program(folder):
+    """RCELL, or the program beside the helper, in bin beside its folder, or on the path."""
+    named = os.environ.get("RCELL")
+    if named:
+        return named
+    for path in (os.path.join(folder, "rcell"), os.path.join(os.path.dirname(folder), "bin", "rcell")):
+        if os.access(path, os.X_OK) and os.path.isfile(path):
+            return path
+    found = shutil.which("rcell")
+    if found is None:
+        raise Missing("rcell is neither beside this program nor on the path; RCELL may name it")
+    return found
+
+
+class File:
+    """A file that is read by its path, as often as it is asked."""
+
+    def __init__(self, path):
+        self.path = path
+        self.is_kept = False
+
+    def start(self, most=MOST_START):
+        try:
+            with open(self.path, "rb") as file:
+                return file.read(most)
+        except OSError:
+            return b""
+
+    def pieces(self):
+        try:
+            with open(self.path, "rb") as file:
+                while True:
+                    piece = file.read(1 << 20)
+                    if not piece:
+                        return
+                    yield piece
+        except OSError:
+            return
+
+    def line(self, number):
+        """A line by its number, or None; of a long one the beginning."""
+        try:
+            with open(self.path, "rb") as file:
+                at = 1
+                while at < number:
+                    piece = file.readline(LONGEST_LINE)
+                    if not piece:
+                        return b"" if at == number - 1 else None
+                    at += piece.endswith(b"\n")
+                return file.readline(LONGEST_LINE).rstrip(b"\r\n")
+        except OSError:
+            return None
+
+
+class Pipe:
+    """A file that can be read once: it is handed on to rcell, and its beginning and its last pieces are kept."""
+
+    def __init__(self, path):
+        self.path = path
+        self.is_kept = True
+        self.first, self.tail, self.tail_size, self.lines_before = b"", [], 0, 1
+        self.reads, self.writes = os.pipe()
+
+    def hand_on(self, source):
+        """Copies all that comes to the pipe; ends quietly where rcell has stopped reading."""
+        while True:
+            piece = os.read(source, PIECE)
+            if not piece:
+                break
+            self.keep(piece)
+            try:
+                view = memoryview(piece)
+                while view:
+                    view = view[os.write(self.writes, view) :]
+            except BrokenPipeError:
+                break
+
+    def keep(self, piece):
+        if len(self.first) < MOST_SCRIPT:
+            self.first += piece[: MOST_SCRIPT - len(self.first)]
+        self.tail.append(piece)
+        self.tail_size += len(piece)
+        while self.tail_size - len(self.tail[0]) > MOST_TAIL:
+            gone = self.tail.pop(0)
+            self.tail_size -= len(gone)
+            self.lines_before += gone.count(b"\n")
+
+    def start(self, most=MOST_START):
+        return self.first[:most]
+
+    def pieces(self):
+        if self.lines_before == 1:
+            yield from self.tail
+
+    def line(self, number):
+        if number < self.lines_before:
+            return None
+        lines = b"".join(self.tail).split(b"\n")
+        at = number - self.lines_before
+        return lines[at][:LONGEST_LINE].rstrip(b"\r") if at < len(lines) else None
+
+
+def is_read_once(path):
+    """Whether a path is a pipe, a terminal or the like."""
+    try:
+        mode = os.stat(path).st_mode
+    except OSError:
+        return False
+    return stat.S_ISFIFO(mode) or stat.S_ISCHR(mode) or stat.S_ISSOCK(mode)
+
+
+class Given:
+    """The words of a command line, with pipes in the place of what can be read once."""
+
+    def __init__(self, words):
+        self.words = list(words)
+        self.script, self.grids = None, []  # File or Pipe; (name, File or Pipe)
+        self.pipes = []
+        if len(words) < 2 or any(word.startswith("-") for word in words):
+            return
+        named = [word.partition("=") for word in words[1:]]
+        if not all(equals and path for _, equals, path in named):
+            return
+        self.script = self.given(0, "", words[0])
+        for at, (name, _, path) in enumerate(named, 1):
+            self.grids.append((name, self.given(at, name + "=", path)))
+
+    def given(self, at, before, path):
+        if not is_read_once(path):
+            return File(path)
+        pipe = Pipe(path)
+        self.pipes.append((at, pipe))
+        self.words[at] = "%s/dev/fd/%d" % (before, pipe.reads)
+        return pipe
+
+    def feed(self):
+        """Opens what can be read once in rcell's order, and hands it on in the order in which rcell reads: grids, then script."""
+        try:
+            sources = {at: os.open(pipe.path, os.O_RDONLY) for at, pipe in self.pipes}
+        except OSError:
+            sources = {}
+        for at, pipe in sorted(self.pipes, key=lambda it: (it[0] == 0, it[0])):
+            if at in sources:
+                pipe.hand_on(sources[at])
+                os.close(sources[at])
+            os.close(pipe.writes)
+
+
+class Run:
+    """A run of rcell: what was given, its status, and what it told."""
+
+    def __init__(self, program, words):
+        self.given = Given(words)
+        ends = [pipe.reads for _, pipe in self.given.pipes]
+        for end in ends:
+            os.set_inheritable(end, True)
+        # What a shell has opened for us, as in NAME=<(..), is rcell's as well.
+        child = subprocess.Popen([program] + self.given.words, stderr=subprocess.PIPE, close_fds=False)
+        for end in ends:
+            os.close(end)
+        if self.given.pipes:
+            threading.Thread(target=self.given.feed, daemon=True).start()
+        self.told = child.stderr.read()
+        self.status = child.wait()
