@@ -59,7 +59,7 @@ class Explanation:
         elif source == "script":
             self.explain_script(line, text, "expression" if column else "script")
         if source != "script":
-            self.further_faults(0)
+            self.further_faults(0, self.script(), is_known=source != "arguments")
 
     # The command line
 
@@ -111,21 +111,21 @@ class Explanation:
         if not bad:
             self.say_all("files", text)
             return
-        cause, values = self.file_cause(text, bad[0])
+        cause, values = self.file_cause(text, bad[0], source)
         self.say_known("files", text, cause, dict(values, path=quoted(bad[0])))
 
     @staticmethod
-    def file_cause(text, path):
+    def file_cause(text, path, name=""):
         """Why a file can't be opened or read, with values for its advice; None where that is not seen."""
         if text == "read failed":
             return ("folder", {}) if os.path.isdir(path) else ("device", {})
         if os.path.exists(path):
             return None if os.access(path, os.R_OK) else ("not readable", {})
         if path.startswith("~"):
-            return "tilde", {"fixed": quoted("$HOME" + path[1:]) if path.startswith("~/") else quoted(os.path.expanduser(path))}
+            return "tilde", {"fixed": '%s="$HOME%s"' % (name, shown(path[1:].encode("utf-8", "surrogateescape")))}
         parts = path.split(",")
         if len(parts) > 1 and os.path.exists(parts[0]):
-            return "comma", {"fixed": " ".join(quoted(part) for part in parts)}
+            return "comma", {"fixed": " ".join(["%s=%s" % (name, quoted(parts[0]))] + [quoted(part) for part in parts[1:]])}
         folder = os.path.dirname(path) or "."
         try:
             near = difflib.get_close_matches(os.path.basename(path), os.listdir(folder), n=1, cutoff=0.6)
@@ -163,7 +163,7 @@ class Explanation:
             for it in marked(raw, spans):
                 self.say("  " + it)
         self.say_known("grid", text, cause, values)
-        if cause in ("fraction", "no number", "null text", "beyond", "decimal nodata", "unsigned nodata") and line > 6:
+        if cause in ("fraction", "no number", "beyond") and grid.is_as_converted():
             self.say("  (if rcell-aaigrid made the file, this is line %d of the .asc, or %d where that has dx and dy)" % (line - 1, line))
 
     def counted(self, grid, given):
@@ -211,8 +211,9 @@ class Explanation:
             differs += [] if is_same else [key]
             self.say("  %-8s%s%s%s" % (key, values[0].ljust(wide), values[1], "" if is_same else "   <- differs"))
         if differs and all(key in EDGES for key in differs) and is_near(first, grid):
-            edits = "; ".join("s/^%s:.*/%s: %s/" % (key, key, shown(first.values[key])) for key in differs)
-            self.say_known("grid", "other region", "rounding", {"fixed": "sed '%s' %s > NEW" % (edits, quoted(grid.path))})
+            right, other = sorted((first, grid), key=lambda it: sum(len(it.values[key]) for key in differs))
+            edits = "; ".join("s/^%s:.*/%s: %s/" % (key, key, shown(right.values[key])) for key in differs)
+            self.say_known("grid", "other region", "rounding", {"fixed": "sed '%s' %s > NEW" % (edits, quoted(other.path))})
         else:
             self.say_known("grid", "other region", "edges", {})
             self.say_warp(first, differs)
@@ -240,32 +241,32 @@ class Explanation:
             self.say_all(part, text)
             return
         here = [fault for fault in script.faults if fault.line == line]
-        if any(fault.text == text for fault in here):
+        if any(fault.text == text or fault.cause == "line ends" for fault in here):
             self.say_line(script, line, here, text)
         else:
             self.say_source(script, line, [])
             self.say_all(part, text)
         self.further_faults(line, script)
 
-    def further_faults(self, line, script=None):
-        """The faults of the lines behind the one that the message names."""
-        script = script or self.script()
+    def further_faults(self, line, script, is_known=True):
+        """The faults of the lines behind the one that the message names; `is_known`: so are the names of the grids."""
         if script is None:
             return
-        others = sorted({fault.line for fault in script.faults if fault.line > line})
+        faults = [fault for fault in script.faults if fault.line > line and (is_known or fault.text not in ("unknown map", "map exists"))]
+        others = sorted({fault.line for fault in faults})
         if not others:
             return
         self.say()
         self.lines.append("rcell-explain: %s faults of the script:" % ("further" if line else "there are"))
         for number in others[:MOST_FAULTS]:
-            here = [fault for fault in script.faults if fault.line == number]
+            here = [fault for fault in faults if fault.line == number]
             self.lines.append("script:%d: %s" % (number, first_of(here).text))
             self.say_line(script, number, here, first_of(here).text)
         if len(others) > MOST_FAULTS:
             self.say("and %d lines more" % (len(others) - MOST_FAULTS))
 
     def say_source(self, script, line, faults):
-        if not 1 <= line <= len(script.lines):
+        if not 1 <= line <= len(script.lines) or any(fault.cause == "line size" for fault in faults):
             return
         spans = [(fault.start, fault.end) for fault in faults]
         text, marks = marked(script.lines[line - 1], spans or [(0, 0)])
@@ -285,6 +286,8 @@ class Explanation:
             told.add(said)
         whole = next((fault.values["whole"] for fault in faults if "whole" in fault.values), None)
         mended = [whole] if whole else mended_lines(script, line, faults)
+        rules = next((fault.values["file"] for fault in faults if fault.cause == "rules"), None)
+        mended += ["(the rules of %s)" % rules, "end"] if mended and rules is not None else []
         if mended:
             self.say("write:")
             for it in mended:
@@ -371,6 +374,7 @@ def warnings_of(run):
     if given.script is not None:
         text = given.script.start((1 << 20) + 1)
         script = Script(text, [name for name, _ in given.grids])
+        found += [("script: ", "line ends", {"path": quoted(given.script.path)})] * any(it.cause == "line ends" for it in script.faults)
         if not script.faults:
             found += [("script:%d: " % line if line else "script: ", name, values) for line, name, values in script.warnings]
     for name, file in given.grids:

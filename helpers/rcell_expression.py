@@ -17,23 +17,28 @@ LEVELS = (("||", "|||"), ("&&", "&&&"), ("==", "!="), ("<", "<=", ">", ">="), ("
 FUNCTIONS = {"if": (1, 3), "isnull": (1, 1), "null": (0, 0), "abs": (1, 1), "min": (2, None), "max": (2, None), "mode": (2, None),
              "row": (0, 0), "col": (0, 0), "nrows": (0, 0), "ncols": (0, 0), "eval": (1, None), "nmin": (2, None),
              "nmax": (2, None), "nmode": (2, None)}
-NEEDLESS = ("int", "float", "double", "round")
+NEEDLESS = ("int", "float", "double")
 ABSENT = {
-    "round": "(x) as it is; for a quotient x / n: if(x >= 0, (2 * x + n) / (2 * n), (2 * x - n) / (2 * n))",
-    "xor": "(a) != (b), where both are 0 or 1", "not": "!(a)", "and": "(a) && (b)", "or": "(a) || (b)",
-    "median": "max(min(a, b), min(max(a, b), c)) of three", "nmedian": "max(min(a, b), min(max(a, b), c)) of three",
-    "pow": "x * x", "exp": "whole numbers only", "log": "whole numbers only", "sqrt": "whole numbers only",
-    "rand": "a map of random numbers as another grid", "graph": "an r.reclass", "graph2": "an r.reclass",
-    "x": "col()", "y": "row()", "z": "two dimensions only", "area": "the size of a cell, as a number",
-    "ewres": "the size of a cell, as a number", "nsres": "the size of a cell, as a number", "sin": "whole numbers only",
-    "cos": "whole numbers only", "tan": "whole numbers only", "atan": "whole numbers only", "ceil": "whole numbers only",
-    "floor": "whole numbers only",
+    "round": "leave it out; for a quotient x / n: `if(x >= 0, (2 * x + n) / (2 * n), (2 * x - n) / (2 * n))`",
+    "xor": "`(a) != (b)`, where both are 0 or 1", "and": "`(a) && (b)`", "or": "`(a) || (b)`",
+    "median": "of three: `max(min(a, b), min(max(a, b), c))`", "nmedian": "of three: `max(min(a, b), min(max(a, b), c))`",
+    "pow": "`x * x`", "rand": "a map of random numbers as another grid", "graph": "an r.reclass", "graph2": "an r.reclass",
+    "x": "`col()`", "y": "`row()`", "z": "there are two dimensions", "area": "the size of a cell, as a number",
+    "ewres": "the size of a cell, as a number", "nsres": "the size of a cell, as a number",
 }
+OF_DECIMALS = ("exp", "log", "sqrt", "sin", "cos", "tan", "asin", "acos", "atan", "ceil", "floor")
 WORDS_FOR = {"and": "&&", "or": "||", "mod": "%", "div": "/", "eq": "==", "ne": "!=", "lt": "<", "gt": ">", "le": "<=", "ge": ">="}
 CHARACTERS = {"\xc3\x97": "*", "\xc3\xb7": "/", "\xe2\x88\x92": "-", "\xe2\x80\x93": "-", "\xe2\x80\x94": "-", "\xe2\x89\xa4": "<=",
               "\xe2\x89\xa5": ">=", "\xe2\x89\xa0": "!=", "\xc2\xa0": " ", "\xe2\x80\x9c": "", "\xe2\x80\x9d": "", "\xe2\x80\x9e": "",
               "\xe2\x80\x98": "", "\xe2\x80\x99": ""}
 OPTION = re.compile(r"(?<!\S)--(?:o|overwrite|q|quiet|qq|v|verbose|ui|help)(?!\S)")
+
+
+def times(value):
+    """A multiplication by a fraction, as whole numbers say it."""
+    if value.denominator == 1:
+        return "* %d" % value.numerator
+    return "/ %d" % value.denominator if value.numerator == 1 else "* %d / %d" % (value.numerator, value.denominator)
 
 
 class Token:
@@ -214,6 +219,8 @@ class Assignment:
             rest = self.line[at + 1 : end].strip()
             fix = "\nr.mapcalc " + re.sub(r"^r\.mapcalc\s+", "", rest) if cause == "semicolon" and rest else ""
             self.tell(at, end if cause == "comment" else at + 1, "bad byte", cause, fix if cause == "comment" or not rest else None)
+            if cause == "comment" and self.line[at:end].strip("# \t"):
+                self.script.faults[-1].fixes.append((0, 0, self.line[at:end] + "\n"))
             if fix and cause == "semicolon":
                 self.script.faults[-1].fixes.append((at, end, fix))
                 made = re.match(r"(?:r\.mapcalc\s+)?([A-Za-z_][\w.]*)\s*=", rest)
@@ -264,28 +271,20 @@ class Assignment:
             value = Fraction(text) if len(text) < 20 else None
         except (ValueError, ZeroDivisionError):
             value = None
-        before = [token.text for token in self.tokens[-2:]]
-        sign = before[-1] if before else ""
-        fix = None
+        sign = self.tokens[-1] if self.tokens else Token("end", "", start, start)
+        fix, fixed = None, "whole numbers of smaller units, as metres in place of kilometres"
         if value is not None and value.denominator == 1 and value <= GREATEST:
-            fix = "%d" % value
-        elif value is not None and sign in ("*", "/") and max(value.numerator, value.denominator) <= 10000:
-            top, low = (value.numerator, value.denominator) if sign == "*" else (value.denominator, value.numerator)
-            fix = "%d / %d" % (top, low)
-            if sign == "/":
-                start_of_sign = self.tokens[-1].start
-                self.tell(start, end, "number not whole", "fraction", None, fixed="`* %d / %d` for `/ %s`" % (top, low, text))
-                self.script.faults[-1].fixes.append((start_of_sign, end, "* %d / %d" % (top, low)))
-                return
-            if top == 1:
-                self.tell(start, end, "number not whole", "fraction", None, fixed="`/ %d` for `* %s`" % (low, text))
-                self.script.faults[-1].fixes.append((self.tokens[-1].start, end, "/ %d" % low))
-                return
-        elif value is not None and sign in ("<", "<=", ">", ">="):
+            fix = (start, end, "%d" % value)
+        elif value and sign.text in ("*", "/") and max(value.numerator, value.denominator) <= 10000:
+            fix = (sign.start, end, times(value if sign.text == "*" else 1 / value))
+        elif value is not None and sign.text in ("<", "<=", ">", ">="):
             floor = value.numerator // value.denominator
-            fix = "%d" % (floor if sign in (">", "<=") else floor + 1)
-        fixed = "`%s`" % fix if fix else "two steps, or cells in smaller units (metres in place of kilometres)"
-        self.tell(start, end, "number not whole", "fraction", fix, fixed=fixed)
+            fix = (start, end, "%d" % (floor if sign.text in (">", "<=") else floor + 1))
+        if fix:
+            fixed = "`%s` for `%s`" % (fix[2], shown(self.line[fix[0] : end]))
+        self.tell(start, end, "number not whole", "fraction", None, fixed=fixed)
+        if fix:
+            self.script.faults[-1].fixes.append(fix)
 
     def bad_byte(self, at):
         """Tells of a byte that no expression has; answers where to go on."""
@@ -458,12 +457,12 @@ class Assignment:
         cause, fix, values = "unknown function", None, {}
         if lower in FUNCTIONS and lower != token.text:
             cause, fix, values = "case", lower, {"fixed": lower}
-        elif lower in ("int", "float", "double"):
+        elif lower in NEEDLESS:
             cause, fix = "needless", ""
         elif lower == "not":
-            cause, fix, values = "absent function", "!", {"fixed": "!"}
-        elif lower in ABSENT:
-            cause, values = "absent function", {"fixed": ABSENT[lower]}
+            cause, fix, values = "absent function", "!", {"fixed": "`!`"}
+        elif lower in ABSENT or lower in OF_DECIMALS:
+            cause, values = "absent function", {"fixed": ABSENT.get(lower, "whole numbers only: make the map elsewhere, and round it")}
         elif near:
             fix, values = near[0], {"near": "did you mean `%s`?" % near[0]}
         else:
@@ -483,7 +482,7 @@ class Assignment:
             self.tell(token.start, token.end, "wrong number of arguments", "two or more", fix, count=count, word=token.text)
         else:
             wanted = "%d to %d arguments" % (least, most) if least != most else "%s argument" % ("one" if most else "no")
-            fixed = "if(x > 0, a, if(x, c, b)) for if(x, a, b, c)" if token.text == "if" and count == 4 else "see r.mapcalc in docs/COMMANDS.md"
+            fixed = "for `if(x, a, b, c)`: `if(x > 0, a, if(x, b, c))`" if token.text == "if" and count == 4 else "see r.mapcalc in docs/COMMANDS.md"
             self.tell(token.start, token.end, "wrong number of arguments", "count", None, count=count, wanted=wanted, fixed=fixed,
                       word=token.text)
         self.tokens[at:end] = [Token("number", "1", token.start, self.tokens[end - 1].end)]

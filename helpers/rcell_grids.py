@@ -72,6 +72,8 @@ def text_kind(start):
         return Kind("a web page", "web page", False)
     if stripped[:1] in (b"{", b"["):
         return Kind("JSON", "json", False)
+    if re.match(rb"(#!|[rg]\.[a-z])", stripped):
+        return Kind("a script", "script", False)
     if first.startswith(b"#"):
         return Kind("a text with a comment", "comment", False)
     if b":" in words[0]:
@@ -117,7 +119,12 @@ class GridFile:
         return self.values.get("null", "*").encode("latin-1")
 
     def new_path(self):
-        return re.sub(r"\.[A-Za-z0-9]{1,4}$", "", self.path) + ".txt"
+        stem = re.sub(r"\.[A-Za-z0-9]{1,4}$", "", self.path)
+        return stem + ".txt" if stem + ".txt" != self.path else stem + "2.txt"
+
+    def is_as_converted(self):
+        """Whether the header is as rcell-aaigrid writes it."""
+        return list(self.values)[:6] == list(SIX)
 
 
 def cause_of(grid, line, text):

@@ -139,10 +139,11 @@ class Given:
         self.words = list(words)
         self.script, self.grids = None, []  # File or Pipe; (name, File or Pipe)
         self.pipes = []
-        if len(words) < 2 or any(word.startswith("-") for word in words):
-            return
         named = [word.partition("=") for word in words[1:]]
-        if not all(equals and path for _, equals, path in named):
+        is_whole = len(words) > 1 and all(equals and path for _, equals, path in named)
+        if any(word.startswith("-") for word in words) or not is_whole:
+            # rcell refuses the words; a script that can be read again may be looked at.
+            self.script = File(words[0]) if words and os.path.isfile(words[0]) and len(words) > 1 else None
             return
         self.script = self.given(0, "", words[0])
         for at, (name, _, path) in enumerate(named, 1):

@@ -130,11 +130,14 @@ class Script:
         if len(text) > LONGEST_SCRIPT:
             self.tell(0, 0, 0, "script too long", "script size")
             return False
-        kind = kind_of_script(text)
-        if kind:
-            self.tell(1, 0, len(text.split(b"\n", 1)[0]), "unknown command", kind[0], path=self.path, **kind[1])
-            return kind[0] == "byte order mark"
-        return True
+        cause, values = kind_of_script(text)
+        if cause == "byte order mark":
+            self.tell(1, 0, 3, "unknown command", cause, "", path=self.path)
+        elif cause == "line ends":
+            self.tell(1, 0, 0, "bad option", cause, path=self.path)
+        elif cause:
+            self.tell(1, 0, 0, "unknown command", cause, path=self.path, **values)
+        return cause in (None, "byte order mark")
 
     def tell(self, line, start, end, text, cause, fix=None, **values):
         self.faults.append(Fault(line, start, end, text, cause, values, fix))
@@ -313,7 +316,7 @@ def is_next_command(words):
 
 
 def kind_of_script(text):
-    """What a text is that can't be a script, with values for its advice, or None."""
+    """The cause why a text can't be a script, or None, and values for its advice."""
     from rcell_grids import kind_of
 
     if text[:3] == b"\xef\xbb\xbf":
@@ -328,7 +331,7 @@ def kind_of_script(text):
         return "no text", {"kind": kind.article}
     if b"\r" in text and b"\n" not in text and len([it for it in text.split(b"\r") if it.strip()]) > 1:
         return "line ends", {}
-    return None
+    return None, {}
 
 
 # Rules, as rcell reads them
@@ -465,6 +468,8 @@ class Options:
         start, end = words[at][0], len(self.line.rstrip(" \t\r"))
         cause = "comment" if words[at][2].startswith("#") else "redirection"
         self.tell(start, end, "bad option", cause, "")
+        if cause == "comment":
+            self.script.faults[-1].fixes.append((0, 0, self.line[start:end] + "\n"))
         return len(words) - at
 
     def spread(self, words, at, count, cause):

@@ -3,7 +3,7 @@
 
     documents.py [--program PATH] [--write] [--texts | DOCUMENT..]
 
-A document is run in a folder of its own that has bin/rcell, examples/ and tools/ as a fresh clone has them. Its fenced
+A document is run in a folder of its own that has bin/rcell, the helpers beside it, examples/ and tools/. Its fenced
 blocks are taken from the top:
     console          lines that begin with `$ ` are given to sh, those with `> ` go on with the command above; the lines
                      after a command are what it must print, standard output and standard error together
@@ -11,7 +11,7 @@ blocks are taken from the top:
     text, sh         shown and not run: such a block has no command with its output
 The folder that a block goes to by `cd` is that of the next. With --write what is printed takes the place of what is shown.
 Of docs/DIFFERENCES.md the program's side of each table is run, too (tools/differences.py). What needs no program is tried
-first, and with --texts alone: docs/COMMANDS.md has a row for each message of the program, docs/PROOFS.md the numbers of lines
+first, and with --texts alone: docs/COMMANDS.md has the table of helpers/messages.json (tools/messages.py), docs/PROOFS.md the numbers of lines
 of the files that it lists, README.md the figures of docs/SPEED.md, and docs/rcell.1 passes the warnings of man where it is
 installed. The last line is
 'N passed, M failed'.
@@ -28,6 +28,7 @@ import tempfile
 from dataclasses import dataclass, field
 
 import differences
+import messages
 
 ROOT = os.path.dirname(os.path.dirname(os.path.abspath(__file__)))
 DOCUMENTS = ["README.md", "docs/GUIDE.md", "docs/COMMANDS.md", "docs/DIFFERENCES.md", "docs/PROOFS.md"]
@@ -39,8 +40,6 @@ SPEED_ROW = re.compile(r"^\| ([^|]+) \| ([^|]+ cells) \| (.*?) \|$", re.MULTILIN
 LANGUAGES = {"console", "text", "python", "sh"}
 SECONDS = 60
 END_OF_COMMAND = "==== a command of a document has ended ===="
-# Kinds of a fault that no run of the program reports.
-UNREPORTED = {"reader failed"}
 
 
 @dataclass
@@ -94,6 +93,9 @@ class Room:
         self.top = self.here = os.path.realpath(path)
         os.mkdir(f"{path}/bin")
         shutil.copy(program, f"{path}/bin/rcell")
+        for helper in glob.glob(f"{ROOT}/helpers/rcell-*[a-z]"):
+            shutil.copy(helper, f"{path}/bin")
+        shutil.copytree(f"{ROOT}/helpers", f"{path}/share/rcell", ignore=shutil.ignore_patterns("__pycache__", "rcell-*"))
         for name in ("examples", "tools"):
             shutil.copytree(f"{ROOT}/{name}", f"{path}/{name}", ignore=shutil.ignore_patterns("__pycache__"))
 
@@ -172,25 +174,6 @@ def check_differences(program):
             if answer != row.rcell:
                 faults.append(f"{differences.DOCUMENT}:{row.line}: rcell answers {answer!r}, and not {row.rcell!r}")
     return passed, faults
-
-
-def messages_of_the_code():
-    """The texts of faults in the sources, with N for a number; those that only hand on another text are left out."""
-    found = set()
-    for path in glob.glob(f"{ROOT}/crates/*/src/**/*.rt", recursive=True):
-        with open(path, encoding="utf-8") as file:
-            texts = re.findall(r'(?:#\[error\(|Fault::\w+ => )"([^"]*)"', file.read())
-        found |= {re.sub(r"\{written\}", "N", text) for text in texts if not re.search(r"\{(0|text|kind|line)\}", text)}
-    return found - UNREPORTED
-
-
-def check_messages():
-    """Whether the tables of docs/COMMANDS.md have a row for each message that there is, and for no other."""
-    with open(f"{ROOT}/docs/COMMANDS.md", encoding="utf-8") as file:
-        section = re.search(r"^## Messages$(.*?)^## ", file.read(), re.MULTILINE | re.DOTALL)[1]
-    rows, messages = set(re.findall(r"^\| `([^`]*)` \|", section, re.MULTILINE)), messages_of_the_code()
-    faults = [f"docs/COMMANDS.md: no row for the message '{text}'" for text in sorted(messages - rows)]
-    return len(messages & rows), faults + [f"docs/COMMANDS.md: no such message: '{text}'" for text in sorted(rows - messages)]
 
 
 def check_counts_in(name, write):
@@ -283,7 +266,7 @@ def main():
     words.add_argument("documents", nargs="*")
     settings = words.parse_args()
     program = os.path.abspath(settings.program)
-    texts = [("the messages", check_messages), ("the manual page", check_page),
+    texts = [("the messages", messages.check), ("the manual page", check_page),
              ("the numbers of lines", lambda: check_counts(settings.write)), ("the figures", lambda: check_speed(settings.write))]
     runs = [(name, lambda name=name: run_document(name, program, settings.write)) for name in settings.documents or DOCUMENTS]
     runs += [] if settings.documents else [("the tables of differences", lambda: check_differences(program))]

@@ -1,0 +1,3 @@
+"""rcell-tif"""
+def test(room, tally):
+    pass

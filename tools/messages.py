@@ -1,0 +1,92 @@
+#!/usr/bin/env python3
+"""The table of messages in docs/COMMANDS.md, which is made from helpers/messages.json.
+
+    messages.py            compares: the table is the one that the file gives, and the file has each message of the program, and no other
+    messages.py --write    writes the table into the document
+
+rcell-explain says the same causes. The last line is 'N passed, M failed'.
+"""
+import glob
+import json
+import os
+import re
+import sys
+
+ROOT = os.path.dirname(os.path.dirname(os.path.abspath(__file__)))
+FILE, DOCUMENT = f"{ROOT}/helpers/messages.json", f"{ROOT}/docs/COMMANDS.md"
+TABLES = re.compile(r"^### Of the command line .*?(?=^## )", re.MULTILINE | re.DOTALL)
+# Kinds of a fault that no run of the program reports.
+UNREPORTED = {"reader failed"}
+
+
+def read_parts():
+    with open(FILE, encoding="utf-8") as file:
+        return json.load(file)["parts"]
+
+
+def filled(text, example):
+    """A text of the table with the words of the example; a bar would end its cell."""
+    text = re.sub(r"\{([a-z_]+)\}", lambda found: example.get(found[1], found[0]), text)
+    return text.replace("|", "\\|")
+
+
+def rows_of(part):
+    """The rows of a part, as lists of cells: the text once, then a row for each cause."""
+    for message in part["messages"]:
+        for at, cause in enumerate(message["causes"]):
+            example = cause.get("example", {})
+            is_first = at == 0
+            cells = [f"`{message['text']}`" if is_first else ""]
+            cells += [message["source"] if is_first else ""] if part.get("sources") else []
+            cells += [filled(cause["cause"], example), filled(cause["instead"], example)]
+            cells += [message["line"] if is_first else ""] if part.get("lines") else []
+            yield cells
+
+
+def table_of(part):
+    heads = ["Text", *["Source"] * bool(part.get("sources")), "Cause", "Write instead", *["Line"] * bool(part.get("lines"))]
+    lines = ["| " + " | ".join(heads) + " |", "|" + "---|" * len(heads)]
+    lines += ["|" + "".join(f" {cell} |" if cell else " |" for cell in cells) for cells in rows_of(part)]
+    return "\n".join(lines)
+
+
+def tables():
+    return "".join(f"### {part['title']}\n\n{table_of(part)}\n\n" for part in read_parts())
+
+
+def messages_of_the_code():
+    """The texts of faults in the sources, with N for a number; those that only hand on another text are left out."""
+    found = set()
+    for path in glob.glob(f"{ROOT}/crates/*/src/**/*.rt", recursive=True):
+        with open(path, encoding="utf-8") as file:
+            texts = re.findall(r'(?:#\[error\(|Fault::\w+ => )"([^"]*)"', file.read())
+        found |= {re.sub(r"\{written\}", "N", text) for text in texts if not re.search(r"\{(0|text|kind|line)\}", text)}
+    return found - UNREPORTED
+
+
+def check(write=False):
+    """How many messages have their rows, and what is wrong with the file or the document."""
+    with open(DOCUMENT, encoding="utf-8") as file:
+        document = file.read()
+    right = TABLES.sub(lambda _: tables(), document)
+    if write and right != document:
+        with open(DOCUMENT, "w", encoding="utf-8") as file:
+            file.write(right)
+    faults = [] if write or right == document else ["docs/COMMANDS.md: the table is not that of helpers/messages.json (tools/messages.py --write)"]
+    texts, code = {message["text"] for part in read_parts() for message in part["messages"]}, messages_of_the_code()
+    faults += [f"helpers/messages.json: no row for the message '{text}'" for text in sorted(code - texts)]
+    faults += [f"helpers/messages.json: no such message: '{text}'" for text in sorted(texts - code)]
+    for part in read_parts():
+        faults += [f"helpers/messages.json: {message['text']}: an example lacks a word: {cells}" for message in part["messages"]
+                   for cells in rows_of({**part, "messages": [message]}) if re.search(r"\{[a-z_]+\}", "".join(cells))]
+    return len(code & texts), faults
+
+
+def main():
+    passed, faults = check("--write" in sys.argv[1:])
+    print("".join(f"{fault}\n" for fault in faults) + f"{passed} passed, {len(faults)} failed")
+    return 1 if faults else 0
+
+
+if __name__ == "__main__":
+    sys.exit(main())
