@@ -18,6 +18,7 @@ class Fault:
     def __init__(self, line, start, end, text, cause, values=None, fix=None):
         self.line, self.start, self.end, self.text, self.cause = line, start, end, text, cause
         self.values = values or {}
+        self.told_at = line  # the line at which rcell sees it, if none comes before
         self.fixes = [] if fix is None else [(start, end, fix)]
 
     def __repr__(self):

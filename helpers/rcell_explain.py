@@ -252,8 +252,8 @@ class Explanation:
         """The faults of the lines behind the one that the message names; `is_known`: so are the names of the grids."""
         if script is None:
             return
-        faults = [fault for fault in script.faults if fault.line > line and (is_known or fault.text not in ("unknown map", "map exists"))]
-        others = sorted({fault.line for fault in faults})
+        faults = [fault for fault in script.faults if fault.told_at > line and fault.line != line and (is_known or fault.text not in ("unknown map", "map exists"))]
+        others = sorted({fault.line for fault in faults}, key=lambda number: min(fault.told_at for fault in faults if fault.line == number))
         if not others:
             return
         self.say()
@@ -412,7 +412,10 @@ def explained(run, words):
     if found is None:
         return []
     explanation = Explanation(run, words)
-    explanation.explain(found[1], int(found[2]), found[3])
+    try:
+        explanation.explain(found[1], int(found[2]), found[3])
+    except Exception as fault:  # the message stands in any case, and the status is rcell's
+        return explanation.lines + ["rcell-explain: no more can be said, by a fault of its own: %r" % fault]
     return explanation.lines
 
 

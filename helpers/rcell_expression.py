@@ -163,7 +163,8 @@ class Assignment:
         self.script, self.number, self.line, self.begin = script, number, line, begin
         self.work = line  # the line, with blanks where something was told that is left out
         self.tokens = []
-        self.told_at = set()
+        self.left_out = 0  # tokens of what is told already
+        self.told_names = set()
 
     def tell(self, start, end, text, cause, fix=None, **values):
         values.setdefault("word", shown(self.line[start:end]))
@@ -185,8 +186,11 @@ class Assignment:
 
     def leave_out_options(self):
         for found in list(OPTION.finditer(self.work, self.begin)):
-            self.tell(found.start(), found.end(), "unexpected token", "option", "")
+            # Behind an operand it is read as two signs and a name.
+            is_read = re.search(r"=.*[\w.)\]][ \t]*$", self.work[self.begin : found.start()])
+            self.tell(found.start(), found.end(), "unknown map" if is_read else "unexpected token", "option", "")
             self.blank(found.start(), found.end())
+            self.left_out += 3
         found = re.compile(r"[ \t]*([\"']?)(expression=)").match(self.work, self.begin)
         if found:
             start, end = found.span(2)
@@ -239,7 +243,7 @@ class Assignment:
             if found is None:
                 at = self.bad_byte(at)
                 continue
-            if len(self.tokens) == MOST_TOKENS:
+            if len(self.tokens) + self.left_out >= MOST_TOKENS:
                 self.tell(at, found.end(), "expression too long", "tokens")
                 self.tokens = []
                 return
@@ -492,9 +496,9 @@ class Assignment:
 
     def judge_names(self):
         names = [(at, token) for at, token in enumerate(self.tokens) if token.kind == "name" and at > 0
-                 and self.tokens[at + 1].text != "(" and token.text.lower() not in WORDS_FOR]
+                 and self.tokens[at + 1].text != "("]
         for at, token in names:
-            if token.text not in self.script.known and token.start not in self.told_at:
+            if token.text not in self.script.known and token.start not in self.told_names:
                 self.unknown_map(at, token)
         target = self.tokens[0]
         if target.kind == "name" and len(self.tokens) > 1 and self.tokens[1].text == "=":
@@ -512,7 +516,7 @@ class Assignment:
         if dashed:
             start, end = dashed
             word = self.line[start:end]
-            self.told_at |= {it.start for it in self.tokens if start <= it.start < end}
+            self.told_names |= {it.start for it in self.tokens if start <= it.start < end}
             fixed = word.replace("-", "_")
             self.tell(token.start, token.end, "unknown map", "dash", None, word=shown(word), read=shown(word.replace("-", " - ")),
                       fixed=shown(fixed))

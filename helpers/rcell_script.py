@@ -35,6 +35,8 @@ COMMANDS = {
     "r.out.ascii": Command("", ("input",), ("null_value",)),
 }
 WRITERS = ("r.stats", "r.out.ascii")
+# What is told of an expression before its tokens are looked at together.
+OF_TOKENS = ("bad byte", "bad number", "number not whole", "bad name")
 ALIASES = {"in": "input", "map": "input", "maps": "input", "raster": "input", "inp": "input", "out": "output", "fs": "separator",
            "sep": "separator", "null": "null_value", "nv": "null_value", "nodata": "null_value"}
 ABSENT = {
@@ -186,7 +188,7 @@ class Script:
             command = self.other_command(number, line, start, end, command)
             if command is None:
                 return
-        if line.rstrip(" \t\r").endswith("\\"):
+        if words[-1][2].endswith("\\") and self.is_continued(number, line, command, words[-1][2]):
             self.continued(number, line, command)
             return
         if command == "r.mapcalc":
@@ -234,19 +236,28 @@ class Script:
         self.tell(number, 0 if whole else start, len(line) if whole else end, "unknown command", cause, fix, **values)
         return meant
 
+    def is_continued(self, number, line, command, word):
+        """Whether the backslash at the end of a line is refused: a text for null may end so."""
+        return command == "r.mapcalc" or word == "\\" or "null_value=" not in word
+
     def continued(self, number, line, command):
         """Tells of a line that ends with a backslash, and skips those that go on with it."""
         at = len(line.rstrip(" \t\r")) - 1
-        text, whole = ("bad byte" if command == "r.mapcalc" else "bad option"), line[:at].rstrip()
+        word, whole = WORD.findall(line)[-1], line[:at].rstrip()
+        options, text = Options(self, number, line, command), "bad byte"
+        if command == "r.mapcalc":
+            told = len(self.faults)
+            judge_assignment(self, number, line[:at], words_of(line)[0][1])
+            self.faults[told:] = [fault for fault in self.faults[told:] if fault.text in OF_TOKENS]
+        else:
+            options.judge_words(words_of(line)[1:-1])
+            text = "bad combination" if word.startswith("after=") and command == "r.stats" else options.raw_text(word)
         last = line
         while last.rstrip(" \t\r").endswith("\\") and self.at < len(self.lines):
             last = self.lines[self.at].rstrip(" \t\r")
             self.at += 1
             whole += " " + last.rstrip("\\").strip()
-        if text == "bad byte":
-            self.tell(number, at, at + 1, text, "continued line", None, whole=whole)
-        else:
-            self.tell(number, at, at + 1, text, "no equals sign", None, word="\\", whole=whole)
+        self.tell(number, at, at + 1, text, "continued line", None, whole=whole)
         made = re.match(r"\s*r\.mapcalc\s+([A-Za-z_][\w.]*)\s*=", line) or re.search(r"output=([\w.]+)", whole)
         if made:
             self.make(number, made[1])
@@ -272,6 +283,7 @@ class Script:
                 return
             self.judge_rule(number, line)
         self.tell(command_line, 0, len(self.lines[command_line - 1]), "missing end", "missing end")
+        self.faults[-1].told_at = len(self.lines) + 1
 
     def judge_rule(self, number, line):
         text = rule_fault(line)
@@ -431,10 +443,13 @@ class Options:
         self.script.tell(self.number, start, end, text, cause, fix, command=self.command, **values)
 
     def judge(self, words):
+        self.judge_words(words)
+        self.judge_whole()
+
+    def judge_words(self, words):
         at = 0
         while at < len(words):
             at += self.judge_word(words, at)
-        self.judge_whole()
 
     def judge_word(self, words, at):
         """Judges the word at this place, and what belongs to it; answers how many words that are."""
@@ -445,8 +460,9 @@ class Options:
             return self.dash(words, at)
         quote = next((q for q in "\"'" if word.count(q) % 2), None)
         if quote:
-            close = next((i for i in range(at + 1, len(words)) if quote in words[i][2]), at)
-            return self.spread(words, at, close - at + 1, "quotes")
+            close = next((i for i in range(at + 1, len(words)) if quote in words[i][2]), None)
+            if close is not None:
+                return self.spread(words, at, close - at + 1, "quotes")
         following = words[at + 1][2] if at + 1 < len(words) else ""
         if following == "=" or following.startswith("=") and "=" not in word:
             return self.spread(words, at, 3 if following == "=" and at + 2 < len(words) else 2, "blanks")
@@ -483,9 +499,14 @@ class Options:
         if "=" not in whole:
             self.bare(start, end, whole, is_told="quotes" if cause == "quotes" else None)
             return count
-        first = "bad name" if cause == "comma and blank" else "bad option"
-        self.option(start, end, *whole.split("=", 1), told=(first, cause, whole))
+        self.option(start, end, *whole.split("=", 1), told=(self.raw_text(words[at][2]), cause, whole))
         return count
+
+    def raw_text(self, word):
+        """What rcell says of the first of several words that were meant as one."""
+        key, equals, value = word.partition("=")
+        fault = self.option_fault(key, value) if equals and key in self.known.keys else None
+        return fault[0] if fault else "bad option"
 
     def bare(self, start, end, word, is_told=None):
         """A word without `=`: the first option of GRASS may leave its key out."""

@@ -397,10 +397,10 @@ class Grid:
 
     def numbers(self, piece, before):
         if self.null == b"*":
-            text = piece.replace(b"*", b"%d" % NULL)
+            text, nulls = piece.replace(b"*", b"%d" % NULL), piece.count(b"*")
         else:
             word = rb"(?<![^ \t\r\n])%s(?![^ \t\r\n])" % re.escape(self.null)
-            text = re.sub(word, b"%d" % NULL, piece)
+            text, nulls = re.subn(word, b"%d" % NULL, piece)
         with warnings.catch_warnings():
             warnings.simplefilter("error")
             try:
@@ -409,22 +409,28 @@ class Grid:
                 cells = None
         if cells is None or len(cells) != words_in(text) or b"\v" in text or b"\f" in text:
             raise self.bad_cell(piece, before)
-        return self.multiplied(cells, before)
+        return self.multiplied(piece, cells, nulls, before)
 
-    def multiplied(self, cells, before):
+    def multiplied(self, piece, cells, nulls, before):
         null = cells == NULL
-        if (self.null == b"*" and null.any()) or self.multiplier != 1:
+        if np.count_nonzero(null) != nulls:  # the number that stands for null is a cell
+            raise self.bad_cell(piece, before)
+        if self.multiplier != 1:
             cells = np.where(null, NULL, cells.clip(-GREATEST - 1, GREATEST + 1) * self.multiplier)
-        if (~null & ((cells > GREATEST) | (cells < -GREATEST))).any():
-            at = int(np.argmax(~null & ((cells > GREATEST) | (cells < -GREATEST))))
+        bad = (cells > GREATEST) | (cells < -GREATEST)
+        if np.count_nonzero(bad) != nulls:
+            at = int(np.argmax(bad & ~null))
             raise self.bad_place(before + at, "beyond %d" % GREATEST)
         return cells.astype(np.int32)
 
     def bad_cell(self, piece, before):
         whole = re.compile(rb"[+-]?[0-9]+")
         words = re.findall(rb"[^ \t\r\n]+", piece)
-        at = next((at for at, word in enumerate(words) if word != self.null and not whole.fullmatch(word)), 0)
-        return self.bad_place(before + at, "%s is not a whole number" % repr(words[at][:64])[2:-1])
+        at = next((at for at, word in enumerate(words) if word != self.null and not whole.fullmatch(word)), None)
+        if at is not None:
+            return self.bad_place(before + at, "%s is not a whole number" % repr(words[at][:64])[2:-1])
+        at = next((at for at, word in enumerate(words) if word != self.null and abs(int(word[:30])) > GREATEST), 0)
+        return self.bad_place(before + at, "beyond %d" % GREATEST)
 
     def bad_place(self, at, fault):
         return BadCell(at // self.region.cols, at % self.region.cols, fault)
