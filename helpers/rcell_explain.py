@@ -7,7 +7,7 @@ import sys
 from rcell_advice import INDENT, Messages, marked, shown
 from rcell_grids import EDGES, FORGOTTEN, GridFile, SIX, SOUGHT, cause_of, quoted
 from rcell_run import Missing, Run, found_program
-from rcell_script import MODULES, Script, is_name
+from rcell_script import Script, is_name
 
 MESSAGE = re.compile(r"rcell: ([A-Za-z0-9_.]+):([0-9]+): (.*)")
 COLUMN = re.compile(r" at column ([0-9]+)$")
@@ -252,8 +252,9 @@ class Explanation:
         """The faults of the lines behind the one that the message names; `is_known`: so are the names of the grids."""
         if script is None:
             return
-        faults = [fault for fault in script.faults if fault.told_at > line and fault.line != line and (is_known or fault.text not in ("unknown map", "map exists"))]
-        others = sorted({fault.line for fault in faults}, key=lambda number: min(fault.told_at for fault in faults if fault.line == number))
+        faults = [fault for fault in script.faults if fault.told_at > line and fault.line != line]
+        faults = [fault for fault in faults if is_known or fault.text not in ("unknown map", "map exists")]
+        others = list(dict.fromkeys(fault.line for fault in sorted(faults, key=lambda fault: fault.told_at)))
         if not others:
             return
         self.say()

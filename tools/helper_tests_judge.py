@@ -7,9 +7,11 @@ import sys
 
 ROOT = os.path.dirname(os.path.dirname(os.path.abspath(__file__)))
 SCRIPTS = 4000
+LONGEST_START = 4000  # bytes of a script that is spoiled
 SEED = 1
 PIECES = ["\"", "'", "=", " = ", ",", ", ", "-", "--o", " --overwrite", "#", " # x", ";", "@P", "(", ")", "[", "]", "[1]", "1.5", "null", "end", "\n",
-          "\nend\n", " thru ", "*", "==", "<>", "&", "^", "and", "r.stats", "r.clump ", "rules=x", "output=x", "in=", "input=", " ", "\t", "\\\n", "\r", "\xff",
+          "\nend\n", " thru ", "*", "==", "<>", "&", "^", "and", "r.stats", "r.clump ", "rules=x", "output=x", "in=", "input=", " ",
+          "\t", "\\\n", "\r", "\xff",
           "\x00", "-c", "-q", "99999999999", "NULL", "land", "zone", "a-b", "r.mapcalc x = ", "expression=", "separator=", "null_value=", "after=", "1", "?", ":"]
 STARTS = ["r.stats -c input=land\n", "r.mapcalc x = if(land == 1, zone[0,1], null()) + abs(-3)\nr.stats -cn input=x,zone separator=comma\n",
           "r.reclass input=land output=c\n# forest\n1 thru 2, 5 = 1 forest\n3 = NULL\n* = *\nend\nr.stats -cl input=c null_value=NA after=1\n",
@@ -50,6 +52,15 @@ def same(wanted, got):
     return got[2] or (wanted[0] == got[0] and wanted[1] in got[1])
 
 
+def small_cases():
+    """The scripts of the cases that are short."""
+    texts = []
+    for path in sorted(glob.glob(f"{ROOT}/cases/*/script")):
+        with open(path, encoding="latin-1") as file:
+            texts.append(file.read(LONGEST_START + 1))
+    return [text for text in texts if len(text) <= LONGEST_START]
+
+
 def test(room, tally):
     folder = next(path for path in (f"{room.programs}/../share/rcell", room.programs) if os.path.exists(f"{path}/rcell_script.py"))
     sys.path[:0] = [folder, f"{ROOT}/tools"]
@@ -58,8 +69,7 @@ def test(room, tally):
     import rcell_script
 
     chance, names, differ = random.Random(SEED), ["land", "zone"], []
-    starts = STARTS + [open(path, encoding="latin-1").read() for path in sorted(glob.glob(f"{ROOT}/cases/*/script")) if os.path.getsize(path) < 4000]
-    starts = [re.sub(r"\b[mn]\b", "land", text) for text in starts]
+    starts = [re.sub(r"\b[mn]\b", "land", text) for text in STARTS + small_cases()]
     for at in range(SCRIPTS):
         start = chance.choice(starts)
         text = (spoiled(start, chance) if at >= len(starts) else starts[at]).encode("latin-1")

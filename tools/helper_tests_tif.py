@@ -94,7 +94,8 @@ TRANSFORMS = [
     ([0, -1, 0, 0, 0, -1], 2, 3, "the raster is rotated or mirrored: gdalwarp -r near puts it upright"),
     ([1e11, 1, 0, 0, 0, -1], 2, 3, "the edge east has more than 10 digits before its point"),
     ([0, 1e-12, 0, 0, 0, -1], 2, 3, "north is not above south, or east not above west, to 8 decimals"),
-    ([0, 1, 0, 0, 0, -1], 1, 70000, "1 rows of 70000 cells: rcell takes 65535 of each, and 2147483647 cells in all; cut the map into tiles (gdal_translate -srcwin)"),
+    ([0, 1, 0, 0, 0, -1], 1, 70000, "1 rows of 70000 cells: rcell takes 65535 of each, and 2147483647 cells in all; "
+     "cut the map into tiles (gdal_translate -srcwin)"),
 ]
 
 
@@ -147,7 +148,8 @@ def test_options(room, tally):
     run_all(room, [words + [f"o{at}.txt"] for at, (words, _) in enumerate(runs)])
     for at, (words, wanted) in enumerate(runs):
         tally.same(f"{words}", room.get(f"o{at}.txt").decode(), wanted)
-    bad = ((["--band", "3", "b.tif", "-"], 1), (["--nodata", "x", "m.tif", "-"], 2), (["m.tif"], 2), (["--from", "--band", "1", "a", "b"], 2),
+    bad = ((["--band", "3", "b.tif", "-"], 1), (["--nodata", "x", "m.tif", "-"], 2), (["m.tif"], 2),
+           (["--from", "--band", "1", "a", "b"], 2),
                           (["no.tif", "x.txt"], 1), (["land.txt", "land.txt"], 1), (["m.tif", "m.tif"], 1), (["--like", "far.txt", "m.tif", "x.txt"], 1))
     answers = run_all(room, [words for words, _ in bad])
     for (words, wanted), (status, said) in zip(bad, answers):

@@ -14,7 +14,6 @@ import difflib
 import importlib
 import os
 import shlex
-import shutil
 import subprocess
 import sys
 import tempfile
@@ -106,6 +105,14 @@ def run_cases(room, tally, is_written):
         explained.write(CASES, cases)
 
 
+def tallied(test, programs, rcell):
+    """What a test finds, in a folder of its own."""
+    tally = Tally()
+    with tempfile.TemporaryDirectory(prefix="rcell-helpers-") as path:
+        test(Room(os.path.realpath(path), programs, rcell), tally)
+    return tally
+
+
 def main():
     words = argparse.ArgumentParser(description=__doc__, formatter_class=argparse.RawDescriptionHelpFormatter)
     words.add_argument("--bin")
@@ -113,14 +120,12 @@ def main():
     settings = words.parse_args()
     programs = os.path.abspath(settings.bin) if settings.bin else f"{ROOT}/helpers"
     rcell = os.environ.get("RCELL") or (f"{programs}/rcell" if settings.bin else f"{ROOT}/bin/rcell")
-    tally = Tally()
-    for name in TESTS:
-        with tempfile.TemporaryDirectory(prefix="rcell-helpers-") as path:
-            importlib.import_module(name).test(Room(os.path.realpath(path), programs, rcell), tally)
-    with tempfile.TemporaryDirectory(prefix="rcell-helpers-") as path:
-        run_cases(Room(path, programs, rcell), tally, settings.write)
-    print(f"{tally.passed} passed, {tally.failed} failed")
-    return 1 if tally.failed else 0
+    tests = [lambda room, tally: run_cases(room, tally, settings.write)] + [importlib.import_module(name).test for name in TESTS]
+    with concurrent.futures.ThreadPoolExecutor() as pool:
+        tallies = list(pool.map(lambda test: tallied(test, programs, rcell), tests))
+    passed, failed = sum(tally.passed for tally in tallies), sum(tally.failed for tally in tallies)
+    print(f"{passed} passed, {failed} failed")
+    return 1 if failed else 0
 
 
 if __name__ == "__main__":
