@@ -1,4 +1,5 @@
 """What rcell-explain says: faults with their causes from messages.json, and how a line with its marks is shown."""
+import difflib
 import json
 import os
 import re
@@ -70,6 +71,26 @@ class Messages:
     def warned(self, name, values):
         warning = self.warnings[name]
         return filled(warning["cause"], values), filled(warning.get("instead", ""), values)
+
+
+# Names
+
+
+def nearest(name, known):
+    """What is known here, the nearest name first."""
+    near = difflib.get_close_matches(name, known, n=1, cutoff=0.5)
+    names = [shown(it) for it in known if it not in near]
+    if near:
+        return "did you mean `%s`?" % shown(near[0]) + (" Known are here, too: %s" % ", ".join(names[:12]) if names else "")
+    return "known are here: %s" % (", ".join(names[:12]) if names else "no maps")
+
+
+def new_name(name, known):
+    """A name that is not known, made of this one."""
+    number = 2
+    while "%s_%d" % (name, number) in known:
+        number += 1
+    return "%s_%d" % (name[:60], number)
 
 
 # Lines as a terminal can show them

@@ -154,7 +154,7 @@ class Explanation:
         found = cause_of(grid, line, text)
         if found is None:
             if given.is_kept and given.line(line) is None and line:
-                self.say("grid %s came through a pipe, and line %d is not kept: run it on a file" % (source, line))
+                self.say("grid %s came through a pipe and line %d was not kept: run it on a file" % (source, line))
             self.say_all("grid", text)
             return
         cause, values, spans = found
@@ -164,7 +164,7 @@ class Explanation:
                 self.say("  " + it)
         self.say_known("grid", text, cause, values)
         if cause in ("fraction", "no number", "beyond") and grid.is_as_converted():
-            self.say("  (if rcell-aaigrid made the file, this is line %d of the .asc, or %d where that has dx and dy)" % (line - 1, line))
+            self.say("  (if the file was made by rcell-aaigrid, this is line %d of the .asc file, or line %d if that has dx and dy)" % (line - 1, line))
 
     def counted(self, grid, given):
         """How many cells there are, and the first line that has more or fewer than the others."""
@@ -186,10 +186,10 @@ class Explanation:
         if count == 0:
             return {"counted": "", "odd": ""}
         is_by_rows = odd is None or odd[0] != grid.data_line
-        said = " (line %d has %d words, and not %d)" % (odd[0], odd[1], cols) if odd and is_by_rows else ""
+        said = " (line %d has %d words, not %d)" % (odd[0], odd[1], cols) if odd and is_by_rows else ""
         if count == rows * cols:
             return {"counted": "", "odd": ""}
-        joint = "of" if count < rows * cols else "in the place of"
+        joint = "of" if count < rows * cols else "instead of"
         return {"counted": ": %d %s %d" % (count, joint, rows * cols), "odd": said}
 
     @staticmethod
@@ -258,7 +258,7 @@ class Explanation:
         if not others:
             return
         self.say()
-        self.lines.append("rcell-explain: %s faults of the script:" % ("further" if line else "there are"))
+        self.lines.append("rcell-explain: %s" % ("further faults of the script:" if line else "the script has faults, too:"))
         for number in others[:MOST_FAULTS]:
             here = [fault for fault in faults if fault.line == number]
             self.lines.append("script:%d: %s" % (number, first_of(here).text))
@@ -416,14 +416,14 @@ def explained(run, words):
     try:
         explanation.explain(found[1], int(found[2]), found[3])
     except Exception as fault:  # the message stands in any case, and the status is rcell's
-        return explanation.lines + ["rcell-explain: no more can be said, by a fault of its own: %r" % fault]
+        return explanation.lines + ["rcell-explain: nothing more can be said, because of a fault of its own: %r" % fault]
     return explanation.lines
 
 
 def ended(status):
     """What is told of a run that a signal ended."""
-    why = " (the system takes a program away when memory is short)" if status == -9 else ""
-    return ["rcell-explain: rcell was ended by signal %d%s" % (-status, why)]
+    why = " (the system kills programs when memory runs out)" if status == -9 else ""
+    return ["rcell-explain: rcell was killed by signal %d%s" % (-status, why)]
 
 
 def main(words, folder):

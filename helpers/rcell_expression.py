@@ -6,7 +6,7 @@ import difflib
 import re
 from fractions import Fraction
 
-from rcell_advice import shown
+from rcell_advice import nearest, new_name, shown
 
 MOST_TOKENS = 1000
 GREATEST, GREATEST_OFFSET, LONGEST_NAME = 2147483647, 255, 64
@@ -164,6 +164,7 @@ class Assignment:
         self.work = line  # the line, with blanks where something was told that is left out
         self.tokens = []
         self.left_out = 0  # tokens of what is told already
+        self.later = None  # the map that a second assignment on the line makes
         self.told_names = set()
 
     def tell(self, start, end, text, cause, fix=None, **values):
@@ -176,7 +177,8 @@ class Assignment:
     def judge(self):
         self.leave_out_options()
         self.leave_out_quotes()
-        self.leave_out_rests()
+        self.leave_out_comment()
+        self.leave_out_second()
         self.make_tokens()
         if self.tokens:
             self.read()
@@ -213,23 +215,27 @@ class Assignment:
                 self.script.faults[-1].fixes.append((close, close + 1, ""))
                 self.blank(close, close + 1)
 
-    def leave_out_rests(self):
-        """A comment, and a second assignment."""
-        for sign, cause in (("#", "comment"), (";", "semicolon")):
-            at = self.work.find(sign, self.begin)
-            if at < 0:
-                continue
-            end = len(self.line.rstrip(" \t\r"))
-            rest = self.line[at + 1 : end].strip()
-            fix = "\nr.mapcalc " + re.sub(r"^r\.mapcalc\s+", "", rest) if cause == "semicolon" and rest else ""
-            self.tell(at, end if cause == "comment" else at + 1, "bad byte", cause, fix if cause == "comment" or not rest else None)
-            if cause == "comment" and self.line[at:end].strip("# \t"):
-                self.script.faults[-1].fixes.append((0, 0, self.line[at:end] + "\n"))
-            if fix and cause == "semicolon":
-                self.script.faults[-1].fixes.append((at, end, fix))
-                made = re.match(r"(?:r\.mapcalc\s+)?([A-Za-z_][\w.]*)\s*=", rest)
-                self.later = made[1] if made else None
-            self.blank(at, len(self.line))
+    def leave_out_comment(self):
+        at, end = self.work.find("#", self.begin), len(self.line.rstrip(" \t\r"))
+        if at < 0:
+            return
+        self.tell(at, end, "bad byte", "comment", "")
+        if self.line[at:end].strip("# \t"):
+            self.script.faults[-1].fixes.append((0, 0, self.line[at:end] + "\n"))
+        self.blank(at, len(self.line))
+
+    def leave_out_second(self):
+        """A second assignment, behind a semicolon: it gets a line of its own."""
+        at, end = self.work.find(";", self.begin), len(self.line.rstrip(" \t\r"))
+        if at < 0:
+            return
+        rest = re.sub(r"^r\.mapcalc\s+", "", self.work[at + 1 : end].strip())
+        self.tell(at, at + 1, "bad byte", "semicolon", None if rest else "")
+        if rest:
+            self.script.faults[-1].fixes.append((at, end, "\nr.mapcalc " + rest))
+            made = re.match(r"([A-Za-z_][\w.]*)\s*=", rest)
+            self.later = made[1] if made else None
+        self.blank(at, len(self.line))
 
     # Tokens
 
@@ -486,7 +492,7 @@ class Assignment:
             self.tell(token.start, token.end, "wrong number of arguments", "two or more", fix, count=count, word=token.text)
         else:
             wanted = "%d to %d arguments" % (least, most) if least != most else "%s argument" % ("one" if most else "no")
-            fixed = "for `if(x, a, b, c)`: `if(x > 0, a, if(x, b, c))`" if token.text == "if" and count == 4 else "see r.mapcalc in docs/COMMANDS.md"
+            fixed = "for `if(x, a, b, c)`: `if(x > 0, a, if(x, c, b))`" if token.text == "if" and count == 4 else "see r.mapcalc in docs/COMMANDS.md"
             self.tell(token.start, token.end, "wrong number of arguments", "count", None, count=count, wanted=wanted, fixed=fixed,
                       word=token.text)
         self.tokens[at:end] = [Token("number", "1", token.start, self.tokens[end - 1].end)]
@@ -527,8 +533,6 @@ class Assignment:
             self.tell(token.start, token.end, "unknown map", "made later", None, name=shown(token.text),
                       later=script.made_at[token.text])
             return
-        from rcell_script import nearest
-
         near = difflib.get_close_matches(token.text, script.known, n=1, cutoff=0.6)
         self.tell(token.start, token.end, "unknown map", "unknown map", near[0] if near else None, name=shown(token.text),
                   near=nearest(token.text, script.known))
@@ -552,18 +556,13 @@ class Assignment:
     def judge_target(self, target):
         script = self.script
         if target.text in script.known:
-            from rcell_script import new_name
-
             fixed = new_name(target.text, script.known)
             self.tell(target.start, target.end, "map exists", "map exists", fixed, whence=script.known[target.text],
                       name=shown(target.text), fixed=shown(fixed))
         script.make(self.number, target.text)
-        if getattr(self, "later", None):
+        if self.later:
             script.make(self.number, self.later)
 
 
 def judge_assignment(script, number, line, begin):
-    from rcell_script import Statement
-
     Assignment(script, number, line, begin).judge()
-    script.statements.append(Statement(number, "r.mapcalc", []))

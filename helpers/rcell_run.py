@@ -31,7 +31,7 @@ def found_program(folder):
             return path
     found = shutil.which("rcell")
     if found is None:
-        raise Missing("rcell is neither beside this program nor on the path; RCELL may name it")
+        raise Missing("rcell is neither beside this program nor on the path; set RCELL to its path")
     return found
 
 

@@ -7,8 +7,9 @@ A line is kept as text of one character a byte, so that places in it are bytes.
 import difflib
 import re
 
-from rcell_advice import Fault, shown
+from rcell_advice import Fault, nearest, new_name, shown
 from rcell_expression import judge_assignment
+from rcell_grids import kind_of
 
 LONGEST_SCRIPT, LONGEST_LINE = 1048576, 65535
 MOST_INPUTS = 16
@@ -40,21 +41,21 @@ OF_TOKENS = ("bad byte", "bad number", "number not whole", "bad name")
 ALIASES = {"in": "input", "map": "input", "maps": "input", "raster": "input", "inp": "input", "out": "output", "fs": "separator",
            "sep": "separator", "null": "null_value", "nv": "null_value", "nodata": "null_value"}
 ABSENT = {
-    "title": "take it out: a map has no title",
+    "title": "delete it: a map has no title",
     "minsize": "count the areas by r.stats -c, and drop the small ones by an r.reclass in a second run",
-    "threshold": "take it out: areas are of one category",
+    "threshold": "delete it: areas are of one category",
     "sort": "behind the run: `rcell .. | sort -k2,2nr`",
-    "nsteps": "take it out: cells are whole numbers",
-    "precision": "take it out: cells are whole numbers",
-    "width": "take it out: a row of the map is a line",
-    "format": "take it out",
-    "type": "take it out: all maps are CELL",
+    "nsteps": "delete it: cells are whole numbers",
+    "precision": "delete it: cells are whole numbers",
+    "width": "delete it: a row of the map is a line",
+    "format": "delete it",
+    "type": "delete it: all maps are CELL",
 }
 MODULES = {
-    "g.region": "take it out: the region is that of the grids, and `g.region` comes before their export",
+    "g.region": "delete it: the region is that of the grids; run `g.region` before you export them",
     "r.mask": "`r.mapcalc masked = if(mask, map, null())`",
     "r.null": "`r.mapcalc new = if(map == 51, null(), map)`, or `if(isnull(map), 0, map)`",
-    "r.info": "take it out: `r.stats -c` counts, and the header of the grid has the region",
+    "r.info": "delete it: `r.stats -c` counts, and the header of the grid has the region",
     "r.report": "`r.stats -c -n`, and multiply the counts",
     "r.univar": "`r.stats -c -n`, and awk over category and count",
     "r.cross": "`r.stats -c input=a,b`: the combinations with their counts",
@@ -66,14 +67,14 @@ MODULES = {
     "r.grow": "`r.mapcalc` over the neighbours `map[-1,0]`, `map[1,0]`, `map[0,-1]`, `map[0,1]`",
     "r.buffer": "`r.mapcalc` over the neighbours `map[-1,0]`, `map[1,0]`, `map[0,-1]`, `map[0,1]`",
     "r.reclass.area": "count the areas by r.clump and r.stats, and keep the large ones by an r.reclass in a second run",
-    "r.in.ascii": "take it out: the grids are on the command line, `NAME=PATH`",
-    "r.in.gdal": "take it out: `rcell-tif MAP.tif GRID` before the run, and `NAME=GRID` on the command line",
+    "r.in.ascii": "delete it: the grids are on the command line, `NAME=PATH`",
+    "r.in.gdal": "delete it: `rcell-tif MAP.tif GRID` before the run, and `NAME=GRID` on the command line",
     "r.out.gdal": "`r.out.ascii`, and behind the run `rcell-tif --from GRID MAP.tif`",
-    "r.colors": "take it out: a map has no colours",
-    "g.remove": "take it out: maps end with the run",
-    "g.rename": "take it out: a map is named where it is made",
+    "r.colors": "delete it: a map has no colours",
+    "g.remove": "delete it: maps end with the run",
+    "g.rename": "delete it: a map is named where it is made",
     "g.copy": "`r.mapcalc new = old`",
-    "g.list": "take it out: the maps are those of the command line and of the lines before",
+    "g.list": "delete it: the maps are those of the command line and of the lines before",
 }
 SHELL = ("export", "cd", "echo", "set", "for", "do", "done", "if", "then", "fi", "while", "rm", "cp", "mv", "cat", "exit", "eval",
          "grass", "rcell", "sh", "bash")
@@ -85,23 +86,6 @@ def is_name(text):
 
 def words_of(line, begin=0):
     return [(found.start(), found.end(), found.group()) for found in WORD.finditer(line, begin)]
-
-
-def nearest(name, known):
-    """What is known here, the nearest name first."""
-    near = difflib.get_close_matches(name, known, n=1, cutoff=0.5)
-    names = [shown(it) for it in known if it not in near]
-    if near:
-        return "did you mean `%s`?" % shown(near[0]) + (" Known are here, too: %s" % ", ".join(names[:12]) if names else "")
-    return "known are here: %s" % (", ".join(names[:12]) if names else "no maps")
-
-
-def new_name(name, known):
-    """A name that is not known, made of this one."""
-    number = 2
-    while "%s_%d" % (name, number) in known:
-        number += 1
-    return "%s_%d" % (name[:60], number)
 
 
 class Statement:
@@ -193,6 +177,7 @@ class Script:
             return
         if command == "r.mapcalc":
             judge_assignment(self, number, line, end)
+            self.statements.append(Statement(number, command, []))
             return
         options = Options(self, number, line, command)
         options.judge(words[1:])
@@ -225,7 +210,7 @@ class Script:
             meant, cause, values["fixed"], fix = word.lower(), "case", word.lower(), word.lower()
         elif word in MODULES or word in SHELL or re.match(r"[A-Za-z_]\w*=", word):
             cause, fix = "module", ""
-            values["fixed"] = MODULES.get(word, "take it out: a script has no commands of the shell")
+            values["fixed"] = MODULES.get(word, "delete it: a script has no commands of the shell")
         elif word == "end" or "=" in line and re.fullmatch(r"\*|[+-]?[0-9]+", word):
             cause = "rule"
         elif near:
@@ -329,8 +314,6 @@ def is_next_command(words):
 
 def kind_of_script(text):
     """The cause why a text can't be a script, or None, and values for its advice."""
-    from rcell_grids import kind_of
-
     if text[:3] == b"\xef\xbb\xbf":
         return "byte order mark", {}
     if text[:2] in (b"\xff\xfe", b"\xfe\xff") or (len(text) > 3 and text[:4].count(b"\0") == 2 and text[0:1].isascii()):
@@ -534,7 +517,7 @@ class Options:
         lowered = "".join(letter for letter in letters.lower() if letter in self.known.flags)
         if cause:
             fix = "-" + good if good else ""
-            self.tell(start, end, "bad option", cause, fix, fixed=fix or "take it out")
+            self.tell(start, end, "bad option", cause, fix, fixed=fix or "delete it")
         elif good != letters and lowered and len(lowered) == len(letters):
             self.tell(start, end, "bad option", "flag case", "-" + lowered, flag=shown(word), fixed="-" + lowered)
         elif good != letters:

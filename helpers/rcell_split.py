@@ -60,7 +60,7 @@ class Marked:
             self.users_lines.append(number)
         self.text = b"\n".join(lines)
         if len(self.text) > LONGEST_SCRIPT >= len(text):
-            raise Refused("the marks of %d outputs make the script %d bytes long, and rcell takes %d: write fewer outputs in one run"
+            raise Refused("the marks of %d outputs make the script %d bytes long, but rcell takes %d: write fewer outputs in one run"
                           % (len(self.outputs), len(self.text), LONGEST_SCRIPT))
 
     def users_message(self, told):
@@ -162,7 +162,7 @@ def run(program, words, folder):
         sys.stderr.buffer.write(marked.users_message(told))
         sys.stderr.buffer.flush()
         if status == 0 and not parts.is_whole():
-            raise Refused("%d outputs are marked, and %d came" % (len(parts.names), parts.count))
+            raise Refused("%d outputs were marked, but %d came" % (len(parts.names), parts.count))
         if status == 0:
             keep(part, folder)
         return status if status >= 0 else 128 - status
@@ -178,7 +178,7 @@ def keep(part, folder):
 
 def refuse_existing(folder):
     if os.path.lexists(folder):
-        raise Refused("%s is there already: choose another name, or take it away" % folder)
+        raise Refused("%s exists already: choose another name, or remove it" % folder)
 
 
 def main(words, here, usage):

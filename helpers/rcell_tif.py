@@ -61,7 +61,7 @@ class Region:
             if len(self.texts[edge].lstrip("-").partition(".")[0]) > EDGE_DIGITS:
                 raise Refused("the edge %s has more than %d digits before its point" % (edge, EDGE_DIGITS))
         if self.north <= self.south or self.east <= self.west:
-            raise Refused("north is not above south, or east not above west, to %d decimals" % EDGE_DECIMALS)
+            raise Refused("north is not above south, or east is not above west, to %d decimals" % EDGE_DECIMALS)
 
     @classmethod
     def of_transform(cls, transform, rows, cols):
@@ -70,7 +70,7 @@ class Region:
             return cls(Fraction(rows), Fraction(0), Fraction(cols), Fraction(0), rows, cols), False
         left, wide, skew_x, top, skew_y, high = (Fraction(value) for value in transform)
         if skew_x or skew_y or wide <= 0 or high == 0:
-            raise Refused("the raster is rotated or mirrored: gdalwarp -r near puts it upright")
+            raise Refused("the raster is rotated or mirrored: straighten it with gdalwarp -r near")
         ends = sorted((top, top + high * rows))
         return cls(ends[1], ends[0], left + wide * cols, left, rows, cols), high > 0
 
@@ -86,13 +86,13 @@ class Region:
     def with_edges_of(self, other, name):
         """This region with the edges of another of as many rows and columns, which may be off by half a cell."""
         if (self.rows, self.cols) != (other.rows, other.cols):
-            raise Refused("%s has %d rows of %d cells, and the map %d of %d"
+            raise Refused("%s has %d rows of %d cells, but the map has %d of %d"
                           % (name, other.rows, other.cols, self.rows, self.cols))
         for edge in EDGES:
             length = self.east - self.west if edge in ("east", "west") else self.north - self.south
             count = self.cols if edge in ("east", "west") else self.rows
             if abs(getattr(self, edge) - getattr(other, edge)) * 2 * count > length:
-                raise Refused("%s: %s in %s, and %s in the map: more than half a cell apart"
+                raise Refused("%s: %s in %s, but %s in the map: more than half a cell apart"
                               % (edge, other.texts[edge], name, self.texts[edge]))
         return other
 
@@ -308,15 +308,15 @@ def one_band(dataset, number=None):
     count = dataset.RasterCount
     if count == 0:
         names = [name for name, _ in dataset.GetSubDatasets()]
-        raise Refused("there is no band in it" + ("; take one of its parts:\n    " + "\n    ".join(names) if names else ""))
+        raise Refused("it has no bands" + ("; take one of its parts:\n    " + "\n    ".join(names) if names else ""))
     if number is not None:
         if not 1 <= number <= count:
-            raise Refused("there is no band %d: it has %d" % (number, count))
+            raise Refused("it has no band %d, only %d" % (number, count))
         return number
     kept = [at for at in range(1, count + 1)
             if dataset.GetRasterBand(at).GetColorInterpretation() != gdal.GCI_AlphaBand]
     if len(kept) != 1:
-        raise Refused("%d bands: say which by --band" % count)
+        raise Refused("it has %d bands: name one with --band" % count)
     return kept[0]
 
 
@@ -379,7 +379,7 @@ class Grid:
                 break
             yield cells
         if count != wanted:
-            raise Refused("%d rows of %d cells were announced, and there are %s cells"
+            raise Refused("the header announces %d rows of %d cells, but there are %s cells"
                           % (self.region.rows, self.region.cols, "more" if count > wanted else count))
 
     def pieces(self):

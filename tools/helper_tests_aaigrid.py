@@ -28,7 +28,7 @@ FORMS = [
     ("-9999", "-9999 2 3\n3 1_000 -9999", "rcell: m:9: bad cell\n"),
     ("-9999", "-9999 2 3\n3 -9999", "rcell: m:10: too few cells\n"),
     ("-9999", "-9999 2 3\n3 -9999 3 3", "rcell: m:9: too many cells\n"),
-    ("-9999.0", "2 3 3\n3 3", "rcell-aaigrid: 2 rows of 3 cells were announced, and there are 5 cells\n"),
+    ("-9999.0", "2 3 3\n3 3", "rcell-aaigrid: the header announces 2 rows of 3 cells, but there are 5 cells\n"),
     ("-9999", "-09999 2 3\n3 -9999 -9999", "-9999 1\n2 1\n3 2\n* 2\n"),
     ("0", "00 2 3\n3 +0 0", "0 2\n2 1\n3 2\n* 1\n"),
     ("1e9999999", "2 3 3\n3 3 2", "2 2\n3 4\n"),
@@ -45,15 +45,15 @@ HEADERS = [
     ({"xllcorner 10": "xllcorner -.5", "yllcorner 20": "yllcorner +7."},
      "north: 17\nsouth: 7\neast: 14.5\nwest: -0.5\nrows: 2\ncols: 3\n"),
     ({"xllcorner 10": "xllcorner 0.123456785"}, "north: 30\nsouth: 20\neast: 15.12345678\nwest: 0.12345678\nrows: 2\ncols: 3\n"),
-    ({"xllcorner 10": "xllcorner 10,5"}, "xllcorner is not a number: 10,5 (a point, and no comma, stands before the decimals)"),
+    ({"xllcorner 10": "xllcorner 10,5"}, "xllcorner is not a number: 10,5 (write a decimal point, not a comma)"),
     ({"xllcorner 10": "xllcorner 1e60"}, "the edge east has more than 10 digits before its point"),
     ({"xllcorner 10": "xllcorner 1e9999999"}, "xllcorner is not a number: 1e9999999"),
     ({"xllcorner 10": "xllcorner 1_000"}, "xllcorner is not a number: 1_000"),
     ({"xllcorner 10": "xllcorner nan"}, "xllcorner is not a number: nan"),
     ({"xllcorner 10": "xllcorner \x1b[2J"}, "xllcorner is not a number: \\x1b[2J"),
     ({"xllcorner 10\n": ""}, "the header has no xllcorner"),
-    ({"cellsize 5": "cellsize 0"}, "east is not above west, to 8 decimals: a cell size is greater than 0"),
-    ({"cellsize 5": "cellsize -5"}, "east is not above west, to 8 decimals: a cell size is greater than 0"),
+    ({"cellsize 5": "cellsize 0"}, "east is not above west, to 8 decimals: the cell size must be greater than 0"),
+    ({"cellsize 5": "cellsize -5"}, "east is not above west, to 8 decimals: the cell size must be greater than 0"),
     ({"ncols 3": "ncols 3.0"}, "ncols is not a number of cells: 3.0"),
     ({"ncols 3": "ncols 1_0"}, "ncols is not a number of cells: 1_0"),
     ({"ncols 3": "ncols 0"}, "ncols is not a number of cells: 0"),
@@ -61,18 +61,18 @@ HEADERS = [
     ({"ncols 3": "ncols " + BIG}, "ncols is not a number of cells: " + BIG[:64] + ".."),
     ({"ncols 3": "ncols 70000"}, "2 rows of 70000 cells: rcell takes 65535 of each, and 2147483647 cells in all; cut the map into tiles"),
     ({"nrows 2": "nrows 2\nncols 3"}, "line 3: ncols is given twice"),
-    ({"nrows 2": "nrows 2 3"}, "line 2: a header line has a key and one value"),
+    ({"nrows 2": "nrows 2 3"}, "line 2: a header line needs a key and one value"),
 ]
 
 NO_AAIGRID = [
     (b"", "the input is empty"),
-    (b"\xef\xbb\xbfncols 3\n", "a byte order mark is before the header: sed '1s/^\\xef\\xbb\\xbf//' takes it out"),
-    ("ncols 3\n".encode("utf-16"), "the input is no plain text; if it is UTF-16: iconv -f UTF-16 -t ASCII"),
+    (b"\xef\xbb\xbfncols 3\n", "the input begins with a byte order mark: sed '1s/^\\xef\\xbb\\xbf//' removes it"),
+    ("ncols 3\n".encode("utf-16"), "the input is not plain text; if it is UTF-16: iconv -f UTF-16 -t ASCII"),
     (b"II*\0\x08\0\0\0", "the input is a TIFF: rcell-tif MAP.tif GRID"),
     (b"\x1f\x8b\x08\0", "the input is compressed by gzip: zcat FILE | rcell-aaigrid"),
-    (b"north: 3\n", "the input is a grid of rcell as it is"),
-    (b"x,y\x1b,z\n", "the input is no AAIGrid: it begins with x,y\\x1b,z, and not with ncols"),
-    (b"ncols 3\nnrows 2\n", "the header has no cells behind it"),
+    (b"north: 3\n", "the input is a grid of rcell already"),
+    (b"x,y\x1b,z\n", "the input is not an AAIGrid: it begins with x,y\\x1b,z, not with ncols"),
+    (b"ncols 3\nnrows 2\n", "there are no cells after the header"),
     (b"ncols 3\n" + b"\n" * 70000, "the header does not end within 65536 bytes"),
 ]
 
@@ -124,7 +124,7 @@ def test_degrees(room, tally):
     header = "ncols 43200\nnrows 1\nxllcorner -180\nyllcorner 0\ncellsize 0.008333333333\n"
     ran = room.run("rcell-aaigrid", given=aaigrid("1 " * 43200, header=header).encode())
     tally.same("a line says so", ran.stderr.decode(),
-               "rcell-aaigrid: east: 180, since the 12 decimals of the cell size would make it 179.99999999\n")
+               "rcell-aaigrid: east: 180, because the 12 decimals of the cell size would make it 179.99999999\n")
     header = header.replace("0.008333333333", "0.008333333330")
     ran = room.run("rcell-aaigrid", given=aaigrid("1 " * 43200, header=header).encode())
     tally.same("12 decimals that end in 0 were not cut", ran.stdout.decode().split("\n")[2], "east: 179.99999986")
@@ -141,10 +141,10 @@ def test_edges(room, tally):
     room.put("far.txt", room.get("like.txt").replace(b"30.5", b"40"))
     ran = room.run("rcell-aaigrid", "--like", "far.txt", "m.asc")
     tally.same("--like, far away", ran.stderr.decode(),
-               "rcell-aaigrid: north: 40 by far.txt, and 30 by the header: more than half a cell apart\n")
+               "rcell-aaigrid: north: 40 by far.txt, but 30 by the header: more than half a cell apart\n")
     room.put("rows.txt", room.get("like.txt").replace(b"rows: 2", b"rows: 1"))
     ran = room.run("rcell-aaigrid", "--like", "rows.txt", "m.asc")
-    tally.same("--like, other rows", ran.stderr.decode(), "rcell-aaigrid: rows: 1 in rows.txt, and 2 in the header\n")
+    tally.same("--like, other rows", ran.stderr.decode(), "rcell-aaigrid: rows: 1 in rows.txt, but 2 in the header\n")
     ran = room.run("rcell-aaigrid", "--edges", "31", "20", "25", "10", "m.asc")
     tally.same("--edges", ran.stdout.decode().split("rows")[0], "north: 31\nsouth: 20\neast: 25\nwest: 10\n")
     ran = room.run("rcell-aaigrid", "--edges", "10", "20", "25", "31", "m.asc")
@@ -155,7 +155,7 @@ def test_edges(room, tally):
     tally.same("--edges, no number", ran.stderr.decode(), "rcell-aaigrid: x is not an edge: a number of at most 8 decimals\n")
 
 
-WARNED = "warning: cells are %s, and no header line says that this is null: they are counted as a category (--nodata %s makes them null)\n"
+WARNED = "warning: cells are %s, which the header does not declare as null, so they count as a category (--nodata %s makes them null)\n"
 
 
 def test_warnings(room, tally):
@@ -164,7 +164,7 @@ def test_warnings(room, tally):
             ran = room.run("rcell-aaigrid", given=aaigrid(f"{word} 2 3\n3 255 {word}", nodata).encode())
             tally.same(f"a forgotten {word} beside {nodata}", ran.stderr.decode(), "rcell-aaigrid: " + WARNED % (word, word))
         ran = room.run("rcell-aaigrid", given=aaigrid("2147483647 2 3\n3 255 12147483647", nodata).encode())
-        tally.true(f"a clamped number beside {nodata}", b"gdal_translate -ot Int32 makes that of every greater number" in ran.stderr)
+        tally.true(f"a clamped number beside {nodata}", b"gdal_translate -ot Int32 turns every greater number into it" in ran.stderr)
     ran = room.run("rcell-aaigrid", given=aaigrid("19999 2 3\n3 -99991 1-9999").encode())
     tally.same("parts of words are none", ran.stderr, b"")
     ran = room.run("rcell-aaigrid", given=aaigrid("2147483647 2 3\n3 2 1", "2147483647").encode())
@@ -185,7 +185,7 @@ def test_files(room, tally):
     for command in ("rcell-aaigrid m.asc m.asc", "rcell-aaigrid m.asc hard.asc", "rcell-aaigrid soft.asc m.asc", "rcell-aaigrid m.asc soft.asc",
                     "rcell-aaigrid m.asc >> m.asc", "rcell-aaigrid < m.asc >> m.asc", "rcell-aaigrid m.asc ./folder/../m.asc"):
         ran = room.shell(command)
-        tally.same(command, (ran.returncode, ran.stderr, room.get("m.asc")), (1, b"rcell-aaigrid: the output is the input: choose another name\n", text))
+        tally.same(command, (ran.returncode, ran.stderr, room.get("m.asc")), (1, b"rcell-aaigrid: the output file is the input file: choose another name\n", text))
     ran = room.shell("cat m.asc | rcell-aaigrid | rcell <(echo r.stats -c input=m) m=/dev/stdin")
     tally.same("from pipe to pipe", ran.stdout, b"1 2\n2 2\n3 2\n")
     ran = room.shell("rcell-aaigrid m.asc /dev/stdout | tail -1; rcell-aaigrid <(cat m.asc) - | tail -1")

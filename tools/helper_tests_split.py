@@ -35,7 +35,7 @@ def test_names(room, tally):
     tally.same("an empty table", found["03-r.stats-lc.txt"], b"")
     tally.same("a label that is like a mark", found["02-r.stats-cover,zones.txt"].count(b"--0123456789abcdef"), 3)
     ran = room.run("rcell-split", "script", "out", "lc=land.txt", "zones=zones.txt")
-    tally.same("a folder that is there", (ran.returncode, b"is there already" in ran.stderr, parts(room, "out") == found), (1, True, True))
+    tally.same("a folder that is there", (ran.returncode, b"exists already" in ran.stderr, parts(room, "out") == found), (1, True, True))
     ran = room.shell("rcell-split <(cat script) piped lc=<(cat land.txt) zones=zones.txt")
     tally.same("script and grid through pipes", (ran.returncode, parts(room, "piped") == found), (0, True))
     ran = room.run("rcell-split", "script", "folder/deep/", "lc=land.txt", "zones=zones.txt")

@@ -79,7 +79,7 @@ MAPS = [
     ("complex64", None, "[[1, 2, 3], [4, 3, 3]]", {}, "the cells are complex numbers"),
     ("uint8", None, "[[1, 2, 3], [4, 5, 6]]", {"mask": [[255, 0, 255], [255, 255, 0]]}, "1 * 3\n4 5 *\n"),
     ("uint8", None, "[[[1, 2, 3], [4, 5, 6]], [[255, 0, 255], [255, 1, 0]]]", {"bands": 1, "alpha": 1}, "1 * 3\n4 5 *\n"),
-    ("uint8", None, "[[[1, 2, 3], [4, 5, 6]], [[7, 8, 9], [1, 2, 3]]]", {"bands": 1}, "2 bands: say which by --band"),
+    ("uint8", None, "[[[1, 2, 3], [4, 5, 6]], [[7, 8, 9], [1, 2, 3]]]", {"bands": 1}, "it has 2 bands: name one with --band"),
 ]
 
 # A geotransform, rows and columns, what stands before the rows or what is said.
@@ -90,10 +90,10 @@ TRANSFORMS = [
     ([0.1, 0.1, 0, 0.3, 0, -0.1], 2, 3, "north: 0.3\nsouth: 0.1\neast: 0.4\nwest: 0.1\n"),
     ([0, 1, 0, 0, 0, 1], 2, 3, "north: 2\nsouth: 0\neast: 3\nwest: 0\n"),
     ([10, 1, 0, 20, 0, 1], 2, 3, "north: 22\nsouth: 20\neast: 13\nwest: 10\n"),
-    ([0, 1, 0.1, 0, 0, -1], 2, 3, "the raster is rotated or mirrored: gdalwarp -r near puts it upright"),
-    ([0, -1, 0, 0, 0, -1], 2, 3, "the raster is rotated or mirrored: gdalwarp -r near puts it upright"),
+    ([0, 1, 0.1, 0, 0, -1], 2, 3, "the raster is rotated or mirrored: straighten it with gdalwarp -r near"),
+    ([0, -1, 0, 0, 0, -1], 2, 3, "the raster is rotated or mirrored: straighten it with gdalwarp -r near"),
     ([1e11, 1, 0, 0, 0, -1], 2, 3, "the edge east has more than 10 digits before its point"),
-    ([0, 1e-12, 0, 0, 0, -1], 2, 3, "north is not above south, or east not above west, to 8 decimals"),
+    ([0, 1e-12, 0, 0, 0, -1], 2, 3, "north is not above south, or east is not above west, to 8 decimals"),
     ([0, 1, 0, 0, 0, -1], 1, 70000, "1 rows of 70000 cells: rcell takes 65535 of each, and 2147483647 cells in all; "
      "cut the map into tiles (gdal_translate -srcwin)"),
 ]
@@ -154,7 +154,7 @@ def test_options(room, tally):
     answers = run_all(room, [words for words, _ in bad])
     for (words, wanted), (status, said) in zip(bad, answers):
         tally.same(f"{words}", (status, "Traceback" in said), (wanted, False))
-    tally.same("--like, far away", answers[-1][1], "rcell-tif: m.tif: north: 2.6 in far.txt, and 2 in the map: more than half a cell apart\n")
+    tally.same("--like, far away", answers[-1][1], "rcell-tif: m.tif: north: 2.6 in far.txt, but 2 in the map: more than half a cell apart\n")
     ran = room.run("rcell-tif", "m.tif", "no/folder/x.txt")
     tally.same("no such folder", (ran.returncode, b"Traceback" in ran.stderr), (1, False))
     ran = room.shell("rcell-tif m.tif - | rcell <(echo r.stats -c input=m) m=/dev/stdin")
@@ -181,8 +181,8 @@ BAD_GRIDS = [
     (HEADER + "1 2 3\n4 99999999999999999999 6\n", "the cell in row 2, column 2: beyond 2147483647"),
     (HEADER + "1 2 3\n4 -2147483648 6\n", "the cell in row 2, column 2: beyond 2147483647"),
     (HEADER + "multiplier: 2\n1 2 3\n4 2000000000 6\n", "the cell in row 2, column 2: beyond 2147483647"),
-    (HEADER + "1 2 3\n4 5\n", "2 rows of 3 cells were announced, and there are 5 cells"),
-    (HEADER + "1 2 3\n4 5 6 7\n", "2 rows of 3 cells were announced, and there are more cells"),
+    (HEADER + "1 2 3\n4 5\n", "the header announces 2 rows of 3 cells, but there are 5 cells"),
+    (HEADER + "1 2 3\n4 5 6 7\n", "the header announces 2 rows of 3 cells, but there are more cells"),
     ("ncols 3\n", "it is not a grid of rcell: north: is missing"),
     (HEADER.replace("rows: 2", "rows: 70000") + "1\n", "70000 rows of 3 cells: rcell takes 65535 of each, and 2147483647 cells in all; "
      "cut the map into tiles (gdal_translate -srcwin)"),
