@@ -9,7 +9,8 @@ ROOT = os.path.dirname(os.path.dirname(os.path.abspath(__file__)))
 SCRIPTS = 4000
 LONGEST_START = 4000  # bytes of a script that is spoiled
 SEED = 1
-PIECES = ["\"", "'", "=", " = ", ",", ", ", "-", "--o", " --overwrite", "#", " # x", ";", "@P", "(", ")", "[", "]", "[1]", "1.5", "null", "end", "\n",
+PIECES = ["\"", "'", "=", " = ", ",", ", ", "-", "--o", " --overwrite", "#", " # x", ";", "@P", "(", ")", "[", "]", "[1]", "1.5", "null",
+          "end", "\n",
           "\nend\n", " thru ", "*", "==", "<>", "&", "^", "and", "r.stats", "r.clump ", "rules=x", "output=x", "in=", "input=", " ",
           "\t", "\\\n", "\r", "\xff",
           "\x00", "-c", "-q", "99999999999", "NULL", "land", "zone", "a-b", "r.mapcalc x = ", "expression=", "separator=", "null_value=", "after=", "1", "?", ":"]
