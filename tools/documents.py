@@ -12,8 +12,8 @@ blocks are taken from the top:
 The folder that a block goes to by `cd` is that of the next. With --write what is printed takes the place of what is shown.
 Of docs/DIFFERENCES.md the program's side of each table is run, too (tools/differences.py). What needs no program is tried
 first, and with --texts alone: docs/COMMANDS.md has the table of helpers/messages.json (tools/messages.py), docs/PROOFS.md the numbers of lines
-of the files that it lists, README.md the figures of docs/SPEED.md, and the manual pages pass the warnings of man where it
-is installed. The last line is
+of the files that it lists, README.md the figures of docs/SPEED.md, and docs/rcell.1 passes the warnings of man where it is
+installed. The last line is
 'N passed, M failed'.
 """
 import argparse
@@ -246,20 +246,16 @@ def check_speed(write):
     return counted, faults
 
 
-def check_pages():
-    """Whether man has nothing to warn of on the manual pages, where it is installed."""
+def check_page():
+    """Whether man has nothing to warn of on the manual page, where it is installed."""
     if not shutil.which("man") or not shutil.which("groff"):
-        print("man or groff: not installed, the manual pages are not tried")
+        print("man or groff: not installed, the manual page is not tried")
         return 0, []
     environment = {**os.environ, "LC_ALL": "C.UTF-8", "MANROFFSEQ": "", "MANWIDTH": "80"}
-    passed, faults = 0, []
-    for page in ["docs/rcell.1", *sorted(os.path.relpath(it, ROOT) for it in glob.glob(f"{ROOT}/helpers/*.1"))]:
-        ran = subprocess.run(["man", "--warnings", "-E", "UTF-8", "-l", "-Tutf8", "-Z", f"{ROOT}/{page}"], env=environment,
-                             stdout=subprocess.DEVNULL, stderr=subprocess.PIPE, text=True)
-        warnings = ran.stderr.splitlines() or ["man fails"] * bool(ran.returncode)
-        passed += not warnings
-        faults += [f"{page}: {warning}" for warning in warnings]
-    return passed, faults
+    ran = subprocess.run(["man", "--warnings", "-E", "UTF-8", "-l", "-Tutf8", "-Z", f"{ROOT}/docs/rcell.1"], env=environment,
+                         stdout=subprocess.DEVNULL, stderr=subprocess.PIPE, text=True)
+    warnings = ran.stderr.splitlines() or ["man fails"] * bool(ran.returncode)
+    return int(not warnings), [f"docs/rcell.1: {warning}" for warning in warnings]
 
 
 def main():
@@ -270,7 +266,7 @@ def main():
     words.add_argument("documents", nargs="*")
     settings = words.parse_args()
     program = os.path.abspath(settings.program)
-    texts = [("the messages", messages.check), ("the manual pages", check_pages),
+    texts = [("the messages", messages.check), ("the manual page", check_page),
              ("the numbers of lines", lambda: check_counts(settings.write)), ("the figures", lambda: check_speed(settings.write))]
     runs = [(name, lambda name=name: run_document(name, program, settings.write)) for name in settings.documents or DOCUMENTS]
     runs += [] if settings.documents else [("the tables of differences", lambda: check_differences(program))]
