@@ -57,6 +57,9 @@ class Messages:
                 return message["causes"]
         return []
 
+    def has(self, part, text, name):
+        return any(cause["name"] == name for cause in self.causes(part, text))
+
     def said(self, part, text, name, values):
         """What a cause says, filled in: the cause, and what to write instead."""
         cause = next(cause for cause in self.causes(part, text) if cause["name"] == name)

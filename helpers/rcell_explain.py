@@ -152,7 +152,7 @@ class Explanation:
             self.say_known("grid", text, text, self.counted(grid, given))
             return
         found = cause_of(grid, line, text)
-        if found is None:
+        if found is None or not self.messages.has("grid", text, found[0]):
             if given.is_kept and given.line(line) is None and line:
                 self.say("grid %s came through a pipe and line %d was not kept: run it on a file" % (source, line))
             self.say_all("grid", text)
