@@ -49,7 +49,10 @@ def test_pipes(room, tally):
 
 def test_hostile(room, tally):
     for name, script in (("long", TOO_LONG), ("deep", "r.mapcalc x = " + "(" * 900 + "land" + ")" * 899), ("bytes", bytes(range(256)) * 4),
-                         ("lines", "r.foo\n" * 20000), ("equals", "r.stats " + "=" * 5000), ("blank", "\n" * 100000)):
+                         ("lines", "r.foo\n" * 20000), ("equals", "r.stats " + "=" * 5000), ("blank", "\n" * 100000), ("quotes", "r.mapcalc x = " + "\"a" * 32000),
+                         ("options", "r.mapcalc x = " + "--o " * 16000), ("digits", "r.reclass input=land output=c\n" + "1" * 65000 + "- = 1\n"),
+                         ("unknown", "".join(f"r.mapcalc x{at} = y{at}\n" for at in range(20000))), ("carets", "r.mapcalc x = " + "^" * 65000),
+                         ("words", "r.stats " + "a'b " * 16000), ("names", "".join(f"r.mapcalc x{at} = land\n" for at in range(20000)) + "r.stats input=q")):
         room.put("script", script)
         ran = room.run("rcell-explain", "script", "land=land.txt")
         tally.true(f"a hostile script: {name}", b"Traceback" not in ran.stderr and len(ran.stderr) < 100000, ran.stderr[-500:])
