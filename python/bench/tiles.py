@@ -230,8 +230,9 @@ def workers(path: Path, folder: Path, side: int) -> None:
 
 def memory(path: Path, folder: Path, side: int) -> None:
     """What a worker takes at its peak, beside what the formula says."""
-    loud = folder / "noise.tif"
-    noise(loud, 8192)
+    loud, quiet, part = folder / "noise.tif", folder / "quiet.tif", 4096
+    noise(loud, part)
+    land_cover(quiet, part)
     out = folder / "memory.tif"
     tasks: list[tuple[str, Demand, Callable[[rcell.tiles.Mosaic], Any]]] = [
         ("table", table_demand(1, 1, NO_REACH), lambda mosaic: mosaic.table("r.stats -c input=lc")),
@@ -239,15 +240,23 @@ def memory(path: Path, folder: Path, side: int) -> None:
         ("clump", areas_demand(1), lambda mosaic: mosaic.clump("lc", out)),
         ("sizes", sizes_demand(1), lambda mosaic: mosaic.patches("lc")),
     ]
-    for name, file, runs in (("noise", loud, 1.0), ("land cover", path, runs_of(path))):
-        for size in (1024, 2048, 4096, 8192):
+    for name, file, runs, areas in (("noise", loud, 1.0, 1.0), ("land cover", quiet, runs_of(quiet), areas_of(quiet))):
+        for size in (1024, 2048, 4096):
             for task, demand, work in tasks:
                 with rcell.tiles.open(size=size, scheduler=1, lc=str(file)) as mosaic:
                     _, figures = measured(mosaic, lambda: work(mosaic))
-                said = demand.bytes(size, size, runs)
+                said = demand.bytes(min(size, part), min(size, part), runs, areas)
                 print(f"{name}, {task}, tiles of {size}: {figures.both / MILLION:.0f} MB, {figures.alone / MILLION:.0f} MB alone; "
                       f"the formula {said / MILLION:.0f} MB, {said / figures.both - 1:+.0%}", flush=True)
     loud.unlink()
+    quiet.unlink()
+
+
+def areas_of(path: Path) -> float:
+    """Connected areas by edges, as a part of the cells, of the first cells of a map."""
+    with rasterio.open(path) as dataset:
+        cells = dataset.read(1, window=Window(0, 0, min(STRIP, dataset.width), min(STRIP, dataset.height)))
+    return float(len(rcell.areas(rcell.Map(cells, nodata=0)).table) / cells.size)
 
 
 def runs_of(path: Path) -> float:
