@@ -3,6 +3,7 @@
 from __future__ import annotations
 
 import argparse
+import os
 import sys
 import warnings
 from collections.abc import Sequence
@@ -10,6 +11,7 @@ from pathlib import Path
 from typing import Any
 
 from .._errors import MissingLibrary, OutOfMemory, RcellError, Refused
+from .._table import Table
 from ._cluster import ClusterFailed
 from .mosaic import Mosaic, NeedlessTiles, TooLittleMemory, open_mosaic
 
@@ -58,11 +60,11 @@ def _parser() -> argparse.ArgumentParser:
     parser = argparse.ArgumentParser(prog="python3 -m rcell tiles", description="Maps of any size, by tiles.")
     commands = parser.add_subparsers(required=True, metavar="COMMAND")
     table = _command(commands, "table", _table, "the table of a script with one r.stats, as CSV")
-    table.add_argument("script", metavar="SCRIPT", help="a file, or - for standard input")
+    table.add_argument("script", metavar="SCRIPT", help="a file, a line `r.stats ..`, or - for standard input")
     table.add_argument("--area", choices=["ha", "km2", "m2"], help="a column of areas")
     table.add_argument("--percent", action="store_true", help="a column of percentages")
     grid = _command(commands, "grid", _grid, "a map as a GeoTIFF")
-    grid.add_argument("script", metavar="EXPRESSION", help="NAME = EXPRESSION of r.mapcalc")
+    grid.add_argument("script", metavar="EXPRESSION", help="NAME = EXPRESSION of r.mapcalc, or a file")
     clump = _command(commands, "clump", _clump, "the connected areas of a map as a GeoTIFF")
     patches = _command(commands, "patches", _patches, "the connected areas of a map with their sizes, as CSV")
     for command in (grid, clump):
@@ -100,12 +102,11 @@ def _named(word: str) -> tuple[str, str]:
 
 
 def _table(mosaic: Mosaic, given: argparse.Namespace) -> None:
-    script = sys.stdin.read() if given.script == "-" else Path(given.script).read_text("utf-8", "surrogateescape")
-    mosaic.table(script, given.area, given.percent).to_csv(sys.stdout, index=False)
+    _print(mosaic.table(_script(given.script), given.area, given.percent))
 
 
 def _grid(mosaic: Mosaic, given: argparse.Namespace) -> None:
-    mosaic.grid(given.script, given.out)
+    mosaic.grid(_script(given.script), given.out)
 
 
 def _clump(mosaic: Mosaic, given: argparse.Namespace) -> None:
@@ -115,7 +116,27 @@ def _clump(mosaic: Mosaic, given: argparse.Namespace) -> None:
 
 def _patches(mosaic: Mosaic, given: argparse.Namespace) -> None:
     [name] = mosaic.names
-    mosaic.patches(name, given.diagonal).to_csv(sys.stdout, index=False)
+    _print(mosaic.patches(name, given.diagonal))
+
+
+def _print(table: Any) -> None:
+    """A table as CSV; where pandas is not installed it is a Table."""
+    if isinstance(table, Table):
+        sys.stdout.write(table.csv())
+    else:
+        table.to_csv(sys.stdout, index=False)
+
+
+def _script(word: str) -> str:
+    """A file, standard input, a line of a script or an expression."""
+    if word == "-":
+        return sys.stdin.read()
+    if not os.path.exists(word) and (word.startswith("r.") or "=" in word):
+        return word
+    try:
+        return Path(word).read_text("utf-8", "surrogateescape")
+    except OSError as fault:
+        raise Refused(f"cannot open {word}: {fault.strerror}", "script", status=FILES) from None
 
 
 if __name__ == "__main__":
