@@ -87,6 +87,16 @@ def aaigrid() -> list[str]:
     raise FileNotFoundError("neither helpers/rcell-aaigrid nor tools/aaigrid.py")
 
 
+def write_same_text(path: str, text: str) -> None:
+    """The text that the program gets of a raster, as a file."""
+    source = open_raster("lc", path)
+    words = Words(*source.range(), source.nodata)
+    with open(text, "wb") as file:
+        file.write(source.region.header().encode() + b"null: " + words.null + b"\n")
+        for block in source.blocks():
+            file.writelines(words.pieces(block.cells, block.null))
+
+
 def from_geotiff(paths: dict[str, str], folder: str, cells: int, rounds: int) -> list[str]:
     """From a GeoTIFF to the table of its categories."""
     script = f"{folder}/counts"
@@ -112,12 +122,7 @@ def from_geotiff(paths: dict[str, str], folder: str, cells: int, rounds: int) ->
     lines = []
     for name, path in paths.items():
         text = f"{folder}/same.txt"
-        source = open_raster("lc", path)
-        words = Words(*source.range(), source.nodata)
-        with open(text, "wb") as file:
-            file.write(source.region.header().encode() + b"null: " + words.null + b"\n")
-            for block in source.blocks():
-                file.writelines(words.pieces(block.cells, block.null))
+        write_same_text(path, text)
         found = by_turns(
             {
                 "table": lambda: rcell.table("r.stats -c input=lc", lc=path),
@@ -199,8 +204,8 @@ Cells to a text file and numbers from one, {TEXT_CELLS / 1e6:g} million cells; `
 
 def main() -> int:
     words = argparse.ArgumentParser(description=__doc__, formatter_class=argparse.RawDescriptionHelpFormatter)
-    words.add_argument("--cells", type=int, default=20_000_000)
-    words.add_argument("--rounds", type=int, default=5)
+    words.add_argument("--cells", type=int, default=10_000_000)
+    words.add_argument("--rounds", type=int, default=3)
     words.add_argument("--show", action="store_true")
     settings = words.parse_args()
     cols = 5_000

@@ -260,7 +260,8 @@ class Mosaic:
         Refused, WriteFailed, ReadFailed, WorkerLost, TooLittleMemory
         """
         file = self._file(name)
-        demand = areas_demand(file.bytes)
+        # Before they are joined, it is not known how many areas there are: at most as many as cells.
+        demand = areas_demand(file.bytes, 4 if self.sheet.rows * self.sheet.cols < 2**31 else 8)
         tiles = list(places(self.sheet, self._size_for(demand)))
         memory = self._memory(demand, tiles[0])
         whole = self._joined(file, tiles, diagonal, memory)
