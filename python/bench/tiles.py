@@ -189,10 +189,10 @@ def answers(path: Path, folder: Path, side: int) -> None:
             print(f"table, tiles of {size}: equal {found.equals(expected)}; {figures}", flush=True)
     out = folder / "answer.tif"
     tasks: list[tuple[str, str, int, Callable[[rcell.tiles.Mosaic], Any]]] = [
-        ("sum of nine offsets", f"r.mapcalc x = {SUM}", -2147483648, lambda mosaic: mosaic.grid(f"x = {SUM}", out)),
-        ("nmode over 3x3", f"r.mapcalc x = {NMODE}", -2147483648, lambda mosaic: mosaic.grid(f"x = {NMODE}", out)),
         ("clump by edges", "r.clump input=lc output=x", 0, lambda mosaic: mosaic.clump("lc", out)),
+        ("sum of nine offsets", f"r.mapcalc x = {SUM}", -2147483648, lambda mosaic: mosaic.grid(f"x = {SUM}", out)),
         ("clump by corners", "r.clump -d input=lc output=x", 0, lambda mosaic: mosaic.clump("lc", out, diagonal=True)),
+        ("nmode over 3x3", f"r.mapcalc x = {NMODE}", -2147483648, lambda mosaic: mosaic.grid(f"x = {NMODE}", out)),
     ]
     for name, script, null, tiled in tasks:
         cells, seconds, program = undivided(path, script, "x")
@@ -201,7 +201,7 @@ def answers(path: Path, folder: Path, side: int) -> None:
             with rcell.tiles.open(size=size, lc=str(path)) as mosaic:
                 answer, figures = measured(mosaic, lambda: tiled(mosaic))
                 print(f"{name}, tiles of {size}: equal {same(cells, out, null)}; {figures}", flush=True)
-                if null == 0:
+                if null == 0 and size == 4096:
                     patches, figures = measured(mosaic, lambda: mosaic.patches("lc", diagonal="corners" in name))
                     sizes = np.bincount(np.maximum(cells, 0).reshape(-1))[1:]
                     equal = len(patches) == answer and np.array_equal(patches["cells"].to_numpy(np.int64), sizes)
