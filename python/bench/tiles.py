@@ -203,11 +203,17 @@ def answers(path: Path, folder: Path, side: int) -> None:
                 print(f"{name}, tiles of {size}: equal {same(cells, out, null)}; {figures}", flush=True)
                 if null == 0 and size == 4096:
                     patches, figures = measured(mosaic, lambda: mosaic.patches("lc", diagonal="corners" in name))
-                    sizes = np.bincount(np.maximum(cells, 0).reshape(-1))[1:]
-                    equal = len(patches) == answer and np.array_equal(patches["cells"].to_numpy(np.int64), sizes)
+                    equal = len(patches) == answer and np.array_equal(patches["cells"].to_numpy(np.int64), sizes_of(cells, answer))
                     print(f"sizes of {answer} areas, tiles of {size}: equal {equal}; {figures}", flush=True)
         del cells
         out.unlink()
+
+
+def sizes_of(cells: Any, areas: int) -> Any:
+    sizes = np.zeros(areas + 1, dtype=np.int64)
+    for top in range(0, len(cells), STRIP):
+        sizes += np.bincount(np.maximum(cells[top:top + STRIP], 0).reshape(-1), minlength=areas + 1)
+    return sizes[1:]
 
 
 def workers(path: Path, folder: Path, side: int) -> None:
