@@ -16,7 +16,8 @@ PIECES = ["\"", "'", "=", " = ", ",", ", ", "-", "--o", " --overwrite", "#", " #
           "end", "\n",
           "\nend\n", " thru ", "*", "==", "<>", "&", "^", "and", "r.stats", "r.clump ", "rules=x", "output=x", "in=", "input=", " ",
           "\t", "\\\n", "\r", "\xff",
-          "\x00", "-c", "-q", "99999999999", "NULL", "land", "zone", "a-b", "r.mapcalc x = ", "expression=", "separator=", "null_value=", "after=", "1", "?", ":"]
+          "\x00", "-c", "-q", "99999999999", "NULL", "land", "zone", "a-b", "r.mapcalc x = ", "expression=",
+          "separator=", "null_value=", "after=", "1", "?", ":"]
 STARTS = ["r.stats -c input=land\n", "r.mapcalc x = if(land == 1, zone[0,1], null()) + abs(-3)\nr.stats -cn input=x,zone separator=comma\n",
           "r.reclass input=land output=c\n# forest\n1 thru 2, 5 = 1 forest\n3 = NULL\n* = *\nend\nr.stats -cl input=c null_value=NA after=1\n",
           "r.clump -d input=land output=p\n\n# all\nr.out.ascii input=p null_value=-9\nr.mapcalc q = p > 2 ? land : max(p, zone, 3)\nr.stats -1 input=q\n"]
