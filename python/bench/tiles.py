@@ -20,7 +20,7 @@ import time
 import warnings
 from collections.abc import Callable, Iterator
 from contextlib import contextmanager
-from dataclasses import dataclass
+from dataclasses import dataclass, replace
 from pathlib import Path
 from typing import Any
 
@@ -35,7 +35,7 @@ from rcell._program import execute
 from rcell.tiles._memory import Demand, areas_demand, grid_demand, places, sizes_demand, table_demand
 from rcell.tiles._scripts import NO_REACH, Reach
 from rcell.tiles._tasks import edges_of
-from rcell.tiles.joining import join
+from rcell.tiles.joining import Edges, Rectangle, join
 
 CLASSES = 12
 STRIP = 2000
@@ -189,10 +189,10 @@ def answers(path: Path, folder: Path, side: int) -> None:
             print(f"table, tiles of {size}: equal {found.equals(expected)}; {figures}", flush=True)
     out = folder / "answer.tif"
     tasks: list[tuple[str, str, int, Callable[[rcell.tiles.Mosaic], Any]]] = [
-        ("sum of nine offsets", f"r.mapcalc x = {SUM}", -2147483648, lambda mosaic: mosaic.grid(f"x = {SUM}", out)),
-        ("nmode over 3x3", f"r.mapcalc x = {NMODE}", -2147483648, lambda mosaic: mosaic.grid(f"x = {NMODE}", out)),
         ("clump by edges", "r.clump input=lc output=x", 0, lambda mosaic: mosaic.clump("lc", out)),
+        ("sum of nine offsets", f"r.mapcalc x = {SUM}", -2147483648, lambda mosaic: mosaic.grid(f"x = {SUM}", out)),
         ("clump by corners", "r.clump -d input=lc output=x", 0, lambda mosaic: mosaic.clump("lc", out, diagonal=True)),
+        ("nmode over 3x3", f"r.mapcalc x = {NMODE}", -2147483648, lambda mosaic: mosaic.grid(f"x = {NMODE}", out)),
     ]
     for name, script, null, tiled in tasks:
         cells, seconds, program = undivided(path, script, "x")
@@ -201,13 +201,19 @@ def answers(path: Path, folder: Path, side: int) -> None:
             with rcell.tiles.open(size=size, lc=str(path)) as mosaic:
                 answer, figures = measured(mosaic, lambda: tiled(mosaic))
                 print(f"{name}, tiles of {size}: equal {same(cells, out, null)}; {figures}", flush=True)
-                if null == 0:
+                if null == 0 and size == 4096:
                     patches, figures = measured(mosaic, lambda: mosaic.patches("lc", diagonal="corners" in name))
-                    sizes = np.bincount(np.maximum(cells, 0).reshape(-1))[1:]
-                    equal = len(patches) == answer and np.array_equal(patches["cells"].to_numpy(np.int64), sizes)
+                    equal = len(patches) == answer and np.array_equal(patches["cells"].to_numpy(np.int64), sizes_of(cells, answer))
                     print(f"sizes of {answer} areas, tiles of {size}: equal {equal}; {figures}", flush=True)
         del cells
         out.unlink()
+
+
+def sizes_of(cells: Any, areas: int) -> Any:
+    sizes = np.zeros(areas + 1, dtype=np.int64)
+    for top in range(0, len(cells), STRIP):
+        sizes += np.bincount(np.maximum(cells[top:top + STRIP], 0).reshape(-1), minlength=areas + 1)
+    return sizes[1:]
 
 
 def workers(path: Path, folder: Path, side: int) -> None:
@@ -283,6 +289,25 @@ def joining(path: Path, folder: Path, side: int) -> None:
         labels = sum(len(tile.touching) for tile in whole.tiles)
         print(f"{len(tiles)} tiles of {size}: {whole.areas} areas, {labels} that touch borders, {given / MILLION:.1f} MB of edges, "
               f"{seconds:.2f} s, {seconds / len(tiles) * 1e3:.2f} ms a tile, {seconds / labels * 1e9:.0f} ns a label", flush=True)
+    tile = edges_of(file, sheet, Rectangle(0, 0, min(side, 2048), min(side, 2048)), False)
+    for count in (8, 16, 32, 64):
+        before = resource.getrusage(resource.RUSAGE_SELF).ru_maxrss
+        start = time.process_time()
+        whole = join(again(tile, count))
+        seconds = time.process_time() - start
+        labels = sum(len(found.touching) for found in whole.tiles)
+        grown = (resource.getrusage(resource.RUSAGE_SELF).ru_maxrss - before) * 1024
+        print(f"one tile {count} x {count} times: {count * count * tile.place.rows * tile.place.cols / 1e9:.2f} thousand million cells, "
+              f"{labels} labels, {seconds:.2f} s, {seconds / labels * 1e9:.0f} ns a label, peak {grown / MILLION:.0f} MB higher", flush=True)
+        del whole
+
+
+def again(tile: Edges, count: int) -> Iterator[Edges]:
+    """A tile so many times beside and below itself, as a large map would give its tiles to the joining."""
+    rows, cols = tile.place.rows, tile.place.cols
+    for down in range(count):
+        for right in range(count):
+            yield replace(tile, place=Rectangle(down * rows, right * cols, rows, cols))
 
 
 GRASS = """
