@@ -29,7 +29,9 @@ HERE = pathlib.Path(__file__).resolve().parent
 ROOT = HERE.parent.parent
 TRANSFORM = (25.0, 0.0, 500_000.0, 0.0, -25.0, 5_500_000.0)
 CODES = np.array([11, 12, 21, 22, 23, 24, 31, 41, 42, 43, 52, 71, 81, 82, 90])
-TEXT_CELLS = 2_000_000
+TEXT_CELLS = 500_000
+# Rows that the two commands of GDAL are given: they take so long that a part of a map says enough.
+GDAL_ROWS = 200
 Task = Callable[[], object]
 
 
@@ -97,7 +99,7 @@ def write_same_text(path: str, text: str) -> None:
             file.writelines(words.pieces(block.cells, block.null))
 
 
-def from_geotiff(paths: dict[str, str], folder: str, cells: int, rounds: int) -> list[str]:
+def from_geotiff(paths: dict[str, str], folder: str, rows: int, cols: int, rounds: int) -> list[str]:
     """From a GeoTIFF to the table of its categories."""
     script = f"{folder}/counts"
     pathlib.Path(script).write_text("r.stats -c input=lc\n")
@@ -107,7 +109,7 @@ def from_geotiff(paths: dict[str, str], folder: str, cells: int, rounds: int) ->
         subprocess.run([rcell.program(), script, f"lc={text}"], check=True, stdout=subprocess.DEVNULL)
 
     def by_gdal(path: str) -> None:
-        subprocess.run(["gdal_translate", "-q", "-of", "AAIGrid", "-ot", "Int32", path, f"{folder}/map.asc"], check=True)
+        subprocess.run(["gdal_translate", "-q", "-of", "AAIGrid", "-ot", "Int32", "-srcwin", "0", "0", str(cols), str(GDAL_ROWS), path, f"{folder}/map.asc"], check=True)
         subprocess.run([*aaigrid(), f"{folder}/map.asc", f"{folder}/map.txt"], check=True, stderr=subprocess.DEVNULL)
         by_program(f"{folder}/map.txt")
 
@@ -130,9 +132,9 @@ def from_geotiff(paths: dict[str, str], folder: str, cells: int, rounds: int) ->
                 "read": lambda: reading(path),
                 "unique": lambda: by_numpy(path),
             },
-            cells,
+            rows * cols,
             rounds,
-        ) | by_turns({"gdal": lambda: by_gdal(path)}, cells, 1)
+        ) | by_turns({"gdal": lambda: by_gdal(path)}, GDAL_ROWS * cols, 1)
         lines.append(
             f"| {name} | {found['table']:.1f} | {found['program']:.1f} | {found['table'] / found['program']:.1f} | {found['read']:.1f} "
             f"| {found['gdal']:.0f} | {found['unique']:.1f} |"
@@ -185,7 +187,7 @@ def section(cells: int, rounds: int, geotiff: list[str], text: list[str]) -> str
     return f"""# The Python package
 
 Nanoseconds of the processor a cell (user and system, all processes), the least of {rounds} rounds in which each had its turn
-(`make python-speed`; of the two GDAL commands one). Maps of {cells / 1e6:g} million cells, made by the script, as GeoTIFF (deflate, tiles of 256 x 256).
+(`make python-speed`; the GDAL commands once, on the first {GDAL_ROWS} rows). Maps of {cells / 1e6:g} million cells, made by the script, as GeoTIFF (deflate, tiles of 256 x 256).
 
 From a GeoTIFF to the table of its categories: `rcell.table` answers a DataFrame; "program alone" is the program on a text that is
 there already, word for word the one that it gets through the pipe; "reading alone" is `rasterio`'s `read(1)`.
@@ -213,7 +215,7 @@ def main() -> int:
     rcell.table("r.stats -c input=lc", lc=np.ones((2, 2), np.uint8))
     with tempfile.TemporaryDirectory(prefix="rcell-speed-") as folder:
         paths = made_maps(folder, rows, cols)
-        text = section(rows * cols, settings.rounds, from_geotiff(paths, folder, rows * cols, settings.rounds), text_out_and_in(folder, settings.rounds))
+        text = section(rows * cols, settings.rounds, from_geotiff(paths, folder, rows, cols, settings.rounds), text_out_and_in(folder, settings.rounds))
     print(text)
     if not settings.show:
         (HERE.parent / "SPEED.md").write_text(text, encoding="utf-8")
