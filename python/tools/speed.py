@@ -82,11 +82,8 @@ def made_maps(folder: str, rows: int, cols: int) -> dict[str, str]:
 
 
 def aaigrid() -> list[str]:
-    """The command that turns GDAL's ASCII grid into a grid: the helper, or the script that came before it."""
-    for path in (ROOT / "helpers" / "rcell-aaigrid", ROOT / "tools" / "aaigrid.py"):
-        if path.exists():
-            return ["python3", str(path)]
-    raise FileNotFoundError("neither helpers/rcell-aaigrid nor tools/aaigrid.py")
+    """The command that turns GDAL's ASCII grid into a grid."""
+    return ["python3", str(ROOT / "helpers" / "rcell-aaigrid")]
 
 
 def write_same_text(path: str, text: str) -> None:
