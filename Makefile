@@ -27,7 +27,7 @@ JOBS ?=
 PICTURES = /usr/bin/python3 tools/pictures.py
 
 # What the program is built from: neither tests nor the edits that must fail.
-CRATES = $(filter-out %_tests %/cell_test_maps,$(wildcard crates/*))
+CRATES = $(filter-out %_tests %/cell_core_test_maps,$(wildcard crates/*))
 SOURCES = crates.txt $(shell find $(wildcard $(CRATES:%=%/src) $(CRATES:%=%/specs) $(CRATES:%=%/proofs)) -type f)
 
 .PHONY: all install uninstall example documents check static dist debian11 edits hostile fuzz bench figures pictures exchange clean help

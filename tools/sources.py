@@ -9,7 +9,7 @@ from collections import defaultdict
 from dataclasses import dataclass, field
 
 CRATES = pathlib.Path(__file__).resolve().parent.parent / "crates"
-OF_TESTS = re.compile(r".*_tests$|cell_test_maps$")
+OF_TESTS = re.compile(r".*_tests$|cell_core_test_maps$")
 FUNCTION = re.compile(r"^([ \t]*)((?:pub(?:\([a-z]+\))? )?(?:const )?(?:unsafe )?)fn (\w+)", re.MULTILINE)
 KEYWORD = re.compile(r"requires\b|ensures\b|decreases\b|\{|;")
 CONTAINER = re.compile(r"^(impl\b[^{;]*|(?:pub )?trait [^{;]*)\{", re.MULTILINE)

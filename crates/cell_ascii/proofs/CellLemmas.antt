@@ -2,22 +2,22 @@
 use Rattle.std.proofs.Common.{◌≡◌, ℕ, suc, [], ◌∷◌, ◌++◌, append_assoc, append-nil, ◌+◌, ◌-◌, ◌<◌, arith, List, length, Option, Some, None, Result, Ok, Err, Bool, true, false, ℤ, ◌*ℤ◌, if◌then◌else◌, bytes_eq, refl, ap, sym, ◌∙◌}
 use Rattle.std.specs.Option.{option_map}
 use Rattle.std.specs.Result.{IfErr}
-use Rattle.cell_devices.specs.Device.{Coming}
+use Rattle.cell_core_devices.specs.Device.{Coming}
 use Rattle.cell_core.specs.Grid.{CellValue}
-use Rattle.cell_scanner.specs.Ahead.{Ahead}
-use Rattle.cell_ascii_text.specs.Words.{Start, Begins, Ends, Stops, start_of, word_from}
-use Rattle.cell_ascii_text.specs.Header.{◌>>=◌, At, Header, at_line}
-use Rattle.cell_ascii_text.specs.Cells.{Reading, after_start, after_word, after_cell, cell_from, cell_of_number, cell_of_word, at_of, many}
-use Rattle.cell_ascii_text.specs.Kinds.{IsOfText}
-use Rattle.cell_ascii_text.specs.Numbers.{whole_number, is_in_range}
-use Rattle.cell_ascii.specs.Reader.{Place, token_of, token_seen, reading_seen}
-use Rattle.cell_ascii_text.specs.declared.fault.GridFault.{GridFault}
-use Rattle.cell_ascii_text.specs.declared.fault.GridKind.{GridKind}
-use Rattle.cell_ascii_text.specs.declared.fault.GridKind.TheVariants.{CellRange}
+use Rattle.cell_ascii_scanner.specs.Ahead.{Ahead}
+use Rattle.cell_ascii_meaning.specs.GridTokens.{Start, Begins, Ends, Stops, grid_start, word_from}
+use Rattle.cell_ascii_meaning.specs.Header.{◌>>=◌, At, Header, at_line}
+use Rattle.cell_ascii_meaning.specs.CellTexts.{Reading, after_start, cell_after_word, after_cell, cell_from, cell_of_number, cell_of_word, at_of, many}
+use Rattle.cell_ascii_meaning.specs.Kinds.{IsOfText}
+use Rattle.cell_ascii_meaning.specs.EdgeNumbers.{whole_number, is_in_range}
+use Rattle.cell_ascii.specs.Reader.{ReaderPlace, token_read, token_seen, reading_seen}
+use Rattle.cell_ascii_meaning.specs.declared.grid_fault.GridFault.{GridFault}
+use Rattle.cell_ascii_meaning.specs.declared.grid_fault.GridKind.{GridKind}
+use Rattle.cell_ascii_meaning.specs.declared.grid_fault.GridKind.TheVariants.{CellRange}
 use Rattle.cell_ascii_header.proofs.MapLemmas.{then_map, map_same}
 
 -- where a cell leaves a reader
-abbrev pub place_after : Header → ℕ → Ahead → Place
+abbrev pub place_after : Header → ℕ → Ahead → ReaderPlace
 place_after h line ahead = record { header = h; pending = None; line = line; run = 0; ahead = ahead }
 
 judged : (h : Header) (line : ℕ) (ahead : Ahead) (c : Coming) (r : Result CellValue GridKind) → after_cell line c r ≡ reading_seen (at_line line r) (place_after h line ahead) c
@@ -36,33 +36,33 @@ abbrev after_token : Header → Result (ℕ × (List ℕ × Coming)) GridFault �
 after_token h (Ok (line, (word, c))) = after_cell line c (cell_of_word h word)
 after_token h (Err f) = Err f
 
-word_token : (h : Header) (line : ℕ) (r : Result (List ℕ × Coming) GridFault) → after_word h line r ≡ after_token h (r >>= (λ w. Ok (line, w)))
+word_token : (h : Header) (line : ℕ) (r : Result (List ℕ × Coming) GridFault) → cell_after_word h line r ≡ after_token h (r >>= (λ w. Ok (line, w)))
 word_token h line (Ok (word, c)) = refl
 word_token h line (Err f) = refl
 
-start_token : (h : Header) (s : Start) → after_start h s ≡ after_token h (token_of s)
+start_token : (h : Header) (s : Start) → after_start h s ≡ after_token h (token_read s)
 start_token h (Begins line c) = word_token h line (word_from line [] c)
 start_token h (Ends line) = refl
 start_token h (Stops f) = refl
 
 module _ (h : Header) (line run : ℕ) (a b : Option Coming) (r : Result (Unit {0}) GridFault) (l : ℕ) (word : List ℕ)
-    (read : option_map (λ c. token_of (start_of line run c)) a ≡ option_map (token_seen r l word) b) where
+    (read : option_map (λ c. token_read (grid_start line run c)) a ≡ option_map (token_seen r l word) b) where
   token_cell : option_map (λ c. cell_from h (at_of line run c)) a ≡ option_map (λ c. after_token h (token_seen r l word c)) b
   unfolding cell_from
   token_cell =
-      map_same (λ c. after_start h (start_of line run c)) (λ c. after_token h (token_of (start_of line run c))) a (λ c. start_token h (start_of line run c))
-      ∙ then_map (after_token h) (λ c. token_of (start_of line run c)) (token_seen r l word) a b read
+      map_same (λ c. after_start h (grid_start line run c)) (λ c. after_token h (token_read (grid_start line run c))) a (λ c. start_token h (grid_start line run c))
+      ∙ then_map (after_token h) (λ c. token_read (grid_start line run c)) (token_seen r l word) a b read
 
 -- the next word is the next cell
 pub cell_read : (h : Header) (line run : ℕ) (a b : Option Coming) (l : ℕ) (word : List ℕ) (ahead : Ahead)
-    → option_map (λ c. token_of (start_of line run c)) a ≡ option_map (token_seen (Ok tt) l word) b
+    → option_map (λ c. token_read (grid_start line run c)) a ≡ option_map (token_seen (Ok tt) l word) b
     → option_map (λ c. cell_from h (at_of line run c)) a ≡ option_map (reading_seen (at_line l (cell_of_word h word)) (place_after h l ahead)) b
 cell_read h line run a b l word ahead read =
     token_cell h line run a b (Ok tt) l word read
     ∙ map_same (λ c. after_cell l c (cell_of_word h word)) (reading_seen (at_line l (cell_of_word h word)) (place_after h l ahead)) b (λ c. judged h l ahead c (cell_of_word h word))
 
 pub cell_fails : (h : Header) (line run : ℕ) (a b : Option Coming) (l : ℕ) (word : List ℕ) (f : GridFault)
-    → option_map (λ c. token_of (start_of line run c)) a ≡ option_map (token_seen (Err f) l word) b
+    → option_map (λ c. token_read (grid_start line run c)) a ≡ option_map (token_seen (Err f) l word) b
     → option_map (λ c. cell_from h (at_of line run c)) a ≡ option_map (λ c. Err f) b
 cell_fails h line run a b l word f read = token_cell h line run a b (Err f) l word read
 

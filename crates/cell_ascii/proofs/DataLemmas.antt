@@ -2,30 +2,30 @@
 use Rattle.std.proofs.Common.{◌≡◌, ℕ, ℤ, ◌-◌, ◌<◌, [], List, Option, Some, None, Result, Ok, Err, Bool, false, refl, ap, sym, subst, ◌∙◌}
 use Rattle.std.specs.Prelude.{if◌then◌else◌}
 use Rattle.std.specs.Option.{option_map, IfSome}
-use Rattle.cell_devices.specs.Device.{Coming}
+use Rattle.cell_core_devices.specs.Device.{Coming}
 use Rattle.cell_core.specs.Grid.{CellValue, Grid, no_labels}
-use Rattle.cell_ascii_text.specs.Words.{start_of}
-use Rattle.cell_base.specs.Region.{RegionValue, region_fault}
-use Rattle.cell_base.specs.declared.region.RegionFault.{RegionFault}
-use Rattle.cell_ascii_text.specs.Header.{◌>>=◌, At, at_line, Header, Keys, judged, no_keys, header_of, header_from, header_of_text}
-use Rattle.cell_ascii_text.specs.Kinds.{IsOfText, is_read}
-use Rattle.cell_ascii_text.specs.Cells.{Reading, cell_from, many, end_of, data_from, grid_of}
+use Rattle.cell_ascii_meaning.specs.GridTokens.{grid_start}
+use Rattle.cell_core_values.specs.Region.{RegionValue, region_fault}
+use Rattle.cell_core_values.specs.declared.region.RegionFault.{RegionFault}
+use Rattle.cell_ascii_meaning.specs.Header.{◌>>=◌, At, at_line, Header, Keys, header_of_keys, no_keys, header_of, header_from, header_of_text}
+use Rattle.cell_ascii_meaning.specs.Kinds.{IsOfText, is_read}
+use Rattle.cell_ascii_meaning.specs.CellTexts.{Reading, cell_from, many, end_of, data_from, grid_of}
 use Rattle.cell_ascii.specs.Reader.{rows_from}
-use Rattle.cell_ascii_text.specs.Places.{opening_fault}
-use Rattle.cell_ascii_text.specs.RowPlaces.{IsPlaceOf, end_fault}
-use Rattle.cell_ascii.specs.GridReaders.{ReaderValue, place_in, opened_in, fault_of}
+use Rattle.cell_ascii_meaning.specs.FaultPlaces.{opening_fault}
+use Rattle.cell_ascii_meaning.specs.RowPlaces.{IsPlaceOf, end_fault}
+use Rattle.cell_ascii.specs.GridReaders.{ReaderValue, reader_place, opened_in, fault_of_reading}
 use Rattle.cell_ascii_header.specs.Opening.{header_seen}
-use Rattle.cell_scanner.specs.Ahead.{before_coming}
-use Rattle.cell_ascii_text.specs.declared.fault.GridFault.{GridFault}
-use Rattle.cell_ascii_text.specs.declared.fault.GridKind.{GridKind}
-use Rattle.cell_ascii_text.specs.declared.fault.GridKind.TheVariants.{MissingKey, Region}
+use Rattle.cell_ascii_scanner.specs.Ahead.{before_coming}
+use Rattle.cell_ascii_meaning.specs.declared.grid_fault.GridFault.{GridFault}
+use Rattle.cell_ascii_meaning.specs.declared.grid_fault.GridKind.{GridKind}
+use Rattle.cell_ascii_meaning.specs.declared.grid_fault.GridKind.TheVariants.{MissingKey, Region}
 use Rattle.cell_ascii_header.proofs.MapLemmas.{known, map_same}
 use Rattle.cell_ascii.proofs.CellLemmas.{with_front, more_fails}
-use Rattle.cell_ascii_faults.proofs.GridFaultLemmas.{opening_agrees, opening_keeps_places}
+use Rattle.cell_ascii_law_faults.proofs.GridFaultLemmas.{opening_agrees, opening_keeps_places}
 use Rattle.cell_ascii.proofs.RowReadLemmas.{implied, rows_kept, end_is}
 
 abbrev then_end : Reading (List (List CellValue)) → Result (List (List CellValue)) GridFault
-then_end r = r >>= (λ x. end_of (start_of x.1.line x.1.run x.1.coming) >>= (λ _. Ok x.0))
+then_end r = r >>= (λ x. end_of (grid_start x.1.line x.1.run x.1.coming) >>= (λ _. Ok x.0))
 
 told_map : {X : Type 0} (F : Coming → X) (v : X) (b : Option Coming) → IfSome b (λ c. F c ≡ v) → option_map F b ≡ option_map (λ c. v) b
 told_map F v None e = refl
@@ -47,7 +47,7 @@ module _ (h : Header) (here : Coming → At) where
   -- all rows were read, and the end answers
   pub data_ends : (there : Coming → At) (a b : Option Coming) (all : List (List CellValue)) (end : Result (Unit {0}) GridFault) (v : Result (List (List CellValue)) GridFault)
       → 0 < h.region.cols → 0 < h.region.rows → IfSome a (λ c. IsPlaceOf (here c)) → option_map (λ c. rows_from h (here c)) a ≡ option_map (λ d. Ok (all, there d)) b
-      → IfSome b (λ d. fault_of end ≡ end_fault (there d)) → (end >>= (λ _. Ok all)) ≡ v → IfSome a (λ c. data_from h (here c) ≡ v)
+      → IfSome b (λ d. fault_of_reading end ≡ end_fault (there d)) → (end >>= (λ _. Ok all)) ≡ v → IfSome a (λ c. data_from h (here c) ≡ v)
   data_ends there None b all end v wide high placed e told is = tt
   data_ends there (Some c) None all end v wide high placed e told is = cc
   data_ends there (Some c) (Some d) all end v wide high placed e told is =
@@ -58,42 +58,42 @@ module _ (h : Header) (here : Coming → At) where
 -- the text of a header and a data that are known
 text_step : (p : ReaderValue) (v : Result (List (List CellValue)) GridFault) (w : Result Grid GridFault) (x y : Coming)
     → (v >>= (λ rows. Ok (record { region = p.header.region; rows = rows; labels = no_labels }))) ≡ w
-    → header_of_text x ≡ Ok (opened_in p y) → data_from p.header (place_in p y) ≡ v → grid_of x ≡ w
+    → header_of_text x ≡ Ok (opened_in p y) → data_from p.header (reader_place p y) ≡ v → grid_of x ≡ w
 unfolding grid_of
 text_step p v w x y is e f = rw (e, f) is
 
 text_is : (p : ReaderValue) (v : Result (List (List CellValue)) GridFault) (w : Result Grid GridFault) (a b : Option Coming)
     → (v >>= (λ rows. Ok (record { region = p.header.region; rows = rows; labels = no_labels }))) ≡ w
-    → option_map header_of_text a ≡ option_map (λ c. Ok (opened_in p c)) b → IfSome b (λ c. data_from p.header (place_in p c) ≡ v) → IfSome a (λ c. grid_of c ≡ w)
+    → option_map header_of_text a ≡ option_map (λ c. Ok (opened_in p c)) b → IfSome b (λ c. data_from p.header (reader_place p c) ≡ v) → IfSome a (λ c. grid_of c ≡ w)
 text_is p v w None b is e f = tt
 text_is p v w (Some x) None is e f = cc
 text_is p v w (Some x) (Some y) is e f = let h : header_of_text x ≡ Ok (opened_in p y) = cc in text_step p v w x y is h f
 
 module _ (p : ReaderValue) (a b : Option Coming) (opened : option_map header_of_text a ≡ option_map (λ c. Ok (opened_in p c)) b) where
-  pub text_map : (m : Grid) → (m.region ≡ p.header.region) × (m.labels ≡ no_labels) → IfSome b (λ c. data_from p.header (place_in p c) ≡ Ok m.rows) → IfSome a (λ c. grid_of c ≡ Ok m)
+  pub text_map : (m : Grid) → (m.region ≡ p.header.region) × (m.labels ≡ no_labels) → IfSome b (λ c. data_from p.header (reader_place p c) ≡ Ok m.rows) → IfSome a (λ c. grid_of c ≡ Ok m)
   text_map m parts rows = text_is p (Ok m.rows) (Ok m) a b (λ i. Ok (record { region = sym parts.0 i; rows = m.rows; labels = sym parts.1 i })) opened rows
 
-  pub text_fails : (f : GridFault) → IfSome b (λ c. data_from p.header (place_in p c) ≡ Err f) → IfSome a (λ c. grid_of c ≡ Err f)
+  pub text_fails : (f : GridFault) → IfSome b (λ c. data_from p.header (reader_place p c) ≡ Err f) → IfSome a (λ c. grid_of c ≡ Err f)
   text_fails f rows = text_is p (Err f) (Err f) a b refl opened rows
 
-opened_places : (p : ReaderValue) (a b : Option Coming) → option_map header_of_text a ≡ option_map (λ c. Ok (opened_in p c)) b → IfSome b (λ c. IsPlaceOf (place_in p c))
+opened_places : (p : ReaderValue) (a b : Option Coming) → option_map header_of_text a ≡ option_map (λ c. Ok (opened_in p c)) b → IfSome b (λ c. IsPlaceOf (reader_place p c))
 opened_places p a None e = tt
 opened_places p None (Some d) e = cc
 opened_places p (Some c) (Some d) e = let o : header_of_text c ≡ Ok (opened_in p d) = cc in opening_keeps_places c (opened_in p d) o
 
 module _ (p s : ReaderValue) (a : Option Coming) (opened : option_map header_of_text a ≡ option_map (λ c. Ok (opened_in p c)) p.coming)
     (high : 0 < p.header.region.rows) (wide : 0 < p.header.region.cols) (all : List (List CellValue))
-    (rows : option_map (λ c. rows_from p.header (place_in p c)) p.coming ≡ option_map (λ d. Ok (all, place_in s d)) s.coming) where
-  ends : (end : Result (Unit {0}) GridFault) (v : Result (List (List CellValue)) GridFault) → IfSome s.coming (λ d. fault_of end ≡ end_fault (place_in s d)) → (end >>= (λ _. Ok all)) ≡ v
-      → IfSome p.coming (λ c. data_from p.header (place_in p c) ≡ v)
-  ends end v told is = data_ends p.header (place_in p) (place_in s) p.coming s.coming all end v wide high (opened_places p a p.coming opened) rows told is
+    (rows : option_map (λ c. rows_from p.header (reader_place p c)) p.coming ≡ option_map (λ d. Ok (all, reader_place s d)) s.coming) where
+  ends : (end : Result (Unit {0}) GridFault) (v : Result (List (List CellValue)) GridFault) → IfSome s.coming (λ d. fault_of_reading end ≡ end_fault (reader_place s d)) → (end >>= (λ _. Ok all)) ≡ v
+      → IfSome p.coming (λ c. data_from p.header (reader_place p c) ≡ v)
+  ends end v told is = data_ends p.header (reader_place p) (reader_place s) p.coming s.coming all end v wide high (opened_places p a p.coming opened) rows told is
 
   -- the map whose rows they are
-  pub whole_read : (m : Grid) → (m.region ≡ p.header.region) × (m.labels ≡ no_labels) → all ≡ m.rows → IfSome s.coming (λ d. fault_of {X = Unit {0}} (Ok tt) ≡ end_fault (place_in s d)) → IfSome a (λ c. grid_of c ≡ Ok m)
+  pub whole_read : (m : Grid) → (m.region ≡ p.header.region) × (m.labels ≡ no_labels) → all ≡ m.rows → IfSome s.coming (λ d. fault_of_reading {X = Unit {0}} (Ok tt) ≡ end_fault (reader_place s d)) → IfSome a (λ c. grid_of c ≡ Ok m)
   whole_read m parts is told = text_map p a p.coming opened m parts (ends (Ok tt) (Ok m.rows) told (ap Ok is))
 
   -- behind the rows a fault
-  pub end_fails : (f : GridFault) → IfSome s.coming (λ d. fault_of {X = Unit {0}} (Err f) ≡ end_fault (place_in s d)) → IfSome a (λ c. grid_of c ≡ Err f)
+  pub end_fails : (f : GridFault) → IfSome s.coming (λ d. fault_of_reading {X = Unit {0}} (Err f) ≡ end_fault (reader_place s d)) → IfSome a (λ c. grid_of c ≡ Err f)
   end_fails f told = text_fails p a p.coming opened f (ends (Err f) (Err f) told refl)
 
 -- a fault of the header is the text's
@@ -129,12 +129,12 @@ open_reads keys word line waiting a b h e good =
 
 -- where each of the six keys stood, the header is judged by their region
 all_given : (k : Keys) (north south east west : ℤ) (rows cols : ℕ) → k.north ≡ Some north → k.south ≡ Some south → k.east ≡ Some east → k.west ≡ Some west → k.rows ≡ Some rows → k.cols ≡ Some cols
-    → judged k (region_fault (record { north = north; south = south; east = east; west = west; rows = rows; cols = cols })) ≡ header_of k
+    → header_of_keys k (region_fault (record { north = north; south = south; east = east; west = west; rows = rows; cols = cols })) ≡ header_of k
 all_given k north south east west rows cols n s e w r c = rw (n, s, e, w, r, c) refl
 
 -- what holds of the faults of all keys together
 module _ (P : GridKind → Type 0) (missing : P MissingKey) (region : (f : RegionFault) → P (Region f)) (k : Keys) where
-  judged_has : (r : Result RegionValue RegionFault) (kind : GridKind) → judged k r ≡ Err kind → P kind
+  judged_has : (r : Result RegionValue RegionFault) (kind : GridKind) → header_of_keys k r ≡ Err kind → P kind
   judged_has (Ok given) kind e = cc
   judged_has (Err f) kind e = let p : Region f ≡ kind = cc in subst P p (region f)
 

@@ -1,19 +1,19 @@
 -- What a row that was read, or was cut off, says of the text.
 use Rattle.std.proofs.Common.{◌≡◌, ℕ, zero, suc, ◌+◌, ◌*◌, ◌^◌, ◌<◌, ◌≤◌, List, [], ◌∷◌, ◌++◌, Option, Some, None, Result, Ok, Err, length, take, drop, refl, ap, sym, ◌∙◌, arith, subst, mul-le-mul}
 use Rattle.std.specs.Option.{option_map, IfSome}
-use Rattle.cell_devices.specs.Device.{Coming}
+use Rattle.cell_core_devices.specs.Device.{Coming}
 use Rattle.cell_core.specs.Grid.{CellValue}
-use Rattle.cell_ascii_text.specs.Words.{start_of}
-use Rattle.cell_ascii_text.specs.Header.{◌>>=◌, At, Header, header_of_text}
-use Rattle.cell_ascii_text.specs.Cells.{Reading, cell_from, many, end_of}
-use Rattle.cell_ascii_text.specs.RowPlaces.{IsPlaceOf, cells_fault, end_fault}
+use Rattle.cell_ascii_meaning.specs.GridTokens.{grid_start}
+use Rattle.cell_ascii_meaning.specs.Header.{◌>>=◌, At, Header, header_of_text}
+use Rattle.cell_ascii_meaning.specs.CellTexts.{Reading, cell_from, many, end_of}
+use Rattle.cell_ascii_meaning.specs.RowPlaces.{IsPlaceOf, cells_fault, end_fault}
 use Rattle.cell_ascii.specs.Reader.{always}
-use Rattle.cell_ascii.specs.GridReaders.{fault_of, IsCutRow}
-use Rattle.cell_ascii_text.specs.declared.fault.GridFault.{GridFault}
-use Rattle.cell_ascii_faults.proofs.PlaceDataLemmas.{fault_in}
-use Rattle.cell_ascii_faults.proofs.RowPlaceLemmas.{cells_told, end_told}
-use Rattle.cell_ascii_faults.proofs.PlaceKeptLemmas.{cells_kept}
-use Rattle.cell_ascii_faults.proofs.GridFaultLemmas.{opening_keeps_places}
+use Rattle.cell_ascii.specs.GridReaders.{fault_of_reading, IsCutRow}
+use Rattle.cell_ascii_meaning.specs.declared.grid_fault.GridFault.{GridFault}
+use Rattle.cell_ascii_law_faults.proofs.PlaceDataLemmas.{fault_in}
+use Rattle.cell_ascii_law_faults.proofs.RowPlaceLemmas.{cells_told, end_told}
+use Rattle.cell_ascii_law_faults.proofs.PlaceKeptLemmas.{cells_kept}
+use Rattle.cell_ascii_law_faults.proofs.GridFaultLemmas.{opening_keeps_places}
 use Rattle.cell_ascii_held.proofs.ManyLemmas.{many_cut, many_snoc, with_last}
 
 -- what a known source gives, gives more
@@ -80,23 +80,23 @@ opening_placed h there left (Some c) (Some d) some e =
     let o : header_of_text c ≡ Ok (record { header = h; at = there d }) = cc in
     (opening_keeps_places c (record { header = h; at = there d }) o, λ none. absurd (omega arith))
 
-same_fault : {X : Type 0} (r : Result X GridFault) → fault_of r ≡ fault_in r
+same_fault : {X : Type 0} (r : Result X GridFault) → fault_of_reading r ≡ fault_in r
 same_fault (Ok x) = refl
 same_fault (Err f) = refl
 
 -- what the end answers is what it tells
 pub end_answers : (here : Coming → At) (left : ℕ) (a b : Option Coming) (r : Result (Unit {0}) GridFault) → left ≡ 0
     → IfSome a (λ c. IsPlaceOf (here c) × (left ≡ 0 → (here c).pending ≡ None))
-    → option_map (λ c. end_of (start_of (here c).line (here c).run (here c).coming)) a ≡ option_map (always r) b → IfSome a (λ c. fault_of r ≡ end_fault (here c))
+    → option_map (λ c. end_of (grid_start (here c).line (here c).run (here c).coming)) a ≡ option_map (always r) b → IfSome a (λ c. fault_of_reading r ≡ end_fault (here c))
 end_answers here left None b r none placed e = tt
 end_answers here left (Some c) None r none placed e = cc
 end_answers here left (Some c) (Some d) r none placed e =
-    let o : end_of (start_of (here c).line (here c).run (here c).coming) ≡ r = cc in
+    let o : end_of (grid_start (here c).line (here c).run (here c).coming) ≡ r = cc in
     same_fault r ∙ sym (ap fault_in o) ∙ end_told (here c) (placed.1 none) placed.0.low
 
 -- and what it tells is what it answers
-pub end_is : (at : At) (r : Result (Unit {0}) GridFault) → IsPlaceOf at → at.pending ≡ None → fault_of r ≡ end_fault at → end_of (start_of at.line at.run at.coming) ≡ r
-end_is at r is none told = by (end_of (start_of at.line at.run at.coming)) r (end_told at none is.low ∙ sym told ∙ same_fault r)
+pub end_is : (at : At) (r : Result (Unit {0}) GridFault) → IsPlaceOf at → at.pending ≡ None → fault_of_reading r ≡ end_fault at → end_of (grid_start at.line at.run at.coming) ≡ r
+end_is at r is none told = by (end_of (grid_start at.line at.run at.coming)) r (end_told at none is.low ∙ sym told ∙ same_fault r)
   where
     by : (q r : Result (Unit {0}) GridFault) → fault_in q ≡ fault_in r → q ≡ r
     by (Ok x) (Ok y) e = refl

@@ -1,14 +1,14 @@
 -- An open grid reader, and what its calls answer.
 use Rattle.std.specs.Prelude.{ℕ, ◌≡◌, ◌<◌, Bool, List, length, take, drop, Option, Some, None, Result, Ok, Err}
 use Rattle.std.specs.Option.{option_map}
-use Rattle.cell_devices.specs.Asking.{Heard}
-use Rattle.cell_devices.specs.Device.{Coming}
+use Rattle.cell_core_devices.specs.Asking.{Heard}
+use Rattle.cell_core_devices.specs.Device.{Coming}
 use Rattle.cell_core.specs.Grid.{CellValue}
-use Rattle.cell_ascii_text.specs.Header.{At, Header, Opened, header_of_text}
-use Rattle.cell_ascii_text.specs.Cells.{cell_from, many}
-use Rattle.cell_ascii_text.specs.Words.{fault}
-use Rattle.cell_ascii_text.specs.declared.fault.GridKind.TheVariants.{Failed}
-use Rattle.cell_ascii_text.specs.declared.fault.GridFault.{GridFault}
+use Rattle.cell_ascii_meaning.specs.Header.{At, Header, Opened, header_of_text}
+use Rattle.cell_ascii_meaning.specs.CellTexts.{cell_from, many}
+use Rattle.cell_ascii_meaning.specs.GridTokens.{grid_fault}
+use Rattle.cell_ascii_meaning.specs.declared.grid_fault.GridKind.TheVariants.{Failed}
+use Rattle.cell_ascii_meaning.specs.declared.grid_fault.GridFault.{GridFault}
 
 -- what the header says, how many rows are still to come, a first token of the data that is not yet judged, the line,
 -- the length of the run of blanks and line feeds, whether it has failed, the bytes to come where they are known, and what
@@ -24,25 +24,25 @@ pub record ReaderValue : Type 0 where
   pub heard : Heard
 
 -- the place of a text that it is at
-abbrev pub place_in : ReaderValue → Coming → At
-place_in r c = record { pending = r.pending; line = r.line; run = r.run; coming = c }
+abbrev pub reader_place : ReaderValue → Coming → At
+reader_place r c = record { pending = r.pending; line = r.line; run = r.run; coming = c }
 
 -- the header that was read, and where the data begins
 abbrev pub opened_in : ReaderValue → Coming → Opened
-opened_in r c = record { header = r.header; at = place_in r c }
+opened_in r c = record { header = r.header; at = reader_place r c }
 
 -- a reader that read the header of a text, and nothing behind its first token
 abbrev pub IsOpened : Option Coming → ReaderValue → Type 0
 IsOpened text r = option_map header_of_text text ≡ option_map (λ c. Ok (opened_in r c)) r.coming
 
 -- the fault of an answer
-abbrev pub fault_of : {X : Type 0} → Result X GridFault → Option GridFault
-fault_of (Ok x) = None
-fault_of (Err f) = Some f
+abbrev pub fault_of_reading : {X : Type 0} → Result X GridFault → Option GridFault
+fault_of_reading (Ok x) = None
+fault_of_reading (Err f) = Some f
 
 -- a reader that refused answers this from then on
-abbrev pub has_failed : GridFault
-has_failed = fault Failed 0
+abbrev pub reader_has_failed : GridFault
+reader_has_failed = grid_fault Failed 0
 
 -- a row that was cut off: the cells that were read of it stand in front, and behind them what stood there
 pub record IsCutRow (h : Header) (at : At) (f : GridFault) (old new : List CellValue) : Type 0 where

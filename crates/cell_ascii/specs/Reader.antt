@@ -1,19 +1,19 @@
 -- What a reader is at, and what its calls answer.
 use Rattle.std.specs.Prelude.{ℕ, ◌≡◌, ◌+◌, ◌*◌, ◌^◌, ◌<◌, Bool, false, List, [], Option, Some, None, Result, Ok, Err, IfSome, if◌then◌else◌}
-use Rattle.cell_devices.specs.Device.{Coming}
+use Rattle.cell_core_devices.specs.Device.{Coming}
 use Rattle.cell_core.specs.Grid.{CellValue}
-use Rattle.cell_scanner.specs.Ahead.{Ahead, to_come}
-use Rattle.cell_scanner.specs.Scan.{Scan}
-use Rattle.cell_ascii_text.specs.Words.{Start, Begins, Ends, Stops, word_from, fault}
-use Rattle.cell_ascii_text.specs.Header.{◌>>=◌, At, Header, Opened}
-use Rattle.cell_ascii_text.specs.Cells.{Reading, cell_from, many}
-use Rattle.cell_ascii_text.specs.RowPlaces.{IsPlaceOf}
-use Rattle.cell_ascii.specs.GridReaders.{ReaderValue, place_in}
-use Rattle.cell_ascii_text.specs.declared.fault.GridKind.TheVariants.{TooFew}
-use Rattle.cell_ascii_text.specs.declared.fault.GridFault.{GridFault}
+use Rattle.cell_ascii_scanner.specs.Ahead.{Ahead, bytes_to_come}
+use Rattle.cell_ascii_scanner.specs.Scan.{Scan}
+use Rattle.cell_ascii_meaning.specs.GridTokens.{Start, Begins, Ends, Stops, word_from, grid_fault}
+use Rattle.cell_ascii_meaning.specs.Header.{◌>>=◌, At, Header, Opened}
+use Rattle.cell_ascii_meaning.specs.CellTexts.{Reading, cell_from, many}
+use Rattle.cell_ascii_meaning.specs.RowPlaces.{IsPlaceOf}
+use Rattle.cell_ascii.specs.GridReaders.{ReaderValue, reader_place}
+use Rattle.cell_ascii_meaning.specs.declared.grid_fault.GridKind.TheVariants.{TooFew}
+use Rattle.cell_ascii_meaning.specs.declared.grid_fault.GridFault.{GridFault}
 
 -- the header, a first word that is not yet judged, the line, the length of the run of blanks and line feeds, and the bytes ahead
-pub record Place : Type 0 where
+pub record ReaderPlace : Type 0 where
   pub header : Header
   pub pending : Option (List ℕ)
   pub line : ℕ
@@ -21,11 +21,11 @@ pub record Place : Type 0 where
   pub ahead : Ahead
 
 -- the place of a text that it is at
-abbrev pub at_place : Place → Coming → At
+abbrev pub at_place : ReaderPlace → Coming → At
 at_place p c = record { pending = p.pending; line = p.line; run = p.run; coming = c }
 
 -- the header that was read, and where the data begins
-abbrev pub opened_at : Place → Coming → Opened
+abbrev pub opened_at : ReaderPlace → Coming → Opened
 opened_at p c = record { header = p.header; at = at_place p c }
 
 -- the same of a scanner behind the header and the first word of the data, if there is one
@@ -34,10 +34,10 @@ opened_by (header, waiting) s c =
     record { header = header; at = record { pending = (if waiting then Some s.word else None); line = s.line; run = 0; coming = c } }
 
 -- the next word, with its line
-abbrev pub token_of : Start → Result (ℕ × (List ℕ × Coming)) GridFault
-token_of (Begins line c) = word_from line [] c >>= (λ w. Ok (line, w))
-token_of (Ends line) = Err (fault TooFew line)
-token_of (Stops f) = Err f
+abbrev pub token_read : Start → Result (ℕ × (List ℕ × Coming)) GridFault
+token_read (Begins line c) = word_from line [] c >>= (λ w. Ok (line, w))
+token_read (Ends line) = Err (grid_fault TooFew line)
+token_read (Stops f) = Err f
 
 -- what an answer says of the next word, with its line
 abbrev pub token_seen : Result (Unit {0}) GridFault → ℕ → List ℕ → Coming → Result (ℕ × (List ℕ × Coming)) GridFault
@@ -45,7 +45,7 @@ token_seen (Ok u) line word c = Ok (line, (word, c))
 token_seen (Err f) line word c = Err f
 
 -- what an answer says of a reading
-abbrev pub reading_seen : {X : Type 0} → Result X GridFault → Place → Coming → Reading X
+abbrev pub reading_seen : {X : Type 0} → Result X GridFault → ReaderPlace → Coming → Reading X
 reading_seen (Ok x) p c = Ok (x, at_place p c)
 reading_seen (Err f) p c = Err f
 
@@ -54,16 +54,16 @@ abbrev pub always : {X : Type 0} → X → Coming → X
 always x c = x
 
 -- a reader of rows at a place
-abbrev pub reader_at : Place → ℕ → Bool → ReaderValue
+abbrev pub reader_at : ReaderPlace → ℕ → Bool → ReaderValue
 reader_at p rows_left failed =
-    record { header = p.header; rows_left = rows_left; pending = p.pending; line = p.line; run = p.run; failed = failed; coming = to_come p.ahead; heard = p.ahead.heard }
+    record { header = p.header; rows_left = rows_left; pending = p.pending; line = p.line; run = p.run; failed = failed; coming = bytes_to_come p.ahead; heard = p.ahead.heard }
 
 -- a place of the text, where no token waits behind the last row
 abbrev pub IsPlaced : ReaderValue → Type 0
-IsPlaced r = IfSome r.coming (λ c. IsPlaceOf (place_in r c) × (r.rows_left ≡ 0 → r.pending ≡ None))
+IsPlaced r = IfSome r.coming (λ c. IsPlaceOf (reader_place r c) × (r.rows_left ≡ 0 → r.pending ≡ None))
 
 -- a reader of rows that has not failed can number the lines to come, is at a place of the text, and heard no `Err`
-pub record IsReady (r : ReaderValue) : Type 0 where
+pub record IsReaderReady (r : ReaderValue) : Type 0 where
   pub wide : 0 < r.header.region.cols
   pub lines : r.failed ≡ false → r.line + (r.rows_left * r.header.region.cols + 1) * 1048577 < 2 ^ 63
   pub placed : r.failed ≡ false → IsPlaced r

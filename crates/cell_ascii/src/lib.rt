@@ -1,8 +1,8 @@
 //! Grid texts: how they are read, row by row or whole, and written (r.in.ascii, r.out.ascii).
 #![tactic(auto)]
 
+pub mod grid_reader;
 pub mod law;
-pub mod reader;
 
-pub use cell_ascii_text::fault;
+pub use cell_ascii_meaning::grid_fault;
 pub use cell_ascii_writer::writer;

@@ -1,12 +1,12 @@
 -- Which faults are of the text.
 use Rattle.std.proofs.Common.{◌≡◌, ℕ, List, Option, Some, None, Ok, Err, Bool, true, false, if◌then◌else◌, refl, subst}
-use Rattle.cell_ascii_text.specs.Numbers.{coordinate, side, whole_in_range}
-use Rattle.cell_ascii_text.specs.Header.{Keys, given, is_int, has_colon, with_key}
-use Rattle.cell_ascii_text.specs.Kinds.{IsOfText, is_read}
-use Rattle.cell_ascii_text.specs.declared.key.Key.{Key}
-use Rattle.cell_ascii_text.specs.declared.key.Key.TheVariants.{North, South, East, West, Rows, Cols, Null, CellType, Multiplier}
-use Rattle.cell_ascii_text.specs.declared.fault.GridKind.{GridKind}
-use Rattle.cell_ascii_text.specs.declared.fault.GridKind.TheVariants.{BadHeader, TwiceKey, BadNumber, BadType}
+use Rattle.cell_ascii_meaning.specs.EdgeNumbers.{coordinate, side, whole_in_range}
+use Rattle.cell_ascii_meaning.specs.Header.{Keys, given, is_int, has_colon, with_header_key}
+use Rattle.cell_ascii_meaning.specs.Kinds.{IsOfText, is_read}
+use Rattle.cell_ascii_meaning.specs.declared.header_key.Key.{Key}
+use Rattle.cell_ascii_meaning.specs.declared.header_key.Key.TheVariants.{North, South, East, West, Rows, Cols, Null, CellType, Multiplier}
+use Rattle.cell_ascii_meaning.specs.declared.grid_fault.GridKind.{GridKind}
+use Rattle.cell_ascii_meaning.specs.declared.grid_fault.GridKind.TheVariants.{BadHeader, TwiceKey, BadNumber, BadType}
 
 -- what holds of the four faults of a key
 module _ (P : GridKind → Type 0) (header : P BadHeader) (twice : P TwiceKey) (number : P BadNumber) (other : P BadType) where
@@ -24,7 +24,7 @@ module _ (P : GridKind → Type 0) (header : P BadHeader) (twice : P TwiceKey) (
   type_kind false true keys kind e = cc
   type_kind false false keys kind e = let p : BadType ≡ kind = cc in subst P p other
 
-  key_has : (keys : Keys) (key : Option Key) (value : List ℕ) (kind : GridKind) → with_key keys key value ≡ Err kind → P kind
+  key_has : (keys : Keys) (key : Option Key) (value : List ℕ) (kind : GridKind) → with_header_key keys key value ≡ Err kind → P kind
   key_has keys None value kind e = let p : BadHeader ≡ kind = cc in subst P p header
   key_has keys (Some North) value kind e = given_kind keys.north (coordinate value) (λ x. record keys { north = Some x }) kind e
   key_has keys (Some South) value kind e = given_kind keys.south (coordinate value) (λ x. record keys { south = Some x }) kind e
@@ -37,8 +37,8 @@ module _ (P : GridKind → Type 0) (header : P BadHeader) (twice : P TwiceKey) (
   key_has keys (Some Multiplier) value kind e = given_kind keys.multiplier (whole_in_range value) (λ x. record keys { multiplier = Some x }) kind e
 
 -- a key that is not taken is a fault of the text, and not of its source
-pub key_kind : (keys : Keys) (key : Option Key) (value : List ℕ) (kind : GridKind) → with_key keys key value ≡ Err kind → IsOfText kind
+pub key_kind : (keys : Keys) (key : Option Key) (value : List ℕ) (kind : GridKind) → with_header_key keys key value ≡ Err kind → IsOfText kind
 key_kind = key_has IsOfText tt tt tt tt
 
-pub key_told : (keys : Keys) (key : Option Key) (value : List ℕ) (kind : GridKind) → with_key keys key value ≡ Err kind → is_read kind ≡ false
+pub key_told : (keys : Keys) (key : Option Key) (value : List ℕ) (kind : GridKind) → with_header_key keys key value ≡ Err kind → is_read kind ≡ false
 key_told = key_has (λ kind. is_read kind ≡ false) refl refl refl refl

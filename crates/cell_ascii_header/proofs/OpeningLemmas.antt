@@ -4,24 +4,24 @@ use Rattle.std.proofs.lemmas.List.{drop_all}
 use Rattle.std.specs.Option.{option_map}
 use Rattle.std.specs.Result.{IsErr}
 use Rattle.std.specs.List.{before_first, after_first, list_any, position_or_len}
-use Rattle.cell_devices.specs.Device.{Coming}
-use Rattle.cell_ascii_text.specs.Words.{Start, Begins, Ends, Stops, start_of, word_from, fault}
-use Rattle.cell_ascii_text.specs.Header.{◌>>=◌, Keys, LineEnd, is_colon, at_line, with_key, Gap, Word, Feed as FeedGap, Last, Fault, value_from, line_end, gap_of, key_line, after_line, line_from, header_from, Opened, opened, ended}
-use Rattle.cell_scanner.specs.Ahead.{IsAtEnd}
-use Rattle.cell_ascii_text.specs.KeyNames.{key_of}
-use Rattle.cell_ascii_text.specs.declared.key.Key.{Key}
-use Rattle.cell_ascii_text.specs.declared.fault.GridKind.TheVariants.{BadHeader}
-use Rattle.cell_scanner.specs.Scan.{start_seen, word_seen, line_seen as lines_seen}
+use Rattle.cell_core_devices.specs.Device.{Coming}
+use Rattle.cell_ascii_meaning.specs.GridTokens.{Start, Begins, Ends, Stops, grid_start, word_from, grid_fault}
+use Rattle.cell_ascii_meaning.specs.Header.{◌>>=◌, Keys, LineEnd, is_colon, at_line, with_header_key, Gap, Word, Feed as FeedGap, Last, Fault, value_from, line_end, gap_of, key_line, after_line, line_from, header_from, Opened, opened, header_ended}
+use Rattle.cell_ascii_scanner.specs.Ahead.{IsAtEnd}
+use Rattle.cell_ascii_meaning.specs.KeyNames.{header_key_of}
+use Rattle.cell_ascii_meaning.specs.declared.header_key.Key.{Key}
+use Rattle.cell_ascii_meaning.specs.declared.grid_fault.GridKind.TheVariants.{BadHeader}
+use Rattle.cell_ascii_scanner.specs.Scan.{start_seen, word_seen, line_count_seen as lines_seen}
 use Rattle.cell_ascii_header.specs.Opening.{value_seen, ending_seen, key_line_seen, AfterLine, More, Stop, after_key, line_read}
-use Rattle.cell_ascii_text.specs.declared.fault.GridKind.{GridKind}
-use Rattle.cell_ascii_text.specs.declared.fault.GridFault.{GridFault}
-use Rattle.cell_ascii_header.specs.declared.opening.Ending.{Ending}
-use Rattle.cell_ascii_header.specs.declared.opening.Ending.TheVariants.{Feed, Text}
-use Rattle.cell_scanner.specs.declared.scanner.Next.TheVariants.{Word as NextWord}
-use Rattle.cell_scanner.specs.declared.scanner.InLine.{InLine}
-use Rattle.cell_scanner.specs.declared.scanner.InLine.TheVariants.{Word as LineWord, Feed as LineFeed, End as LineEnding}
+use Rattle.cell_ascii_meaning.specs.declared.grid_fault.GridKind.{GridKind}
+use Rattle.cell_ascii_meaning.specs.declared.grid_fault.GridFault.{GridFault}
+use Rattle.cell_ascii_header.specs.declared.header_reading.Ending.{Ending}
+use Rattle.cell_ascii_header.specs.declared.header_reading.Ending.TheVariants.{Feed, Text}
+use Rattle.cell_ascii_scanner.specs.declared.scanner.Next.TheVariants.{Word as NextWord}
+use Rattle.cell_ascii_scanner.specs.declared.scanner.InLine.{InLine}
+use Rattle.cell_ascii_scanner.specs.declared.scanner.InLine.TheVariants.{Word as LineWord, Feed as LineFeed, End as LineEnding}
 use Rattle.cell_ascii_header.proofs.MapLemmas.{then_map, map_same}
-use Rattle.cell_scanner.proofs.StartLemmas.{at_end}
+use Rattle.cell_ascii_scanner.proofs.StartLemmas.{at_end}
 
 -- what stands behind the colon is the value
 pub value_here : (line : ℕ) (bs : List ℕ) (c : Coming) → 0 < length bs → value_from line bs c ≡ Ok (bs, c)
@@ -31,8 +31,8 @@ value_here line (b ∷ bs) c h = refl
 -- what the end of the blanks makes of a value that does not stand in the word
 abbrev after_blanks : ℕ → Gap → Result (List ℕ × Coming) GridFault
 after_blanks line (Word d) = word_from line [] d
-after_blanks line (FeedGap run d) = Err (fault BadHeader line)
-after_blanks line Last = Err (fault BadHeader line)
+after_blanks line (FeedGap run d) = Err (grid_fault BadHeader line)
+after_blanks line Last = Err (grid_fault BadHeader line)
 after_blanks line (Fault f) = Err f
 
 value_later : (line : ℕ) (c : Coming) (gap : Gap) → gap_of line 0 c ≡ gap → value_from line [] c ≡ after_blanks line gap
@@ -69,7 +69,7 @@ abbrev after_end : Result Keys GridKind → ℕ → Result LineEnd GridFault →
 after_end more line r = r >>= (λ end. at_line line more >>= (λ k. Ok (k, end)))
 
 abbrev after_value : ℕ → Keys → List ℕ → Result (List ℕ × Coming) GridFault → Result (Keys × LineEnd) GridFault
-after_value line keys word r = r >>= (λ value. after_end (with_key keys (key_of (before_first is_colon word)) value.0) line (line_end line (gap_of line 0 value.1)))
+after_value line keys word r = r >>= (λ value. after_end (with_header_key keys (header_key_of (before_first is_colon word)) value.0) line (line_end line (gap_of line 0 value.1)))
 
 ends_with : (more : Keys) (line run : ℕ) (e : Ending) (c : Coming) → after_end (Ok more) line (ending_seen (Ok e) run c) ≡ key_line_seen (Ok e) more run c
 ends_with more line run Feed c = refl
@@ -79,12 +79,12 @@ ends_with more line run Text c = refl
 pub key_done : (line : ℕ) (keys : Keys) (word w : List ℕ) (at run : ℕ) (e : Ending) (more : Keys) (a b d : Option Coming)
     → option_map (value_from line (after_first is_colon word)) a ≡ option_map (value_seen (Ok at) w) b
     → option_map (λ c. line_end line (gap_of line 0 c)) b ≡ option_map (ending_seen (Ok e) run) d
-    → with_key keys (key_of (before_first is_colon word)) (drop at w) ≡ Ok more
+    → with_header_key keys (header_key_of (before_first is_colon word)) (drop at w) ≡ Ok more
     → option_map (key_line line keys word) a ≡ option_map (key_line_seen (Ok e) more run) d
 key_done line keys word w at run e more a b d values ends given =
     then_map (after_value line keys word) (value_from line (after_first is_colon word)) (value_seen (Ok at) w) a b
     values
-    ∙ then_map (after_end (with_key keys (key_of (before_first is_colon word)) (drop at w)) line)
+    ∙ then_map (after_end (with_header_key keys (header_key_of (before_first is_colon word)) (drop at w)) line)
     (λ c. line_end line (gap_of line 0 c)) (ending_seen (Ok e) run) b d ends
     ∙ ap (λ (v : Result Keys GridKind). option_map (λ c. after_end v line (ending_seen (Ok e) run c)) d) given
     ∙ map_same (λ c. after_end (Ok more) line (ending_seen (Ok e) run c)) (key_line_seen (Ok e) more run) d (ends_with more line run e)
@@ -107,11 +107,11 @@ pub key_unended : (line : ℕ) (keys : Keys) (word w : List ℕ) (at run : ℕ) 
 key_unended line keys word w at run more f a b d values ends =
     then_map (after_value line keys word) (value_from line (after_first is_colon word)) (value_seen (Ok at) w) a b
     values
-    ∙ then_map (after_end (with_key keys (key_of (before_first is_colon word)) (drop at w)) line)
+    ∙ then_map (after_end (with_header_key keys (header_key_of (before_first is_colon word)) (drop at w)) line)
     (λ c. line_end line (gap_of line 0 c)) (ending_seen (Err f) run) b d ends
 
 refused_with : (kind : GridKind) (line run : ℕ) (e : Ending) (c : Coming)
-    → after_end (Err kind) line (ending_seen (Ok e) run c) ≡ Err (fault kind line)
+    → after_end (Err kind) line (ending_seen (Ok e) run c) ≡ Err (grid_fault kind line)
 refused_with kind line run Feed c = refl
 refused_with kind line run Text c = refl
 
@@ -120,16 +120,16 @@ pub key_refused : (line : ℕ) (keys : Keys) (word w : List ℕ) (at run : ℕ) 
     (a b d : Option Coming)
     → option_map (value_from line (after_first is_colon word)) a ≡ option_map (value_seen (Ok at) w) b
     → option_map (λ c. line_end line (gap_of line 0 c)) b ≡ option_map (ending_seen (Ok e) run) d
-    → with_key keys (key_of (before_first is_colon word)) (drop at w) ≡ Err kind
-    → option_map (key_line line keys word) a ≡ option_map (key_line_seen (Err (fault kind line)) more run) d
+    → with_header_key keys (header_key_of (before_first is_colon word)) (drop at w) ≡ Err kind
+    → option_map (key_line line keys word) a ≡ option_map (key_line_seen (Err (grid_fault kind line)) more run) d
 key_refused line keys word w at run e more kind a b d values ends given =
     then_map (after_value line keys word) (value_from line (after_first is_colon word)) (value_seen (Ok at) w) a b
     values
-    ∙ then_map (after_end (with_key keys (key_of (before_first is_colon word)) (drop at w)) line)
+    ∙ then_map (after_end (with_header_key keys (header_key_of (before_first is_colon word)) (drop at w)) line)
     (λ c. line_end line (gap_of line 0 c)) (ending_seen (Ok e) run) b d ends
     ∙ ap (λ (v : Result Keys GridKind). option_map (λ c. after_end v line (ending_seen (Ok e) run c)) d) given
     ∙ map_same (λ c. after_end (Err kind) line (ending_seen (Ok e) run c))
-    (key_line_seen (Err (fault kind line)) more run) d (refused_with kind line run e)
+    (key_line_seen (Err (grid_fault kind line)) more run) d (refused_with kind line run e)
 
 -- the rest of a list, cut at its own length, is the rest
 whole_rest : (bs : List ℕ) (i : ℕ) → take (length bs - i) (drop i bs) ≡ drop i bs
@@ -138,13 +138,13 @@ whole_rest bs i = take_all (length bs - i) (drop i bs) (omega (arith, length-dro
 -- the key and the value as they are computed
 pub key_given : (keys : Keys) (r : Result Keys GridKind) (word first last end : List ℕ) (colon at : ℕ)
     (key : Option Key)
-    → colon ≡ position_or_len is_colon word → first ≡ word → key ≡ key_of (take colon first) → last ≡ end
-    → r ≡ with_key keys key (take (length last - at) (drop at last))
-    → with_key keys (key_of (before_first is_colon word)) (drop at end) ≡ r
+    → colon ≡ position_or_len is_colon word → first ≡ word → key ≡ header_key_of (take colon first) → last ≡ end
+    → r ≡ with_header_key keys key (take (length last - at) (drop at last))
+    → with_header_key keys (header_key_of (before_first is_colon word)) (drop at end) ≡ r
 key_given keys r word first last end colon at key place is_first is_key is_last given =
-    let k : key ≡ key_of (before_first is_colon word) = is_key ∙ (λ i. key_of (take (place i) (is_first i))) in
+    let k : key ≡ header_key_of (before_first is_colon word) = is_key ∙ (λ i. header_key_of (take (place i) (is_first i))) in
     let rest : take (length last - at) (drop at last) ≡ drop at end = whole_rest last at ∙ ap (drop at) is_last in
-    sym (given ∙ (λ i. with_key keys (k i) (rest i)))
+    sym (given ∙ (λ i. with_header_key keys (k i) (rest i)))
 
 later : (p : ℕ → Bool) (x : ℕ) (xs : List ℕ) → p x ≡ false → position_or_len p (x ∷ xs) ≡ 1 + position_or_len p xs
 later p x xs e = ap (λ (t : Bool). cond (not t) (1 + position_or_len p xs) 0) e
@@ -173,39 +173,39 @@ abbrev after_first_word : Keys → ℕ → Result (List ℕ × Coming) GridFault
 after_first_word keys line r = r >>= (λ w. if list_any is_colon w.0 then key_line line keys w.0 w.1 >>= after_key line else Ok (Stop keys line (Some w.0) w.1))
 
 module _ (keys : Keys) (line run l : ℕ) (word : List ℕ) (a b d : Option Coming)
-    (starts : option_map (start_of line run) a ≡ option_map (start_seen (Ok NextWord) l) b)
+    (starts : option_map (grid_start line run) a ≡ option_map (start_seen (Ok NextWord) l) b)
     (words : option_map (word_from l []) b ≡ option_map (word_seen (Ok tt) word) d) where
-  first_word : option_map (λ c. line_read keys (start_of line run c)) a ≡ option_map (λ c. after_first_word keys l (Ok (word, c))) d
+  first_word : option_map (λ c. line_read keys (grid_start line run c)) a ≡ option_map (λ c. after_first_word keys l (Ok (word, c))) d
   first_word =
-      then_map (line_read keys) (start_of line run) (start_seen (Ok NextWord) l) a b starts
+      then_map (line_read keys) (grid_start line run) (start_seen (Ok NextWord) l) a b starts
       ∙ then_map (after_first_word keys l) (word_from l []) (word_seen (Ok tt) word) b d words
 
   -- the data begins
-  pub line_data : list_any is_colon word ≡ false → option_map (λ c. line_read keys (start_of line run c)) a ≡ option_map (λ c. Ok (Stop keys l (Some word) c)) d
+  pub line_data : list_any is_colon word ≡ false → option_map (λ c. line_read keys (grid_start line run c)) a ≡ option_map (λ c. Ok (Stop keys l (Some word) c)) d
   line_data none = first_word ∙ map_same (λ c. after_first_word keys l (Ok (word, c))) (λ c. Ok (Stop keys l (Some word) c)) d (λ c. rw none refl)
 
-  key_word : list_any is_colon word ≡ true → option_map (λ c. line_read keys (start_of line run c)) a ≡ option_map (λ c. key_line l keys word c >>= after_key l) d
+  key_word : list_any is_colon word ≡ true → option_map (λ c. line_read keys (grid_start line run c)) a ≡ option_map (λ c. key_line l keys word c >>= after_key l) d
   key_word some = first_word ∙ map_same (λ c. after_first_word keys l (Ok (word, c))) (λ c. key_line l keys word c >>= after_key l) d (λ c. rw some refl)
 
   module _ (some : list_any is_colon word ≡ true) (more : Keys) (run' : ℕ) (e : Option Coming) where
     line_ends : (r : Result Ending GridFault) → option_map (key_line l keys word) d ≡ option_map (key_line_seen r more run') e
-        → option_map (λ c. line_read keys (start_of line run c)) a ≡ option_map (λ c. key_line_seen r more run' c >>= after_key l) e
+        → option_map (λ c. line_read keys (grid_start line run c)) a ≡ option_map (λ c. key_line_seen r more run' c >>= after_key l) e
     line_ends r h = key_word some ∙ then_map (λ r. r >>= after_key l) (key_line l keys word) (key_line_seen r more run') d e h
 
     -- a further line comes
     pub line_more : (m : ℕ) → m ≡ l + 1 → option_map (key_line l keys word) d ≡ option_map (key_line_seen (Ok Feed) more run') e
-        → option_map (λ c. line_read keys (start_of line run c)) a ≡ option_map (λ c. Ok (More more m run' c)) e
+        → option_map (λ c. line_read keys (grid_start line run c)) a ≡ option_map (λ c. Ok (More more m run' c)) e
     line_more m next h = line_ends (Ok Feed) h ∙ ap (λ (n : ℕ). option_map (λ c. Ok (More more n run' c)) e) (sym next)
 
     -- the text ends with the line
     pub line_last : (m : ℕ) → m ≡ l → IsAtEnd false e → option_map (key_line l keys word) d ≡ option_map (key_line_seen (Ok Text) more run') e
-        → option_map (λ c. line_read keys (start_of line run c)) a ≡ option_map (λ c. Ok (Stop more m None c)) e
+        → option_map (λ c. line_read keys (grid_start line run c)) a ≡ option_map (λ c. Ok (Stop more m None c)) e
     line_last m same end h =
-        line_ends (Ok Text) h ∙ at_end (λ c. Ok (Stop more l None ended)) (λ c. Ok (Stop more l None c)) e false end refl
+        line_ends (Ok Text) h ∙ at_end (λ c. Ok (Stop more l None header_ended)) (λ c. Ok (Stop more l None c)) e false end refl
         ∙ ap (λ (n : ℕ). option_map (λ c. Ok (Stop more n None c)) e) (sym same)
 
     pub line_fails : (f : GridFault) → option_map (key_line l keys word) d ≡ option_map (key_line_seen (Err f) more run') e
-        → option_map (λ c. line_read keys (start_of line run c)) a ≡ option_map (λ c. Err f) e
+        → option_map (λ c. line_read keys (grid_start line run c)) a ≡ option_map (λ c. Err f) e
     line_fails f h = line_ends (Err f) h
 
 -- a line of the header, and then what is read behind it
@@ -238,11 +238,11 @@ module _ (rest : Keys → ℕ → ℕ → Coming → Result Opened GridFault) wh
   line_on keys (Stops f) = refl
 
 header_more : (fuel : ℕ) (keys : Keys) (line run : ℕ) (c : Coming)
-    → header_from (suc fuel) keys line run c ≡ go_on (λ k l r d. header_from fuel k l r d) (line_read keys (start_of line run c))
+    → header_from (suc fuel) keys line run c ≡ go_on (λ k l r d. header_from fuel k l r d) (line_read keys (grid_start line run c))
 unfolding header_from
-header_more fuel keys line run c = line_on (λ k l r d. header_from fuel k l r d) keys (start_of line run c)
+header_more fuel keys line run c = line_on (λ k l r d. header_from fuel k l r d) keys (grid_start line run c)
 
-pub header_none : (keys : Keys) (line run : ℕ) (c : Coming) → header_from 0 keys line run c ≡ Err (fault BadHeader line)
+pub header_none : (keys : Keys) (line run : ℕ) (c : Coming) → header_from 0 keys line run c ≡ Err (grid_fault BadHeader line)
 unfolding header_from
 header_none keys line run c = refl
 
@@ -251,22 +251,22 @@ less_one n i h = omega arith
 
 module _ (F : Coming → Result Opened GridFault) (a b d : Option Coming) (i : ℕ) (keys : Keys) (line run : ℕ) (in_range : i < 10)
     (so_far : option_map F a ≡ option_map (header_from (10 - i) keys line run) b) where
-  one_line : (seen : Coming → Result AfterLine GridFault) → option_map (λ c. line_read keys (start_of line run c)) b ≡ option_map seen d
+  one_line : (seen : Coming → Result AfterLine GridFault) → option_map (λ c. line_read keys (grid_start line run c)) b ≡ option_map seen d
       → option_map F a ≡ option_map (λ c. go_on (λ k l r x. header_from (10 - (i + 1)) k l r x) (seen c)) d
   one_line seen h =
       so_far ∙ ap (λ (n : ℕ). option_map (header_from n keys line run) b) (less_one 10 i in_range)
-      ∙ map_same (header_from (suc (10 - (i + 1))) keys line run) (λ c. go_on (λ k l r x. header_from (10 - (i + 1)) k l r x) (line_read keys (start_of line run c))) b (header_more (10 - (i + 1)) keys line run)
-      ∙ then_map (go_on (λ k l r x. header_from (10 - (i + 1)) k l r x)) (λ c. line_read keys (start_of line run c)) seen b d h
+      ∙ map_same (header_from (suc (10 - (i + 1))) keys line run) (λ c. go_on (λ k l r x. header_from (10 - (i + 1)) k l r x) (line_read keys (grid_start line run c))) b (header_more (10 - (i + 1)) keys line run)
+      ∙ then_map (go_on (λ k l r x. header_from (10 - (i + 1)) k l r x)) (λ c. line_read keys (grid_start line run c)) seen b d h
 
   -- the keys after the line, and the lines behind it
-  pub header_goes : (more : Keys) (l r : ℕ) → option_map (λ c. line_read keys (start_of line run c)) b ≡ option_map (λ c. Ok (More more l r c)) d
+  pub header_goes : (more : Keys) (l r : ℕ) → option_map (λ c. line_read keys (grid_start line run c)) b ≡ option_map (λ c. Ok (More more l r c)) d
       → option_map F a ≡ option_map (header_from (10 - (i + 1)) more l r) d
   header_goes more l r h = one_line (λ c. Ok (More more l r c)) h
 
-  pub header_stops : (more : Keys) (l : ℕ) (pending : Option (List ℕ)) → option_map (λ c. line_read keys (start_of line run c)) b ≡ option_map (λ c. Ok (Stop more l pending c)) d
+  pub header_stops : (more : Keys) (l : ℕ) (pending : Option (List ℕ)) → option_map (λ c. line_read keys (grid_start line run c)) b ≡ option_map (λ c. Ok (Stop more l pending c)) d
       → option_map F a ≡ option_map (opened more l pending) d
   header_stops more l pending h = one_line (λ c. Ok (Stop more l pending c)) h
 
-  pub header_fails : (f : GridFault) → option_map (λ c. line_read keys (start_of line run c)) b ≡ option_map (λ c. Err f) d
+  pub header_fails : (f : GridFault) → option_map (λ c. line_read keys (grid_start line run c)) b ≡ option_map (λ c. Err f) d
       → option_map F a ≡ option_map (λ c. Err f) d
   header_fails f h = one_line (λ c. Err f) h

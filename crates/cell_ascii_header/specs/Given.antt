@@ -1,10 +1,10 @@
 -- What a key that is given comes to.
 use Rattle.std.specs.Prelude.{ℕ, ℤ, Bool, unwrap_or, true, List, Option, Some, None, Result, Ok, Err, if◌then◌else◌}
-use Rattle.cell_base.specs.Region.{RegionValue}
-use Rattle.cell_base.specs.declared.region.RegionFault.{RegionFault}
-use Rattle.cell_ascii_text.specs.Header.{Header, has_colon, is_int, usual_null, usual_multiplier}
-use Rattle.cell_ascii_text.specs.declared.fault.GridKind.{GridKind}
-use Rattle.cell_ascii_text.specs.declared.fault.GridKind.TheVariants.{BadHeader, TwiceKey, BadNumber, BadType, Region}
+use Rattle.cell_core_values.specs.Region.{RegionValue}
+use Rattle.cell_core_values.specs.declared.region.RegionFault.{RegionFault}
+use Rattle.cell_ascii_meaning.specs.Header.{Header, has_colon, is_int, usual_null, usual_multiplier}
+use Rattle.cell_ascii_meaning.specs.declared.grid_fault.GridKind.{GridKind}
+use Rattle.cell_ascii_meaning.specs.declared.grid_fault.GridKind.TheVariants.{BadHeader, TwiceKey, BadNumber, BadType, Region}
 
 -- its value, where it did not stand before and is a number
 abbrev pub given_value : {X : Type 0} → Option X → Option X → Result X GridKind
@@ -21,6 +21,6 @@ abbrev pub given_type : Bool → List ℕ → Result Bool GridKind
 given_type old text = if old then Err TwiceKey else (if is_int text then Ok true else Err BadType)
 
 -- the header over a region, where there is one
-abbrev pub judged : Result RegionValue RegionFault → Option (List ℕ) → Option ℤ → Result Header GridKind
-judged (Ok region) null multiplier = Ok (record { region = region; null_text = unwrap_or null usual_null; multiplier = unwrap_or multiplier usual_multiplier })
-judged (Err f) null multiplier = Err (Region f)
+abbrev pub keys_judged : Result RegionValue RegionFault → Option (List ℕ) → Option ℤ → Result Header GridKind
+keys_judged (Ok region) null multiplier = Ok (record { region = region; null_text = unwrap_or null usual_null; multiplier = unwrap_or multiplier usual_multiplier })
+keys_judged (Err f) null multiplier = Err (Region f)

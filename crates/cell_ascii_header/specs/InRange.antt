@@ -1,9 +1,9 @@
 -- The cell of a number.
 use Rattle.std.specs.Prelude.{ℤ, Some, Result, Ok, Err, if◌then◌else◌}
 use Rattle.cell_core.specs.Grid.{CellValue}
-use Rattle.cell_text.specs.WholeNumbers.{is_in_range}
-use Rattle.cell_ascii_text.specs.declared.fault.GridKind.{GridKind}
-use Rattle.cell_ascii_text.specs.declared.fault.GridKind.TheVariants.{CellRange}
+use Rattle.cell_core_text.specs.WholeNumbers.{is_in_range}
+use Rattle.cell_ascii_meaning.specs.declared.grid_fault.GridKind.{GridKind}
+use Rattle.cell_ascii_meaning.specs.declared.grid_fault.GridKind.TheVariants.{CellRange}
 
 -- the cell of a number
 abbrev pub cell_in_range : ℤ → Result CellValue GridKind

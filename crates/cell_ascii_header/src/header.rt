@@ -1,15 +1,15 @@
 //! What the header of a grid text says of its cells.
 
 ghost use Rattle.std.specs.Prelude.{◌≡◌, Some, bytes_eq};
-ghost use Rattle.cell_ascii_text.specs.Cells.{cell_of_word, cell_of_number};
+ghost use Rattle.cell_ascii_meaning.specs.CellTexts.{cell_of_word, cell_of_number};
 ghost use Rattle.cell_ascii_header.specs.InRange.{cell_in_range};
-ghost use Rattle.cell_ascii_text.specs.Numbers.{whole_number};
+ghost use Rattle.cell_ascii_meaning.specs.EdgeNumbers.{whole_number};
 
-use crate::null_text::NullText;
-use cell_ascii_text::fault::GridKind;
+use crate::header_null::NullText;
+use cell_ascii_meaning::grid_fault::GridKind;
 use cell_core::cell::Cell;
 use cell_core::region::Region;
-use cell_text::numbers;
+use cell_core_text::whole_numbers;
 use std::marker::Model;
 
 /// The region, the text that stands for null, and the number that each cell is multiplied by.
@@ -26,8 +26,8 @@ pub struct Header {
 
 impl Model for Header {
     ghost use Rattle.std.specs.Prelude.{◌≡◌, None, pos, true};
-    ghost use Rattle.cell_text.specs.Capped.{capped_number};
-    ghost use Rattle.cell_ascii_text.specs.Header.{Header};
+    ghost use Rattle.cell_core_text.specs.Capped.{capped_number};
+    ghost use Rattle.cell_ascii_meaning.specs.Header.{Header};
 
     ghost Value = { Header };
 
@@ -40,7 +40,7 @@ impl Model for Header {
 fn in_range(number: i64) -> Result<Cell, GridKind>
     ensures { result ≡ cell_in_range number }
 {
-    if !numbers::is_in_range(number) {
+    if !whole_numbers::is_in_range(number) {
         return Err(GridKind::CellRange);
     }
     match Cell::value(number as i32) {
@@ -54,7 +54,7 @@ fn in_range(number: i64) -> Result<Cell, GridKind>
 fn cell_of_number(multiplier: i32, number: i64) -> Result<Cell, GridKind>
     ensures { result ≡ cell_of_number multiplier (Some number) }
 {
-    if !numbers::is_in_range(number) {
+    if !whole_numbers::is_in_range(number) {
         return Err(GridKind::CellRange);
     }
     // The usual multiplier is no reason to look at the range once more.
@@ -112,7 +112,7 @@ impl Header {
         let Some(null) = self.null_number else {
             return false;
         };
-        if null != number && numbers::is_in_range(number) {
+        if null != number && whole_numbers::is_in_range(number) {
             return false;
         }
         self.null_text.is(word)
@@ -125,7 +125,7 @@ impl Header {
         if self.null_text.is(word) {
             return Ok(Cell::null());
         }
-        match numbers::whole_number(word) {
+        match whole_numbers::whole_number(word) {
             Some(number) => cell_of_number(self.multiplier, number),
             None => Err(GridKind::BadCell),
         }

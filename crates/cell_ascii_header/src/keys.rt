@@ -1,16 +1,16 @@
 //! The keys of a header that stood so far.
 
 ghost use Rattle.std.specs.Prelude.{◌≡◌, ◌≤◌, length, Ok, Err, OnOk, IfErr, Option};
-ghost use Rattle.cell_ascii_text.specs.Header.{no_keys, with_key, header_of};
-ghost use Rattle.cell_ascii_header.specs.Given.{given_value, given_null, given_type, judged};
+ghost use Rattle.cell_ascii_meaning.specs.Header.{no_keys, with_header_key, header_of};
+ghost use Rattle.cell_ascii_header.specs.Given.{given_value, given_null, given_type, keys_judged};
 
 use crate::header::Header;
-use crate::null_text::NullText;
+use crate::header_null::NullText;
 use crate::number;
-use cell_ascii_text::fault::GridKind;
-use cell_ascii_text::key::Key;
+use cell_ascii_meaning::grid_fault::GridKind;
+use cell_ascii_meaning::header_key::Key;
 use cell_core::region::{Region, RegionFault};
-use cell_text::numbers;
+use cell_core_text::whole_numbers;
 use std::marker::Model;
 
 /// The keys that stood so far, each with its value.
@@ -28,7 +28,7 @@ pub struct Keys {
 }
 
 impl Model for Keys {
-    ghost use Rattle.cell_ascii_text.specs.Header.{Keys};
+    ghost use Rattle.cell_ascii_meaning.specs.Header.{Keys};
 
     ghost Value = { Keys };
 
@@ -79,7 +79,7 @@ fn judged(
     null: Option<NullText>,
     multiplier: Option<i32>,
 ) -> Result<Header, GridKind>
-    ensures { result ≡ judged region null multiplier }
+    ensures { result ≡ keys_judged region null multiplier }
 {
     match region {
         Ok(region) => Ok(Header::new(
@@ -112,8 +112,8 @@ impl Keys {
     /// Adds a key, whose value is a text.
     pub fn give(&mut self, key: Option<Key>, text: &[u8]) -> Result<(), GridKind>
         requires { length text.now ≤ 64 }
-        ensures ok { OnOk result (with_key self.old key text.now ≡ Ok self.new) }
-        ensures err { IfErr result (λ kind. with_key self.old key text.now ≡ Err kind) }
+        ensures ok { OnOk result (with_header_key self.old key text.now ≡ Ok self.new) }
+        ensures err { IfErr result (λ kind. with_header_key self.old key text.now ≡ Err kind) }
     {
         match key {
             None => return Err(GridKind::BadHeader),
@@ -126,7 +126,7 @@ impl Keys {
             Some(Key::Null) => self.null = Some(given_null(&self.null, text)?),
             Some(Key::CellType) => self.kind = given_type(self.kind, text)?,
             Some(Key::Multiplier) => {
-                self.multiplier = Some(given(self.multiplier, numbers::whole_in_range(text))?)
+                self.multiplier = Some(given(self.multiplier, whole_numbers::whole_in_range(text))?)
             }
         }
         Ok(())

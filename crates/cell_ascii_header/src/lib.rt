@@ -2,8 +2,8 @@
 #![tactic(auto)]
 
 pub mod header;
-pub mod key;
+mod header_null;
+pub mod header_reading;
+pub mod key_names;
 pub mod keys;
-mod null_text;
 pub mod number;
-pub mod opening;

@@ -2,9 +2,9 @@
 
 ghost use Rattle.std.specs.Prelude.{◌≡◌, ◌&&◌, ◌==◌, ◌+◌, ◌<◌, ◌≤◌, nat_le, length, IfSome};
 ghost use Rattle.std.specs.List.{position_or_len};
-ghost use Rattle.cell_ascii_text.specs.Numbers.{in_units, unsigned_coordinate, coordinate, side};
+ghost use Rattle.cell_ascii_meaning.specs.EdgeNumbers.{in_units, unsigned_coordinate, coordinate, side};
 
-use cell_text::numbers::{are_digits, value_of_digits, whole_in_range};
+use cell_core_text::whole_numbers::{are_digits, value_of_digits, whole_in_range};
 
 // Greater than each coordinate in units.
 const UNITS_CAP: u64 = 1000000000000000000;

@@ -1,12 +1,12 @@
 -- Words that come again and again.
 use Rattle.std.proofs.Common.{◌≡◌, ℕ, zero, suc, ◌+◌, ◌*◌, ◌≤◌, List, [], ◌∷◌, ◌++◌, length, take, drop, replicate, Ok, ap, sym, subst, ◌∙◌, arith, append_assoc, length-append, length-drop, length-take, mul-le-mul}
 use Rattle.std.proofs.lemmas.List.{drop-take, take-take, drop-drop, take-append-drop, drop-append-le, replicate_more, take_at, drop_at, length-replicate}
-use Rattle.cell_devices.specs.Device.{Coming}
+use Rattle.cell_core_devices.specs.Device.{Coming}
 use Rattle.cell_core.specs.Grid.{CellValue}
-use Rattle.cell_scanner.specs.Ahead.{before_coming}
-use Rattle.cell_ascii_text.specs.Header.{Header}
-use Rattle.cell_ascii_text.specs.Cells.{cell_from, at_of}
-use Rattle.cell_ascii_held.specs.Held.{HoldsCell, HoldsCells, HoldsFront, ComesAgain}
+use Rattle.cell_ascii_scanner.specs.Ahead.{before_coming}
+use Rattle.cell_ascii_meaning.specs.Header.{Header}
+use Rattle.cell_ascii_meaning.specs.CellTexts.{cell_from, at_of}
+use Rattle.cell_ascii_held.specs.HeldCells.{HoldsCell, HoldsCells, HoldsFront, ComesAgain}
 use Rattle.cell_ascii_held.proofs.HeldRowLemmas.{HoldsCells-more}
 
 -- lists that are alike in front are alike in each part of it

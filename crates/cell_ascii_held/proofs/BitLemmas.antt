@@ -7,9 +7,9 @@ use Rattle.std.proofs.lemmas.Simd.{trailing_mask_l, ones-mask_l, mask_l-mod}
 use Rattle.std.proofs.lemmas.Nat.{and_block, and_mask, one_shl, mod-pow-add, field_of, shl-shr}
 use Rattle.std.proofs.lemmas.List.{length-map, take-map, take-take, drop-take, get_or-take}
 use Rattle.std.specs.Int.Bits.{bit_and, bit_or, and_self}
-use Rattle.cell_ascii_text.specs.Words.{is_space, is_word, newlines}
+use Rattle.cell_ascii_meaning.specs.GridTokens.{is_space, is_grid_word, newlines}
 use Rattle.cell_ascii_held.proofs.ByteLemmas.{digits-mod, digits-number}
-use Rattle.cell_ascii_held.specs.Words.{blanks, feeds, is_feed, cleared, kept_bytes}
+use Rattle.cell_ascii_held.specs.TableWords.{blanks, feeds, is_feed, cleared, kept_bytes}
 use lib.Count.{count_trailing_zeros}
 use lib.Lanes.{mask_l, number_l, digits_l, top, zip2}
 
@@ -64,7 +64,7 @@ itself (m ∷ ms) = ap (λ (l : List Bool). m ∷ l) (itself ms)
 
 record NextBlank (xs : List ℕ) (at k : ℕ) : Type 0 where
   pub behind : at ≤ k
-  pub word : list_all is_word (take (k - at) (drop at xs)) ≡ true
+  pub word : list_all is_grid_word (take (k - at) (drop at xs)) ≡ true
   pub blank : is_space (get_or xs k 0) ≡ true
 
 -- the next blank, from a place on
@@ -81,17 +81,17 @@ next_blank (x ∷ xs) zero l = by (is_space x) refl l (next_blank xs zero)
         let is = on (omega arith) in
         let one : 1 + k ≡ suc k = omega arith in
         let none : k - 0 ≡ k = omega arith in
-        let word : list_all is_word (take k xs) ≡ true = ap (λ (n : ℕ). list_all is_word (take n xs)) (sym none) ∙ is.word in
-        let both : list_all is_word (x ∷ take k xs) ≡ true = rw e word in
+        let word : list_all is_grid_word (take k xs) ≡ true = ap (λ (n : ℕ). list_all is_grid_word (take n xs)) (sym none) ∙ is.word in
+        let both : list_all is_grid_word (x ∷ take k xs) ≡ true = rw e word in
         let all : suc k - 0 ≡ suc k = omega arith in
-        let front : list_all is_word (take (suc k - 0) (x ∷ xs)) ≡ true = ap (λ (n : ℕ). list_all is_word (take n (x ∷ xs))) all ∙ both in
+        let front : list_all is_grid_word (take (suc k - 0) (x ∷ xs)) ≡ true = ap (λ (n : ℕ). list_all is_grid_word (take n (x ∷ xs))) all ∙ both in
         rw one (record { behind = omega arith; word = front; blank = is.blank })
 next_blank (x ∷ xs) (suc at) l =
     let k = unset (cleared at (map is_space xs)) in
     let is = next_blank xs at (omega arith) in
     let one : 1 + k ≡ suc k = omega arith in
     let less : suc k - suc at ≡ k - at = omega arith in
-    let word : list_all is_word (take (suc k - suc at) (drop at xs)) ≡ true = ap (λ (n : ℕ). list_all is_word (take n (drop at xs))) less ∙ is.word in
+    let word : list_all is_grid_word (take (suc k - suc at) (drop at xs)) ≡ true = ap (λ (n : ℕ). list_all is_grid_word (take n (drop at xs))) less ∙ is.word in
     rw one (record { behind = omega (arith, is.behind); word = word; blank = is.blank })
 
 abbrev hit : ℕ → ℕ → ℕ
@@ -171,7 +171,7 @@ module _ (bs : List ℕ) (held : 64 ≤ length bs) (at : ℕ) where
 pub record NextEnd (bs : List ℕ) (at ends : ℕ) : Type 0 where
   pub behind : at ≤ count_trailing_zeros 64 ends
   pub few : count_trailing_zeros 64 ends < 64
-  pub word : list_all is_word (take (count_trailing_zeros 64 ends - at) (drop at bs)) ≡ true
+  pub word : list_all is_grid_word (take (count_trailing_zeros 64 ends - at) (drop at bs)) ≡ true
   pub blank : is_space (get_or bs (count_trailing_zeros 64 ends) 0) ≡ true
   pub next : bit_and ends (ends - 1) ≡ mask_l (cleared (count_trailing_zeros 64 ends + 1) (blanks bs))
 
@@ -188,7 +188,7 @@ next_end bs at e held some is =
     rw is (record {
       behind = ahead.1.behind;
       few = ahead.0;
-      word = ap (list_all is_word) (sym front) ∙ ahead.1.word;
+      word = ap (list_all is_grid_word) (sym front) ∙ ahead.1.word;
       blank = ap is_space (sym (get_or-take 64 bs k 0 ahead.0)) ∙ ahead.1.blank;
       next = next_ends bs held at set;
     })

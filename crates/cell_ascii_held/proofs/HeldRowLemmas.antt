@@ -3,12 +3,12 @@ use Rattle.std.proofs.Common.{◌≡◌, ℕ, zero, suc, ◌+◌, ◌-◌, ◌<�
 use Rattle.std.specs.Option.{option_map}
 use Rattle.std.proofs.Math.Seq.{take-append-add, drop-append-add}
 use Rattle.std.proofs.lemmas.List.{drop_all, drop-append-le, drop-drop, take-append-drop, take-append-le, take_at}
-use Rattle.cell_devices.specs.Device.{Coming}
+use Rattle.cell_core_devices.specs.Device.{Coming}
 use Rattle.cell_core.specs.Grid.{CellValue}
-use Rattle.cell_scanner.specs.Ahead.{before_coming}
-use Rattle.cell_ascii_text.specs.Header.{◌>>=◌, Header}
-use Rattle.cell_ascii_text.specs.Cells.{Reading, cell_from, at_of, many}
-use Rattle.cell_ascii_held.specs.Held.{HoldsCell, HoldsCells, run_after}
+use Rattle.cell_ascii_scanner.specs.Ahead.{before_coming}
+use Rattle.cell_ascii_meaning.specs.Header.{◌>>=◌, Header}
+use Rattle.cell_ascii_meaning.specs.CellTexts.{Reading, cell_from, at_of, many}
+use Rattle.cell_ascii_held.specs.HeldCells.{HoldsCell, HoldsCells, run_after}
 use Rattle.cell_ascii_held.proofs.ManyLemmas.{many_more, many_add, snoc, with_last, glue, and_then}
 
 run-below : (run count : ℕ) → run < 1048576 → run_after run count < 1048576

@@ -1,10 +1,10 @@
 -- Several readings one after another.
 use Rattle.std.proofs.Common.{◌≡◌, ℕ, zero, suc, ◌+◌, ◌-◌, ◌<◌, List, [], ◌∷◌, ◌++◌, Option, Ok, Err, refl, ap, ◌∙◌, arith}
 use Rattle.std.specs.Option.{option_map}
-use Rattle.cell_devices.specs.Device.{Coming}
-use Rattle.cell_ascii_text.specs.Header.{◌>>=◌, At}
-use Rattle.cell_ascii_text.specs.Cells.{Reading, many}
-use Rattle.cell_ascii_text.specs.declared.fault.GridFault.{GridFault}
+use Rattle.cell_core_devices.specs.Device.{Coming}
+use Rattle.cell_ascii_meaning.specs.Header.{◌>>=◌, At}
+use Rattle.cell_ascii_meaning.specs.CellTexts.{Reading, many}
+use Rattle.cell_ascii_meaning.specs.declared.grid_fault.GridFault.{GridFault}
 use Rattle.cell_ascii_header.proofs.MapLemmas.{then_map, map_same}
 
 module _ {X : Type 0} (one : At → Reading X) where

@@ -6,28 +6,28 @@ use Rattle.std.specs.List.{list_all}
 use Rattle.std.proofs.Math.Seq.{take-add}
 use Rattle.std.proofs.lemmas.List.{take-append-drop, drop-drop, drop_more, get_or-drop}
 use Rattle.std.proofs.lemmas.List.Sums.{sum_by-append}
-use Rattle.cell_devices.specs.Device.{Coming}
+use Rattle.cell_core_devices.specs.Device.{Coming}
 use Rattle.cell_core.specs.Grid.{CellValue}
-use Rattle.cell_scanner.specs.Ahead.{before_coming}
-use Rattle.cell_ascii_text.specs.Words.{is_space, is_word, newlines, start_of}
-use Rattle.cell_ascii_text.specs.Header.{◌>>=◌, Header}
-use Rattle.cell_ascii_text.specs.Cells.{Reading, cell_from, cell_of_word, after_start, after_word, after_cell, at_of, many}
-use Rattle.cell_ascii_held.specs.Held.{HoldsCells, run_after}
-use Rattle.cell_ascii_held.specs.Words.{HoldsLines}
+use Rattle.cell_ascii_scanner.specs.Ahead.{before_coming}
+use Rattle.cell_ascii_meaning.specs.GridTokens.{is_space, is_grid_word, newlines, grid_start}
+use Rattle.cell_ascii_meaning.specs.Header.{◌>>=◌, Header}
+use Rattle.cell_ascii_meaning.specs.CellTexts.{Reading, cell_from, cell_of_word, after_start, cell_after_word, after_cell, at_of, many}
+use Rattle.cell_ascii_held.specs.HeldCells.{HoldsCells, run_after}
+use Rattle.cell_ascii_held.specs.TableWords.{HoldsLines}
 use Rattle.cell_ascii_held.proofs.HeldLemmas.{both, no_space, word_ahead}
 use Rattle.cell_ascii_held.proofs.ManyLemmas.{many_more, many_add, snoc, with_last, glue, and_then}
-use Rattle.cell_scanner.proofs.StartLemmas.{start-next, start-begins}
+use Rattle.cell_ascii_scanner.proofs.StartLemmas.{start-next, start-begins}
 
 newlines-append : (xs ys : List ℕ) → newlines (xs ++ ys) ≡ newlines xs + newlines ys
 newlines-append xs ys = sum_by-append (λ (x : ℕ). cond (x == 10) 1 0) xs ys
 
 -- blanks and line feeds are passed
 gap_passed : (line run : ℕ) (gap rest : List ℕ) (f : Bool) → list_all is_space gap ≡ true → run + length gap ≤ 1048576
-    → start_of line run (record { bytes = gap ++ rest; fails = f }) ≡ start_of (line + newlines gap) (run + length gap) (record { bytes = rest; fails = f })
+    → grid_start line run (record { bytes = gap ++ rest; fails = f }) ≡ grid_start (line + newlines gap) (run + length gap) (record { bytes = rest; fails = f })
 gap_passed line run [] rest f blank room =
     let stays : line ≡ line + newlines [] = omega arith in
     let still : run ≡ run + 0 = omega arith in
-    ap₂ (λ (l : ℕ) (r : ℕ). start_of l r (record { bytes = rest; fails = f })) stays still
+    ap₂ (λ (l : ℕ) (r : ℕ). grid_start l r (record { bytes = rest; fails = f })) stays still
 gap_passed line run (b ∷ gap) rest f blank room =
     let parts = both (is_space b) (list_all is_space gap) blank in
     let low : run ≤ 1048576 = omega arith in
@@ -37,26 +37,26 @@ gap_passed line run (b ∷ gap) rest f blank room =
     let lines : line + cond (b == 10) 1 0 + newlines gap ≡ line + newlines (b ∷ gap) = omega (arith, newlines-append (b ∷ []) gap) in
     start-next line run low b (line + cond (b == 10) 1 0) (gap ++ rest) f parts.0 lower refl
     ∙ gap_passed (line + cond (b == 10) 1 0) (run + 1) gap rest f parts.1 more
-    ∙ ap₂ (λ (l : ℕ) (r : ℕ). start_of l r (record { bytes = rest; fails = f })) lines count
+    ∙ ap₂ (λ (l : ℕ) (r : ℕ). grid_start l r (record { bytes = rest; fails = f })) lines count
 
 -- a word behind them
 reads_next : (h : Header) (gap word : List ℕ) (e : ℕ) (bs : List ℕ) (f : Bool) (v : CellValue)
-    → list_all is_space gap ≡ true → length gap ≤ 64 → 0 < length word → length word ≤ 64 → list_all is_word word ≡ true → is_space e ≡ true → cell_of_word h word ≡ Ok v
+    → list_all is_space gap ≡ true → length gap ≤ 64 → 0 < length word → length word ≤ 64 → list_all is_grid_word word ≡ true → is_space e ≡ true → cell_of_word h word ≡ Ok v
     → (line : ℕ) → cell_from h (at_of line 0 (record { bytes = gap ++ (word ++ e ∷ bs); fails = f })) ≡ Ok (v, at_of (line + newlines gap) 0 (record { bytes = e ∷ bs; fails = f }))
 unfolding cell_from
 reads_next h gap [] e bs f v blank few some short w space cell line = absurd (omega arith)
 reads_next h gap (a ∷ word) e bs f v blank few some short w space cell line =
-    let parts = both (is_word a) (list_all is_word word) w in
+    let parts = both (is_grid_word a) (list_all is_grid_word word) w in
     let room : 0 + length gap ≤ 1048576 = omega arith in
     let count : 0 + length (a ∷ word) ≤ 64 = omega arith in
     let there = line + newlines gap in
     ap (after_start h) (gap_passed line 0 gap (a ∷ (word ++ e ∷ bs)) f blank room ∙ start-begins there (0 + length gap) room a (word ++ e ∷ bs) f (no_space a parts.0))
-    ∙ ap (after_word h there) (word_ahead there [] (a ∷ word) e bs f w count space)
+    ∙ ap (cell_after_word h there) (word_ahead there [] (a ∷ word) e bs f w count space)
     ∙ ap (after_cell there (record { bytes = e ∷ bs; fails = f })) cell
 
 -- the same in a list of bytes: a gap, a word and a byte that ends it
 next_cell : (h : Header) (bs : List ℕ) (g n : ℕ) (v : CellValue)
-    → list_all is_space (take g bs) ≡ true → g ≤ 64 → 0 < n → n ≤ 64 → g + n < length bs → list_all is_word (take n (drop g bs)) ≡ true → is_space (get_or bs (g + n) 0) ≡ true
+    → list_all is_space (take g bs) ≡ true → g ≤ 64 → 0 < n → n ≤ 64 → g + n < length bs → list_all is_grid_word (take n (drop g bs)) ≡ true → is_space (get_or bs (g + n) 0) ≡ true
     → cell_of_word h (take n (drop g bs)) ≡ Ok v
     → (line : ℕ) (c : Coming) → cell_from h (at_of line 0 (before_coming bs c)) ≡ Ok (v, at_of (line + newlines (take g bs)) 0 (before_coming (drop (g + n) bs) c))
 next_cell h bs g n v blank few some short within word space cell line c =
@@ -116,10 +116,10 @@ module _ (h : Header) (bs : List ℕ) where
       held line 0 low c ∙ ap₂ (λ (l : ℕ) (r : ℕ). Ok (cells, at_of l r (before_coming (drop n bs) c))) same (run-none count)
 
 -- no line feed stands in a word
-word_feeds : (word : List ℕ) → list_all is_word word ≡ true → newlines word ≡ 0
+word_feeds : (word : List ℕ) → list_all is_grid_word word ≡ true → newlines word ≡ 0
 word_feeds [] w = refl
 word_feeds (b ∷ word) w =
-    let parts = both (is_word b) (list_all is_word word) w in
+    let parts = both (is_grid_word b) (list_all is_grid_word word) w in
     let none : ◌≡◌ {A = ℕ} (cond (b == 10) 1 0) 0 = by (b == 10) (no_feed (b == 32 || b == 9) (b == 13) (b == 10) (no_space b parts.0)) in
     omega (arith, none, newlines-append (b ∷ []) word, word_feeds word parts.1)
   where
@@ -156,7 +156,7 @@ gap-one bs at within blank =
 
 -- one word more
 pub word-more : (h : Header) (bs : List ℕ) (cells : List CellValue) (count last at end : ℕ) (v : CellValue)
-    → last ≤ at → at < end → end < 64 → end < length bs → list_all is_space (take (at - last) (drop last bs)) ≡ true → list_all is_word (take (end - at) (drop at bs)) ≡ true
+    → last ≤ at → at < end → end < 64 → end < length bs → list_all is_space (take (at - last) (drop last bs)) ≡ true → list_all is_grid_word (take (end - at) (drop at bs)) ≡ true
     → is_space (get_or bs end 0) ≡ true → cell_of_word h (take (end - at) (drop at bs)) ≡ Ok v → HoldsLines h bs cells count last (newlines (take last bs))
     → HoldsLines h bs (cells ++ v ∷ []) (count + 1) end (newlines (take end bs))
 word-more h bs cells count last at end v le lower few within gap word blank cell held =
@@ -168,7 +168,7 @@ word-more h bs cells count last at end v le lower few within gap word blank cell
     let later : drop g rest ≡ drop at bs = drop-drop g last bs ∙ ap (λ (k : ℕ). drop k bs) place in
     let inside : g + n < length rest = omega (arith, length-drop last bs) in
     let ends : is_space (get_or rest (g + n) 0) ≡ true = ap is_space (get_or-drop last bs (g + n) 0 ∙ ap (λ (k : ℕ). get_or bs k 0) sum) ∙ blank in
-    let w : list_all is_word (take n (drop g rest)) ≡ true = ap (λ (l : List ℕ). list_all is_word (take n l)) later ∙ word in
+    let w : list_all is_grid_word (take n (drop g rest)) ≡ true = ap (λ (l : List ℕ). list_all is_grid_word (take n l)) later ∙ word in
     let is : cell_of_word h (take n (drop g rest)) ≡ Ok v = ap (λ (l : List ℕ). cell_of_word h (take n l)) later ∙ cell in
     let few-blanks : g ≤ 64 = omega arith in
     let some : 0 < n = omega arith in

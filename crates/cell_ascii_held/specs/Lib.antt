@@ -1,3 +1,3 @@
 -- Cells whose bytes are held.
-pub mod Held
-pub mod Words
+pub mod HeldCells
+pub mod TableWords

@@ -3,11 +3,11 @@ use Rattle.std.proofs.Common.{◌≡◌, ℕ, zero, suc, ◌<◌, ◌≤◌, Lis
 use Rattle.std.specs.Option.{option_and_then}
 use Rattle.std.specs.List.{flat_map}
 use Rattle.cell_core.specs.Grid.{CellValue, Grid, no_labels}
-use Rattle.cell_ascii_text.specs.Words.{Start, Begins, is_space, start_of}
-use Rattle.cell_ascii_text.specs.Header.{At, Header, ◌>>=◌}
-use Rattle.cell_ascii_text.specs.Cells.{Reading, at_of, after_cell, after_word, after_start, cell_of_word, cell_from, many, end_of, data_from}
-use Rattle.cell_ascii_text.specs.declared.fault.GridKind.{GridKind}
-use Rattle.cell_ascii_text.specs.declared.fault.GridFault.{GridFault}
+use Rattle.cell_ascii_meaning.specs.GridTokens.{Start, Begins, is_space, grid_start}
+use Rattle.cell_ascii_meaning.specs.Header.{At, Header, ◌>>=◌}
+use Rattle.cell_ascii_meaning.specs.CellTexts.{Reading, at_of, after_cell, cell_after_word, after_start, cell_of_word, cell_from, many, end_of, data_from}
+use Rattle.cell_ascii_meaning.specs.declared.grid_fault.GridKind.{GridKind}
+use Rattle.cell_ascii_meaning.specs.declared.grid_fault.GridFault.{GridFault}
 use Rattle.cell_ascii_law.proofs.LexemeLemmas.{coming, Lines, first_line, rest_lines, put, lex, before_word, next_word}
 
 -- what was read, without the fault
@@ -136,7 +136,7 @@ module _ (h : Header) (F : CellValue → At → Result Grid GridFault) (G : Cell
       goes ls = then_words G (take_cell h (all_words ls))
 
       begins : (l b : ℕ) (cs : List ℕ) (g : Bool) → is_space b ≡ false → k (Begins l (coming (b ∷ cs) g)) ≡ option_and_then goes (lex 0 [] (b ∷ cs) g)
-      begins l b cs g word = next_word goes l (λ r. accepted (after_word h l r >>= (λ x. F x.0 x.1))) (λ e. refl) (λ x xs ds e. cell_after l ds e (λ ls. first_line ls ++ all_words (rest_lines ls)) words_by_first (cell_of_word h (x ∷ xs))) b cs g word
+      begins l b cs g word = next_word goes l (λ r. accepted (cell_after_word h l r >>= (λ x. F x.0 x.1))) (λ e. refl) (λ x xs ds e. cell_after l ds e (λ ls. first_line ls ++ all_words (rest_lines ls)) words_by_first (cell_of_word h (x ∷ xs))) b cs g word
 
   cell_first : (w : List ℕ) (line run : ℕ) (bs : List ℕ) (f : Bool) → accepted (cell_from h (record { pending = Some w; line = line; run = run; coming = coming bs f }) >>= (λ x. F x.0 x.1)) ≡ option_and_then (λ ls. then_words G (take_cell h (w ∷ all_words ls))) (lex 0 [] bs f)
   unfolding cell_from
@@ -144,7 +144,7 @@ module _ (h : Header) (F : CellValue → At → Result Grid GridFault) (G : Cell
 
 -- The end of the data.
 abbrev pub read_end : Header → List (List CellValue) → At → Result Grid GridFault
-read_end h rows at = end_of (start_of at.line at.run at.coming) >>= (λ _. Ok (whole_grid h rows))
+read_end h rows at = end_of (grid_start at.line at.run at.coming) >>= (λ _. Ok (whole_grid h rows))
 
 end_agrees : (h : Header) → Agree (read_end h) (take_end h)
 end_agrees h rows line run bs f low = before_word (λ ls. take_end h rows (all_words ls)) (λ ls. refl) (λ s. accepted (end_of s >>= (λ _. Ok (whole_grid h rows)))) (λ e. refl) (λ l. refl)
@@ -161,8 +161,8 @@ read_grid_is h at = by (many (many (cell_from h) h.region.cols) h.region.rows at
     last rows (Ok u) = refl
     last rows (Err e) = refl
 
-    by : (r : Reading (List (List CellValue))) → ((r >>= (λ x. end_of (start_of x.1.line x.1.run x.1.coming) >>= (λ _. Ok x.0))) >>= (λ rows. Ok (whole_grid h rows))) ≡ (r >>= (λ x. read_end h x.0 x.1))
-    by (Ok x) = last x.0 (end_of (start_of x.1.line x.1.run x.1.coming))
+    by : (r : Reading (List (List CellValue))) → ((r >>= (λ x. end_of (grid_start x.1.line x.1.run x.1.coming) >>= (λ _. Ok x.0))) >>= (λ rows. Ok (whole_grid h rows))) ≡ (r >>= (λ x. read_end h x.0 x.1))
+    by (Ok x) = last x.0 (end_of (grid_start x.1.line x.1.run x.1.coming))
     by (Err e) = refl
 
 module _ (h : Header) (rows : 0 < h.region.rows) (cols : 0 < h.region.cols) where

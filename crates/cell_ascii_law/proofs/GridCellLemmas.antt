@@ -6,10 +6,10 @@ use Rattle.std.specs.List.{All}
 use Rattle.std.proofs.lemmas.List.{nil_from_length}
 use Rattle.std.proofs.lemmas.List.Elements.{All-nil, All-cons, All-head, All-tail}
 use Rattle.cell_core.specs.Grid.{CellValue, Grid}
-use Rattle.cell_ascii_text.specs.Header.{Header}
-use Rattle.cell_ascii_text.specs.Cells.{cell_of_word}
-use Rattle.cell_ascii_text.specs.GridText.{AreCells}
-use Rattle.cell_ascii_text.specs.declared.fault.GridKind.{GridKind}
+use Rattle.cell_ascii_meaning.specs.Header.{Header}
+use Rattle.cell_ascii_meaning.specs.CellTexts.{cell_of_word}
+use Rattle.cell_ascii_meaning.specs.GridText.{DenoteCells}
+use Rattle.cell_ascii_meaning.specs.declared.grid_fault.GridKind.{GridKind}
 use Rattle.cell_ascii_law.proofs.DataLawLemmas.{then_words, taken_cell, take_cell, take_many, take_end, take_grid, whole_grid}
 
 abbrev Words : Type 0
@@ -132,19 +132,19 @@ module _ (h : Header) where
             ∙ (let k : cols + (r * cols + c) ≡ suc r * cols + c = omega arith in ap (λ (i : ℕ). option_map (cell_of_word h) (slice_get words i)) k) ∙ each (suc r) c (omega arith) inside
 
   -- the words denote the cells of the grid that is taken, and of no other
-  pub cells_read : (words : Words) (m : Grid) → take_grid h words ≡ Some m → (m ≡ whole_grid h m.rows) × AreCells h words m
+  pub cells_read : (words : Words) (m : Grid) → take_grid h words ≡ Some m → (m ≡ whole_grid h m.rows) × DenoteCells h words m
   cells_read words m e = by (take_many (take_many (take_cell h) h.region.cols) h.region.rows words) (rows_read h.region.cols h.region.rows words) e
     where
-      last : (rows : List (List CellValue)) (rest : Words) → AreRows h.region.cols h.region.rows words rows rest → take_end h rows rest ≡ Some m → (m ≡ whole_grid h m.rows) × AreCells h words m
+      last : (rows : List (List CellValue)) (rest : Words) → AreRows h.region.cols h.region.rows words rows rest → take_end h rows rest ≡ Some m → (m ≡ whole_grid h m.rows) × DenoteCells h words m
       last rows (word ∷ rest) are e = cc
       last rows [] are e =
           let p : whole_grid h rows ≡ m = cc in
-          subst (λ (g : Grid). (g ≡ whole_grid h g.rows) × AreCells h words g) p
+          subst (λ (g : Grid). (g ≡ whole_grid h g.rows) × DenoteCells h words g) p
           (refl, record { count = (let k = are.count in omega arith); shape = record { count = are.high; width = are.wide }; each = are.each })
 
-      by : (o : Option (List (List CellValue) × Words)) → ((y : List (List CellValue) × Words) → o ≡ Some y → AreRows h.region.cols h.region.rows words y.0 y.1) → then_words (take_end h) o ≡ Some m → (m ≡ whole_grid h m.rows) × AreCells h words m
+      by : (o : Option (List (List CellValue) × Words)) → ((y : List (List CellValue) × Words) → o ≡ Some y → AreRows h.region.cols h.region.rows words y.0 y.1) → then_words (take_end h) o ≡ Some m → (m ≡ whole_grid h m.rows) × DenoteCells h words m
       by None on e = cc
       by (Some y) on e = last y.0 y.1 (on y refl) e
 
-  pub cells_taken : (words : Words) (m : Grid) → AreCells h words m → take_grid h words ≡ Some (whole_grid h m.rows)
+  pub cells_taken : (words : Words) (m : Grid) → DenoteCells h words m → take_grid h words ≡ Some (whole_grid h m.rows)
   cells_taken words m are = ap (then_words (take_end h)) (rows_taken h.region.cols h.region.rows words m.rows are.shape.count are.shape.width are.count are.each)

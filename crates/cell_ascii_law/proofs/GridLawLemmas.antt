@@ -1,13 +1,13 @@
 -- The law of the reading of a grid text.
 use Rattle.std.proofs.Common.{◌≡◌, [], Option, Some, None, Bool, refl, ap, sym, ◌∙◌, Result, Ok, Err, subst}
 use Rattle.std.specs.Option.{option_and_then}
-use Rattle.cell_devices.specs.Device.{Coming}
+use Rattle.cell_core_devices.specs.Device.{Coming}
 use Rattle.cell_core.specs.Grid.{Grid}
-use Rattle.cell_ascii_text.specs.Header.{no_keys}
-use Rattle.cell_ascii_text.specs.Cells.{grid_of}
-use Rattle.cell_ascii_text.specs.GridText.{line_words, Denotes}
+use Rattle.cell_ascii_meaning.specs.Header.{no_keys}
+use Rattle.cell_ascii_meaning.specs.CellTexts.{grid_of}
+use Rattle.cell_ascii_meaning.specs.GridText.{line_words, Denotes}
 use Rattle.cell_ascii_law.specs.GridLaw.{ReadingAgrees}
-use Rattle.cell_ascii_text.specs.declared.fault.GridFault.{GridFault}
+use Rattle.cell_ascii_meaning.specs.declared.grid_fault.GridFault.{GridFault}
 use Rattle.cell_ascii_law.proofs.LexemeLemmas.{Lines, lex}
 use Rattle.cell_ascii_law.proofs.DataLawLemmas.{accepted}
 use Rattle.cell_ascii_law.proofs.HeaderLawLemmas.{take_text, text_is}

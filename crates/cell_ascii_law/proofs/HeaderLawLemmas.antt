@@ -2,17 +2,17 @@
 use Rattle.std.proofs.Common.{◌≡◌, ℕ, zero, suc, ◌+◌, ◌<◌, ◌≤◌, List, [], ◌∷◌, ◌++◌, Option, Some, None, Bool, true, false, refl, ap, sym, ◌∙◌, arith, Result, Ok, Err, if◌then◌else◌}
 use Rattle.std.specs.Option.{option_and_then}
 use Rattle.std.specs.List.{filter, before_first, after_first}
-use Rattle.cell_devices.specs.Device.{Coming}
+use Rattle.cell_core_devices.specs.Device.{Coming}
 use Rattle.cell_core.specs.Grid.{Grid}
-use Rattle.cell_ascii_text.specs.Words.{Begins, is_space, start_of, word_from}
-use Rattle.cell_ascii_text.specs.KeyNames.{key_of}
-use Rattle.cell_ascii_text.specs.Header.{Header, Opened, Keys, no_keys, with_key, header_of, is_colon, has_colon, Gap, Word, Feed, Last, Fault, gap_of, value_from, LineEnd, line_end, at_line, key_line, ended, opened, after_line, line_from, header_from, ◌>>=◌}
-use Rattle.cell_ascii_text.specs.Cells.{grid_of}
-use Rattle.cell_ascii_text.specs.GridText.{is_token, key_text, values}
-use Rattle.cell_ascii_text.specs.declared.key.Key.{Key}
-use Rattle.cell_ascii_text.specs.declared.fault.GridKind.{GridKind}
-use Rattle.cell_ascii_text.specs.declared.fault.GridKind.TheVariants.{BadHeader}
-use Rattle.cell_ascii_text.specs.declared.fault.GridFault.{GridFault}
+use Rattle.cell_ascii_meaning.specs.GridTokens.{Begins, is_space, grid_start, word_from}
+use Rattle.cell_ascii_meaning.specs.KeyNames.{header_key_of}
+use Rattle.cell_ascii_meaning.specs.Header.{Header, Opened, Keys, no_keys, with_header_key, header_of, is_colon, has_colon, Gap, Word, Feed, Last, Fault, gap_of, value_from, LineEnd, line_end, at_line, key_line, header_ended, opened, after_line, line_from, header_from, ◌>>=◌}
+use Rattle.cell_ascii_meaning.specs.CellTexts.{grid_of}
+use Rattle.cell_ascii_meaning.specs.GridText.{is_token, key_text, line_values}
+use Rattle.cell_ascii_meaning.specs.declared.header_key.Key.{Key}
+use Rattle.cell_ascii_meaning.specs.declared.grid_fault.GridKind.{GridKind}
+use Rattle.cell_ascii_meaning.specs.declared.grid_fault.GridKind.TheVariants.{BadHeader}
+use Rattle.cell_ascii_meaning.specs.declared.grid_fault.GridFault.{GridFault}
 use Rattle.cell_ascii_law.proofs.LexemeLemmas.{coming, Lines, first_line, rest_lines, lex, before_word, next_word, before_gap}
 use Rattle.cell_ascii_law.proofs.DataLawLemmas.{accepted, all_words, words_by_first, then_agree, then_none, no_word, take_grid, read_grid, grid_first, grid_none}
 use Rattle.cell_ascii_law.proofs.KeyLawLemmas.{open_keys, key_known, header_given, sides}
@@ -28,11 +28,11 @@ take_data keys words = at_header (header_of keys) words
 -- the keys with that of a header line, which has one value
 abbrev pub with_values : Keys → Option Key → List (List ℕ) → Result Keys GridKind
 with_values keys key [] = Err BadHeader
-with_values keys key (value ∷ []) = with_key keys key value
+with_values keys key (value ∷ []) = with_header_key keys key value
 with_values keys key (value ∷ other ∷ more) = Err BadHeader
 
 abbrev pub with_line : Keys → List (List ℕ) → Result Keys GridKind
-with_line keys line = with_values keys (key_of (key_text line)) (values line)
+with_line keys line = with_values keys (header_key_of (key_text line)) (line_values line)
 
 abbrev pub after_key : Result Keys GridKind → (Keys → Option Grid) → Option Grid
 after_key (Ok keys) rest = rest keys
@@ -60,11 +60,11 @@ module _ (keys : Keys) (line : ℕ) where
       by (Ok h) e = let good = sides h.region (header_given keys h e).good in grid_first h good.0 good.1 w line bs f
       by (Err kind) e = sym (then_none (lex 0 [] bs f))
 
-  opened_none : accepted (opened keys line None ended >>= read_opened) ≡ take_data keys []
+  opened_none : accepted (opened keys line None header_ended >>= read_opened) ≡ take_data keys []
   unfolding opened_by
   opened_none = by (header_of keys) refl
     where
-      by : (r : Result Header GridKind) → header_of keys ≡ r → opened_by None ended r ≡ at_header r []
+      by : (r : Result Header GridKind) → header_of keys ≡ r → opened_by None header_ended r ≡ at_header r []
       by (Ok h) e = let good = sides h.region (header_given keys h e).good in grid_none h good.0 good.1 line
       by (Err kind) e = refl
 
@@ -76,16 +76,16 @@ module _ (rest : Keys → ℕ → ℕ → Coming → Result Opened GridFault) (l
   closed end r = accepted (((at_line line r >>= (λ more. Ok (more, end))) >>= after_line rest line) >>= read_opened)
 
   abbrev from_end : List ℕ → Result LineEnd GridFault → Option Grid
-  from_end value r = accepted (((r >>= (λ end. at_line line (with_key keys key value) >>= (λ more. Ok (more, end)))) >>= after_line rest line) >>= read_opened)
+  from_end value r = accepted (((r >>= (λ end. at_line line (with_header_key keys key value) >>= (λ more. Ok (more, end)))) >>= after_line rest line) >>= read_opened)
 
-  fewer : (value : List ℕ) (more : Keys) → with_key keys key value ≡ Ok more → open_keys more < open_keys keys
+  fewer : (value : List ℕ) (more : Keys) → with_header_key keys key value ≡ Ok more → open_keys more < open_keys keys
   fewer value more e = let g = (key_known keys key value more e).2.fewer in omega arith
 
   closed_none : (r : Result Keys GridKind) → closed None r ≡ after_key r (λ k. take_text k [])
   closed_none (Ok more) = opened_none more line
   closed_none (Err kind) = refl
 
-  closed_some : (value : List ℕ) (r : Result Keys GridKind) → with_key keys key value ≡ r → (run : ℕ) (bs : List ℕ) (f : Bool) → run ≤ 1048576
+  closed_some : (value : List ℕ) (r : Result Keys GridKind) → with_header_key keys key value ≡ r → (run : ℕ) (bs : List ℕ) (f : Bool) → run ≤ 1048576
       → closed (Some (run, coming bs f)) r ≡ option_and_then (λ ls. after_key r (λ k. take_text k ls)) (lex run [] bs f)
   closed_some value (Ok more) e run bs f low = follows more (fewer value more e) (line + 1) run bs f low
   closed_some value (Err kind) e run bs f low = sym (then_none (lex run [] bs f))
@@ -94,14 +94,14 @@ module _ (rest : Keys → ℕ → ℕ → Coming → Result Opened GridFault) (l
   taken vs ls = after_key (with_values keys key vs) (λ k. take_text k (rest_lines ls))
 
   value_end : (value : List ℕ) (bs : List ℕ) (f : Bool) → from_end value (line_end line (gap_of line 0 (coming bs f))) ≡ option_and_then (λ ls. taken (value ∷ filter is_token (first_line ls)) ls) (lex 0 [] bs f)
-  value_end value bs f = before_gap goes line (λ gap. from_end value (line_end line gap)) (λ e. refl) (closed_none (with_key keys key value)) (λ b cs g word. no_word goes (λ x xs ls. refl) b cs g word)
-      (λ run cs g low. closed_some value (with_key keys key value) refl run cs g low) bs f 0 (omega arith)
+  value_end value bs f = before_gap goes line (λ gap. from_end value (line_end line gap)) (λ e. refl) (closed_none (with_header_key keys key value)) (λ b cs g word. no_word goes (λ x xs ls. refl) b cs g word)
+      (λ run cs g low. closed_some value (with_header_key keys key value) refl run cs g low) bs f 0 (omega arith)
     where
       goes : Lines → Option Grid
       goes ls = taken (value ∷ filter is_token (first_line ls)) ls
 
   abbrev from_value : Result (List ℕ × Coming) GridFault → Option Grid
-  from_value r = accepted (((r >>= (λ value. line_end line (gap_of line 0 value.1) >>= (λ end. at_line line (with_key keys key value.0) >>= (λ more. Ok (more, end))))) >>= after_line rest line) >>= read_opened)
+  from_value r = accepted (((r >>= (λ value. line_end line (gap_of line 0 value.1) >>= (λ end. at_line line (with_header_key keys key value.0) >>= (λ more. Ok (more, end))))) >>= after_line rest line) >>= read_opened)
 
   abbrev value_at : Gap → Result (List ℕ × Coming) GridFault
   value_at (Word d) = word_from line [] d
@@ -142,12 +142,12 @@ header_is (suc fuel) keys few line run bs f low = by (λ more less l r cs g lo. 
     rest k l r d = header_from fuel k l r d
 
     by : ((more : Keys) → open_keys more < open_keys keys → (l r : ℕ) (cs : List ℕ) (g : Bool) → r ≤ 1048576 → accepted (rest more l r (coming cs g) >>= read_opened) ≡ option_and_then (take_text more) (lex r [] cs g))
-        → accepted (line_from rest keys (start_of line run (coming bs f)) >>= read_opened) ≡ option_and_then (take_text keys) (lex run [] bs f)
+        → accepted (line_from rest keys (grid_start line run (coming bs f)) >>= read_opened) ≡ option_and_then (take_text keys) (lex run [] bs f)
     by follows = before_word (take_text keys) (λ ls. refl) (λ s. accepted (line_from rest keys s >>= read_opened)) (λ e. refl) (λ l. opened_none keys l) begins bs f line run low
       where
         first : (l x : ℕ) (xs ds : List ℕ) (h t : Bool) → accepted ((if t then key_line l keys (x ∷ xs) (coming ds h) >>= after_line rest l else opened keys l (Some (x ∷ xs)) (coming ds h)) >>= read_opened)
             ≡ option_and_then (λ ls. if t then after_key (with_line keys ((x ∷ xs) ∷ first_line ls)) (λ k. take_text k (rest_lines ls)) else take_data keys ((x ∷ xs) ∷ (first_line ls ++ all_words (rest_lines ls)))) (lex 0 [] ds h)
-        first l x xs ds h true = line_is rest l keys (key_of (before_first is_colon (x ∷ xs))) follows (after_first is_colon (x ∷ xs)) ds h
+        first l x xs ds h true = line_is rest l keys (header_key_of (before_first is_colon (x ∷ xs))) follows (after_first is_colon (x ∷ xs)) ds h
         first l x xs ds h false = opened_first keys l (x ∷ xs) ds h ∙ then_agree (λ ls. take_data keys ((x ∷ xs) ∷ all_words ls)) (λ ls. take_data keys ((x ∷ xs) ∷ (first_line ls ++ all_words (rest_lines ls))))
             (λ ls. ap (λ (ws : List (List ℕ)). take_data keys ((x ∷ xs) ∷ ws)) (sym (words_by_first ls))) (lex 0 [] ds h)
 

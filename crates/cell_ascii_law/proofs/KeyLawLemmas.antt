@@ -3,15 +3,15 @@ use Rattle.std.proofs.Common.{◌≡◌, ℕ, suc, ◌+◌, ◌<◌, ℤ, List, 
 use Rattle.std.specs.Prelude.{nat_le, unwrap_or, if◌then◌else◌}
 use Rattle.std.specs.Option.{option_map}
 use Rattle.std.proofs.lemmas.Bool.{leb-true, and_parts}
-use Rattle.cell_base.specs.Region.{RegionValue, region_fault, is_side, is_rectangle, is_countable}
-use Rattle.cell_base.specs.declared.region.RegionFault.{RegionFault}
-use Rattle.cell_base.specs.declared.region.RegionFault.TheVariants.{BadExtent, BadRows, BadCols, TooManyCells}
-use Rattle.cell_ascii_text.specs.Numbers.{coordinate, side, whole_in_range}
-use Rattle.cell_ascii_text.specs.Header.{Keys, Header, judged, given, with_key, header_of, has_colon, is_int, usual_null, usual_multiplier}
-use Rattle.cell_ascii_text.specs.GridText.{null_text, int_type}
-use Rattle.cell_ascii_text.specs.declared.fault.GridKind.TheVariants.{BadHeader, TwiceKey, BadType}
-use Rattle.cell_ascii_text.specs.declared.key.Key.{Key}
-use Rattle.cell_ascii_text.specs.declared.key.Key.TheVariants.{North, South, East, West, Rows, Cols, Null, CellType, Multiplier}
+use Rattle.cell_core_values.specs.Region.{RegionValue, region_fault, is_side, is_rectangle, is_countable}
+use Rattle.cell_core_values.specs.declared.region.RegionFault.{RegionFault}
+use Rattle.cell_core_values.specs.declared.region.RegionFault.TheVariants.{BadExtent, BadRows, BadCols, TooManyCells}
+use Rattle.cell_ascii_meaning.specs.EdgeNumbers.{coordinate, side, whole_in_range}
+use Rattle.cell_ascii_meaning.specs.Header.{Keys, Header, header_of_keys, given, with_header_key, header_of, has_colon, is_int, usual_null, usual_multiplier}
+use Rattle.cell_ascii_meaning.specs.GridText.{null_text, int_type}
+use Rattle.cell_ascii_meaning.specs.declared.grid_fault.GridKind.TheVariants.{BadHeader, TwiceKey, BadType}
+use Rattle.cell_ascii_meaning.specs.declared.header_key.Key.{Key}
+use Rattle.cell_ascii_meaning.specs.declared.header_key.Key.TheVariants.{North, South, East, West, Rows, Cols, Null, CellType, Multiplier}
 
 -- the value of a key
 pub data Value : Type 0 where
@@ -68,7 +68,7 @@ pub record IsGiven (a : Keys) (q : Key) (value : List ℕ) (k : Keys) : Type 0 w
   pub others : (p : Key) → (p ≡ q → ⊥) → held k p ≡ held a p
   pub fewer : suc (open_keys k) ≡ open_keys a
 
-pub key_given : (a : Keys) (q : Key) (value : List ℕ) (k : Keys) → with_key a (Some q) value ≡ Ok k → IsGiven a q value k
+pub key_given : (a : Keys) (q : Key) (value : List ℕ) (k : Keys) → with_header_key a (Some q) value ≡ Ok k → IsGiven a q value k
 key_given a North value k e =
     let g = given_is a.north (coordinate value) (λ x. record a { north = Some x }) k e in
     record {
@@ -198,12 +198,12 @@ key_given a Multiplier value k e =
     by x Multiplier d = absurd (d refl)
     by x _ d = refl
 
-pub key_known : (a : Keys) (key : Option Key) (value : List ℕ) (k : Keys) → with_key a key value ≡ Ok k → (q : Key) × (key ≡ Some q) × IsGiven a q value k
+pub key_known : (a : Keys) (key : Option Key) (value : List ℕ) (k : Keys) → with_header_key a key value ≡ Ok k → (q : Key) × (key ≡ Some q) × IsGiven a q value k
 key_known a None value k e = cc
 key_known a (Some q) value k e = (q, refl, key_given a q value k e)
 
 -- a key that did not stand is taken, where its value gives a number
-pub key_taken : (a : Keys) (q : Key) (value : List ℕ) → held a q ≡ None → is_some (number_of q value) ≡ true → (k : Keys) × (with_key a (Some q) value ≡ Ok k)
+pub key_taken : (a : Keys) (q : Key) (value : List ℕ) → held a q ≡ None → is_some (number_of q value) ≡ true → (k : Keys) × (with_header_key a (Some q) value ≡ Ok k)
 key_taken a q value = by q
   where
     takes : {X : Type 0} (o number : Option X) (keep : X → Keys) → o ≡ None → is_some number ≡ true → (k : Keys) × (given o number keep ≡ Ok k)
@@ -228,7 +228,7 @@ key_taken a q value = by q
     typed false false e s = cc
     typed false true e s = (record a { kind = true }, refl)
 
-    by : (q : Key) → held a q ≡ None → is_some (number_of q value) ≡ true → (k : Keys) × (with_key a (Some q) value ≡ Ok k)
+    by : (q : Key) → held a q ≡ None → is_some (number_of q value) ≡ true → (k : Keys) × (with_header_key a (Some q) value ≡ Ok k)
     by North e s = takes a.north (coordinate value) (λ x. record a { north = Some x }) (free Number a.north e) (wrapped Number (coordinate value) s)
     by South e s = takes a.south (coordinate value) (λ x. record a { south = Some x }) (free Number a.south e) (wrapped Number (coordinate value) s)
     by East e s = takes a.east (coordinate value) (λ x. record a { east = Some x }) (free Number a.east e) (wrapped Number (coordinate value) s)
@@ -264,7 +264,7 @@ same_region e r g = by (is_rectangle e) (is_side e.rows) (is_side e.cols) (is_co
 abbrev headed : Keys → RegionValue → Header
 headed k x = record { region = x; null_text = unwrap_or k.null usual_null; multiplier = unwrap_or k.multiplier usual_multiplier }
 
-good_region : (k : Keys) (x : RegionValue) (h : Header) (f : Result RegionValue RegionFault) → region_fault x ≡ f → judged k f ≡ Ok h → (headed k x ≡ h) × (region_fault x ≡ Ok x)
+good_region : (k : Keys) (x : RegionValue) (h : Header) (f : Result RegionValue RegionFault) → region_fault x ≡ f → header_of_keys k f ≡ Ok h → (headed k x ≡ h) × (region_fault x ≡ Ok x)
 good_region k x h (Err f) e j = cc
 good_region k x h (Ok y) e j =
     let same = same_region x y e in
@@ -287,7 +287,7 @@ header_given k h e = by k.north k.south k.east k.west k.rows k.cols e
 
 -- and the keys of a header with a good region give it
 pub header_kept : (k : Keys) (h : Header) → IsHeaderOf k h → header_of k ≡ Ok h
-header_kept k h is = (λ i. header_of (record k { north = is.north i; south = is.south i; east = is.east i; west = is.west i; rows = is.rows i; cols = is.cols i })) ∙ ap (judged k) is.good
+header_kept k h is = (λ i. header_of (record k { north = is.north i; south = is.south i; east = is.east i; west = is.west i; rows = is.rows i; cols = is.cols i })) ∙ ap (header_of_keys k) is.good
     ∙ (λ i. Ok (record { region = h.region; null_text = is.null i; multiplier = is.multiplier i }))
 
 -- a good region has rows and columns

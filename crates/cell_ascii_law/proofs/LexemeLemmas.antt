@@ -6,18 +6,18 @@ use Rattle.std.proofs.lemmas.List.Sums.{sum_by-append}
 use Rattle.std.proofs.lemmas.Bool.{cases_Bool, cases_lt}
 use Rattle.std.proofs.lemmas.Bool.Decides.{nat_tests}
 use Rattle.std.specs.Prelude.{nat_lt}
-use Rattle.cell_devices.specs.Device.{Coming}
-use Rattle.cell_ascii_text.specs.Words.{Start, Begins, Ends, Stops, start_of, start_at, is_space, is_word, newlines, fault, word_from, word_end}
-use Rattle.cell_ascii_text.specs.Header.{Gap, Word, Feed, Last, Fault, gap_of, gap_at, is_blank}
-use Rattle.cell_ascii_text.specs.declared.fault.GridKind.TheVariants.{Read, ReaderStuck, LongToken}
-use Rattle.cell_ascii_text.specs.declared.fault.GridFault.{GridFault}
+use Rattle.cell_core_devices.specs.Device.{Coming}
+use Rattle.cell_ascii_meaning.specs.GridTokens.{Start, Begins, Ends, Stops, grid_start, start_at, is_space, is_grid_word, newlines, grid_fault, word_from, word_end}
+use Rattle.cell_ascii_meaning.specs.Header.{Gap, Word, Feed, Last, Fault, gap_of, gap_at, is_grid_blank}
+use Rattle.cell_ascii_meaning.specs.declared.grid_fault.GridKind.TheVariants.{Read, ReaderStuck, LongToken}
+use Rattle.cell_ascii_meaning.specs.declared.grid_fault.GridFault.{GridFault}
 
 abbrev pub coming : List ℕ → Bool → Coming
 coming bs f = record { bytes = bs; fails = f }
 
 -- The next word, one byte further.
 abbrev parts : Bool → ℕ → ℕ → List ℕ → Bool → Start
-parts stuck at_fault at_start rest f = if stuck then Stops (fault ReaderStuck at_fault) else start_at at_start rest f
+parts stuck at_fault at_start rest f = if stuck then Stops (grid_fault ReaderStuck at_fault) else start_at at_start rest f
 
 prefix_more : (b : ℕ) (bs : List ℕ) → is_space b ≡ true → prefix_len is_space (b ∷ bs) ≡ suc (prefix_len is_space bs)
 prefix_more b bs space = ap (λ (t : Bool). cond t (1 + prefix_len is_space bs) 0) space ∙ omega arith
@@ -47,24 +47,24 @@ feed_space b e = by (b == 32) (b == 9) (b == 13) (b == 10) e
     by false false false f e = e
 
 module _ (line run : ℕ) (low : run ≤ 1048576) where
-  pub start-ends : start_of line run (coming [] false) ≡ Ends line
-  unfolding start_of
+  pub start-ends : grid_start line run (coming [] false) ≡ Ends line
+  unfolding grid_start
   start-ends = grind (arith, nat_tests)
 
-  pub start-fails : start_of line run (coming [] true) ≡ Stops (fault Read line)
-  unfolding start_of
+  pub start-fails : grid_start line run (coming [] true) ≡ Stops (grid_fault Read line)
+  unfolding grid_start
   start-fails = grind (arith, nat_tests)
 
-  pub start-begins : (b : ℕ) (bs : List ℕ) (f : Bool) → is_space b ≡ false → start_of line run (coming (b ∷ bs) f) ≡ Begins line (coming (b ∷ bs) f)
-  unfolding start_of
+  pub start-begins : (b : ℕ) (bs : List ℕ) (f : Bool) → is_space b ≡ false → grid_start line run (coming (b ∷ bs) f) ≡ Begins line (coming (b ∷ bs) f)
+  unfolding grid_start
   start-begins b bs f word = grind (arith, nat_tests)
 
-  pub start-stuck : (b : ℕ) (bs : List ℕ) (f : Bool) → is_space b ≡ true → 1048576 ≤ run → start_of line run (coming (b ∷ bs) f) ≡ Stops (fault ReaderStuck line)
-  unfolding start_of
+  pub start-stuck : (b : ℕ) (bs : List ℕ) (f : Bool) → is_space b ≡ true → 1048576 ≤ run → grid_start line run (coming (b ∷ bs) f) ≡ Stops (grid_fault ReaderStuck line)
+  unfolding grid_start
   start-stuck b bs f space full = grind (arith, nat_tests)
 
-  pub start-more : (b : ℕ) (bs : List ℕ) (f : Bool) → is_space b ≡ true → run < 1048576 → start_of line run (coming (b ∷ bs) f) ≡ start_of (line + cond (b == 10) 1 0) (run + 1) (coming bs f)
-  unfolding start_of
+  pub start-more : (b : ℕ) (bs : List ℕ) (f : Bool) → is_space b ≡ true → run < 1048576 → grid_start line run (coming (b ∷ bs) f) ≡ grid_start (line + cond (b == 10) 1 0) (run + 1) (coming bs f)
+  unfolding grid_start
   start-more b bs f space room =
       let gap = prefix_len is_space bs in
       let longer : prefix_len is_space (b ∷ bs) ≡ suc gap = prefix_more b bs space in
@@ -79,7 +79,7 @@ module _ (line run : ℕ) (low : run ≤ 1048576) where
   unfolding gap_of
   gap-ends = grind (arith, nat_tests)
 
-  pub gap-fails : gap_of line run (coming [] true) ≡ Fault (fault Read line)
+  pub gap-fails : gap_of line run (coming [] true) ≡ Fault (grid_fault Read line)
   unfolding gap_of
   gap-fails = grind (arith, nat_tests)
 
@@ -91,22 +91,22 @@ module _ (line run : ℕ) (low : run ≤ 1048576) where
   unfolding gap_of
   gap-feed b bs f feed room = let e = feed_space b feed in grind (arith, nat_tests)
 
-  pub gap-stuck_feed : (b : ℕ) (bs : List ℕ) (f : Bool) → (b == 10) ≡ true → 1048576 ≤ run → gap_of line run (coming (b ∷ bs) f) ≡ Fault (fault ReaderStuck line)
+  pub gap-stuck_feed : (b : ℕ) (bs : List ℕ) (f : Bool) → (b == 10) ≡ true → 1048576 ≤ run → gap_of line run (coming (b ∷ bs) f) ≡ Fault (grid_fault ReaderStuck line)
   unfolding gap_of
   gap-stuck_feed b bs f feed full = let e = feed_space b feed in grind (arith, nat_tests)
 
-  pub gap-stuck : (b : ℕ) (bs : List ℕ) (f : Bool) → is_space b ≡ true → (b == 10) ≡ false → 1048576 ≤ run → gap_of line run (coming (b ∷ bs) f) ≡ Fault (fault ReaderStuck line)
+  pub gap-stuck : (b : ℕ) (bs : List ℕ) (f : Bool) → is_space b ≡ true → (b == 10) ≡ false → 1048576 ≤ run → gap_of line run (coming (b ∷ bs) f) ≡ Fault (grid_fault ReaderStuck line)
   unfolding gap_of
   gap-stuck b bs f space blank full = grind (arith, nat_tests)
 
   pub gap-more : (b : ℕ) (bs : List ℕ) (f : Bool) → is_space b ≡ true → (b == 10) ≡ false → gap_of line run (coming (b ∷ bs) f) ≡ gap_of line (run + 1) (coming bs f)
   unfolding gap_of
   gap-more b bs f space blank =
-      let gap = prefix_len is_blank bs in
-      let longer : prefix_len is_blank (b ∷ bs) ≡ suc gap = (λ i. cond (space i && not (blank i)) (1 + gap) 0) ∙ omega arith in
+      let gap = prefix_len is_grid_blank bs in
+      let longer : prefix_len is_grid_blank (b ∷ bs) ≡ suc gap = (λ i. cond (space i && not (blank i)) (1 + gap) 0) ∙ omega arith in
       let count : run + suc gap ≡ run + 1 + gap = omega arith in
-      ap (λ (n : ℕ). if nat_lt 1048576 (run + n) then Fault (fault ReaderStuck line) else gap_at line (run + n) (drop n (b ∷ bs)) f) longer
-      ∙ (λ i. if nat_lt 1048576 (count i) then Fault (fault ReaderStuck line) else gap_at line (count i) (drop gap bs) f)
+      ap (λ (n : ℕ). if nat_lt 1048576 (run + n) then Fault (grid_fault ReaderStuck line) else gap_at line (run + n) (drop n (b ∷ bs)) f) longer
+      ∙ (λ i. if nat_lt 1048576 (count i) then Fault (grid_fault ReaderStuck line) else gap_at line (count i) (drop gap bs) f)
 
 -- The rest of a word, one byte further.
 module _ (line : ℕ) (front : List ℕ) (short : length front ≤ 64) where
@@ -114,7 +114,7 @@ module _ (line : ℕ) (front : List ℕ) (short : length front ≤ 64) where
   unfolding word_from
   word-ends = grind (arith, nat_tests, append-nil)
 
-  pub word-fails : word_from line front (coming [] true) ≡ Err (fault Read line)
+  pub word-fails : word_from line front (coming [] true) ≡ Err (grid_fault Read line)
   unfolding word_from
   word-fails = grind (arith, nat_tests)
 
@@ -122,19 +122,19 @@ module _ (line : ℕ) (front : List ℕ) (short : length front ≤ 64) where
   unfolding word_from
   word-stops b bs f space = grind (arith, nat_tests, append-nil)
 
-  pub word-long : (b : ℕ) (bs : List ℕ) (f : Bool) → is_space b ≡ false → 64 ≤ length front → word_from line front (coming (b ∷ bs) f) ≡ Err (fault LongToken line)
+  pub word-long : (b : ℕ) (bs : List ℕ) (f : Bool) → is_space b ≡ false → 64 ≤ length front → word_from line front (coming (b ∷ bs) f) ≡ Err (grid_fault LongToken line)
   unfolding word_from
   word-long b bs f word full = grind (arith, nat_tests)
 
   pub word-more : (b : ℕ) (bs : List ℕ) (f : Bool) → is_space b ≡ false → word_from line front (coming (b ∷ bs) f) ≡ word_from line (front ++ b ∷ []) (coming bs f)
   unfolding word_from
   word-more b bs f word =
-      let more = prefix_len is_word bs in
-      let longer : prefix_len is_word (b ∷ bs) ≡ suc more = ap (λ (t : Bool). cond (not t) (1 + more) 0) word ∙ omega arith in
+      let more = prefix_len is_grid_word bs in
+      let longer : prefix_len is_grid_word (b ∷ bs) ≡ suc more = ap (λ (t : Bool). cond (not t) (1 + more) 0) word ∙ omega arith in
       let count : length front + suc more ≡ length (front ++ b ∷ []) + more = omega (arith, length-append front (b ∷ [])) in
       let whole : front ++ (b ∷ take more bs) ≡ (front ++ b ∷ []) ++ take more bs = sym (append_assoc front (b ∷ []) (take more bs)) in
-      ap (λ (n : ℕ). if nat_lt 64 (length front + n) then Err (fault LongToken line) else word_end line (front ++ take n (b ∷ bs)) (drop n (b ∷ bs)) f) longer
-      ∙ (λ i. if nat_lt 64 (count i) then Err (fault LongToken line) else word_end line (whole i) (drop more bs) f)
+      ap (λ (n : ℕ). if nat_lt 64 (length front + n) then Err (grid_fault LongToken line) else word_end line (front ++ take n (b ∷ bs)) (drop n (b ∷ bs)) f) longer
+      ∙ (λ i. if nat_lt 64 (count i) then Err (grid_fault LongToken line) else word_end line (whole i) (drop more bs) f)
 
 -- The words of each line.
 abbrev pub Lines : Type 0
@@ -206,15 +206,15 @@ module _ {Y : Type 0} (G : Lines → Option Y) where
   -- What comes before the next word: where k agrees with the words from the next one on, it agrees from here on.
   module _ (skips : (ls : Lines) → G ([] ∷ ls) ≡ G ls) (k : Start → Option Y) (stops : (e : GridFault) → k (Stops e) ≡ None) (ends : (line : ℕ) → k (Ends line) ≡ G [])
       (begins : (line b : ℕ) (bs : List ℕ) (f : Bool) → is_space b ≡ false → k (Begins line (coming (b ∷ bs) f)) ≡ option_and_then G (lex 0 [] (b ∷ bs) f)) where
-    pub before_word : (bs : List ℕ) (f : Bool) (line run : ℕ) → run ≤ 1048576 → k (start_of line run (coming bs f)) ≡ option_and_then G (lex run [] bs f)
+    pub before_word : (bs : List ℕ) (f : Bool) (line run : ℕ) → run ≤ 1048576 → k (grid_start line run (coming bs f)) ≡ option_and_then G (lex run [] bs f)
     before_word [] false line run low = ap k (start-ends line run low) ∙ ends line ∙ sym (skips [])
-    before_word [] true line run low = ap k (start-fails line run low) ∙ stops (fault Read line)
+    before_word [] true line run low = ap k (start-fails line run low) ∙ stops (grid_fault Read line)
     before_word (b ∷ bs) f line run low = by (before_word bs f (line + cond (b == 10) 1 0) (run + 1)) (cases_Bool (is_space b)) (cases_lt run 1048576)
       where
-        by : (run + 1 ≤ 1048576 → k (start_of (line + cond (b == 10) 1 0) (run + 1) (coming bs f)) ≡ option_and_then G (lex (run + 1) [] bs f))
-            → (is_space b ≡ true) ⊎ (is_space b ≡ false) → (run < 1048576) ⊎ (1048576 ≤ run) → k (start_of line run (coming (b ∷ bs) f)) ≡ option_and_then G (lex run [] (b ∷ bs) f)
+        by : (run + 1 ≤ 1048576 → k (grid_start (line + cond (b == 10) 1 0) (run + 1) (coming bs f)) ≡ option_and_then G (lex (run + 1) [] bs f))
+            → (is_space b ≡ true) ⊎ (is_space b ≡ false) → (run < 1048576) ⊎ (1048576 ≤ run) → k (grid_start line run (coming (b ∷ bs) f)) ≡ option_and_then G (lex run [] (b ∷ bs) f)
         by on (inr word) _ = ap k (start-begins line run low b bs f word) ∙ begins line b bs f word ∙ ap (option_and_then G) (sym (lex-begins run b bs f word))
-        by on (inl space) (inr full) = ap k (start-stuck line run low b bs f space full) ∙ stops (fault ReaderStuck line) ∙ ap (option_and_then G) (sym (lex-stuck run [] b bs f space full))
+        by on (inl space) (inr full) = ap k (start-stuck line run low b bs f space full) ∙ stops (grid_fault ReaderStuck line) ∙ ap (option_and_then G) (sym (lex-stuck run [] b bs f space full))
         by on (inl space) (inl room) = ap k (start-more line run low b bs f space room) ∙ on (omega arith)
             ∙ sym (ap (option_and_then G) (lex-space run [] b bs f space room) ∙ then_skipped skips (b == 10) (lex (run + 1) [] bs f))
 
@@ -223,7 +223,7 @@ module _ {Y : Type 0} (G : Lines → Option Y) where
       (done : (x : ℕ) (xs bs : List ℕ) (f : Bool) → k (Ok (x ∷ xs, coming bs f)) ≡ option_and_then (λ ls. G (put (x ∷ xs) ls)) (lex 0 [] bs f)) where
     in_word : (bs : List ℕ) (f : Bool) (x : ℕ) (xs : List ℕ) → length (x ∷ xs) ≤ 64 → k (word_from line (x ∷ xs) (coming bs f)) ≡ option_and_then G (lex 0 (x ∷ xs) bs f)
     in_word [] false x xs short = ap k (word-ends line (x ∷ xs) short) ∙ done x xs [] false
-    in_word [] true x xs short = ap k (word-fails line (x ∷ xs) short) ∙ fails (fault Read line)
+    in_word [] true x xs short = ap k (word-fails line (x ∷ xs) short) ∙ fails (grid_fault Read line)
     in_word (b ∷ bs) f x xs short = by (in_word bs f x (xs ++ b ∷ [])) (cases_Bool (is_space b)) (cases_lt (length (x ∷ xs)) 64)
       where
         by : (length (x ∷ (xs ++ b ∷ [])) ≤ 64 → k (word_from line (x ∷ (xs ++ b ∷ [])) (coming bs f)) ≡ option_and_then G (lex 0 (x ∷ (xs ++ b ∷ [])) bs f))
@@ -231,7 +231,7 @@ module _ {Y : Type 0} (G : Lines → Option Y) where
         by on (inl space) _ = ap k (word-stops line (x ∷ xs) short b bs f space) ∙ done x xs (b ∷ bs) f
             ∙ ap (option_and_then (λ ls. G (put (x ∷ xs) ls))) (lex-space 0 [] b bs f space (omega arith)) ∙ then_put x xs (b == 10) (lex 1 [] bs f)
             ∙ sym (ap (option_and_then G) (lex-space 0 (x ∷ xs) b bs f space (omega arith)))
-        by on (inr word) (inr full) = ap k (word-long line (x ∷ xs) short b bs f word full) ∙ fails (fault LongToken line) ∙ ap (option_and_then G) (sym (lex-long 0 (x ∷ xs) b bs f word full))
+        by on (inr word) (inr full) = ap k (word-long line (x ∷ xs) short b bs f word full) ∙ fails (grid_fault LongToken line) ∙ ap (option_and_then G) (sym (lex-long 0 (x ∷ xs) b bs f word full))
         by on (inr word) (inl room) = ap k (word-more line (x ∷ xs) short b bs f word) ∙ on (omega (arith, length-append xs (b ∷ []))) ∙ ap (option_and_then G) (sym (lex-word 0 (x ∷ xs) b bs f word room))
 
     -- a word from its first byte on
@@ -244,7 +244,7 @@ module _ {Y : Type 0} (G : Lines → Option Y) where
       (feeds : (run : ℕ) (bs : List ℕ) (f : Bool) → run ≤ 1048576 → k (Feed run (coming bs f)) ≡ option_and_then (λ ls. G ([] ∷ ls)) (lex run [] bs f)) where
     pub before_gap : (bs : List ℕ) (f : Bool) (run : ℕ) → run ≤ 1048576 → k (gap_of line run (coming bs f)) ≡ option_and_then G (lex run [] bs f)
     before_gap [] false run low = ap k (gap-ends line run low) ∙ last
-    before_gap [] true run low = ap k (gap-fails line run low) ∙ fails (fault Read line)
+    before_gap [] true run low = ap k (gap-fails line run low) ∙ fails (grid_fault Read line)
     before_gap (b ∷ bs) f run low = by (before_gap bs f (run + 1)) (cases_Bool (is_space b)) (cases_Bool (b == 10)) (cases_lt run 1048576)
       where
         by : (run + 1 ≤ 1048576 → k (gap_of line (run + 1) (coming bs f)) ≡ option_and_then G (lex (run + 1) [] bs f))
@@ -253,7 +253,7 @@ module _ {Y : Type 0} (G : Lines → Option Y) where
         by on (inr word) _ _ = ap k (gap-word line run low b bs f word) ∙ begins b bs f word ∙ ap (option_and_then G) (sym (lex-begins run b bs f word))
         by on (inl space) (inl feed) (inl room) = ap k (gap-feed line run low b bs f feed room) ∙ feeds (run + 1) bs f (omega arith)
             ∙ sym (ap (option_and_then G) (lex-space run [] b bs f space room) ∙ ap (λ (t : Bool). option_and_then G (option_map (opening t) (lex (run + 1) [] bs f))) feed ∙ then_fed (lex (run + 1) [] bs f))
-        by on (inl space) (inl feed) (inr full) = ap k (gap-stuck_feed line run low b bs f feed full) ∙ fails (fault ReaderStuck line) ∙ ap (option_and_then G) (sym (lex-stuck run [] b bs f space full))
+        by on (inl space) (inl feed) (inr full) = ap k (gap-stuck_feed line run low b bs f feed full) ∙ fails (grid_fault ReaderStuck line) ∙ ap (option_and_then G) (sym (lex-stuck run [] b bs f space full))
         by on (inl space) (inr blank) (inl room) = ap k (gap-more line run low b bs f space blank) ∙ on (omega arith)
             ∙ sym (ap (option_and_then G) (lex-space run [] b bs f space room) ∙ ap (λ (t : Bool). option_and_then G (option_map (opening t) (lex (run + 1) [] bs f))) blank ∙ then_same (lex (run + 1) [] bs f))
-        by on (inl space) (inr blank) (inr full) = ap k (gap-stuck line run low b bs f space blank full) ∙ fails (fault ReaderStuck line) ∙ ap (option_and_then G) (sym (lex-stuck run [] b bs f space full))
+        by on (inl space) (inr blank) (inr full) = ap k (gap-stuck line run low b bs f space blank full) ∙ fails (grid_fault ReaderStuck line) ∙ ap (option_and_then G) (sym (lex-stuck run [] b bs f space full))

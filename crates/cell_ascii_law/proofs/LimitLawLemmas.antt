@@ -4,8 +4,8 @@ use Rattle.std.specs.Option.{option_map}
 use Rattle.std.specs.List.{All, slice_split, onto_first, filter, list_all}
 use Rattle.std.proofs.lemmas.Bool.{cases_Bool, cases_lt, and_parts, and_from, both_ways}
 use Rattle.std.proofs.lemmas.List.Elements.{All-nil, All-cons, All-head, All-tail, All-append}
-use Rattle.cell_ascii_text.specs.Words.{is_space}
-use Rattle.cell_ascii_text.specs.GridText.{is_token, words_of, lines_of, line_words, IsWithinLimits}
+use Rattle.cell_ascii_meaning.specs.GridTokens.{is_space}
+use Rattle.cell_ascii_meaning.specs.GridText.{is_token, grid_words_of, lines_of, line_words, IsWithinLimits}
 use Rattle.cell_ascii_law.proofs.LexemeLemmas.{Lines, put_token, opening, lex, lex-space, lex-stuck, lex-word, lex-long, no_feed}
 
 -- bytes that p lets through
@@ -63,23 +63,23 @@ as_words t qs = ap (λ (u : List ℕ). filter is_token (u ∷ qs)) (append-nil t
     by [] = refl
     by (x ∷ xs) = refl
 
-pub words_alone : (t : List ℕ) → IsFree is_space t → words_of (t ++ []) ≡ as_word t
+pub words_alone : (t : List ℕ) → IsFree is_space t → grid_words_of (t ++ []) ≡ as_word t
 words_alone t free = ap (filter is_token) (split_free is_space t [] free) ∙ as_words t [] ∙ append-nil (as_word t)
 
-pub words_space : (t : List ℕ) (b : ℕ) (bs : List ℕ) → IsFree is_space t → is_space b ≡ true → words_of (t ++ b ∷ bs) ≡ as_word t ++ words_of bs
+pub words_space : (t : List ℕ) (b : ℕ) (bs : List ℕ) → IsFree is_space t → is_space b ≡ true → grid_words_of (t ++ b ∷ bs) ≡ as_word t ++ grid_words_of bs
 words_space t b bs free space = ap (filter is_token) (split_free is_space t (b ∷ bs) free)
     ∙ ap (λ (s : Bool). filter is_token (onto t (cond s ([] ∷ slice_split is_space bs) (onto_first b (slice_split is_space bs))))) space
     ∙ as_words t (slice_split is_space bs)
 
 pub lines_alone : (t : List ℕ) → IsFree is_space t → line_words (t ++ []) ≡ put_token t ([] ∷ [])
-lines_alone t free = ap (map words_of) (split_free (λ b. b == 10) t [] (free_feeds t free)) ∙ ap (λ (ws : List (List ℕ)). ws ∷ []) (words_alone t free) ∙ by t
+lines_alone t free = ap (map grid_words_of) (split_free (λ b. b == 10) t [] (free_feeds t free)) ∙ ap (λ (ws : List (List ℕ)). ws ∷ []) (words_alone t free) ∙ by t
   where
     by : (u : List ℕ) → as_word u ∷ [] ≡ put_token u ([] ∷ [])
     by [] = refl
     by (x ∷ xs) = refl
 
 pub lines_space : (t : List ℕ) (b : ℕ) (bs : List ℕ) → IsFree is_space t → is_space b ≡ true → line_words (t ++ b ∷ bs) ≡ put_token t (opening (b == 10) (line_words bs))
-lines_space t b bs free space = ap (map words_of) (split_free (λ b. b == 10) t (b ∷ bs) (free_feeds t free)) ∙ by (b == 10) (lines_of bs) (split_made (λ b. b == 10) bs)
+lines_space t b bs free space = ap (map grid_words_of) (split_free (λ b. b == 10) t (b ∷ bs) (free_feeds t free)) ∙ by (b == 10) (lines_of bs) (split_made (λ b. b == 10) bs)
   where
     fed : (u : List ℕ) (ls : Lines) → as_word u ∷ ls ≡ put_token u ([] ∷ ls)
     fed [] ls = refl
@@ -89,16 +89,16 @@ lines_space t b bs free space = ap (map words_of) (split_free (λ b. b == 10) t 
     more [] ws ls = refl
     more (x ∷ xs) ws ls = refl
 
-    by : (feed : Bool) (qs : List (List ℕ)) → IsMade qs → map words_of (onto t (cond feed ([] ∷ qs) (onto_first b qs))) ≡ put_token t (opening feed (map words_of qs))
+    by : (feed : Bool) (qs : List (List ℕ)) → IsMade qs → map grid_words_of (onto t (cond feed ([] ∷ qs) (onto_first b qs))) ≡ put_token t (opening feed (map grid_words_of qs))
     by feed [] made = absurd made
-    by true (q ∷ qs) made = ap (λ (ws : List (List ℕ)). ws ∷ map words_of (q ∷ qs)) (words_alone t free) ∙ fed t (map words_of (q ∷ qs))
-    by false (q ∷ qs) made = ap (λ (ws : List (List ℕ)). ws ∷ map words_of qs) (words_space t b q free space) ∙ more t (words_of q) (map words_of qs)
+    by true (q ∷ qs) made = ap (λ (ws : List (List ℕ)). ws ∷ map grid_words_of (q ∷ qs)) (words_alone t free) ∙ fed t (map grid_words_of (q ∷ qs))
+    by false (q ∷ qs) made = ap (λ (ws : List (List ℕ)). ws ∷ map grid_words_of qs) (words_space t b q free space) ∙ more t (grid_words_of q) (map grid_words_of qs)
 
 -- No words over 64 bytes.
 abbrev AreShort : List ℕ → Type 0
-AreShort text = All (λ w. length w ≤ 64) (words_of text)
+AreShort text = All (λ w. length w ≤ 64) (grid_words_of text)
 
-short_from : (text : List ℕ) (ws : List (List ℕ)) → words_of text ≡ ws → All (λ w. length w ≤ 64) ws → AreShort text
+short_from : (text : List ℕ) (ws : List (List ℕ)) → grid_words_of text ≡ ws → All (λ w. length w ≤ 64) ws → AreShort text
 short_from text ws e short = subst (λ (vs : List (List ℕ)). All (λ w. length w ≤ 64) vs) (sym e) short
 
 short_word : (t : List ℕ) → length t ≤ 64 → All (λ w. length w ≤ 64) (as_word t)
@@ -113,7 +113,7 @@ rest_short : (t : List ℕ) (ws : List (List ℕ)) → All (λ w. length w ≤ 6
 rest_short [] ws short = short
 rest_short (x ∷ xs) ws short = All-tail (λ w. length w ≤ 64) (x ∷ xs) ws short
 
-words_short : (text : List ℕ) (ws : List (List ℕ)) → words_of text ≡ ws → AreShort text → All (λ w. length w ≤ 64) ws
+words_short : (text : List ℕ) (ws : List (List ℕ)) → grid_words_of text ≡ ws → AreShort text → All (λ w. length w ≤ 64) ws
 words_short text ws e short = subst (λ (vs : List (List ℕ)). All (λ w. length w ≤ 64) vs) e short
 
 pub one_more : (t : List ℕ) (b : ℕ) (bs : List ℕ) → (t ++ b ∷ []) ++ bs ≡ t ++ b ∷ bs
@@ -125,7 +125,7 @@ token_short [] t free short = first_short t [] (words_short (t ++ []) (as_word t
 token_short (b ∷ bs) t free short = by (token_short bs (t ++ b ∷ [])) (cases_Bool (is_space b))
   where
     by : (IsFree is_space (t ++ b ∷ []) → AreShort ((t ++ b ∷ []) ++ bs) → length (t ++ b ∷ []) ≤ 64) → (is_space b ≡ true) ⊎ (is_space b ≡ false) → length t ≤ 64
-    by on (inl space) = first_short t (words_of bs) (words_short (t ++ b ∷ bs) (as_word t ++ words_of bs) (words_space t b bs free space) short)
+    by on (inl space) = first_short t (grid_words_of bs) (words_short (t ++ b ∷ bs) (as_word t ++ grid_words_of bs) (words_space t b bs free space) short)
     by on (inr word) = let h = on (free_more is_space t b free word) (subst AreShort (sym (one_more t b bs)) short) in omega (arith, length-append t (b ∷ []))
 
 -- No more than 1048576 spaces in a row, where `run` of them stand before.
@@ -208,7 +208,7 @@ lexed (b ∷ bs) f run t free short low ls e = by (lexed bs f (run + 1) []) (lex
         let h : put_token t (opening (b == 10) l) ≡ ls = cc in
         record {
           ends = g.ends;
-          words = short_from (t ++ b ∷ bs) (as_word t ++ words_of bs) (words_space t b bs free space) (All-append (λ w. length w ≤ 64) (as_word t) (words_of bs) (short_word t short) g.words);
+          words = short_from (t ++ b ∷ bs) (as_word t ++ grid_words_of bs) (words_space t b bs free space) (All-append (λ w. length w ≤ 64) (as_word t) (grid_words_of bs) (short_word t short) g.words);
           gaps = gaps_space run b bs g.gaps;
           lines = sym h ∙ ap (λ (l : Lines). put_token t (opening (b == 10) l)) g.lines ∙ sym (lines_space t b bs free space);
         }
@@ -237,7 +237,7 @@ lexes (b ∷ bs) run t free short are = by (lexes bs (run + 1) []) (lexes bs 0 (
         → (is_space b ≡ true) ⊎ (is_space b ≡ false) → lex run t (b ∷ bs) false ≡ Some (line_words (t ++ b ∷ bs))
     by on inside (inl space) =
         let g = space_gaps run b bs are space in
-        let s = rest_short t (words_of bs) (words_short (t ++ b ∷ bs) (as_word t ++ words_of bs) (words_space t b bs free space) short) in
+        let s = rest_short t (grid_words_of bs) (words_short (t ++ b ∷ bs) (as_word t ++ grid_words_of bs) (words_space t b bs free space) short) in
         lex-space run t b bs false space g.0 ∙ ap (option_map (λ ls. put_token t (opening (b == 10) ls))) (on tt s g.1) ∙ ap Some (sym (lines_space t b bs free space))
     by on inside (inr word) =
         let s : AreShort ((t ++ b ∷ []) ++ bs) = subst AreShort (sym (one_more t b bs)) short in

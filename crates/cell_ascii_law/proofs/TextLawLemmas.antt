@@ -7,13 +7,13 @@ use Rattle.std.proofs.lemmas.Bool.{cases_Bool, both_ways}
 use Rattle.std.proofs.lemmas.Slice.Eq.{bytes_eq-Decides}
 use Rattle.std.proofs.lemmas.List.Elements.{All-nil, All-cons, All-head, All-tail}
 use Rattle.cell_core.specs.Grid.{Grid, no_labels}
-use Rattle.cell_ascii_text.specs.Numbers.{coordinate, side, whole_in_range}
-use Rattle.cell_ascii_text.specs.KeyNames.{key_of}
-use Rattle.cell_ascii_text.specs.Header.{Header, Keys, no_keys, with_key, header_of, has_colon, usual_null, usual_multiplier}
-use Rattle.cell_ascii_text.specs.GridText.{is_data_line, is_header_line, header_lines, data_words, key_text, values, value_of, IsHeader, AreCells, read_or, null_text, int_type}
-use Rattle.cell_ascii_text.specs.declared.key.Key.{Key}
-use Rattle.cell_ascii_text.specs.declared.key.Key.TheVariants.{North, South, East, West, Rows, Cols, Null, CellType, Multiplier}
-use Rattle.cell_ascii_text.specs.declared.fault.GridKind.{GridKind}
+use Rattle.cell_ascii_meaning.specs.EdgeNumbers.{coordinate, side, whole_in_range}
+use Rattle.cell_ascii_meaning.specs.KeyNames.{header_key_of}
+use Rattle.cell_ascii_meaning.specs.Header.{Header, Keys, no_keys, with_header_key, header_of, has_colon, usual_null, usual_multiplier}
+use Rattle.cell_ascii_meaning.specs.GridText.{is_data_line, is_header_line, header_lines, data_words, key_text, line_values, value_of, IsHeader, DenoteCells, read_or, null_text, int_type}
+use Rattle.cell_ascii_meaning.specs.declared.header_key.Key.{Key}
+use Rattle.cell_ascii_meaning.specs.declared.header_key.Key.TheVariants.{North, South, East, West, Rows, Cols, Null, CellType, Multiplier}
+use Rattle.cell_ascii_meaning.specs.declared.grid_fault.GridKind.{GridKind}
 use Rattle.cell_ascii_law.proofs.LexemeLemmas.{Lines}
 use Rattle.cell_ascii_law.proofs.DataLawLemmas.{all_words, whole_grid}
 use Rattle.cell_ascii_law.proofs.HeaderLawLemmas.{take_text, take_data, at_header, with_line, with_values, after_key}
@@ -65,7 +65,7 @@ name_of Null = codes "null"
 name_of CellType = codes "type"
 name_of Multiplier = codes "multiplier"
 
-key_named : (q : Key) → key_of (name_of q) ≡ Some q
+key_named : (q : Key) → header_key_of (name_of q) ≡ Some q
 key_named North = refl
 key_named South = refl
 key_named East = refl
@@ -76,7 +76,7 @@ key_named Null = refl
 key_named CellType = refl
 key_named Multiplier = refl
 
-pub name_is : (t : List ℕ) (q : Key) → key_of t ≡ Some q → t ≡ name_of q
+pub name_is : (t : List ℕ) (q : Key) → header_key_of t ≡ Some q → t ≡ name_of q
 name_is t q k = by (bytes_eq t (codes "north")) (bytes_eq t (codes "south")) (bytes_eq t (codes "east")) (bytes_eq t (codes "west")) (bytes_eq t (codes "rows")) (bytes_eq t (codes "cols")) (bytes_eq t (codes "null")) (bytes_eq t (codes "type")) (bytes_eq t (codes "multiplier")) refl refl refl refl refl refl refl refl refl k
   where
     named : (p : Key) → bytes_eq t (name_of p) ≡ true → Some p ≡ Some q → t ≡ name_of q
@@ -99,17 +99,17 @@ name_is t q k = by (bytes_eq t (codes "north")) (bytes_eq t (codes "south")) (by
 abbrev pub has_key : Key → List (List ℕ) → Bool
 has_key p l = bytes_eq (name_of p) (key_text l)
 
-has_its_key : (l : List (List ℕ)) (q : Key) → key_of (key_text l) ≡ Some q → has_key q l ≡ true
+has_its_key : (l : List (List ℕ)) (q : Key) → header_key_of (key_text l) ≡ Some q → has_key q l ≡ true
 has_its_key l q e = (bytes_eq-Decides (name_of q) (key_text l)).1 (sym (name_is (key_text l) q e))
 
-only_its_key : (l : List (List ℕ)) (q p : Key) → key_of (key_text l) ≡ Some q → has_key p l ≡ true → p ≡ q
+only_its_key : (l : List (List ℕ)) (q p : Key) → header_key_of (key_text l) ≡ Some q → has_key p l ≡ true → p ≡ q
 only_its_key l q p e has =
     let same : name_of p ≡ key_text l = (bytes_eq-Decides (name_of p) (key_text l)).0 has in
-    let some : Some p ≡ Some q = sym (key_named p) ∙ ap key_of same ∙ e in
+    let some : Some p ≡ Some q = sym (key_named p) ∙ ap header_key_of same ∙ e in
     cc
 
 -- it has the key p, or its own is another
-key_cases : (l : List (List ℕ)) (q p : Key) → key_of (key_text l) ≡ Some q → (p ≡ q) ⊎ ((has_key p l ≡ false) × (p ≡ q → ⊥))
+key_cases : (l : List (List ℕ)) (q p : Key) → header_key_of (key_text l) ≡ Some q → (p ≡ q) ⊎ ((has_key p l ≡ false) × (p ≡ q → ⊥))
 key_cases l q p e = by (cases_Bool (has_key p l))
   where
     by : (has_key p l ≡ true) ⊎ (has_key p l ≡ false) → (p ≡ q) ⊎ ((has_key p l ≡ false) × (p ≡ q → ⊥))
@@ -121,12 +121,12 @@ abbrev pub line_of : Key → Lines → Option (List (List ℕ))
 line_of p ls = find (has_key p) ls
 
 abbrev pub number_in : Key → Option (List (List ℕ)) → Option Value
-number_in p o = option_and_then (number_of p) (option_and_then (λ l. slice_get (values l) 0) o)
+number_in p o = option_and_then (number_of p) (option_and_then (λ l. slice_get (line_values l) 0) o)
 
 abbrev pub looked_up : Key → Lines → Option Value
 looked_up p ls = number_in p (line_of p ls)
 
-line_first : (l : List (List ℕ)) (ls : Lines) (q : Key) → key_of (key_text l) ≡ Some q → line_of q (l ∷ ls) ≡ Some l
+line_first : (l : List (List ℕ)) (ls : Lines) (q : Key) → header_key_of (key_text l) ≡ Some q → line_of q (l ∷ ls) ≡ Some l
 line_first l ls q e = ap (λ (t : Bool). cond t (Some l) (line_of q ls)) (has_its_key l q e)
 
 line_later : (l : List (List ℕ)) (ls : Lines) (p : Key) → has_key p l ≡ false → line_of p (l ∷ ls) ≡ line_of p ls
@@ -147,15 +147,15 @@ not_found t p is (l ∷ ls) all = line_later l ls p (ap (λ (u : List ℕ). byte
 
 -- What the keys of the header lines are, beside those that stood before.
 pub record IsTaken (a k : Keys) (ls : Lines) : Type 0 where
-  pub one_value : All (λ l. length (values l) ≡ 1) ls
-  pub known : All (λ l. IsSome (key_of (key_text l))) ls
+  pub one_value : All (λ l. length (line_values l) ≡ 1) ls
+  pub known : All (λ l. IsSome (header_key_of (key_text l))) ls
   pub once : IsDistinct bytes_eq (map key_text ls)
   pub looked : (p : Key) → held a p ≡ None → held k p ≡ looked_up p ls
   pub stands : (p : Key) → held a p ≡ None → is_some (held k p) ≡ is_some (line_of p ls)
   pub good : (p : Key) → held a p ≡ None → (v : List ℕ) → value_of (name_of p) ls ≡ Some v → is_some (number_of p v) ≡ true
   pub stood : (p : Key) (x : Value) → held a p ≡ Some x → (line_of p ls ≡ None) × (held k p ≡ Some x)
 
-valued : (a : Keys) (key : Option Key) (vs : List (List ℕ)) (k : Keys) → with_values a key vs ≡ Ok k → (v : List ℕ) × (vs ≡ v ∷ []) × (with_key a key v ≡ Ok k)
+valued : (a : Keys) (key : Option Key) (vs : List (List ℕ)) (k : Keys) → with_values a key vs ≡ Ok k → (v : List ℕ) × (vs ≡ v ∷ []) × (with_header_key a key v ≡ Ok k)
 valued a key [] k e = cc
 valued a key (v ∷ []) k e = (v, refl, e)
 valued a key (v ∷ w ∷ vs) k e = cc
@@ -171,24 +171,24 @@ numbered (Some x) e = (x, refl)
 
 -- the first value of a line
 abbrev pub value_at : Option (List (List ℕ)) → Option (List ℕ)
-value_at o = option_and_then (λ l. slice_get (values l) 0) o
+value_at o = option_and_then (λ l. slice_get (line_values l) 0) o
 
-value_first : (l : List (List ℕ)) (ls : Lines) (q : Key) (v : List ℕ) → key_of (key_text l) ≡ Some q → values l ≡ v ∷ [] → value_of (name_of q) (l ∷ ls) ≡ Some v
+value_first : (l : List (List ℕ)) (ls : Lines) (q : Key) (v : List ℕ) → header_key_of (key_text l) ≡ Some q → line_values l ≡ v ∷ [] → value_of (name_of q) (l ∷ ls) ≡ Some v
 value_first l ls q v is one = ap value_at (line_first l ls q is) ∙ ap (λ (vs : List (List ℕ)). slice_get vs 0) one
 
-number_first : (l : List (List ℕ)) (ls : Lines) (q : Key) (v : List ℕ) → key_of (key_text l) ≡ Some q → values l ≡ v ∷ [] → looked_up q (l ∷ ls) ≡ number_of q v
+number_first : (l : List (List ℕ)) (ls : Lines) (q : Key) (v : List ℕ) → header_key_of (key_text l) ≡ Some q → line_values l ≡ v ∷ [] → looked_up q (l ∷ ls) ≡ number_of q v
 number_first l ls q v is one = ap (number_in q) (line_first l ls q is) ∙ ap (λ (vs : List (List ℕ)). option_and_then (number_of q) (slice_get vs 0)) one
 
 pub line_then : (a b k : Keys) (l : List (List ℕ)) (ls : Lines) → with_line a l ≡ Ok b → with_lines b ls ≡ Ok k → with_lines a (l ∷ ls) ≡ Ok k
 line_then a b k l ls first rest = ap (λ (r : Result Keys GridKind). then_keys r (λ k. with_lines k ls)) first ∙ rest
 
 -- a line whose key is q, with the one value v, between a and b
-module _ (a b : Keys) (l : List (List ℕ)) (ls : Lines) (q : Key) (v : List ℕ) (is : key_of (key_text l) ≡ Some q) (one : values l ≡ v ∷ []) (given : IsGiven a q v b) where
+module _ (a b : Keys) (l : List (List ℕ)) (ls : Lines) (q : Key) (v : List ℕ) (is : header_key_of (key_text l) ≡ Some q) (one : line_values l ≡ v ∷ []) (given : IsGiven a q v b) where
   taken_more : (k : Keys) → IsTaken b k ls → IsTaken a k (l ∷ ls)
   unfolding IsDistinct
   taken_more k are = record {
-    one_value = All-cons (λ l. length (values l) ≡ 1) l ls (ap length one) are.one_value;
-    known = All-cons (λ l. IsSome (key_of (key_text l))) l ls (ap is_some is) are.known;
+    one_value = All-cons (λ l. length (line_values l) ≡ 1) l ls (ap length one) are.one_value;
+    known = All-cons (λ l. IsSome (header_key_of (key_text l))) l ls (ap is_some is) are.known;
     once = (none_found (key_text l) q (name_is (key_text l) q is) ls own.0, are.once);
     looked = λ p free. looked p free (key_cases l q p is);
     stands = λ p free. stands p free (key_cases l q p is);
@@ -224,8 +224,8 @@ module _ (a b : Keys) (l : List (List ℕ)) (ls : Lines) (q : Key) (v : List ℕ
 pub lines_taken : (ls : Lines) (a k : Keys) → with_lines a ls ≡ Ok k → IsTaken a k ls
 unfolding IsDistinct
 lines_taken [] a k e = record {
-  one_value = All-nil (λ l. length (values l) ≡ 1);
-  known = All-nil (λ l. IsSome (key_of (key_text l)));
+  one_value = All-nil (λ l. length (line_values l) ≡ 1);
+  known = All-nil (λ l. IsSome (header_key_of (key_text l)));
   once = tt;
   looked = λ p free. ap (λ (m : Keys). held m p) (sym same) ∙ free;
   stands = λ p free. ap is_some (ap (λ (m : Keys). held m p) (sym same) ∙ free);
@@ -240,14 +240,14 @@ lines_taken (l ∷ ls) a k e = by (with_line a l) refl (lines_taken ls) e
     by : (r : Result Keys GridKind) → with_line a l ≡ r → ((b m : Keys) → with_lines b ls ≡ Ok m → IsTaken b m ls) → then_keys r (λ k. with_lines k ls) ≡ Ok k → IsTaken a k (l ∷ ls)
     by (Err kind) is on e = cc
     by (Ok b) is on e =
-        let v = valued a (key_of (key_text l)) (values l) b is in
-        let q = key_known a (key_of (key_text l)) v.0 b v.2 in
+        let v = valued a (header_key_of (key_text l)) (line_values l) b is in
+        let q = key_known a (header_key_of (key_text l)) v.0 b v.2 in
         taken_more a b l ls q.0 v.0 q.1 v.1 q.2 k (on b k e)
 
 -- What header lines need to be taken, beside the keys that stood before.
 record IsReady (a : Keys) (ls : Lines) : Type 0 where
-  one_value : All (λ l. length (values l) ≡ 1) ls
-  known : All (λ l. IsSome (key_of (key_text l))) ls
+  one_value : All (λ l. length (line_values l) ≡ 1) ls
+  known : All (λ l. IsSome (header_key_of (key_text l))) ls
   once : IsDistinct bytes_eq (map key_text ls)
   looked : (p : Key) → held a p ≡ None → (v : List ℕ) → value_of (name_of p) ls ≡ Some v → is_some (number_of p v) ≡ true
   stood : (p : Key) (x : Value) → held a p ≡ Some x → line_of p ls ≡ None
@@ -256,12 +256,12 @@ known_key : (o : Option Key) → is_some o ≡ true → (q : Key) × (o ≡ Some
 known_key None e = cc
 known_key (Some q) e = (q, refl)
 
-module _ (a b : Keys) (l : List (List ℕ)) (ls : Lines) (q : Key) (v : List ℕ) (is : key_of (key_text l) ≡ Some q) (one : values l ≡ v ∷ []) (given : IsGiven a q v b) where
+module _ (a b : Keys) (l : List (List ℕ)) (ls : Lines) (q : Key) (v : List ℕ) (is : header_key_of (key_text l) ≡ Some q) (one : line_values l ≡ v ∷ []) (given : IsGiven a q v b) where
   ready_more : IsReady a (l ∷ ls) → IsReady b ls
   unfolding IsDistinct
   ready_more are = record {
-    one_value = All-tail (λ l. length (values l) ≡ 1) l ls are.one_value;
-    known = All-tail (λ l. IsSome (key_of (key_text l))) l ls are.known;
+    one_value = All-tail (λ l. length (line_values l) ≡ 1) l ls are.one_value;
+    known = All-tail (λ l. IsSome (header_key_of (key_text l))) l ls are.known;
     once = are.once.1;
     looked = λ p free u e. looked p free u e (key_cases l q p is);
     stood = λ p x e. stood p x e (key_cases l q p is);
@@ -282,11 +282,11 @@ lines_ready : (ls : Lines) (a : Keys) → IsReady a ls → (k : Keys) × (with_l
 lines_ready [] a are = (a, refl)
 lines_ready (l ∷ ls) a are = by (held a q.0) refl (lines_ready ls)
   where
-    q : (q : Key) × (key_of (key_text l) ≡ Some q)
-    q = known_key (key_of (key_text l)) (All-head (λ l. IsSome (key_of (key_text l))) l ls are.known)
+    q : (q : Key) × (header_key_of (key_text l) ≡ Some q)
+    q = known_key (header_key_of (key_text l)) (All-head (λ l. IsSome (header_key_of (key_text l))) l ls are.known)
 
-    v : (v : List ℕ) × (values l ≡ v ∷ [])
-    v = lengths_one (values l) (All-head (λ l. length (values l) ≡ 1) l ls are.one_value)
+    v : (v : List ℕ) × (line_values l ≡ v ∷ [])
+    v = lengths_one (line_values l) (All-head (λ l. length (line_values l) ≡ 1) l ls are.one_value)
 
     by : (o : Option Value) → held a q.0 ≡ o → ((b : Keys) → IsReady b ls → (k : Keys) × (with_lines b ls ≡ Ok k)) → (k : Keys) × (with_lines a (l ∷ ls) ≡ Ok k)
     by (Some x) free on = let f : Some l ≡ None = sym (line_first l ls q.0 q.1) ∙ are.stood q.0 x free in absurd cc
@@ -416,20 +416,20 @@ header_taken ls h is = (
     are = lines_taken ls no_keys taken.0 taken.1
 
 -- What the words of the lines denote is a map with that header and those cells.
-pub text_read : (ls : Lines) (m : Grid) → take_text no_keys ls ≡ Some m → (h : Header) × IsHeader (header_lines ls) h × AreCells h (data_words ls) m × (m ≡ whole_grid h m.rows)
+pub text_read : (ls : Lines) (m : Grid) → take_text no_keys ls ≡ Some m → (h : Header) × IsHeader (header_lines ls) h × DenoteCells h (data_words ls) m × (m ≡ whole_grid h m.rows)
 text_read ls m e = by (with_lines no_keys (header_lines ls)) refl (sym (text_parts ls no_keys) ∙ e)
   where
     last : (k : Keys) → with_lines no_keys (header_lines ls) ≡ Ok k → (r : Result Header GridKind) → header_of k ≡ r → at_header r (data_words ls) ≡ Some m
-        → (h : Header) × IsHeader (header_lines ls) h × AreCells h (data_words ls) m × (m ≡ whole_grid h m.rows)
+        → (h : Header) × IsHeader (header_lines ls) h × DenoteCells h (data_words ls) m × (m ≡ whole_grid h m.rows)
     last k is (Err kind) given e = cc
     last k is (Ok h) given e = let cells = cells_read h (data_words ls) m e in (h, header_read (header_lines ls) k h is (header_given k h given), cells.1, cells.0)
 
     by : (r : Result Keys GridKind) → with_lines no_keys (header_lines ls) ≡ r → after_key r (λ k. take_data k (data_words ls)) ≡ Some m
-        → (h : Header) × IsHeader (header_lines ls) h × AreCells h (data_words ls) m × (m ≡ whole_grid h m.rows)
+        → (h : Header) × IsHeader (header_lines ls) h × DenoteCells h (data_words ls) m × (m ≡ whole_grid h m.rows)
     by (Err kind) is e = cc
     by (Ok k) is e = last k is (header_of k) refl e
 
-pub text_taken : (ls : Lines) (h : Header) (m : Grid) → IsHeader (header_lines ls) h → AreCells h (data_words ls) m → m.region ≡ h.region → m.labels ≡ no_labels → take_text no_keys ls ≡ Some m
+pub text_taken : (ls : Lines) (h : Header) (m : Grid) → IsHeader (header_lines ls) h → DenoteCells h (data_words ls) m → m.region ≡ h.region → m.labels ≡ no_labels → take_text no_keys ls ≡ Some m
 text_taken ls h m header cells region labels =
     let k = header_taken (header_lines ls) h header in
     text_parts ls no_keys ∙ ap (λ (r : Result Keys GridKind). after_key r (λ k. take_data k (data_words ls))) k.1

@@ -1,8 +1,8 @@
 -- What the program holds, as the definitions speak of it.
 use Rattle.std.specs.Prelude.{ℕ, List, map}
 use denote.Ref.{Bor}
-use Rattle.cell_ascii_text.specs.GridText.{words_of}
-use Rattle.cell_ascii_text.specs.Places as places
+use Rattle.cell_ascii_meaning.specs.GridText.{grid_words_of}
+use Rattle.cell_ascii_meaning.specs.FaultPlaces as places
 use Rattle.cell_ascii_tests.specs.declared.definition.place.Place.{Place}
 use Rattle.cell_ascii_tests.specs.declared.definition.place.Place.TheVariants.{Byte, End, Fails}
 
@@ -12,10 +12,10 @@ texts slices = map (λ s. s.now) slices
 
 -- the words of each line
 abbrev pub words_of_each : List (Bor (List ℕ)) → List (List (List ℕ))
-words_of_each lines = map (λ line. words_of line.now) lines
+words_of_each lines = map (λ line. grid_words_of line.now) lines
 
 -- a place
-abbrev pub place_seen : Place → places.Place
+abbrev pub place_seen : Place → places.FaultPlace
 place_seen (Byte b) = places.Byte b
 place_seen End = places.End
 place_seen Fails = places.Fails

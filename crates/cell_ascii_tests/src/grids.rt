@@ -1,9 +1,9 @@
 //! Whole texts, read in pieces of seven bytes.
 
-ghost use Rattle.cell_ascii_text.specs.Writing.{IsNullText};
+ghost use Rattle.cell_ascii_meaning.specs.Writing.{IsNullText};
 
-use cell_ascii::fault::{GridFault, GridKind};
-use cell_ascii::reader::read_map;
+use cell_ascii::grid_fault::{GridFault, GridKind};
+use cell_ascii::grid_reader::read_map;
 use cell_ascii::writer::write_map;
 use cell_core::device::DeviceFault;
 use cell_core::map::CellMap;

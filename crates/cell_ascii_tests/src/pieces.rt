@@ -5,8 +5,8 @@ ghost use Rattle.std.specs.Prelude.{◌<◌};
 
 use crate::definition::fault::text_fault;
 use crate::edits::expect;
-use cell_ascii::fault::GridFault;
-use cell_ascii::reader::read_map;
+use cell_ascii::grid_fault::GridFault;
+use cell_ascii::grid_reader::read_map;
 use cell_core::map::CellMap;
 use cell_core::source::MemorySource;
 use std::alloc::AllocGlobal;

@@ -2,8 +2,8 @@
 
 ghost use Rattle.std.specs.Prelude.{◌≡◌, ◌<◌, ◌≤◌, length, IfOk};
 
-use cell_ascii::fault::{GridFault, GridKind};
-use cell_ascii::reader::GridReader;
+use cell_ascii::grid_fault::{GridFault, GridKind};
+use cell_ascii::grid_reader::GridReader;
 use cell_core::cell::Cell;
 use cell_core::device::DeviceFault;
 use cell_core::source::{Asked, MemorySource, Source};

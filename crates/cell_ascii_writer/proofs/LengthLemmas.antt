@@ -3,18 +3,18 @@ use Rattle.std.proofs.Common.{Some, None, ◌≡◌, ◌+◌, ◌-◌, ◌*◌, 
 use Rattle.std.specs.List.{join_with_byte, prefix_len}
 use Rattle.std.proofs.lemmas.Bool.Decides.{nat_tests}
 use Rattle.std.proofs.lemmas.Fmt.{length-decimal-le}
-use Rattle.cell_base.specs.Region.{RegionValue}
+use Rattle.cell_core_values.specs.Region.{RegionValue}
 use Rattle.std.specs.Prelude.{bytes_eq}
-use Rattle.cell_ascii_text.specs.Header.{usual_null}
+use Rattle.cell_ascii_meaning.specs.Header.{usual_null}
 use lib.Signed.{mag}
 use Rattle.std.proofs.lemmas.Int.{ints}
 use Rattle.std.proofs.lemmas.List.Elements.{All-map}
 use Rattle.std.proofs.lemmas.Fmt.{length_signed_le}
 use Rattle.std.proofs.lemmas.List.{length-map}
-use Rattle.cell_base.specs.Cell.{IsCell, is_category}
+use Rattle.cell_core_values.specs.Cell.{IsCell, is_category}
 use Rattle.cell_core.specs.Grid.{CellValue, Grid, IsFilled, AreCells}
 use Rattle.cell_core.specs.Text.{cell_text}
-use Rattle.cell_ascii_text.specs.Writing.{coordinate_text, fraction_text, grid_text, line_of_key, null_line, region_text, row_text, units_text, without_zeros}
+use Rattle.cell_ascii_meaning.specs.Writing.{coordinate_text, fraction_text, grid_text, line_of_key, null_line, region_text, row_text, units_text, without_zeros}
 use Rattle.cell_ascii_writer.proofs.WriterLemmas.{fraction_text-some}
 
 zeros_le : (digits : List ℕ) {most : ℕ} → length digits ≤ most → length (without_zeros digits) ≤ most

@@ -1,8 +1,8 @@
 -- Text that is appended but for its last bytes.
 use Rattle.std.proofs.Common.{◌≡◌, ◌∙◌, ℕ, List, [], ◌++◌, Option, refl, sym, ap, append_assoc, append-nil, subst, arith, ◌<◌, replicate, get_or}
-use Rattle.cell_devices.specs.Device.{Faults}
-use Rattle.cell_devices.specs.Blocks.{BlockValue, Appends}
-use Rattle.cell_devices.proofs.BlockLemmas.{appends_none, appends_then}
+use Rattle.cell_core_devices.specs.Device.{Faults}
+use Rattle.cell_core_devices.specs.Blocks.{BlockValue, Appends}
+use Rattle.cell_core_devices.proofs.BlockLemmas.{appends_none, appends_then}
 use Rattle.std.specs.List.{All}
 use Rattle.std.proofs.lemmas.List.{length-replicate, get_or-replicate}
 use Rattle.cell_ascii_writer.specs.Fields.{IsField, AppendsBut}

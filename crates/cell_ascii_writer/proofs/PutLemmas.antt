@@ -1,9 +1,9 @@
 -- A text that was written through a block which was then emptied.
 use Rattle.std.proofs.Common.{◌≡◌, ◌∙◌, ℕ, ◌<◌, Bool, true, false, List, [], ◌++◌, length, take, Option, Ok, Err, refl, sym, ap, arith, append-nil, length-append}
 use Rattle.std.proofs.Math.Seq.{take-append_seam}
-use Rattle.cell_devices.specs.Device.{Faults, after_put, append_known}
-use Rattle.cell_devices.specs.Blocks.{capped, BlockValue, Appended, fault_if}
-use Rattle.cell_devices.specs.declared.sink.WriteFault.{WriteFault}
+use Rattle.cell_core_devices.specs.Device.{Faults, after_put, append_known}
+use Rattle.cell_core_devices.specs.Blocks.{capped_count, BlockValue, Appended, fault_if}
+use Rattle.cell_core_devices.specs.declared.sink.WriteFault.{WriteFault}
 
 -- a text that is shorter than the greatest count: it was put, or its first bytes were
 module _ {before now : Option (List ℕ)} {start faults : Faults} {text : List ℕ} {block : BlockValue} (p : Appended before start text now faults block) where
@@ -11,10 +11,10 @@ module _ {before now : Option (List ℕ)} {start faults : Faults} {text : List �
   put_ends good none = sym (append-nil p.front) ∙ ap (λ (l : List ℕ). p.front ++ l) (sym none ∙ rw good at p.held) ∙ p.whole
 
   -- all was put
-  pub appended_put : block.failed ≡ false → block.held ≡ [] → (now ≡ append_known before text) × ((block.written ≡ capped (length text)) × (faults ≡ start))
+  pub appended_put : block.failed ≡ false → block.held ≡ [] → (now ≡ append_known before text) × ((block.written ≡ capped_count (length text)) × (faults ≡ start))
   appended_put good none =
       let front = put_ends good none in
-      (p.taken ∙ ap (append_known before) front, (p.count ∙ ap (λ (l : List ℕ). capped (length l)) front, rw good at p.fails))
+      (p.taken ∙ ap (append_known before) front, (p.count ∙ ap (λ (l : List ℕ). capped_count (length l)) front, rw good at p.fails))
 
   -- a put was refused: what the sink took is told, and is not all
   pub appended_cut : block.failed ≡ true → length text < 18446744073709551615

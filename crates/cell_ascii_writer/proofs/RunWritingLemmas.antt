@@ -5,7 +5,7 @@ use Rattle.cell_core.specs.Grid.{CellValue}
 use Rattle.cell_core.specs.Runs.{RunValue, AreRuns, written_out}
 use Rattle.cell_core.specs.Text.{cell_text}
 use Rattle.cell_core.proofs.RunLemmas.{written_out-push}
-use Rattle.cell_ascii_writer.specs.WrittenRuns.{times, cells_text, joined_cells}
+use Rattle.cell_ascii_writer.specs.WrittenRuns.{times, spaced_cells, joined_cells}
 
 -- a text once more
 pub times-more : (n : ℕ) (text : List ℕ) → times (n + 1) text ≡ times n text ++ text
@@ -20,28 +20,28 @@ first-some runs rest cell n are e = (rw e at are.lengths) 0 (cell, n) (omega ari
 
 module _ (null : List ℕ) where
   -- a cell, so many times
-  pub times_cells : (n : ℕ) (cell : CellValue) → times n (32 ∷ cell_text null cell) ≡ cells_text null (replicate n cell)
+  pub times_cells : (n : ℕ) (cell : CellValue) → times n (32 ∷ cell_text null cell) ≡ spaced_cells null (replicate n cell)
   times_cells zero cell = refl
   times_cells (suc n) cell = ap (λ (t : List ℕ). (32 ∷ cell_text null cell) ++ t) (times_cells n cell)
 
-  both : (xs ys : List CellValue) → cells_text null (xs ++ ys) ≡ cells_text null xs ++ cells_text null ys
+  both : (xs ys : List CellValue) → spaced_cells null (xs ++ ys) ≡ spaced_cells null xs ++ spaced_cells null ys
   both xs ys = flat_map-append (λ cell. 32 ∷ cell_text null cell) xs ys
 
   -- one run more
-  pub cells_text-more : (runs : List RunValue) (cell : CellValue) (n : ℕ) → cells_text null (written_out (runs ++ (cell, n) ∷ [])) ≡ cells_text null (written_out runs) ++ cells_text null (replicate n cell)
-  cells_text-more runs cell n = ap (cells_text null) (written_out-push runs cell n) ∙ both (written_out runs) (replicate n cell)
+  pub cells_text-more : (runs : List RunValue) (cell : CellValue) (n : ℕ) → spaced_cells null (written_out (runs ++ (cell, n) ∷ [])) ≡ spaced_cells null (written_out runs) ++ spaced_cells null (replicate n cell)
+  cells_text-more runs cell n = ap (spaced_cells null) (written_out-push runs cell n) ∙ both (written_out runs) (replicate n cell)
 
   -- the first cell has no space before it
-  joined-first : (cell : CellValue) (cells : List CellValue) → joined_cells null (cell ∷ cells) ≡ cell_text null cell ++ cells_text null cells
+  joined-first : (cell : CellValue) (cells : List CellValue) → joined_cells null (cell ∷ cells) ≡ cell_text null cell ++ spaced_cells null cells
   joined-first cell [] = sym (append-nil (cell_text null cell))
   joined-first cell (next ∷ cells) = ap (λ (t : List ℕ). cell_text null cell ++ (32 ∷ t)) (joined-first next cells)
 
   pub joined-runs : (rest : List RunValue) (cell : CellValue) (n : ℕ) → 0 < n
-      → joined_cells null (written_out ((cell, n) ∷ rest)) ≡ (cell_text null cell ++ cells_text null (replicate (n - 1) cell)) ++ cells_text null (written_out rest)
+      → joined_cells null (written_out ((cell, n) ∷ rest)) ≡ (cell_text null cell ++ spaced_cells null (replicate (n - 1) cell)) ++ spaced_cells null (written_out rest)
   joined-runs rest cell zero some = absurd (omega arith)
   joined-runs rest cell (suc n) some =
       let count : suc n - 1 ≡ n = omega arith in
       rw count
       (joined-first cell (replicate n cell ++ written_out rest)
       ∙ ap (λ (t : List ℕ). cell_text null cell ++ t) (both (replicate n cell) (written_out rest))
-      ∙ sym (append_assoc (cell_text null cell) (cells_text null (replicate n cell)) (cells_text null (written_out rest))))
+      ∙ sym (append_assoc (cell_text null cell) (spaced_cells null (replicate n cell)) (spaced_cells null (written_out rest))))

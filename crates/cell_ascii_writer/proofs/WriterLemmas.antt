@@ -2,7 +2,7 @@
 use Rattle.std.proofs.Common.{◌≡◌, ◌≢◌, ℕ, ℤ, pos, negsuc, ◌+◌, ◌≤◌, ◌==◌, true, false, [], ◌∷◌, ◌++◌, drop, decimal, unsigned_abs, refl, arith}
 use Rattle.std.specs.Prelude.{int_lt}
 use Rattle.std.proofs.lemmas.Bool.Decides.{nat_tests}
-use Rattle.cell_ascii_text.specs.Writing.{coordinate_text, fraction_text, units_text, without_zeros}
+use Rattle.cell_ascii_meaning.specs.Writing.{coordinate_text, fraction_text, units_text, without_zeros}
 
 pub fraction_text-some : (part : ℕ) → part ≢ 0 → fraction_text part ≡ (46 ∷ []) ++ without_zeros (drop 1 (decimal (100000000 + part)))
 fraction_text-some part some = let t : (part == 0) ≡ false = grind (arith, nat_tests) in rw t

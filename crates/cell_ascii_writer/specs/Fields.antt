@@ -1,8 +1,8 @@
 -- Texts of cells that were made before; and text that is appended but for its last bytes.
 use Rattle.std.specs.Prelude.{ℕ, ◌≡◌, ◌<◌, ◌≤◌, List, ◌∷◌, ◌++◌, Option}
 use Rattle.std.specs.Simd.Lanes.{digits_l}
-use Rattle.cell_devices.specs.Device.{Faults}
-use Rattle.cell_devices.specs.Blocks.{BlockValue, Appends}
+use Rattle.cell_core_devices.specs.Device.{Faults}
+use Rattle.cell_core_devices.specs.Blocks.{BlockValue, Appends}
 use Rattle.cell_core.specs.Grid.{CellValue}
 use Rattle.cell_core.specs.Text.{cell_text}
 use Rattle.cell_ascii_writer.specs.declared.fields.Field.{Field}

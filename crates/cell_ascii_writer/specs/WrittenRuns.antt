@@ -9,8 +9,8 @@ abbrev pub times : ℕ → List ℕ → List ℕ
 times n text = flat_map (λ t. t) (replicate n text)
 
 -- a space and a cell, for each cell
-abbrev pub cells_text : List ℕ → List CellValue → List ℕ
-cells_text null_text cells = flat_map (λ cell. 32 ∷ cell_text null_text cell) cells
+abbrev pub spaced_cells : List ℕ → List CellValue → List ℕ
+spaced_cells null_text cells = flat_map (λ cell. 32 ∷ cell_text null_text cell) cells
 
 -- the cells, with a space between each two
 abbrev pub joined_cells : List ℕ → List CellValue → List ℕ

@@ -2,22 +2,22 @@
 
 ghost use Rattle.std.specs.Prelude.{◌≡◌, ◌+◌, ◌<◌, ◌≤◌, ◌==◌, [], ◌∷◌, ◌++◌, codes, decimal, drop, flat_map, length, replicate, reverse, take, OnOk, IfOk, IfErr, is_err};
 ghost use Rattle.std.specs.List.{All, prefix_len};
-ghost use Rattle.cell_devices.specs.Blocks.{Appends};
-ghost use Rattle.cell_devices.specs.Device.{append_known, after_put};
+ghost use Rattle.cell_core_devices.specs.Blocks.{Appends};
+ghost use Rattle.cell_core_devices.specs.Device.{append_known, after_put};
 ghost use Rattle.cell_core.specs.Grid.{row_at};
 ghost use Rattle.cell_core.specs.Runs.{AreRuns, written_out};
-ghost use Rattle.cell_ascii_text.specs.Writing.{IsNullText, coordinate_text, fraction_text, grid_text, line_of_key, null_line, region_text, row_text, units_text, without_zeros};
+ghost use Rattle.cell_ascii_meaning.specs.Writing.{IsNullText, coordinate_text, fraction_text, grid_text, line_of_key, null_line, region_text, row_text, units_text, without_zeros};
 ghost use Rattle.cell_ascii_writer.specs.Fields.{IsField, AppendsBut, low_bytes};
-ghost use Rattle.cell_ascii_writer.specs.WrittenRuns.{cells_text, joined_cells, times};
+ghost use Rattle.cell_ascii_writer.specs.WrittenRuns.{spaced_cells, joined_cells, times};
 
 use crate::fields::{FIELDS, Field, field_at, free_field, new_field, put_field};
 use cell_core::block::Block;
 use cell_core::cell::Cell;
 use cell_core::map::CellMap;
+use cell_core::printed_cell::write_cell;
 use cell_core::region::Region;
 use cell_core::runs::Runs;
 use cell_core::sink::{Sink, WriteFault};
-use cell_core::text::write_cell;
 use itoa::Buffer;
 
 // The bytes of a space and of the longest text of a cell.
@@ -176,7 +176,7 @@ fn write_times<W: Sink>(out: &mut W, block: &mut Block, text: &[u8], count: u32)
 // Writes a space and the cell of a run, as often as it stands there, straight into the block. Its text is made once.
 fn write_long_run<W: Sink>(out: &mut W, block: &mut Block, cell: Cell, count: u32, null_text: &[u8])
     requires { length null_text.now ≤ 64 }
-    ensures { Appends W.taken W.faults out.old block.old (cells_text null_text.now (replicate count cell)) out.new block.new }
+    ensures { Appends W.taken W.faults out.old block.old (spaced_cells null_text.now (replicate count cell)) out.new block.new }
 {
     match cell.get() {
         None => write_times(out, block, null_text, count),
@@ -250,7 +250,7 @@ fn write_new_run<W: Sink>(
     requires known { All (IsField null_text.now) fields.old }
     requires room { length line.old ≡ 1024 }
     requires within { start ≤ 1024 }
-    ensures text { AppendsBut W.taken W.faults out.old block.old (take start line.old ++ cells_text null_text.now (replicate run.1 run.0)) (take result line.new) out.new block.new }
+    ensures text { AppendsBut W.taken W.faults out.old block.old (take start line.old ++ spaced_cells null_text.now (replicate run.1 run.0)) (take result line.new) out.new block.new }
     ensures within { result ≤ 1024 }
     ensures known { All (IsField null_text.now) fields.new }
 {
@@ -278,7 +278,7 @@ fn write_run<W: Sink>(
     requires known { All (IsField null_text.now) fields.old }
     requires room { length line.old ≡ 1024 }
     requires within { start ≤ 1024 }
-    ensures text { AppendsBut W.taken W.faults out.old block.old (take start line.old ++ cells_text null_text.now (replicate run.1 run.0)) (take result line.new) out.new block.new }
+    ensures text { AppendsBut W.taken W.faults out.old block.old (take start line.old ++ spaced_cells null_text.now (replicate run.1 run.0)) (take result line.new) out.new block.new }
     ensures within { result ≤ 1024 }
     ensures known { All (IsField null_text.now) fields.new }
 {
@@ -304,7 +304,7 @@ fn write_runs<W: Sink>(
     requires known { All (IsField null_text.now) fields.old }
     requires room { length line.old ≡ 1024 }
     requires within { start ≤ 1024 }
-    ensures text { Appends W.taken W.faults out.old block.old (take start line.old ++ cells_text null_text.now (written_out runs.entry)) out.new block.new }
+    ensures text { Appends W.taken W.faults out.old block.old (take start line.old ++ spaced_cells null_text.now (written_out runs.entry)) out.new block.new }
     ensures known { All (IsField null_text.now) fields.new }
 {
     let mut end = start;

@@ -5,14 +5,14 @@ use Rattle.std.proofs.lemmas.List.{take_all, length-map, length-take-le, length-
 use Rattle.std.proofs.lemmas.List.Elements.{All-head, All-push, All-same, All-tail, All-take}
 use Rattle.std.specs.Prelude.{All, OnOk, reverse}
 use Rattle.cell_core.specs.Grid.{CellValue}
-use Rattle.cell_steps.specs.declared.bound.Step.{Step}
+use Rattle.cell_calc_steps.specs.declared.bound.Step.{Step}
 use Rattle.cell_calc.specs.declared.strip.Operand.{Operand}
 use Rattle.cell_calc.specs.declared.strip.Strip.{Strip}
 use Rattle.cell_calc.specs.Window.{Window}
 use Rattle.cell_calc.specs.parts.Operands.{operand_at, cells_at, seen, spot_at}
-use Rattle.cell_formulas.specs.Postfix.{arity, after, AreEnough}
-use Rattle.cell_rows.specs.Rows.{at, column}
-use Rattle.cell_formulas.proofs.Postfix.{one_step}
+use Rattle.cell_calc_binding.specs.FormulaPostfix.{arity, values_after, AreEnough}
+use Rattle.cell_calc_rows.specs.RowValues.{at, column}
+use Rattle.cell_calc_binding.proofs.Postfix.{one_step}
 
 -- what stands before the last operands, and those
 pub front_is : {X : Type 0} (old new ys : List X) (n : ℕ) → old ≡ new ++ ys → length ys ≡ n → new ≡ take (length old - n) old
@@ -71,8 +71,8 @@ enough_more steps i d old new o lt h is =
 pub step_more : (windows : List Window) (strip : Strip) (steps : List Step) (i c : ℕ) (d : Step) (old new : List Operand) (o : Operand) (end : List CellValue)
     → i < length steps → arity (get_or steps i d) ≤ length old → new ≡ take (length old - arity (get_or steps i d)) old ++ o ∷ []
     → operand_at windows strip c o ≡ seen windows (spot_at strip c) (get_or steps i d) (cells_at windows strip c (drop (length old - arity (get_or steps i d)) old))
-    → after (seen windows (spot_at strip c)) (drop i steps) (cells_at windows strip c old) ≡ end
-    → after (seen windows (spot_at strip c)) (drop (i + 1) steps) (cells_at windows strip c new) ≡ end
+    → values_after (seen windows (spot_at strip c)) (drop i steps) (cells_at windows strip c old) ≡ end
+    → values_after (seen windows (spot_at strip c)) (drop (i + 1) steps) (cells_at windows strip c new) ≡ end
 step_more windows strip steps i c d old new o end lt le is made before =
     let f = λ (p : Operand). operand_at windows strip c p in
     let g = λ (s : Step) (xs : List CellValue). seen windows (spot_at strip c) s xs in
@@ -80,20 +80,20 @@ step_more windows strip steps i c d old new o end lt le is made before =
     let n = length old - arity s in
     let split : map f old ≡ map f (take n old) ++ map f (drop n old) = ap (λ l. map f l) (sym (take-append-drop n old)) ∙ map-append f (take n old) (drop n old) in
     let taken : length (drop n old) ≡ arity s = omega (arith, length-drop n old, le) in
-    ap (λ l. after g (drop (i + 1) steps) l)
+    ap (λ l. values_after g (drop (i + 1) steps) l)
     (ap (λ l. map f l) is ∙ map-append f (take n old) (o ∷ []) ∙ ap (λ v. map f (take n old) ++ v ∷ []) made)
     ∙ sym (one_step g s (drop (i + 1) steps) (map f (take n old)) (map f (drop n old)) (length-map (drop n old) f ∙ taken))
-    ∙ ap (λ l. after g (s ∷ drop (i + 1) steps) l) (sym split)
-    ∙ ap (λ l. after g l (map f old)) (sym (steps_from steps i d lt)) ∙ before
+    ∙ ap (λ l. values_after g (s ∷ drop (i + 1) steps) l) (sym split)
+    ∙ ap (λ l. values_after g l (map f old)) (sym (steps_from steps i d lt)) ∙ before
 
 -- the value of the only operand that is left
 pub end_value : (windows : List Window) (strip : Strip) (steps : List Step) (i c : ℕ) (old : List Operand) (o : Operand) (end : List CellValue)
-    → drop i steps ≡ [] → old ≡ o ∷ [] → after (seen windows (spot_at strip c)) (drop i steps) (cells_at windows strip c old) ≡ end
+    → drop i steps ≡ [] → old ≡ o ∷ [] → values_after (seen windows (spot_at strip c)) (drop i steps) (cells_at windows strip c old) ≡ end
     → operand_at windows strip c o ∷ [] ≡ end
 end_value windows strip steps i c old o end none only is =
     let g = λ (s : Step) (xs : List CellValue). seen windows (spot_at strip c) s xs in
-    ap (λ l. after g l (operand_at windows strip c o ∷ [])) (sym none)
-    ∙ ap (λ l. after g (drop i steps) (cells_at windows strip c l)) (sym only) ∙ is
+    ap (λ l. values_after g l (operand_at windows strip c o ∷ [])) (sym none)
+    ∙ ap (λ l. values_after g (drop i steps) (cells_at windows strip c l)) (sym only) ∙ is
 
 -- one more row of the arguments of a call, of which the last one comes first
 pub gather_more : {V : Type 0} (f : V → List CellValue) (windows : List Window) (strip : Strip) (c : ℕ) (old before new : List Operand) (a : Operand) (j : ℕ) (rows : List V) (row : V)

@@ -3,9 +3,9 @@ use Rattle.std.proofs.Common.{◌≡◌, ◌<◌, ◌+◌, ℕ, zero, suc, ℤ, 
 use Rattle.std.specs.Prelude.{slice_get}
 use Rattle.std.proofs.lemmas.Int.{ints}
 use Rattle.cell_core.specs.Grid.{CellValue}
-use Rattle.cell_operations.specs.Offsets.{item_at}
+use Rattle.cell_calc_operators.specs.Offsets.{item_at}
 use Rattle.cell_calc.specs.Window.{Window, Reaches}
-use Rattle.cell_calc.specs.parts.Windows.{IsInReach, row_below}
+use Rattle.cell_calc.specs.parts.WindowsOver.{IsInReach, row_below}
 
 -- the window at a place is the one that is there
 pub window_at : (windows : List Window) (i : ℕ) (w : Window) → i < length windows → w ≡ get_or windows i w → slice_get windows i ≡ Some w

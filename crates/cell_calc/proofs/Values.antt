@@ -4,22 +4,22 @@ use Rattle.std.specs.Prelude.{All, slice_get, slice_index_or, ◌==◌, if◌the
 use Rattle.std.proofs.lemmas.Int.{ints}
 use Rattle.std.proofs.lemmas.List.Elements.{All-head, All-tail}
 use Rattle.cell_core.specs.Grid.{Grid, CellValue}
-use Rattle.cell_language.specs.Grammatical.{up_by, down_by}
-use Rattle.cell_steps.specs.declared.bound.Step.{Step}
-use Rattle.cell_steps.specs.declared.bound.Step.TheVariants as step
-use Rattle.cell_formulas.specs.Formula.{Formula, Formulas, NoFormulas, Then}
-use Rattle.cell_formulas.specs.Reach.{IsProper, top_of, up_of, down_of}
-use Rattle.cell_operations.specs.Applied.{Spot, applied, called, negated, inverted}
-use Rattle.cell_operations.specs.Offsets.{cell_in, item_at, row_of}
-use Rattle.cell_formulas.specs.Value.{value, values}
+use Rattle.cell_calc_language.specs.Grammatical.{up_by, down_by}
+use Rattle.cell_calc_steps.specs.declared.bound.Step.{Step}
+use Rattle.cell_calc_steps.specs.declared.bound.Step.TheVariants as step
+use Rattle.cell_calc_binding.specs.Formula.{Formula, Formulas, NoFormulas, Then}
+use Rattle.cell_calc_binding.specs.Reach.{IsProper, top_of, up_of, down_of}
+use Rattle.cell_calc_operators.specs.Applied.{Spot, applied, call_result, negated, inverted}
+use Rattle.cell_calc_operators.specs.Offsets.{cell_in, item_at, row_of}
+use Rattle.cell_calc_binding.specs.Value.{value, argument_values}
 use Rattle.cell_calc.specs.Window.{Window, IsWindowOf, Reaches, IsOver, HasReach}
 use Rattle.cell_calc.specs.parts.Operands.{IsReadyStep, seen}
-use Rattle.cell_formulas.specs.Postfix.{postfix, arity, after}
-use Rattle.cell_formulas.specs.parts.Steps.{top_step, up_step, down_step, IsProperStep}
-use Rattle.cell_calc.specs.parts.Windows.{IsInReach, row_below}
-use Rattle.cell_formulas.proofs.Postfix.{listed, IsMeaning, after_postfix}
+use Rattle.cell_calc_binding.specs.FormulaPostfix.{postfix, arity, values_after}
+use Rattle.cell_calc_binding.specs.parts.TreeSteps.{top_step, up_step, down_step, IsProperStep}
+use Rattle.cell_calc.specs.parts.WindowsOver.{IsInReach, row_below}
+use Rattle.cell_calc_binding.proofs.Postfix.{listed, IsMeaning, after_postfix}
 use Rattle.cell_calc.proofs.Rings.{held_row}
-use Rattle.cell_formulas.proofs.Steps.{proper_steps, below_greatest, top-postfix, up-postfix, down-postfix}
+use Rattle.cell_calc_binding.proofs.Steps.{proper_steps, below_greatest, top-postfix, up-postfix, down-postfix}
 
 -- what a step makes of cells over maps
 abbrev over_maps : List Grid → Spot → Step → List CellValue → CellValue
@@ -28,14 +28,14 @@ over_maps maps s (step.Map i down right) xs = cell_in (slice_get maps i) (pos s.
 over_maps maps s step.Negated xs = negated (slice_index_or xs 0 None)
 over_maps maps s step.Not xs = inverted (slice_index_or xs 0 None)
 over_maps maps s (step.Binary op) xs = applied op (slice_index_or xs 0 None) (slice_index_or xs 1 None)
-over_maps maps s (step.Call f n) xs = called f s xs
+over_maps maps s (step.Call f n) xs = call_result f s xs
 
-values-listed : (maps : List Grid) (s : Spot) (xs : Formulas) → map (λ a. value a maps s) (listed xs) ≡ values xs maps s
+values-listed : (maps : List Grid) (s : Spot) (xs : Formulas) → map (λ a. value a maps s) (listed xs) ≡ argument_values xs maps s
 values-listed maps s NoFormulas = refl
 values-listed maps s (Then a xs) = ap (λ l. value a maps s ∷ l) (values-listed maps s xs)
 
 -- the steps of an expression make its value
-value_after : (maps : List Grid) (s : Spot) (f : Formula) → after (over_maps maps s) (postfix f) [] ≡ value f maps s ∷ []
+value_after : (maps : List Grid) (s : Spot) (f : Formula) → values_after (over_maps maps s) (postfix f) [] ≡ value f maps s ∷ []
 value_after maps s f =
     let is : IsMeaning CellValue (over_maps maps s) (λ a. value a maps s) =
     record {
@@ -44,9 +44,9 @@ value_after maps s f =
       negated = λ a. refl;
       inverted = λ a. refl;
       binary = λ op a b. refl;
-      call = λ g xs. ap (λ l. called g s l) (values-listed maps s xs);
+      call = λ g xs. ap (λ l. call_result g s l) (values-listed maps s xs);
     } in
-    ap (λ l. after (over_maps maps s) l []) (sym (append-nil (postfix f))) ∙ after_postfix (over_maps maps s) (λ a. value a maps s) is f [] []
+    ap (λ l. values_after (over_maps maps s) l []) (sym (append-nil (postfix f))) ∙ after_postfix (over_maps maps s) (λ a. value a maps s) is f [] []
 
 -- no row of a map is above its first one
 none_above : {A : Type 0} (xs : List (List A)) (z : ℤ) → z <ℤ pos 0 → [] ≡ item_at [] xs z
@@ -128,17 +128,17 @@ same_step windows maps s (step.Call g n) reach xs = refl
 
 -- steps that make the same of operands
 after_same : {X : Type 0} (g h : Step → List X → X) (steps : List Step) → All (λ s. (xs : List X) → g s xs ≡ h s xs) steps
-    → (xs : List X) → after g steps xs ≡ after h steps xs
+    → (xs : List X) → values_after g steps xs ≡ values_after h steps xs
 after_same g h [] all xs = refl
 after_same {X} g h (s ∷ steps) all xs =
     let n = length xs - arity s in
     after_same g h steps (All-tail (λ s. (xs : List X) → g s xs ≡ h s xs) s steps all) (take n xs ++ g s (drop n xs) ∷ [])
-    ∙ ap (λ v. after h steps (take n xs ++ v ∷ [])) (All-head (λ s. (xs : List X) → g s xs ≡ h s xs) s steps all (drop n xs))
+    ∙ ap (λ v. values_after h steps (take n xs ++ v ∷ [])) (All-head (λ s. (xs : List X) → g s xs ≡ h s xs) s steps all (drop n xs))
 
 -- the value of an expression from windows that are of the maps
 pub value_seen : (f : Formula) (windows : List Window) (maps : List Grid) (s : Spot)
     → ((i : ℕ) → i < top_of f → HasReach s.row (up_of i f) (down_of i f) (slice_get windows i))
-    → ((i : ℕ) → i < top_of f → IsOver (slice_get windows i) (slice_get maps i)) → after (seen windows s) (postfix f) [] ≡ value f maps s ∷ []
+    → ((i : ℕ) → i < top_of f → IsOver (slice_get windows i) (slice_get maps i)) → values_after (seen windows s) (postfix f) [] ≡ value f maps s ∷ []
 value_seen f windows maps s h over =
     after_same (seen windows s) (over_maps maps s) (postfix f)
     (λ k d lt xs. same_step windows maps s (get_or (postfix f) k d)

@@ -1,7 +1,7 @@
 -- Rows that are written through a slice.
 use Rattle.std.proofs.Common.{◌≡◌, ◌<◌, ◌++◌, ◌∙◌, ℕ, List, length, take, drop, ap}
 use Rattle.cell_core.specs.Grid.{CellValue}
-use Rattle.cell_rows.specs.Rows.{at}
+use Rattle.cell_calc_rows.specs.RowValues.{at}
 use Rattle.cell_calc.proofs.Rings.{written}
 
 -- a cell of a row after a slice of all of it was written

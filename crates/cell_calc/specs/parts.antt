@@ -1,4 +1,4 @@
 -- What only bodies and proofs speak of.
-pub mod Held
+pub mod WindowRows
 pub mod Operands
-pub mod Windows
+pub mod WindowsOver

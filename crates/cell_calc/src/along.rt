@@ -1,20 +1,20 @@
 //! Values along strips: the steps of an expression, one after another, with a stack of operands.
 
 ghost use Rattle.std.specs.Prelude.{◌≡◌, ◌≤◌, ◌<◌, ◌-◌, ℕ, [], ◌∷◌, length, take, drop, map, All, IfOk, OnOk};
-ghost use Rattle.cell_operations.specs.Applied.{called};
-ghost use Rattle.cell_calc.specs.parts.Operands.{IsStrip, IsReadyStep, IsReady, operand_at, cells_at, seen, spot_at};
-ghost use Rattle.cell_formulas.specs.Postfix.{arity, after, AreEnough};
-ghost use Rattle.cell_rows.specs.Rows.{at, column};
+ghost use Rattle.cell_calc_operators.specs.Applied.{call_result};
+ghost use Rattle.cell_calc.specs.parts.Operands.{IsStrip, IsReadyStep, IsOperandReady, operand_at, cells_at, seen, spot_at};
+ghost use Rattle.cell_calc_binding.specs.FormulaPostfix.{arity, values_after, AreEnough};
+ghost use Rattle.cell_calc_rows.specs.RowValues.{at, column};
 
 use crate::operand::{chosen, joined, popped, row_of, taken};
 use crate::strip::{Operand, Spare, Strip};
 use crate::window::RowWindow;
+use cell_calc_rows::calls::call;
+use cell_calc_rows::rows;
+use cell_calc_steps::bound::Step;
+use cell_calc_tokens::function::Function;
 use cell_core::cell::Cell;
 use cell_core::memory::Memory;
-use cell_rows::calls::call;
-use cell_rows::rows;
-use cell_steps::bound::Step;
-use cell_tokens::function::Function;
 use std::alloc::Global;
 
 /// The values of an expression along a strip, from windows that stand at its row.
@@ -30,7 +30,7 @@ pub(crate) fn along(
     requires ready { All (IsReadyStep windows.now) steps.now }
     requires enough { AreEnough steps.now 0 }
     ensures width { IfOk result (λ row. length row.items ≡ strip.now.width) }
-    ensures each { IfOk result (λ row. (c : ℕ) → c < strip.now.width → at row.items c ∷ [] ≡ after (seen windows.now (spot_at strip.now c)) steps.now []) }
+    ensures each { IfOk result (λ row. (c : ℕ) → c < strip.now.width → at row.items c ∷ [] ≡ values_after (seen windows.now (spot_at strip.now c)) steps.now []) }
 {
     operands.clear();
     for step in steps {
@@ -54,9 +54,9 @@ fn made(
     requires strip { IsStrip strip.now }
     requires step { IsReadyStep windows.now step }
     requires enough { arity step ≤ length operands.old.items }
-    requires ready { All (IsReady windows.now strip.now) operands.old.items }
+    requires ready { All (IsOperandReady windows.now strip.now) operands.old.items }
     ensures rest { OnOk result (operands.new.items ≡ take (length operands.old.items - arity step) operands.old.items) }
-    ensures ready { IfOk result (λ o. IsReady windows.now strip.now o) }
+    ensures ready { IfOk result (λ o. IsOperandReady windows.now strip.now o) }
     ensures each { IfOk result (λ o. (c : ℕ) → c < strip.now.width → operand_at windows.now strip.now c o
         ≡ seen windows.now (spot_at strip.now c) step (cells_at windows.now strip.now c (drop (length operands.old.items - arity step) operands.old.items))) }
 {
@@ -106,11 +106,11 @@ fn called(
 ) -> Result<Vec<Cell>, Memory>
     requires strip { IsStrip strip.now }
     requires enough { count ≤ length operands.old.items }
-    requires ready { All (IsReady windows.now strip.now) operands.old.items }
+    requires ready { All (IsOperandReady windows.now strip.now) operands.old.items }
     ensures rest { OnOk result (operands.new.items ≡ take (length operands.old.items - count) operands.old.items) }
     ensures width { IfOk result (λ row. length row.items ≡ strip.now.width) }
     ensures each { IfOk result (λ row. (c : ℕ) → c < strip.now.width → at row.items c
-        ≡ called function (spot_at strip.now c) (cells_at windows.now strip.now c (drop (length operands.old.items - count) operands.old.items))) }
+        ≡ call_result function (spot_at strip.now c) (cells_at windows.now strip.now c (drop (length operands.old.items - count) operands.old.items))) }
 {
     match (function, count) {
         (Function::If, 1) => {
@@ -150,11 +150,11 @@ fn by_rows(
 ) -> Result<Vec<Cell>, Memory>
     requires strip { IsStrip strip.now }
     requires enough { count ≤ length operands.old.items }
-    requires ready { All (IsReady windows.now strip.now) operands.old.items }
+    requires ready { All (IsOperandReady windows.now strip.now) operands.old.items }
     ensures rest { OnOk result (operands.new.items ≡ take (length operands.old.items - count) operands.old.items) }
     ensures width { IfOk result (λ row. length row.items ≡ strip.now.width) }
     ensures each { IfOk result (λ row. (c : ℕ) → c < strip.now.width → at row.items c
-        ≡ called function (spot_at strip.now c) (cells_at windows.now strip.now c (drop (length operands.old.items - count) operands.old.items))) }
+        ≡ call_result function (spot_at strip.now c) (cells_at windows.now strip.now c (drop (length operands.old.items - count) operands.old.items))) }
 {
     gather(alloc, count, operands, strip, windows, spare)?;
     let (number, from, width) = (strip.row, strip.from, strip.width);
@@ -185,7 +185,7 @@ fn gather(
 ) -> Result<(), Memory>
     requires strip { IsStrip strip.now }
     requires enough { count ≤ length operands.old.items }
-    requires ready { All (IsReady windows.now strip.now) operands.old.items }
+    requires ready { All (IsOperandReady windows.now strip.now) operands.old.items }
     ensures rest { OnOk result (operands.new.items ≡ take (length operands.old.items - count) operands.old.items) }
     ensures width { OnOk result (All (λ cells. length cells.items ≡ strip.now.width) spare.new.arguments.items) }
     ensures each { OnOk result ((c : ℕ) → c < strip.now.width → column c (map (λ cells. cells.items) spare.new.arguments.items)

@@ -2,16 +2,16 @@
 #![tactic(auto)]
 
 mod along;
-pub mod evaluation;
-mod held;
 mod operand;
+pub mod rows_of_values;
 mod strip;
 pub mod window;
+mod window_rows;
 
-pub use cell_formulas::binding::resolve;
-pub use cell_formulas::bound::Bound;
-pub use cell_language::assignment::{Assignment, parse};
-pub use cell_language::expr::Expr;
-pub use cell_language::fault::{CalcFault, CalcKind};
-pub use evaluation::eval_row;
+pub use cell_calc_binding::binding::resolve;
+pub use cell_calc_binding::bound::Bound;
+pub use cell_calc_language::assignment::{Assignment, parse};
+pub use cell_calc_language::calc_fault::{CalcFault, CalcKind};
+pub use cell_calc_language::expr::Expr;
+pub use rows_of_values::eval_row;
 pub use window::RowWindow;

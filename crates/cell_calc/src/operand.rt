@@ -1,19 +1,19 @@
 //! Operands of the steps of an expression, along strips.
 
 ghost use Rattle.std.specs.Prelude.{◌≡◌, ◌<◌, ◌++◌, [], ◌∷◌, ℕ, length, slice_get, IfOk, OnOk};
-ghost use Rattle.cell_operations.specs.Applied.{applied};
-ghost use Rattle.cell_operations.specs.Cells.{chosen};
-ghost use Rattle.cell_calc.specs.parts.Operands.{IsStrip, IsReady, operand_at};
-ghost use Rattle.cell_calc.specs.parts.Windows.{IsInReach, row_below};
-ghost use Rattle.cell_rows.specs.Rows.{at};
+ghost use Rattle.cell_calc_operators.specs.Applied.{applied};
+ghost use Rattle.cell_calc_operators.specs.CellOperators.{chosen};
+ghost use Rattle.cell_calc.specs.parts.Operands.{IsStrip, IsOperandReady, operand_at};
+ghost use Rattle.cell_calc.specs.parts.WindowsOver.{IsInReach, row_below};
+ghost use Rattle.cell_calc_rows.specs.RowValues.{at};
 
 use crate::strip::{Operand, Strip};
 use crate::window::RowWindow;
+use cell_calc_operators::cell_operators;
+use cell_calc_rows::rows;
+use cell_calc_tokens::operator::Operator;
 use cell_core::cell::Cell;
 use cell_core::memory::Memory;
-use cell_operations::cells;
-use cell_rows::rows;
-use cell_tokens::operator::Operator;
 use std::alloc::Global;
 
 /// The last operand.
@@ -58,7 +58,7 @@ pub(crate) fn row_of(
     free: &mut Vec<Vec<Cell>>,
 ) -> Result<Vec<Cell>, Memory>
     requires strip { IsStrip strip.now }
-    requires ready { IsReady windows.now strip.now operand }
+    requires ready { IsOperandReady windows.now strip.now operand }
     ensures width { IfOk result (λ row. length row.items ≡ strip.now.width) }
     ensures each { IfOk result (λ row. (c : ℕ) → c < strip.now.width → at row.items c ≡ operand_at windows.now strip.now c operand) }
 {
@@ -67,7 +67,7 @@ pub(crate) fn row_of(
         Operand::Row(row) => Ok(row),
         Operand::Number(n) => {
             let mut row = taken(alloc, width, free)?;
-            rows::fill(row.as_mut_slice(), cells::number(n));
+            rows::fill(row.as_mut_slice(), cell_operators::number(n));
             Ok(row)
         }
         Operand::Map { place, down, right } => {
@@ -90,8 +90,8 @@ pub(crate) fn joined(
     free: &mut Vec<Vec<Cell>>,
 ) -> Result<Vec<Cell>, Memory>
     requires strip { IsStrip strip.now }
-    requires left { IsReady windows.now strip.now left }
-    requires right { IsReady windows.now strip.now right }
+    requires left { IsOperandReady windows.now strip.now left }
+    requires right { IsOperandReady windows.now strip.now right }
     ensures width { IfOk result (λ row. length row.items ≡ strip.now.width) }
     ensures each { IfOk result (λ row. (c : ℕ) → c < strip.now.width → at row.items c ≡ applied operator (operand_at windows.now strip.now c left) (operand_at windows.now strip.now c right)) }
 {
@@ -111,7 +111,7 @@ fn apply(
     free: &mut Vec<Vec<Cell>>,
 ) -> Result<(), Memory>
     requires strip { IsStrip strip.now }
-    requires right { IsReady windows.now strip.now right }
+    requires right { IsOperandReady windows.now strip.now right }
     requires width { length row.old ≡ strip.now.width }
     ensures width { length row.new ≡ strip.now.width }
     ensures each { OnOk result ((c : ℕ) → c < strip.now.width → at row.new c ≡ applied operator (at row.old c) (operand_at windows.now strip.now c right)) }
@@ -119,7 +119,7 @@ fn apply(
     let from = strip.from;
     match right {
         Operand::Number(n) => {
-            rows::apply_one(operator, row, cells::number(n));
+            rows::apply_one(operator, row, cell_operators::number(n));
             Ok(())
         }
         Operand::Map { place, down, right } => {
@@ -147,9 +147,9 @@ pub(crate) fn chosen(
     free: &mut Vec<Vec<Cell>>,
 ) -> Result<Vec<Cell>, Memory>
     requires strip { IsStrip strip.now }
-    requires condition { IsReady windows.now strip.now condition }
-    requires yes { IsReady windows.now strip.now yes }
-    requires no { IsReady windows.now strip.now no }
+    requires condition { IsOperandReady windows.now strip.now condition }
+    requires yes { IsOperandReady windows.now strip.now yes }
+    requires no { IsOperandReady windows.now strip.now no }
     ensures width { IfOk result (λ row. length row.items ≡ strip.now.width) }
     ensures each { IfOk result (λ row. (c : ℕ) → c < strip.now.width → at row.items c ≡ chosen (operand_at windows.now strip.now c condition) (operand_at windows.now strip.now c yes) (operand_at windows.now strip.now c no)) }
 {
@@ -172,7 +172,7 @@ fn choose(
     free: &mut Vec<Vec<Cell>>,
 ) -> Result<(), Memory>
     requires strip { IsStrip strip.now }
-    requires yes { IsReady windows.now strip.now yes }
+    requires yes { IsOperandReady windows.now strip.now yes }
     requires width { length row.old ≡ strip.now.width }
     requires conditions { length conditions.now ≡ strip.now.width }
     ensures width { length row.new ≡ strip.now.width }
@@ -181,7 +181,7 @@ fn choose(
     let (from, width) = (strip.from, strip.width);
     match yes {
         Operand::Number(n) => {
-            rows::choose_one(row, conditions, cells::number(n));
+            rows::choose_one(row, conditions, cell_operators::number(n));
             Ok(())
         }
         Operand::Map { place, down, right } => {

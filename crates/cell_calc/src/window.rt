@@ -2,11 +2,11 @@
 
 ghost use Rattle.std.specs.Prelude.{◌≡◌, ◌≤◌, ◌<◌, ◌+◌, ◌+ℤ◌, ℤ, pos, length, None, Some, IfOk, IfSome, IfNone, ◌<ℤ◌};
 ghost use Rattle.cell_core.specs.Grid.{Grid};
-ghost use Rattle.cell_operations.specs.Offsets.{row_of, cell_of, item_at};
+ghost use Rattle.cell_calc_operators.specs.Offsets.{row_of, cell_at_offset, item_at};
 ghost use Rattle.cell_calc.specs.Window.{IsWindowOf, Reaches};
-ghost use Rattle.cell_calc.specs.parts.Windows.{row_below};
+ghost use Rattle.cell_calc.specs.parts.WindowsOver.{row_below};
 
-use crate::held::Held;
+use crate::window_rows::Held;
 use cell_core::cell::Cell;
 use cell_core::map::CellMap;
 use cell_core::memory::Memory;
@@ -26,7 +26,7 @@ pub struct RowWindow {
 impl Model for RowWindow {
     ghost use Rattle.std.specs.Prelude.{length, ◌≡◌, ◌≤◌, ◌<◌, ◌+◌};
     ghost use Rattle.cell_calc.specs.Window.{Window};
-    ghost use Rattle.cell_calc.specs.parts.Held.{window_code};
+    ghost use Rattle.cell_calc.specs.parts.WindowRows.{window_code};
 
     ghost Value = { Window };
 
@@ -104,7 +104,7 @@ impl RowWindow {
     /// The map's cell so many rows below the centre and at a column, null outside its region.
     pub fn cell(&self, dr: i32, c: i64) -> Cell
         requires { Reaches self.now dr }
-        ensures { (m : Grid) → IsWindowOf self.now m → result ≡ cell_of m (pos self.now.centre +ℤ dr) c }
+        ensures { (m : Grid) → IsWindowOf self.now m → result ≡ cell_at_offset m (pos self.now.centre +ℤ dr) c }
     {
         cell_at(self.row(dr), c)
     }

@@ -5,18 +5,18 @@ use Rattle.std.proofs.Math.Seq.{take-append_seam, drop-append_seam}
 use Rattle.std.proofs.lemmas.List.{length-drop, nil_from_length}
 use Rattle.std.proofs.lemmas.List.Elements.{All-nil, All-cons, All-append, All-same}
 use Rattle.cell_core.specs.Grid.{Grid, CellValue}
-use Rattle.cell_formulas.specs.Binding.{placed, placed_all}
-use Rattle.cell_operations.specs.Applied.{Spot}
-use Rattle.cell_formulas.specs.Value.{value, values}
+use Rattle.cell_calc_binding.specs.Binding.{with_places, placed_all}
+use Rattle.cell_calc_operators.specs.Applied.{Spot}
+use Rattle.cell_calc_binding.specs.Value.{value, argument_values}
 use Rattle.cell_calc_tests.specs.Steps.{arity, step_value, after, IsProperStep}
-use Rattle.cell_language.specs.Grammatical.{IsGrammatical, AreGrammatical}
-use Rattle.cell_language.specs.Postfix.{postfix, postfix_all}
-use Rattle.cell_grammar.specs.Term.{Term, Number, Map, Negated, Not, Binary, Call, Terms, NoTerms, Then, count}
-use Rattle.cell_steps.specs.declared.named.Step.{Step}
-use Rattle.cell_steps.specs.declared.named.Step.TheVariants as step
+use Rattle.cell_calc_language.specs.Grammatical.{IsGrammatical, AreGrammatical}
+use Rattle.cell_calc_language.specs.Postfix.{postfix, postfix_all}
+use Rattle.cell_calc_grammar.specs.Term.{Term, Number, Map, Negated, Not, Binary, Call, Terms, NoTerms, Then, count}
+use Rattle.cell_calc_steps.specs.declared.named.Step.{Step}
+use Rattle.cell_calc_steps.specs.declared.named.Step.TheVariants as step
 
 -- so many values
-length-values : (names : List (List ℕ)) (maps : List Grid) (s : Spot) (xs : Terms) → length (values (placed_all names xs) maps s) ≡ count xs
+length-values : (names : List (List ℕ)) (maps : List Grid) (s : Spot) (xs : Terms) → length (argument_values (placed_all names xs) maps s) ≡ count xs
 length-values names maps s NoTerms = refl
 length-values names maps s (Then a xs) = ap suc (length-values names maps s xs)
 
@@ -33,21 +33,21 @@ no_operands f t rest xs none = ap (λ l. after f (t ∷ rest) l) (sym (append-ni
 
 mutual
   after_postfix : (names : List (List ℕ)) (maps : List Grid) (s : Spot) (e : Term) (rest : List Step) (xs : List CellValue)
-      → after (step_value names maps s) (postfix e ++ rest) xs ≡ after (step_value names maps s) rest (xs ++ value (placed names e) maps s ∷ [])
+      → after (step_value names maps s) (postfix e ++ rest) xs ≡ after (step_value names maps s) rest (xs ++ value (with_places names e) maps s ∷ [])
   after_postfix names maps s (Number n) rest xs = no_operands (step_value names maps s) (step.Number n) rest xs refl
   after_postfix names maps s (Map name down right c) rest xs = no_operands (step_value names maps s) (step.Map name down right c) rest xs refl
   after_postfix names maps s (Negated a) rest xs =
       ap (λ l. after (step_value names maps s) l xs) (append_assoc (postfix a) (step.Negated ∷ []) rest)
       ∙ after_postfix names maps s a (step.Negated ∷ rest) xs
-      ∙ one_step (step_value names maps s) step.Negated rest xs (value (placed names a) maps s ∷ []) refl
+      ∙ one_step (step_value names maps s) step.Negated rest xs (value (with_places names a) maps s ∷ []) refl
   after_postfix names maps s (Not a) rest xs =
       ap (λ l. after (step_value names maps s) l xs) (append_assoc (postfix a) (step.Not ∷ []) rest)
       ∙ after_postfix names maps s a (step.Not ∷ rest) xs
-      ∙ one_step (step_value names maps s) step.Not rest xs (value (placed names a) maps s ∷ []) refl
+      ∙ one_step (step_value names maps s) step.Not rest xs (value (with_places names a) maps s ∷ []) refl
   after_postfix names maps s (Binary op a b) rest xs =
       let f = λ (t : Step) (l : List CellValue). step_value names maps s t l in
-      let first = value (placed names a) maps s in
-      let second = value (placed names b) maps s in
+      let first = value (with_places names a) maps s in
+      let second = value (with_places names b) maps s in
       ap (λ l. after f l xs) (append_assoc (postfix a) (postfix b ++ step.Binary op ∷ []) rest)
       ∙ after_postfix names maps s a ((postfix b ++ step.Binary op ∷ []) ++ rest) xs
       ∙ ap (λ l. after f l (xs ++ first ∷ [])) (append_assoc (postfix b) (step.Binary op ∷ []) rest)
@@ -58,21 +58,21 @@ mutual
       let t : Step = step.Call g (count xs) in
       ap (λ l. after (step_value names maps s) l ys) (append_assoc (postfix_all xs) (t ∷ []) rest)
       ∙ after_all names maps s xs (t ∷ rest) ys
-      ∙ one_step (step_value names maps s) t rest ys (values (placed_all names xs) maps s) (length-values names maps s xs)
+      ∙ one_step (step_value names maps s) t rest ys (argument_values (placed_all names xs) maps s) (length-values names maps s xs)
 
   after_all : (names : List (List ℕ)) (maps : List Grid) (s : Spot) (xs : Terms) (rest : List Step) (ys : List CellValue)
-      → after (step_value names maps s) (postfix_all xs ++ rest) ys ≡ after (step_value names maps s) rest (ys ++ values (placed_all names xs) maps s)
+      → after (step_value names maps s) (postfix_all xs ++ rest) ys ≡ after (step_value names maps s) rest (ys ++ argument_values (placed_all names xs) maps s)
   after_all names maps s NoTerms rest ys = ap (λ l. after (step_value names maps s) rest l) (sym (append-nil ys))
   after_all names maps s (Then a xs) rest ys =
-      let first = value (placed names a) maps s in
+      let first = value (with_places names a) maps s in
       ap (λ l. after (step_value names maps s) l ys) (append_assoc (postfix a) (postfix_all xs) rest)
       ∙ after_postfix names maps s a (postfix_all xs ++ rest) ys
       ∙ after_all names maps s xs rest (ys ++ first ∷ [])
-      ∙ ap (λ l. after (step_value names maps s) rest l) (append_assoc ys (first ∷ []) (values (placed_all names xs) maps s))
+      ∙ ap (λ l. after (step_value names maps s) rest l) (append_assoc ys (first ∷ []) (argument_values (placed_all names xs) maps s))
 
 -- the value of an expression, where its steps have been taken
 pub value_after : (names : List (List ℕ)) (maps : List Grid) (s : Spot) (e : Term) (steps : List Step) → steps ≡ postfix e
-    → after (step_value names maps s) steps [] ≡ value (placed names e) maps s ∷ []
+    → after (step_value names maps s) steps [] ≡ value (with_places names e) maps s ∷ []
 value_after names maps s e steps is =
     ap (λ l. after (step_value names maps s) l []) (is ∙ sym (append-nil (postfix e))) ∙ after_postfix names maps s e [] []
 

@@ -2,11 +2,11 @@
 use Rattle.std.specs.Prelude.{◌≤◌, ◌-◌, ◌+ℤ◌, ℕ, pos, List, [], ◌∷◌, ◌++◌, length, take, drop, Some, None, slice_get, slice_index_or}
 use Rattle.std.specs.Option.{unwrap_or}
 use Rattle.cell_core.specs.Grid.{Grid, CellValue}
-use Rattle.cell_base.specs.Name.{place_of}
-use Rattle.cell_operations.specs.Applied.{Spot, negated, inverted, applied, called}
-use Rattle.cell_operations.specs.Offsets.{cell_in}
-use Rattle.cell_steps.specs.declared.named.Step.{Step}
-use Rattle.cell_steps.specs.declared.named.Step.TheVariants.{Number, Map, Negated, Not, Binary, Call}
+use Rattle.cell_core_values.specs.Name.{place_of}
+use Rattle.cell_calc_operators.specs.Applied.{Spot, negated, inverted, applied, call_result}
+use Rattle.cell_calc_operators.specs.Offsets.{cell_in}
+use Rattle.cell_calc_steps.specs.declared.named.Step.{Step}
+use Rattle.cell_calc_steps.specs.declared.named.Step.TheVariants.{Number, Map, Negated, Not, Binary, Call}
 
 -- how many operands a step takes
 abbrev pub arity : Step → ℕ
@@ -24,7 +24,7 @@ step_value names maps s (Map name down right c) xs = cell_in (slice_get maps (un
 step_value names maps s Negated xs = negated (slice_index_or xs 0 None)
 step_value names maps s Not xs = inverted (slice_index_or xs 0 None)
 step_value names maps s (Binary op) xs = applied op (slice_index_or xs 0 None) (slice_index_or xs 1 None)
-step_value names maps s (Call f n) xs = called f s xs
+step_value names maps s (Call f n) xs = call_result f s xs
 
 -- the operands after steps: each takes its own from the end, and puts its value there
 abbrev pub after : (Step → List CellValue → CellValue) → List Step → List CellValue → List CellValue

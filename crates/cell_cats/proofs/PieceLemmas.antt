@@ -11,7 +11,7 @@ use Rattle.std.specs.List.{list_any}
 use Rattle.std.specs.Option.{option_or}
 use Rattle.std.proofs.lemmas.List.{take_more}
 use Rattle.std.proofs.lemmas.List.Folds.{list_any-append}
-use Rattle.cell_cats.specs.Rule.{RuleValue, is_between, lists, last_output}
+use Rattle.cell_cats.specs.Rule.{RuleValue, is_in_ends, lists, last_output}
 use Rattle.cell_cats.specs.parts.Pieces.{IsOutputAt, AreOutputs, HaveOutputs, painted, ruled}
 use Rattle.cell_cats.specs.declared.pieces.Pieces.{Pieces}
 use Rattle.cell_cats.proofs.RuleLemmas.{listed, left_out}
@@ -100,13 +100,13 @@ cut old new outputs p low at others all x above =
 
 -- a range painted, after whose last category a piece begins
 pub range-painted : (old new : ℤ → Option (Option Output)) (outputs : ℤ → Option Output) (ends : ℤ × ℤ) (output : Output) (from to : ℤ) (after : Option Output)
-    → from ≤ℤ to → ((x : ℤ) → from ≤ℤ x → x ≤ℤ to → is_between ends x ≡ true) → ((x : ℤ) → x <ℤ from → is_between ends x ≡ false) → ((x : ℤ) → to <ℤ x → is_between ends x ≡ false)
+    → from ≤ℤ to → ((x : ℤ) → from ≤ℤ x → x ≤ℤ to → is_in_ends ends x ≡ true) → ((x : ℤ) → x <ℤ from → is_in_ends ends x ≡ false) → ((x : ℤ) → to <ℤ x → is_in_ends ends x ≡ false)
     → old (to +ℤ pos 1) ≡ Some after → new from ≡ Some (Some output)
     → ((q : ℤ) → q <ℤ from → new q ≡ old q) → ((q : ℤ) → to <ℤ q → new q ≡ old q) → ((q : ℤ) → from <ℤ q → q ≤ℤ to → new q ≡ None)
     → AreOutputs outputs old → AreOutputs (painted ends output outputs) new
 range-painted old new outputs ends output from to after order within under over next at below above cleared all x low =
     let s = all x low in
-    let kept : is_between ends x ≡ false → outputs x ≡ painted ends output outputs x = λ e. sym (ap (λ (b : Bool). if b then Some output else outputs x) e) in
+    let kept : is_in_ends ends x ≡ false → outputs x ≡ painted ends output outputs x = λ e. sym (ap (λ (b : Bool). if b then Some output else outputs x) e) in
     by_lt_z x from
     (λ h. moved (kept (under x h)) (record {
       start = s.start;
@@ -133,13 +133,13 @@ range-painted old new outputs ends output from to after order within under over 
       last = λ q a b. cleared q a (omega (arith, ints));
     })))
 
-inside : (a b from to x : ℤ) → from ≡ int_min a b → to ≡ int_max a b → from ≤ℤ x → x ≤ℤ to → is_between (a, b) x ≡ true
+inside : (a b from to x : ℤ) → from ≡ int_min a b → to ≡ int_max a b → from ≤ℤ x → x ≤ℤ to → is_in_ends (a, b) x ≡ true
 inside a b from to x e f h k = grind (arith, ints)
 
-under : (a b from x : ℤ) → from ≡ int_min a b → x <ℤ from → is_between (a, b) x ≡ false
+under : (a b from x : ℤ) → from ≡ int_min a b → x <ℤ from → is_in_ends (a, b) x ≡ false
 under a b from x e h = grind (arith, ints)
 
-over : (a b to x : ℤ) → to ≡ int_max a b → to <ℤ x → is_between (a, b) x ≡ false
+over : (a b to x : ℤ) → to ≡ int_max a b → to <ℤ x → is_in_ends (a, b) x ≡ false
 over a b to x e h = grind (arith, ints)
 
 -- what `Pieces::paint` does: the line is cut after the range, cleared in it, and its beginning put in
@@ -170,12 +170,12 @@ either false false u v = refl
 
 -- a range more of a rule
 pub range-more : (ranges : List (ℤ × ℤ)) (i : ℕ) (d : ℤ × ℤ) (output : Output) (outputs : ℤ → Option Output) (x : ℤ) → i < length ranges
-    → painted (get_or ranges i d) output (λ y. if list_any (λ ends. is_between ends y) (take i ranges) then Some output else outputs y) x
-    ≡ (if list_any (λ ends. is_between ends x) (take (i + 1) ranges) then Some output else outputs x)
+    → painted (get_or ranges i d) output (λ y. if list_any (λ ends. is_in_ends ends y) (take i ranges) then Some output else outputs y) x
+    ≡ (if list_any (λ ends. is_in_ends ends x) (take (i + 1) ranges) then Some output else outputs x)
 range-more ranges i d output outputs x h =
-    either (list_any (λ ends. is_between ends x) (take i ranges)) (is_between (get_or ranges i d) x) (Some output) (outputs x)
+    either (list_any (λ ends. is_in_ends ends x) (take i ranges)) (is_in_ends (get_or ranges i d) x) (Some output) (outputs x)
     ∙ sym (ap (λ (b : Bool). if b then Some output else outputs x)
-    (ap (list_any (λ ends. is_between ends x)) (take_more ranges i d h) ∙ list_any-append (λ ends. is_between ends x) (take i ranges) (get_or ranges i d ∷ [])))
+    (ap (list_any (λ ends. is_in_ends ends x)) (take_more ranges i d h) ∙ list_any-append (λ ends. is_in_ends ends x) (take i ranges) (get_or ranges i d ∷ [])))
 
 -- a rule more
 pub rule-more : (rules : List RuleValue) (i : ℕ) (d rule : RuleValue) (star : Option Output) (x : ℤ) → i < length rules → rule ≡ get_or rules i d

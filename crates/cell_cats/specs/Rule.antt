@@ -14,13 +14,13 @@ pub record RuleValue : Type 0 where
   pub label : List ℕ
 
 -- between two ends, in either order
-abbrev pub is_between : ℤ × ℤ → ℤ → Bool
-is_between ends x = (int_le ends.0 x && int_le x ends.1) || (int_le ends.1 x && int_le x ends.0)
+abbrev pub is_in_ends : ℤ × ℤ → ℤ → Bool
+is_in_ends ends x = (int_le ends.0 x && int_le x ends.1) || (int_le ends.1 x && int_le x ends.0)
 
 -- a range of the list holds the category
 abbrev pub is_listed : Option (List (ℤ × ℤ)) → ℤ → Bool
 is_listed None x = false
-is_listed (Some ranges) x = list_any (λ ends. is_between ends x) ranges
+is_listed (Some ranges) x = list_any (λ ends. is_in_ends ends x) ranges
 
 -- the rule lists the category
 abbrev pub lists : ℤ → RuleValue → Bool

@@ -2,9 +2,9 @@
 use Rattle.std.specs.Prelude.{ℕ, ℤ, Bool, true, false, not, ◌&&◌, ◌||◌, ◌==◌, List, [], ◌∷◌, ◌++◌, Option, Some, None, Result, Ok, Err, if◌then◌else◌, bytes_eq, codes}
 use Rattle.std.specs.List.{before_first, after_first}
 use Rattle.std.specs.Option.{option_map, option_and_then}
-use Rattle.cell_text.specs.Blanks.{is_blank, trimmed}
-use Rattle.cell_text.specs.WholeNumbers.{whole_in_range}
-use Rattle.cell_text.specs.Words.{is_word, list_words_of, pair_of}
+use Rattle.cell_core_text.specs.Blanks.{is_blank, trimmed}
+use Rattle.cell_core_text.specs.WholeNumbers.{whole_in_range}
+use Rattle.cell_core_text.specs.Words.{is_word, list_words_of, pair_of}
 use Rattle.cell_cats.specs.Rule.{RuleValue}
 use Rattle.cell_cats.specs.declared.rule.Output.{Output}
 use Rattle.cell_cats.specs.declared.rule.Output.TheVariants.{Same, To}
@@ -27,8 +27,8 @@ is_thru word = bytes_eq word (codes "thru")
 abbrev pub is_star : List ℕ → Bool
 is_star word = bytes_eq word (codes "*")
 
-abbrev pub is_null : List ℕ → Bool
-is_null word = bytes_eq word (codes "NULL") || bytes_eq word (codes "null")
+abbrev pub is_null_word : List ℕ → Bool
+is_null_word word = bytes_eq word (codes "NULL") || bytes_eq word (codes "null")
 
 -- a word that stands for a number, good or bad
 abbrev pub is_end : List ℕ → Bool
@@ -61,8 +61,8 @@ some_items [] = None
 some_items (w ∷ words) = items_of (w ∷ words)
 
 -- the items, or none where it is `*`
-abbrev pub left_of : List (List ℕ) → Option Left
-left_of words = if is_lone_star words then Some None else option_map Some (some_items words)
+abbrev pub left_side : List (List ℕ) → Option Left
+left_side words = if is_lone_star words then Some None else option_map Some (some_items words)
 
 -- a word that may stand on the right; `*` only where the left is `*`
 abbrev pub is_output : Bool → List ℕ → Bool
@@ -82,13 +82,13 @@ ranges_of [] = Some []
 ranges_of (item ∷ items) = option_and_then (λ range. option_map (λ ranges. range ∷ ranges) (ranges_of items)) (range_of item)
 
 -- the same of a left
-abbrev pub listed_of : Left → Option (Option (List (ℤ × ℤ)))
-listed_of None = Some None
-listed_of (Some items) = option_map Some (ranges_of items)
+abbrev pub listed_of_line : Left → Option (Option (List (ℤ × ℤ)))
+listed_of_line None = Some None
+listed_of_line (Some items) = option_map Some (ranges_of items)
 
 -- what the word of an output gives, where its number is good
 abbrev pub output_of : List ℕ → Option Output
-output_of word = if is_null word then Some (To None) else (if is_star word then Some Same else option_map (λ n. To (Some n)) (whole_in_range word))
+output_of word = if is_null_word word then Some (To None) else (if is_star word then Some Same else option_map (λ n. To (Some n)) (whole_in_range word))
 
 -- a rule of good numbers
 abbrev pub of_numbers : List ℕ → Option (Option (List (ℤ × ℤ))) → Option Output → Result RuleValue RuleFault
@@ -100,12 +100,12 @@ of_numbers label (Some listed) (Some output) = Ok (record { listed = listed; out
 abbrev pub of_shape : List ℕ → Option Left → Result RuleValue RuleFault
 of_shape right None = Err BadRule
 of_shape right (Some left) =
-    if is_output (is_star_left left) (output_word right) then of_numbers (label_of_right right) (listed_of left) (output_of (output_word right)) else Err BadRule
+    if is_output (is_star_left left) (output_word right) then of_numbers (label_of_right right) (listed_of_line left) (output_of (output_word right)) else Err BadRule
 
 -- the rule that the two sides of an equals sign spell
 abbrev pub of_sides : Option (List ℕ × List ℕ) → Result RuleValue RuleFault
 of_sides None = Err BadRule
-of_sides (Some sides) = of_shape (trimmed sides.1) (left_of (list_words_of sides.0))
+of_sides (Some sides) = of_shape (trimmed sides.1) (left_side (list_words_of sides.0))
 
 -- the rule that a line spells: its shape is judged before its numbers
 abbrev pub rule_of : List ℕ → Result RuleValue RuleFault

@@ -2,7 +2,7 @@
 
 ghost use Rattle.std.specs.Prelude.{◌≡◌, ◌<◌, List, IfOk, length};
 ghost use Rattle.cell_cats.specs.Rule.{RuleValue, new_category};
-ghost use Rattle.cell_cats.specs.parts.Known.{AreRight};
+ghost use Rattle.cell_cats.specs.parts.KnownCategories.{AreRight};
 ghost use Rattle.cell_cats.specs.parts.Pieces.{AreOfRules};
 
 use crate::pieces::Pieces;

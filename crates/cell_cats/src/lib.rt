@@ -1,4 +1,4 @@
-//! Rules of r.reclass and maps by rules; areas, as `cell_clump` numbers them.
+//! Rules of r.reclass and maps by rules; areas, as `cell_cats_areas` numbers them.
 #![tactic(auto)]
 
 mod known;
@@ -9,4 +9,4 @@ pub mod reclassing;
 mod rule;
 pub mod rules;
 
-pub use cell_clump::clump::{Joining, clump, clump_with};
+pub use cell_cats_areas::clump::{Joining, clump, clump_with};

@@ -2,14 +2,14 @@
 
 ghost use Rattle.std.specs.Prelude.{◌≡◌, ◌≢◌, ℕ, List, IfOk, IfErr, Ok, Err, Some, None, map, ◌∷◌, ◌≤◌, ◌<◌, ◌&&◌, length, drop};
 ghost use Rattle.std.specs.Option.{option_map};
-ghost use Rattle.cell_cats.specs.RuleLine.{is_skipped, is_thru, is_star, is_null, is_end, with_item, items_of, is_lone_star, left_of, is_output, ranges_of, range_of, listed_of, output_of, rule_of};
+ghost use Rattle.cell_cats.specs.RuleLine.{is_skipped, is_thru, is_star, is_null_word, is_end, with_item, items_of, is_lone_star, left_side, is_output, ranges_of, range_of, listed_of_line, output_of, rule_of};
 
 use crate::rule::{Output, Rule};
 use crate::rules::RuleFault;
 use cell_core::cell::Cell;
-use cell_text::blanks::{around_blank, trimmed};
-use cell_text::numbers::whole_in_range;
-use cell_text::words::{list_words_of, pair_of};
+use cell_core_text::blanks::{around_blank, trimmed};
+use cell_core_text::whole_numbers::whole_in_range;
+use cell_core_text::words::{list_words_of, pair_of};
 use std::alloc::Global;
 
 /// Whether a line without blanks at its ends is empty or a comment.
@@ -35,7 +35,7 @@ fn is_star(word: &[u8]) -> bool
 }
 
 fn is_null(word: &[u8]) -> bool
-    ensures { result ≡ is_null word.now }
+    ensures { result ≡ is_null_word word.now }
 {
     word == b"NULL".as_slice() || word == b"null".as_slice()
 }
@@ -145,8 +145,8 @@ fn left_of<'a>(
     alloc: Global,
     words: &[&'a [u8]],
 ) -> Result<Option<Vec<(&'a [u8], &'a [u8])>>, RuleFault>
-    ensures ok { IfOk result (λ left. left_of (map (λ w. w.now) words.now) ≡ Some (option_map (λ items. map (λ item. (item.0.now, item.1.now)) items.items) left)) }
-    ensures err { IfErr result (λ fault. fault ≢ RuleFault.Memory → (fault ≡ RuleFault.BadRule) × (left_of (map (λ w. w.now) words.now) ≡ None)) }
+    ensures ok { IfOk result (λ left. left_side (map (λ w. w.now) words.now) ≡ Some (option_map (λ items. map (λ item. (item.0.now, item.1.now)) items.items) left)) }
+    ensures err { IfErr result (λ fault. fault ≢ RuleFault.Memory → (fault ≡ RuleFault.BadRule) × (left_side (map (λ w. w.now) words.now) ≡ None)) }
 {
     if is_lone_star(words) {
         return Ok(None);
@@ -163,8 +163,8 @@ fn listed_of(
     alloc: Global,
     left: &Option<Vec<(&[u8], &[u8])>>,
 ) -> Result<Option<Vec<(i32, i32)>>, RuleFault>
-    ensures ok { IfOk result (λ listed. listed_of (option_map (λ items. map (λ item. (item.0.now, item.1.now)) items.items) left.now) ≡ Some (option_map (λ ranges. ranges.items) listed)) }
-    ensures err { IfErr result (λ fault. fault ≢ RuleFault.Memory → (fault ≡ RuleFault.BadNumber) × (listed_of (option_map (λ items. map (λ item. (item.0.now, item.1.now)) items.items) left.now) ≡ None)) }
+    ensures ok { IfOk result (λ listed. listed_of_line (option_map (λ items. map (λ item. (item.0.now, item.1.now)) items.items) left.now) ≡ Some (option_map (λ ranges. ranges.items) listed)) }
+    ensures err { IfErr result (λ fault. fault ≢ RuleFault.Memory → (fault ≡ RuleFault.BadNumber) × (listed_of_line (option_map (λ items. map (λ item. (item.0.now, item.1.now)) items.items) left.now) ≡ None)) }
 {
     match left {
         Some(items) => {

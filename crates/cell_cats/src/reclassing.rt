@@ -6,7 +6,7 @@ ghost use Rattle.cell_core.specs.Grid.{no_labels};
 ghost use Rattle.cell_core.specs.Runs.{written_out};
 ghost use Rattle.cell_cats.specs.Rule.{RuleValue, label_of};
 ghost use Rattle.cell_cats.specs.Reclass.{new_row, labels_of, reclassed};
-ghost use Rattle.cell_cats.specs.parts.Known.{AreRight};
+ghost use Rattle.cell_cats.specs.parts.KnownCategories.{AreRight};
 ghost use Rattle.cell_cats.specs.parts.Pieces.{AreOfRules};
 
 use crate::known::{Known, look_up, only_null};

@@ -3,7 +3,7 @@
 ghost use Rattle.std.specs.Prelude.{◌≡◌, ◌≢◌, ℤ, Some, IfSome};
 ghost use Rattle.std.specs.List.{list_any};
 ghost use Rattle.std.specs.Option.{option_map};
-ghost use Rattle.cell_cats.specs.Rule.{is_between, lists, is_star_rule, outcome, labelled};
+ghost use Rattle.cell_cats.specs.Rule.{is_in_ends, lists, is_star_rule, outcome, labelled};
 
 use cell_core::cell::Cell;
 use std::marker::Model;
@@ -48,7 +48,7 @@ impl Model for Rule {
 
 // Between two ends, in either order.
 fn is_between(ends: (i32, i32), x: i32) -> bool
-    ensures { result ≡ is_between ends x }
+    ensures { result ≡ is_in_ends ends x }
 {
     (ends.0 <= x && x <= ends.1) || (ends.1 <= x && x <= ends.0)
 }
@@ -74,7 +74,7 @@ impl Rule {
 
     // The ends of the ranges that it lists: none where it is a rule of `*`.
     pub(crate) fn ranges(&self) -> &[(i32, i32)]
-        ensures { (x : ℤ) → lists x self.now ≡ list_any (λ ends. is_between ends x) result.now }
+        ensures { (x : ℤ) → lists x self.now ≡ list_any (λ ends. is_in_ends ends x) result.now }
     {
         match &self.listed {
             Some(ranges) => ranges.as_slice(),

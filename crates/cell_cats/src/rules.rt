@@ -9,7 +9,7 @@ use crate::line::{is_skipped, rule_of};
 use crate::rule::{Output, Rule};
 use cell_core::cell::Cell;
 use cell_core::memory::Memory;
-use cell_text::blanks::trimmed;
+use cell_core_text::blanks::trimmed;
 use std::alloc::{AllocError, AllocFailed, Global};
 use std::marker::Model;
 

@@ -4,7 +4,7 @@
 use cell_cats::reclassing::reclass;
 use cell_cats::rules::Rules;
 use cell_core::cell::Cell;
-use cell_test_maps::maps::{NULL, categories_of, map_of};
+use cell_core_test_maps::maps::{NULL, categories_of, map_of};
 use std::alloc::{AllocGlobal, Global};
 use std::process::Abort;
 use std::test::Fail;

@@ -2,7 +2,7 @@
 
 use cell_cats::reclassing::reclass;
 use cell_cats::rules::Rules;
-use cell_test_maps::maps::{NULL, categories_of, map_of};
+use cell_core_test_maps::maps::{NULL, categories_of, map_of};
 use std::test::Fail;
 
 // Lines, the categories of a map in rows of four, its new categories, and the label of a category of it.

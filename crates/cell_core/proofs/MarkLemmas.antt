@@ -3,10 +3,10 @@ use Rattle.std.proofs.Common.{◌≡◌, ℕ, zero, suc, ◌+◌, ◌-◌, ◌*�
 use Rattle.std.specs.Prelude.{if◌then◌else◌}
 use Rattle.std.specs.List.{prefix_len}
 use Rattle.std.proofs.lemmas.Simd.{leading_from_mask_l, trailing_mask_l}
-use Rattle.cell_base.specs.Cell.{cell_eq, cell_eq-Decides}
+use Rattle.cell_core_values.specs.Cell.{cell_eq, cell_eq-Decides}
 use Rattle.cell_core.specs.Grid.{CellValue}
 use Rattle.cell_core.specs.Runs.{RunValue}
-use Rattle.cell_core.specs.parts.Rows.{alike, runs_in, runs_from, marks, mark_bits, flag_bits}
+use Rattle.cell_core.specs.parts.RowForms.{alike, runs_in, runs_from, marks, mark_bits, flag_bits}
 use Rattle.cell_core.proofs.RowLemmas.{runs_in-next}
 use Rattle.std.proofs.Math.Nat.{pow-succ', div-div-eq-div-mul}
 use Rattle.std.proofs.Math.Seq.{drop-cons, drop-append-add}

@@ -3,10 +3,10 @@ use Rattle.std.proofs.Common.{◌≡◌, ◌≢◌, ℕ, suc, Bool, true, false,
 use Rattle.std.specs.Prelude.{if◌then◌else◌}
 use Rattle.std.proofs.Math.Seq.{drop-cons}
 use Rattle.std.proofs.lemmas.List.Elements.{All-cons, All-nil}
-use Rattle.cell_base.specs.Cell.{cell_eq, cell_eq-Decides}
+use Rattle.cell_core_values.specs.Cell.{cell_eq, cell_eq-Decides}
 use Rattle.cell_core.specs.Grid.{CellValue}
 use Rattle.cell_core.specs.Runs.{RunValue, written_out, AreApart, AreRuns}
-use Rattle.cell_core.specs.parts.Rows.{alike, breaks, with_cell, runs_in}
+use Rattle.cell_core.specs.parts.RowForms.{alike, breaks, with_cell, runs_in}
 
 module _ (x : CellValue) where
   written_out-with : (runs : List RunValue) → written_out (with_cell x runs) ≡ x ∷ written_out runs

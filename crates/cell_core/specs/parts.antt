@@ -1,3 +1,3 @@
 -- What only private functions and proofs speak of.
-pub mod Code
-pub mod Rows
+pub mod GridCode
+pub mod RowForms

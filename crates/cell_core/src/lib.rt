@@ -5,10 +5,10 @@
 #![tactic(auto)]
 
 pub mod map;
+pub mod printed_cell;
 mod row;
 pub mod runs;
 pub mod shelf;
-pub mod text;
 
-pub use cell_base::{cell, memory, name, region};
-pub use cell_devices::{block, device, sink, source};
+pub use cell_core_devices::{block, device, sink, source};
+pub use cell_core_values::{cell, memory, name, region};

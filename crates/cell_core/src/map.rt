@@ -8,9 +8,9 @@ ghost use Rattle.cell_core.specs.Runs.{AreRuns, written_out};
 
 use crate::row::Row;
 use crate::runs::Runs;
-use cell_base::cell::Cell;
-use cell_base::memory::Memory;
-use cell_base::region::Region;
+use cell_core_values::cell::Cell;
+use cell_core_values::memory::Memory;
+use cell_core_values::region::Region;
 use std::alloc::Global;
 use std::collections::BTreeMap;
 use std::marker::Model;
@@ -30,7 +30,7 @@ impl Model for CellMap {
     ghost use Rattle.std.specs.Prelude.{map};
     ghost use Rattle.std.specs.FinMap.{from_entries};
     ghost use Rattle.cell_core.specs.Grid.{Grid, IsFilled, AreCells};
-    ghost use Rattle.cell_core.specs.parts.Code.{grid_code};
+    ghost use Rattle.cell_core.specs.parts.GridCode.{grid_code};
 
     ghost Value = { Grid };
 

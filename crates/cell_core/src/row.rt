@@ -1,12 +1,12 @@
 //! A row of a map as it is kept.
 
 ghost use Rattle.std.specs.Prelude.{◌≡◌, ◌<◌, ◌^◌, length, All, None, IfOk, slice_index_or};
-ghost use Rattle.cell_base.specs.Cell.{IsCell};
+ghost use Rattle.cell_core_values.specs.Cell.{IsCell};
 ghost use Rattle.cell_core.specs.Runs.{AreRuns, written_out};
 
 use crate::runs::{Runs, cell_in, count_runs, runs_of, write_out};
-use cell_base::cell::Cell;
-use cell_base::memory::Memory;
+use cell_core_values::cell::Cell;
+use cell_core_values::memory::Memory;
 use std::alloc::Global;
 use std::marker::Model;
 
@@ -29,11 +29,11 @@ enum Kept {
 impl Model for Row {
     ghost use Rattle.std.specs.Prelude.{List};
     ghost use Rattle.cell_core.specs.Grid.{CellValue};
-    ghost use Rattle.cell_core.specs.parts.Rows.{cells_of, IsKept};
+    ghost use Rattle.cell_core.specs.parts.RowForms.{cells_of_row, IsKept};
 
     ghost Value = { List CellValue };
 
-    ghost view = { λ row. cells_of row.kept };
+    ghost view = { λ row. cells_of_row row.kept };
 
     ghost invariant = { λ row. IsKept row.kept };
 }

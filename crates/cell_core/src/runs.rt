@@ -2,13 +2,13 @@
 
 ghost use Rattle.std.specs.Prelude.{◌≡◌, ◌<◌, ◌≤◌, ◌+◌, ◌-◌, ◌++◌, ◌^◌, List, length, take, drop, replicate, All, None, IfOk, OnOk, slice_index_or};
 ghost use Rattle.std.specs.Iterator.{YieldsFirst, item_count};
-ghost use Rattle.cell_base.specs.Cell.{IsCell};
+ghost use Rattle.cell_core_values.specs.Cell.{IsCell};
 ghost use Rattle.cell_core.specs.Grid.{CellValue};
 ghost use Rattle.cell_core.specs.Runs.{RunValue, AreRuns, written_out};
-ghost use Rattle.cell_core.specs.parts.Rows.{alike, runs_in, runs_from, flag_bits, mark_bits};
+ghost use Rattle.cell_core.specs.parts.RowForms.{alike, runs_in, runs_from, flag_bits, mark_bits};
 
-use cell_base::cell::Cell;
-use cell_base::memory::Memory;
+use cell_core_values::cell::Cell;
+use cell_core_values::memory::Memory;
 use std::alloc::Global;
 use std::marker::Model;
 use std::simd::prelude::*;
@@ -212,7 +212,7 @@ enum Rest<'a> {
 impl<'a> Model for Runs<'a> {
     ghost use Rattle.std.specs.Prelude.{List};
     ghost use Rattle.cell_core.specs.Runs.{RunValue};
-    ghost use Rattle.cell_core.specs.parts.Rows.{runs_left, IsShort};
+    ghost use Rattle.cell_core.specs.parts.RowForms.{runs_left, IsShort};
 
     ghost Value = { List RunValue };
 

@@ -5,11 +5,11 @@ use Rattle.std.proofs.lemmas.List.{map-append}
 use Rattle.std.proofs.lemmas.List.Elements.{filter-append}
 use Rattle.std.specs.List.{flat_map, range_with_len}
 use Rattle.cell_core.specs.Grid.{Grid}
-use Rattle.cell_combinations.specs.declared.skip.Skip.{Skip}
-use Rattle.cell_combinations.specs.Combinations.{Combination, combination_at, row_combinations, all_combinations}
-use Rattle.cell_combinations.specs.LeftOut.{kept, is_left_out}
+use Rattle.cell_stats_combinations.specs.declared.skip.Skip.{Skip}
+use Rattle.cell_stats_combinations.specs.Combinations.{Combination, combination_at, row_combinations, all_combinations}
+use Rattle.cell_stats_combinations.specs.LeftOut.{kept, is_left_out}
 use Rattle.cell_stats.specs.TableText.{FormatValue, cell_line}
-use Rattle.cell_counts.proofs.WalkLemmas.{stretch, kept-replicate, all_combinations_more}
+use Rattle.cell_stats_counts.proofs.WalkLemmas.{stretch, kept-replicate, all_combinations_more}
 
 range-append : (a n m : ℕ) → range_with_len a (n + m) ≡ range_with_len a n ++ range_with_len (a + n) m
 range-append a zero m = ap (λ (k : ℕ). range_with_len a k) (zero-add m) ∙ ap (λ (k : ℕ). range_with_len k m) (sym (add-zero a))

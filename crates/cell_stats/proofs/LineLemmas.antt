@@ -6,9 +6,9 @@ use Rattle.std.proofs.lemmas.Slice.Zip.{get_or-zip, length-zip}
 use Rattle.std.proofs.lemmas.List.{get_or-drop}
 use Rattle.cell_core.specs.Grid.{Grid, CellValue}
 use Rattle.cell_core.specs.Text.{cell_text}
-use Rattle.cell_combinations.specs.Combinations.{Combination}
+use Rattle.cell_stats_combinations.specs.Combinations.{Combination}
 use Rattle.cell_stats.specs.parts.Preceded.{preceded, pick_text, next_text, others_text}
-use Rattle.cell_stats.specs.TableText.{FormatValue, cell_fields, combination_fields, count_fields, label_in, pair_line}
+use Rattle.cell_stats.specs.TableText.{FormatValue, cell_fields, combination_fields, count_fields, label_of_cell, pair_line}
 
 -- the first text, and each other one after the byte
 pub join-cons : (c : ℕ) (text : List ℕ) (texts : List (List ℕ)) → join_with_byte c (text ∷ texts) ≡ text ++ preceded c texts
@@ -24,7 +24,7 @@ join-more c text texts more =
 -- the fields of one map, each after the byte
 next_text-preceded : (format : FormatValue) (maps : List Grid) (p : ℕ × CellValue) → preceded format.separator (cell_fields format maps p.0 p.1) ≡ next_text format maps p
 next_text-preceded format maps p =
-    ap (λ (l : List ℕ). format.separator ∷ l) (sym (join-cons format.separator (cell_text format.null_text p.1) (if format.labels then label_in maps p.0 p.1 ∷ [] else [])))
+    ap (λ (l : List ℕ). format.separator ∷ l) (sym (join-cons format.separator (cell_text format.null_text p.1) (if format.labels then label_of_cell maps p.0 p.1 ∷ [] else [])))
 
 -- and those of several
 others-preceded : (format : FormatValue) (maps : List Grid) (ps : List (ℕ × CellValue)) → preceded format.separator (flat_map (λ p. cell_fields format maps p.0 p.1) ps) ≡ flat_map (next_text format maps) ps
@@ -39,7 +39,7 @@ pub combination-others : (format : FormatValue) (maps : List Grid) (picks : List
 combination-others format maps [] k d e some same = absurd (omega arith)
 combination-others format maps (p ∷ picks) [] d e some same = absurd (omega arith)
 combination-others format maps (p ∷ picks) (x ∷ k) d e some same =
-    join-more format.separator (cell_text format.null_text x) (if format.labels then label_in maps p x ∷ [] else []) (flat_map (λ p. cell_fields format maps p.0 p.1) (zip picks k))
+    join-more format.separator (cell_text format.null_text x) (if format.labels then label_of_cell maps p x ∷ [] else []) (flat_map (λ p. cell_fields format maps p.0 p.1) (zip picks k))
     ∙ ap (λ (l : List ℕ). pick_text format maps p x ++ l) (others-preceded format maps (zip picks k))
 
 -- the fields of a combination, and more behind them
@@ -47,23 +47,23 @@ pub line-more : (format : FormatValue) (maps : List Grid) (picks : List ℕ) (k 
 line-more format maps [] k more some same = absurd (omega arith)
 line-more format maps (p ∷ picks) [] more some same = absurd (omega arith)
 line-more format maps (p ∷ picks) (x ∷ k) more some same =
-    let others = (if format.labels then label_in maps p x ∷ [] else []) ++ flat_map (λ p. cell_fields format maps p.0 p.1) (zip picks k) in
+    let others = (if format.labels then label_of_cell maps p x ∷ [] else []) ++ flat_map (λ p. cell_fields format maps p.0 p.1) (zip picks k) in
     join-more format.separator (cell_text format.null_text x) others more
 
 -- a cell, and its label behind it
-pub pick_text-label : (format : FormatValue) (maps : List Grid) (place : ℕ) (cell : CellValue) → cell_text format.null_text cell ++ preceded format.separator (if format.labels then label_in maps place cell ∷ [] else []) ≡ pick_text format maps place cell
-pick_text-label format maps place cell = sym (join-cons format.separator (cell_text format.null_text cell) (if format.labels then label_in maps place cell ∷ [] else []))
+pub pick_text-label : (format : FormatValue) (maps : List Grid) (place : ℕ) (cell : CellValue) → cell_text format.null_text cell ++ preceded format.separator (if format.labels then label_of_cell maps place cell ∷ [] else []) ≡ pick_text format maps place cell
+pick_text-label format maps place cell = sym (join-cons format.separator (cell_text format.null_text cell) (if format.labels then label_of_cell maps place cell ∷ [] else []))
 
 pub pick_text-without : (format : FormatValue) (maps : List Grid) (place : ℕ) (cell : CellValue)
     → format.labels ≡ false → cell_text format.null_text cell ≡ pick_text format maps place cell
 pick_text-without format maps place cell off =
     ap (λ (b : Bool). join_with_byte format.separator
-    (cell_text format.null_text cell ∷ (if b then label_in maps place cell ∷ [] else []))) (sym off)
+    (cell_text format.null_text cell ∷ (if b then label_of_cell maps place cell ∷ [] else []))) (sym off)
 
-pub pick_text-with : (format : FormatValue) (maps : List Grid) (place : ℕ) (cell : CellValue) → format.labels ≡ true → cell_text format.null_text cell ++ (format.separator ∷ label_in maps place cell) ≡ pick_text format maps place cell
+pub pick_text-with : (format : FormatValue) (maps : List Grid) (place : ℕ) (cell : CellValue) → format.labels ≡ true → cell_text format.null_text cell ++ (format.separator ∷ label_of_cell maps place cell) ≡ pick_text format maps place cell
 pick_text-with format maps place cell on =
-    ap (λ (l : List ℕ). cell_text format.null_text cell ++ l) (sym (append-nil (format.separator ∷ label_in maps place cell)))
-    ∙ ap (λ (b : Bool). cell_text format.null_text cell ++ preceded format.separator (if b then label_in maps place cell ∷ [] else [])) (sym on) ∙ pick_text-label format maps place cell
+    ap (λ (l : List ℕ). cell_text format.null_text cell ++ l) (sym (append-nil (format.separator ∷ label_of_cell maps place cell)))
+    ∙ ap (λ (b : Bool). cell_text format.null_text cell ++ preceded format.separator (if b then label_of_cell maps place cell ∷ [] else [])) (sym on) ∙ pick_text-label format maps place cell
 
 module _ (picks : List ℕ) (k : Combination) (i : ℕ) (within : i < length picks) (same : length k ≡ length picks) where
   -- the pick and the cell at a place

@@ -5,11 +5,11 @@ use Rattle.std.proofs.lemmas.List.Elements.{All-append, All-drop, All-map, All-t
 use Rattle.std.specs.List.{flat_map, range_with_len}
 use Rattle.std.specs.Ordering.{eq_by_cmp}
 use Rattle.cell_core.specs.Grid.{Grid}
-use Rattle.cell_combinations.specs.declared.skip.Skip.{Skip}
-use Rattle.cell_combinations.specs.Combinations.{Combination, combination_cmp, cell_in, combination_at, row_combinations, all_combinations}
-use Rattle.cell_counts.specs.Counts.{count_of}
-use Rattle.cell_stats.specs.Tables.{Pairs, IsTable}
-use Rattle.cell_combinations.proofs.OrderLemmas.{combination_cmp-exact, is_equal}
+use Rattle.cell_stats_combinations.specs.declared.skip.Skip.{Skip}
+use Rattle.cell_stats_combinations.specs.Combinations.{Combination, combination_cmp, cell_of_map, combination_at, row_combinations, all_combinations}
+use Rattle.cell_stats_counts.specs.Counts.{count_of}
+use Rattle.cell_stats.specs.CategoryTables.{Pairs, IsTable}
+use Rattle.cell_stats_combinations.proofs.OrderLemmas.{combination_cmp-exact, is_equal}
 use Rattle.cell_stats.proofs.TableLemmas.{count_cons}
 
 -- a combination that occurs has what each cell's has
@@ -25,7 +25,7 @@ occurs P k (x ∷ cells) all some =
 
 module _ (maps : List Grid) (picks : List ℕ) where
   wide-row : (row : ℕ) (cols : List ℕ) → All (λ k. length k ≡ length picks) (map (combination_at maps picks row) cols)
-  wide-row row cols = All-map (λ (k : Combination). length k ≡ length picks) (combination_at maps picks row) cols (λ i d within. length-map picks (cell_in maps row (get_or cols i d)))
+  wide-row row cols = All-map (λ (k : Combination). length k ≡ length picks) (combination_at maps picks row) cols (λ i d within. length-map picks (cell_of_map maps row (get_or cols i d)))
 
   wide-rows : (cols : ℕ) (rows : List ℕ) → All (λ k. length k ≡ length picks) (flat_map (row_combinations maps picks cols) rows)
   wide-rows cols [] = λ i d within. absurd (omega (arith, within))

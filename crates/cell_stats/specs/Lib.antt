@@ -1,5 +1,5 @@
 -- Tables of the combinations of categories over several maps.
-pub mod Tables
+pub mod CategoryTables
 pub mod TableLaw
 pub mod TableText
 pub mod parts

@@ -5,10 +5,10 @@ use Rattle.std.specs.List.{zip, join_with_byte}
 use Rattle.std.specs.Option.{option_map_or}
 use Rattle.cell_core.specs.Grid.{Grid, CellValue}
 use Rattle.cell_core.specs.Text.{cell_text}
-use Rattle.cell_combinations.specs.declared.skip.Skip.{Skip}
-use Rattle.cell_combinations.specs.Combinations.{Combination, all_combinations}
-use Rattle.cell_stats.specs.Tables.{Pairs, rest_after}
-use Rattle.cell_combinations.specs.LeftOut.{kept}
+use Rattle.cell_stats_combinations.specs.declared.skip.Skip.{Skip}
+use Rattle.cell_stats_combinations.specs.Combinations.{Combination, all_combinations}
+use Rattle.cell_stats.specs.CategoryTables.{Pairs, rest_after}
+use Rattle.cell_stats_combinations.specs.LeftOut.{kept}
 
 -- the byte between two fields, the text of null, and whether labels and counts are printed
 pub record FormatValue : Type 0 where
@@ -23,12 +23,12 @@ label_text map None = codes "no data"
 label_text map (Some category) = unwrap_or (finmap.get map.labels category) []
 
 -- the label of a cell of the map in a place
-abbrev pub label_in : List Grid → ℕ → CellValue → List ℕ
-label_in maps place cell = option_map_or (λ map. label_text map cell) (slice_get maps place) []
+abbrev pub label_of_cell : List Grid → ℕ → CellValue → List ℕ
+label_of_cell maps place cell = option_map_or (λ map. label_text map cell) (slice_get maps place) []
 
 -- the category in decimal or the null text; with labels, its label follows
 abbrev pub cell_fields : FormatValue → List Grid → ℕ → CellValue → List (List ℕ)
-cell_fields format maps place cell = cell_text format.null_text cell ∷ (if format.labels then label_in maps place cell ∷ [] else [])
+cell_fields format maps place cell = cell_text format.null_text cell ∷ (if format.labels then label_of_cell maps place cell ∷ [] else [])
 
 -- the fields of a combination, map by map
 abbrev pub combination_fields : FormatValue → List Grid → List ℕ → Combination → List (List ℕ)
@@ -60,5 +60,5 @@ abbrev pub table_text : FormatValue → List Grid → List ℕ → Pairs → Lis
 table_text format maps picks pairs = flat_map (pair_line format maps picks) pairs
 
 -- a line for each cell that is not left out, row by row from the top left
-abbrev pub cells_text : FormatValue → Skip → List Grid → List ℕ → ℕ → ℕ → List ℕ
-cells_text format skip maps picks rows cols = flat_map (cell_line format maps picks) (kept skip (all_combinations maps picks rows cols))
+abbrev pub cell_lines : FormatValue → Skip → List Grid → List ℕ → ℕ → ℕ → List ℕ
+cell_lines format skip maps picks rows cols = flat_map (cell_line format maps picks) (kept skip (all_combinations maps picks rows cols))

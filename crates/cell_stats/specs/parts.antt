@@ -1,3 +1,3 @@
 -- Fields of a line.
-pub mod Code
+pub mod PairsCode
 pub mod Preceded

@@ -16,7 +16,7 @@ pub struct Format<'a> {
 
 impl<'a> Model for Format<'a> {
     ghost use Rattle.cell_stats.specs.TableText.{FormatValue};
-    ghost use Rattle.cell_stats.specs.parts.Code.{format_code};
+    ghost use Rattle.cell_stats.specs.parts.PairsCode.{format_code};
 
     ghost Value = { FormatValue };
 

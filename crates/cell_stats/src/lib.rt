@@ -1,11 +1,11 @@
 //! Tables of the combinations of categories over several maps, and their printed form (r.stats manual).
 #![tactic(auto)]
 
-pub mod cells;
 pub mod format;
 pub mod law;
+pub mod printed_cells;
 pub mod printing;
 pub mod table;
 pub mod tallying;
 
-pub use cell_combinations::{combination, reading, skip};
+pub use cell_stats_combinations::{combination, combination_text, skip};

@@ -3,24 +3,24 @@
 ghost use Rattle.std.specs.Prelude.{◌≡◌, ◌<◌, [], ◌∷◌, ◌++◌, All, length, flat_map, replicate, IfSome};
 ghost use Rattle.std.specs.List.{join_with_byte};
 ghost use Rattle.std.specs.Option.{option_map};
-ghost use Rattle.cell_devices.specs.Blocks.{Appends};
-ghost use Rattle.cell_stats.specs.TableText.{cell_line, combination_fields, count_fields, label_in, pair_line, printed_pairs, table_text};
+ghost use Rattle.cell_core_devices.specs.Blocks.{Appends};
+ghost use Rattle.cell_stats.specs.TableText.{cell_line, combination_fields, count_fields, label_of_cell, pair_line, printed_pairs, table_text};
 ghost use Rattle.cell_stats.specs.parts.Preceded.{next_text, others_text, pick_text, preceded};
 
 use crate::format::Format;
 use crate::table::Table;
-use cell_combinations::combination::Combo;
 use cell_core::block::Block;
 use cell_core::cell::Cell;
+use cell_core::printed_cell::write_cell;
 use cell_core::shelf::Shelf;
 use cell_core::sink::Sink;
-use cell_core::text::write_cell;
+use cell_stats_combinations::combination::Combo;
 use itoa::Buffer;
 
 // The label of a cell of a map.
 fn label_of<'a>(shelf: &'a Shelf, place: usize, cell: Cell) -> &'a [u8]
     requires { place < length shelf.now.maps }
-    ensures { result.now ≡ label_in shelf.now.maps place cell }
+    ensures { result.now ≡ label_of_cell shelf.now.maps place cell }
 {
     match cell.get() {
         None => b"no data",

@@ -3,12 +3,12 @@
 ghost use Rattle.std.specs.Prelude.{◌≡◌, ◌≤◌, length, map, drop, All, IfSome};
 ghost use Rattle.std.specs.Iterator.{YieldsFirstBy, item_count};
 ghost use Rattle.std.specs.List.Sorted.{IsStrictlySortedBy};
-ghost use Rattle.cell_combinations.specs.Combinations.{combination_cmp};
+ghost use Rattle.cell_stats_combinations.specs.Combinations.{combination_cmp};
 ghost use Rattle.std.specs.Option.{option_map};
-ghost use Rattle.cell_stats.specs.Tables.{Pairs, TableValue, rest_after};
+ghost use Rattle.cell_stats.specs.CategoryTables.{Pairs, TableValue, rest_after};
 ghost use Rattle.cell_stats.specs.TableText.{printed_pairs};
 
-use cell_combinations::combination::Combo;
+use cell_stats_combinations::combination::Combo;
 use std::cmp::Ordering;
 use std::marker::Model;
 
@@ -22,9 +22,9 @@ pub struct Table {
 impl Model for Table {
     ghost use Rattle.std.specs.Prelude.{◌≡◌, map, All, length};
     ghost use Rattle.std.specs.List.Sorted.{IsStrictlySortedBy};
-    ghost use Rattle.cell_combinations.specs.Combinations.{combination_cmp};
-    ghost use Rattle.cell_stats.specs.Tables.{TableValue};
-    ghost use Rattle.cell_stats.specs.parts.Code.{table_code};
+    ghost use Rattle.cell_stats_combinations.specs.Combinations.{combination_cmp};
+    ghost use Rattle.cell_stats.specs.CategoryTables.{TableValue};
+    ghost use Rattle.cell_stats.specs.parts.PairsCode.{table_code};
 
     ghost Value = { TableValue };
 
@@ -127,7 +127,7 @@ pub struct Listing<'a> {
 }
 
 impl<'a> Model for Listing<'a> {
-    ghost use Rattle.cell_stats.specs.Tables.{Pairs};
+    ghost use Rattle.cell_stats.specs.CategoryTables.{Pairs};
 
     ghost Value = { Pairs };
 

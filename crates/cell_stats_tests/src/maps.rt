@@ -5,7 +5,7 @@ ghost use Rattle.std.specs.Prelude.{◌<◌, ◌≤◌, ◌↔◌, All, IsTrue, 
 use cell_core::map::CellMap;
 use cell_core::name::Name;
 use cell_core::shelf::Shelf;
-use cell_test_maps::maps::{NULL, map_of};
+use cell_core_test_maps::maps::{NULL, map_of};
 use std::alloc::Global;
 use std::test::Fail;
 

@@ -2,12 +2,12 @@
 
 use crate::maps::{G, X, are_picks, shelf_of};
 use cell_core::shelf::Shelf;
+use cell_core_test_maps::maps::NULL;
 use cell_stats::combination::Combo;
-use cell_stats::reading::ComboFault;
+use cell_stats::combination_text::ComboFault;
 use cell_stats::skip::Skip;
 use cell_stats::table::Table;
 use cell_stats::tallying::tally;
-use cell_test_maps::maps::NULL;
 use std::alloc::{AllocGlobal, Global};
 use std::test::Fail;
 

@@ -5,17 +5,17 @@ use Rattle.std.specs.FinMap as finmap
 use Rattle.std.specs.Ordering.{int_cmp}
 use Rattle.std.proofs.lemmas.List.{get_or_default, same_lists}
 use Rattle.std.proofs.lemmas.List.Elements.{All-get_or}
-use Rattle.cell_formulas.specs.Formula.{Formula}
-use Rattle.cell_clump.specs.ClumpLaw.{ClumpingIsOne}
-use Rattle.cell_clump.specs.declared.clump.Joining.{Joining}
+use Rattle.cell_calc_binding.specs.Formula.{Formula}
+use Rattle.cell_cats_areas.specs.ClumpLaw.{ClumpingIsOne}
+use Rattle.cell_cats_areas.specs.declared.clump.Joining.{Joining}
 use Rattle.cell_core.specs.Grid.{Grid, CellValue, IsFilled, cell_at}
-use Rattle.cell_base.specs.Region.{RegionValue}
+use Rattle.cell_core_values.specs.Region.{RegionValue}
 use Rattle.cell_core.specs.Shelf.{ShelfValue}
-use Rattle.cell_commands.specs.declared.command.Command.{Command}
-use Rattle.cell_commands.specs.declared.command.Command.TheVariants.{Mapcalc, Reclass, Clump, Stats, OutAscii}
-use Rattle.cell_script.specs.declared.statement.Statement.{Statement}
-use Rattle.cell_making.specs.Making.{AreValues, AreNumbers, IsOfMap, with_map}
-use Rattle.rcell.specs.After.{IsAfter}
+use Rattle.rcell_script_commands.specs.declared.command.Command.{Command}
+use Rattle.rcell_script_commands.specs.declared.command.Command.TheVariants.{Mapcalc, Reclass, Clump, Stats, OutAscii}
+use Rattle.rcell_script.specs.declared.statement.Statement.{Statement}
+use Rattle.rcell_making.specs.Making.{AreValues, AreNumbers, IsOfMap, with_map}
+use Rattle.rcell.specs.After.{IsShelfAfter}
 use Rattle.rcell.specs.Output.{Executes, command_text}
 use Rattle.rcell.specs.OutputLaw.{OneOutput, PartsJoin}
 
@@ -62,7 +62,7 @@ module _ (law : ClumpingIsOne) where
   one_numbering joining (Some m) a b one other = law joining m a b one.filled other.filled one.clumping other.clumping
 
   -- a command leaves one shelf
-  pub IsAfter-one : (shelf : ShelfValue) (command : Command) (a b : ShelfValue) → IsAfter shelf command a → IsAfter shelf command b → a ≡ b
+  pub IsAfter-one : (shelf : ShelfValue) (command : Command) (a b : ShelfValue) → IsShelfAfter shelf command a → IsShelfAfter shelf command b → a ≡ b
   IsAfter-one shelf (Mapcalc target bound) a b one other =
       one.1.1 ∙ ap (λ m. with_map shelf target m) (AreValues-one bound shelf one.0 other.0 one.1.0 other.1.0) ∙ sym other.1.1
   IsAfter-one shelf (Reclass place target rules) a b one other = one_of_map _ (slice_get shelf.maps place) a b one other

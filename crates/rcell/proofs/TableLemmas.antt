@@ -1,10 +1,10 @@
 -- What r.stats writes.
 use Rattle.std.proofs.Common.{◌≡◌, ℕ, true, false, List, Option, refl}
 use Rattle.cell_core.specs.Shelf.{ShelfValue}
-use Rattle.cell_commands.specs.declared.command.StatsOptions.{StatsOptions}
-use Rattle.cell_combinations.specs.Combinations.{Combination}
-use Rattle.cell_stats.specs.Tables.{Pairs, table_of}
-use Rattle.cell_stats.specs.TableText.{FormatValue, table_text, printed_pairs, cells_text}
+use Rattle.rcell_script_commands.specs.declared.command.StatsOptions.{StatsOptions}
+use Rattle.cell_stats_combinations.specs.Combinations.{Combination}
+use Rattle.cell_stats.specs.CategoryTables.{Pairs, table_of}
+use Rattle.cell_stats.specs.TableText.{FormatValue, table_text, printed_pairs, cell_lines}
 use Rattle.rcell.specs.Output.{combinations_of, format_of, stats_text}
 
 -- the text of a table
@@ -15,5 +15,5 @@ table_stats shelf places options format after pairs cells f a p = rw (f, a, p, c
 
 -- the text of the cells
 pub cells_stats : (shelf : ShelfValue) (places : List ℕ) (options : StatsOptions) (format : FormatValue) → options.cells ≡ true → format ≡ format_of options
-    → cells_text format options.skip shelf.maps places shelf.region.rows shelf.region.cols ≡ stats_text shelf places options
+    → cell_lines format options.skip shelf.maps places shelf.region.rows shelf.region.cols ≡ stats_text shelf places options
 cells_stats shelf places options format cells f = rw (f, cells) refl

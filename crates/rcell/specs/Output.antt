@@ -1,16 +1,16 @@
 -- What the statements of a script write (r.stats and r.out.ascii manuals), one after another (profile).
 use Rattle.std.specs.Prelude.{ℕ, ◌≡◌, List, [], ◌∷◌, ◌++◌, slice_get, if◌then◌else◌}
 use Rattle.std.specs.Option.{option_map_or}
-use Rattle.cell_ascii_text.specs.Writing.{grid_text}
+use Rattle.cell_ascii_meaning.specs.Writing.{grid_text}
 use Rattle.cell_core.specs.Shelf.{ShelfValue}
-use Rattle.cell_commands.specs.declared.command.Command.{Command}
-use Rattle.cell_commands.specs.declared.command.Command.TheVariants.{Mapcalc, Reclass, Clump, Stats, OutAscii}
-use Rattle.cell_script.specs.declared.statement.Statement.{Statement}
-use Rattle.cell_commands.specs.declared.command.StatsOptions.{StatsOptions}
-use Rattle.cell_combinations.specs.Combinations.{Combination, all_combinations}
-use Rattle.cell_stats.specs.TableText.{FormatValue, table_text, printed_pairs, cells_text}
-use Rattle.cell_stats.specs.Tables.{table_of}
-use Rattle.rcell.specs.After.{IsAfter}
+use Rattle.rcell_script_commands.specs.declared.command.Command.{Command}
+use Rattle.rcell_script_commands.specs.declared.command.Command.TheVariants.{Mapcalc, Reclass, Clump, Stats, OutAscii}
+use Rattle.rcell_script.specs.declared.statement.Statement.{Statement}
+use Rattle.rcell_script_commands.specs.declared.command.StatsOptions.{StatsOptions}
+use Rattle.cell_stats_combinations.specs.Combinations.{Combination, all_combinations}
+use Rattle.cell_stats.specs.TableText.{FormatValue, table_text, printed_pairs, cell_lines}
+use Rattle.cell_stats.specs.CategoryTables.{table_of}
+use Rattle.rcell.specs.After.{IsShelfAfter}
 
 -- the combinations of all cells of the maps at the places
 abbrev pub combinations_of : ShelfValue → List ℕ → List Combination
@@ -23,7 +23,7 @@ format_of options = record { separator = options.separator; null_text = options.
 -- r.stats: a line for each cell, or for each entry of the table or of its rest
 abbrev pub stats_text : ShelfValue → List ℕ → StatsOptions → List ℕ
 stats_text shelf places options =
-    if options.cells then cells_text (format_of options) options.skip shelf.maps places shelf.region.rows shelf.region.cols
+    if options.cells then cell_lines (format_of options) options.skip shelf.maps places shelf.region.rows shelf.region.cols
     else table_text (format_of options) shelf.maps places (printed_pairs options.after (table_of options.skip (combinations_of shelf places)))
 
 -- r.out.ascii: the grid text of the map at a place, nothing where there is none
@@ -42,7 +42,7 @@ command_text shelf (OutAscii place null_text) = out_ascii_text shelf place null_
 abbrev pub Executes : ShelfValue → List Statement → List ℕ → ShelfValue → Type 0
 Executes shelf [] text after = (text ≡ []) × (after ≡ shelf)
 Executes shelf (s ∷ ss) text after =
-    (next : ShelfValue) × ((rest : List ℕ) × (IsAfter shelf s.command next × (Executes next ss rest after × (text ≡ command_text shelf s.command ++ rest))))
+    (next : ShelfValue) × ((rest : List ℕ) × (IsShelfAfter shelf s.command next × (Executes next ss rest after × (text ≡ command_text shelf s.command ++ rest))))
 
 -- the output of statements over a shelf
 abbrev pub IsOutput : ShelfValue → List Statement → List ℕ → Type 0

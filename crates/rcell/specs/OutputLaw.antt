@@ -1,7 +1,7 @@
 -- The output of a script: there is one, and the outputs of its parts join.
 use Rattle.std.specs.Prelude.{ℕ, ◌≡◌, ◌↔◌, List, ◌++◌}
 use Rattle.cell_core.specs.Shelf.{ShelfValue}
-use Rattle.cell_script.specs.declared.statement.Statement.{Statement}
+use Rattle.rcell_script.specs.declared.statement.Statement.{Statement}
 use Rattle.rcell.specs.Output.{Executes, IsOutput}
 
 -- statements over a shelf have one output

@@ -1,3 +1,3 @@
 -- What only private functions and proofs cite.
 pub mod Ends
-pub mod Steps
+pub mod OutputSteps

@@ -3,7 +3,7 @@
 ghost use Rattle.rcell.specs.OutputLaw.{OneOutput, PartsJoin};
 ghost use Rattle.rcell.specs.StatsLaw.{CountsCoverTheRegion, TablesAreAppended};
 
-use cell_clump::law::clumping_is_one;
+use cell_cats_areas::law::clumping_is_one;
 use cell_stats::law::{counts_add_up, table_lists_what_occurs};
 
 /// Statements over a shelf have one output.

@@ -6,8 +6,8 @@ pub mod law;
 pub mod report;
 pub mod runs;
 
-pub use cell_making::evaluation::evaluate;
-pub use cell_script::fault::{ScriptFault, ScriptKind};
-pub use cell_script::parsing::parse_script;
+pub use rcell_making::map_of_values::evaluate;
+pub use rcell_script::script_fault::{ScriptFault, ScriptKind};
+pub use rcell_script::script_parsing::parse_script;
 pub use runs::outcome::{Outcome, RunFault};
 pub use runs::running::run;

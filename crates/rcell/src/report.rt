@@ -1,13 +1,13 @@
 //! The one line that tells why a run did not do its work.
 
 ghost use Rattle.std.specs.Prelude.{◌≡◌, is_some, IfSome};
-ghost use Rattle.rcell.specs.Reports.{name_at, source_of, line_of, text_of};
+ghost use Rattle.rcell.specs.Reports.{name_at_place, fault_source, fault_line_number, text_of};
 
 use crate::runs::outcome::{Outcome, RunFault};
 use bstr::ByteSlice;
-use cell_ascii::fault::GridKind;
+use cell_ascii::grid_fault::GridKind;
 use cell_core::name::Name;
-use cell_script::fault::ScriptKind;
+use rcell_script::script_fault::ScriptKind;
 use std::fmt;
 use thiserror::Error;
 
@@ -50,7 +50,7 @@ impl<'a, T: fmt::Display> fmt::Display for FaultLine<'a, T> {
 }
 
 fn name_at<'a>(names: &'a [Name], grid: usize) -> &'a [u8]
-    ensures { result.now ≡ name_at names.now grid }
+    ensures { result.now ≡ name_at_place names.now grid }
 {
     match names.get(grid) {
         Some(name) => name.bytes(),
@@ -59,7 +59,7 @@ fn name_at<'a>(names: &'a [Name], grid: usize) -> &'a [u8]
 }
 
 fn source_of<'a>(names: &'a [Name], fault: RunFault) -> &'a [u8]
-    ensures { result.now ≡ source_of names.now fault }
+    ensures { result.now ≡ fault_source names.now fault }
 {
     match fault {
         RunFault::GridTwice { grid } => name_at(names, grid),
@@ -74,7 +74,7 @@ fn source_of<'a>(names: &'a [Name], fault: RunFault) -> &'a [u8]
 }
 
 fn line_of(fault: RunFault) -> u64
-    ensures { result ≡ line_of fault }
+    ensures { result ≡ fault_line_number fault }
 {
     match fault {
         RunFault::GridTwice { .. } => 0,
@@ -107,8 +107,8 @@ fn text_of(written: u64, fault: RunFault) -> FaultText
 /// there is no fault. A place without a name has an empty source. Takes no memory.
 pub fn fault_line<'a>(outcome: &Outcome, names: &'a [Name]) -> Option<FaultLine<'a, FaultText>>
     ensures told { is_some result ≡ is_some outcome.now.fault }
-    ensures source { IfSome result (λ told. IfSome outcome.now.fault (λ fault. told.source.now ≡ source_of names.now fault)) }
-    ensures line { IfSome result (λ told. IfSome outcome.now.fault (λ fault. told.line ≡ line_of fault)) }
+    ensures source { IfSome result (λ told. IfSome outcome.now.fault (λ fault. told.source.now ≡ fault_source names.now fault)) }
+    ensures line { IfSome result (λ told. IfSome outcome.now.fault (λ fault. told.line ≡ fault_line_number fault)) }
     ensures text { IfSome result (λ told. IfSome outcome.now.fault (λ fault. told.text ≡ text_of outcome.now.written fault)) }
 {
     match outcome.fault {

@@ -1,14 +1,14 @@
 //! The line that says why no run was started.
 
 ghost use Rattle.std.specs.Prelude.{◌≡◌};
-ghost use Rattle.rcell_program.specs.RefusalLines.{source_of, line_of};
+ghost use Rattle.rcell_program.specs.RefusalLines.{refusal_source, refusal_line_number};
 
 use cell_core::name::Name;
-use cell_request::refusal::Refusal;
 use rcell::report::FaultLine;
+use rcell_request::refusal::Refusal;
 
 fn source_of<'a>(names: &'a [Name], refusal: Refusal) -> &'a [u8]
-    ensures { result.now ≡ source_of names.now refusal }
+    ensures { result.now ≡ refusal_source names.now refusal }
 {
     match refusal {
         Refusal::Usage => b"arguments",
@@ -23,7 +23,7 @@ fn source_of<'a>(names: &'a [Name], refusal: Refusal) -> &'a [u8]
 }
 
 fn line_of(refusal: Refusal) -> u64
-    ensures { result ≡ line_of refusal }
+    ensures { result ≡ refusal_line_number refusal }
 {
     match refusal {
         Refusal::GridWord { place } => place,
@@ -33,8 +33,8 @@ fn line_of(refusal: Refusal) -> u64
 
 /// The line that reports a refusal, by the names of the grids.
 pub fn refusal_line<'a>(refusal: Refusal, names: &'a [Name]) -> FaultLine<'a, Refusal>
-    ensures source { result.source.now ≡ source_of names.now refusal }
-    ensures line { result.line ≡ line_of refusal }
+    ensures source { result.source.now ≡ refusal_source names.now refusal }
+    ensures line { result.line ≡ refusal_line_number refusal }
     ensures text { result.text ≡ refusal }
 {
     FaultLine {

@@ -3,7 +3,7 @@
 ghost use Rattle.std.specs.Prelude.{◌≡◌, ◌≤◌, length, IfOk};
 
 use crate::runs::FIVE_COMMANDS;
-use cell_ascii::fault::{GridFault, GridKind};
+use cell_ascii::grid_fault::{GridFault, GridKind};
 use cell_core::device::DeviceFault;
 use cell_core::name::Name;
 use cell_core::sink::{MemorySink, Sink};

@@ -1,11 +1,11 @@
 //! The line that tells each fault.
 
-use cell_ascii::fault::{GridFault, GridKind};
+use cell_ascii::grid_fault::{GridFault, GridKind};
 use cell_calc::{CalcFault, CalcKind};
 use cell_cats::rules::RuleFault;
 use cell_core::name::Name;
 use cell_core::region::RegionFault;
-use cell_stats::reading::ComboFault;
+use cell_stats::combination_text::ComboFault;
 use rcell::report::fault_line;
 use rcell::runs::outcome::{Outcome, RunFault, status_of};
 use rcell::{ScriptFault, ScriptKind};

@@ -1,6 +1,6 @@
 //! Whole runs over memory: what is put out, how many bytes, the status and the fault.
 
-use cell_ascii::fault::{GridFault, GridKind};
+use cell_ascii::grid_fault::{GridFault, GridKind};
 use cell_core::name::Name;
 use cell_core::sink::MemorySink;
 use cell_core::source::MemorySource;

@@ -1,14 +1,14 @@
 //! The cells that the words of a text denote.
 
 ghost use Rattle.std.specs.Prelude.{◌≡◌, map, IfOk};
-ghost use Rattle.cell_ascii_text.specs.GridText.{line_words, data_words};
-ghost use Rattle.cell_ascii_text.specs.Cells.{cell_of_word};
-ghost use Rattle.cell_ascii_text.specs.Places.{header_in};
+ghost use Rattle.cell_ascii_meaning.specs.GridText.{line_words, data_words};
+ghost use Rattle.cell_ascii_meaning.specs.CellTexts.{cell_of_word};
+ghost use Rattle.cell_ascii_meaning.specs.FaultPlaces.{header_in};
 
 use crate::definition::header::data_words;
 use crate::definition::keys::{self, Header};
 use crate::definition::words::lines_of;
-use cell_ascii::fault::GridKind;
+use cell_ascii::grid_fault::GridKind;
 use cell_core::cell::Cell;
 use cell_core::memory::Memory;
 use std::alloc::Global;

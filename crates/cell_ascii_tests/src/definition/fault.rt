@@ -1,7 +1,7 @@
 //! The first fault that the places of a text tell.
 
 ghost use Rattle.std.specs.Prelude.{◌≡◌, [], IfOk};
-ghost use Rattle.cell_ascii_text.specs.Places.{front_of, told, whole_table, text_fault};
+ghost use Rattle.cell_ascii_meaning.specs.FaultPlaces.{front_of, told, whole_table, text_fault};
 ghost use Rattle.cell_ascii_tests.specs.Seen.{words_of_each, place_seen};
 
 use crate::definition::header::data_words;
@@ -9,7 +9,7 @@ use crate::definition::keys::header_in;
 use crate::definition::place::Place;
 use crate::definition::table::{in_header_line, whole_table};
 use crate::definition::words::{gap_of, last_of, line_of, lines_of, token_of, words_of};
-use cell_ascii::fault::GridFault;
+use cell_ascii::grid_fault::GridFault;
 use cell_core::memory::Memory;
 use std::alloc::Global;
 

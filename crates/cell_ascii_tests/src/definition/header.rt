@@ -3,14 +3,14 @@
 ghost use Rattle.std.specs.Prelude.{◌≡◌, ◌≤◌, length, not, is_some, codes, IfOk, Ok};
 ghost use Rattle.std.specs.List.{prefix_len, filter, flat_map, list_any, before_first, after_first};
 ghost use Rattle.std.specs.Option.{option_and_then, option_copied};
-ghost use Rattle.cell_ascii_text.specs.Numbers.{coordinate, side, whole_in_range};
-ghost use Rattle.cell_ascii_text.specs.Header.{is_colon, has_colon, is_int, header_of};
-ghost use Rattle.cell_ascii_text.specs.GridText.{is_data_line, is_header_line, header_lines, data_words, key_text, values, value_of, null_text, int_type};
-ghost use Rattle.cell_ascii_text.specs.Places.{keys_of, header_in, in_header_line};
+ghost use Rattle.cell_ascii_meaning.specs.EdgeNumbers.{coordinate, side, whole_in_range};
+ghost use Rattle.cell_ascii_meaning.specs.Header.{is_colon, has_colon, is_int, header_of};
+ghost use Rattle.cell_ascii_meaning.specs.GridText.{is_data_line, is_header_line, header_lines, data_words, key_text, line_values, value_of, null_text, int_type};
+ghost use Rattle.cell_ascii_meaning.specs.FaultPlaces.{keys_of, header_in, in_header_line};
 ghost use Rattle.cell_ascii_tests.specs.Seen.{texts, words_of_each};
 
 use crate::definition::words;
-use cell_ascii::fault::GridKind;
+use cell_ascii::grid_fault::GridKind;
 use cell_ascii_header::number;
 use cell_core::memory::Memory;
 use cell_core::region::{Region, RegionFault};
@@ -125,7 +125,7 @@ pub(crate) fn key_text<'a>(words: &[&'a [u8]]) -> &'a [u8]
 
 /// The words that stand behind it.
 pub(crate) fn values<'a>(alloc: Global, words: &[&'a [u8]]) -> Result<Vec<&'a [u8]>, Memory>
-    ensures { IfOk result (λ found. texts found.items ≡ values (texts words.now)) }
+    ensures { IfOk result (λ found. texts found.items ≡ line_values (texts words.now)) }
 {
     let mut pieces = Vec::new(alloc);
     match words {

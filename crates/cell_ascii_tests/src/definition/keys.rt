@@ -2,21 +2,21 @@
 
 ghost use Rattle.std.specs.Prelude.{◌≡◌, ◌*◌, Some, None, is_some, codes, bytes_eq, IfOk, if◌then◌else◌};
 ghost use Rattle.std.specs.Option.{option_and_then, option_copied};
-ghost use Rattle.cell_ascii_text.specs.Numbers.{coordinate, side, is_in_range, whole_in_range};
-ghost use Rattle.cell_ascii_text.specs.Header.{header_of};
-ghost use Rattle.cell_ascii_text.specs.GridText.{value_of, null_text};
-ghost use Rattle.cell_ascii_text.specs.Cells.{cell_of_number, cell_of_word};
-ghost use Rattle.cell_ascii_header.specs.Given.{judged};
-ghost use Rattle.cell_ascii_text.specs.Places.{keys_of, header_in};
+ghost use Rattle.cell_ascii_meaning.specs.EdgeNumbers.{coordinate, side, is_in_range, whole_in_range};
+ghost use Rattle.cell_ascii_meaning.specs.Header.{header_of};
+ghost use Rattle.cell_ascii_meaning.specs.GridText.{value_of, null_text};
+ghost use Rattle.cell_ascii_meaning.specs.CellTexts.{cell_of_number, cell_of_word};
+ghost use Rattle.cell_ascii_header.specs.Given.{keys_judged};
+ghost use Rattle.cell_ascii_meaning.specs.FaultPlaces.{keys_of, header_in};
 ghost use Rattle.cell_ascii_tests.specs.Seen.{words_of_each};
 
 use crate::definition::header;
-use cell_ascii::fault::GridKind;
+use cell_ascii::grid_fault::GridKind;
 use cell_ascii_header::number;
 use cell_core::cell::Cell;
 use cell_core::memory::Memory;
 use cell_core::region::{Region, RegionFault};
-use cell_text::numbers;
+use cell_core_text::whole_numbers;
 use std::alloc::Global;
 use std::marker::Model;
 
@@ -36,7 +36,7 @@ pub(crate) struct Keys<'a> {
 
 impl<'a> Model for Keys<'a> {
     ghost use Rattle.std.specs.Option.{option_copied};
-    ghost use Rattle.cell_ascii_text.specs.Header.{Keys};
+    ghost use Rattle.cell_ascii_meaning.specs.Header.{Keys};
 
     ghost Value = { Keys };
 
@@ -52,7 +52,7 @@ pub(crate) struct Header<'a> {
 }
 
 impl<'a> Model for Header<'a> {
-    ghost use Rattle.cell_ascii_text.specs.Header.{Header};
+    ghost use Rattle.cell_ascii_meaning.specs.Header.{Header};
 
     ghost Value = { Header };
 
@@ -81,7 +81,7 @@ fn multiplier_of(alloc: Global, lines: &[&[u8]]) -> Result<Option<i32>, Memory>
     ensures { IfOk result (λ n. n ≡ option_and_then whole_in_range (value_of (codes "multiplier") (words_of_each lines.now))) }
 {
     match header::value_of(alloc, b"multiplier", lines)? {
-        Some(value) => Ok(numbers::whole_in_range(value)),
+        Some(value) => Ok(whole_numbers::whole_in_range(value)),
         None => Ok(None),
     }
 }
@@ -127,7 +127,7 @@ fn judged<'a>(
     null: Option<&'a [u8]>,
     multiplier: Option<i32>,
 ) -> Result<Header<'a>, GridKind>
-    ensures { result ≡ judged region (option_copied null.entry) multiplier }
+    ensures { result ≡ keys_judged region (option_copied null.entry) multiplier }
 {
     match region {
         Ok(region) => Ok(Header {
@@ -167,7 +167,7 @@ pub(crate) fn header_in<'a>(
 fn category(number: i64) -> Option<Cell>
     ensures { result ≡ (if is_in_range number then Some (Some number) else None) }
 {
-    if numbers::is_in_range(number) {
+    if whole_numbers::is_in_range(number) {
         Cell::value(number as i32)
     } else {
         None
@@ -178,7 +178,7 @@ fn category(number: i64) -> Option<Cell>
 fn cell_of_number(multiplier: i32, number: i64) -> Result<Cell, GridKind>
     ensures { result ≡ cell_of_number multiplier (Some number) }
 {
-    if !numbers::is_in_range(number) {
+    if !whole_numbers::is_in_range(number) {
         return Err(GridKind::CellRange);
     }
     category(number * multiplier as i64).ok_or(GridKind::CellRange)
@@ -213,7 +213,7 @@ impl<'a> Header<'a> {
         if self.is_null(word) {
             return Ok(Cell::null());
         }
-        match numbers::whole_number(word) {
+        match whole_numbers::whole_number(word) {
             Some(number) => cell_of_number(self.multiplier, number),
             None => Err(GridKind::BadCell),
         }

@@ -1,7 +1,7 @@
 //! What stands at a place.
 
 ghost use Rattle.std.specs.Prelude.{◌≡◌};
-ghost use Rattle.cell_ascii_text.specs.Places.{ends_token, ends_line, is_end};
+ghost use Rattle.cell_ascii_meaning.specs.FaultPlaces.{ends_token, ends_line, is_end_of_words};
 ghost use Rattle.cell_ascii_tests.specs.Seen.{place_seen};
 
 #[cfg(test)]
@@ -42,7 +42,7 @@ pub(crate) fn ends_line(place: Place) -> bool
 /// The end of a text.
 #[cfg(test)]
 pub(crate) fn is_end(place: Place) -> bool
-    ensures { result ≡ is_end (place_seen place) }
+    ensures { result ≡ is_end_of_words (place_seen place) }
 {
     match place {
         Place::Byte(_) => false,

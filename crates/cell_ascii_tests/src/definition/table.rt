@@ -2,8 +2,8 @@
 
 ghost use Rattle.std.specs.Prelude.{◌≡◌, ◌||◌, length, IfOk};
 ghost use Rattle.std.specs.List.{list_any};
-ghost use Rattle.cell_ascii_text.specs.GridText.{is_data_line};
-ghost use Rattle.cell_ascii_text.specs.Places.{when, ◌or◌, is_empty, long_token, stuck, in_header_line, second_value, bad_null, bad_value, line_fault, has_key_of, header_line_ends, why_not, header_ends, cell_fault, bad_cell, has_fewer, has_all, too_few, too_many, read_fails, whole_table};
+ghost use Rattle.cell_ascii_meaning.specs.GridText.{is_data_line};
+ghost use Rattle.cell_ascii_meaning.specs.FaultPlaces.{when, ◌or◌, is_empty, long_token, stuck, in_header_line, second_value, bad_null, bad_value, line_fault, has_key_of, header_line_ends, why_not, header_ends, cell_fault, bad_cell, has_fewer, has_all, too_few, too_many, read_fails, whole_table};
 ghost use Rattle.cell_ascii_tests.specs.Seen.{texts, words_of_each, place_seen};
 
 use crate::definition::header::{
@@ -12,12 +12,12 @@ use crate::definition::header::{
 use crate::definition::keys::Header;
 use crate::definition::place::{Place, ends_line, ends_token, is_end};
 use crate::definition::words::{is_space, is_token, is_word, words_of};
-use cell_ascii::fault::GridKind;
-use cell_ascii_header::key::key_of;
+use cell_ascii::grid_fault::GridKind;
+use cell_ascii_header::key_names::key_of;
 use cell_ascii_header::number;
-use cell_ascii_text::key::Key;
+use cell_ascii_meaning::header_key::Key;
 use cell_core::memory::Memory;
-use cell_text::numbers;
+use cell_core_text::whole_numbers;
 use std::alloc::Global;
 
 fn when(told: bool, kind: GridKind) -> Option<GridKind>
@@ -144,7 +144,7 @@ pub(crate) fn bad_value(key: Key, value: &[u8]) -> Option<GridKind>
         Key::Null => None,
         Key::CellType => when(int_type(value).is_none(), GridKind::BadType),
         Key::Multiplier => when(
-            numbers::whole_in_range(value).is_none(),
+            whole_numbers::whole_in_range(value).is_none(),
             GridKind::BadNumber,
         ),
     }

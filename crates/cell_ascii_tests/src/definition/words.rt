@@ -2,9 +2,9 @@
 
 ghost use Rattle.std.specs.Prelude.{◌≡◌, ◌≤◌, length, IfOk};
 ghost use Rattle.std.specs.List.{slice_split, filter};
-ghost use Rattle.cell_ascii_text.specs.Words.{is_space, is_word};
-ghost use Rattle.cell_ascii_text.specs.GridText.{is_token, lines_of, words_of};
-ghost use Rattle.cell_ascii_text.specs.Places.{line_of, gap_of, last_of, token_of};
+ghost use Rattle.cell_ascii_meaning.specs.GridTokens.{is_space, is_grid_word};
+ghost use Rattle.cell_ascii_meaning.specs.GridText.{is_token, lines_of, grid_words_of};
+ghost use Rattle.cell_ascii_meaning.specs.FaultPlaces.{line_of_place, gap_of_place, last_token, token_at_place};
 ghost use Rattle.cell_ascii_tests.specs.Seen.{texts};
 
 use cell_core::memory::Memory;
@@ -19,7 +19,7 @@ pub(crate) fn is_space(b: u8) -> bool
 
 /// Any other byte.
 pub(crate) fn is_word(b: u8) -> bool
-    ensures { result ≡ is_word b }
+    ensures { result ≡ is_grid_word b }
 {
     !is_space(b)
 }
@@ -53,7 +53,7 @@ pub(crate) fn tokens_of<'a>(alloc: Global, pieces: &[&'a [u8]]) -> Result<Vec<&'
 
 /// The longest runs of bytes that are neither blank nor line feed.
 pub(crate) fn words_of<'a>(alloc: Global, text: &'a [u8]) -> Result<Vec<&'a [u8]>, Memory>
-    ensures { IfOk result (λ words. texts words.items ≡ words_of text.now) }
+    ensures { IfOk result (λ words. texts words.items ≡ grid_words_of text.now) }
 {
     let pieces = pieces_of(alloc, text)?;
     tokens_of(alloc, &pieces)
@@ -68,21 +68,21 @@ pub(crate) fn lines_of<'a>(alloc: Global, text: &'a [u8]) -> Result<Vec<&'a [u8]
 
 /// The number of the line that a place behind these bytes stands in, from 1.
 pub(crate) fn line_of(before: &[u8]) -> u64
-    ensures { result ≡ line_of before.now }
+    ensures { result ≡ line_of_place before.now }
 {
     1 + before.iter().filter(|b| **b == b'\n').count() as u64
 }
 
 /// The number of blanks and line feeds in a row that end these bytes.
 pub(crate) fn gap_of(before: &[u8]) -> usize
-    ensures { result ≡ gap_of before.now }
+    ensures { result ≡ gap_of_place before.now }
 {
     before.iter().rev().take_while(|b| is_space(**b)).count()
 }
 
 /// The last of some slices; empty where there is none.
 pub(crate) fn last_of<'a>(slices: &[&'a [u8]]) -> &'a [u8]
-    ensures { result.now ≡ last_of (texts slices.now) }
+    ensures { result.now ≡ last_token (texts slices.now) }
 {
     match slices.split_last() {
         Some((last, _)) => *last,
@@ -92,7 +92,7 @@ pub(crate) fn last_of<'a>(slices: &[&'a [u8]]) -> &'a [u8]
 
 /// The token that the last byte belongs to; empty after a blank or line feed, and at the front.
 pub(crate) fn token_of<'a>(alloc: Global, before: &'a [u8]) -> Result<&'a [u8], Memory>
-    ensures { IfOk result (λ token. token.now ≡ token_of before.now) }
+    ensures { IfOk result (λ token. token.now ≡ token_at_place before.now) }
 {
     let pieces = pieces_of(alloc, before)?;
     Ok(last_of(&pieces))

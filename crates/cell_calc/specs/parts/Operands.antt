@@ -1,16 +1,16 @@
 -- Values along a strip: some columns of a row, from one on.
 use Rattle.std.specs.Prelude.{◌≡◌, ◌≤◌, ◌<◌, ◌+◌, ◌+ℤ◌, ℕ, pos, List, Some, None, length, map, slice_get, slice_index_or}
 use Rattle.cell_core.specs.Grid.{CellValue}
-use Rattle.cell_operations.specs.Applied.{Spot, spot, applied, called, negated, inverted}
-use Rattle.cell_operations.specs.Offsets.{item_at}
+use Rattle.cell_calc_operators.specs.Applied.{Spot, spot, applied, call_result, negated, inverted}
+use Rattle.cell_calc_operators.specs.Offsets.{item_at}
 use Rattle.cell_calc.specs.Window.{Window}
-use Rattle.cell_steps.specs.declared.bound.Step.{Step}
-use Rattle.cell_steps.specs.declared.bound.Step.TheVariants as step
+use Rattle.cell_calc_steps.specs.declared.bound.Step.{Step}
+use Rattle.cell_calc_steps.specs.declared.bound.Step.TheVariants as step
 use Rattle.cell_calc.specs.declared.strip.Operand.{Operand}
 use Rattle.cell_calc.specs.declared.strip.Operand.TheVariants as operand
 use Rattle.cell_calc.specs.declared.strip.Strip.{Strip}
-use Rattle.cell_rows.specs.Rows.{at}
-use Rattle.cell_calc.specs.parts.Windows.{IsInReach, row_below}
+use Rattle.cell_calc_rows.specs.RowValues.{at}
+use Rattle.cell_calc.specs.parts.WindowsOver.{IsInReach, row_below}
 
 -- it lies in a region
 pub record IsStrip (strip : Strip) : Type 0 where
@@ -28,10 +28,10 @@ IsReadyStep windows (step.Binary op) = Unit {0}
 IsReadyStep windows (step.Call f n) = Unit {0}
 
 -- the same of an operand; its row is as wide as the strip
-abbrev pub IsReady : List Window → Strip → Operand → Type 0
-IsReady windows strip (operand.Number n) = n ≤ 2147483647
-IsReady windows strip (operand.Map i down right) = IsInReach down (slice_get windows i)
-IsReady windows strip (operand.Row cells) = length cells.items ≡ strip.width
+abbrev pub IsOperandReady : List Window → Strip → Operand → Type 0
+IsOperandReady windows strip (operand.Number n) = n ≤ 2147483647
+IsOperandReady windows strip (operand.Map i down right) = IsInReach down (slice_get windows i)
+IsOperandReady windows strip (operand.Row cells) = length cells.items ≡ strip.width
 
 -- the cell of an operand at a column of a strip
 abbrev pub operand_at : List Window → Strip → ℕ → Operand → CellValue
@@ -50,7 +50,7 @@ seen windows s (step.Map i down right) xs = item_at None (row_below down (slice_
 seen windows s step.Negated xs = negated (slice_index_or xs 0 None)
 seen windows s step.Not xs = inverted (slice_index_or xs 0 None)
 seen windows s (step.Binary op) xs = applied op (slice_index_or xs 0 None) (slice_index_or xs 1 None)
-seen windows s (step.Call f n) xs = called f s xs
+seen windows s (step.Call f n) xs = call_result f s xs
 
 -- the place of a column of a strip
 abbrev pub spot_at : Strip → ℕ → Spot

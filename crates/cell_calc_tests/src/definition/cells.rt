@@ -1,11 +1,11 @@
 //! What operators make of cells, in numbers wide enough for what they make of any two categories.
 
 ghost use Rattle.std.specs.Prelude.{◌≡◌, ◌≤◌, pos, ◌-ℤ◌, ◌*ℤ◌, Some, None, int_div, if◌then◌else◌};
-ghost use Rattle.cell_operations.specs.Cells.{fit, truth, chosen, lesser, greater, is_zero, is_null};
-ghost use Rattle.cell_operations.specs.Applied.{negated, inverted, size_of, applied};
+ghost use Rattle.cell_calc_operators.specs.CellOperators.{fit, truth, chosen, lesser, greater, is_zero, is_null};
+ghost use Rattle.cell_calc_operators.specs.Applied.{negated, inverted, size_of, applied};
 
+use cell_calc_language::operator::Operator;
 use cell_core::cell::Cell;
-use cell_language::operator::Operator;
 
 // The least and the greatest category (GRASS: a CELL value).
 const LEAST: i64 = -2147483647;

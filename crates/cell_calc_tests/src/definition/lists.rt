@@ -2,8 +2,8 @@
 
 ghost use Rattle.std.specs.Prelude.{◌≡◌, ◌≤◌, length, fold, filter, nat_le, not, IfOk};
 ghost use Rattle.std.specs.List.{list_any, list_all};
-ghost use Rattle.cell_base.specs.Cell.{cell_eq};
-ghost use Rattle.cell_operations.specs.Cells.{lesser, greater, least, greatest, known, occurrences, is_most_frequent, most_frequent, mode, first_of, last_of, if_of, is_null};
+ghost use Rattle.cell_core_values.specs.Cell.{cell_eq};
+ghost use Rattle.cell_calc_operators.specs.CellOperators.{lesser, greater, least, greatest_cell, known, occurrences, is_most_frequent, most_frequent, mode, first_known, last_argument, if_of, is_null};
 
 use crate::definition::cells;
 use cell_core::cell::Cell;
@@ -40,7 +40,7 @@ fn greatest_from(best: Cell, cells: &[Cell]) -> Cell
 
 /// The greatest of the cells, null if one is.
 pub(crate) fn greatest(cells: &[Cell]) -> Cell
-    ensures { result ≡ greatest cells.now }
+    ensures { result ≡ greatest_cell cells.now }
 {
     match cells {
         [] => Cell::null(),
@@ -155,7 +155,7 @@ pub(crate) fn mode(alloc: Global, cells: &[Cell]) -> Result<Cell, Memory>
 
 /// The first cell, null where there is none.
 pub(crate) fn first(cells: &[Cell]) -> Cell
-    ensures { result ≡ first_of cells.now }
+    ensures { result ≡ first_known cells.now }
 {
     match cells {
         [] => Cell::null(),
@@ -165,7 +165,7 @@ pub(crate) fn first(cells: &[Cell]) -> Cell
 
 /// The last cell, null where there is none.
 pub(crate) fn last(cells: &[Cell]) -> Cell
-    ensures { result ≡ last_of cells.now }
+    ensures { result ≡ last_argument cells.now }
 {
     match cells {
         [.., cell] => *cell,

@@ -3,23 +3,23 @@
 ghost use Rattle.std.specs.Prelude.{◌≡◌, ◌<◌, None, slice_get, IfOk};
 ghost use Rattle.std.specs.Option.{unwrap_or};
 ghost use Rattle.cell_core.specs.Grid.{row_at};
-ghost use Rattle.cell_base.specs.Name.{place_of};
-ghost use Rattle.cell_formulas.specs.Binding.{placed};
-ghost use Rattle.cell_operations.specs.Applied.{spot, called};
-ghost use Rattle.cell_operations.specs.Offsets.{item_at, row_of, cell_in};
-ghost use Rattle.cell_formulas.specs.Value.{value};
+ghost use Rattle.cell_core_values.specs.Name.{place_of};
+ghost use Rattle.cell_calc_binding.specs.Binding.{with_places};
+ghost use Rattle.cell_calc_operators.specs.Applied.{spot, call_result};
+ghost use Rattle.cell_calc_operators.specs.Offsets.{item_at, row_of, cell_in};
+ghost use Rattle.cell_calc_binding.specs.Value.{value};
 ghost use Rattle.cell_calc_tests.specs.Steps.{arity, step_value, IsProperStep};
 
 use crate::definition::{cells, lists};
+use cell_calc_language::expr::Expr;
+use cell_calc_language::function::Function;
+use cell_calc_steps::named::Step;
 use cell_core::cell::Cell;
 use cell_core::map::CellMap;
 use cell_core::memory::Memory;
 use cell_core::name::{Name, Names};
 use cell_core::region::Region;
 use cell_core::shelf::Shelf;
-use cell_language::expr::Expr;
-use cell_language::function::Function;
-use cell_steps::named::Step;
 use std::alloc::Global;
 
 fn item_at(cells: &[Cell], i: i64) -> Cell
@@ -85,7 +85,7 @@ fn called(
 ) -> Result<Cell, Memory>
     requires row { row < region.rows }
     requires col { col < region.cols }
-    ensures { IfOk result (λ v. v ≡ called function (spot region row col) arguments.now) }
+    ensures { IfOk result (λ v. v ≡ call_result function (spot region row col) arguments.now) }
 {
     let (rows, cols) = (region.rows(), region.cols());
     match function {
@@ -185,7 +185,7 @@ pub(crate) fn value(
 ) -> Result<Cell, Memory>
     requires row { row < shelf.now.region.rows }
     requires col { col < shelf.now.region.cols }
-    ensures { IfOk result (λ v. v ≡ value (placed names.now expr.now) shelf.now.maps (spot shelf.now.region row col)) }
+    ensures { IfOk result (λ v. v ≡ value (with_places names.now expr.now) shelf.now.maps (spot shelf.now.region row col)) }
 {
     let steps = expr.steps();
     let mut operands = Vec::new(alloc);

@@ -2,7 +2,7 @@
 use Rattle.std.specs.Prelude.{◌≡◌, ℤ, negsuc, ◌≤ℤ◌, ◌<ℤ◌, List, Option, Some, None, if◌then◌else◌}
 use Rattle.std.specs.BTreeMap.{get}
 use Rattle.std.specs.Ordering.{int_cmp}
-use Rattle.cell_cats.specs.Rule.{RuleValue, is_between, lists, output_for}
+use Rattle.cell_cats.specs.Rule.{RuleValue, is_in_ends, lists, output_for}
 use Rattle.cell_cats.specs.declared.rule.Output.{Output}
 use Rattle.cell_cats.specs.declared.pieces.Pieces.{Pieces}
 
@@ -19,7 +19,7 @@ AreOutputs outputs starts = (x : ℤ) → negsuc 2147483647 ≤ℤ x → IsOutpu
 
 -- the categories of a range get an output, the others keep theirs
 abbrev pub painted : ℤ × ℤ → Output → (ℤ → Option Output) → ℤ → Option Output
-painted ends output outputs x = if is_between ends x then Some output else outputs x
+painted ends output outputs x = if is_in_ends ends x then Some output else outputs x
 
 -- the categories that a rule lists get its output, the others keep theirs
 abbrev pub ruled : RuleValue → (ℤ → Option Output) → ℤ → Option Output

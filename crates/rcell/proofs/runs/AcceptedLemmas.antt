@@ -4,23 +4,23 @@ use Rattle.std.specs.Prelude.{bytes_eq, nat_lt}
 use Rattle.std.specs.List.{position_from}
 use Rattle.std.proofs.lemmas.Bool.Decides.{nat_tests}
 use Rattle.std.proofs.lemmas.Slice.Eq.{bytes_eq-Decides}
-use Rattle.cell_devices.specs.Device.{Coming}
+use Rattle.cell_core_devices.specs.Device.{Coming}
 use Rattle.cell_core.specs.Grid.{Grid}
-use Rattle.cell_base.specs.Name.{place_of, AreDistinct}
+use Rattle.cell_core_values.specs.Name.{place_of, AreDistinct}
 use Rattle.cell_core.specs.Shelf.{ShelfValue}
-use Rattle.cell_ascii_text.specs.Cells.{grid_of}
-use Rattle.cell_ascii_text.specs.GridText.{Denotes}
+use Rattle.cell_ascii_meaning.specs.CellTexts.{grid_of}
+use Rattle.cell_ascii_meaning.specs.GridText.{Denotes}
 use Rattle.cell_ascii_law.proofs.GridLawLemmas.{reading_agrees}
-use Rattle.cell_loading.proofs.LoadingLemmas.{added-same}
+use Rattle.rcell_loading.proofs.LoadingLemmas.{added-same}
 use Rattle.rcell.specs.runs.Accepted.{AllDenote, AreGrids, IsAccepted}
-use Rattle.cell_making.specs.Making.{with_map}
-use Rattle.cell_loading.specs.Loading.{with_grid, shelf_of_one, shelf_from, then_grids}
-use Rattle.cell_loading.specs.ScriptText.{script_text}
-use Rattle.rcell.specs.runs.Endings.{IsRead}
+use Rattle.rcell_making.specs.Making.{with_map}
+use Rattle.rcell_loading.specs.Loading.{with_grid, shelf_of_one, shelf_from, then_grids}
+use Rattle.rcell_loading.specs.ScriptText.{script_text}
+use Rattle.rcell.specs.runs.Endings.{IsReadScript}
 use Rattle.rcell.specs.runs.Outcomes.{Writes}
 use Rattle.rcell.specs.declared.runs.outcome.Outcome.{Outcome}
-use Rattle.cell_loading.specs.Sources.{Named}
-use Rattle.cell_script.specs.declared.statement.Statement.{Statement}
+use Rattle.rcell_loading.specs.Sources.{Named}
+use Rattle.rcell_script.specs.declared.statement.Statement.{Statement}
 
 differs : (t : Bool) → (t ≡ true → ⊥) → t ≡ false
 differs true apart = absurd (apart refl)
@@ -82,7 +82,7 @@ all_loaded gs shelf are = by gs shelf.maps are.some are.denote are.names are.dis
         ∙ (λ i. Ok (Some (record { region = region i; names = sym names i; maps = maps i })))
 
 -- an accepted script over grids is read
-accepted_read : (grids : List Named) (script : Coming) (shelf : ShelfValue) (statements : List Statement) → IsAccepted grids script shelf statements → IsRead grids script shelf statements
+accepted_read : (grids : List Named) (script : Coming) (shelf : ShelfValue) (statements : List Statement) → IsAccepted grids script shelf statements → IsReadScript grids script shelf statements
 accepted_read grids script shelf statements ok =
     let short : nat_lt 1048576 (length script.bytes) ≡ false = let h = ok.short in grind (arith, nat_tests) in
     let text : script_text script ≡ Ok script.bytes = rw (short, ok.ends) refl in
@@ -90,5 +90,5 @@ accepted_read grids script shelf statements ok =
 
 -- what is written of whatever is read is written of an accepted script over grids
 pub when_accepted : (grids : List Named) (script : Coming) (shelf : ShelfValue) (statements : List Statement) (before now : Option (List ℕ)) (failed : Bool) (outcome : Outcome)
-    → (IsRead grids script shelf statements → Writes shelf statements before now failed outcome) → IsAccepted grids script shelf statements → Writes shelf statements before now failed outcome
+    → (IsReadScript grids script shelf statements → Writes shelf statements before now failed outcome) → IsAccepted grids script shelf statements → Writes shelf statements before now failed outcome
 when_accepted grids script shelf statements before now failed outcome whole ok = whole (accepted_read grids script shelf statements ok)

@@ -2,21 +2,21 @@
 use Rattle.std.proofs.Common.{◌≡◌, ◌∙◌, ◌<◌, ◌||◌, ℕ, Bool, true, false, List, All, Option, Some, None, Result, Ok, Err, refl, sym, ap}
 use Rattle.std.specs.Prelude.{IsNone, IfOk, IfErr}
 use Rattle.std.proofs.lemmas.Bool.{true≢false}
-use Rattle.cell_devices.specs.Device.{Faults, after_flush, after_put, has_failed}
+use Rattle.cell_core_devices.specs.Device.{Faults, after_flush, after_put, has_failed}
 use Rattle.cell_core.specs.Shelf.{ShelfValue}
-use Rattle.cell_script.specs.declared.statement.Statement.{Statement}
-use Rattle.cell_loading.specs.Faults.{IsBeforeExecution}
-use Rattle.cell_loading.specs.declared.fault.RunFault.{RunFault}
-use Rattle.cell_loading.specs.declared.fault.RunFault.TheVariants as faults
+use Rattle.rcell_script.specs.declared.statement.Statement.{Statement}
+use Rattle.rcell_loading.specs.RunFaults.{IsBeforeExecution}
+use Rattle.rcell_loading.specs.declared.run_fault.RunFault.{RunFault}
+use Rattle.rcell_loading.specs.declared.run_fault.RunFault.TheVariants as faults
 use Rattle.rcell.specs.declared.runs.execution.Stop.{Stop}
 use Rattle.rcell.specs.declared.runs.execution.Stop.TheVariants.{Memory, Write}
 use Rattle.rcell.specs.declared.runs.execution.Stopped.{Stopped}
 use Rattle.rcell.specs.declared.runs.outcome.Outcome.{Outcome}
-use Rattle.rcell.specs.parts.Ends.{IsEnd, ended, fault_of, flush_failed, stop_flush}
-use Rattle.rcell.specs.parts.Steps.{is_write, stops_write}
+use Rattle.rcell.specs.parts.Ends.{IsRunEnd, run_ended, fault_of_end, flush_failed, stop_flush}
+use Rattle.rcell.specs.parts.OutputSteps.{is_write, stops_write}
 use Rattle.rcell.specs.runs.Execution.{Stops}
 use Rattle.rcell.specs.runs.Outcomes.{Failing, IsDone}
-use Rattle.rcell.specs.runs.Statuses.{status_of}
+use Rattle.rcell.specs.runs.Statuses.{fault_status}
 use Rattle.rcell.proofs.runs.ExecutionLemmas.{done_within, line_above}
 
 not_none : {X : Type 0} → true ≡ false → X
@@ -24,7 +24,7 @@ not_none none = cc
 
 module _ (shelf : ShelfValue) (statements : List Statement) (numbered : All (λ s. 0 < s.line) statements) (before now : Option (List ℕ)) (old between new : Faults) (fails : Bool) where
   stopped_ends : (stop : Stop) (written : ℕ) → Stops shelf statements before now written stop → between ≡ after_put old (is_write stop) → new ≡ after_flush between (stop_flush stop fails)
-      → IsEnd shelf statements before now old new (record { status = status_of (fault_of stop); written = written; fault = Some (fault_of stop) })
+      → IsRunEnd shelf statements before now old new (record { status = fault_status (fault_of_end stop); written = written; fault = Some (fault_of_end stop) })
   stopped_ends (Memory line) written stops puts flush = record {
     done = λ none. not_none none;
     late = line_above shelf statements before now written line numbered stops;
@@ -43,11 +43,11 @@ module _ (shelf : ShelfValue) (statements : List Statement) (numbered : All (λ 
   }
 
   executed_ends : (executed : Result ℕ Stopped) → IfOk executed (λ written. IsDone shelf statements before now written) → IfErr executed (λ s. Stops shelf statements before now s.written s.stop)
-      → between ≡ after_put old (stops_write executed) → new ≡ after_flush between (flush_failed executed fails) → IsEnd shelf statements before now old new (ended executed fails)
+      → between ≡ after_put old (stops_write executed) → new ≡ after_flush between (flush_failed executed fails) → IsRunEnd shelf statements before now old new (run_ended executed fails)
   executed_ends (Err stopped) done stops puts flush = stopped_ends stopped.stop stopped.written stops puts flush
   executed_ends (Ok written) done stops puts flush = done_ends fails flush
     where
-      done_ends : (b : Bool) → new ≡ after_flush between b → IsEnd shelf statements before now old new (ended (Ok written) b)
+      done_ends : (b : Bool) → new ≡ after_flush between b → IsRunEnd shelf statements before now old new (run_ended (Ok written) b)
       done_ends false flush = record {
         done = λ none. done;
         late = tt;
@@ -66,9 +66,9 @@ module _ (shelf : ShelfValue) (statements : List Statement) (numbered : All (λ 
       }
 
   -- a run is answered
-  pub is_end : (executed : Result ℕ Stopped) (outcome : Outcome) → outcome ≡ ended executed fails → IfOk executed (λ written. IsDone shelf statements before now written)
+  pub is_end : (executed : Result ℕ Stopped) (outcome : Outcome) → outcome ≡ run_ended executed fails → IfOk executed (λ written. IsDone shelf statements before now written)
       → IfErr executed (λ s. Stops shelf statements before now s.written s.stop) → between ≡ after_put old (stops_write executed) → new ≡ after_flush between (flush_failed executed fails)
-      → IsEnd shelf statements before now old new outcome
+      → IsRunEnd shelf statements before now old new outcome
   is_end executed outcome answer done stops puts flush = rw answer (executed_ends executed done stops puts flush)
 
 -- no call failed where there is no fault

@@ -3,32 +3,32 @@ use Rattle.std.proofs.Common.{◌≡◌, ℕ, suc, ◌+◌, ◌<◌, Some, false
 use Rattle.std.specs.Prelude.{slice_get}
 use Rattle.std.proofs.Math.Seq.{drop-cons}
 use Rattle.std.proofs.lemmas.List.{take_more}
-use Rattle.cell_ascii_text.specs.Writing.{grid_text}
-use Rattle.cell_devices.specs.Device.{Faults, append_known}
+use Rattle.cell_ascii_meaning.specs.Writing.{grid_text}
+use Rattle.cell_core_devices.specs.Device.{Faults, append_known}
 use Rattle.cell_core.specs.Grid.{Grid}
 use Rattle.cell_core.specs.Shelf.{ShelfValue}
-use Rattle.cell_devices.specs.Blocks.{capped, BlockValue, Appended, Appends}
-use Rattle.cell_script.specs.Known.{known_after}
-use Rattle.cell_commands.specs.Fitting.{FitsCommand}
-use Rattle.cell_script.specs.Fitting.{Fits}
-use Rattle.cell_commands.specs.declared.command.Command.{Command}
-use Rattle.cell_commands.specs.declared.command.Command.TheVariants.{Stats, OutAscii}
-use Rattle.cell_script.specs.declared.statement.Statement.{Statement}
-use Rattle.rcell.specs.After.{IsAfter}
-use Rattle.cell_commands.specs.declared.command.StatsOptions.{StatsOptions}
+use Rattle.cell_core_devices.specs.Blocks.{capped_count, BlockValue, Appended, Appends}
+use Rattle.rcell_script.specs.KnownMaps.{known_after}
+use Rattle.rcell_script_commands.specs.FittingCommands.{FitsCommand}
+use Rattle.rcell_script.specs.FittingScripts.{Fits}
+use Rattle.rcell_script_commands.specs.declared.command.Command.{Command}
+use Rattle.rcell_script_commands.specs.declared.command.Command.TheVariants.{Stats, OutAscii}
+use Rattle.rcell_script.specs.declared.statement.Statement.{Statement}
+use Rattle.rcell.specs.After.{IsShelfAfter}
+use Rattle.rcell_script_commands.specs.declared.command.StatsOptions.{StatsOptions}
 use Rattle.rcell.specs.Output.{Executes, command_text, stats_text}
-use Rattle.rcell.specs.parts.Steps.{HasExecuted}
-use Rattle.rcell.specs.runs.Execution.{IsBefore, IsWithin}
+use Rattle.rcell.specs.parts.OutputSteps.{HasExecuted}
+use Rattle.rcell.specs.runs.Execution.{IsShelfBefore, IsWithin}
 use Rattle.rcell.specs.runs.Outcomes.{IsDone}
 use Rattle.rcell.proofs.OutputLemmas.{Executes-append}
 
 -- all was appended, and is put
 module _ {before now : Option (List ℕ)} {start faults : Faults} {text : List ℕ} {block : BlockValue} (p : Appended before start text now faults block) where
-  pub appended_put : block.failed ≡ false → block.held ≡ [] → (now ≡ append_known before text) × ((block.written ≡ capped (length text)) × (faults ≡ start))
+  pub appended_put : block.failed ≡ false → block.held ≡ [] → (now ≡ append_known before text) × ((block.written ≡ capped_count (length text)) × (faults ≡ start))
   appended_put good none =
       let rest : [] ≡ p.rest = sym none ∙ rw good at p.held in
       let front : p.front ≡ text = sym (append-nil p.front) ∙ ap (λ (l : List ℕ). p.front ++ l) rest ∙ p.whole in
-      (p.taken ∙ ap (append_known before) front, (p.count ∙ ap (λ (l : List ℕ). capped (length l)) front, rw good at p.fails))
+      (p.taken ∙ ap (append_known before) front, (p.count ∙ ap (λ (l : List ℕ). capped_count (length l)) front, rw good at p.fails))
 
 -- the text of a statement that asks for the grid text of a map
 pub grid_command : (shelf : ShelfValue) (command : Command) (place : ℕ) (text : List ℕ) (m : Grid) → command ≡ OutAscii place text → slice_get shelf.maps place ≡ Some m
@@ -52,7 +52,7 @@ module _ (statements : List Statement) (i : ℕ) (s : Statement) (h : i < length
       let both : Fits known (s ∷ drop (i + 1) statements) = subst (λ (l : List Statement). Fits known l) (next_at statements i s h read) fits in
       (both.0, subst (λ (n : List (List ℕ)). Fits n (drop (i + 1) statements)) (sym names) both.1)
 
-  more : (shelf after next : ShelfValue) (text : List ℕ) → Executes shelf (take i statements) text after → IsAfter after s.command next
+  more : (shelf after next : ShelfValue) (text : List ℕ) → Executes shelf (take i statements) text after → IsShelfAfter after s.command next
       → Executes shelf (take (i + 1) statements) (text ++ command_text after s.command) next
   more shelf after next text executed step =
       let last : Executes after (s ∷ []) (command_text after s.command) next = (next, ([], (step, ((refl, refl), sym (append-nil (command_text after s.command)))))) in
@@ -62,7 +62,7 @@ module _ (statements : List Statement) (i : ℕ) (s : Statement) (h : i < length
 
   module _ {shelf after : ShelfValue} {before taken : Option (List ℕ)} {start faults : Faults} {old : BlockValue} (executed : HasExecuted shelf (take i statements) before start taken faults old after) where
     -- the statement at place i is executed, and the block emptied
-    pub executed_more : {next : ShelfValue} {S : Type 0} {known : S → Option (List ℕ)} {failing : S → Faults} {was now : S} {new : BlockValue} → taken ≡ known was → faults ≡ failing was → IsAfter after s.command next
+    pub executed_more : {next : ShelfValue} {S : Type 0} {known : S → Option (List ℕ)} {failing : S → Faults} {was now : S} {new : BlockValue} → taken ≡ known was → faults ≡ failing was → IsShelfAfter after s.command next
         → Appends known failing was old (command_text after s.command) now new → HasExecuted shelf (take (i + 1) statements) before start (known now) (failing now) new next
     executed_more {next} t f step appends = record {
       text = executed.text ++ command_text after s.command;
@@ -71,7 +71,7 @@ module _ (statements : List Statement) (i : ℕ) (s : Statement) (h : i < length
     }
 
     -- memory was refused to the statement at place i
-    pub before_at : old.failed ≡ false → old.held ≡ [] → IsBefore shelf statements before taken old.written s.line
+    pub before_at : old.failed ≡ false → old.held ≡ [] → IsShelfBefore shelf statements before taken old.written s.line
     before_at good none =
         let put = appended_put executed.appended good none in
         record {
@@ -133,7 +133,7 @@ got_at [] s back d = refl
 got_at (x ∷ front) s back d = got_at front s back d
 
 -- the line of a statement that was not begun is above 0
-pub line_above : (shelf : ShelfValue) (statements : List Statement) (before now : Option (List ℕ)) (written line : ℕ) → All (λ s. 0 < s.line) statements → IsBefore shelf statements before now written line → 0 < line
+pub line_above : (shelf : ShelfValue) (statements : List Statement) (before now : Option (List ℕ)) (written line : ℕ) → All (λ s. 0 < s.line) statements → IsShelfBefore shelf statements before now written line → 0 < line
 line_above shelf statements before now written line numbered at =
     let within : length at.first < length statements = omega (arith, ap length at.whole, length-append at.first (at.statement ∷ at.others)) in
     let here : get_or statements (length at.first) at.statement ≡ at.statement = ap (λ l. get_or l (length at.first) at.statement) (sym at.whole) ∙ got_at at.first at.statement at.others at.statement in

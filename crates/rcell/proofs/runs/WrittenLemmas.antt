@@ -2,18 +2,18 @@
 use Rattle.std.proofs.Common.{◌≡◌, ℕ, Bool, true, List, Option, Some, None, Result, Ok, Err, refl, ap, sym, ◌∙◌, subst}
 use Rattle.std.specs.Prelude.{IsNone, IfSome}
 use Rattle.std.proofs.lemmas.Bool.{true≢false}
-use Rattle.cell_devices.specs.Device.{Coming}
+use Rattle.cell_core_devices.specs.Device.{Coming}
 use Rattle.cell_core.specs.Shelf.{ShelfValue}
-use Rattle.cell_script.specs.declared.statement.Statement.{Statement}
-use Rattle.cell_loading.specs.Faults.{IsOfInput, IsOfMemory, IsBeforeExecution, IsInExecution}
+use Rattle.rcell_script.specs.declared.statement.Statement.{Statement}
+use Rattle.rcell_loading.specs.RunFaults.{IsOfInput, IsOfMemory, IsBeforeExecution, IsInExecution}
 use Rattle.rcell.specs.runs.Statuses.{status_after}
-use Rattle.cell_loading.specs.Loading.{shelf_of}
-use Rattle.rcell.specs.runs.Endings.{Reads, IsRead}
+use Rattle.rcell_loading.specs.Loading.{shelf_of}
+use Rattle.rcell.specs.runs.Endings.{ReadsScript, IsReadScript}
 use Rattle.rcell.specs.runs.Outcomes.{IsDone, Writes}
-use Rattle.cell_loading.specs.Sources.{Named}
+use Rattle.rcell_loading.specs.Sources.{Named}
 use Rattle.rcell.specs.declared.runs.outcome.Outcome.{Outcome}
-use Rattle.cell_loading.specs.declared.fault.RunFault.{RunFault}
-use Rattle.cell_loading.specs.declared.fault.RunFault.TheVariants.{GridTwice, GridRegion, Grid, ScriptRead, ScriptSize, Script, Memory, Write}
+use Rattle.rcell_loading.specs.declared.run_fault.RunFault.{RunFault}
+use Rattle.rcell_loading.specs.declared.run_fault.RunFault.TheVariants.{GridTwice, GridRegion, Grid, ScriptRead, ScriptSize, Script, Memory, Write}
 
 -- a fault before execution that is not of memory is of the input
 input_unless_memory : (f : RunFault) → IsBeforeExecution f → (IsOfMemory f → ⊥) → IsOfInput f
@@ -48,22 +48,22 @@ loaded_or other (Ok (Some shelf)) = shelf
 loaded_or other (Ok None) = other
 loaded_or other (Err fault) = other
 
-module _ (grids : List Named) (script : Coming) (loaded : ShelfValue) (is_loaded : shelf_of grids ≡ Ok (Some loaded)) (shelf : ShelfValue) (statements : List Statement) (read : IsRead grids script shelf statements)
+module _ (grids : List Named) (script : Coming) (loaded : ShelfValue) (is_loaded : shelf_of grids ≡ Ok (Some loaded)) (shelf : ShelfValue) (statements : List Statement) (read : IsReadScript grids script shelf statements)
     (before now : Option (List ℕ)) (failed : Bool) (outcome : Outcome) where
   one_shelf : loaded ≡ shelf
   one_shelf = ap (loaded_or loaded) (sym is_loaded ∙ read.loaded)
 
-  reads : Reads loaded.names script statements
-  reads = subst (λ (s : ShelfValue). Reads s.names script statements) (sym one_shelf) read.reads
+  reads : ReadsScript loaded.names script statements
+  reads = subst (λ (s : ShelfValue). ReadsScript s.names script statements) (sym one_shelf) read.reads
 
   -- what was read was executed
-  pub read_written : (found : List Statement) → ((ss : List Statement) → Reads loaded.names script ss → found ≡ ss) → (IsNone outcome.fault → IsDone loaded found before now outcome.written)
+  pub read_written : (found : List Statement) → ((ss : List Statement) → ReadsScript loaded.names script ss → found ≡ ss) → (IsNone outcome.fault → IsDone loaded found before now outcome.written)
       → IfSome outcome.fault IsInExecution → outcome.status ≡ status_after outcome.fault → (outcome.fault ≡ Some Write → failed ≡ true) → Writes shelf statements before now failed outcome
   read_written found only done late status write =
       subst (λ (s : ShelfValue). Writes s statements before now failed outcome) one_shelf
       (subst (λ (ss : List Statement). Writes loaded ss before now failed outcome) (only statements reads) (written loaded found before now failed outcome done late status write))
 
   -- what can be read is refused only when out of memory
-  pub read_refused : (f : RunFault) → outcome.fault ≡ Some f → IsBeforeExecution f → ((ss : List Statement) → Reads loaded.names script ss → IsOfInput f → ⊥) → Writes shelf statements before now failed outcome
+  pub read_refused : (f : RunFault) → outcome.fault ≡ Some f → IsBeforeExecution f → ((ss : List Statement) → ReadsScript loaded.names script ss → IsOfInput f → ⊥) → Writes shelf statements before now failed outcome
   read_refused f is early none = λ memory good.
       absurd (none statements reads (input_unless_memory f early (let bad : IfSome (Some f) (λ f. IsOfMemory f → ⊥) = rw is at memory in bad)))

@@ -1,30 +1,30 @@
 -- How a run ends after its execution.
 use Rattle.std.specs.Prelude.{ℕ, ◌≡◌, Bool, true, false, List, Option, Some, None, Result, Ok, Err, IsNone, IfSome}
-use Rattle.cell_devices.specs.Device.{Faults, after_flush}
+use Rattle.cell_core_devices.specs.Device.{Faults, after_flush}
 use Rattle.cell_core.specs.Shelf.{ShelfValue}
-use Rattle.cell_script.specs.declared.statement.Statement.{Statement}
-use Rattle.cell_loading.specs.Faults.{IsInExecution}
-use Rattle.cell_loading.specs.declared.fault.RunFault.{RunFault}
-use Rattle.cell_loading.specs.declared.fault.RunFault.TheVariants as faults
+use Rattle.rcell_script.specs.declared.statement.Statement.{Statement}
+use Rattle.rcell_loading.specs.RunFaults.{IsInExecution}
+use Rattle.rcell_loading.specs.declared.run_fault.RunFault.{RunFault}
+use Rattle.rcell_loading.specs.declared.run_fault.RunFault.TheVariants as faults
 use Rattle.rcell.specs.declared.runs.execution.Stop.{Stop}
 use Rattle.rcell.specs.declared.runs.execution.Stop.TheVariants as stops
 use Rattle.rcell.specs.declared.runs.execution.Stopped.{Stopped}
 use Rattle.rcell.specs.declared.runs.outcome.Outcome.{Outcome}
-use Rattle.rcell.specs.runs.Endings.{StopsAt}
+use Rattle.rcell.specs.runs.Endings.{RunStopsAt}
 use Rattle.rcell.specs.runs.Outcomes.{Failing, IsDone}
-use Rattle.rcell.specs.runs.Statuses.{status_of, status_after}
+use Rattle.rcell.specs.runs.Statuses.{fault_status, status_after}
 
 -- the fault of what stopped an execution
-abbrev pub fault_of : Stop → RunFault
-fault_of (stops.Memory line) = faults.Memory line
-fault_of stops.Write = faults.Write
+abbrev pub fault_of_end : Stop → RunFault
+fault_of_end (stops.Memory line) = faults.Memory line
+fault_of_end stops.Write = faults.Write
 
 -- the answer to an execution, with a flush that fails or not: one that fails turns what is done into a failed write, and
 -- changes no other answer
-abbrev pub ended : Result ℕ Stopped → Bool → Outcome
-ended (Ok written) false = record { status = 0; written = written; fault = None }
-ended (Ok written) true = record { status = 4; written = written; fault = Some faults.Write }
-ended (Err stopped) fails = record { status = status_of (fault_of stopped.stop); written = stopped.written; fault = Some (fault_of stopped.stop) }
+abbrev pub run_ended : Result ℕ Stopped → Bool → Outcome
+run_ended (Ok written) false = record { status = 0; written = written; fault = None }
+run_ended (Ok written) true = record { status = 4; written = written; fault = Some faults.Write }
+run_ended (Err stopped) fails = record { status = fault_status (fault_of_end stopped.stop); written = stopped.written; fault = Some (fault_of_end stopped.stop) }
 
 -- whether the flush failed: after a refused put the sink is not flushed
 abbrev pub stop_flush : Stop → Bool → Bool
@@ -38,14 +38,14 @@ flush_failed (Err stopped) fails = stop_flush stopped.stop fails
 -- a run is answered, and its sink flushed
 pub record Ends (executed : Result ℕ Stopped) (old new : Faults) (outcome : Outcome) : Type 0 where
   pub fails : Bool
-  pub answer : outcome ≡ ended executed fails
+  pub answer : outcome ≡ run_ended executed fails
   pub after : new ≡ after_flush old (flush_failed executed fails)
 
 -- what holds after statements were executed and the sink was flushed
-pub record IsEnd (shelf : ShelfValue) (statements : List Statement) (before now : Option (List ℕ)) (old new : Faults) (outcome : Outcome) : Type 0 where
+pub record IsRunEnd (shelf : ShelfValue) (statements : List Statement) (before now : Option (List ℕ)) (old new : Faults) (outcome : Outcome) : Type 0 where
   pub done : IsNone outcome.fault → IsDone shelf statements before now outcome.written
   pub late : IfSome outcome.fault IsInExecution
-  pub stops : IfSome outcome.fault (λ f. StopsAt shelf statements before now outcome.written f)
+  pub stops : IfSome outcome.fault (λ f. RunStopsAt shelf statements before now outcome.written f)
   pub status : outcome.status ≡ status_after outcome.fault
   pub whole : outcome.fault ≡ Some faults.Write → new.refused ≡ false → IsDone shelf statements before now outcome.written
   pub first : Failing outcome.fault old new

@@ -1,13 +1,13 @@
 -- An accepted script over grids of one region (r.in.ascii manual, r.stats manual, r.out.ascii manual; names, the one region and the form of a script are the profile's).
 use Rattle.std.specs.Prelude.{◌≡◌, ◌<◌, ◌≤◌, ⊤, false, List, [], ◌∷◌, length, map, All}
-use Rattle.cell_devices.specs.Device.{Coming}
+use Rattle.cell_core_devices.specs.Device.{Coming}
 use Rattle.cell_core.specs.Grid.{Grid}
-use Rattle.cell_base.specs.Name.{AreDistinct}
+use Rattle.cell_core_values.specs.Name.{AreDistinct}
 use Rattle.cell_core.specs.Shelf.{ShelfValue}
-use Rattle.cell_ascii_text.specs.GridText.{Denotes}
-use Rattle.cell_loading.specs.Sources.{Named}
-use Rattle.cell_script.specs.Scripts.{IsScript}
-use Rattle.cell_script.specs.declared.statement.Statement.{Statement}
+use Rattle.cell_ascii_meaning.specs.GridText.{Denotes}
+use Rattle.rcell_loading.specs.Sources.{Named}
+use Rattle.rcell_script.specs.Scripts.{IsScript}
+use Rattle.rcell_script.specs.declared.statement.Statement.{Statement}
 
 -- each grid's text denotes the map in its place
 abbrev pub AllDenote : List Named → List Grid → Type 0

@@ -1,21 +1,21 @@
 -- How a run ends: done, refused at the first fault of what it is given, or stopped in execution (the order of the faults is the profile's).
 use Rattle.std.specs.Prelude.{ℕ, ◌≡◌, List, Option, Some, None, Result, Ok, Err}
-use Rattle.cell_devices.specs.Device.{Coming}
+use Rattle.cell_core_devices.specs.Device.{Coming}
 use Rattle.cell_core.specs.Shelf.{ShelfValue}
-use Rattle.cell_script.specs.ReadScripts.{IsScriptFault}
-use Rattle.cell_script.specs.Scripts.{IsScript}
-use Rattle.cell_commands.specs.declared.fault.ScriptFault.{ScriptFault}
-use Rattle.cell_script.specs.declared.statement.Statement.{Statement}
-use Rattle.cell_loading.specs.Loading.{shelf_of}
-use Rattle.cell_loading.specs.ScriptText.{script_text}
-use Rattle.cell_loading.specs.Sources.{Named}
-use Rattle.cell_loading.specs.declared.fault.RunFault.{RunFault}
-use Rattle.cell_loading.specs.declared.fault.RunFault.TheVariants.{GridTwice, GridRegion, Grid, ScriptRead, ScriptSize, Script, Memory, Write}
-use Rattle.rcell.specs.runs.Execution.{IsBefore, IsWithin}
+use Rattle.rcell_script.specs.ReadScripts.{IsScriptFault}
+use Rattle.rcell_script.specs.Scripts.{IsScript}
+use Rattle.rcell_script_commands.specs.declared.script_fault.ScriptFault.{ScriptFault}
+use Rattle.rcell_script.specs.declared.statement.Statement.{Statement}
+use Rattle.rcell_loading.specs.Loading.{shelf_of}
+use Rattle.rcell_loading.specs.ScriptText.{script_text}
+use Rattle.rcell_loading.specs.Sources.{Named}
+use Rattle.rcell_loading.specs.declared.run_fault.RunFault.{RunFault}
+use Rattle.rcell_loading.specs.declared.run_fault.RunFault.TheVariants.{GridTwice, GridRegion, Grid, ScriptRead, ScriptSize, Script, Memory, Write}
+use Rattle.rcell.specs.runs.Execution.{IsShelfBefore, IsWithin}
 use Rattle.rcell.specs.runs.Outcomes.{IsDone}
 
 -- the script denotes the statements over maps of these names
-pub record Reads (known : List (List ℕ)) (script : Coming) (statements : List Statement) : Type 0 where
+pub record ReadsScript (known : List (List ℕ)) (script : Coming) (statements : List Statement) : Type 0 where
   pub text : List ℕ
   pub bytes : script_text script ≡ Ok text
   pub denoted : IsScript known text statements
@@ -40,31 +40,31 @@ abbrev pub IsRefusal : List Named → Coming → RunFault → Type 0
 IsRefusal grids script fault = IsRefusalAfter script (shelf_of grids) fault
 
 -- the grids give the shelf, and the script denotes the statements over it
-pub record IsRead (grids : List Named) (script : Coming) (shelf : ShelfValue) (statements : List Statement) : Type 0 where
+pub record IsReadScript (grids : List Named) (script : Coming) (shelf : ShelfValue) (statements : List Statement) : Type 0 where
   pub loaded : shelf_of grids ≡ Ok (Some shelf)
-  pub reads : Reads shelf.names script statements
+  pub reads : ReadsScript shelf.names script statements
 
 -- a run of a script over grids is done
 pub record IsRunDone (grids : List Named) (script : Coming) (before now : Option (List ℕ)) (written : ℕ) : Type 0 where
   pub shelf : ShelfValue
   pub statements : List Statement
-  pub read : IsRead grids script shelf statements
+  pub read : IsReadScript grids script shelf statements
   pub done : IsDone shelf statements before now written
 
 -- a run stopped in execution: out of memory before a statement, or at a failing sink
-abbrev pub StopsAt : ShelfValue → List Statement → Option (List ℕ) → Option (List ℕ) → ℕ → RunFault → Type 0
-StopsAt shelf statements before now written (Memory line) = IsBefore shelf statements before now written line
-StopsAt shelf statements before now written Write = IsWithin shelf statements before now written
-StopsAt shelf statements before now written (GridTwice grid) = ⊥
-StopsAt shelf statements before now written (GridRegion grid) = ⊥
-StopsAt shelf statements before now written (Grid grid fault) = ⊥
-StopsAt shelf statements before now written ScriptRead = ⊥
-StopsAt shelf statements before now written ScriptSize = ⊥
-StopsAt shelf statements before now written (Script fault) = ⊥
+abbrev pub RunStopsAt : ShelfValue → List Statement → Option (List ℕ) → Option (List ℕ) → ℕ → RunFault → Type 0
+RunStopsAt shelf statements before now written (Memory line) = IsShelfBefore shelf statements before now written line
+RunStopsAt shelf statements before now written Write = IsWithin shelf statements before now written
+RunStopsAt shelf statements before now written (GridTwice grid) = ⊥
+RunStopsAt shelf statements before now written (GridRegion grid) = ⊥
+RunStopsAt shelf statements before now written (Grid grid fault) = ⊥
+RunStopsAt shelf statements before now written ScriptRead = ⊥
+RunStopsAt shelf statements before now written ScriptSize = ⊥
+RunStopsAt shelf statements before now written (Script fault) = ⊥
 
 -- a run of a script over grids stopped in execution
 pub record IsRunStopped (grids : List Named) (script : Coming) (before now : Option (List ℕ)) (written : ℕ) (fault : RunFault) : Type 0 where
   pub shelf : ShelfValue
   pub statements : List Statement
-  pub read : IsRead grids script shelf statements
-  pub stops : StopsAt shelf statements before now written fault
+  pub read : IsReadScript grids script shelf statements
+  pub stops : RunStopsAt shelf statements before now written fault

@@ -1,15 +1,15 @@
 -- What has been written when the execution of statements stops (profile).
 use Rattle.std.specs.Prelude.{ℕ, ◌≡◌, List, ◌∷◌, ◌++◌, length, Option}
-use Rattle.cell_devices.specs.Device.{append_known}
+use Rattle.cell_core_devices.specs.Device.{append_known}
 use Rattle.cell_core.specs.Shelf.{ShelfValue}
-use Rattle.cell_devices.specs.Blocks.{capped}
-use Rattle.cell_script.specs.declared.statement.Statement.{Statement}
+use Rattle.cell_core_devices.specs.Blocks.{capped_count}
+use Rattle.rcell_script.specs.declared.statement.Statement.{Statement}
 use Rattle.rcell.specs.Output.{Executes}
 use Rattle.rcell.specs.declared.runs.execution.Stop.{Stop}
 use Rattle.rcell.specs.declared.runs.execution.Stop.TheVariants.{Memory, Write}
 
 -- the sink took the whole output of the statements before one, which was not begun
-pub record IsBefore (shelf : ShelfValue) (statements : List Statement) (before now : Option (List ℕ)) (written line : ℕ) : Type 0 where
+pub record IsShelfBefore (shelf : ShelfValue) (statements : List Statement) (before now : Option (List ℕ)) (written line : ℕ) : Type 0 where
   pub first : List Statement
   pub statement : Statement
   pub others : List Statement
@@ -19,7 +19,7 @@ pub record IsBefore (shelf : ShelfValue) (statements : List Statement) (before n
   pub after : ShelfValue
   pub executed : Executes shelf first text after
   pub taken : now ≡ append_known before text
-  pub count : written ≡ capped (length text)
+  pub count : written ≡ capped_count (length text)
 
 -- the sink took a prefix of the output of the first statements
 pub record IsWithin (shelf : ShelfValue) (statements : List Statement) (before now : Option (List ℕ)) (written : ℕ) : Type 0 where
@@ -31,9 +31,9 @@ pub record IsWithin (shelf : ShelfValue) (statements : List Statement) (before n
   pub after : ShelfValue
   pub executed : Executes shelf first (prefix ++ rest) after
   pub taken : now ≡ append_known before prefix
-  pub count : written ≡ capped (length prefix)
+  pub count : written ≡ capped_count (length prefix)
 
 -- an execution stopped: out of memory before a statement's first byte, or at a failing sink
 abbrev pub Stops : ShelfValue → List Statement → Option (List ℕ) → Option (List ℕ) → ℕ → Stop → Type 0
-Stops shelf statements before now written (Memory line) = IsBefore shelf statements before now written line
+Stops shelf statements before now written (Memory line) = IsShelfBefore shelf statements before now written line
 Stops shelf statements before now written Write = IsWithin shelf statements before now written

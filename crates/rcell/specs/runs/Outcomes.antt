@@ -1,13 +1,13 @@
 -- What a run of an accepted script answers: the whole output.
 use Rattle.std.specs.Prelude.{ℕ, ◌≡◌, Bool, true, false, List, length, Option, Some, None, IfSome, if◌then◌else◌}
-use Rattle.cell_devices.specs.Blocks.{capped}
-use Rattle.cell_devices.specs.Device.{Faults, after_put, after_flush, append_known}
+use Rattle.cell_core_devices.specs.Blocks.{capped_count}
+use Rattle.cell_core_devices.specs.Device.{Faults, after_put, after_flush, append_known}
 use Rattle.cell_core.specs.Shelf.{ShelfValue}
-use Rattle.cell_script.specs.declared.statement.Statement.{Statement}
+use Rattle.rcell_script.specs.declared.statement.Statement.{Statement}
 use Rattle.rcell.specs.Output.{IsOutput}
-use Rattle.cell_loading.specs.Faults.{IsOfMemory}
-use Rattle.cell_loading.specs.declared.fault.RunFault.{RunFault}
-use Rattle.cell_loading.specs.declared.fault.RunFault.TheVariants.{Write}
+use Rattle.rcell_loading.specs.RunFaults.{IsOfMemory}
+use Rattle.rcell_loading.specs.declared.run_fault.RunFault.{RunFault}
+use Rattle.rcell_loading.specs.declared.run_fault.RunFault.TheVariants.{Write}
 use Rattle.rcell.specs.declared.runs.outcome.Outcome.{Outcome}
 
 -- the sink took exactly the output of the statements, and its length is told
@@ -15,7 +15,7 @@ pub record IsDone (shelf : ShelfValue) (statements : List Statement) (before now
   pub text : List ℕ
   pub output : IsOutput shelf statements text
   pub taken : now ≡ append_known before text
-  pub count : written ≡ capped (length text)
+  pub count : written ≡ capped_count (length text)
 
 -- where memory lasts and the sink takes everything: status 0, no fault, and exactly the output of the statements is written
 abbrev pub Writes : ShelfValue → List Statement → Option (List ℕ) → Option (List ℕ) → Bool → Outcome → Type 0

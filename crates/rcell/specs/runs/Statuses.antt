@@ -1,11 +1,11 @@
 -- The exit statuses of a run (profile).
 use Rattle.std.specs.Prelude.{ℕ, Option, Some, None}
-use Rattle.cell_ascii_text.specs.declared.fault.GridKind.{GridKind}
-use Rattle.cell_ascii_text.specs.declared.fault.GridKind.TheVariants as grid_kinds
-use Rattle.cell_commands.specs.declared.fault.ScriptKind.{ScriptKind}
-use Rattle.cell_commands.specs.declared.fault.ScriptKind.TheVariants as script_kinds
-use Rattle.cell_loading.specs.declared.fault.RunFault.{RunFault}
-use Rattle.cell_loading.specs.declared.fault.RunFault.TheVariants.{GridTwice, GridRegion, Grid, ScriptRead, ScriptSize, Script, Memory, Write}
+use Rattle.cell_ascii_meaning.specs.declared.grid_fault.GridKind.{GridKind}
+use Rattle.cell_ascii_meaning.specs.declared.grid_fault.GridKind.TheVariants as grid_kinds
+use Rattle.rcell_script_commands.specs.declared.script_fault.ScriptKind.{ScriptKind}
+use Rattle.rcell_script_commands.specs.declared.script_fault.ScriptKind.TheVariants as script_kinds
+use Rattle.rcell_loading.specs.declared.run_fault.RunFault.{RunFault}
+use Rattle.rcell_loading.specs.declared.run_fault.RunFault.TheVariants.{GridTwice, GridRegion, Grid, ScriptRead, ScriptSize, Script, Memory, Write}
 
 -- 4 where a read failed, 3 when out of memory, 1 for what a text has wrong
 abbrev pub grid_status : GridKind → ℕ
@@ -19,17 +19,17 @@ script_status script_kinds.Memory = 3
 script_status kind = 1
 
 -- the exit status of a fault
-abbrev pub status_of : RunFault → ℕ
-status_of (GridTwice grid) = 1
-status_of (GridRegion grid) = 1
-status_of (Grid grid fault) = grid_status fault.kind
-status_of ScriptRead = 4
-status_of ScriptSize = 1
-status_of (Script fault) = script_status fault.kind
-status_of (Memory line) = 3
-status_of Write = 4
+abbrev pub fault_status : RunFault → ℕ
+fault_status (GridTwice grid) = 1
+fault_status (GridRegion grid) = 1
+fault_status (Grid grid fault) = grid_status fault.kind
+fault_status ScriptRead = 4
+fault_status ScriptSize = 1
+fault_status (Script fault) = script_status fault.kind
+fault_status (Memory line) = 3
+fault_status Write = 4
 
 -- the exit status of a run
 abbrev pub status_after : Option RunFault → ℕ
 status_after None = 0
-status_after (Some fault) = status_of fault
+status_after (Some fault) = fault_status fault

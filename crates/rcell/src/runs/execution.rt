@@ -1,14 +1,14 @@
 //! Statements are executed in order: those that make maps put them on the shelf, the others write their text.
 
 ghost use Rattle.std.specs.Prelude.{◌≡◌, OnOk, OnErr, IfOk, IfErr};
-ghost use Rattle.cell_devices.specs.Device.{after_put};
-ghost use Rattle.cell_devices.specs.Blocks.{Appends};
-ghost use Rattle.cell_script.specs.Known.{known_after};
-ghost use Rattle.cell_commands.specs.Fitting.{FitsCommand};
-ghost use Rattle.cell_script.specs.Fitting.{Fits};
-ghost use Rattle.rcell.specs.After.{IsAfter};
+ghost use Rattle.cell_core_devices.specs.Device.{after_put};
+ghost use Rattle.cell_core_devices.specs.Blocks.{Appends};
+ghost use Rattle.rcell_script.specs.KnownMaps.{known_after};
+ghost use Rattle.rcell_script_commands.specs.FittingCommands.{FitsCommand};
+ghost use Rattle.rcell_script.specs.FittingScripts.{Fits};
+ghost use Rattle.rcell.specs.After.{IsShelfAfter};
 ghost use Rattle.rcell.specs.Output.{command_text};
-ghost use Rattle.rcell.specs.parts.Steps.{stops_write};
+ghost use Rattle.rcell.specs.parts.OutputSteps.{stops_write};
 ghost use Rattle.rcell.specs.runs.Execution.{Stops};
 ghost use Rattle.rcell.specs.runs.Outcomes.{IsDone};
 
@@ -18,8 +18,8 @@ use cell_core::block::Block;
 use cell_core::memory::Memory;
 use cell_core::shelf::Shelf;
 use cell_core::sink::Sink;
-use cell_making::making::{make_classes, make_numbers, make_values};
-use cell_script::statement::{Command, Statement};
+use rcell_making::making::{make_classes, make_numbers, make_values};
+use rcell_script::statement::{Command, Statement};
 use std::alloc::Global;
 
 /// What stops an execution.
@@ -67,7 +67,7 @@ fn execute_statement<W: Sink>(
     out: &mut W,
 ) -> Result<(), Memory>
     requires { FitsCommand shelf.old.names statement.now.command }
-    ensures after { OnOk result (IsAfter shelf.old statement.now.command shelf.new) }
+    ensures after { OnOk result (IsShelfAfter shelf.old statement.now.command shelf.new) }
     ensures names { OnOk result (shelf.new.names ≡ known_after shelf.old.names statement.now.command) }
     ensures ok { OnOk result (Appends W.taken W.faults out.old block.old (command_text shelf.old statement.now.command) out.new block.new) }
     ensures err { OnErr result ((out.new ≡ out.old) × (block.new ≡ block.old)) }

@@ -1,11 +1,11 @@
 //! What a run answers.
 
 ghost use Rattle.std.specs.Prelude.{◌≡◌};
-ghost use Rattle.rcell.specs.runs.Statuses.{grid_status, script_status, status_of};
+ghost use Rattle.rcell.specs.runs.Statuses.{grid_status, script_status, fault_status};
 
-use cell_ascii::fault::GridKind;
-pub use cell_loading::fault::RunFault;
-use cell_script::fault::ScriptKind;
+use cell_ascii::grid_fault::GridKind;
+pub use rcell_loading::run_fault::RunFault;
+use rcell_script::script_fault::ScriptKind;
 
 /// What a run did.
 #[derive(Clone, Copy, Debug, PartialEq, Eq)]
@@ -39,7 +39,7 @@ fn script_status(kind: ScriptKind) -> u8
 
 /// The exit status of a fault.
 pub fn status_of(fault: RunFault) -> u8
-    ensures { result ≡ status_of fault }
+    ensures { result ≡ fault_status fault }
 {
     match fault {
         RunFault::GridTwice { .. } => 1,

@@ -1,16 +1,16 @@
 //! A run, from bytes to bytes.
 
 ghost use Rattle.std.specs.Prelude.{◌≡◌, ℕ, ◌<◌, List, All, length, true, false, IsNone, IsSome, IfSome, IfOk, IfErr, Ok, Err, Some, None, vec_len};
-ghost use Rattle.cell_devices.specs.Device.{has_failed};
+ghost use Rattle.cell_core_devices.specs.Device.{has_failed};
 ghost use Rattle.cell_core.specs.Shelf.{ShelfValue};
-ghost use Rattle.cell_script.specs.Fitting.{Fits};
-ghost use Rattle.cell_script.specs.declared.statement.Statement.{Statement};
-ghost use Rattle.cell_loading.specs.Faults.{IsOfInput, IsBeforeExecution, IsInExecution, IsTold};
-ghost use Rattle.rcell.specs.parts.Ends.{Ends, IsEnd};
-ghost use Rattle.cell_loading.specs.Sources.{AllKnown, known_of, coming_of};
+ghost use Rattle.rcell_script.specs.FittingScripts.{Fits};
+ghost use Rattle.rcell_script.specs.declared.statement.Statement.{Statement};
+ghost use Rattle.rcell_loading.specs.RunFaults.{IsOfInput, IsBeforeExecution, IsInExecution, NamesItsGrid};
+ghost use Rattle.rcell.specs.parts.Ends.{Ends, IsRunEnd};
+ghost use Rattle.rcell_loading.specs.Sources.{AllKnown, known_of, coming_of};
 ghost use Rattle.rcell.specs.runs.Accepted.{IsAccepted};
-ghost use Rattle.rcell.specs.runs.Statuses.{status_of, status_after};
-ghost use Rattle.rcell.specs.runs.Endings.{Reads, IsScriptRefusal, IsRefusal, IsRead, IsRunDone, IsRunStopped};
+ghost use Rattle.rcell.specs.runs.Statuses.{fault_status, status_after};
+ghost use Rattle.rcell.specs.runs.Endings.{ReadsScript, IsScriptRefusal, IsRefusal, IsReadScript, IsRunDone, IsRunStopped};
 ghost use Rattle.rcell.specs.runs.Outcomes.{Failing, Writes};
 
 use crate::runs::execution::{Stop, Stopped, execute};
@@ -19,11 +19,11 @@ use cell_core::name::Name;
 use cell_core::shelf::Shelf;
 use cell_core::sink::Sink;
 use cell_core::source::Source;
-use cell_loading::loading::{load, names_of};
-use cell_loading::text::read_script;
-use cell_script::law::{no_fault_of_a_script, one_script};
-use cell_script::parsing::parse_script;
-use cell_script::statement::Script;
+use rcell_loading::loading::{load, names_of};
+use rcell_loading::script_bytes::read_script;
+use rcell_script::law::{no_fault_of_a_script, one_script};
+use rcell_script::script_parsing::parse_script;
+use rcell_script::statement::Script;
 use std::alloc::Global;
 
 // The statements of a script over the maps on a shelf.
@@ -32,14 +32,14 @@ fn read_statements<R: Source + Drop>(
     shelf: &Shelf,
     script: R,
 ) -> Result<Script, RunFault>
-    ensures ok { IsSome (R.coming script) → IfOk result (λ s. Reads shelf.now.names (coming_of R.coming script) s) }
-    ensures only { IsSome (R.coming script) → (statements : List Statement) → Reads shelf.now.names (coming_of R.coming script) statements → IfOk result (λ s. s ≡ statements) }
+    ensures ok { IsSome (R.coming script) → IfOk result (λ s. ReadsScript shelf.now.names (coming_of R.coming script) s) }
+    ensures only { IsSome (R.coming script) → (statements : List Statement) → ReadsScript shelf.now.names (coming_of R.coming script) statements → IfOk result (λ s. s ≡ statements) }
     ensures fits { IfOk result (λ s. Fits shelf.now.names s) }
     ensures numbered { IfOk result (λ s. All (λ t. 0 < t.line) s) }
     ensures fault { IsSome (R.coming script) → IfErr result (λ f. IsOfInput f → IsScriptRefusal shelf.now.names (coming_of R.coming script) f) }
-    ensures none { IsSome (R.coming script) → (statements : List Statement) → Reads shelf.now.names (coming_of R.coming script) statements → IfErr result (λ f. IsOfInput f → ⊥) }
+    ensures none { IsSome (R.coming script) → (statements : List Statement) → ReadsScript shelf.now.names (coming_of R.coming script) statements → IfErr result (λ f. IsOfInput f → ⊥) }
     ensures early { IfErr result IsBeforeExecution }
-    ensures told { (grids : ℕ) → IfErr result (IsTold grids) }
+    ensures told { (grids : ℕ) → IfErr result (NamesItsGrid grids) }
 {
     let text = match read_script(alloc, script) {
         Ok(text) => text,
@@ -85,14 +85,14 @@ fn finish<W: Sink>(executed: Result<u64, Stopped>, out: &mut W) -> Outcome
 fn put_out<W: Sink>(alloc: Global, mut shelf: Shelf, script: &Script, out: &mut W) -> Outcome
     requires fits { Fits shelf.names script.now }
     requires numbered { All (λ t. 0 < t.line) script.now }
-    ensures { IsEnd shelf script.now (W.taken out.old) (W.taken out.new) (W.faults out.old) (W.faults out.new) result }
+    ensures { IsRunEnd shelf script.now (W.taken out.old) (W.taken out.new) (W.faults out.old) (W.faults out.new) result }
 {
     let executed = execute(alloc, &mut shelf, script.statements(), out);
     finish(executed, out)
 }
 
 fn refused(fault: RunFault, written: u64) -> Outcome
-    ensures { result ≡ record { status = status_of fault; written = written; fault = Some fault } }
+    ensures { result ≡ record { status = fault_status fault; written = written; fault = Some fault } }
 {
     Outcome {
         status: status_of(fault),
@@ -129,7 +129,7 @@ pub fn run<R: Source + Drop, W: Sink>(
         → IsRunStopped (known_of R.coming grids.items) (coming_of R.coming script) (W.taken out.old) (W.taken out.new) result.written f) }
     ensures status { result.status ≡ status_after result.fault }
     // A fault of a grid names one that was given, and being out of memory for a grid or for the script is told at line 0.
-    ensures told { IfSome result.fault (IsTold (length grids.items)) }
+    ensures told { IfSome result.fault (NamesItsGrid (length grids.items)) }
     // Of a sink that had not failed before, status 0 comes only where it did not fail, and Write only where it failed.
     ensures sound { result.status ≡ 0 → W.faults out.new ≡ W.faults out.old }
     ensures write { result.fault ≡ Some RunFault.Write → has_failed (W.faults out.new) ≡ true }
@@ -146,7 +146,7 @@ pub fn run<R: Source + Drop, W: Sink>(
         → Writes shelf statements (W.taken out.old) (W.taken out.new) (has_failed (W.faults out.new)) result }
     // The same of whatever is read as statements over a shelf.
     ensures complete { (shelf : ShelfValue) (statements : List Statement) → AllKnown R.coming grids.items → IsSome (R.coming script)
-        → IsRead (known_of R.coming grids.items) (coming_of R.coming script) shelf statements
+        → IsReadScript (known_of R.coming grids.items) (coming_of R.coming script) shelf statements
         → Writes shelf statements (W.taken out.old) (W.taken out.new) (has_failed (W.faults out.new)) result }
 {
     let shelf = match load(alloc, grids) {

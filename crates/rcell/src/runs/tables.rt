@@ -2,19 +2,19 @@
 
 ghost use Rattle.std.specs.Prelude.{◌≡◌, ◌<◌, ◌≤◌, All, length, OnOk, OnErr, IfSome};
 ghost use Rattle.std.specs.Option.{option_map};
-ghost use Rattle.cell_devices.specs.Blocks.{Appends};
+ghost use Rattle.cell_core_devices.specs.Blocks.{Appends};
 ghost use Rattle.rcell.specs.Output.{stats_text, format_of};
 
 use cell_core::block::Block;
 use cell_core::memory::Memory;
 use cell_core::shelf::Shelf;
 use cell_core::sink::Sink;
-use cell_script::statement::StatsOptions;
-use cell_stats::cells::{CellWalk, write_cells};
 use cell_stats::combination::Combo;
 use cell_stats::format::Format;
+use cell_stats::printed_cells::{CellWalk, write_cells};
 use cell_stats::printing::write_table;
 use cell_stats::tallying::tally;
+use rcell_script::statement::StatsOptions;
 use std::alloc::Global;
 
 // How the options print.

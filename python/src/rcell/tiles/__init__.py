@@ -1,6 +1,6 @@
 """Maps of any size: tiles of them go to a Dask cluster, and the answers are those of the undivided map.
 
-What holds of tiles is proved, in the crate `cell_laws` of this project: tables add up, a halo is enough, areas join along
+What holds of tiles is proved, in the crate `cell_tiles_law` of this project: tables add up, a halo is enough, areas join along
 borders. Each step of this code names its law.
 """
 

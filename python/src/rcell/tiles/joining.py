@@ -4,7 +4,7 @@ Four functions do all of it, over numpy arrays alone: `merge` adds tables of til
 what the joining needs, `join` finds which areas of tiles are one area of the whole and what its number is, `renumber`
 gives the cells of a tile the numbers of the whole. None makes a Python object for an area or for an entry of a table.
 
-The laws that the steps follow are proved in the crate `cell_laws` of this project; each is named beside its step.
+The laws that the steps follow are proved in the crate `cell_tiles_law` of this project; each is named beside its step.
 """
 
 from __future__ import annotations

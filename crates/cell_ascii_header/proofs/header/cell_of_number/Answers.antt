@@ -3,9 +3,9 @@ use Rattle.std.specs.Prelude.{◌*ℤ◌}
 use Rattle.std.specs.Int.RustNames.{FitsSigned, unsigned_abs}
 use Rattle.std.proofs.lemmas.Int.{ints, to_z-of_z, fits_signed_mul}
 use Rattle.std.proofs.lemmas.Bool.Decides.{nat_tests}
-use Rattle.cell_ascii_text.specs.Numbers.{is_in_range}
+use Rattle.cell_ascii_meaning.specs.EdgeNumbers.{is_in_range}
 use Rattle.cell_ascii_header.specs.InRange.{cell_in_range}
-use Rattle.cell_ascii_text.specs.Cells.{cell_of_number}
+use Rattle.cell_ascii_meaning.specs.CellTexts.{cell_of_number}
 use Rattle.cell_ascii_header.proofs.header.cell_of_number.Goals as goal
 
 abs_in : (n : ℤ) → is_in_range n ≡ true → unsigned_abs n ≤ 2147483647

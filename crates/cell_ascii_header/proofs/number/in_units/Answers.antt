@@ -1,21 +1,21 @@
 use Rattle.std.proofs.Common.{◌≡◌, ℕ, List, ◌+◌, ◌-◌, ◌*◌, ◌^◌, ◌<◌, true, length, sym, ◌∙◌, arith, Some}
 use Rattle.std.specs.Prelude.{nat_le, ◌&&◌}
 use Rattle.std.specs.List.{list_all}
-use Rattle.cell_ascii_text.specs.Numbers.{is_digit, value_of_digits, in_units}
-use Rattle.cell_text.specs.Capped.{capped}
+use Rattle.cell_ascii_meaning.specs.EdgeNumbers.{is_digit, value_of_digits, in_units}
+use Rattle.cell_core_text.specs.Capped.{at_most}
 use Rattle.cell_ascii_header.proofs.DigitLemmas.{whole_capped, part_capped, in_units_is, units_below, whole_below, short_whole}
 use Rattle.cell_ascii_header.proofs.number.in_units.Goals as goal
 
 -- the value as it is computed, below its bound
 below : (whole part : List ℕ) (a b scale : ℕ) → list_all is_digit whole ≡ true → list_all is_digit part ≡ true
     → ((nat_le (length whole) 10 && nat_le (length part) 8) && nat_le 1 (length whole + length part)) ≡ true
-    → a ≡ capped (value_of_digits whole) → b ≡ capped (value_of_digits part) → scale ≡ 10 ^ (8 - length part)
+    → a ≡ at_most (value_of_digits whole) → b ≡ at_most (value_of_digits part) → scale ≡ 10 ^ (8 - length part)
     → a * 100000000 + b * scale < 1000000000000000000
 below whole part a b scale dw dp short ea eb es = rw (ea ∙ whole_capped whole part dw dp short, eb ∙ part_capped whole part dw dp short, es) (units_below whole part dw dp short)
 
 exact : (whole part : List ℕ) (a b scale : ℕ) → list_all is_digit whole ≡ true → list_all is_digit part ≡ true
     → ((nat_le (length whole) 10 && nat_le (length part) 8) && nat_le 1 (length whole + length part)) ≡ true
-    → a ≡ capped (value_of_digits whole) → b ≡ capped (value_of_digits part) → scale ≡ 10 ^ (8 - length part)
+    → a ≡ at_most (value_of_digits whole) → b ≡ at_most (value_of_digits part) → scale ≡ 10 ^ (8 - length part)
     → Some (a * 100000000 + b * scale) ≡ in_units whole part
 exact whole part a b scale dw dp short ea eb es = rw (ea ∙ whole_capped whole part dw dp short, eb ∙ part_capped whole part dw dp short, es) (sym (in_units_is whole part dw dp short))
 

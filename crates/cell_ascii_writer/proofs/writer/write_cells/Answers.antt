@@ -1,9 +1,9 @@
 use Rattle.std.proofs.Common.{◌≡◌, ◌∷◌, ◌-◌, List, replicate, append_assoc, arith}
 use Rattle.cell_core.specs.Runs.{RunValue, written_out}
 use Rattle.cell_core.specs.Text.{cell_text}
-use Rattle.cell_ascii_writer.specs.WrittenRuns.{cells_text}
+use Rattle.cell_ascii_writer.specs.WrittenRuns.{spaced_cells}
 use Rattle.cell_ascii_writer.proofs.PendingLemmas.{pending_all, pending_more}
-use Rattle.cell_devices.proofs.BlockLemmas.{appends_then}
+use Rattle.cell_core_devices.proofs.BlockLemmas.{appends_then}
 use Rattle.cell_ascii_writer.proofs.RunWritingLemmas.{first-some, joined-runs}
 use Rattle.cell_ascii_writer.proofs.writer.write_cells.Goals as goal
 
@@ -21,7 +21,7 @@ returns-clause-text g c =
     let rest : List RunValue = c.next.new.self in
     let whole : c.args.runs ≡ c.in-Some.first ∷ rest = c.in-Some.ensures.steps in
     let some = first-some c.args.runs rest cell n c.requires.runs whole in
-    let others = cells_text null (written_out rest) in
-    let alike = cells_text null (replicate (n - 1) cell) in
+    let others = spaced_cells null (written_out rest) in
+    let alike = spaced_cells null (replicate (n - 1) cell) in
     rw (whole, joined-runs null rest cell n some, append_assoc (cell_text null cell) alike others)
     (appends_then c.write_cell.ensures (pending_all (pending_more others c.write_run-end.ensures.text) c.write_runs.ensures.text))

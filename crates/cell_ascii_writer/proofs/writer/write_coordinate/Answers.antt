@@ -1,6 +1,6 @@
 use Rattle.std.proofs.Common.{◌≡◌, to_z, of_z, w64}
 use Rattle.std.proofs.lemmas.Int.{to_z-of_z}
-use Rattle.cell_devices.proofs.BlockLemmas.{appends_then}
+use Rattle.cell_core_devices.proofs.BlockLemmas.{appends_then}
 use Rattle.cell_ascii_writer.proofs.WriterLemmas.{coordinate_text-negative, coordinate_text-positive}
 use Rattle.cell_ascii_writer.proofs.writer.write_coordinate.Goals.{then-units-lt0, else-units-lt0}
 use Rattle.cell_ascii_writer.proofs.writer.write_coordinate.Goals as goal

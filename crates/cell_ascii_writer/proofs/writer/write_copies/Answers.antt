@@ -1,5 +1,5 @@
 use Rattle.std.proofs.Common.{◌≡◌}
-use Rattle.cell_devices.proofs.BlockLemmas.{appends_then}
+use Rattle.cell_core_devices.proofs.BlockLemmas.{appends_then}
 use Rattle.cell_ascii_writer.proofs.RunWritingLemmas.{times-more}
 use Rattle.cell_ascii_writer.proofs.WriterLemmas.{at_end}
 use Rattle.cell_ascii_writer.proofs.writer.write_copies.Goals as goal

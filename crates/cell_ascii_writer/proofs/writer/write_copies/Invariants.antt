@@ -1,4 +1,4 @@
-use Rattle.cell_devices.specs.Blocks.{Appends}
+use Rattle.cell_core_devices.specs.Blocks.{Appends}
 use Rattle.cell_ascii_writer.specs.WrittenRuns.{times}
 use Rattle.cell_ascii_writer.proofs.writer.write_copies.Given as goal
 

@@ -1,7 +1,7 @@
 use Rattle.std.proofs.Common.{◌≡◌, ◌∙◌, ◌<◌, ℕ, [], List, min, append-nil, arith, sym, subst}
-use Rattle.cell_ascii_text.specs.Writing.{grid_text}
-use Rattle.cell_devices.specs.Blocks.{Appended}
-use Rattle.cell_devices.proofs.BlockLemmas.{appends_then}
+use Rattle.cell_ascii_meaning.specs.Writing.{grid_text}
+use Rattle.cell_core_devices.specs.Blocks.{Appended}
+use Rattle.cell_core_devices.proofs.BlockLemmas.{appends_then}
 use Rattle.cell_ascii_writer.proofs.LengthLemmas.{grid_length}
 use Rattle.cell_ascii_writer.proofs.PutLemmas.{outcome_err, outcome_ok, appended_cut, appended_put}
 use Rattle.cell_ascii_writer.proofs.writer.write_map.Goals as goal

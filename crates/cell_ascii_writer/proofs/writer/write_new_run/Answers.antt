@@ -1,4 +1,4 @@
-use Rattle.cell_devices.proofs.BlockLemmas.{appends_then}
+use Rattle.cell_core_devices.proofs.BlockLemmas.{appends_then}
 use Rattle.cell_ascii_writer.proofs.PendingLemmas.{pending_done}
 use Rattle.cell_ascii_writer.proofs.RunWritingLemmas.{times_cells}
 use Rattle.cell_ascii_writer.proofs.writer.write_new_run.Goals as goal

@@ -1,4 +1,4 @@
-use Rattle.cell_devices.proofs.BlockLemmas.{appends_then}
+use Rattle.cell_core_devices.proofs.BlockLemmas.{appends_then}
 use Rattle.cell_ascii_writer.proofs.writer.write_row.Goals as goal
 
 pub returns-clause-text : goal.returns-clause-text

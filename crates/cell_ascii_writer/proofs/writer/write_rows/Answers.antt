@@ -3,10 +3,10 @@ use Rattle.std.proofs.Math.Seq.{take-length}
 use Rattle.std.proofs.lemmas.List.{take-append-drop}
 use Rattle.std.proofs.lemmas.List.Concat.{flat_map-append}
 use Rattle.cell_core.specs.Grid.{row_at}
-use Rattle.cell_base.specs.Region.{RegionValue}
-use Rattle.cell_devices.proofs.PieceLemmas.{flat_map-take}
-use Rattle.cell_devices.proofs.BlockLemmas.{appends_cut, appends_none, appends_then}
-use Rattle.cell_ascii_text.specs.Writing.{row_text}
+use Rattle.cell_core_values.specs.Region.{RegionValue}
+use Rattle.cell_core_devices.proofs.PieceLemmas.{flat_map-take}
+use Rattle.cell_core_devices.proofs.BlockLemmas.{appends_cut, appends_none, appends_then}
+use Rattle.cell_ascii_meaning.specs.Writing.{row_text}
 use Rattle.cell_ascii_writer.proofs.PendingLemmas.{free_fields}
 use Rattle.cell_ascii_writer.proofs.WriterLemmas.{at_end}
 use Rattle.cell_ascii_writer.proofs.writer.write_rows.Goals as goal

@@ -1,7 +1,7 @@
 use Rattle.std.proofs.Common.{◌≡◌, length, take, flat_map}
 use Rattle.std.specs.List.{All}
-use Rattle.cell_devices.specs.Blocks.{Appends}
-use Rattle.cell_ascii_text.specs.Writing.{row_text}
+use Rattle.cell_core_devices.specs.Blocks.{Appends}
+use Rattle.cell_ascii_meaning.specs.Writing.{row_text}
 use Rattle.cell_ascii_writer.specs.Fields.{IsField}
 use Rattle.cell_ascii_writer.proofs.writer.write_rows.Given as goal
 

@@ -1,6 +1,6 @@
 use Rattle.std.proofs.Common.{◌≡◌, ◌∙◌, ◌++◌, ◌∷◌, List, ap, sym, [], take, replicate, append_assoc, append-nil}
 use Rattle.cell_core.specs.Runs.{RunValue, written_out}
-use Rattle.cell_ascii_writer.specs.WrittenRuns.{cells_text}
+use Rattle.cell_ascii_writer.specs.WrittenRuns.{spaced_cells}
 use Rattle.cell_ascii_writer.proofs.PendingLemmas.{pending_none, pending_more, pending_then, pending_all}
 use Rattle.cell_ascii_writer.proofs.RunWritingLemmas.{cells_text-more}
 use Rattle.cell_ascii_writer.proofs.writer.write_runs.Goals as goal
@@ -22,9 +22,9 @@ loop-cell-preserved g c =
     let rest : List RunValue = c.next.new.self in
     let run : RunValue = (c.in-Some.cell, c.in-Some.count) in
     let front = take c.args.start c.args.line.now in
-    let more = cells_text null (replicate c.in-Some.count c.in-Some.cell) in
+    let more = spaced_cells null (replicate c.in-Some.count c.in-Some.cell) in
     record {
-      text = rw (cells_text-more null done c.in-Some.cell c.in-Some.count, ← append_assoc front (cells_text null (written_out done)) more)
+      text = rw (cells_text-more null done c.in-Some.cell c.in-Some.count, ← append_assoc front (spaced_cells null (written_out done)) more)
           (pending_then (pending_more more c.loop-cell.invariant.text) c.write_run-end.ensures.text);
       whole = append_assoc done (run ∷ []) rest
           ∙ ap (λ (l : List RunValue). done ++ l) (sym c.in-Some.ensures.steps) ∙ c.loop-cell.invariant.whole;

@@ -1,4 +1,4 @@
-use Rattle.cell_devices.proofs.BlockLemmas.{appends_then}
+use Rattle.cell_core_devices.proofs.BlockLemmas.{appends_then}
 use Rattle.cell_ascii_writer.proofs.writer.write_units.Goals as goal
 
 pub returns : goal.returns

@@ -1,7 +1,7 @@
 use Rattle.std.proofs.Common.{arith, ◌++◌, [], ◌∷◌, length, ap, ◌∙◌}
 use Rattle.std.proofs.lemmas.List.Elements.{All-same, All-push, All-take}
 use Rattle.std.proofs.lemmas.Result.{IfOk-from_err}
-use Rattle.cell_calc.specs.parts.Operands.{IsReady}
+use Rattle.cell_calc.specs.parts.Operands.{IsOperandReady}
 use Rattle.cell_calc.proofs.Operands.{enough_at, enough_more, step_more, no_steps, only_one, end_value, of_last}
 use Rattle.cell_calc.proofs.along.along.Goals as goal
 
@@ -16,7 +16,7 @@ row_of-requires-clause-strip c = c.requires.strip
 
 pub row_of-requires-clause-ready : goal.row_of-requires-clause-ready
 row_of-requires-clause-ready c =
-    of_last (IsReady c.args.windows.now c.args.strip.now) c.loop-step.operands.items c.popped-last.new.operands.items c.popped-last.result c.popped-last.ensures c.loop-step.invariant.ready
+    of_last (IsOperandReady c.args.windows.now c.args.strip.now) c.loop-step.operands.items c.popped-last.new.operands.items c.popped-last.result c.popped-last.ensures c.loop-step.invariant.ready
 
 pub returns-in_err-operand-clause-width : goal.returns-in_err-operand-clause-width
 returns-in_err-operand-clause-width c = IfOk-from_err c.from_residual.result _ c.from_residual.ensures.0
@@ -56,8 +56,8 @@ loop-step-preserved c =
     let is = c.in_ok-push.ensures.items ∙ ap (λ l. l ++ o ∷ []) made.rest in
     let lt = c.loop-step-test.true in
     record {
-      ready = All-same (IsReady c.args.windows.now c.args.strip.now) c.push.new.self.items _ is
-          (All-push (IsReady c.args.windows.now c.args.strip.now) _ o (All-take (IsReady c.args.windows.now c.args.strip.now) _ old so_far.ready) made.ready);
+      ready = All-same (IsOperandReady c.args.windows.now c.args.strip.now) c.push.new.self.items _ is
+          (All-push (IsOperandReady c.args.windows.now c.args.strip.now) _ o (All-take (IsOperandReady c.args.windows.now c.args.strip.now) _ old so_far.ready) made.ready);
       enough = enough_more steps i _ old c.push.new.self.items o lt so_far.enough is;
       each = λ k h. step_more c.args.windows.now c.args.strip.now steps i k _ old c.push.new.self.items o _ lt (enough_at steps i (length old) _ lt so_far.enough) is
           (made.each k h) (so_far.each k h);

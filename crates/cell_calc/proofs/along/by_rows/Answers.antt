@@ -1,8 +1,8 @@
 use Rattle.std.proofs.Common.{◌≡◌, ◌<◌, ◌≤◌, ◌+◌, length, map, sym, ap, ◌∙◌, subst, rules}
 use Rattle.std.proofs.lemmas.List.Elements.{All-same}
 use Rattle.std.proofs.lemmas.Result.{IfOk-from_err}
-use Rattle.cell_operations.specs.Applied.{called}
-use Rattle.cell_rows.specs.Rows.{column}
+use Rattle.cell_calc_operators.specs.Applied.{call_result}
+use Rattle.cell_calc_rows.specs.RowValues.{column}
 use Rattle.cell_calc.specs.parts.Operands.{spot_at}
 use Rattle.cell_calc.proofs.Written.{at_written, changed_width}
 use Rattle.cell_calc.proofs.along.by_rows.Goals as goal
@@ -96,6 +96,6 @@ returns-clause-each c =
     λ k h.
     at_written row.len c.call.new.row row.items k all (c.in_ok-call.ensures.width ∙ same)
     ∙ c.in_ok-call.ensures.each k (subst (λ n. k < n) (sym start) h)
-    ∙ ap (λ l. called c.args.function (spot_at strip k) (column k (map (λ v. v.items) l)))
+    ∙ ap (λ l. call_result c.args.function (spot_at strip k) (column k (map (λ v. v.items) l)))
     c.as_slice-arguments.ensures.value
-    ∙ ap (λ l. called c.args.function (spot_at strip k) l) (c.in_ok-gather.ensures.each k h)
+    ∙ ap (λ l. call_result c.args.function (spot_at strip k) l) (c.in_ok-gather.ensures.each k h)

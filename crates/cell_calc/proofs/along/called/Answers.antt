@@ -1,8 +1,8 @@
 use Rattle.std.proofs.Common.{rules, arith, ◌≡◌, ◌∷◌, [], length, refl, Some, pos}
 use Rattle.std.proofs.lemmas.Result.{IfOk-from_err}
-use Rattle.cell_operations.specs.Applied.{size_of}
-use Rattle.cell_operations.specs.Cells.{chosen, truth, is_null}
-use Rattle.cell_calc.specs.parts.Operands.{IsReady, operand_at}
+use Rattle.cell_calc_operators.specs.Applied.{size_of}
+use Rattle.cell_calc_operators.specs.CellOperators.{chosen, truth, is_null}
+use Rattle.cell_calc.specs.parts.Operands.{IsOperandReady, operand_at}
 use Rattle.cell_calc.proofs.Operands.{front_is, back_is, more_before, of_last, of_front, three_last, on_ok}
 use Rattle.cell_calc.proofs.Written.{changed_width, changed}
 use Rattle.cell_calc.proofs.along.called.Goals as goal
@@ -15,7 +15,7 @@ row_of-requires-clause-strip c = c.requires.strip
 
 pub row_of-requires-clause-ready : goal.row_of-requires-clause-ready
 row_of-requires-clause-ready c =
-    of_last (IsReady c.args.windows.now c.args.strip.now) c.args.operands.now.items c.popped.new.operands.items c.popped.result c.popped.ensures
+    of_last (IsOperandReady c.args.windows.now c.args.strip.now) c.args.operands.now.items c.popped.new.operands.items c.popped.result c.popped.ensures
     c.requires.ready
 
 pub returns-in_err-row-in-If-eq1-clause-rest : goal.returns-in_err-row-in-If-eq1-clause-rest
@@ -56,7 +56,7 @@ row_of-requires-in-IsNull-eq1-clause-strip c = c.requires.strip
 
 pub row_of-requires-in-IsNull-eq1-clause-ready : goal.row_of-requires-in-IsNull-eq1-clause-ready
 row_of-requires-in-IsNull-eq1-clause-ready c =
-    of_last (IsReady c.args.windows.now c.args.strip.now) c.args.operands.now.items c.popped-in-IsNull-eq1.new.operands.items
+    of_last (IsOperandReady c.args.windows.now c.args.strip.now) c.args.operands.now.items c.popped-in-IsNull-eq1.new.operands.items
     c.popped-in-IsNull-eq1.result c.popped-in-IsNull-eq1.ensures c.requires.ready
 
 pub returns-in_err-row-in-IsNull-eq1-clause-rest : goal.returns-in_err-row-in-IsNull-eq1-clause-rest
@@ -102,7 +102,7 @@ row_of-requires-in-Abs-eq1-clause-strip c = c.requires.strip
 
 pub row_of-requires-in-Abs-eq1-clause-ready : goal.row_of-requires-in-Abs-eq1-clause-ready
 row_of-requires-in-Abs-eq1-clause-ready c =
-    of_last (IsReady c.args.windows.now c.args.strip.now) c.args.operands.now.items c.popped-in-Abs-eq1.new.operands.items c.popped-in-Abs-eq1.result
+    of_last (IsOperandReady c.args.windows.now c.args.strip.now) c.args.operands.now.items c.popped-in-Abs-eq1.new.operands.items c.popped-in-Abs-eq1.result
     c.popped-in-Abs-eq1.ensures c.requires.ready
 
 pub returns-in_err-row-in-Abs-eq1-clause-rest : goal.returns-in_err-row-in-Abs-eq1-clause-rest
@@ -158,18 +158,18 @@ chosen-requires-clause-strip c = c.requires.strip
 
 pub chosen-requires-clause-no : goal.chosen-requires-clause-no
 chosen-requires-clause-no c =
-    of_last (IsReady c.args.windows.now c.args.strip.now) c.args.operands.now.items c.popped-no.new.operands.items c.popped-no.result
+    of_last (IsOperandReady c.args.windows.now c.args.strip.now) c.args.operands.now.items c.popped-no.new.operands.items c.popped-no.result
     c.popped-no.ensures c.requires.ready
 
 pub chosen-requires-clause-yes : goal.chosen-requires-clause-yes
 chosen-requires-clause-yes c =
-    let is = IsReady c.args.windows.now c.args.strip.now in
+    let is = IsOperandReady c.args.windows.now c.args.strip.now in
     of_last is c.popped-no.new.operands.items c.popped-yes.new.operands.items c.popped-yes.result c.popped-yes.ensures
     (of_front is c.args.operands.now.items c.popped-no.new.operands.items c.popped-no.result c.popped-no.ensures c.requires.ready)
 
 pub chosen-requires-clause-condition : goal.chosen-requires-clause-condition
 chosen-requires-clause-condition c =
-    let is = IsReady c.args.windows.now c.args.strip.now in
+    let is = IsOperandReady c.args.windows.now c.args.strip.now in
     of_last is c.popped-yes.new.operands.items c.popped-condition.new.operands.items c.popped-condition.result c.popped-condition.ensures
     (of_front is c.popped-no.new.operands.items c.popped-yes.new.operands.items c.popped-yes.result c.popped-yes.ensures
     (of_front is c.args.operands.now.items c.popped-no.new.operands.items c.popped-no.result c.popped-no.ensures c.requires.ready))

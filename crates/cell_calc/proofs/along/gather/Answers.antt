@@ -1,7 +1,7 @@
 use Rattle.std.proofs.Common.{arith, ◌≡◌, ◌≤◌, length, refl}
 use Rattle.std.proofs.lemmas.List.Elements.{All-nil, All-push, All-take}
 use Rattle.std.proofs.lemmas.Result.{IfOk-from_err}
-use Rattle.cell_calc.specs.parts.Operands.{IsReady}
+use Rattle.cell_calc.specs.parts.Operands.{IsOperandReady}
 use Rattle.cell_calc.proofs.Operands.{front_more, gather_more, gathered, none_taken, none_left, more_left, of_last, all_reversed}
 use Rattle.cell_calc.proofs.along.gather.Goals as goal
 
@@ -24,7 +24,7 @@ row_of-requires-clause-strip c = c.requires.strip
 
 pub row_of-requires-clause-ready : goal.row_of-requires-clause-ready
 row_of-requires-clause-ready c =
-    let is = IsReady c.args.windows.now c.args.strip.now in
+    let is = IsOperandReady c.args.windows.now c.args.strip.now in
     of_last is c.operands.operands.items c.popped.new.operands.items c.popped.result c.popped.ensures
     (rw c.operands.invariant.rest (All-take is _ c.args.operands.now.items c.requires.ready))
 

@@ -1,8 +1,8 @@
 use Rattle.std.proofs.Common.{rules, arith, ◌≡◌, ◌∷◌, [], length, refl, w32, FitsSigned}
 use Rattle.std.proofs.lemmas.Int.{to_z-of_z}
 use Rattle.std.proofs.lemmas.Result.{IfOk-from_err}
-use Rattle.cell_operations.specs.Applied.{negated, inverted}
-use Rattle.cell_calc.specs.parts.Operands.{IsReady, operand_at}
+use Rattle.cell_calc_operators.specs.Applied.{negated, inverted}
+use Rattle.cell_calc.specs.parts.Operands.{IsOperandReady, operand_at}
 use Rattle.cell_calc.proofs.Operands.{front_is, back_is, none_taken, more_before, of_last, of_front, two_last}
 use Rattle.cell_calc.proofs.Written.{changed_width, changed}
 use Rattle.cell_calc.proofs.along.made.Goals as goal
@@ -15,7 +15,7 @@ row_of-requires-clause-strip c = c.requires.strip
 
 pub row_of-requires-clause-ready : goal.row_of-requires-clause-ready
 row_of-requires-clause-ready c =
-    of_last (IsReady c.args.windows.now c.args.strip.now) c.args.operands.now.items c.popped.new.operands.items c.popped.result c.popped.ensures
+    of_last (IsOperandReady c.args.windows.now c.args.strip.now) c.args.operands.now.items c.popped.new.operands.items c.popped.result c.popped.ensures
     c.requires.ready
 
 pub returns-in_err-row-in-Negated-clause-rest : goal.returns-in_err-row-in-Negated-clause-rest
@@ -55,7 +55,7 @@ row_of-requires-in-Not-clause-strip c = c.requires.strip
 
 pub row_of-requires-in-Not-clause-ready : goal.row_of-requires-in-Not-clause-ready
 row_of-requires-in-Not-clause-ready c =
-    of_last (IsReady c.args.windows.now c.args.strip.now) c.args.operands.now.items c.popped-in-Not.new.operands.items c.popped-in-Not.result
+    of_last (IsOperandReady c.args.windows.now c.args.strip.now) c.args.operands.now.items c.popped-in-Not.new.operands.items c.popped-in-Not.result
     c.popped-in-Not.ensures c.requires.ready
 
 pub returns-in_err-row-in-Not-clause-rest : goal.returns-in_err-row-in-Not-clause-rest
@@ -100,14 +100,14 @@ joined-requires-clause-strip c = c.requires.strip
 
 pub joined-requires-clause-left : goal.joined-requires-clause-left
 joined-requires-clause-left c =
-    let is = IsReady c.args.windows.now c.args.strip.now in
+    let is = IsOperandReady c.args.windows.now c.args.strip.now in
     let before = c.popped-right.new.operands.items in
     of_last is before c.popped-left.new.operands.items c.popped-left.result c.popped-left.ensures
     (of_front is c.args.operands.now.items before c.popped-right.result c.popped-right.ensures c.requires.ready)
 
 pub joined-requires-clause-right : goal.joined-requires-clause-right
 joined-requires-clause-right c =
-    of_last (IsReady c.args.windows.now c.args.strip.now) c.args.operands.now.items c.popped-right.new.operands.items c.popped-right.result
+    of_last (IsOperandReady c.args.windows.now c.args.strip.now) c.args.operands.now.items c.popped-right.new.operands.items c.popped-right.result
     c.popped-right.ensures c.requires.ready
 
 pub returns-in_err-row-in-Binary-clause-rest : goal.returns-in_err-row-in-Binary-clause-rest

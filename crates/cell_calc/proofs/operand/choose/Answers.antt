@@ -1,9 +1,9 @@
 use Rattle.std.proofs.Common.{rules, ◌<◌, ◌≡◌, ◌+◌, ◌+ℤ◌, ℕ, pos, sym, ap, ◌∙◌, None, w32, FitsSigned}
 use Rattle.std.proofs.lemmas.Int.{to_z-of_z}
 use Rattle.std.proofs.lemmas.Result.{IfOk-from_err}
-use Rattle.cell_operations.specs.Cells.{chosen}
-use Rattle.cell_operations.specs.Offsets.{item_at}
-use Rattle.cell_rows.specs.Rows.{at}
+use Rattle.cell_calc_operators.specs.CellOperators.{chosen}
+use Rattle.cell_calc_operators.specs.Offsets.{item_at}
+use Rattle.cell_calc_rows.specs.RowValues.{at}
 use Rattle.cell_calc.proofs.Operands.{on_ok}
 use Rattle.cell_calc.proofs.operand.choose.Goals as goal
 

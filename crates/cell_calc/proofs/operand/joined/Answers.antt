@@ -1,7 +1,7 @@
 use Rattle.std.proofs.Common.{◌≡◌, length, sym, ap, ◌∙◌, rules}
 use Rattle.std.proofs.lemmas.Result.{IfOk-from_err}
-use Rattle.cell_operations.specs.Applied.{applied}
-use Rattle.cell_rows.specs.Rows.{at}
+use Rattle.cell_calc_operators.specs.Applied.{applied}
+use Rattle.cell_calc_rows.specs.RowValues.{at}
 use Rattle.cell_calc.specs.parts.Operands.{operand_at}
 use Rattle.cell_calc.proofs.Rings.{written}
 use Rattle.cell_calc.proofs.Written.{at_written}

@@ -2,7 +2,7 @@ use Rattle.std.proofs.Common.{◌≡◌, ℕ, ◌<◌, List, length, get_or, ref
 use Rattle.std.proofs.lemmas.List.Elements.{All-set}
 use Rattle.cell_cats.specs.Rule.{RuleValue, new_category}
 use Rattle.cell_cats.specs.declared.known.Known.{Known}
-use Rattle.cell_cats.specs.parts.Known.{AreRight}
+use Rattle.cell_cats.specs.parts.KnownCategories.{AreRight}
 use Rattle.cell_cats.proofs.known.look_up.Goals as goal
 
 right_at : (rules : List RuleValue) (known : List Known) (at : ℕ) (k : Known)

@@ -1,7 +1,7 @@
 use Rattle.std.proofs.Common.{◌≡◌, ◌∙◌, length, ap, arith, sym, subst}
 use Rattle.std.proofs.lemmas.List.Elements.{All-replicate}
 use Rattle.cell_cats.specs.Rule.{new_category}
-use Rattle.cell_cats.specs.parts.Known.{AreRight}
+use Rattle.cell_cats.specs.parts.KnownCategories.{AreRight}
 use Rattle.cell_cats.specs.declared.known.Known.{Known}
 use Rattle.cell_cats.proofs.known.only_null.Goals as goal
 

@@ -2,24 +2,24 @@ use Rattle.std.proofs.Common.{◌≡◌, ℕ, Bool, true, false, List, map, Opti
 use Rattle.std.proofs.lemmas.Result.{IfOk-from_err, err_from_is_err_and}
 use Rattle.std.specs.Option.{is_some, option_map}
 use Rattle.std.specs.Prelude.{not}
-use Rattle.cell_text.specs.Blanks.{trimmed}
-use Rattle.cell_text.specs.Words.{list_words_of, pair_of}
-use Rattle.cell_cats.specs.RuleLine.{Left, is_star_left, is_output, output_word, label_of_right, left_of, listed_of, output_of, of_numbers, of_shape, of_sides, rule_of}
+use Rattle.cell_core_text.specs.Blanks.{trimmed}
+use Rattle.cell_core_text.specs.Words.{list_words_of, pair_of}
+use Rattle.cell_cats.specs.RuleLine.{Left, is_star_left, is_output, output_word, label_of_right, left_side, listed_of_line, output_of, of_numbers, of_shape, of_sides, rule_of}
 use Rattle.cell_cats.specs.declared.rules.RuleFault.TheVariants.{BadRule}
 use Rattle.cell_cats.proofs.line.rule_of.Goals as goal
 
 bad_left : (line l r : List ℕ) (words : List (List ℕ))
-    → Some (l, r) ≡ pair_of line → words ≡ list_words_of l → left_of words ≡ None → rule_of line ≡ Err BadRule
+    → Some (l, r) ≡ pair_of line → words ≡ list_words_of l → left_side words ≡ None → rule_of line ≡ Err BadRule
 bad_left line l r words sides split none =
-    ap of_sides (sym sides) ∙ ap (of_shape (trimmed r)) (ap left_of (sym split) ∙ none)
+    ap of_sides (sym sides) ∙ ap (of_shape (trimmed r)) (ap left_side (sym split) ∙ none)
 
 -- a line of two sides, the left of which is good
 module _ (line l r cut word : List ℕ) (words : List (List ℕ)) (left : Left) (star is : Bool)
-    (sides : Some (l, r) ≡ pair_of line) (split : words ≡ list_words_of l) (good : left_of words ≡ Some left)
+    (sides : Some (l, r) ≡ pair_of line) (split : words ≡ list_words_of l) (good : left_side words ≡ Some left)
     (cut_is : cut ≡ trimmed r) (word_is : word ≡ output_word cut) (star_is : star ≡ is_star_left left)
     (judged : is ≡ is_output star word) where
   shaped : rule_of line ≡ of_shape (trimmed r) (Some left)
-  shaped = ap of_sides (sym sides) ∙ ap (of_shape (trimmed r)) (ap left_of (sym split) ∙ good)
+  shaped = ap of_sides (sym sides) ∙ ap (of_shape (trimmed r)) (ap left_side (sym split) ∙ good)
 
   judgement : is_output (is_star_left left) (output_word (trimmed r)) ≡ is
   judgement =
@@ -30,7 +30,7 @@ module _ (line l r cut word : List ℕ) (words : List (List ℕ)) (left : Left) 
   wrong_output bad = shaped ∙ rw (judgement ∙ bad) refl
 
   by_numbers : is ≡ true → (label : List ℕ) → label ≡ label_of_right cut
-      → rule_of line ≡ of_numbers label (listed_of left) (output_of word)
+      → rule_of line ≡ of_numbers label (listed_of_line left) (output_of word)
   by_numbers well label label_is =
       shaped ∙ rw (judgement ∙ well, label_is, word_is, cut_is) refl
 

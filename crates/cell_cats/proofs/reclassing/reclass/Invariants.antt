@@ -1,6 +1,6 @@
 use Rattle.std.proofs.Common.{◌≡◌, ◌<◌, length, take}
 use Rattle.cell_cats.specs.Reclass.{new_rows}
-use Rattle.cell_cats.specs.parts.Known.{AreRight}
+use Rattle.cell_cats.specs.parts.KnownCategories.{AreRight}
 use Rattle.cell_cats.proofs.reclassing.reclass.Given as goal
 
 abbrev pub invariant-loop-r : goal.invariant-loop-r

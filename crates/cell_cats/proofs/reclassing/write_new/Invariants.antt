@@ -2,7 +2,7 @@ use Rattle.std.proofs.Common.{◌≡◌, ◌<◌, ◌+◌, ◌++◌, List, lengt
 use Rattle.cell_core.specs.Runs.{written_out}
 use Rattle.cell_cats.specs.Rule.{RuleValue}
 use Rattle.cell_cats.specs.Reclass.{new_row}
-use Rattle.cell_cats.specs.parts.Known.{AreRight}
+use Rattle.cell_cats.specs.parts.KnownCategories.{AreRight}
 use Rattle.cell_cats.specs.parts.Pieces.{AreOfRules}
 use Rattle.cell_cats.proofs.reclassing.write_new.Given as goal
 

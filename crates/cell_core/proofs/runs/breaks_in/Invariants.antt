@@ -1,5 +1,5 @@
 use Rattle.std.proofs.Common.{◌≡◌, ◌++◌, length, take, drop, map}
-use Rattle.cell_core.specs.parts.Rows.{marks}
+use Rattle.cell_core.specs.parts.RowForms.{marks}
 use Rattle.cell_core.proofs.MarkLemmas.{flag}
 use Rattle.cell_core.proofs.runs.breaks_in.Given as goal
 

@@ -1,5 +1,5 @@
 use Rattle.std.proofs.Common.{◌≡◌, ◌+◌, drop}
-use Rattle.cell_core.specs.parts.Rows.{alike}
+use Rattle.cell_core.specs.parts.RowForms.{alike}
 use Rattle.cell_core.proofs.runs.count_alike.Given as goal
 
 abbrev pub invariant-loop-next : goal.invariant-loop-next

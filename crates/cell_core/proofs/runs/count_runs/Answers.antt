@@ -1,7 +1,7 @@
 use Rattle.std.proofs.Common.{arith, rules, ◌≡◌, ◌<◌, ◌+◌, ◌++◌, [], ◌∷◌, All, length, take, true, false, ap, sym, ◌∙◌, take_all}
 use Rattle.std.proofs.lemmas.List.{take_more}
 use Rattle.std.proofs.lemmas.List.Elements.{All-push, All-same}
-use Rattle.cell_base.specs.Cell.{IsCell, cell_eq}
+use Rattle.cell_core_values.specs.Cell.{IsCell, cell_eq}
 use Rattle.cell_core.proofs.RowLemmas.{breaks-none, breaks-one, breaks-whole}
 use Rattle.cell_core.proofs.runs.count_runs.Goals as goal
 use Rattle.cell_core.proofs.runs.count_runs.Goals.{then-ne, else-ne}

@@ -1,6 +1,6 @@
 use Rattle.std.proofs.Common.{◌≡◌, ◌≤◌, ◌+◌, All, take, drop, length}
-use Rattle.cell_base.specs.Cell.{IsCell}
-use Rattle.cell_core.specs.parts.Rows.{breaks, runs_in}
+use Rattle.cell_core_values.specs.Cell.{IsCell}
+use Rattle.cell_core.specs.parts.RowForms.{breaks, runs_in}
 use Rattle.cell_core.proofs.runs.count_runs.Given as goal
 
 abbrev pub invariant-loop-cell : goal.invariant-loop-cell

@@ -1,5 +1,5 @@
 use Rattle.std.proofs.Common.{◌≡◌, ◌∙◌, sym, arith, true, false}
-use Rattle.cell_base.specs.Cell.{cell_eq}
+use Rattle.cell_core_values.specs.Cell.{cell_eq}
 use Rattle.cell_core.proofs.MarkLemmas.{last-same, last-other}
 use Rattle.cell_core.proofs.runs.push_last.Goals as goal
 use Rattle.cell_core.proofs.runs.push_last.Goals.{then-eq, else-eq+in_ok-push}

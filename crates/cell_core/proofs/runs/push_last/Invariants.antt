@@ -1,5 +1,5 @@
 use Rattle.std.proofs.Common.{◌≡◌, ◌+◌, ◌≤◌, ◌++◌, drop}
-use Rattle.cell_core.specs.parts.Rows.{runs_from}
+use Rattle.cell_core.specs.parts.RowForms.{runs_from}
 use Rattle.cell_core.proofs.runs.push_last.Given as goal
 
 abbrev pub invariant-loop-next : goal.invariant-loop-next

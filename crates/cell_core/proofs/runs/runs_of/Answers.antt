@@ -2,7 +2,7 @@ use Rattle.std.proofs.Common.{◌≡◌, ◌∙◌, ◌+◌, ◌++◌, [], List,
 use Rattle.std.proofs.lemmas.List.{nil_from_length, take_rest}
 use Rattle.cell_core.specs.Grid.{CellValue}
 use Rattle.cell_core.specs.Runs.{RunValue, AreRuns, written_out}
-use Rattle.cell_core.specs.parts.Rows.{runs_in, runs_from}
+use Rattle.cell_core.specs.parts.RowForms.{runs_in, runs_from}
 use Rattle.cell_core.proofs.RowLemmas.{written_out-runs_in, AreRuns-runs_in}
 use Rattle.cell_core.proofs.MarkLemmas.{run_begins, block_after}
 use Rattle.cell_core.proofs.runs.runs_of.Goals as goal

@@ -1,6 +1,6 @@
 use Rattle.std.proofs.Common.{◌≡◌, ◌≤◌, ℕ, eqb, not, length, take, w8, ap, ◌∙◌, arith, length-take, take_all}
 use Rattle.std.proofs.lemmas.Simd.{bitmask_splat}
-use Rattle.cell_core.specs.parts.Rows.{flag_bits}
+use Rattle.cell_core.specs.parts.RowForms.{flag_bits}
 use Rattle.cell_core.proofs.runs.set_bits.Goals as goal
 
 pub returns : goal.returns

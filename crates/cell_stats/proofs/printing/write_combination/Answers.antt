@@ -1,5 +1,5 @@
 use Rattle.std.proofs.Common.{ℕ, ◌<◌, length}
-use Rattle.cell_devices.proofs.BlockLemmas.{appends_then}
+use Rattle.cell_core_devices.proofs.BlockLemmas.{appends_then}
 use Rattle.cell_stats.proofs.LineLemmas.{All-others, length-others, combination-parts}
 use Rattle.cell_stats.proofs.printing.write_combination.Goals as goal
 

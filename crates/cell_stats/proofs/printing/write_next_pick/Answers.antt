@@ -1,4 +1,4 @@
-use Rattle.cell_devices.proofs.BlockLemmas.{appends_then}
+use Rattle.cell_core_devices.proofs.BlockLemmas.{appends_then}
 use Rattle.cell_stats.proofs.printing.write_next_pick.Goals as goal
 
 pub returns : goal.returns

@@ -1,8 +1,8 @@
 use Rattle.std.proofs.Common.{◌≡◌, ◌<◌, ℕ, get_or, arith, take, take_all}
 use Rattle.std.proofs.lemmas.Slice.Zip.{length-zip}
 use Rattle.std.specs.List.{zip}
-use Rattle.cell_devices.proofs.PieceLemmas.{flat_map-take}
-use Rattle.cell_devices.proofs.BlockLemmas.{appends_then}
+use Rattle.cell_core_devices.proofs.PieceLemmas.{flat_map-take}
+use Rattle.cell_core_devices.proofs.BlockLemmas.{appends_then}
 use Rattle.cell_stats.specs.parts.Preceded.{next_text}
 use Rattle.cell_stats.proofs.LineLemmas.{zip-at, zip-within}
 use Rattle.cell_stats.proofs.printing.write_others.Goals as goal

@@ -1,6 +1,6 @@
 use Rattle.std.proofs.Common.{take, flat_map}
 use Rattle.std.specs.List.{zip}
-use Rattle.cell_devices.specs.Blocks.{Appends}
+use Rattle.cell_core_devices.specs.Blocks.{Appends}
 use Rattle.cell_stats.specs.parts.Preceded.{next_text}
 use Rattle.cell_stats.proofs.printing.write_others.Given as goal
 

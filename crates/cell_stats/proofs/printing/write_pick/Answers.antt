@@ -1,5 +1,5 @@
 use Rattle.std.proofs.Common.{sym, ◌∙◌}
-use Rattle.cell_devices.proofs.BlockLemmas.{appends_then}
+use Rattle.cell_core_devices.proofs.BlockLemmas.{appends_then}
 use Rattle.cell_stats.proofs.LineLemmas.{pick_text-with, pick_text-without}
 use Rattle.cell_stats.proofs.printing.write_pick.Goals as goal
 

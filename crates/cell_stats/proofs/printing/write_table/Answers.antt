@@ -1,9 +1,9 @@
 use Rattle.std.proofs.Common.{◌≡◌, ℕ, length, take, drop, get_or, flat_map, take_all, ap, sym, ◌∙◌, ◌++◌}
 use Rattle.std.proofs.lemmas.List.{take-append-drop}
 use Rattle.std.proofs.lemmas.List.Concat.{flat_map-append}
-use Rattle.cell_devices.proofs.PieceLemmas.{flat_map-take}
-use Rattle.cell_devices.proofs.BlockLemmas.{appends_cut, appends_then}
-use Rattle.cell_combinations.specs.Combinations.{Combination}
+use Rattle.cell_core_devices.proofs.PieceLemmas.{flat_map-take}
+use Rattle.cell_core_devices.proofs.BlockLemmas.{appends_cut, appends_then}
+use Rattle.cell_stats_combinations.specs.Combinations.{Combination}
 use Rattle.cell_stats.specs.TableText.{pair_line}
 use Rattle.cell_stats.proofs.printing.write_table.Goals as goal
 

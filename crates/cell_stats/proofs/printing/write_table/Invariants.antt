@@ -1,5 +1,5 @@
 use Rattle.std.proofs.Common.{take, flat_map}
-use Rattle.cell_devices.specs.Blocks.{Appends}
+use Rattle.cell_core_devices.specs.Blocks.{Appends}
 use Rattle.cell_stats.specs.TableText.{pair_line}
 use Rattle.cell_stats.proofs.printing.write_table.Given as goal
 

@@ -1,7 +1,7 @@
 use Rattle.std.proofs.Common.{ap}
 use Rattle.std.proofs.lemmas.Result.{IfOk-from_err}
-use Rattle.cell_combinations.specs.Combinations.{all_combinations}
-use Rattle.cell_stats.specs.Tables.{TableValue}
+use Rattle.cell_stats_combinations.specs.Combinations.{all_combinations}
+use Rattle.cell_stats.specs.CategoryTables.{TableValue}
 use Rattle.cell_stats.proofs.TableLemmas.{IsTable-listed, one_table_kept, table_is}
 use Rattle.cell_stats.proofs.WidthLemmas.{table-wide}
 use Rattle.cell_stats.proofs.tallying.tally.Goals as goal

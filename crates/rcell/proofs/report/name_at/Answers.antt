@@ -2,15 +2,15 @@ use Rattle.std.proofs.Common.{◌≡◌, ◌∙◌, ◌<◌, ◌≤◌, ℕ, Lis
 use Rattle.std.proofs.Math.ListN.{get_or-eq_default}
 use Rattle.std.proofs.lemmas.Bool.Decides.{nat_tests}
 use Rattle.std.proofs.lemmas.Option.{slice_get-get_or, unwrap_or-slice_get}
-use Rattle.rcell.specs.Reports.{name_at}
+use Rattle.rcell.specs.Reports.{name_at_place}
 use Rattle.rcell.proofs.report.name_at.Goals as goal
 
-named : (names : List (List ℕ)) (grid : ℕ) (name : List ℕ) → true ≡ nat_lt grid (length names) → name ≡ get_or names grid name → name ≡ name_at names grid
+named : (names : List (List ℕ)) (grid : ℕ) (name : List ℕ) → true ≡ nat_lt grid (length names) → name ≡ get_or names grid name → name ≡ name_at_place names grid
 named names grid name within is =
     let below : grid < length names = grind (arith, nat_tests) in
     is ∙ sym (ap (λ o. unwrap_or o []) (slice_get-get_or names grid name below))
 
-no_name : (names : List (List ℕ)) (grid : ℕ) → false ≡ nat_lt grid (length names) → [] ≡ name_at names grid
+no_name : (names : List (List ℕ)) (grid : ℕ) → false ≡ nat_lt grid (length names) → [] ≡ name_at_place names grid
 no_name names grid past =
     let least : length names ≤ grid = grind (arith, nat_tests) in
     sym (unwrap_or-slice_get names grid [] ∙ get_or-eq_default names [] least)

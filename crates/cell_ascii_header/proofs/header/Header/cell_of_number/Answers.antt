@@ -1,7 +1,7 @@
 use Rattle.std.proofs.Common.{sym, ◌∙◌, rules, w64}
 use Rattle.std.specs.Int.RustNames.{FitsSigned}
 use Rattle.std.proofs.lemmas.Int.{to_z-of_z}
-use Rattle.cell_ascii_text.specs.Header.{Header}
+use Rattle.cell_ascii_meaning.specs.Header.{Header}
 use Rattle.cell_ascii_header.proofs.NumberLemmas.{plain_cell}
 use Rattle.cell_ascii_header.proofs.header.Header.cell_of_number.Goals as goal
 

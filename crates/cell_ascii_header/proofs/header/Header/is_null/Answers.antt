@@ -1,9 +1,9 @@
 use Rattle.std.proofs.Common.{◌≡◌, ◌≢◌, ◌∙◌, ap, sym, ℕ, ℤ, List, Some, true, false, bytes_eq, w64, of_z, rules}
 use Rattle.std.specs.Int.RustNames.{FitsSigned}
 use Rattle.std.proofs.lemmas.Int.{to_z-of_z}
-use Rattle.cell_base.proofs.NameLemmas.{bytes_eq-differ}
-use Rattle.cell_text.specs.Capped.{capped_number}
-use Rattle.cell_ascii_text.specs.Numbers.{whole_number, is_in_range}
+use Rattle.cell_core_values.proofs.NameLemmas.{bytes_eq-differ}
+use Rattle.cell_core_text.specs.Capped.{capped_number}
+use Rattle.cell_ascii_meaning.specs.EdgeNumbers.{whole_number, is_in_range}
 use Rattle.cell_ascii_header.proofs.NumberLemmas.{capped_same}
 use Rattle.cell_ascii_header.proofs.header.Header.is_null.Goals as goal
 

@@ -1,7 +1,7 @@
 use Rattle.std.proofs.Common.{◌≡◌, ◌∙◌, ap, map, arith}
 use Rattle.std.proofs.lemmas.List.{take_all}
-use Rattle.cell_ascii_text.specs.Cells.{cell_of_word}
-use Rattle.cell_ascii_text.specs.GridText.{data_words, line_words}
+use Rattle.cell_ascii_meaning.specs.CellTexts.{cell_of_word}
+use Rattle.cell_ascii_meaning.specs.GridText.{data_words, line_words}
 use Rattle.cell_ascii_tests.specs.Seen.{texts, words_of_each}
 use Rattle.cell_ascii_tests.proofs.ListLemmas.{text_lines}
 use Rattle.cell_ascii_tests.proofs.definition.cells.cells.Goals as goal

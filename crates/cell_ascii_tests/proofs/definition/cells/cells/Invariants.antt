@@ -1,5 +1,5 @@
 use Rattle.std.proofs.Common.{◌≡◌, take, map}
-use Rattle.cell_ascii_text.specs.Cells.{cell_of_word}
+use Rattle.cell_ascii_meaning.specs.CellTexts.{cell_of_word}
 use Rattle.cell_ascii_tests.specs.Seen.{texts}
 use Rattle.cell_ascii_tests.proofs.definition.cells.cells.Given as goal
 

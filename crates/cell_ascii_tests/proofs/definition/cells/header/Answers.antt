@@ -1,6 +1,6 @@
 use Rattle.std.proofs.Common.{◌∙◌, ap}
 use Rattle.std.proofs.lemmas.Result.{IfOk-weaker}
-use Rattle.cell_ascii_text.specs.Places.{header_in}
+use Rattle.cell_ascii_meaning.specs.FaultPlaces.{header_in}
 use Rattle.cell_ascii_tests.specs.Seen.{words_of_each}
 use Rattle.cell_ascii_tests.proofs.ListLemmas.{text_lines}
 use Rattle.cell_ascii_tests.proofs.definition.cells.header.Goals as goal

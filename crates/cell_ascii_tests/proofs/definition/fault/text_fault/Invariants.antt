@@ -1,5 +1,5 @@
 use Rattle.std.proofs.Common.{◌≡◌, take, drop, []}
-use Rattle.cell_ascii_text.specs.Places.{whole_table, first_told}
+use Rattle.cell_ascii_meaning.specs.FaultPlaces.{whole_table, first_told}
 use Rattle.cell_ascii_tests.proofs.definition.fault.text_fault.Given as goal
 
 abbrev pub invariant-loop-i : goal.invariant-loop-i

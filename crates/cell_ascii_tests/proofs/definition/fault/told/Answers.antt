@@ -1,15 +1,15 @@
 use Rattle.std.proofs.Common.{◌∙◌, ap, sym}
 use Rattle.std.specs.Option.{option_map}
-use Rattle.cell_ascii_text.specs.GridText.{data_words}
-use Rattle.cell_ascii_text.specs.Words.{fault}
-use Rattle.cell_ascii_text.specs.Places.{whole_table, header_in}
+use Rattle.cell_ascii_meaning.specs.GridText.{data_words}
+use Rattle.cell_ascii_meaning.specs.GridTokens.{grid_fault}
+use Rattle.cell_ascii_meaning.specs.FaultPlaces.{whole_table, header_in}
 use Rattle.cell_ascii_tests.specs.Seen.{texts, words_of_each, place_seen}
 use Rattle.cell_ascii_tests.proofs.ToldLemmas.{told_is}
 use Rattle.cell_ascii_tests.proofs.definition.fault.told.Goals as goal
 
 pub returns-in-Some : goal.returns-in-Some
 returns-in-Some c =
-    ap (option_map (λ k. fault k c.line_of-line.result)) (sym c.in-Some.is)
+    ap (option_map (λ k. grid_fault k c.line_of-line.result)) (sym c.in-Some.is)
     ∙ told_is whole_table c.args.before.now (place_seen c.args.place) c.in_ok-lines.lines.items c.gap_of-gap.result c.line_of-line.result c.in_ok-token.token.now c.last_of.result.now c.in_ok-inside.inside
     (words_of_each c.earlier_lines-earlier.result.now) (texts c.in_ok-line.line.items) (texts c.in_ok-words.words.items) _ c.in_ok-kind.kind
     c.in_ok-lines.ensures c.gap_of-gap.ensures c.line_of-line.ensures c.in_ok-token.ensures (rw c.deref.ensures.value at c.last_of.ensures) c.in_ok-line.ensures
@@ -19,7 +19,7 @@ returns-in-Some c =
 
 pub returns : goal.returns
 returns c =
-    ap (option_map (λ k. fault k c.line_of-line.result)) (sym c.in-None.is)
+    ap (option_map (λ k. grid_fault k c.line_of-line.result)) (sym c.in-None.is)
     ∙ told_is whole_table c.args.before.now (place_seen c.args.place) c.in_ok-lines.lines.items c.gap_of-gap.result c.line_of-line.result c.in_ok-token.token.now c.last_of.result.now c.in_ok-inside.inside
     (words_of_each c.earlier_lines-earlier.result.now) (texts c.in_ok-line.line.items) (texts c.in_ok-words.words.items) _ c.in_ok-kind.kind
     c.in_ok-lines.ensures c.gap_of-gap.ensures c.line_of-line.ensures c.in_ok-token.ensures (rw c.deref.ensures.value at c.last_of.ensures) c.in_ok-line.ensures

@@ -1,6 +1,6 @@
 use Rattle.std.proofs.Common.{◌≡◌, ◌+◌, drop, not, List, ℕ}
 use Rattle.std.specs.List.{prefix_len}
-use Rattle.cell_ascii_text.specs.GridText.{is_data_line}
+use Rattle.cell_ascii_meaning.specs.GridText.{is_data_line}
 use Rattle.cell_ascii_tests.specs.Seen.{words_of_each}
 use Rattle.cell_ascii_tests.proofs.definition.header.lines_before_data.Given as goal
 

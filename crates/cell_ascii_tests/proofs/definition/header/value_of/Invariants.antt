@@ -1,5 +1,5 @@
 use Rattle.std.proofs.Common.{◌≡◌, drop}
-use Rattle.cell_ascii_text.specs.GridText.{value_of}
+use Rattle.cell_ascii_meaning.specs.GridText.{value_of}
 use Rattle.cell_ascii_tests.specs.Seen.{words_of_each}
 use Rattle.cell_ascii_tests.proofs.definition.header.value_of.Given as goal
 

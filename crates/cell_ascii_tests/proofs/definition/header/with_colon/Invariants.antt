@@ -1,6 +1,6 @@
 use Rattle.std.proofs.Common.{◌≡◌, take}
 use Rattle.std.specs.List.{filter}
-use Rattle.cell_ascii_text.specs.GridText.{is_header_line}
+use Rattle.cell_ascii_meaning.specs.GridText.{is_header_line}
 use Rattle.cell_ascii_tests.specs.Seen.{words_of_each}
 use Rattle.cell_ascii_tests.proofs.definition.header.with_colon.Given as goal
 

@@ -2,19 +2,19 @@ use Rattle.std.proofs.Common.{ℕ, ℤ, ◌≡◌, ◌∙◌, ap, rules, refl, S
 use Rattle.std.specs.Option.{option_copied}
 use Rattle.std.specs.Int.RustNames.{FitsSigned}
 use Rattle.std.proofs.lemmas.Int.{to_z-of_z}
-use Rattle.cell_base.specs.Region.{RegionValue, region_fault}
-use Rattle.cell_base.specs.declared.region.RegionFault.{RegionFault}
-use Rattle.cell_ascii_text.specs.Header.{Keys, header_of, judged}
-use Rattle.cell_ascii_header.specs.Given.{judged as judged_parts}
+use Rattle.cell_core_values.specs.Region.{RegionValue, region_fault}
+use Rattle.cell_core_values.specs.declared.region.RegionFault.{RegionFault}
+use Rattle.cell_ascii_meaning.specs.Header.{Keys, header_of, header_of_keys}
+use Rattle.cell_ascii_header.specs.Given.{keys_judged as judged_parts}
 use Rattle.cell_ascii_tests.proofs.definition.keys.header_of.Goals as goal
 
-parts_judged : (k : Keys) (r : Result RegionValue RegionFault) → judged_parts r k.null k.multiplier ≡ judged k r
+parts_judged : (k : Keys) (r : Result RegionValue RegionFault) → judged_parts r k.null k.multiplier ≡ header_of_keys k r
 parts_judged k (Ok region) = refl
 parts_judged k (Err f) = refl
 
 -- where each of the six keys stood, the header is judged by their region
 all_given : (k : Keys) (north south east west : ℤ) (rows cols : ℕ) → k.north ≡ Some north → k.south ≡ Some south → k.east ≡ Some east → k.west ≡ Some west → k.rows ≡ Some rows → k.cols ≡ Some cols
-    → judged k (region_fault (record { north = north; south = south; east = east; west = west; rows = rows; cols = cols })) ≡ header_of k
+    → header_of_keys k (region_fault (record { north = north; south = south; east = east; west = west; rows = rows; cols = cols })) ≡ header_of k
 all_given k north south east west rows cols n s e w r c = rw (n, s, e, w, r, c) refl
 
 region_same : {a b c d x y z t : ℤ} → a ≡ x → b ≡ y → c ≡ z → d ≡ t → (rows cols : ℕ)

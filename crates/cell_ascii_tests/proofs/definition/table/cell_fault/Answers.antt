@@ -1,9 +1,9 @@
 use Rattle.std.proofs.Common.{◌≡◌, ◌∙◌, ◌≤◌, ap, sym, arith, List, [], ◌∷◌, length, ℕ, Bor, Result, Ok, Option}
 use Rattle.cell_core.specs.Grid.{CellValue}
-use Rattle.cell_ascii_text.specs.Header.{Header}
-use Rattle.cell_ascii_text.specs.Cells.{cell_of_word}
-use Rattle.cell_ascii_text.specs.Places.{cell_fault, why_not}
-use Rattle.cell_ascii_text.specs.declared.fault.GridKind.{GridKind}
+use Rattle.cell_ascii_meaning.specs.Header.{Header}
+use Rattle.cell_ascii_meaning.specs.CellTexts.{cell_of_word}
+use Rattle.cell_ascii_meaning.specs.FaultPlaces.{cell_fault, why_not}
+use Rattle.cell_ascii_meaning.specs.declared.grid_fault.GridKind.{GridKind}
 use Rattle.cell_ascii_tests.specs.Seen.{texts}
 use Rattle.cell_ascii_tests.proofs.definition.table.cell_fault.Goals as goal
 

@@ -1,6 +1,6 @@
 use Rattle.std.proofs.Common.{◌≡◌, drop}
 use Rattle.std.specs.List.{list_any}
-use Rattle.cell_ascii_text.specs.GridText.{is_data_line}
+use Rattle.cell_ascii_meaning.specs.GridText.{is_data_line}
 use Rattle.cell_ascii_tests.specs.Seen.{words_of_each}
 use Rattle.cell_ascii_tests.proofs.definition.table.has_data_line.Given as goal
 

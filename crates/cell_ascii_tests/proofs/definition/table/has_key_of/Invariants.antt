@@ -1,5 +1,5 @@
 use Rattle.std.proofs.Common.{◌≡◌, drop}
-use Rattle.cell_ascii_text.specs.Places.{has_key_of}
+use Rattle.cell_ascii_meaning.specs.FaultPlaces.{has_key_of}
 use Rattle.cell_ascii_tests.specs.Seen.{texts, words_of_each}
 use Rattle.cell_ascii_tests.proofs.definition.table.has_key_of.Given as goal
 

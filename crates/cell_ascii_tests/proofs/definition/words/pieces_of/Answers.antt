@@ -2,7 +2,7 @@ use Rattle.std.proofs.Common.{rules}
 use borrow.Author.Tests.{tests}
 use Rattle.std.proofs.lemmas.Iterator.Consumers.{map_from_collect}
 use Rattle.std.proofs.lemmas.Iterator.Splits.{YieldsList-from_slice_split}
-use Rattle.cell_ascii_text.specs.Words.{is_space}
+use Rattle.cell_ascii_meaning.specs.GridTokens.{is_space}
 use Rattle.cell_ascii_tests.proofs.definition.words.pieces_of.Goals as goal
 
 pub returns : goal.returns

@@ -1,6 +1,6 @@
 use Rattle.std.proofs.Common.{◌≡◌, take}
 use Rattle.std.specs.List.{filter}
-use Rattle.cell_ascii_text.specs.GridText.{is_token}
+use Rattle.cell_ascii_meaning.specs.GridText.{is_token}
 use Rattle.cell_ascii_tests.specs.Seen.{texts}
 use Rattle.cell_ascii_tests.proofs.definition.words.tokens_of.Given as goal
 

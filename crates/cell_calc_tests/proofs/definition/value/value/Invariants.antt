@@ -1,5 +1,5 @@
 use Rattle.std.proofs.Common.{◌≡◌, [], drop}
-use Rattle.cell_operations.specs.Applied.{spot}
+use Rattle.cell_calc_operators.specs.Applied.{spot}
 use Rattle.cell_calc_tests.specs.Steps.{step_value, after}
 use Rattle.cell_calc_tests.proofs.definition.value.value.Given as goal
 

@@ -1,8 +1,8 @@
 use Rattle.std.proofs.Common.{◌≡◌, ◌∙◌, ◌<◌, ◌≤◌, ◌++◌, ◌∷◌, [], ℕ, List, All, length, refl, sym, ap, arith, length-append}
 use Rattle.std.proofs.lemmas.List.Elements.{All-push}
 use Rattle.std.proofs.lemmas.Result.{err_from_is_err_and}
-use Rattle.cell_base.specs.Cell.{IsCell}
-use Rattle.cell_base.specs.Region.{RegionValue}
+use Rattle.cell_core_values.specs.Cell.{IsCell}
+use Rattle.cell_core_values.specs.Region.{RegionValue}
 use Rattle.cell_core.specs.Grid.{CellValue, Draft, IsDraft, AreCells}
 use Rattle.cell_core.proofs.map.MapBuilder.push_row.Goals as goal
 

@@ -2,7 +2,7 @@ use Rattle.std.proofs.Common.{◌≡◌, ◌∙◌, ◌+◌, ◌-◌, ◌*◌, �
 use Rattle.std.proofs.lemmas.List.{nil_from_length}
 use Rattle.cell_core.specs.Runs.{RunValue}
 use Rattle.cell_core.specs.Grid.{CellValue}
-use Rattle.cell_core.specs.parts.Rows.{runs_in, runs_left, IsShort}
+use Rattle.cell_core.specs.parts.RowForms.{runs_in, runs_left, IsShort}
 use Rattle.cell_core.proofs.RowLemmas.{runs_in-rest}
 use Rattle.cell_core.proofs.runs.RunsIterator.next.Goals as goal
 

@@ -1,6 +1,6 @@
 use Rattle.std.proofs.Common.{◌≡◌, ℕ, All, length, ◌-◌, subst, sym}
-use Rattle.cell_combinations.specs.Combinations.{Combination}
-use Rattle.cell_stats.specs.Tables.{Pairs}
+use Rattle.cell_stats_combinations.specs.Combinations.{Combination}
+use Rattle.cell_stats.specs.CategoryTables.{Pairs}
 use Rattle.cell_stats.proofs.WidthLemmas.{All-part}
 use Rattle.cell_stats.proofs.table.Table.printed.Goals as goal
 

@@ -1,6 +1,6 @@
 use Rattle.std.proofs.Common.{◌≡◌, take, drop, [], false}
-use Rattle.cell_script.specs.Fitting.{Fits}
-use Rattle.rcell.specs.parts.Steps.{HasExecuted}
+use Rattle.rcell_script.specs.FittingScripts.{Fits}
+use Rattle.rcell.specs.parts.OutputSteps.{HasExecuted}
 use Rattle.rcell.proofs.runs.execution.execute.Given as goal
 
 abbrev pub invariant-loop-statement : goal.invariant-loop-statement

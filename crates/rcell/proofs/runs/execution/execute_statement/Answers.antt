@@ -1,7 +1,7 @@
 use Rattle.std.proofs.Common.{◌≡◌, Result, Ok, Err, refl}
 use Rattle.std.specs.Result.{OnOk, OnErr}
-use Rattle.cell_ascii_text.specs.Writing.{grid_text}
-use Rattle.cell_devices.proofs.BlockLemmas.{appends_none}
+use Rattle.cell_ascii_meaning.specs.Writing.{grid_text}
+use Rattle.cell_core_devices.proofs.BlockLemmas.{appends_none}
 use Rattle.rcell.specs.Output.{command_text, stats_text}
 use Rattle.rcell.proofs.runs.ExecutionLemmas.{grid_command, stats_command}
 use Rattle.rcell.proofs.runs.execution.execute_statement.Goals as goal

@@ -1,16 +1,16 @@
 use Rattle.std.proofs.Common.{◌≡◌, ℕ, List, Option, None, Some, Result, Ok, Err, refl, unwrap_or}
 use Rattle.std.specs.Prelude.{IfSome, IsSome}
-use Rattle.cell_devices.specs.Device.{Coming}
-use Rattle.cell_script.specs.ReadScripts.{IsScriptFault}
-use Rattle.cell_script.specs.ScriptLaw.{OneScript, NoFaultOfAScript}
-use Rattle.cell_script.specs.Scripts.{IsScript}
-use Rattle.cell_commands.specs.declared.fault.ScriptFault.{ScriptFault}
-use Rattle.cell_script.specs.declared.statement.Statement.{Statement}
-use Rattle.cell_loading.specs.ScriptText.{script_text}
-use Rattle.cell_loading.specs.Sources.{coming_of, nothing}
-use Rattle.cell_loading.specs.declared.fault.RunFault.{RunFault}
-use Rattle.cell_loading.specs.declared.fault.RunFault.TheVariants.{Script}
-use Rattle.rcell.specs.runs.Endings.{Reads, IsScriptRefusal}
+use Rattle.cell_core_devices.specs.Device.{Coming}
+use Rattle.rcell_script.specs.ReadScripts.{IsScriptFault}
+use Rattle.rcell_script.specs.ScriptLaw.{OneScript, NoFaultOfAScript}
+use Rattle.rcell_script.specs.Scripts.{IsScript}
+use Rattle.rcell_script_commands.specs.declared.script_fault.ScriptFault.{ScriptFault}
+use Rattle.rcell_script.specs.declared.statement.Statement.{Statement}
+use Rattle.rcell_loading.specs.ScriptText.{script_text}
+use Rattle.rcell_loading.specs.Sources.{coming_of, nothing}
+use Rattle.rcell_loading.specs.declared.run_fault.RunFault.{RunFault}
+use Rattle.rcell_loading.specs.declared.run_fault.RunFault.TheVariants.{Script}
+use Rattle.rcell.specs.runs.Endings.{ReadsScript, IsScriptRefusal}
 use Rattle.rcell.proofs.runs.running.read_statements.Goals as goal
 
 -- what holds of what a source gives, where it is known
@@ -25,16 +25,16 @@ not_both : {text : List ℕ} {fault : RunFault} {read : Result (List ℕ) RunFau
 not_both refused bytes = cc
 
 module _ (known names : List (List ℕ)) (text now : List ℕ) (script : Coming) (bytes : script_text script ≡ Ok text) (is_text : now ≡ text) (are_names : names ≡ known) where
-  reads_of : (statements : List Statement) → IsScript names now statements → Reads known script statements
+  reads_of : (statements : List Statement) → IsScript names now statements → ReadsScript known script statements
   reads_of statements denoted = record { text = text; bytes = bytes; denoted = rw (are_names, is_text) at denoted }
 
-  only_one : OneScript → (a b : List Statement) → IsScript names now a → Reads known script b → a ≡ b
+  only_one : OneScript → (a b : List Statement) → IsScript names now a → ReadsScript known script b → a ≡ b
   only_one one a b denoted reads = one known text a b (rw (are_names, is_text) at denoted) (rw (one_text bytes reads.bytes) at reads.denoted)
 
   refused_by : (fault : ScriptFault) → IsScriptFault names now fault → IsScriptRefusal known script (Script fault)
   refused_by fault is = rw bytes (fault, (rw (are_names, is_text) at is, refl))
 
-  no_fault : NoFaultOfAScript → (statements : List Statement) (fault : ScriptFault) → Reads known script statements → IsScriptFault names now fault → ⊥
+  no_fault : NoFaultOfAScript → (statements : List Statement) (fault : ScriptFault) → ReadsScript known script statements → IsScriptFault names now fault → ⊥
   no_fault none statements fault reads is =
       none known text statements fault (rw (one_text bytes reads.bytes) at reads.denoted) (rw (are_names, is_text) at is)
 

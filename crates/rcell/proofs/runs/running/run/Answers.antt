@@ -1,11 +1,11 @@
 use Rattle.std.proofs.Common.{◌≡◌, ◌<◌, ℕ, Option, Some, None, Result, Ok, Err, true, false, length, refl, sym, ◌∙◌, arith}
 use Rattle.std.specs.Prelude.{IfSome, IsNone}
-use Rattle.cell_loading.specs.Faults.{IsBeforeExecution, IsInExecution, IsOfInput, IsOfMemory, IsTold}
-use Rattle.cell_loading.specs.declared.fault.RunFault.{RunFault}
-use Rattle.cell_loading.specs.declared.fault.RunFault.TheVariants.{GridTwice, GridRegion, Grid, ScriptRead, ScriptSize, Script, Memory, Write}
-use Rattle.rcell.specs.runs.Statuses.{status_of, status_after}
-use Rattle.cell_loading.specs.Sources.{known_of, coming_of}
-use Rattle.cell_devices.specs.Device.{has_failed}
+use Rattle.rcell_loading.specs.RunFaults.{IsBeforeExecution, IsInExecution, IsOfInput, IsOfMemory, NamesItsGrid}
+use Rattle.rcell_loading.specs.declared.run_fault.RunFault.{RunFault}
+use Rattle.rcell_loading.specs.declared.run_fault.RunFault.TheVariants.{GridTwice, GridRegion, Grid, ScriptRead, ScriptSize, Script, Memory, Write}
+use Rattle.rcell.specs.runs.Statuses.{fault_status, status_after}
+use Rattle.rcell_loading.specs.Sources.{known_of, coming_of}
+use Rattle.cell_core_devices.specs.Device.{has_failed}
 use Rattle.rcell.proofs.runs.EndLemmas.{failing_none, sound, write}
 use Rattle.rcell.proofs.runs.AcceptedLemmas.{when_accepted}
 use Rattle.rcell.proofs.runs.WrittenLemmas.{read_written, read_refused}
@@ -50,7 +50,7 @@ not_input (Script fault) late input = absurd late
 not_input (Memory line) late input = absurd input
 not_input Write late input = absurd input
 
-late_told : (grids : ℕ) (fault : RunFault) → IsInExecution fault → IsTold grids fault
+late_told : (grids : ℕ) (fault : RunFault) → IsInExecution fault → NamesItsGrid grids fault
 late_told grids (GridTwice grid) late = absurd late
 late_told grids (GridRegion grid) late = absurd late
 late_told grids (Grid grid fault) late = absurd late
@@ -60,7 +60,7 @@ late_told grids (Script fault) late = absurd late
 late_told grids (Memory line) late = tt
 late_told grids Write late = tt
 
-not_zero : {X : Type 0} (fault : RunFault) → IsInExecution fault → status_of fault ≡ 0 → X
+not_zero : {X : Type 0} (fault : RunFault) → IsInExecution fault → fault_status fault ≡ 0 → X
 not_zero (GridTwice grid) late zero = absurd late
 not_zero (GridRegion grid) late zero = absurd late
 not_zero (Grid grid fault) late zero = absurd late

@@ -1,0 +1,17 @@
+use Rattle.std.proofs.Common.{◌≡◌, ◌∙◌, false, ap, sym, subst}
+use Rattle.std.specs.Option.{IfSome}
+use Rattle.cell_ascii_scanner.specs.Ahead.{bytes_to_come}
+use Rattle.cell_ascii.specs.Reader.{at_place}
+use Rattle.cell_ascii_meaning.specs.RowPlaces.{end_fault}
+use Rattle.cell_ascii.specs.GridReaders.{ReaderValue, reader_place, fault_of_reading}
+use Rattle.cell_ascii.proofs.RowReadLemmas.{end_answers}
+use Rattle.cell_ascii.proofs.grid_reader.GridReader.end.Goals as goal
+
+pub returns-clause-told : goal.returns-clause-told
+returns-clause-told g c =
+    let i = c.self.inside in
+    let left : i.rows_left ≡ c.args.self.now.rows_left = ap (λ (r : ReaderValue). r.rows_left) c.self.view_is in
+    let live : c.args.self.now.failed ≡ false = sym (ap (λ (r : ReaderValue). r.failed) c.self.view_is) ∙ c.if-self.false in
+    let none : i.rows_left ≡ 0 = left ∙ c.requires.done live in
+    subst (λ (r : ReaderValue). r.failed ≡ false → IfSome r.coming (λ x. fault_of_reading c.finish.result ≡ end_fault (reader_place r x))) c.self.view_is
+    (λ live. end_answers (at_place i.cells) i.rows_left (bytes_to_come i.cells.ahead) (bytes_to_come c.finish.new.self.ahead) c.finish.result none (c.self.invariant.placed live) c.finish.ensures.end)

@@ -1,0 +1,29 @@
+use Rattle.std.proofs.lemmas.Result.{err_from_is_err_and}
+use Rattle.std.proofs.Common.{◌≡◌, ap, Some, Err}
+use Rattle.cell_core_devices.specs.Asking.{Heard}
+use Rattle.cell_ascii_scanner.specs.Ahead.{bytes_to_come}
+use Rattle.cell_ascii_meaning.specs.Header.{header_of_text}
+use Rattle.cell_ascii_meaning.specs.FaultPlaces.{opening_fault}
+use Rattle.cell_ascii.specs.Reader.{at_place}
+use Rattle.cell_ascii_law_faults.proofs.GridFaultLemmas.{opening_agrees}
+use Rattle.cell_ascii.proofs.RowReadLemmas.{implied, opening_placed, lines_fit}
+use Rattle.cell_ascii.proofs.grid_reader.GridReader.open.Goals as goal
+
+pub returns-in_err-cells-clause-fault : goal.returns-in_err-cells-clause-fault
+returns-in_err-cells-clause-fault g c =
+    let f = c.in_err-cells.field-0.0 in
+    let p = err_from_is_err_and c.from_residual.result c.from_residual.ensures.1 in
+    rw (p.1, p.2)
+    (λ other. implied (λ x. header_of_text x ≡ Err f) (λ x. opening_fault x ≡ Some f) (g.R.Source.coming c.args.source) (λ x. (opening_agrees x f).0) (c.in_err-cells.ensures.fault other))
+
+pub invariant_of-result : goal.invariant_of-result
+invariant_of-result g c =
+    let p = c.in_ok-cells.cells in
+    let is = rw c.region.ensures at c.rows-rows_left.ensures.region in
+    rw (c.rows-rows_left.ensures.value, c.region.ensures)
+    (record {
+      wide = is.cols_least;
+      lines = λ _. lines_fit p.line p.header.region.rows p.header.region.cols c.in_ok-cells.ensures.line is.rows_most is.cols_most;
+      placed = λ _. opening_placed p.header (at_place p) p.header.region.rows (g.R.Source.coming c.args.source) (bytes_to_come p.ahead) is.rows_least c.in_ok-cells.ensures.opened;
+      heard = λ _. ap (λ (h : Heard). h.failed) c.in_ok-cells.ensures.heard;
+    })

@@ -1,0 +1,26 @@
+use Rattle.std.proofs.Common.{◌≡◌, ◌+◌, ◌-◌, false, length}
+use Rattle.std.specs.Option.{option_map}
+use Rattle.cell_core_devices.specs.Asking.{hears}
+use Rattle.cell_ascii_meaning.specs.CellTexts.{cell_from, many}
+use Rattle.cell_ascii.specs.Reader.{rows_from}
+use Rattle.cell_ascii.specs.GridReaders.{reader_place}
+use Rattle.cell_ascii.proofs.CellLemmas.{with_front}
+use Rattle.cell_ascii.proofs.grid_reader.read_rows.Given as goal
+
+abbrev pub invariant-rows : goal.invariant-rows
+invariant-rows g l =
+    let s = l.fn.reader in
+    let h = s.header in
+    record {
+      rows : option_map (λ c. rows_from h (reader_place s c)) s.coming
+          ≡ option_map (λ d. with_front l.builder.rows (many (many (cell_from h) h.region.cols) (h.region.rows - length l.builder.rows) (reader_place l.reader d))) l.reader.coming;
+      header : l.reader.header ≡ h;
+      region : l.builder.region ≡ h.region;
+      count : length l.builder.rows + l.reader.rows_left ≡ h.region.rows;
+      width : length l.row ≡ h.region.cols;
+      live : l.reader.failed ≡ false;
+      heard : l.reader.heard ≡ hears false s.heard;
+    }
+
+abbrev pub decreases-rows : goal.decreases-rows
+decreases-rows g l = l.reader.rows_left

@@ -1,0 +1,464 @@
+//! Whole grids, read row by row.
+
+ghost use Rattle.std.specs.Prelude.{◌≡◌, ◌≢◌, ◌+◌, ◌*◌, ◌^◌, ◌<◌, ◌≤◌, ◌||◌, true, false, length, take, drop, Option, Some, Ok, Err, OnOk, OnErr, IfOk, IfErr, IfSome};
+ghost use Rattle.std.specs.Option.{option_map};
+ghost use Rattle.std.specs.Result.{is_err};
+ghost use Rattle.cell_core_devices.specs.Device.{Coming};
+ghost use Rattle.cell_core.specs.Grid.{no_labels};
+ghost use Rattle.cell_core_devices.specs.Asking.{hears, heard_first};
+ghost use Rattle.cell_ascii_meaning.specs.Kinds.{IsOfText, tells_read};
+ghost use Rattle.cell_ascii_scanner.specs.Ahead.{bytes_to_come};
+ghost use Rattle.cell_ascii_meaning.specs.GridTokens.{grid_start};
+ghost use Rattle.cell_ascii_meaning.specs.Header.{at_line, header_of, header_of_text};
+ghost use Rattle.cell_ascii_meaning.specs.CellTexts.{cell_of_word, cell_from, many, end_of, grid_of};
+ghost use Rattle.cell_ascii_meaning.specs.GridText.{Denotes};
+ghost use Rattle.cell_ascii_meaning.specs.FaultPlaces.{opening_fault, text_fault};
+ghost use Rattle.cell_ascii_meaning.specs.RowPlaces.{cells_fault, end_fault};
+ghost use Rattle.cell_ascii.specs.Reader.{ReaderPlace, at_place, opened_at, opened_by, token_read, token_seen, reading_seen, always, IsPlaced, rows_from};
+ghost use Rattle.cell_ascii.specs.GridReaders.{reader_place, opened_in, IsOpened, fault_of_reading, reader_has_failed, IsCutRow, IsChangedInFront};
+
+use cell_ascii_header::header::Header;
+use cell_ascii_header::header_reading;
+use cell_ascii_header::keys::Keys;
+use cell_ascii_held::pace::Pace;
+use cell_ascii_held::short_cells::cells_in;
+use cell_ascii_held::word_table::WordTable;
+use cell_ascii_meaning::grid_fault::{GridFault, GridKind};
+use cell_ascii_scanner::scanner::{Next, Scanner};
+use cell_core::cell::Cell;
+use cell_core::map::{CellMap, MapBuilder};
+use cell_core::region::Region;
+use cell_core::source::Source;
+use std::alloc::Global;
+use std::marker::Model;
+
+const NO_MEMORY: GridFault = GridFault {
+    kind: GridKind::Memory,
+    line: 0,
+};
+
+const HAS_FAILED: GridFault = GridFault {
+    kind: GridKind::Failed,
+    line: 0,
+};
+
+// A grid text behind its header, read cell by cell.
+#[derive(Drop)]
+struct CellReader<R: Source> {
+    scanner: Scanner<R>,
+    words: WordTable,
+    waiting: bool,
+    pace: Pace,
+}
+
+impl<R: Source> Model for CellReader<R> {
+    ghost use Rattle.std.specs.Prelude.{Some, None, ◌≤◌, if◌then◌else◌};
+    ghost use Rattle.cell_ascii.specs.Reader.{ReaderPlace};
+
+    ghost Value = { ReaderPlace };
+
+    ghost view = { λ r. record { header = r.words; pending = (if r.waiting then Some r.scanner.word else None); line = r.scanner.line; run = r.scanner.run; ahead = r.scanner.ahead } };
+
+    ghost invariant = { λ r. r.scanner.run ≤ 1048576 };
+}
+
+// Reads the next word.
+fn read_token<R: Source>(scanner: &mut Scanner<R>) -> Result<(), GridFault>
+    requires room { scanner.old.line + 1048576 < 2 ^ 64 }
+    requires run { scanner.old.run ≤ 1048576 }
+    ensures token { option_map (λ c. token_read (grid_start scanner.old.line scanner.old.run c)) (bytes_to_come scanner.old.ahead)
+        ≡ option_map (token_seen result scanner.new.line scanner.new.word) (bytes_to_come scanner.new.ahead) }
+    ensures lines { scanner.new.line ≤ scanner.old.line + 1048576 }
+    ensures run { scanner.new.run ≤ 1048576 }
+    ensures none { OnOk result (scanner.new.run ≡ 0) }
+    ensures kind { IfErr result (λ f. IsOfText f.kind) }
+    ensures heard { scanner.new.ahead.heard ≡ hears (tells_read result) scanner.old.ahead.heard }
+{
+    match scanner.skip_spaces()? {
+        Next::Word => scanner.read_word(),
+        Next::End => Err(GridFault {
+            kind: GridKind::TooFew,
+            line: scanner.line(),
+        }),
+    }
+}
+
+// The header that the keys give, judged at a line.
+fn header_at(keys: Keys, line: u64) -> Result<Header, GridFault>
+    ensures { result ≡ at_line line (header_of keys) }
+{
+    keys.header().map_err(|kind| GridFault { kind, line })
+}
+
+// Reads the header of a text, of which nothing was read before, and the first word behind it. Answers what the header says, and
+// whether there was such a word.
+fn read_opening<R: Source>(scanner: &mut Scanner<R>) -> Result<(Header, bool), GridFault>
+    requires start { (scanner.old.line ≡ 1) × (scanner.old.run ≡ 0) }
+    ensures opened { IfOk result (λ r. option_map header_of_text (bytes_to_come scanner.old.ahead) ≡ option_map (λ c. Ok (opened_by r scanner.new c)) (bytes_to_come scanner.new.ahead)) }
+    ensures fault { IfErr result (λ f. IfSome (bytes_to_come scanner.old.ahead) (λ c. header_of_text c ≡ Err f)) }
+    ensures kind { IfErr result (λ f. IsOfText f.kind) }
+    ensures line { OnOk result (scanner.new.line < 2 ^ 62) }
+    ensures run { OnOk result (scanner.new.run ≡ 0) }
+    ensures heard { scanner.new.ahead.heard ≡ hears (tells_read result) scanner.old.ahead.heard }
+{
+    let mut keys = Keys::new();
+    let waiting = match header_reading::read_header(scanner, &mut keys) {
+        Ok(waiting) => waiting,
+        Err(fault) => return Err(fault),
+    };
+    scanner.end_run();
+    match header_at(keys, scanner.line()) {
+        Ok(header) => Ok((header, waiting)),
+        Err(fault) => Err(fault),
+    }
+}
+
+// The cell of the word that was read.
+fn cell_here<R: Source>(header: &Header, scanner: &Scanner<R>) -> Result<Cell, GridFault>
+    ensures { result ≡ at_line scanner.now.line (cell_of_word header.now scanner.now.word) }
+{
+    let line = scanner.line();
+    header
+        .cell_of_word(scanner.word())
+        .map_err(|kind| GridFault { kind, line })
+}
+
+impl<R: Source> CellReader<R> {
+    // Reads the header, and the first word behind it.
+    fn open(alloc: Global, source: R) -> Result<CellReader<R>, GridFault>
+    where
+        R: Drop,
+        ensures opened { IfOk result (λ r. option_map header_of_text (R.coming source) ≡ option_map (λ c. Ok (opened_at r c)) (bytes_to_come r.ahead)) }
+        ensures fault { IfErr result (λ f. f.kind ≢ GridKind.Memory → IfSome (R.coming source) (λ c. header_of_text c ≡ Err f)) }
+        ensures memory { IfErr result (λ f. f.kind ≡ GridKind.Memory → f.line ≡ 0) }
+        ensures kinds { IfErr result (λ f. f.kind ≢ GridKind.Failed) }
+        ensures line { IfOk result (λ r. r.line < 2 ^ 62) }
+        ensures heard { IfOk result (λ r. r.ahead.heard ≡ heard_first (R.asked source)) }
+    {
+        let Ok(mut scanner) = Scanner::new(alloc, source) else {
+            return Err(NO_MEMORY);
+        };
+        let (header, waiting) = match read_opening(&mut scanner) {
+            Ok(opening) => opening,
+            Err(fault) => return Err(fault),
+        };
+        let Ok(words) = WordTable::new(alloc, header) else {
+            return Err(NO_MEMORY);
+        };
+        Ok(CellReader {
+            scanner,
+            words,
+            waiting,
+            pace: Pace::new(),
+        })
+    }
+
+    fn region(&self) -> Region
+        ensures { result ≡ self.now.header.region }
+    {
+        self.words.header().region()
+    }
+
+    // Reads the cells whose bytes are held into the front of a row, and returns how many they are.
+    #[tactic(auto, using(cell_ascii_held::proofs::WordLemmas::lines_held))]
+    fn held_cells(&mut self, row: &mut [Cell]) -> usize
+        requires room { self.old.line + length row.old * 64 < 2 ^ 64 }
+        ensures cells { option_map (λ c. many (cell_from self.old.header) result (at_place self.old c)) (bytes_to_come self.old.ahead)
+            ≡ option_map (λ d. Ok (take result row.new, at_place self.new d)) (bytes_to_come self.new.ahead) }
+        ensures count { result ≤ length row.old }
+        ensures rest { drop result row.new ≡ drop result row.old }
+        ensures header { self.new.header ≡ self.old.header }
+        ensures lines { self.new.line ≤ self.old.line + result * 64 }
+        ensures heard { self.new.ahead.heard ≡ self.old.ahead.heard }
+    {
+        if self.waiting || !self.scanner.is_behind_word() {
+            return 0;
+        }
+        let (count, n, lines) = cells_in(self.scanner.held(), &mut self.words, row, &mut self.pace);
+        if count > 0 {
+            self.scanner.pass(n);
+            self.scanner.count_lines(lines);
+        }
+        count
+    }
+
+    // Reads the next cell, byte by byte.
+    fn next_cell(&mut self) -> Result<Cell, GridFault>
+        requires room { self.old.line + 1048576 < 2 ^ 64 }
+        requires heard { self.old.ahead.heard.failed ≡ false }
+        ensures cell { option_map (λ c. cell_from self.old.header (at_place self.old c)) (bytes_to_come self.old.ahead)
+            ≡ option_map (reading_seen result self.new) (bytes_to_come self.new.ahead) }
+        ensures header { self.new.header ≡ self.old.header }
+        ensures lines { self.new.line ≤ self.old.line + 1048576 }
+        ensures kind { IfErr result (λ f. IsOfText f.kind) }
+        ensures heard { self.new.ahead.heard ≡ hears (tells_read result) self.old.ahead.heard }
+    {
+        if self.waiting {
+            self.waiting = false;
+            self.scanner.end_run();
+            return cell_here(self.words.header(), &self.scanner);
+        }
+        read_token(&mut self.scanner)?;
+        cell_here(self.words.header(), &self.scanner)
+    }
+
+    // Nothing but blanks and line feeds is left.
+    fn finish(&mut self) -> Result<(), GridFault>
+        requires room { self.old.line + 1048576 < 2 ^ 64 }
+        ensures end { option_map (λ c. end_of (grid_start self.old.line self.old.run c)) (bytes_to_come self.old.ahead)
+            ≡ option_map (always result) (bytes_to_come self.new.ahead) }
+        ensures header { self.new.header ≡ self.old.header }
+        ensures kind { IfErr result (λ f. IsOfText f.kind) }
+        ensures heard { self.new.ahead.heard ≡ hears (tells_read result) self.old.ahead.heard }
+    {
+        match self.scanner.skip_spaces()? {
+            Next::Word => Err(GridFault {
+                kind: GridKind::TooMany,
+                line: self.scanner.line(),
+            }),
+            Next::End => Ok(()),
+        }
+    }
+}
+
+// Reads a row of cells.
+fn read_row<R: Source>(cells: &mut CellReader<R>, row: &mut [Cell]) -> Result<(), GridFault>
+    requires room { cells.old.line + length row.old * 1048577 < 2 ^ 63 }
+    requires heard { cells.old.ahead.heard.failed ≡ false }
+    ensures row { OnOk result (option_map (λ c. many (cell_from cells.old.header) (length row.old) (at_place cells.old c)) (bytes_to_come cells.old.ahead)
+        ≡ option_map (λ d. Ok (row.new, at_place cells.new d)) (bytes_to_come cells.new.ahead)) }
+    ensures cut { IfErr result (λ f. IfSome (bytes_to_come cells.old.ahead) (λ c. IsCutRow cells.old.header (at_place cells.old c) f row.old row.new)) }
+    ensures kept { OnErr result (IsChangedInFront row.old row.new) }
+    ensures header { cells.new.header ≡ cells.old.header }
+    ensures lines { cells.new.line ≤ cells.old.line + length row.old * 1048577 }
+    ensures kind { IfErr result (λ f. IsOfText f.kind) }
+    ensures heard { cells.new.ahead.heard ≡ hears (tells_read result) cells.old.ahead.heard }
+{
+    let mut i = 0;
+    'cells: loop {
+        i += cells.held_cells(&mut row[i..]);
+        if i == row.len() {
+            return Ok(());
+        }
+        let cell = cells.next_cell()?;
+        row[i] = cell;
+        i += 1;
+    }
+}
+
+/// A grid text whose header was read, and whose cells are read row by row from the north.
+///
+/// After a refusal it answers `Failed`, with line 0, from then on.
+#[derive(Drop)]
+pub struct GridReader<R: Source> {
+    cells: CellReader<R>,
+    rows_left: u32,
+    failed: bool,
+}
+
+impl<R: Source> Model for GridReader<R> {
+    ghost use Rattle.cell_ascii.specs.GridReaders.{ReaderValue};
+    ghost use Rattle.cell_ascii.specs.Reader.{reader_at, IsReaderReady};
+
+    ghost Value = { ReaderValue };
+
+    ghost view = { λ r. reader_at r.cells r.rows_left r.failed };
+
+    ghost invariant = { λ r. IsReaderReady (reader_at r.cells r.rows_left r.failed) };
+}
+
+impl<R: Source> GridReader<R> {
+    /// Reads the header of a text and the first token of its data, which is not yet judged as a
+    /// cell (r.in.ascii manual).
+    ///
+    /// # Errors
+    ///
+    /// The first fault up to there with its line, or `Memory` with line 0 where memory is refused.
+    pub fn open(alloc: Global, source: R) -> Result<GridReader<R>, GridFault>
+    where
+        R: Drop,
+        ensures opened { IfOk result (λ r. option_map header_of_text (R.coming source) ≡ option_map (λ c. Ok (opened_in r c)) r.coming) }
+        ensures whole { IfOk result (λ r. (r.rows_left ≡ r.header.region.rows) × (r.failed ≡ false)) }
+        ensures fault { IfErr result (λ f. f.kind ≢ GridKind.Memory → IfSome (R.coming source) (λ c. opening_fault c ≡ Some f)) }
+        ensures memory { IfErr result (λ f. f.kind ≡ GridKind.Memory → f.line ≡ 0) }
+        ensures kinds { IfErr result (λ f. f.kind ≢ GridKind.Failed) }
+        // The source is asked only while it goes on, and an `Err` of it is told as Read: so far none was.
+        ensures heard { IfOk result (λ r. r.heard ≡ heard_first (R.asked source)) }
+    {
+        let cells = CellReader::open(alloc, source)?;
+        let rows_left = cells.region().rows();
+        Ok(GridReader {
+            cells,
+            rows_left,
+            failed: false,
+        })
+    }
+
+    /// The region that the header gives.
+    pub fn region(&self) -> Region
+        ensures { result ≡ self.now.header.region }
+    {
+        self.cells.region()
+    }
+
+    /// How many rows are still to be read.
+    pub fn rows_left(&self) -> u32
+        ensures { result ≡ self.now.rows_left }
+    {
+        self.rows_left
+    }
+
+    /// Reads the next row into a slice of as many cells as the region has columns, from west to
+    /// east. Answers whether one was left; else the slice is unchanged. Takes no memory.
+    ///
+    /// # Errors
+    ///
+    /// The first fault up to the end of the row, with its line: the cells read before it stand in
+    /// the front of the slice, the others are unchanged. `Failed`, with line 0, where an earlier
+    /// call was refused: the slice is unchanged.
+    pub fn next_row(&mut self, row: &mut [Cell]) -> Result<bool, GridFault>
+        requires width { length row.old ≡ self.old.header.region.cols }
+        ensures failed { self.old.failed ≡ true → (result ≡ Err reader_has_failed) × (row.new ≡ row.old) × (self.new ≡ self.old) }
+        ensures none { self.old.failed ≡ false → self.old.rows_left ≡ 0 → (result ≡ Ok false) × (row.new ≡ row.old) × (self.new ≡ self.old) }
+        ensures told { self.old.failed ≡ false → 0 < self.old.rows_left
+            → IfSome self.old.coming (λ c. fault_of_reading result ≡ cells_fault self.old.header (length row.old) (reader_place self.old c)) }
+        ensures row { result ≡ Ok true → option_map (λ c. many (cell_from self.old.header) (length row.old) (reader_place self.old c)) self.old.coming
+            ≡ option_map (λ d. Ok (row.new, reader_place self.new d)) self.new.coming }
+        ensures cut { IfErr result (λ f. self.old.failed ≡ false → IfSome self.old.coming (λ c. IsCutRow self.old.header (reader_place self.old c) f row.old row.new)) }
+        ensures kept { OnErr result (self.old.failed ≡ false → IsChangedInFront row.old row.new) }
+        ensures width { length row.new ≡ length row.old }
+        ensures left { result ≡ Ok true → self.new.rows_left + 1 ≡ self.old.rows_left }
+        ensures stays { result ≢ Ok true → self.new.rows_left ≡ self.old.rows_left }
+        ensures last { result ≡ Ok false → self.old.rows_left ≡ 0 }
+        ensures header { self.new.header ≡ self.old.header }
+        ensures fails { self.new.failed ≡ (self.old.failed || is_err result) }
+        ensures memory { IfErr result (λ f. f.kind ≢ GridKind.Memory) }
+        ensures kinds { self.old.failed ≡ false → IfErr result (λ f. IsOfText f.kind) }
+        // The source is asked only while it goes on, and an `Err` of it is told as Read.
+        ensures heard { self.old.failed ≡ false → self.new.heard ≡ hears (tells_read result) self.old.heard }
+    {
+        if self.failed {
+            return Err(HAS_FAILED);
+        }
+        if self.rows_left == 0 {
+            return Ok(false);
+        }
+        match read_row(&mut self.cells, row) {
+            Ok(()) => {
+                self.rows_left -= 1;
+                Ok(true)
+            }
+            Err(fault) => {
+                self.failed = true;
+                Err(fault)
+            }
+        }
+    }
+
+    /// Reads to the end of the text behind the last row: nothing but blanks and line feeds is
+    /// left. Takes no memory.
+    ///
+    /// # Errors
+    ///
+    /// The first fault from there on, with its line, or `Failed`, with line 0, where an earlier
+    /// call was refused.
+    pub fn finish(self) -> Result<(), GridFault>
+    where
+        R: Drop,
+        requires done { self.failed ≡ false → self.rows_left ≡ 0 }
+        ensures failed { self.failed ≡ true → result ≡ Err reader_has_failed }
+        ensures told { self.failed ≡ false → IfSome self.coming (λ c. fault_of_reading result ≡ end_fault (reader_place self c)) }
+        ensures memory { IfErr result (λ f. f.kind ≢ GridKind.Memory) }
+        ensures kinds { self.failed ≡ false → IfErr result (λ f. IsOfText f.kind) }
+    {
+        let mut reader = self;
+        reader.end()
+    }
+
+    // Reads to the end of the text behind the last row. It has failed from then on.
+    fn end(&mut self) -> Result<(), GridFault>
+        requires done { self.old.failed ≡ false → self.old.rows_left ≡ 0 }
+        ensures failed { self.old.failed ≡ true → result ≡ Err reader_has_failed }
+        ensures told { self.old.failed ≡ false → IfSome self.old.coming (λ c. fault_of_reading result ≡ end_fault (reader_place self.old c)) }
+        ensures memory { IfErr result (λ f. f.kind ≢ GridKind.Memory) }
+        ensures kinds { self.old.failed ≡ false → IfErr result (λ f. IsOfText f.kind) }
+        ensures heard { self.old.failed ≡ false → self.new.heard ≡ hears (tells_read result) self.old.heard }
+    {
+        if self.failed {
+            return Err(HAS_FAILED);
+        }
+        self.failed = true;
+        self.cells.finish()
+    }
+}
+
+// Reads the rows that are left into a map.
+fn read_rows<R: Source>(alloc: Global, reader: &mut GridReader<R>) -> Result<CellMap, GridFault>
+    requires whole { (reader.old.rows_left ≡ reader.old.header.region.rows) × (reader.old.failed ≡ false) }
+    requires heard { reader.old.heard.failed ≡ false }
+    ensures region { IfOk result (λ m. (m.region ≡ reader.old.header.region) × (m.labels ≡ no_labels)) }
+    ensures rows { IfOk result (λ m. option_map (λ c. rows_from reader.old.header (reader_place reader.old c)) reader.old.coming
+        ≡ option_map (λ d. Ok (m.rows, reader_place reader.new d)) reader.new.coming) }
+    ensures done { OnOk result ((reader.new.rows_left ≡ 0) × (reader.new.failed ≡ false)) }
+    ensures wide { (0 < reader.old.header.region.rows) × (0 < reader.old.header.region.cols) }
+    ensures fault { IfErr result (λ f. f.kind ≢ GridKind.Memory → IfSome reader.old.coming
+        (λ c. rows_from reader.old.header (reader_place reader.old c) ≡ Err f)) }
+    ensures memory { IfErr result (λ f. f.kind ≡ GridKind.Memory → f.line ≡ 0) }
+    ensures kinds { IfErr result (λ f. f.kind ≢ GridKind.Failed) }
+    ensures heard { reader.new.heard ≡ hears (tells_read result) reader.old.heard }
+{
+    let region = reader.region();
+    let Ok(mut buffer) = vec![in alloc; Cell::null(); region.cols() as usize] else {
+        return Err(NO_MEMORY);
+    };
+    let row = buffer.as_mut_slice();
+    let mut builder = MapBuilder::new(alloc, region);
+    'rows: while reader.next_row(row)? {
+        match builder.push_row(row) {
+            Ok(()) => {}
+            Err(_) => return Err(NO_MEMORY),
+        }
+    }
+    Ok(builder.finish())
+}
+
+// Reads the rows of a text whose header was read, and its end.
+fn read_whole<R: Source>(alloc: Global, reader: &mut GridReader<R>) -> Result<CellMap, GridFault>
+    requires whole { (reader.old.rows_left ≡ reader.old.header.region.rows) × (reader.old.failed ≡ false) }
+    requires heard { reader.old.heard.failed ≡ false }
+    ensures map { IfOk result (λ m. (text : Option Coming) → IsOpened text reader.old → IfSome text (λ c. grid_of c ≡ Ok m)) }
+    ensures fault { IfErr result (λ f. f.kind ≢ GridKind.Memory → (text : Option Coming) → IsOpened text reader.old → IfSome text (λ c. grid_of c ≡ Err f)) }
+    ensures memory { IfErr result (λ f. f.kind ≡ GridKind.Memory → f.line ≡ 0) }
+    ensures kinds { IfErr result (λ f. f.kind ≢ GridKind.Failed) }
+    // The source is asked only while it goes on, and an `Err` of it is told as Read.
+    ensures heard { reader.new.heard ≡ hears (tells_read result) reader.old.heard }
+{
+    let map = match read_rows(alloc, reader) {
+        Ok(map) => map,
+        Err(fault) => return Err(fault),
+    };
+    match reader.end() {
+        Ok(()) => Ok(map),
+        Err(fault) => Err(fault),
+    }
+}
+
+/// Reads a whole grid: the map that the text of a source denotes (r.in.ascii manual).
+///
+/// # Errors
+///
+/// The text's first fault with its line, or `Memory` with line 0 where memory is refused.
+pub fn read_map<R: Source + Drop>(alloc: Global, source: R) -> Result<CellMap, GridFault>
+    ensures map { IfOk result (λ m. IfSome (R.coming source) (λ c. Denotes c m)) }
+    ensures fault { IfErr result (λ f. f.kind ≢ GridKind.Memory → IfSome (R.coming source) (λ c. text_fault c ≡ Some f)) }
+    ensures memory { IfErr result (λ f. f.kind ≡ GridKind.Memory → f.line ≡ 0) }
+    ensures kinds { IfErr result (λ f. f.kind ≢ GridKind.Failed) }
+    ensures reading_map { IfOk result (λ m. IfSome (R.coming source) (λ c. grid_of c ≡ Ok m)) }
+    ensures reading_fault { IfErr result (λ f. f.kind ≢ GridKind.Memory → IfSome (R.coming source) (λ c. grid_of c ≡ Err f)) }
+{
+    let mut reader = GridReader::open(alloc, source)?;
+    match read_whole(alloc, &mut reader) {
+        Ok(map) => Ok(map),
+        Err(fault) => Err(fault),
+    }
+}

@@ -1,0 +1,7 @@
+use Rattle.cell_ascii_held.proofs.HeldRowLemmas.{lent_rest}
+use Rattle.cell_ascii_held.proofs.short_cells.next_cells_in.Goals as goal
+
+pub returns-clause-rest : goal.returns-clause-rest
+returns-clause-rest c =
+    let found = c.each_cell_in-found in
+    lent_rest found.result.0 c.min-end.result found.new.row c.args.row.now found.ensures.count found.auto.row found.ensures.rest

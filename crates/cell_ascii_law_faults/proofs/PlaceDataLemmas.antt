@@ -1,0 +1,471 @@
+-- The reading of the data, against the places that it passes.
+use Rattle.std.proofs.Common.{◌≡◌, ℕ, zero, suc, ◌+◌, ◌*◌, ◌<◌, ◌≤◌, List, [], ◌∷◌, ◌++◌, Option, Some, None, ◌==◌, Bool, true, false, cond, not, length, take, drop, refl, ap, sym, ◌∙◌, arith, append-nil, append_assoc, length-append, Result, Ok, Err, ◌&&◌, ◌||◌, ◌⊎◌, inl, inr, if◌then◌else◌, subst}
+use Rattle.std.specs.Prelude.{nat_lt, nat_le}
+use Rattle.std.specs.Option.{option_map}
+use Rattle.std.specs.List.{filter, list_any, prefix_len}
+use Rattle.std.proofs.lemmas.Bool.{cases_Bool}
+use Rattle.std.proofs.lemmas.Bool.Decides.{nat_tests}
+use Rattle.cell_core.specs.Grid.{CellValue, Grid}
+use Rattle.cell_ascii_meaning.specs.GridTokens.{Start, Begins, Ends, is_space, is_grid_word, grid_fault, grid_start}
+use Rattle.cell_ascii_meaning.specs.Header.{At, Header, header_of, has_colon, ◌>>=◌}
+use Rattle.cell_ascii_meaning.specs.CellTexts.{Reading, at_of, after_cell, cell_after_word, after_start, cell_of_word, cell_from, many, end_of}
+use Rattle.cell_ascii_meaning.specs.KeyNames.{header_key_of}
+use Rattle.cell_ascii_meaning.specs.GridText.{is_token, is_data_line, is_header_line, header_lines, data_words, key_text, line_values}
+use Rattle.cell_ascii_meaning.specs.FaultPlaces.{FaultPlace, Byte, End, Fails, ends_token, ends_line, is_end_of_words, is_empty, when, in_header_line, keys_of, header_in, long_token, stuck, second_value, line_fault, has_key_of, header_line_ends, header_ends, bad_cell, too_few, too_many, read_fails, whole_table, header_rows, is_opening, opening_table, ◌or◌}
+use Rattle.cell_ascii_meaning.specs.declared.grid_fault.GridKind.{GridKind}
+use Rattle.cell_ascii_meaning.specs.declared.grid_fault.GridKind.TheVariants.{BadHeader, TooFew, TooMany}
+use Rattle.cell_ascii_meaning.specs.declared.grid_fault.GridFault.{GridFault}
+use Rattle.cell_ascii_law.proofs.LexemeLemmas.{coming, Lines}
+use Rattle.cell_ascii_law.proofs.DataLawLemmas.{all_words, bind_assoc, whole_grid, read_end, read_grid, read_grid_is}
+use Rattle.cell_ascii_law_faults.proofs.SeenLemmas.{with_token, Seen, at_seen, tells, step, scan}
+use Rattle.cell_ascii_law_faults.proofs.PlaceWordLemmas.{one_told, one_silent, step_word, step_blank, step_feed, before_word, IsAfterWord, next_word, going, gone, settled}
+
+-- The header lines and the words of the data, line by line.
+abbrev no_data : List (List ℕ) → Bool
+no_data l = not (is_data_line l)
+
+one_more : (n : ℕ) → 1 + n ≡ suc n
+one_more n = omega arith
+
+module _ (l : List (List ℕ)) (ls : Lines) where
+  pub heads_data : is_data_line l ≡ true → header_lines (l ∷ ls) ≡ []
+  heads_data e = ap (λ (t : Bool). filter is_header_line (take (cond (not t) (1 + prefix_len no_data ls) 0) (l ∷ ls))) e
+
+  pub heads_more : is_data_line l ≡ false → header_lines (l ∷ ls) ≡ cond (is_header_line l) (l ∷ header_lines ls) (header_lines ls)
+  heads_more e = ap (λ (t : Bool). filter is_header_line (take (cond (not t) (1 + prefix_len no_data ls) 0) (l ∷ ls))) e
+      ∙ ap (λ (n : ℕ). filter is_header_line (take n (l ∷ ls))) (one_more (prefix_len no_data ls))
+
+  pub words_data : is_data_line l ≡ true → data_words (l ∷ ls) ≡ l ++ all_words ls
+  words_data e = ap (λ (t : Bool). all_words (drop (cond (not t) (1 + prefix_len no_data ls) 0) (l ∷ ls))) e
+
+  pub words_more : is_data_line l ≡ false → data_words (l ∷ ls) ≡ data_words ls
+  words_more e = ap (λ (t : Bool). all_words (drop (cond (not t) (1 + prefix_len no_data ls) 0) (l ∷ ls))) e
+      ∙ ap (λ (n : ℕ). all_words (drop n (l ∷ ls))) (one_more (prefix_len no_data ls))
+
+-- the header lines among lines that are no data
+abbrev pub heads : Lines → Lines
+heads ls = filter is_header_line ls
+
+abbrev pub has_data : Lines → Bool
+has_data ls = list_any is_data_line ls
+
+all_words-append : (ls rest : Lines) → all_words (ls ++ rest) ≡ all_words ls ++ all_words rest
+all_words-append [] rest = refl
+all_words-append (l ∷ ls) rest = ap (λ ws. l ++ ws) (all_words-append ls rest) ∙ sym (append_assoc l (all_words ls) (all_words rest))
+
+-- lines after some without data
+pub heads_before : (ls rest : Lines) → has_data ls ≡ false → header_lines (ls ++ rest) ≡ heads ls ++ header_lines rest
+heads_before [] rest e = refl
+heads_before (l ∷ ls) rest e = by (is_data_line l) refl e (heads_before ls rest)
+  where
+    kept : (t : Bool) → header_lines (ls ++ rest) ≡ heads ls ++ header_lines rest → cond t (l ∷ header_lines (ls ++ rest)) (header_lines (ls ++ rest)) ≡ cond t (l ∷ heads ls) (heads ls) ++ header_lines rest
+    kept true on = ap (λ ks. l ∷ ks) on
+    kept false on = on
+
+    by : (t : Bool) → is_data_line l ≡ t → (t || has_data ls) ≡ false → (has_data ls ≡ false → header_lines (ls ++ rest) ≡ heads ls ++ header_lines rest) → header_lines ((l ∷ ls) ++ rest) ≡ heads (l ∷ ls) ++ header_lines rest
+    by true is e on = cc
+    by false is e on = heads_more l (ls ++ rest) is ∙ kept (is_header_line l) (on e)
+
+pub words_before : (ls rest : Lines) → has_data ls ≡ false → data_words (ls ++ rest) ≡ data_words rest
+words_before [] rest e = refl
+words_before (l ∷ ls) rest e = by (is_data_line l) refl e (words_before ls rest)
+  where
+    by : (t : Bool) → is_data_line l ≡ t → (t || has_data ls) ≡ false → (has_data ls ≡ false → data_words (ls ++ rest) ≡ data_words rest) → data_words ((l ∷ ls) ++ rest) ≡ data_words rest
+    by true is e on = cc
+    by false is e on = words_more l (ls ++ rest) is ∙ on e
+
+-- lines after some with data
+heads_after : (ls rest : Lines) → has_data ls ≡ true → header_lines (ls ++ rest) ≡ header_lines ls
+heads_after [] rest e = cc
+heads_after (l ∷ ls) rest e = by (is_data_line l) refl e (heads_after ls rest)
+  where
+    by : (t : Bool) → is_data_line l ≡ t → (t || has_data ls) ≡ true → (has_data ls ≡ true → header_lines (ls ++ rest) ≡ header_lines ls) → header_lines ((l ∷ ls) ++ rest) ≡ header_lines (l ∷ ls)
+    by true is e on = heads_data l (ls ++ rest) is ∙ sym (heads_data l ls is)
+    by false is e on = heads_more l (ls ++ rest) is ∙ ap (λ ks. cond (is_header_line l) (l ∷ ks) ks) (on e) ∙ sym (heads_more l ls is)
+
+words_after : (ls rest : Lines) → has_data ls ≡ true → data_words (ls ++ rest) ≡ data_words ls ++ all_words rest
+words_after [] rest e = cc
+words_after (l ∷ ls) rest e = by (is_data_line l) refl e (words_after ls rest)
+  where
+    by : (t : Bool) → is_data_line l ≡ t → (t || has_data ls) ≡ true → (has_data ls ≡ true → data_words (ls ++ rest) ≡ data_words ls ++ all_words rest) → data_words ((l ∷ ls) ++ rest) ≡ data_words (l ∷ ls) ++ all_words rest
+    by true is e on = words_data l (ls ++ rest) is ∙ ap (λ ws. l ++ ws) (all_words-append ls rest) ∙ sym (append_assoc l (all_words ls) (all_words rest)) ∙ ap (λ ws. ws ++ all_words rest) (sym (words_data l ls is))
+    by false is e on = words_more l (ls ++ rest) is ∙ on e ∙ ap (λ ws. ws ++ all_words rest) (sym (words_more l ls is))
+
+pub has_data-append : (ls : Lines) (l : List (List ℕ)) → has_data (ls ++ l ∷ []) ≡ (has_data ls || is_data_line l)
+has_data-append [] l = by (is_data_line l)
+  where
+    by : (t : Bool) → (t || false) ≡ t
+    by true = refl
+    by false = refl
+has_data-append (k ∷ ls) l = by (is_data_line k) (has_data-append ls l)
+  where
+    by : (t : Bool) → has_data (ls ++ l ∷ []) ≡ (has_data ls || is_data_line l) → (t || has_data (ls ++ l ∷ [])) ≡ ((t || has_data ls) || is_data_line l)
+    by true on = refl
+    by false on = on
+
+-- A place in the data, where n of its words have ended.
+pub record IsData (h : Header) (n : ℕ) (ls : Lines) (ws : List (List ℕ)) : Type 0 where
+  pub header : header_in (ls ++ ws ∷ []) ≡ Ok h
+  pub count : length (data_words (ls ++ ws ∷ [])) ≡ n
+  pub begun : (has_data ls ≡ true) ⊎ ((has_data ls ≡ false) × (is_data_line ws ≡ true))
+
+not_both : (ws : List (List ℕ)) → is_data_line ws ≡ true → is_header_line ws ≡ false
+not_both [] e = refl
+not_both (w ∷ ws) e = by (has_colon w) e
+  where
+    by : (t : Bool) → not t ≡ true → t ≡ false
+    by true e = cc
+    by false e = refl
+
+module _ (h : Header) (n : ℕ) (ls : Lines) (ws : List (List ℕ)) (is : IsData h n ls ws) where
+  begun_now : has_data (ls ++ ws ∷ []) ≡ true
+  begun_now = has_data-append ls ws ∙ by is.begun
+    where
+      by : (has_data ls ≡ true) ⊎ ((has_data ls ≡ false) × (is_data_line ws ≡ true)) → (has_data ls || is_data_line ws) ≡ true
+      by (inl e) = rw e refl
+      by (inr e) = rw (e.0, e.1)
+
+  outside : in_header_line ls ws ≡ false
+  outside = by is.begun
+    where
+      by : (has_data ls ≡ true) ⊎ ((has_data ls ≡ false) × (is_data_line ws ≡ true)) → in_header_line ls ws ≡ false
+      by (inl e) = ap (λ (t : Bool). not t && is_header_line ws) e
+      by (inr e) = (λ i. not (e.0 i) && not_both ws e.1 i)
+
+  fed : IsData h n (ls ++ ws ∷ []) []
+  fed = record {
+    header = ap (λ (hs : Lines). header_of (keys_of hs)) (heads_after (ls ++ ws ∷ []) ([] ∷ []) begun_now) ∙ is.header;
+    count = ap length (words_after (ls ++ ws ∷ []) ([] ∷ []) begun_now ∙ append-nil (data_words (ls ++ ws ∷ []))) ∙ is.count;
+    begun = inl begun_now;
+  }
+
+  one_word : (w : List ℕ) → IsData h (n + 1) ls (ws ++ w ∷ [])
+  one_word w = by is.begun
+    where
+      still : (vs : List (List ℕ)) → is_data_line vs ≡ true → is_data_line (vs ++ w ∷ []) ≡ true
+      still [] e = cc
+      still (v ∷ vs) e = e
+
+      longer : length (ws ++ w ∷ []) ≡ length ws + 1
+      longer = length-append ws (w ∷ [])
+
+      by : (has_data ls ≡ true) ⊎ ((has_data ls ≡ false) × (is_data_line ws ≡ true)) → IsData h (n + 1) ls (ws ++ w ∷ [])
+      by (inl e) = record {
+        header = ap (λ (hs : Lines). header_of (keys_of hs)) (heads_after ls ((ws ++ w ∷ []) ∷ []) e ∙ sym (heads_after ls (ws ∷ []) e)) ∙ is.header;
+        count =
+            let a = ap length (words_after ls ((ws ++ w ∷ []) ∷ []) e) in
+            let b = ap length (words_after ls (ws ∷ []) e) in
+            let c = is.count in
+            omega (arith, length-append (data_words ls) ((ws ++ w ∷ []) ++ []), length-append (data_words ls) (ws ++ []), length-append (ws ++ w ∷ []) [], length-append ws [], longer);
+        begun = inl e;
+      }
+      by (inr e) =
+          let later = still ws e.1 in
+          record {
+            header = ap (λ (hs : Lines). header_of (keys_of hs)) (heads_before ls ((ws ++ w ∷ []) ∷ []) e.0 ∙ ap (λ (hs : Lines). heads ls ++ hs) (heads_data (ws ++ w ∷ []) [] later ∙ sym (heads_data ws [] e.1)) ∙ sym (heads_before ls (ws ∷ []) e.0)) ∙ is.header;
+            count =
+                let a = ap length (words_before ls ((ws ++ w ∷ []) ∷ []) e.0 ∙ words_data (ws ++ w ∷ []) [] later) in
+                let b = ap length (words_before ls (ws ∷ []) e.0 ∙ words_data ws [] e.1) in
+                let c = is.count in
+                omega (arith, length-append (ws ++ w ∷ []) [], length-append ws [], longer);
+            begun = inr (e.0, later);
+          }
+
+-- What the table tells in the data.
+pub and_never : (t : Bool) → (t && false) ≡ false
+and_never true = refl
+and_never false = refl
+
+no_matter : (t : Bool) → ◌≡◌ {A = Option GridKind} (if t then None else None) None
+no_matter true = refl
+no_matter false = refl
+
+abbrev data_told : ℕ → List ℕ → Header → List (List ℕ) → FaultPlace → Option GridKind
+data_told gap token h words place =
+    long_token token place
+    or stuck gap place
+    or bad_cell (Ok h) words token place
+    or too_few (Ok h) words place
+    or too_many (Ok h) words token place
+    or read_fails place
+
+module _ (h : Header) (gap : ℕ) (token : List ℕ) (inside : Bool) (ls : Lines) (line : List (List ℕ)) (header : Result Header GridKind) (words : List (List ℕ)) (out : inside ≡ false) (is : header ≡ Ok h) where
+  no_second : (place : FaultPlace) → second_value inside line token place ≡ None
+  no_second (Byte b) = (λ i. when (((is_grid_word b && is_empty token) && out i) && not (is_empty (line_values line))) BadHeader)
+      ∙ (λ i. when (and_never (is_grid_word b && is_empty token) i && not (is_empty (line_values line))) BadHeader)
+  no_second End = refl
+  no_second Fails = refl
+
+  no_line : (place : FaultPlace) → header_line_ends inside ls line place ≡ None
+  no_line place = (λ i. if ends_line place && out i then line_fault (has_key_of line (header_lines ls)) (header_key_of (key_text line)) (line_values line) else None)
+      ∙ (λ i. if and_never (ends_line place) i then line_fault (has_key_of line (header_lines ls)) (header_key_of (key_text line)) (line_values line) else None)
+
+  no_header : (place : FaultPlace) → header_ends header words token place ≡ None
+  no_header place = (λ i. header_ends (is i) words token place) ∙ no_matter ((is_end_of_words place && is_empty words) || ((ends_token place && is_token token) && length words == 1))
+
+  told_in_data : (place : FaultPlace) → whole_table gap token inside ls line header words place ≡ data_told gap token h words place
+  told_in_data place = λ i.
+      long_token token place
+      or stuck gap place
+      or no_second place i
+      or no_line place i
+      or no_header place i
+      or bad_cell (is i) words token place
+      or too_few (is i) words place
+      or too_many (is i) words token place
+      or read_fails place
+
+module _ (h : Header) (gap : ℕ) (words : List (List ℕ)) where
+  word_silent : (b : ℕ) → is_space b ≡ false → length words < h.region.rows * h.region.cols → data_told gap [] h words (Byte b) ≡ None
+  word_silent b word fewer = let t : nat_le (h.region.rows * h.region.cols) (length words) ≡ false = grind (arith, nat_tests) in rw (word, t)
+
+  word_many : (b : ℕ) → is_space b ≡ false → length words ≡ h.region.rows * h.region.cols → data_told gap [] h words (Byte b) ≡ Some TooMany
+  word_many b word all = let t : nat_le (h.region.rows * h.region.cols) (length words) ≡ true = grind (arith, nat_tests) in rw (word, t)
+
+  end_few : length words < h.region.rows * h.region.cols → data_told gap [] h words End ≡ Some TooFew
+  end_few fewer = let t : nat_lt (length words) (h.region.rows * h.region.cols) ≡ true = grind (arith, nat_tests) in rw t
+
+  end_all : length words ≡ h.region.rows * h.region.cols → data_told gap [] h words End ≡ None
+  end_all all = let t : nat_lt (length words) (h.region.rows * h.region.cols) ≡ false = grind (arith, nat_tests) in rw t
+
+module _ (h : Header) (x : ℕ) (xs : List ℕ) where
+  no_cell : (words : List (List ℕ)) (kind : GridKind) → 0 < length words → cell_of_word h (x ∷ xs) ≡ Err kind → (place : FaultPlace) → ends_token place ≡ true → data_told 0 (x ∷ xs) h words place ≡ Some kind
+  no_cell [] kind some e place ends = absurd (omega arith)
+  no_cell (w ∷ ws) kind some e (Byte b) space = rw (space, e)
+  no_cell (w ∷ ws) kind some e End ends = rw e
+  no_cell (w ∷ ws) kind some e Fails ends = cc
+
+  a_cell : (words : List (List ℕ)) (v : CellValue) → 0 < length words → cell_of_word h (x ∷ xs) ≡ Ok v → (place : FaultPlace) → ends_token place ≡ true → data_told 0 (x ∷ xs) h words place ≡ data_told 0 [] h words place
+  a_cell [] v some e place ends = absurd (omega arith)
+  a_cell (w ∷ ws) v some e (Byte b) space = rw (space, e)
+  a_cell (w ∷ ws) v some e End ends = rw e
+  a_cell (w ∷ ws) v some e Fails ends = cc
+
+-- The fault of a reading.
+abbrev pub fault_in : {X : Type 0} → Result X GridFault → Option GridFault
+fault_in (Ok x) = None
+fault_in (Err e) = Some e
+
+once : (cols : ℕ) → cols * 1 ≡ cols
+once cols = omega arith
+
+whole_is : (rows cols : ℕ) → rows * cols ≡ 0 + rows * (cols * 1)
+whole_is rows cols = rw (once cols) (omega arith)
+
+whole_fits : (rows cols : ℕ) → 0 + rows * (cols * 1) ≤ rows * cols
+whole_fits rows cols = rw (once cols) (omega arith)
+
+row_fits : (rows cols : ℕ) → 0 < rows → 0 + cols * 1 ≤ rows * cols
+row_fits zero cols some = absurd (omega arith)
+row_fits (suc rows) cols some = let e : suc rows * cols ≡ cols + rows * cols = omega arith in rw (once cols) (omega arith)
+
+module _ (h : Header) where
+  abbrev cells : ℕ
+  cells = h.region.rows * h.region.cols
+
+  -- what is told in the data, at a place where no word goes on
+  told_there : (n : ℕ) (ls : Lines) (ws : List (List ℕ)) → IsData h n ls ws → (line gap : ℕ) (place : FaultPlace)
+      → tells whole_table (at_seen line gap ls ws []) place ≡ option_map (λ kind. grid_fault kind line) (data_told gap [] h (data_words (ls ++ ws ∷ [])) place)
+  told_there n ls ws is line gap place = ap (option_map (λ kind. grid_fault kind line)) (told_in_data h gap [] (in_header_line ls ws) ls ws (header_in (ls ++ ws ∷ [])) (data_words (ls ++ ws ∷ [])) (outside h n ls ws is) is.header place)
+
+  -- and where a word does
+  told_within : (n : ℕ) (ls : Lines) (ws : List (List ℕ)) (x : ℕ) (xs : List ℕ) → IsData h n ls (ws ++ (x ∷ xs) ∷ []) → (line : ℕ) (place : FaultPlace)
+      → tells whole_table (at_seen line 0 ls ws (x ∷ xs)) place ≡ option_map (λ kind. grid_fault kind line) (data_told 0 (x ∷ xs) h (data_words (ls ++ (ws ++ (x ∷ xs) ∷ []) ∷ [])) place)
+  told_within n ls ws x xs is line place =
+      let now : List (List ℕ) = ws ++ (x ∷ xs) ∷ [] in
+      ap (option_map (λ kind. grid_fault kind line)) (told_in_data h 0 (x ∷ xs) (in_header_line ls now) ls now (header_in (ls ++ now ∷ [])) (data_words (ls ++ now ∷ [])) (outside h n ls now is) is.header place)
+
+  -- from any place with n words in the data, F tells what the places tell
+  abbrev Goes : {X : Type 0} → ℕ → (X → At → Result Grid GridFault) → Type 0
+  Goes {X} n F = (x : X) (line gap : ℕ) (bs : List ℕ) (f : Bool) (ls : Lines) (ws : List (List ℕ)) → gap ≤ 1048576 → IsData h n ls ws → fault_in (F x (at_of line gap (coming bs f))) ≡ scan whole_table (at_seen line gap ls ws []) bs f
+
+  -- at one place, where s is told from here on, a reading takes the next a words
+  abbrev Follows : {X : Type 0} → At → Option GridFault → ℕ → (At → Reading X) → ℕ → Type 0
+  Follows {X} at s n one a = (F : X → At → Result Grid GridFault) → Goes (n + a) F → fault_in (one at >>= (λ x. F x.0 x.1)) ≡ s
+
+  -- and does so at each place where so many are to come
+  abbrev Advances : {X : Type 0} → (At → Reading X) → ℕ → Type 0
+  Advances one a = (n : ℕ) → n + a ≤ cells → (line gap : ℕ) (bs : List ℕ) (f : Bool) (ls : Lines) (ws : List (List ℕ)) → gap ≤ 1048576 → IsData h n ls ws
+      → Follows (at_of line gap (coming bs f)) (scan whole_table (at_seen line gap ls ws []) bs f) n one a
+
+  abbrev with_one : {X : Type 0} → X → Reading (List X) → Reading (List X)
+  with_one x r = r >>= (λ y. Ok (x ∷ y.0, y.1))
+
+  module _ {X : Type 0} (one : At → Reading X) (a : ℕ) (advances : Advances one a) where
+    many_first : (m : ℕ) → Advances (many one m) (m * a) → (n : ℕ) → n + suc m * a ≤ cells → (at : At) (s : Option GridFault) → Follows at s n one a → Follows at s n (many one (suc m)) (suc m * a)
+    many_first m rest n room at s first F goes =
+        ap fault_in (bind_assoc (one at) (λ x. with_one x.0 (many one m x.1)) (λ x. F x.0 x.1) ∙ same (one at))
+        ∙ first (λ x b. many one m b >>= (λ y. F (x ∷ y.0) y.1)) (λ x line gap bs f ls ws low is. rest (n + a) fits line gap bs f ls ws low is (λ y. F (x ∷ y)) (subst (λ (j : ℕ). Goes j (λ y. F (x ∷ y))) (sym sum_is) (λ y. goes (x ∷ y))))
+      where
+        sum_is : n + a + m * a ≡ n + suc m * a
+        sum_is = omega arith
+
+        fits : n + a + m * a ≤ cells
+        fits = rw sum_is room
+
+        then_one : (x : X) (r : Reading (List X)) → (with_one x r >>= (λ y. F y.0 y.1)) ≡ (r >>= (λ y. F (x ∷ y.0) y.1))
+        then_one x (Ok y) = refl
+        then_one x (Err e) = refl
+
+        same : (r : Reading X) → (r >>= (λ x. with_one x.0 (many one m x.1) >>= (λ y. F y.0 y.1))) ≡ (r >>= (λ x. many one m x.1 >>= (λ y. F (x.0 ∷ y.0) y.1)))
+        same (Ok x) = then_one x.0 (many one m x.1)
+        same (Err e) = refl
+
+    many_advance : (m : ℕ) → Advances (many one m) (m * a)
+    many_advance zero n room line gap bs f ls ws low is = λ F goes. goes [] line gap bs f ls ws low (subst (λ (j : ℕ). IsData h j ls ws) (none n) is)
+      where
+        none : (n : ℕ) → n ≡ n + 0 * a
+        none n = omega arith
+    many_advance (suc m) n room line gap bs f ls ws low is = many_first m (many_advance m) n room (at_of line gap (coming bs f)) (scan whole_table (at_seen line gap ls ws []) bs f) (advances n (omega arith) line gap bs f ls ws low is)
+
+    -- the first of many may begin elsewhere
+    many_follow : (m n : ℕ) → 0 < m → n + m * a ≤ cells → (at : At) (s : Option GridFault) → Follows at s n one a → Follows at s n (many one m) (m * a)
+    many_follow zero n some room at s first = absurd (omega arith)
+    many_follow (suc m) n some room at s first = many_first m (many_advance m) n room at s first
+
+  -- the next cell, from the end of its word on
+  cell_after : (F : CellValue → At → Result Grid GridFault) (n : ℕ) → Goes (n + 1) F → (line : ℕ) (ls : Lines) (ws : List (List ℕ)) (x : ℕ) (xs bs : List ℕ) (f : Bool) → IsAfterWord bs f → IsData h (n + 1) ls (ws ++ (x ∷ xs) ∷ [])
+      → fault_in (after_cell line (coming bs f) (cell_of_word h (x ∷ xs)) >>= (λ y. F y.0 y.1)) ≡ scan whole_table (at_seen line 0 ls ws (x ∷ xs)) bs f
+  cell_after F n goes line ls ws x xs bs f after is = by (cell_of_word h (x ∷ xs)) refl
+    where
+      words : List (List ℕ)
+      words = data_words (ls ++ (ws ++ (x ∷ xs) ∷ []) ∷ [])
+
+      some : 0 < length words
+      some = let c = is.count in omega arith
+
+      good : (v : CellValue) → cell_of_word h (x ∷ xs) ≡ Ok v → (place : FaultPlace) → ends_token place ≡ true → tells whole_table (going true line ls ws x xs) place ≡ tells whole_table (gone true line ls ws x xs) place
+      good v e place ends = told_within (n + 1) ls ws x xs is line place ∙ ap (option_map (λ kind. grid_fault kind line)) (a_cell h x xs words v some e place ends) ∙ sym (told_there (n + 1) ls (ws ++ (x ∷ xs) ∷ []) is line 0 place)
+
+      bad : (kind : GridKind) → cell_of_word h (x ∷ xs) ≡ Err kind → (place : FaultPlace) → ends_token place ≡ true → tells whole_table (going true line ls ws x xs) place ≡ Some (grid_fault kind line)
+      bad kind e place ends = told_within (n + 1) ls ws x xs is line place ∙ ap (option_map (λ kind. grid_fault kind line)) (no_cell h x xs words kind some e place ends)
+
+      told : (kind : GridKind) → cell_of_word h (x ∷ xs) ≡ Err kind → (cs : List ℕ) (g : Bool) → IsAfterWord cs g → scan whole_table (going true line ls ws x xs) cs g ≡ Some (grid_fault kind line)
+      told kind e [] true after = cc
+      told kind e [] false after = bad kind e End refl
+      told kind e (b ∷ cs) g space = one_told true (going true line ls ws x xs) b cs g (grid_fault kind line) (bad kind e (Byte b) space)
+
+      by : (r : Result CellValue GridKind) → cell_of_word h (x ∷ xs) ≡ r → fault_in (after_cell line (coming bs f) r >>= (λ y. F y.0 y.1)) ≡ scan whole_table (at_seen line 0 ls ws (x ∷ xs)) bs f
+      by (Ok v) e = goes v line 0 bs f ls (ws ++ (x ∷ xs) ∷ []) (omega arith) is ∙ sym (settled true line ls ws x xs (good v e) bs f after)
+      by (Err kind) e = sym (told kind e bs f after)
+
+  cell_advances : Advances (cell_from h) 1
+  unfolding cell_from
+  cell_advances n room line gap bs f ls ws low is = λ F goes. by F goes
+    where
+      by : (F : CellValue → At → Result Grid GridFault) → Goes (n + 1) F → fault_in (after_start h (grid_start line gap (coming bs f)) >>= (λ y. F y.0 y.1)) ≡ scan whole_table (at_seen line gap ls ws []) bs f
+      by F goes = before_word true (IsData h n) (fed h n) (outside h n) (λ ms vs at. refl) k (λ e. refl) begins ends bs f line gap ls ws is low
+        where
+          k : Start → Option GridFault
+          k s = fault_in (after_start h s >>= (λ y. F y.0 y.1))
+
+          ends : (ms : Lines) (vs : List (List ℕ)) → IsData h n ms vs → (l g : ℕ) → k (Ends l) ≡ scan whole_table (at_seen l g ms vs []) [] false
+          ends ms vs here l g = sym (told_there n ms vs here l g End ∙ ap (option_map (λ kind. grid_fault kind l)) (end_few h g (data_words (ms ++ vs ∷ [])) (let c = here.count in omega arith)))
+
+          begins : (ms : Lines) (vs : List (List ℕ)) → IsData h n ms vs → (l g b : ℕ) (cs : List ℕ) (e : Bool) → is_space b ≡ false → k (Begins l (coming (b ∷ cs) e)) ≡ scan whole_table (at_seen l g ms vs []) (b ∷ cs) e
+          begins ms vs here l g b cs e word = next_word true l ms vs (λ r. fault_in (cell_after_word h l r >>= (λ y. F y.0 y.1))) (λ e. refl) (λ x xs. refl)
+              (λ x xs ds t after. cell_after F n goes l ms vs x xs ds t after (one_word h n ms vs here (x ∷ xs))) g b cs e word
+              (told_there n ms vs here l g (Byte b) ∙ ap (option_map (λ kind. grid_fault kind l)) (word_silent h g (data_words (ms ++ vs ∷ [])) b word (let c = here.count in omega arith)))
+
+  -- the end of the data
+  end_goes : Goes cells (read_end h)
+  end_goes rows line gap bs f ls ws low is = before_word true (IsData h cells) (fed h cells) (outside h cells) (λ ms vs at. refl) k (λ e. refl) begins ends bs f line gap ls ws is low
+    where
+      k : Start → Option GridFault
+      k s = fault_in (end_of s >>= (λ _. Ok (whole_grid h rows)))
+
+      ends : (ms : Lines) (vs : List (List ℕ)) → IsData h cells ms vs → (l g : ℕ) → k (Ends l) ≡ scan whole_table (at_seen l g ms vs []) [] false
+      ends ms vs here l g = sym (told_there cells ms vs here l g End ∙ ap (option_map (λ kind. grid_fault kind l)) (end_all h g (data_words (ms ++ vs ∷ [])) here.count))
+
+      begins : (ms : Lines) (vs : List (List ℕ)) → IsData h cells ms vs → (l g b : ℕ) (cs : List ℕ) (e : Bool) → is_space b ≡ false → k (Begins l (coming (b ∷ cs) e)) ≡ scan whole_table (at_seen l g ms vs []) (b ∷ cs) e
+      begins ms vs here l g b cs e word = sym (one_told true (at_seen l g ms vs []) b cs e (grid_fault TooMany l) (told_there cells ms vs here l g (Byte b) ∙ ap (option_map (λ kind. grid_fault kind l)) (word_many h g (data_words (ms ++ vs ∷ [])) b word here.count)))
+
+  -- the data from the end of its first word on
+  pub data_first : 0 < h.region.rows → 0 < h.region.cols → (line : ℕ) (ls : Lines) (x : ℕ) (xs bs : List ℕ) (f : Bool) → IsAfterWord bs f → IsData h 1 ls ((x ∷ xs) ∷ [])
+      → fault_in (read_grid h (record { pending = Some (x ∷ xs); line = line; run = 0; coming = coming bs f })) ≡ scan whole_table (at_seen line 0 ls [] (x ∷ xs)) bs f
+  unfolding cell_from
+  data_first rows cols line ls x xs bs f after is = ap fault_in (read_grid_is h at)
+      ∙ many_follow (many (cell_from h) h.region.cols) (h.region.cols * 1) (many_advance (cell_from h) 1 cell_advances h.region.cols) h.region.rows 0 rows (whole_fits h.region.rows h.region.cols) at (scan whole_table (at_seen line 0 ls [] (x ∷ xs)) bs f)
+      (many_follow (cell_from h) 1 cell_advances h.region.cols 0 cols (row_fits h.region.rows h.region.cols rows) at (scan whole_table (at_seen line 0 ls [] (x ∷ xs)) bs f) (λ F goes. cell_after F 0 goes line ls [] x xs bs f after is))
+      (read_end h) (subst (λ (j : ℕ). Goes j (read_end h)) (whole_is h.region.rows h.region.cols) end_goes)
+    where
+      at : At
+      at = record { pending = Some (x ∷ xs); line = line; run = 0; coming = coming bs f }
+
+-- Behind the first token of the data the opening of a text tells nothing.
+module _ (gap : ℕ) (inside : Bool) (ls : Lines) (line : List (List ℕ)) (header : Result Header GridKind) (words : List (List ℕ)) where
+  behind_silent : (token : List ℕ) → is_opening words token ≡ false → (place : FaultPlace) → opening_table gap token inside ls line header words place ≡ None
+  behind_silent token e place = ap (λ (t : Bool). if t then header_rows gap token inside ls line header words place else None) e
+
+  -- nor at its end, where the header is one
+  opened_silent : (h : Header) (x : ℕ) (xs : List ℕ) → gap ≡ 0 → inside ≡ false → header ≡ Ok h → (place : FaultPlace) → ends_token place ≡ true → opening_table gap (x ∷ xs) inside ls line header words place ≡ None
+  opened_silent h x xs start out is place ends = ap (λ (o : Option GridKind). if is_opening words (x ∷ xs) then o else None) (rows place ends) ∙ no_matter (is_opening words (x ∷ xs))
+    where
+      rows : (place : FaultPlace) → ends_token place ≡ true → header_rows gap (x ∷ xs) inside ls line header words place ≡ None
+      rows (Byte b) space = (λ i. long_token (x ∷ xs) (Byte b) or stuck (start i) (Byte b) or no_second h gap (x ∷ xs) inside ls line header words out is (Byte b) i or no_line h gap (x ∷ xs) inside ls line header words out is (Byte b) i or no_header h gap (x ∷ xs) inside ls line header words out is (Byte b) i or None) ∙ rw space
+      rows End ends = (λ i. no_line h gap (x ∷ xs) inside ls line header words out is End i or no_header h gap (x ∷ xs) inside ls line header words out is End i or None)
+      rows Fails ends = cc
+
+module _ (h : Header) where
+  not_opening : (n : ℕ) (ls : Lines) (ws : List (List ℕ)) (t : List ℕ) → IsData h n ls ws → 0 < n → is_opening (data_words (ls ++ with_token ws t ∷ [])) t ≡ false
+  not_opening n ls ws [] is some = by (data_words (ls ++ ws ∷ [])) is.count
+    where
+      by : (words : List (List ℕ)) → length words ≡ n → is_opening words [] ≡ false
+      by [] e = absurd (omega arith)
+      by (w ∷ words) e = refl
+  not_opening n ls ws (x ∷ xs) is some = by (data_words (ls ++ (ws ++ (x ∷ xs) ∷ []) ∷ [])) (one_word h n ls ws is (x ∷ xs)).count
+    where
+      by : (words : List (List ℕ)) → length words ≡ n + 1 → is_opening words (x ∷ xs) ≡ false
+      by [] e = absurd (omega arith)
+      by (v ∷ []) e = absurd (omega arith)
+      by (v ∷ w ∷ words) e = let t : (length (v ∷ w ∷ words) == 1) ≡ false = grind (arith, nat_tests) in t
+
+  module _ (n line gap : ℕ) (ls : Lines) (ws : List (List ℕ)) (t : List ℕ) (is : IsData h n ls ws) (some : 0 < n) where
+    nothing : (place : FaultPlace) → tells opening_table (at_seen line gap ls ws t) place ≡ None
+    nothing place = ap (option_map (λ kind. grid_fault kind line)) (behind_silent gap (in_header_line ls (with_token ws t)) ls (with_token ws t) (header_in (ls ++ with_token ws t ∷ [])) (data_words (ls ++ with_token ws t ∷ [])) t (not_opening n ls ws t is some) place)
+
+    counted : (m : ℕ) × (0 < m) × IsData h m ls (with_token ws t)
+    counted = by t
+      where
+        by : (u : List ℕ) → (m : ℕ) × (0 < m) × IsData h m ls (with_token ws u)
+        by [] = (n, some, is)
+        by (x ∷ xs) = (n + 1, omega arith, one_word h n ls ws is (x ∷ xs))
+
+  none_told : (bs : List ℕ) (f : Bool) (n line gap : ℕ) (ls : Lines) (ws : List (List ℕ)) (t : List ℕ) → IsData h n ls ws → 0 < n → scan opening_table (at_seen line gap ls ws t) bs f ≡ None
+  none_told [] false n line gap ls ws t is some = nothing n line gap ls ws t is some End
+  none_told [] true n line gap ls ws t is some = nothing n line gap ls ws t is some Fails
+  none_told (b ∷ bs) f n line gap ls ws t is some = by (none_told bs f) (cases_Bool (is_space b)) (cases_Bool (b == 10))
+    where
+      s : Seen
+      s = at_seen line gap ls ws t
+
+      m : (m : ℕ) × (0 < m) × IsData h m ls (with_token ws t)
+      m = counted n line gap ls ws t is some
+
+      next : (r : Seen) → step s b ≡ r → scan opening_table r bs f ≡ None → scan opening_table s (b ∷ bs) f ≡ None
+      next r e on = one_silent false s r b bs f (nothing n line gap ls ws t is some (Byte b)) e ∙ on
+
+      by : ((n line gap : ℕ) (ls : Lines) (ws : List (List ℕ)) (t : List ℕ) → IsData h n ls ws → 0 < n → scan opening_table (at_seen line gap ls ws t) bs f ≡ None)
+          → (is_space b ≡ true) ⊎ (is_space b ≡ false) → ((b == 10) ≡ true) ⊎ ((b == 10) ≡ false) → scan opening_table s (b ∷ bs) f ≡ None
+      by on (inr word) _ = next (at_seen line 0 ls ws (t ++ b ∷ [])) (step_word s b word) (on n line 0 ls ws (t ++ b ∷ []) is some)
+      by on (inl space) (inl feed) = next (at_seen (line + 1) (gap + 1) (ls ++ with_token ws t ∷ []) [] []) (step_feed s b feed) (on m.0 (line + 1) (gap + 1) (ls ++ with_token ws t ∷ []) [] [] (fed h m.0 ls (with_token ws t) m.2) m.1)
+      by on (inl space) (inr blank) = next (at_seen line (gap + 1) ls (with_token ws t) []) (step_blank s b space blank) (on m.0 line (gap + 1) ls (with_token ws t) [] m.2 m.1)
+
+  -- the opening of a text tells nothing from the end of the first word of its data on
+  pub opening_first : (line : ℕ) (ls : Lines) (x : ℕ) (xs bs : List ℕ) (f : Bool) → IsAfterWord bs f → IsData h 1 ls ((x ∷ xs) ∷ []) → scan opening_table (at_seen line 0 ls [] (x ∷ xs)) bs f ≡ None
+  opening_first line ls x xs bs f after is = by bs f after
+    where
+      s : Seen
+      s = at_seen line 0 ls [] (x ∷ xs)
+
+      quiet : (place : FaultPlace) → ends_token place ≡ true → tells opening_table s place ≡ None
+      quiet place ends = ap (option_map (λ kind. grid_fault kind line)) (opened_silent 0 (in_header_line ls ((x ∷ xs) ∷ [])) ls ((x ∷ xs) ∷ []) (header_in (ls ++ ((x ∷ xs) ∷ []) ∷ [])) (data_words (ls ++ ((x ∷ xs) ∷ []) ∷ [])) h x xs refl (outside h 1 ls ((x ∷ xs) ∷ []) is) is.header place ends)
+
+      by : (bs : List ℕ) (f : Bool) → IsAfterWord bs f → scan opening_table s bs f ≡ None
+      by [] true after = cc
+      by [] false after = quiet End refl
+      by (b ∷ bs) f space = spaced (cases_Bool (b == 10))
+        where
+          spaced : ((b == 10) ≡ true) ⊎ ((b == 10) ≡ false) → scan opening_table s (b ∷ bs) f ≡ None
+          spaced (inl feed) = one_silent false s (at_seen (line + 1) 1 (ls ++ ((x ∷ xs) ∷ []) ∷ []) [] []) b bs f (quiet (Byte b) space) (step_feed s b feed) ∙ none_told bs f 1 (line + 1) 1 (ls ++ ((x ∷ xs) ∷ []) ∷ []) [] [] (fed h 1 ls ((x ∷ xs) ∷ []) is) (omega arith)
+          spaced (inr blank) = one_silent false s (at_seen line 1 ls ((x ∷ xs) ∷ []) []) b bs f (quiet (Byte b) space) (step_blank s b space blank) ∙ none_told bs f 1 line 1 ls ((x ∷ xs) ∷ []) [] is (omega arith)

@@ -1,0 +1,52 @@
+-- What the reading of a grid text, or of a part of it, answers: a fault exactly where the first place that tells one tells it.
+use Rattle.std.specs.Prelude.{ℕ, ◌≡◌, ◌<◌, List, ◌↔◌, ◌⊎◌, Some, None, Ok, Err}
+use Rattle.cell_core_devices.specs.Device.{Coming}
+use Rattle.cell_core.specs.Grid.{CellValue, Grid}
+use Rattle.cell_ascii_meaning.specs.GridTokens.{grid_start}
+use Rattle.cell_ascii_meaning.specs.Header.{At, Header, Opened, header_of_text}
+use Rattle.cell_ascii_meaning.specs.CellTexts.{cell_from, many, end_of, grid_of}
+use Rattle.cell_ascii_meaning.specs.GridText.{Denotes}
+use Rattle.cell_ascii_meaning.specs.FaultPlaces.{text_fault, opening_fault}
+use Rattle.cell_ascii_meaning.specs.RowPlaces.{IsPlaceOf, cells_fault, end_fault}
+use Rattle.cell_ascii_meaning.specs.declared.grid_fault.GridFault.{GridFault}
+
+-- what is read of a text is a fault exactly where the first place that tells one tells that fault
+abbrev pub FaultsAgree : Type 0
+FaultsAgree = (c : Coming) (f : GridFault) → (grid_of c ≡ Err f) ↔ (text_fault c ≡ Some f)
+
+-- the opening of a text, up to the end of the first token of its data, is read with a fault exactly where it tells one
+abbrev pub OpeningAgrees : Type 0
+OpeningAgrees = (c : Coming) (f : GridFault) → (header_of_text c ≡ Err f) ↔ (opening_fault c ≡ Some f)
+
+-- from a place behind the header on, the next cells are read with a fault exactly where a place up to the end of the last of them tells it
+abbrev pub CellsAgree : Type 0
+CellsAgree = (h : Header) (count : ℕ) (at : At) (f : GridFault) → IsPlaceOf at → (many (cell_from h) count at ≡ Err f) ↔ (cells_fault h count at ≡ Some f)
+
+-- and the end exactly where a place up to a first byte of a token tells it
+abbrev pub EndAgrees : Type 0
+EndAgrees = (at : At) (f : GridFault) → IsPlaceOf at → at.pending ≡ None → (end_of (grid_start at.line at.run at.coming) ≡ Err f) ↔ (end_fault at ≡ Some f)
+
+-- the opening of a text ends at a place
+abbrev pub OpeningKeepsPlaces : Type 0
+OpeningKeepsPlaces = (c : Coming) (o : Opened) → header_of_text c ≡ Ok o → IsPlaceOf o.at
+
+-- and so do cells, where no token waits behind them
+abbrev pub CellsKeepPlaces : Type 0
+CellsKeepPlaces = (h : Header) (count : ℕ) (at : At) (x : List CellValue × At) → IsPlaceOf at → many (cell_from h) count at ≡ Ok x → IsPlaceOf x.1 × (0 < count → x.1.pending ≡ None)
+
+-- a text denotes a map and no place tells a fault
+pub record IsMapText (c : Coming) : Type 0 where
+  pub map : Grid
+  pub denotes : Denotes c map
+  pub alone : (other : Grid) → Denotes c other → other ≡ map
+  pub silent : text_fault c ≡ None
+
+-- some place tells a fault, and a text denotes no map
+pub record IsFaultText (c : Coming) : Type 0 where
+  pub fault : GridFault
+  pub told : text_fault c ≡ Some fault
+  pub none : (map : Grid) → Denotes c map → ⊥
+
+-- each text is one or the other
+abbrev pub TextsAreJudged : Type 0
+TextsAreJudged = (c : Coming) → IsMapText c ⊎ IsFaultText c

@@ -1,0 +1,28 @@
+-- Whole numbers and coordinates in decimal (r.in.ascii manual; the numbers of digits are the profile's).
+use Rattle.std.specs.Prelude.{ℕ, ℤ, pos, negsuc, ◌+◌, ◌-◌, ◌*◌, ◌^◌, nat_le, ◌&&◌, ◌==◌, List, length, Option, Some, None, if◌then◌else◌}
+use Rattle.std.specs.List.{list_all, before_first, after_first}
+use Rattle.std.specs.Option.{option_map}
+pub use Rattle.cell_core_text.specs.Digits.{is_digit, value_of_digits, digits_of}
+pub use Rattle.cell_core_text.specs.WholeNumbers.{signed_number, whole_number, is_in_range, whole_in_range}
+
+-- at most ten digits, and at most eight behind the point, one at least in all, in units of 10^-8
+abbrev pub in_units : List ℕ → List ℕ → Option ℕ
+in_units whole part =
+    if (list_all is_digit whole && list_all is_digit part) && ((nat_le (length whole) 10 && nat_le (length part) 8) && nat_le 1 (length whole + length part))
+    then Some (value_of_digits whole * 100000000 + value_of_digits part * 10 ^ (8 - length part)) else None
+
+-- digits, and optionally a point with further digits, in units of 10^-8
+abbrev pub unsigned_coordinate : List ℕ → Option ℕ
+unsigned_coordinate bs = in_units (before_first (λ b. b == 46) bs) (after_first (λ b. b == 46) bs)
+
+-- an optional sign, digits, and optionally a point with further digits
+abbrev pub coordinate : List ℕ → Option ℤ
+coordinate bs = signed_number unsigned_coordinate bs
+
+-- a whole number in range that counts rows or columns, where a negative one counts none
+abbrev pub side : List ℕ → Option ℕ
+side bs = option_map not_negative (whole_in_range bs)
+  where
+    not_negative : ℤ → ℕ
+    not_negative (pos n) = n
+    not_negative (negsuc n) = 0

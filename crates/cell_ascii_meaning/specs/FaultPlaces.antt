@@ -1,0 +1,267 @@
+-- Which fault of a grid text is told (profile): each byte, the end and a failing read are places, and the fault is that of the first place that tells one.
+use Rattle.std.specs.Prelude.{ℕ, ◌+◌, ◌*◌, Bool, true, false, ◌&&◌, ◌||◌, ◌==◌, not, nat_lt, nat_le, is_some, List, [], ◌∷◌, ◌++◌, length, Option, Some, None, Result, Ok, Err, if◌then◌else◌, bytes_eq, codes}
+use Rattle.std.specs.List.{slice_split, suffix_len, list_any}
+use Rattle.std.specs.Option.{option_map, option_and_then}
+use Rattle.cell_core_devices.specs.Device.{Coming}
+use Rattle.cell_ascii_meaning.specs.GridTokens.{is_space, is_grid_word, newlines, grid_fault}
+use Rattle.cell_ascii_meaning.specs.EdgeNumbers.{coordinate, side, whole_in_range}
+use Rattle.cell_ascii_meaning.specs.KeyNames.{header_key_of}
+use Rattle.cell_ascii_meaning.specs.Header.{Keys, Header, header_of}
+use Rattle.cell_ascii_meaning.specs.CellTexts.{cell_of_word}
+use Rattle.cell_ascii_meaning.specs.GridText.{is_token, line_words, is_data_line, is_header_line, header_lines, data_words, key_text, line_values, value_of, null_text, int_type}
+use Rattle.cell_ascii_meaning.specs.declared.header_key.Key.{Key}
+use Rattle.cell_ascii_meaning.specs.declared.header_key.Key.TheVariants.{North, South, East, West, Rows, Cols, Null, CellType, Multiplier}
+use Rattle.cell_ascii_meaning.specs.declared.grid_fault.GridKind.{GridKind}
+use Rattle.cell_ascii_meaning.specs.declared.grid_fault.GridKind.TheVariants.{BadHeader, TwiceKey, BadNumber, BadType, LongToken, ReaderStuck, TooFew, TooMany, Read}
+use Rattle.cell_ascii_meaning.specs.declared.grid_fault.GridFault.{GridFault}
+
+-- what stands at a place
+pub data FaultPlace : Type 0 where
+  Byte : ℕ → FaultPlace
+  End : FaultPlace
+  Fails : FaultPlace
+
+-- a blank or line feed, or the end
+abbrev pub ends_token : FaultPlace → Bool
+ends_token (Byte b) = is_space b
+ends_token End = true
+ends_token Fails = false
+
+-- a line feed, or the end
+abbrev pub ends_line : FaultPlace → Bool
+ends_line (Byte b) = b == 10
+ends_line End = true
+ends_line Fails = false
+
+-- the end
+abbrev pub is_end_of_words : FaultPlace → Bool
+is_end_of_words (Byte b) = false
+is_end_of_words End = true
+is_end_of_words Fails = false
+
+-- a list that holds nothing
+abbrev pub is_empty : {X : Type 0} → List X → Bool
+is_empty [] = true
+is_empty (x ∷ xs) = false
+
+-- the last of some lists, empty where there is none
+abbrev pub last_token : {X : Type 0} → List (List X) → List X
+last_token [] = []
+last_token (p ∷ []) = p
+last_token (p ∷ q ∷ ps) = last_token (q ∷ ps)
+
+-- all but the last
+abbrev pub front_of : {X : Type 0} → List X → List X
+front_of [] = []
+front_of (p ∷ []) = []
+front_of (p ∷ q ∷ ps) = p ∷ front_of (q ∷ ps)
+
+-- What a place knows of the bytes before it.
+
+-- the line, from 1
+abbrev pub line_of_place : List ℕ → ℕ
+line_of_place before = 1 + newlines before
+
+-- the number of blanks and line feeds in a row that end just here
+abbrev pub gap_of_place : List ℕ → ℕ
+gap_of_place before = suffix_len is_space before
+
+-- the token that the byte before belongs to; empty after a blank or line feed, and at the front
+abbrev pub token_at_place : List ℕ → List ℕ
+token_at_place before = last_token (slice_split is_space before)
+
+-- The rows of the table. `earlier` are the words of each line before that of the place, `line` the words of its own line so far.
+
+-- a fault that is told where something holds
+abbrev pub when : Bool → GridKind → Option GridKind
+when true kind = Some kind
+when false kind = None
+
+-- a fault that is told where something is missing
+abbrev pub unless : {X : Type 0} → Option X → GridKind → Option GridKind
+unless (Some x) kind = None
+unless None kind = Some kind
+
+infixr 20 ◌or◌
+-- the first of two that tells something
+abbrev pub ◌or◌ : {X : Type 0} → Option X → Option X → Option X
+(Some x) or other = Some x
+None or other = other
+
+-- the 65th byte of a token
+abbrev pub long_token : List ℕ → FaultPlace → Option GridKind
+long_token token (Byte b) = when (is_grid_word b && length token == 64) LongToken
+long_token token End = None
+long_token token Fails = None
+
+-- blank or line feed number 1048577 in a row
+abbrev pub stuck : ℕ → FaultPlace → Option GridKind
+stuck gap (Byte b) = when (is_space b && gap == 1048576) ReaderStuck
+stuck gap End = None
+stuck gap Fails = None
+
+-- a line of the header that has a key
+abbrev pub in_header_line : List (List (List ℕ)) → List (List ℕ) → Bool
+in_header_line earlier line = not (list_any is_data_line earlier) && is_header_line line
+
+-- the first byte of a second value
+abbrev pub second_value : Bool → List (List ℕ) → List ℕ → FaultPlace → Option GridKind
+second_value inside line token (Byte b) = when (((is_grid_word b && is_empty token) && inside) && not (is_empty (line_values line))) BadHeader
+second_value inside line token End = None
+second_value inside line token Fails = None
+
+-- a null text with a colon
+abbrev pub bad_null : Key → List ℕ → Option GridKind
+bad_null Null value = unless (null_text value) BadHeader
+bad_null other value = None
+
+-- a value that its key does not allow
+abbrev pub bad_value : Key → List ℕ → Option GridKind
+bad_value North value = unless (coordinate value) BadNumber
+bad_value South value = unless (coordinate value) BadNumber
+bad_value East value = unless (coordinate value) BadNumber
+bad_value West value = unless (coordinate value) BadNumber
+bad_value Rows value = unless (side value) BadNumber
+bad_value Cols value = unless (side value) BadNumber
+bad_value Null value = None
+bad_value CellType value = unless (int_type value) BadType
+bad_value Multiplier value = unless (whole_in_range value) BadNumber
+
+-- an unknown key, no value, or a null text with a colon; a key twice; a bad value
+abbrev pub line_fault : Bool → Option Key → List (List ℕ) → Option GridKind
+line_fault twice None line_values = Some BadHeader
+line_fault twice (Some key) [] = Some BadHeader
+line_fault twice (Some key) (value ∷ line_values) = bad_null key value or when twice TwiceKey or bad_value key value
+
+-- one of these lines has the key of a line
+abbrev pub has_key_of : List (List ℕ) → List (List (List ℕ)) → Bool
+has_key_of line earlier = list_any (λ l. bytes_eq (key_text line) (key_text l)) earlier
+
+-- the end of a header line
+abbrev pub header_line_ends : Bool → List (List (List ℕ)) → List (List ℕ) → FaultPlace → Option GridKind
+header_line_ends inside earlier line place =
+    if ends_line place && inside then line_fault (has_key_of line (header_lines earlier)) (header_key_of (key_text line)) (line_values line) else None
+
+-- what header lines give their keys
+abbrev pub keys_of : List (List (List ℕ)) → Keys
+keys_of lines = record {
+  north = option_and_then coordinate (value_of (codes "north") lines);
+  south = option_and_then coordinate (value_of (codes "south") lines);
+  east = option_and_then coordinate (value_of (codes "east") lines);
+  west = option_and_then coordinate (value_of (codes "west") lines);
+  rows = option_and_then side (value_of (codes "rows") lines);
+  cols = option_and_then side (value_of (codes "cols") lines);
+  null = option_and_then null_text (value_of (codes "null") lines);
+  kind = is_some (value_of (codes "type") lines);
+  multiplier = option_and_then whole_in_range (value_of (codes "multiplier") lines);
+}
+
+-- the header of lines, or why it is none
+abbrev pub header_in : List (List (List ℕ)) → Result Header GridKind
+header_in lines = header_of (keys_of (header_lines lines))
+
+-- the fault of an answer
+abbrev pub why_not : {X : Type 0} → Result X GridKind → Option GridKind
+why_not (Ok x) = None
+why_not (Err kind) = Some kind
+
+-- the end of the first token of the data, or the end before any
+abbrev pub header_ends : Result Header GridKind → List (List ℕ) → List ℕ → FaultPlace → Option GridKind
+header_ends header words token place =
+    if (is_end_of_words place && is_empty words) || ((ends_token place && is_token token) && length words == 1) then why_not header else None
+
+-- why a token of the data is no cell, where the header is a good one
+abbrev pub cell_fault : Result Header GridKind → List (List ℕ) → List ℕ → Option GridKind
+cell_fault (Err kind) words token = None
+cell_fault (Ok h) [] token = None
+cell_fault (Ok h) (word ∷ words) token = why_not (cell_of_word h token)
+
+-- the end of a token of the data
+abbrev pub bad_cell : Result Header GridKind → List (List ℕ) → List ℕ → FaultPlace → Option GridKind
+bad_cell header words token place = if ends_token place && is_token token then cell_fault header words token else None
+
+-- fewer words than the region of a good header has cells
+abbrev pub has_fewer : Result Header GridKind → List (List ℕ) → Bool
+has_fewer (Err kind) words = false
+has_fewer (Ok h) words = nat_lt (length words) (h.region.rows * h.region.cols)
+
+-- as many words as the region of a good header has cells, or more
+abbrev pub has_all : Result Header GridKind → List (List ℕ) → Bool
+has_all (Err kind) words = false
+has_all (Ok h) words = nat_le (h.region.rows * h.region.cols) (length words)
+
+-- the end before the last cell
+abbrev pub too_few : Result Header GridKind → List (List ℕ) → FaultPlace → Option GridKind
+too_few header words (Byte b) = None
+too_few header words End = when (has_fewer header words) TooFew
+too_few header words Fails = None
+
+-- the first byte of a token after the last cell
+abbrev pub too_many : Result Header GridKind → List (List ℕ) → List ℕ → FaultPlace → Option GridKind
+too_many header words token (Byte b) = when ((is_grid_word b && is_empty token) && has_all header words) TooMany
+too_many header words token End = None
+too_many header words token Fails = None
+
+-- a failing read
+abbrev pub read_fails : FaultPlace → Option GridKind
+read_fails (Byte b) = None
+read_fails End = None
+read_fails Fails = Some Read
+
+-- what a table tells of a place: after a gap and a token that goes on, inside a header line or not, after the words of each line before, those of its own line, the header, and the words of the data
+abbrev pub Table : Type 0
+Table = ℕ → List ℕ → Bool → List (List (List ℕ)) → List (List ℕ) → Result Header GridKind → List (List ℕ) → FaultPlace → Option GridKind
+
+-- The table: a place that stands in several rows is judged by them from the top.
+abbrev pub whole_table : Table
+whole_table gap token inside earlier line header words place =
+    long_token token place
+    or stuck gap place
+    or second_value inside line token place
+    or header_line_ends inside earlier line place
+    or header_ends header words token place
+    or bad_cell header words token place
+    or too_few header words place
+    or too_many header words token place
+    or read_fails place
+
+-- up to the end of the first token of the data
+abbrev pub is_opening : List (List ℕ) → List ℕ → Bool
+is_opening words token = is_empty words || (is_token token && length words == 1)
+
+-- the rows that judge no cell
+abbrev pub header_rows : Table
+header_rows gap token inside earlier line header words place =
+    long_token token place
+    or stuck gap place
+    or second_value inside line token place
+    or header_line_ends inside earlier line place
+    or header_ends header words token place
+    or read_fails place
+
+-- what the opening of a text tells, and nothing behind the first token of the data
+abbrev pub opening_table : Table
+opening_table gap token inside earlier line header words place = if is_opening words token then header_rows gap token inside earlier line header words place else None
+
+-- a table on the words of each line up to a place
+abbrev pub kind_at : Table → ℕ → List ℕ → List (List (List ℕ)) → List (List ℕ) → List (List (List ℕ)) → FaultPlace → Option GridKind
+kind_at table gap token earlier line lines place = table gap token (in_header_line earlier line) earlier line (header_in lines) (data_words lines) place
+
+-- what a place tells, after the bytes before it; a token holds no line feed, so the line where it begins is that of its end
+abbrev pub told : Table → List ℕ → FaultPlace → Option GridFault
+told table before place = option_map (λ kind. grid_fault kind (line_of_place before))
+    (kind_at table (gap_of_place before) (token_at_place before) (front_of (line_words before)) (last_token (line_words before)) (line_words before) place)
+
+-- the first fault that is told, where some bytes were passed and the rest comes
+abbrev pub first_told : Table → List ℕ → List ℕ → Bool → Option GridFault
+first_told table before [] false = told table before End
+first_told table before [] true = told table before Fails
+first_told table before (b ∷ bs) fails = told table before (Byte b) or first_told table (before ++ b ∷ []) bs fails
+
+-- the fault of a text
+abbrev pub text_fault : Coming → Option GridFault
+text_fault c = first_told whole_table [] c.bytes c.fails
+
+-- the fault of a text up to the end of the first token of its data, where no cell is judged
+abbrev pub opening_fault : Coming → Option GridFault
+opening_fault c = first_told opening_table [] c.bytes c.fails

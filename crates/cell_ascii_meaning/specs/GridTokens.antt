@@ -1,0 +1,52 @@
+-- Words of a grid text: what stands before the next word, and the word (profile: blanks, line feeds and their limits).
+pub use Rattle.cell_ascii_meaning.specs.GridWords.{is_space}
+use Rattle.std.specs.Prelude.{ℕ, ◌+◌, ◌-◌, Bool, true, false, ◌==◌, not, nat_lt, List, [], ◌∷◌, ◌++◌, length, take, drop, count_by, Result, Ok, Err, if◌then◌else◌}
+use Rattle.std.specs.List.{prefix_len}
+use Rattle.cell_core_devices.specs.Device.{Coming}
+use Rattle.cell_ascii_meaning.specs.declared.grid_fault.GridKind.{GridKind}
+use Rattle.cell_ascii_meaning.specs.declared.grid_fault.GridKind.TheVariants.{Read, ReaderStuck, LongToken}
+use Rattle.cell_ascii_meaning.specs.declared.grid_fault.GridFault.{GridFault}
+
+-- a byte that is neither a blank nor a line feed
+abbrev pub is_grid_word : ℕ → Bool
+is_grid_word b = not (is_space b)
+
+-- the number of line feeds
+abbrev pub newlines : List ℕ → ℕ
+newlines bs = count_by (λ b. b == 10) bs
+
+-- a fault at a line
+abbrev pub grid_fault : GridKind → ℕ → GridFault
+grid_fault kind line = record { kind = kind; line = line }
+
+-- where the next word begins, with what comes from there on; the end; or a fault before either
+pub data Start : Type 0 where
+  Begins : ℕ → Coming → Start
+  Ends : ℕ → Start
+  Stops : GridFault → Start
+
+-- what comes after the spaces
+abbrev pub start_at : ℕ → List ℕ → Bool → Start
+start_at line [] true = Stops (grid_fault Read line)
+start_at line [] false = Ends line
+start_at line (b ∷ bs) fails = Begins line (record { bytes = b ∷ bs; fails = fails })
+
+-- the next word, where a run of spaces has gone on for `run` bytes
+unfoldable pub grid_start : ℕ → ℕ → Coming → Start
+grid_start line run c =
+    let gap = prefix_len is_space c.bytes in
+    if nat_lt 1048576 (run + gap) then Stops (grid_fault ReaderStuck (line + newlines (take (1048576 - run) c.bytes)))
+    else start_at (line + newlines (take gap c.bytes)) (drop gap c.bytes) c.fails
+
+-- the end of a word, where a read may fail
+abbrev pub word_end : ℕ → List ℕ → List ℕ → Bool → Result (List ℕ × Coming) GridFault
+word_end line word [] true = Err (grid_fault Read line)
+word_end line word [] false = Ok (word, record { bytes = []; fails = false })
+word_end line word (b ∷ bs) fails = Ok (word, record { bytes = b ∷ bs; fails = fails })
+
+-- the word that goes on after `front`, and what comes after it
+unfoldable pub word_from : ℕ → List ℕ → Coming → Result (List ℕ × Coming) GridFault
+word_from line front c =
+    let more = prefix_len is_grid_word c.bytes in
+    if nat_lt 64 (length front + more) then Err (grid_fault LongToken line)
+    else word_end line (front ++ take more c.bytes) (drop more c.bytes) c.fails

@@ -1,0 +1,48 @@
+-- The small words of a grid text: blanks, colons, the header that a text has, the cell of a word (r.in.ascii manual).
+use Rattle.std.specs.Prelude.{ℕ, ℤ, pos, ◌*ℤ◌, Bool, ◌||◌, ◌==◌, List, Option, Some, None, Result, Ok, Err, if◌then◌else◌, bytes_eq, codes}
+use Rattle.std.specs.List.{list_any}
+use Rattle.cell_core.specs.Grid.{CellValue}
+use Rattle.cell_core_values.specs.Region.{RegionValue}
+use Rattle.cell_ascii_meaning.specs.EdgeNumbers.{whole_number, is_in_range}
+use Rattle.cell_ascii_meaning.specs.declared.grid_fault.GridKind.{GridKind}
+use Rattle.cell_ascii_meaning.specs.declared.grid_fault.GridKind.TheVariants.{BadCell, CellRange}
+
+-- a space, a tab, a carriage return or a line feed
+abbrev pub is_space : ℕ → Bool
+is_space b = (b == 32 || b == 9) || (b == 13 || b == 10)
+
+-- a colon
+abbrev pub is_colon : ℕ → Bool
+is_colon b = b == 58
+
+-- a null text has no colon
+abbrev pub has_colon : List ℕ → Bool
+has_colon text = list_any is_colon text
+
+-- the only type is that of whole numbers
+abbrev pub is_int : List ℕ → Bool
+is_int value = bytes_eq value (codes "int")
+
+-- what the header says of the cells
+pub record Header : Type 0 where
+  pub region : RegionValue
+  pub null_text : List ℕ
+  pub multiplier : ℤ
+
+-- an asterisk is null where no text is given
+abbrev pub usual_null : List ℕ
+usual_null = codes "*"
+
+-- cells stand for themselves where no multiplier is given
+abbrev pub usual_multiplier : ℤ
+usual_multiplier = pos 1
+
+-- a number and its product with the multiplier, both in range
+abbrev pub cell_of_number : ℤ → Option ℤ → Result CellValue GridKind
+cell_of_number multiplier None = Err BadCell
+cell_of_number multiplier (Some n) =
+    if is_in_range n then (if is_in_range (n *ℤ multiplier) then Ok (Some (n *ℤ multiplier)) else Err CellRange) else Err CellRange
+
+-- the cell that a word denotes: null where it is the null text, else a number
+abbrev pub cell_of_word : Header → List ℕ → Result CellValue GridKind
+cell_of_word h word = if bytes_eq word h.null_text then Ok None else cell_of_number h.multiplier (whole_number word)

@@ -1,0 +1,173 @@
+-- The header of a grid text, from the bytes to come: key lines, up to the end of the first word of the data (r.in.ascii manual; the limits are the profile's).
+pub use Rattle.cell_ascii_meaning.specs.GridWords.{Header, is_colon, has_colon, is_int, usual_null, usual_multiplier}
+use Rattle.std.specs.Prelude.{ℕ, ℤ, zero, suc, ◌+◌, Bool, true, false, ◌&&◌, ◌==◌, not, nat_lt, List, [], ◌∷◌, drop, Option, Some, None, Result, Ok, Err, if◌then◌else◌, unwrap_or}
+use Rattle.std.specs.List.{prefix_len, before_first, after_first}
+use Rattle.cell_core_devices.specs.Device.{Coming}
+use Rattle.cell_core_values.specs.Region.{RegionValue, region_fault}
+use Rattle.cell_core_values.specs.declared.region.RegionFault.{RegionFault}
+use Rattle.cell_ascii_meaning.specs.GridTokens.{is_space, Start, Begins, Ends, Stops, grid_start, word_from, grid_fault}
+use Rattle.cell_ascii_meaning.specs.EdgeNumbers.{coordinate, side, whole_in_range}
+use Rattle.cell_ascii_meaning.specs.KeyNames.{header_key_of}
+use Rattle.cell_ascii_meaning.specs.declared.header_key.Key.{Key}
+use Rattle.cell_ascii_meaning.specs.declared.header_key.Key.TheVariants.{North, South, East, West, Rows, Cols, Null, CellType, Multiplier}
+use Rattle.cell_ascii_meaning.specs.declared.grid_fault.GridKind.{GridKind}
+use Rattle.cell_ascii_meaning.specs.declared.grid_fault.GridKind.TheVariants.{BadHeader, TwiceKey, MissingKey, BadNumber, BadType, Region, Read, ReaderStuck}
+use Rattle.cell_ascii_meaning.specs.declared.grid_fault.GridFault.{GridFault}
+
+infixl 10 ◌>>=◌
+-- what comes next, unless there was a fault
+abbrev pub ◌>>=◌ : {A B : Type 0} → Result A GridFault → (A → Result B GridFault) → Result B GridFault
+(Ok x) >>= f = f x
+(Err e) >>= f = Err e
+
+-- the keys that stood so far, each with its value; of the type only that it stood
+pub record Keys : Type 0 where
+  pub north : Option ℤ
+  pub south : Option ℤ
+  pub east : Option ℤ
+  pub west : Option ℤ
+  pub rows : Option ℕ
+  pub cols : Option ℕ
+  pub null : Option (List ℕ)
+  pub kind : Bool
+  pub multiplier : Option ℤ
+
+-- no key stood so far
+abbrev pub no_keys : Keys
+no_keys = record { north = None; south = None; east = None; west = None; rows = None; cols = None; null = None; kind = false; multiplier = None }
+
+-- a key is given once, and its value is a good one
+abbrev pub given : {X : Type 0} → Option X → Option X → (X → Keys) → Result Keys GridKind
+given (Some old) value keep = Err TwiceKey
+given None None keep = Err BadNumber
+given None (Some x) keep = Ok (keep x)
+
+-- the keys with one more
+abbrev pub with_header_key : Keys → Option Key → List ℕ → Result Keys GridKind
+with_header_key keys None value = Err BadHeader
+with_header_key keys (Some North) value = given keys.north (coordinate value) (λ x. record keys { north = Some x })
+with_header_key keys (Some South) value = given keys.south (coordinate value) (λ x. record keys { south = Some x })
+with_header_key keys (Some East) value = given keys.east (coordinate value) (λ x. record keys { east = Some x })
+with_header_key keys (Some West) value = given keys.west (coordinate value) (λ x. record keys { west = Some x })
+with_header_key keys (Some Rows) value = given keys.rows (side value) (λ x. record keys { rows = Some x })
+with_header_key keys (Some Cols) value = given keys.cols (side value) (λ x. record keys { cols = Some x })
+with_header_key keys (Some Null) value = if has_colon value then Err BadHeader else given keys.null (Some value) (λ x. record keys { null = Some x })
+with_header_key keys (Some CellType) value = if keys.kind then Err TwiceKey else (if is_int value then Ok (record keys { kind = true }) else Err BadType)
+with_header_key keys (Some Multiplier) value = given keys.multiplier (whole_in_range value) (λ x. record keys { multiplier = Some x })
+
+-- the header of the keys over their region, or why the six numbers are no region
+abbrev pub header_of_keys : Keys → Result RegionValue RegionFault → Result Header GridKind
+header_of_keys keys (Ok region) = Ok (record { region = region; null_text = unwrap_or keys.null usual_null; multiplier = unwrap_or keys.multiplier usual_multiplier })
+header_of_keys keys (Err f) = Err (Region f)
+
+-- the header that the keys give
+abbrev pub header_of : Keys → Result Header GridKind
+header_of keys = all keys.north keys.south keys.east keys.west keys.rows keys.cols
+  where
+    all : Option ℤ → Option ℤ → Option ℤ → Option ℤ → Option ℕ → Option ℕ → Result Header GridKind
+    all (Some n) (Some s) (Some e) (Some w) (Some r) (Some c) = header_of_keys keys (region_fault (record { north = n; south = s; east = e; west = w; rows = r; cols = c }))
+    all n s e w r c = Err MissingKey
+
+-- a space that ends no line
+abbrev pub is_grid_blank : ℕ → Bool
+is_grid_blank b = is_space b && not (b == 10)
+
+-- what ends the blanks within a line: a word, a line feed with the run that it ends, the end of the text, or a fault
+pub data Gap : Type 0 where
+  Word : Coming → Gap
+  Feed : ℕ → Coming → Gap
+  Last : Gap
+  Fault : GridFault → Gap
+
+-- what stands behind the blanks, where a run of blanks has gone on for `run` bytes
+abbrev pub gap_at : ℕ → ℕ → List ℕ → Bool → Gap
+gap_at line run [] true = Fault (grid_fault Read line)
+gap_at line run [] false = Last
+gap_at line run (b ∷ bs) fails =
+    if b == 10 then (if nat_lt run 1048576 then Feed (run + 1) (record { bytes = bs; fails = fails }) else Fault (grid_fault ReaderStuck line))
+    else Word (record { bytes = b ∷ bs; fails = fails })
+
+-- what comes after the blanks of a line, where a run of blanks has gone on for `run` bytes
+unfoldable pub gap_of : ℕ → ℕ → Coming → Gap
+gap_of line run c =
+    let gap = prefix_len is_grid_blank c.bytes in
+    if nat_lt 1048576 (run + gap) then Fault (grid_fault ReaderStuck line)
+    else gap_at line (run + gap) (drop gap c.bytes) c.fails
+
+-- the value of a header line: what stands behind the colon, else the next word of the line
+abbrev pub value_from : ℕ → List ℕ → Coming → Result (List ℕ × Coming) GridFault
+value_from line (b ∷ bs) c = Ok (b ∷ bs, c)
+value_from line [] c = after (gap_of line 0 c)
+  where
+    after : Gap → Result (List ℕ × Coming) GridFault
+    after (Word d) = word_from line [] d
+    after (Feed run d) = Err (grid_fault BadHeader line)
+    after Last = Err (grid_fault BadHeader line)
+    after (Fault f) = Err f
+
+-- the end of a header line: the run and the bytes after its line feed, or nothing at the end of the text
+abbrev pub LineEnd : Type 0
+LineEnd = Option (ℕ × Coming)
+
+-- behind the value stands no other word
+abbrev pub line_end : ℕ → Gap → Result LineEnd GridFault
+line_end line (Word d) = Err (grid_fault BadHeader line)
+line_end line (Feed run d) = Ok (Some (run, d))
+line_end line Last = Ok None
+line_end line (Fault f) = Err f
+
+-- a fault of a line has the line's number
+abbrev pub at_line : {X : Type 0} → ℕ → Result X GridKind → Result X GridFault
+at_line line (Ok x) = Ok x
+at_line line (Err kind) = Err (grid_fault kind line)
+
+-- a header line behind its first word: the keys with its own, and where it ends
+abbrev pub key_line : ℕ → Keys → List ℕ → Coming → Result (Keys × LineEnd) GridFault
+key_line line keys word c =
+    value_from line (after_first is_colon word) c
+    >>= (λ value. line_end line (gap_of line 0 value.1)
+    >>= (λ end. at_line line (with_header_key keys (header_key_of (before_first is_colon word)) value.0)
+    >>= (λ more. Ok (more, end))))
+
+-- a place in the data: a first word that is not yet judged, the line, the length of the run of blanks and line feeds, and what is to come
+pub record At : Type 0 where
+  pub pending : Option (List ℕ)
+  pub line : ℕ
+  pub run : ℕ
+  pub coming : Coming
+
+-- the header, and where the data begins
+pub record Opened : Type 0 where
+  pub header : Header
+  pub at : At
+
+-- nothing is left of a text
+abbrev pub header_ended : Coming
+header_ended = record { bytes = []; fails = false }
+
+-- the header of the keys and where the data begins, or why they give no header, told at the line
+abbrev pub opened : Keys → ℕ → Option (List ℕ) → Coming → Result Opened GridFault
+opened keys line pending c =
+    at_line line (header_of keys) >>= (λ h. Ok (record { header = h; at = record { pending = pending; line = line; run = 0; coming = c } }))
+
+-- after a header line: `rest` reads the lines behind it
+abbrev pub after_line : (Keys → ℕ → ℕ → Coming → Result Opened GridFault) → ℕ → Keys × LineEnd → Result Opened GridFault
+after_line rest line (keys, None) = opened keys line None header_ended
+after_line rest line (keys, Some (run, c)) = rest keys (line + 1) run c
+
+-- a line from its first word on: a header line where the word has a colon, else the data
+abbrev pub line_from : (Keys → ℕ → ℕ → Coming → Result Opened GridFault) → Keys → Start → Result Opened GridFault
+line_from rest keys (Stops f) = Err f
+line_from rest keys (Ends line) = opened keys line None header_ended
+line_from rest keys (Begins line c) =
+    word_from line [] c
+    >>= (λ w. if has_colon w.0 then key_line line keys w.0 w.1 >>= after_line rest line else opened keys line (Some w.0) w.1)
+
+-- The header from a line on. Each header line gives a key that did not stand, so fuel for one line more than there are keys is enough.
+unfoldable pub header_from : ℕ → Keys → ℕ → ℕ → Coming → Result Opened GridFault
+header_from zero keys line run c = Err (grid_fault BadHeader line)
+header_from (suc fuel) keys line run c = line_from (λ k l r d. header_from fuel k l r d) keys (grid_start line run c)
+
+-- the header of a text: nine keys at most, and the line after them
+abbrev pub header_of_text : Coming → Result Opened GridFault
+header_of_text c = header_from 10 no_keys 1 0 c

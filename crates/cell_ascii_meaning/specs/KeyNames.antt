@@ -1,0 +1,18 @@
+-- The names of the keys (r.in.ascii manual).
+use Rattle.std.specs.Prelude.{ℕ, List, Option, Some, None, if◌then◌else◌, codes, bytes_eq}
+use Rattle.cell_ascii_meaning.specs.declared.header_key.Key.{Key}
+use Rattle.cell_ascii_meaning.specs.declared.header_key.Key.TheVariants.{North, South, East, West, Rows, Cols, Null, CellType, Multiplier}
+
+-- the key of a name, if it is the name of one
+abbrev pub header_key_of : List ℕ → Option Key
+header_key_of name =
+    if bytes_eq name (codes "north") then Some North
+    else (if bytes_eq name (codes "south") then Some South
+    else (if bytes_eq name (codes "east") then Some East
+    else (if bytes_eq name (codes "west") then Some West
+    else (if bytes_eq name (codes "rows") then Some Rows
+    else (if bytes_eq name (codes "cols") then Some Cols
+    else (if bytes_eq name (codes "null") then Some Null
+    else (if bytes_eq name (codes "type") then Some CellType
+    else (if bytes_eq name (codes "multiplier") then Some Multiplier
+    else None))))))))

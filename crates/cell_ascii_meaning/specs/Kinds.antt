@@ -1,0 +1,21 @@
+-- Kinds of faults.
+use Rattle.std.specs.Prelude.{⊤, Bool, true, false, Result, Ok, Err}
+use Rattle.cell_ascii_meaning.specs.declared.grid_fault.GridFault.{GridFault}
+use Rattle.cell_ascii_meaning.specs.declared.grid_fault.GridKind.{GridKind}
+use Rattle.cell_ascii_meaning.specs.declared.grid_fault.GridKind.TheVariants.{Read, Memory, Failed}
+
+-- a fault of the text or of its source: not being out of memory, nor that of a reader that failed before
+abbrev pub IsOfText : GridKind → Type 0
+IsOfText Memory = ⊥
+IsOfText Failed = ⊥
+IsOfText _ = ⊤
+
+-- whether it says that the text cannot be read on
+abbrev pub is_read : GridKind → Bool
+is_read Read = true
+is_read _ = false
+
+-- whether an answer tells that an `Err` of the source was heard
+abbrev pub tells_read : {X : Type 0} → Result X GridFault → Bool
+tells_read (Ok x) = false
+tells_read (Err f) = is_read f.kind

@@ -1,0 +1,12 @@
+-- Grid texts: what they mean, which fault they tell, how they are read forward, what is written.
+pub mod GridWords
+pub mod GridTokens
+pub mod EdgeNumbers
+pub mod KeyNames
+pub mod GridText
+pub mod Header
+pub mod CellTexts
+pub mod FaultPlaces
+pub mod RowPlaces
+pub mod Kinds
+pub mod Writing

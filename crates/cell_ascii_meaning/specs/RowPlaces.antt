@@ -1,0 +1,88 @@
+-- Which fault the rest of a text tells, read row by row behind its header (profile): the rows of the table of places that are about the data.
+use Rattle.std.specs.Prelude.{ℕ, ◌+◌, ◌≡◌, ◌≤◌, Bool, true, false, ◌&&◌, ◌||◌, ◌==◌, not, nat_lt, List, [], ◌∷◌, ◌++◌, length, Option, None, Ok, if◌then◌else◌, IsTrue, IfSome}
+use Rattle.std.specs.List.{list_all}
+use Rattle.std.specs.Option.{option_map, unwrap_or}
+use Rattle.cell_core_devices.specs.Device.{Coming}
+use Rattle.cell_ascii_meaning.specs.GridTokens.{is_space, is_grid_word, newlines, grid_fault}
+use Rattle.cell_ascii_meaning.specs.Header.{Header, At}
+use Rattle.cell_ascii_meaning.specs.GridText.{is_token, grid_words_of}
+use Rattle.cell_ascii_meaning.specs.FaultPlaces.{FaultPlace, Byte, End, Fails, is_empty, gap_of_place, token_at_place, when, ◌or◌, long_token, stuck, bad_cell, read_fails}
+use Rattle.cell_ascii_meaning.specs.declared.grid_fault.GridKind.{GridKind}
+use Rattle.cell_ascii_meaning.specs.declared.grid_fault.GridKind.TheVariants.{TooFew, TooMany}
+use Rattle.cell_ascii_meaning.specs.declared.grid_fault.GridFault.{GridFault}
+
+-- what a table tells of a place: after a gap and a token that goes on, among so many words
+abbrev pub RowTable : Type 0
+RowTable = ℕ → List ℕ → List (List ℕ) → FaultPlace → Option GridKind
+
+-- the end before the last of some cells
+abbrev pub ends_early : ℕ → List (List ℕ) → FaultPlace → Option GridKind
+ends_early count words (Byte b) = None
+ends_early count words End = when (nat_lt (length words) count) TooFew
+ends_early count words Fails = None
+
+-- the first byte of a token
+abbrev pub token_begins : List ℕ → FaultPlace → Option GridKind
+token_begins token (Byte b) = when (is_grid_word b && is_empty token) TooMany
+token_begins token End = None
+token_begins token Fails = None
+
+-- the rows about cells
+abbrev pub cell_rows : Header → ℕ → RowTable
+cell_rows h count gap token words place =
+    long_token token place
+    or stuck gap place
+    or bad_cell (Ok h) words token place
+    or ends_early count words place
+    or read_fails place
+
+-- up to the end of the last of some cells
+abbrev pub is_within : ℕ → List (List ℕ) → List ℕ → Bool
+is_within count words token = nat_lt (length words) count || (is_token token && length words == count)
+
+-- what the next cells tell, and nothing behind them
+abbrev pub cells_table : Header → ℕ → RowTable
+cells_table h count gap token words place = if is_within count words token then cell_rows h count gap token words place else None
+
+-- what is told behind the last cell
+abbrev pub end_table : RowTable
+end_table gap token words place = stuck gap place or token_begins token place or read_fails place
+
+-- the number of blanks and line feeds in a row that end just here, where a run of them stood before
+abbrev pub run_of : ℕ → List ℕ → ℕ
+run_of run before = if list_all is_space before then run + length before else gap_of_place before
+
+-- what a place behind another tells, after the bytes between; a token that waits stands before them
+abbrev pub told_behind : RowTable → At → List ℕ → FaultPlace → Option GridFault
+told_behind table at before place = option_map (λ kind. grid_fault kind (at.line + newlines before))
+    (table (run_of at.run before) (token_at_place (unwrap_or at.pending [] ++ before)) (grid_words_of (unwrap_or at.pending [] ++ before)) place)
+
+-- the first fault that is told behind a place
+abbrev pub first_behind : RowTable → At → List ℕ → List ℕ → Bool → Option GridFault
+first_behind table at before [] false = told_behind table at before End
+first_behind table at before [] true = told_behind table at before Fails
+first_behind table at before (b ∷ bs) fails = told_behind table at before (Byte b) or first_behind table at (before ++ b ∷ []) bs fails
+
+-- the fault of the next cells
+abbrev pub cells_fault : Header → ℕ → At → Option GridFault
+cells_fault h count at = first_behind (cells_table h count) at [] at.coming.bytes at.coming.fails
+
+-- the fault of the end
+abbrev pub end_fault : At → Option GridFault
+end_fault at = first_behind end_table at [] at.coming.bytes at.coming.fails
+
+-- what comes is not the rest of a token
+abbrev pub is_apart : Coming → Bool
+is_apart c = apart c.bytes c.fails
+  where
+    apart : List ℕ → Bool → Bool
+    apart [] fails = not fails
+    apart (b ∷ bs) fails = is_space b
+
+-- a place of a text: a run within the limit; a token that waits is one, and has ended
+pub record IsPlaceOf (at : At) : Type 0 where
+  pub low : at.run ≤ 1048576
+  pub token : IfSome at.pending (λ w. IsTrue (is_token w))
+  pub whole : IfSome at.pending (λ w. IsTrue (list_all is_grid_word w))
+  pub apart : IfSome at.pending (λ w. IsTrue (is_apart at.coming))
+  pub fresh : IfSome at.pending (λ w. at.run ≡ 0)

@@ -1,0 +1,25 @@
+-- What a buffered source still gives: the bytes held, and then those of the source.
+use Rattle.std.specs.Prelude.{ℕ, ◌≡◌, Bool, List, [], ◌++◌, Option, IfSome}
+use Rattle.std.specs.Option.{option_map}
+use Rattle.cell_core_devices.specs.Asking.{Heard}
+use Rattle.cell_core_devices.specs.Device.{Coming}
+
+-- the bytes that a buffer holds, what its source still gives, where that is known, whether it has told its end, and what
+-- was heard of it
+pub record Ahead : Type 0 where
+  pub held : List ℕ
+  pub rest : Option Coming
+  pub ended : Bool
+  pub heard : Heard
+
+-- the bytes come first
+abbrev pub before_coming : List ℕ → Coming → Coming
+before_coming bs c = record { bytes = bs ++ c.bytes; fails = c.fails }
+
+-- all that is to come, where it is known
+abbrev pub bytes_to_come : Ahead → Option Coming
+bytes_to_come a = option_map (before_coming a.held) a.rest
+
+-- a source whose bytes are known to be at their end
+abbrev pub IsAtEnd : Bool → Option Coming → Type 0
+IsAtEnd fails known = IfSome known (λ c. (c.bytes ≡ []) × (c.fails ≡ fails))

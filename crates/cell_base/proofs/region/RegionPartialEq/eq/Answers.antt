@@ -1,6 +1,0 @@
-use Rattle.cell_base.specs.SameRegion.{is_same_region-Decides}
-use Rattle.cell_base.proofs.region.RegionPartialEq.eq.Goals as goal
-
--- the test by number decides equality
-pub returns-clause-same : goal.returns-clause-same
-returns-clause-same c = rw c.is_same_region.ensures (is_same_region-Decides c.args.self.now c.args.other.now)

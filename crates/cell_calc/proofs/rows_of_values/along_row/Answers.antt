@@ -1,0 +1,142 @@
+use Rattle.std.proofs.Common.{◌≡◌, ◌<◌, ◌≤◌, ◌+◌, ◌-◌, ◌++◌, ◌∷◌, [], ℕ, List, length}
+use Rattle.std.proofs.Common.{None, Bool, true, false, min, refl, sym, ap, ◌∙◌, subst, arith}
+use Rattle.std.specs.Prelude.{nat_lt}
+use Rattle.std.proofs.lemmas.List.{get_or_append_left, get_or-append_right, length-append}
+use Rattle.std.proofs.lemmas.Result.{IfOk-from_err}
+use Rattle.cell_core.specs.Grid.{CellValue}
+use Rattle.cell_calc_operators.specs.Applied.{spot}
+use Rattle.cell_calc_binding.specs.FormulaPostfix.{values_after}
+use Rattle.cell_calc_rows.specs.RowValues.{at}
+use Rattle.cell_calc.specs.parts.Operands.{seen}
+use Rattle.cell_calc.proofs.rows_of_values.along_row.Goals as goal
+
+-- a strip lies within the row, and the next one begins further on
+within : (from width cols : ℕ) → from ≤ cols → width ≡ min 1024 (cols - from) → from + width ≤ cols
+within from width cols le is = omega arith
+
+further : (from width cols : ℕ) → from < cols → width ≡ min 1024 (cols - from) → cols - (from + width) < cols - from
+further from width cols lt is = omega arith
+
+-- at the end, the row is as wide as the region
+ended : (n from cols all : ℕ) → n ≡ from → from ≤ cols → cols ≤ from → cols ≡ all → n ≡ all
+ended n from cols all width within over same = omega arith
+
+before_end : (k from cols all : ℕ) → cols ≤ from → cols ≡ all → k < all → k < from
+before_end k from cols all over same lt = omega arith
+
+none_below : (k : ℕ) → k < 0 → ⊥
+none_below k lt = omega arith
+
+least : (n : ℕ) → 0 ≤ n
+least n = omega arith
+
+-- a row with the cells of one more strip
+module _ (old strip values new : List CellValue) (from width : ℕ) (is : new ≡ old ++ strip) (same : strip ≡ values)
+    (count : length old ≡ from) (wide : length values ≡ width) where
+  longer : length new ≡ from + width
+  longer = rw (is, same, length-append old values, count, wide) refl
+
+  one_more : (P : ℕ → CellValue → Type 0) → ((c : ℕ) → c < from → P c (at old c))
+      → ((c : ℕ) → c < width → P (from + c) (at values c)) → (c : ℕ) → c < from + width → (b : Bool) → nat_lt c from ≡ b
+      → P c (at new c)
+  one_more P before there c lt true h =
+      let below : c < from = grind arith in
+      let old_c : at new c ≡ at old c = rw is (get_or_append_left old strip None c (rw count below)) in
+      subst (P c) (sym old_c) (before c below)
+  one_more P before there c lt false h =
+      let above : from ≤ c = grind arith in
+      let place : from + (c - from) ≡ c = omega arith in
+      let new_c : at new c ≡ at values (c - from) =
+      rw (is, same) (get_or-append_right old values from c None count above) in
+      subst (P c) (sym new_c) (subst (λ k. P k (at values (c - from))) place (there (c - from) (omega (arith, lt))))
+
+pub returns-in_err-cells-clause-width : goal.returns-in_err-cells-clause-width
+returns-in_err-cells-clause-width c = IfOk-from_err c.from_residual.result _ c.from_residual.ensures.0
+
+pub returns-in_err-cells-clause-each : goal.returns-in_err-cells-clause-each
+returns-in_err-cells-clause-each c = IfOk-from_err c.from_residual.result _ c.from_residual.ensures.0
+
+pub strips-init : goal.strips-init
+strips-init c = record {
+  within = least c.cols-cols.result;
+  width = ap (λ l. length l) c.in_ok-cells.ensures.items;
+  done = λ k h. absurd (none_below k h);
+}
+
+pub overflow_sub-cols : goal.overflow_sub-cols
+overflow_sub-cols c = c.strips.invariant.within
+
+pub along-requires-clause-strip : goal.along-requires-clause-strip
+along-requires-clause-strip c =
+    let from = c.strips.from in
+    let width = c.min-width.result in
+    let inside = within from width c.cols-cols.result c.strips.invariant.within c.min-width.ensures in
+    record {
+      row = c.requires.row;
+      columns = subst (λ n. from + width ≤ n) c.cols-cols.ensures.value inside;
+      most = c.cols-cols.ensures.region.cols_most;
+    }
+
+pub along-requires-clause-ready : goal.along-requires-clause-ready
+along-requires-clause-ready c = c.requires.ready
+
+pub along-requires-clause-enough : goal.along-requires-clause-enough
+along-requires-clause-enough c = c.requires.enough
+
+pub returns-in_err-values-clause-width : goal.returns-in_err-values-clause-width
+returns-in_err-values-clause-width c =
+    IfOk-from_err c.from_residual-in_err-values.result _ c.from_residual-in_err-values.ensures.0
+
+pub returns-in_err-values-clause-each : goal.returns-in_err-values-clause-each
+returns-in_err-values-clause-each c =
+    IfOk-from_err c.from_residual-in_err-values.result _ c.from_residual-in_err-values.ensures.0
+
+pub returns-in_err-extend_from_slice-clause-width : goal.returns-in_err-extend_from_slice-clause-width
+returns-in_err-extend_from_slice-clause-width c =
+    IfOk-from_err c.from_residual-in_err-extend_from_slice.result _ c.from_residual-in_err-extend_from_slice.ensures.0
+
+pub returns-in_err-extend_from_slice-clause-each : goal.returns-in_err-extend_from_slice-clause-each
+returns-in_err-extend_from_slice-clause-each c =
+    IfOk-from_err c.from_residual-in_err-extend_from_slice.result _ c.from_residual-in_err-extend_from_slice.ensures.0
+
+pub returns-in_err-push-clause-width : goal.returns-in_err-push-clause-width
+returns-in_err-push-clause-width c =
+    IfOk-from_err c.from_residual-in_err-push.result _ c.from_residual-in_err-push.ensures.0
+
+pub returns-in_err-push-clause-each : goal.returns-in_err-push-clause-each
+returns-in_err-push-clause-each c =
+    IfOk-from_err c.from_residual-in_err-push.result _ c.from_residual-in_err-push.ensures.0
+
+pub strips-smaller : goal.strips-smaller
+strips-smaller c =
+    further c.strips.from c.min-width.result c.cols-cols.result c.strips-test.true c.min-width.ensures
+
+pub strips-preserved : goal.strips-preserved
+strips-preserved c =
+    let old = c.strips.cells.items in
+    let from = c.strips.from in
+    let width = c.min-width.result in
+    let so_far = c.strips.invariant in
+    let is = c.in_ok-extend_from_slice.ensures.items in
+    let new = c.extend_from_slice.new.self.items in
+    let values = c.in_ok-values in
+    let same = c.as_slice.ensures.value in
+    record {
+      within = within from width c.cols-cols.result so_far.within c.min-width.ensures;
+      width = longer old c.as_slice.result.now values.values.items new from width is same so_far.width
+          values.ensures.width;
+      done = λ k h.
+          one_more old c.as_slice.result.now values.values.items new from width is same so_far.width
+          values.ensures.width
+          (λ i v. v ∷ [] ≡ values_after (seen c.args.windows.now (spot c.args.region c.args.row i)) c.args.steps.now [])
+          so_far.done values.ensures.each k h (nat_lt k from) refl;
+    }
+
+pub returns-clause-width : goal.returns-clause-width
+returns-clause-width c =
+    ended _ c.strips.from c.cols-cols.result _ c.strips.invariant.width c.strips.invariant.within c.strips-test.false
+    c.cols-cols.ensures.value
+
+pub returns-clause-each : goal.returns-clause-each
+returns-clause-each c = λ k h. c.strips.invariant.done k
+    (before_end k c.strips.from c.cols-cols.result _ c.strips-test.false c.cols-cols.ensures.value h)

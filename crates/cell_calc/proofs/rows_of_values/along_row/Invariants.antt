@@ -1,0 +1,17 @@
+use Rattle.std.proofs.Common.{◌≡◌, ◌≤◌, ◌<◌, ◌-◌, ℕ, [], ◌∷◌, length}
+use Rattle.cell_calc_operators.specs.Applied.{spot}
+use Rattle.cell_calc.specs.parts.Operands.{seen}
+use Rattle.cell_calc_binding.specs.FormulaPostfix.{values_after}
+use Rattle.cell_calc_rows.specs.RowValues.{at}
+use Rattle.cell_calc.proofs.rows_of_values.along_row.Given as goal
+
+abbrev pub invariant-strips : goal.invariant-strips
+invariant-strips l =
+    record {
+      within : l.from ≤ l.cols;
+      width : length l.cells.items ≡ l.from;
+      done : (c : ℕ) → c < l.from → at l.cells.items c ∷ [] ≡ values_after (seen l.windows (spot l.region l.row c)) l.steps [];
+    }
+
+abbrev pub decreases-strips : goal.decreases-strips
+decreases-strips l = l.cols - l.from

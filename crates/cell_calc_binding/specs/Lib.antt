@@ -1,0 +1,8 @@
+-- Expressions of r.mapcalc whose maps are places: what they are bound to, their values at cells, which maps they read and how far.
+pub mod Binding
+pub mod Compact
+pub mod Formula
+pub mod FormulaPostfix
+pub mod Reach
+pub mod Value
+pub mod parts

@@ -1,0 +1,87 @@
+//! From names of maps to places.
+
+ghost use Rattle.std.specs.Prelude.{◌≡◌, map, None, IfOk, IfErr, IfSome, IsErrOf, OnOk};
+ghost use Rattle.std.specs.Option.{unwrap_or};
+ghost use Rattle.cell_core_values.specs.Name.{place_of};
+ghost use Rattle.cell_calc_binding.specs.Binding.{with_places, IsBindingFault};
+ghost use Rattle.cell_calc_binding.specs.parts.Placing.{placed_step};
+ghost use Rattle.cell_calc_language.specs.Unknown.{first_unknown};
+
+use crate::bound::Bound;
+use cell_calc_language::calc_fault::{CalcFault, CalcKind};
+use cell_calc_language::expr::Expr;
+use cell_calc_steps::bound::Step;
+use cell_calc_steps::named;
+use cell_core::memory::Memory;
+use cell_core::name::{Name, Names};
+use std::alloc::Global;
+
+fn place_of(name: &Name, names: &Names) -> usize
+    ensures { result ≡ unwrap_or (place_of name.now names.now) 0 }
+{
+    match names.find(name.bytes()) {
+        Some(i) => i,
+        None => 0,
+    }
+}
+
+// The same step with its name replaced by its place.
+fn placed(step: &named::Step, names: &Names) -> Step
+    ensures { result ≡ placed_step names.now step.now }
+{
+    match step {
+        named::Step::Number(n) => Step::Number(*n),
+        named::Step::Map {
+            name,
+            down,
+            right,
+            ..
+        } => Step::Map {
+            place: place_of(name, names),
+            down: *down,
+            right: *right,
+        },
+        named::Step::Negated => Step::Negated,
+        named::Step::Not => Step::Not,
+        named::Step::Binary(operator) => Step::Binary(*operator),
+        named::Step::Call(function, count) => Step::Call(*function, *count),
+    }
+}
+
+fn all_placed(alloc: Global, steps: &[named::Step], names: &Names) -> Result<Vec<Step>, Memory>
+    ensures { IfOk result (λ found. found.items ≡ map (placed_step names.now) steps.now) }
+{
+    let mut found = Vec::with_capacity(alloc, steps.len())?;
+    for step in steps {
+        found.push(placed(step, names))?;
+    }
+    Ok(found)
+}
+
+/// The same expression with each map name replaced by its place.
+///
+/// # Errors
+///
+/// `UnknownMap` with the column of the first name that is not among the names; else `Memory`, with
+/// column 0, where a growth was refused.
+pub fn resolve(alloc: Global, expr: &Expr, names: &Names) -> Result<Bound, CalcFault>
+    ensures ok { IfOk result (λ bound. bound ≡ with_places names.now expr.now) }
+    ensures known { OnOk result (first_unknown names.now expr.now ≡ None) }
+    ensures unknown { IfSome (first_unknown names.now expr.now) (λ column. IsErrOf result (record { kind = CalcKind.UnknownMap; column = column })) }
+    ensures err { IfErr result (λ fault. IsBindingFault names.now expr.now fault) }
+{
+    if let Some(column) = expr.first_unknown(names) {
+        return Err(CalcFault {
+            kind: CalcKind::UnknownMap,
+            column,
+        });
+    }
+    let _count = names.len();
+    match all_placed(alloc, expr.steps(), names) {
+        Ok(steps) => Ok(Bound { steps }),
+        Err(_) => Err(CalcFault {
+            kind: CalcKind::Memory,
+            column: 0,
+        }),
+    }
+}

@@ -1,0 +1,97 @@
+//! Expressions over just the maps that they read.
+
+ghost use Rattle.std.specs.Prelude.{◌≡◌, ◌<◌, ◌+◌, ℕ, List, length, map, max, All, IfOk};
+ghost use Rattle.cell_core.specs.Grid.{Grid};
+ghost use Rattle.cell_calc_binding.specs.Compact.{ReadsMap, AreMapsRead, ArePicked, AreDistinctPlaces};
+ghost use Rattle.cell_calc_binding.specs.Formula.{Formula};
+ghost use Rattle.cell_calc_binding.specs.Reach.{top_of};
+ghost use Rattle.cell_calc_operators.specs.Applied.{Spot};
+ghost use Rattle.cell_calc_binding.specs.Value.{value};
+ghost use Rattle.cell_calc_binding.specs.parts.TreeSteps.{greatest_of_steps, top_step, moved_step, index_in, IsListed, ReadsPlace};
+
+use crate::bound::Bound;
+use cell_calc_steps::bound::Step;
+use cell_core::memory::Memory;
+use std::alloc::Global;
+
+// Where a place stands in a list: past its end, if it does not.
+fn found(places: &[usize], place: usize) -> usize
+    ensures { result ≡ index_in places.now place }
+{
+    for (k, known) in places.iter().enumerate() {
+        if *known == place {
+            return k;
+        }
+    }
+    places.len()
+}
+
+// Where a place stands in a list: last, if it was not there.
+fn listed(places: &mut Vec<usize>, place: usize) -> Result<usize, Memory>
+    ensures there { IfOk result (λ k. k ≡ index_in places.new.items place) }
+    ensures count { IfOk result (λ k. length places.new.items ≡ max (length places.old.items) (k + 1)) }
+    ensures kept { (i : ℕ) → index_in places.old.items i < length places.old.items → index_in places.new.items i ≡ index_in places.old.items i }
+    ensures distinct { AreDistinctPlaces places.old.items → AreDistinctPlaces places.new.items }
+    ensures read { (f : Formula) → ReadsMap place f → AreMapsRead places.old.items f → AreMapsRead places.new.items f }
+{
+    let k = found(places.as_slice(), place);
+    if k < places.len() {
+        return Ok(k);
+    }
+    places.push(place)?;
+    Ok(k)
+}
+
+// A step over the places in a list, to which the one that it reads is added.
+fn moved(step: Step, places: &mut Vec<usize>) -> Result<Step, Memory>
+    ensures step { IfOk result (λ s. s ≡ moved_step (index_in places.new.items) step) }
+    ensures listed { IfOk result (λ _. IsListed places.new.items step) }
+    ensures count { IfOk result (λ s. length places.new.items ≡ max (length places.old.items) (top_step s)) }
+    ensures kept { (i : ℕ) → index_in places.old.items i < length places.old.items → index_in places.new.items i ≡ index_in places.old.items i }
+    ensures distinct { AreDistinctPlaces places.old.items → AreDistinctPlaces places.new.items }
+    ensures read { (f : Formula) → ((i : ℕ) → ReadsPlace i step → ReadsMap i f) → AreMapsRead places.old.items f → AreMapsRead places.new.items f }
+{
+    match step {
+        Step::Map { place, down, right } => Ok(Step::Map {
+            place: listed(places, place)?,
+            down,
+            right,
+        }),
+        _ => Ok(step),
+    }
+}
+
+// Steps over a list of just the places that they read, and that list.
+fn compacted(alloc: Global, steps: &[Step]) -> Result<(Vec<Step>, Vec<usize>), Memory>
+    ensures steps { IfOk result (λ r. r.0.items ≡ map (moved_step (index_in r.1.items)) steps.now) }
+    ensures listed { IfOk result (λ r. All (IsListed r.1.items) steps.now) }
+    ensures count { IfOk result (λ r. length r.1.items ≡ greatest_of_steps top_step r.0.items) }
+    ensures distinct { IfOk result (λ r. AreDistinctPlaces r.1.items) }
+    ensures read { IfOk result (λ r. (f : Formula) → All (λ s. (i : ℕ) → ReadsPlace i s → ReadsMap i f) steps.now → AreMapsRead r.1.items f) }
+{
+    let mut places = Vec::new(alloc);
+    let mut others = Vec::with_capacity(alloc, steps.len())?;
+    for step in steps {
+        let other = moved(*step, &mut places)?;
+        others.push(other)?;
+    }
+    Ok((others, places))
+}
+
+impl Bound {
+    /// The same expression over a list of just the maps that it reads, and the place of each of these in the list of all.
+    ///
+    /// # Errors
+    ///
+    /// [`Memory`] where memory was refused.
+    pub fn compacted(&self, alloc: Global) -> Result<(Bound, Vec<usize>), Memory>
+        ensures value { IfOk result (λ r. (maps picked : List Grid) → ArePicked r.1.items maps picked → (s : Spot) → value r.0 picked s ≡ value self.now maps s) }
+        ensures top { IfOk result (λ r. top_of r.0 ≡ length r.1.items) }
+        ensures read { IfOk result (λ r. AreMapsRead r.1.items self.now) }
+        ensures distinct { IfOk result (λ r. AreDistinctPlaces r.1.items) }
+        ensures within { IfOk result (λ r. All (λ i. i < top_of self.now) r.1.items) }
+    {
+        let (steps, places) = compacted(alloc, self.steps.as_slice())?;
+        Ok((Bound { steps }, places))
+    }
+}

@@ -1,0 +1,255 @@
+-- Where a list of tokens stands after each of them, by their shape alone.
+use Rattle.std.proofs.Common.{◌≡◌, ℕ, ℤ, List, [], ◌∷◌, ◌++◌, Option, Some, None, refl, sym, ap, ◌∙◌, subst, ◌⊎◌, inl, inr}
+use Rattle.std.proofs.lemmas.List.{map-append}
+use Rattle.cell_calc_tokens.specs.declared.operator.Operator.{Operator}
+use Rattle.cell_calc_tokens.specs.declared.token.Placed.{Placed}
+use Rattle.cell_calc_tokens.specs.declared.token.Sign.{Sign}
+use Rattle.cell_calc_tokens.specs.declared.token.Sign.TheVariants.{Plus, Minus, Exclamation, Question, Colon, OpenParenthesis, CloseParenthesis, OpenBracket, CloseBracket, Comma, Assign}
+use Rattle.cell_calc_tokens.specs.declared.token.Token.{Token}
+use Rattle.cell_calc_tokens.specs.declared.token.Token.TheVariants as token
+use Rattle.cell_calc_grammar.specs.Grammar as grammar
+use Rattle.cell_calc_grammar.specs.Grammar.{IsOffset, AreOffsets, Stands, IsExpression, AreCalled, AreArguments, below, joined, choice}
+use Rattle.cell_calc_tokens.specs.Operator.{operator_of}
+use Rattle.cell_calc_grammar.specs.TokensRead.{IsAlone}
+use Rattle.cell_calc_grammar.specs.Shape.{shape_of, shape}
+use Rattle.cell_calc_grammar.specs.Term.{Term, Terms}
+use Rattle.cell_calc_tokens.specs.Token.{sign_at}
+
+-- what is open around the place
+pub data Frame : Type 0 where
+  Parenthesis : Frame
+  Argument : Frame
+  Choosing : Frame
+
+-- what may come next, and what is open
+pub data Place : Type 0 where
+  Start : Place
+  Target : Place
+  Operand : (st : List Frame) → Place
+  Opened : (st : List Frame) → Place
+  Named : (st : List Frame) → Place
+  After : (st : List Frame) → Place
+  First : (st : List Frame) → Place
+  FirstNumber : (st : List Frame) → Place
+  Between : (st : List Frame) → Place
+  Second : (st : List Frame) → Place
+  SecondNumber : (st : List Frame) → Place
+  Last : (st : List Frame) → Place
+
+-- where an operand may begin
+abbrev pub operand_step : List Frame → Token → Option Place
+operand_step st (token.Number n) = Some (After st)
+operand_step st (token.Name n) = Some (Named st)
+operand_step st (token.Sign Minus) = Some (Operand st)
+operand_step st (token.Sign Exclamation) = Some (Operand st)
+operand_step st (token.Sign OpenParenthesis) = Some (Operand (Parenthesis ∷ st))
+operand_step st _ = None
+
+-- what an expression ends with, by what is open
+abbrev pub ends_step : List Frame → Token → Option Place
+ends_step (Parenthesis ∷ st) (token.Sign CloseParenthesis) = Some (After st)
+ends_step (Argument ∷ st) (token.Sign CloseParenthesis) = Some (After st)
+ends_step (Argument ∷ st) (token.Sign Comma) = Some (Operand (Argument ∷ st))
+ends_step (Choosing ∷ st) (token.Sign Colon) = Some (Operand st)
+ends_step _ _ = None
+
+abbrev pub asks_step : List Frame → Token → Option Place
+asks_step st (token.Sign Question) = Some (Operand (Choosing ∷ st))
+asks_step st t = ends_step st t
+
+abbrev pub joins_step : List Frame → Token → Option Operator → Option Place
+joins_step st t (Some op) = Some (Operand st)
+joins_step st t None = asks_step st t
+
+-- after an operand
+abbrev pub after_step : List Frame → Token → Option Place
+after_step st t = joins_step st t (operator_of t)
+
+abbrev pub named_step : List Frame → Token → Option Place
+named_step st (token.Sign OpenParenthesis) = Some (Opened st)
+named_step st (token.Sign OpenBracket) = Some (First st)
+named_step st t = after_step st t
+
+abbrev pub opened_step : List Frame → Token → Option Place
+opened_step st (token.Sign CloseParenthesis) = Some (After st)
+opened_step st t = operand_step (Argument ∷ st) t
+
+-- where a number may come, or a sign before it
+abbrev pub offset_step : (signed number : Place) → Token → Option Place
+offset_step signed number (token.Number n) = Some number
+offset_step signed number (token.Sign Minus) = Some signed
+offset_step signed number (token.Sign Plus) = Some signed
+offset_step signed number _ = None
+
+abbrev pub number_step : Place → Token → Option Place
+number_step number (token.Number n) = Some number
+number_step number _ = None
+
+abbrev pub start_step : Token → Option Place
+start_step (token.Name n) = Some Target
+start_step _ = None
+
+abbrev pub target_step : Token → Option Place
+target_step (token.Sign Assign) = Some (Operand [])
+target_step _ = None
+
+abbrev pub comma_step : List Frame → Token → Option Place
+comma_step st (token.Sign Comma) = Some (Second st)
+comma_step st _ = None
+
+abbrev pub bracket_step : List Frame → Token → Option Place
+bracket_step st (token.Sign CloseBracket) = Some (After st)
+bracket_step st _ = None
+
+-- the place after the next token
+abbrev pub step : Place → Token → Option Place
+step Start t = start_step t
+step Target t = target_step t
+step (Operand st) t = operand_step st t
+step (Opened st) t = opened_step st t
+step (Named st) t = named_step st t
+step (After st) t = after_step st t
+step (First st) t = offset_step (FirstNumber st) (Between st) t
+step (FirstNumber st) t = number_step (Between st) t
+step (Between st) t = comma_step st t
+step (Second st) t = offset_step (SecondNumber st) (Last st) t
+step (SecondNumber st) t = number_step (Last st) t
+step (Last st) t = bracket_step st t
+
+abbrev pub step_on : Option Place → Token → Option Place
+step_on None t = None
+step_on (Some p) t = step p t
+
+-- the place after tokens
+abbrev pub walk : Option Place → List Token → Option Place
+walk p [] = p
+walk p (t ∷ ts) = walk (step_on p t) ts
+
+pub walk_append : (p : Option Place) (ts us : List Token) → walk p (ts ++ us) ≡ walk (walk p ts) us
+walk_append p [] us = refl
+walk_append p (t ∷ ts) us = walk_append (step_on p t) ts us
+
+pub walk_none : (ts : List Token) → walk None ts ≡ None
+walk_none [] = refl
+walk_none (t ∷ ts) = walk_none ts
+
+pub shape_append : (ts us : List Placed) → shape (ts ++ us) ≡ shape ts ++ shape us
+shape_append ts us = map-append (λ s. shape_of s.token) ts us
+
+-- the place after tokens and others
+pub walk_both : (p : Option Place) (ts us : List Placed) → walk p (shape (ts ++ us)) ≡ walk (walk p (shape ts)) (shape us)
+walk_both p ts us = ap (walk p) (shape_append ts us) ∙ walk_append p (shape ts) (shape us)
+
+-- an operand has ended there
+abbrev pub Lands : List Frame → Option Place → Type 0
+Lands st p = (p ≡ Some (After st)) ⊎ (p ≡ Some (Named st))
+
+pub named_alone : (st : List Frame) (t : Token) → IsAlone (Some t) → named_step st t ≡ after_step st t
+named_alone st (token.Sign OpenParenthesis) n = absurd (n.0 refl)
+named_alone st (token.Sign OpenBracket) n = absurd (n.1 refl)
+named_alone st _ n = refl
+
+-- a token goes on after it, which opens nothing
+pub landed : (st : List Frame) (p : Option Place) (t : Token) → Lands st p → IsAlone (Some t) → step_on p t ≡ after_step st t
+landed st p t (inl e) n = ap (λ q. step_on q t) e
+landed st p t (inr e) n = ap (λ q. step_on q t) e ∙ named_alone st t n
+
+-- the tokens make an operand, or more, wherever one is to come
+abbrev pub Makes : List Placed → Type 0
+Makes ts = (st : List Frame) → Lands st (walk (Some (Operand st)) (shape ts))
+
+offset_makes : {ts : List Placed} {z : ℤ} (first : Place) → IsOffset ts z → (signed number : Place) → ((t : Token) → step first t ≡ offset_step signed number t) → ((t : Token) → step signed t ≡ number_step number t)
+    → walk (Some first) (shape ts) ≡ Some number
+offset_makes first (grammar.IsOffset.plain h) signed number e f = e _
+offset_makes first (grammar.minus h) signed number e f = ap (λ p. step_on p (token.Number 0)) (e (token.Sign Minus)) ∙ f _
+offset_makes first (grammar.plus h) signed number e f = ap (λ p. step_on p (token.Number 0)) (e (token.Sign Plus)) ∙ f _
+
+pub first_makes : {ts : List Placed} {z : ℤ} (st : List Frame) → IsOffset ts z → walk (Some (First st)) (shape ts) ≡ Some (Between st)
+first_makes st h = offset_makes (First st) h (FirstNumber st) (Between st) (λ t. refl) (λ t. refl)
+
+pub second_makes : {ts : List Placed} {z : ℤ} (st : List Frame) → IsOffset ts z → walk (Some (Second st)) (shape ts) ≡ Some (Last st)
+second_makes st h = offset_makes (Second st) h (SecondNumber st) (Last st) (λ t. refl) (λ t. refl)
+
+pub offsets_make : {ts : List Placed} {down right : ℤ} (st : List Frame) → AreOffsets ts down right → walk (Some (First st)) (shape ts) ≡ Some (After st)
+offsets_make st (grammar.offsets {ts = ts} {us = us} c d h g) =
+    walk_both (Some (First st)) ts (sign_at Comma c ∷ (us ++ sign_at CloseBracket d ∷ []))
+    ∙ ap (λ p. walk p (shape (sign_at Comma c ∷ (us ++ sign_at CloseBracket d ∷ [])))) (first_makes st h)
+    ∙ walk_both (Some (Second st)) us (sign_at CloseBracket d ∷ [])
+    ∙ ap (λ p. walk p (shape (sign_at CloseBracket d ∷ []))) (second_makes st g)
+
+-- tokens, and another that goes on after them
+pub then_walk : (st : List Frame) (p : Option Place) (ts us : List Placed) (s : Placed) (q : Option Place) → Lands st (walk p (shape ts)) → IsAlone (Some (shape_of s.token)) → after_step st (shape_of s.token) ≡ q
+    → walk p (shape (ts ++ s ∷ us)) ≡ walk q (shape us)
+then_walk st p ts us s q l n e =
+    walk_both p ts (s ∷ us) ∙ ap (λ x. walk x (shape us)) (landed st (walk p (shape ts)) (shape_of s.token) l n ∙ e)
+
+-- an operator has no other shape
+pub operator_shape : (t : Token) → operator_of (shape_of t) ≡ operator_of t
+operator_shape (token.Number n) = refl
+operator_shape (token.Name n) = refl
+operator_shape (token.Sign s) = refl
+
+no_operator : (s : Sign) (t : Token) (op : Operator) → operator_of t ≡ Some op → operator_of (token.Sign s) ≡ None → Some t ≡ Some (token.Sign s) → ⊥
+no_operator s t op e n h =
+    let same : t ≡ token.Sign s = cc in
+    let is : operator_of (token.Sign s) ≡ Some op = ap operator_of (sym same) ∙ e in
+    cc
+
+pub operator_after : (st : List Frame) (t : Token) (op : Operator) → operator_of t ≡ Some op → after_step st (shape_of t) ≡ Some (Operand st)
+operator_after st t op e = ap (joins_step st (shape_of t)) (operator_shape t ∙ e)
+
+operator_alone : (t : Token) (op : Operator) → operator_of t ≡ Some op → IsAlone (Some (shape_of t))
+operator_alone t op e =
+    let f = operator_shape t ∙ e in
+    (no_operator OpenParenthesis (shape_of t) op f refl, no_operator OpenBracket (shape_of t) op f refl)
+
+close_alone : IsAlone (Some (token.Sign CloseParenthesis))
+close_alone = (λ e. cc, λ e. cc)
+
+comma_alone : IsAlone (Some (token.Sign Comma))
+comma_alone = (λ e. cc, λ e. cc)
+
+colon_alone : IsAlone (Some (token.Sign Colon))
+colon_alone = (λ e. cc, λ e. cc)
+
+question_alone : IsAlone (Some (token.Sign Question))
+question_alone = (λ e. cc, λ e. cc)
+
+-- no argument begins with the closing parenthesis
+pub opened_walk : (st : List Frame) (ts : List Token) → walk (Some (Operand (Argument ∷ st))) ts ≡ Some (After st) → walk (Some (Opened st)) ts ≡ Some (After st)
+opened_walk st [] e = absurd (let h : ⊥ = cc in h)
+opened_walk st (token.Sign CloseParenthesis ∷ ts) e =
+    let n = walk_none ts in
+    absurd (let h : ⊥ = cc in h)
+opened_walk st (t ∷ ts) e = e
+
+mutual
+  pub stands_makes : {k : ℕ} {ts : List Placed} {a : Term} → Stands k ts a → Makes ts
+  stands_makes grammar.number st = inl refl
+  stands_makes grammar.map st = inr refl
+  stands_makes (grammar.moved h) st = inl (offsets_make st h)
+  stands_makes (grammar.called {ts = ts} f e a s) st = inl (called_walks s st)
+  stands_makes (grammar.negated s) st = stands_makes s st
+  stands_makes (grammar.not s) st = stands_makes s st
+  stands_makes (grammar.inside {c = c} {ts = ts} d s) st =
+      inl (then_walk (Parenthesis ∷ st) (Some (Operand (Parenthesis ∷ st))) ts [] (sign_at CloseParenthesis d) (Some (After st)) (expression_makes s (Parenthesis ∷ st)) close_alone refl)
+  stands_makes (below s) st = stands_makes s st
+  stands_makes (joined {ts = ts} {us = us} s op e l sa sb) st =
+      subst (Lands st) (sym (then_walk st (Some (Operand st)) ts us s (Some (Operand st)) (stands_makes sa st) (operator_alone s.token op e) (operator_after st s.token op e))) (stands_makes sb st)
+
+  pub expression_makes : {ts : List Placed} {a : Term} → IsExpression ts a → Makes ts
+  expression_makes (grammar.IsExpression.plain s) st = stands_makes s st
+  expression_makes (choice {ts = ts} {us = us} {vs = vs} c d s t u) st =
+      let first = then_walk st (Some (Operand st)) ts (us ++ sign_at Colon d ∷ vs) (sign_at Question c) (Some (Operand (Choosing ∷ st))) (stands_makes s st) question_alone refl in
+      let second = then_walk (Choosing ∷ st) (Some (Operand (Choosing ∷ st))) us vs (sign_at Colon d) (Some (Operand st)) (expression_makes t (Choosing ∷ st)) colon_alone refl in
+      subst (Lands st) (sym (first ∙ second)) (expression_makes u st)
+
+  pub called_walks : {ts : List Placed} {xs : Terms} → AreCalled ts xs → (st : List Frame) → walk (Some (Opened st)) (shape ts) ≡ Some (After st)
+  called_walks grammar.none st = refl
+  called_walks (grammar.some {ts = ts} s) st = opened_walk st (shape ts) (arguments_walk s st)
+
+  pub arguments_walk : {ts : List Placed} {xs : Terms} → AreArguments ts xs → (st : List Frame) → walk (Some (Operand (Argument ∷ st))) (shape ts) ≡ Some (After st)
+  arguments_walk (grammar.last {ts = ts} c s) st =
+      then_walk (Argument ∷ st) (Some (Operand (Argument ∷ st))) ts [] (sign_at CloseParenthesis c) (Some (After st)) (expression_makes s (Argument ∷ st)) close_alone refl
+  arguments_walk (grammar.another {ts = ts} {us = us} c s q) st =
+      then_walk (Argument ∷ st) (Some (Operand (Argument ∷ st))) ts us (sign_at Comma c) (Some (Operand (Argument ∷ st))) (expression_makes s (Argument ∷ st)) comma_alone refl ∙ arguments_walk q st

@@ -1,0 +1,15 @@
+-- Tokens, but for which number or which name each of them is.
+use Rattle.std.specs.Prelude.{List, [], map}
+use Rattle.cell_calc_tokens.specs.declared.token.Placed.{Placed}
+use Rattle.cell_calc_tokens.specs.declared.token.Token.{Token}
+use Rattle.cell_calc_tokens.specs.declared.token.Token.TheVariants.{Number, Name, Sign}
+
+-- a token, but for which number or which name it is
+abbrev pub shape_of : Token → Token
+shape_of (Number n) = Number 0
+shape_of (Name name) = Name []
+shape_of (Sign s) = Sign s
+
+-- the shapes of the tokens, in order
+abbrev pub shape : List Placed → List Token
+shape ts = map (λ s. shape_of s.token) ts

@@ -1,0 +1,18 @@
+//! What the reading of tokens means.
+
+ghost use Rattle.cell_calc_grammar.specs.ReadingLaw.{OneExpression, OneReading, ReadingAgrees};
+
+/// Reading ends with an expression exactly where the tokens stand for it (r.mapcalc manual).
+pub fn reading_denotes()
+    ensures { ReadingAgrees }
+{}
+
+/// Reading has one outcome at most.
+pub fn one_reading()
+    ensures { OneReading }
+{}
+
+/// Tokens stand for one expression at most.
+pub fn one_expression()
+    ensures { OneExpression }
+{}

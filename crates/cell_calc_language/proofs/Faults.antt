@@ -1,0 +1,296 @@
+-- Where reading ends too early, that is the first fault that the tokens tell.
+use Rattle.std.proofs.Common.{◌≡◌, ℕ, List, [], ◌∷◌, ◌++◌, Option, Some, None, refl, sym, ap, ◌∙◌, subst, append_assoc, append-nil, inl, inr, arith}
+use Rattle.std.specs.Prelude.{◌+◌, length, Result, Ok, Err, IfErr, MatchResult}
+use Rattle.std.proofs.lemmas.List.{append_cancel_right}
+use Rattle.cell_calc_language.specs.declared.assignment.Assignment.{Assignment}
+use Rattle.cell_calc_tokens.specs.declared.calc_fault.CalcFault.{CalcFault}
+use Rattle.cell_calc_tokens.specs.declared.calc_fault.CalcKind.{CalcKind}
+use Rattle.cell_calc_tokens.specs.declared.calc_fault.CalcKind.TheVariants.{Expected, UnknownFunction, Arguments as BadArguments, BadOffset}
+use Rattle.cell_calc_language.specs.declared.token_parsing.Stop.{Stop}
+use Rattle.cell_calc_language.specs.declared.token_parsing.Stop.TheVariants.{Memory, At}
+use Rattle.cell_calc_tokens.specs.declared.token.Placed.{Placed}
+use Rattle.cell_calc_tokens.specs.declared.token.Sign.TheVariants.{OpenParenthesis, CloseParenthesis, Assign}
+use Rattle.cell_calc_tokens.specs.declared.token.Token.{Token}
+use Rattle.cell_calc_tokens.specs.declared.token.Token.TheVariants as token
+use Rattle.cell_calc_language.specs.Assignment.{IsAssignment}
+use Rattle.cell_calc_grammar.specs.Grammar as grammar
+use Rattle.cell_calc_grammar.specs.Grammar.{IsExpression}
+use Rattle.cell_calc_language.specs.GrammarFault.{IsInBrackets, CanGoOn, Tells, column_of, IsNone, IsGrammarFault, IsFaultOf, IsTextFault}
+use Rattle.cell_calc_grammar.specs.TokensRead.{Outcome, Got, Stops, Expression, IsNot, GrammarReads, tail}
+use Rattle.cell_calc_grammar.specs.Shape.{shape_of, shape}
+use Rattle.cell_calc_language.specs.Stopping.{ParserStopsAt, FollowsSign, fault_of_stop}
+use Rattle.cell_calc_grammar.specs.Term.{Term}
+use Rattle.cell_calc_tokens.specs.Token.{token_number_at, name_at, sign_at, head}
+use Rattle.cell_calc_tokens.specs.Tokens.{token_fault, token_list}
+use Rattle.cell_calc_language.proofs.Bad.{can_before, HasNoBad, tells_none, none_in_nothing, none_in_one, none_in_assignment, none_in_call, called_end}
+use Rattle.cell_calc_grammar.proofs.Complete.{one_outcome, read_all}
+use Rattle.cell_calc_language.proofs.Law.{one}
+use Rattle.cell_calc_grammar.proofs.Occurs.{find}
+use Rattle.cell_calc_grammar.proofs.Refused.{Refuses, quiet_step, walked}
+use Rattle.cell_calc_grammar.proofs.Sound.{raise, sound, sound_all, front_is}
+use Rattle.cell_calc_language.proofs.Steps.{after_is}
+use Rattle.cell_calc_language.proofs.Told.{far_in_brackets}
+use Rattle.cell_calc_grammar.proofs.Viable.{IsSegment, SomeExpression, viable}
+use Rattle.cell_calc_grammar.proofs.Walk as place
+use Rattle.cell_calc_grammar.proofs.Walk.{Place, Start, Lands, step_on, walk, walk_none, walk_both, expression_makes}
+
+-- the tokens of an assignment are walked to the end
+assignment_makes : (ts : List Placed) (a : Assignment) → IsAssignment ts a → Lands [] (walk (Some Start) (shape ts))
+assignment_makes ts a h = subst (λ l. Lands [] (walk (Some Start) (shape l))) (sym h.3) (expression_makes h.4 [])
+
+not_landed : (p : Option Place) (ts : List Token) → p ≡ None → Lands [] (walk p ts) → ⊥
+not_landed p ts e (inl l) =
+    let n : walk p ts ≡ None = ap (λ q. walk q ts) e ∙ walk_none ts in
+    cc
+not_landed p ts e (inr l) =
+    let n : walk p ts ≡ None = ap (λ q. walk q ts) e ∙ walk_none ts in
+    cc
+
+-- tokens that cannot be walked cannot go on
+cannot : (ts : List Placed) → walk (Some Start) (shape ts) ≡ None → CanGoOn ts → ⊥
+cannot ts e (us, after, a, alike, h) =
+    not_landed (walk (Some Start) (shape us)) (shape after) (ap (walk (Some Start)) alike ∙ e)
+    (subst (Lands []) (walk_both (Some Start) us after) (assignment_makes (us ++ after) a h))
+
+none_of_nothing : IsNone []
+none_of_nothing a h =
+    let e = h.3 in
+    cc
+
+none_without_name : (s : Placed) (ts : List Placed) → ((name : List ℕ) → s.token ≡ token.Name name → ⊥) → IsNone (s ∷ ts)
+none_without_name s ts n = λ a h.
+    let same : s ≡ name_at a.target h.0 = let e = h.3 in cc in
+    n a.target (ap (λ (x : Placed). x.token) same)
+
+none_without_assign : (s : Placed) (ts : List Placed) → IsNot Assign (head ts) → IsNone (s ∷ ts)
+none_without_assign s ts n = λ a h. n (ap (λ l. head (tail l)) h.3)
+
+none_of_expression : (s t : Placed) (ts : List Placed) → ((a : Term) → IsExpression ts a → ⊥) → IsNone (s ∷ t ∷ ts)
+none_of_expression s t ts n = λ a h. n a.expr (subst (λ l. IsExpression l a.expr) (sym (ap (λ l. tail (tail l)) h.3)) h.4)
+
+-- tokens of an expression's shape go on after a name and the sign of assignment
+expression_goes_on : (name : List ℕ) (c d : ℕ) (ts us after : List Placed) → shape us ≡ shape ts → SomeExpression (us ++ after) → CanGoOn (name_at name c ∷ sign_at Assign d ∷ ts)
+expression_goes_on name c d ts us after e (a, h) =
+    let x : Assignment = record { target = name; expr = a } in
+    (name_at name c ∷ sign_at Assign d ∷ us, after, x, ap (λ l. token.Name [] ∷ token.Sign Assign ∷ l) e, (c, d, us ++ after, refl, h))
+
+zero_expression : IsExpression (token_number_at 0 0 ∷ []) (Term.Number 0)
+zero_expression = grammar.IsExpression.plain (raise 0 6 (token_number_at 0 0 ∷ []) (Term.Number 0) (omega arith) grammar.number)
+
+name_goes_on : (name : List ℕ) (c : ℕ) → CanGoOn (name_at name c ∷ [])
+name_goes_on name c =
+    can_before (name_at name c ∷ []) (sign_at Assign 0 ∷ []) (expression_goes_on name c 0 [] [] (token_number_at 0 0 ∷ []) refl (Term.Number 0, zero_expression))
+
+nothing_goes_on : CanGoOn []
+nothing_goes_on = can_before [] (name_at [] 0 ∷ []) (name_goes_on [] 0)
+
+-- no token tells a fault
+expected_at_end : (end : ℕ) (ts : List Placed) → CanGoOn ts → HasNoBad ts → IsNone ts → IsGrammarFault end ts (token_fault Expected end)
+expected_at_end end ts can free none = (inr (refl, can, tells_none ts can free), none)
+
+-- a token that cannot come there
+unexpected : (end : ℕ) (before rest : List Placed) (next : Placed) → CanGoOn before → HasNoBad before → (CanGoOn (before ++ next ∷ []) → ⊥) → IsNone (before ++ next ∷ rest) → IsGrammarFault end (before ++ next ∷ rest) (token_fault Expected next.column)
+unexpected end before rest next can free not none = (inl (before, rest, next, refl, (refl, can, not), tells_none before can free), none)
+
+pub no_name : (end : ℕ) (s : Placed) (ts : List Placed) → ((name : List ℕ) → s.token ≡ token.Name name → ⊥) → IsGrammarFault end (s ∷ ts) (token_fault Expected s.column)
+no_name end s ts n = unexpected end [] ts s nothing_goes_on none_in_nothing (cannot (s ∷ []) (refused s n)) (none_without_name s ts n)
+  where
+    at : (t : Token) → ((name : List ℕ) → t ≡ token.Name name → ⊥) → step_on (Some Start) (shape_of t) ≡ None
+    at (token.Name name) n = absurd (n name refl)
+    at _ n = refl
+
+    refused : (s : Placed) → ((name : List ℕ) → s.token ≡ token.Name name → ⊥) → walk (Some Start) (shape (s ∷ [])) ≡ None
+    refused s n = at s.token n
+
+pub no_assign : (end : ℕ) (name : List ℕ) (c : ℕ) (ts : List Placed) → IsNot Assign (head ts) → IsGrammarFault end (name_at name c ∷ ts) (token_fault Expected (column_of end ts))
+no_assign end name c [] n = expected_at_end end (name_at name c ∷ []) (name_goes_on name c) (none_in_one (name_at name c)) (none_without_assign (name_at name c) [] n)
+no_assign end name c (t ∷ rest) n =
+    unexpected end (name_at name c ∷ []) rest t (name_goes_on name c) (none_in_one (name_at name c)) (cannot (name_at name c ∷ t ∷ []) (refused t.token n)) (none_without_assign (name_at name c) (t ∷ rest) n)
+  where
+    refused : (t : Token) → IsNot Assign (Some t) → step_on (Some place.Target) (shape_of t) ≡ None
+    refused (token.Sign Assign) n = absurd (n refl)
+    refused _ n = refl
+
+-- reading did not end with an expression at the end
+abbrev IsNoEnd : Outcome → Type 0
+IsNoEnd o = (a : Term) → o ≡ Got a [] → ⊥
+
+no_expression : (ts : List Placed) (o : Outcome) → GrammarReads (Expression ts) o → IsNoEnd o → (a : Term) → IsExpression ts a → ⊥
+no_expression ts o r n a h = n a (one_outcome r (read_all ts a h))
+
+-- the next token cannot come after those of an expression
+refused_after : (name : List ℕ) (c d : ℕ) (before : List Placed) (next : Placed) → step_on (walk (Some (place.Operand [])) (shape before)) (shape_of next.token) ≡ None → CanGoOn (name_at name c ∷ sign_at Assign d ∷ (before ++ next ∷ [])) → ⊥
+refused_after name c d before next e = cannot (name_at name c ∷ sign_at Assign d ∷ (before ++ next ∷ [])) (walk_both (Some (place.Operand [])) before (next ∷ []) ∙ e)
+
+-- the tokens before are those that the other laws speak of
+one_before : (ts before before' rest : List Placed) → ts ≡ before ++ rest → ts ≡ before' ++ rest → before ≡ before'
+one_before ts before before' rest e f = append_cancel_right before before' rest (sym e ∙ f)
+
+-- what a stop says, by its kind
+abbrev IsFaultAt : (end : ℕ) (ts : List Placed) (kind : CalcKind) (rest : List Placed) → Type 0
+IsFaultAt end ts kind rest = IsGrammarFault end ts (token_fault kind (column_of end rest))
+
+stops_expected : (end : ℕ) (name : List ℕ) (c d : ℕ) (ts : List Placed) (rest : List Placed) (r : GrammarReads (Expression ts) (Stops Expected rest)) → CanGoOn (name_at name c ∷ sign_at Assign d ∷ (find r).before) → IsNone (name_at name c ∷ sign_at Assign d ∷ ts)
+    → IsFaultAt end (name_at name c ∷ sign_at Assign d ∷ ts) Expected rest
+stops_expected end name c d ts rest r can none = go rest refl
+  where
+    before : List Placed
+    before = name_at name c ∷ sign_at Assign d ∷ (find r).before
+
+    free : HasNoBad before
+    free = subst (λ l. HasNoBad (name_at name c ∷ sign_at Assign d ∷ l)) (append-nil (find r).before) (none_in_assignment name c d r [] rest refl (λ q e. refl) none_in_nothing)
+
+    all : name_at name c ∷ sign_at Assign d ∷ ts ≡ before ++ rest
+    all = ap (λ l. name_at name c ∷ sign_at Assign d ∷ l) (find r).all
+
+    go : (l : List Placed) → rest ≡ l → IsFaultAt end (name_at name c ∷ sign_at Assign d ∷ ts) Expected l
+    go [] e =
+        let same : before ≡ name_at name c ∷ sign_at Assign d ∷ ts = sym (all ∙ ap (λ l. before ++ l) e ∙ append-nil before) in
+        expected_at_end end (name_at name c ∷ sign_at Assign d ∷ ts) (subst CanGoOn same can) (subst HasNoBad same free) none
+    go (next ∷ more) e =
+        let same : name_at name c ∷ sign_at Assign d ∷ ts ≡ before ++ next ∷ more = all ∙ ap (λ l. before ++ l) e in
+        let w = walked r refl [] in
+        let one = one_before ts w.before (find r).before rest w.all (find r).all in
+        let refused : step_on (walk (Some (place.Operand [])) (shape (find r).before)) (shape_of next.token) ≡ None =
+        subst (λ l. step_on (walk (Some (place.Operand [])) (shape l)) (shape_of next.token) ≡ None) one (subst (λ t. Refuses t (walk (Some (place.Operand [])) (shape w.before))) (ap head e) w.ends) in
+        subst (λ l. IsGrammarFault end l (token_fault Expected next.column)) (sym same)
+        (unexpected end before more next can free (refused_after name c d (find r).before next refused) (subst IsNone same none))
+
+-- the fault is told later, at the last token of a segment
+stops_later : (end : ℕ) (name : List ℕ) (c d : ℕ) (ts : List Placed) (kind : CalcKind) (rest : List Placed) (r : GrammarReads (Expression ts) (Stops kind rest)) (extra more : List Placed) (next : Placed) → rest ≡ extra ++ next ∷ more
+    → ((q : List Placed) → Stops kind rest ≡ Stops BadOffset q → extra ≡ []) → HasNoBad extra → (column : ℕ)
+    → CanGoOn ((name_at name c ∷ sign_at Assign d ∷ ((find r).before ++ extra)) ++ next ∷ [])
+    → Tells kind column (name_at name c ∷ sign_at Assign d ∷ ((find r).before ++ extra)) next
+    → IsNone (name_at name c ∷ sign_at Assign d ∷ ts) → IsGrammarFault end (name_at name c ∷ sign_at Assign d ∷ ts) (token_fault kind column)
+stops_later end name c d ts kind rest r extra more next e far free column can told none =
+    let before : List Placed = name_at name c ∷ sign_at Assign d ∷ ((find r).before ++ extra) in
+    let all : name_at name c ∷ sign_at Assign d ∷ ts ≡ before ++ next ∷ more =
+    ap (λ l. name_at name c ∷ sign_at Assign d ∷ l) ((find r).all ∙ ap (λ l. (find r).before ++ l) e ∙ sym (append_assoc (find r).before extra (next ∷ more))) in
+    (inl (before, more, next, all, told, tells_none before (can_before before (next ∷ []) can) (none_in_assignment name c d r extra (next ∷ more) e far free)), none)
+
+stops_no_end : (kind : CalcKind) (rest : List Placed) → IsNoEnd (Stops kind rest)
+stops_no_end kind rest a e = cc
+
+pub stops : (end : ℕ) (name : List ℕ) (c d : ℕ) (ts : List Placed) (kind : CalcKind) (rest : List Placed) → GrammarReads (Expression ts) (Stops kind rest) → IsFaultAt end (name_at name c ∷ sign_at Assign d ∷ ts) kind rest
+stops end name c d ts kind rest r =
+    let v = viable r in
+    let w = find r in
+    let one = one_before ts v.before w.before rest v.all w.all in
+    let can : CanGoOn (name_at name c ∷ sign_at Assign d ∷ (w.before ++ v.seg)) = expression_goes_on name c d (w.before ++ v.seg) v.us v.after (v.same ∙ ap (λ l. shape (l ++ v.seg)) one) v.goes in
+    let none = none_of_expression (name_at name c) (sign_at Assign d) ts (no_expression ts (Stops kind rest) r (stops_no_end kind rest)) in
+    go kind r v.seg v.more v.front v.told can none
+  where
+    whole : List Placed
+    whole = name_at name c ∷ sign_at Assign d ∷ ts
+
+    go : (kind : CalcKind) (r : GrammarReads (Expression ts) (Stops kind rest)) (seg more : List Placed) → rest ≡ seg ++ more → IsSegment kind seg → CanGoOn (name_at name c ∷ sign_at Assign d ∷ ((find r).before ++ seg)) → IsNone whole → IsFaultAt end whole kind rest
+    go Expected r seg more e told can none =
+        stops_expected end name c d ts rest r (subst CanGoOn (ap (λ l. name_at name c ∷ sign_at Assign d ∷ ((find r).before ++ l)) told ∙ ap (λ l. name_at name c ∷ sign_at Assign d ∷ l) (append-nil (find r).before)) can) none
+    go UnknownFunction r seg more e (f, c', d', s, u) can none =
+        let b = (find r).before in
+        let front : List Placed = name_at name c ∷ sign_at Assign d ∷ b in
+        let at : rest ≡ name_at f c' ∷ sign_at OpenParenthesis d' ∷ more = e ∙ ap (λ l. l ++ more) s in
+        let same : front ++ seg ≡ (front ++ name_at f c' ∷ []) ++ sign_at OpenParenthesis d' ∷ [] = ap (λ l. front ++ l) s ∙ sym (append_assoc front (name_at f c' ∷ []) (sign_at OpenParenthesis d' ∷ [])) in
+        let can' = subst CanGoOn same can in
+        subst (λ k. IsGrammarFault end whole (token_fault UnknownFunction k)) (sym (ap (column_of end) at))
+        (stops_later end name c d ts UnknownFunction rest r (name_at f c' ∷ []) more (sign_at OpenParenthesis d') at (λ q k. absurd (let n : ⊥ = cc in n)) (none_in_one (name_at f c')) c' can'
+        ((front, f, d', append_assoc front (name_at f c' ∷ []) (sign_at OpenParenthesis d' ∷ []), u), can') none)
+    go BadArguments r seg more e (f, g, xs, c', d', inside, s, u, h, a) can none =
+        let z = called_end h in
+        let front : List Placed = name_at name c ∷ sign_at Assign d ∷ (find r).before in
+        let extra : List Placed = name_at f c' ∷ sign_at OpenParenthesis d' ∷ z.0 in
+        let last : Placed = sign_at CloseParenthesis z.1 in
+        let seg' : seg ≡ extra ++ last ∷ [] = s ∙ ap (λ l. name_at f c' ∷ sign_at OpenParenthesis d' ∷ l) z.2 in
+        let at : rest ≡ extra ++ last ∷ more = e ∙ ap (λ l. l ++ more) seg' ∙ append_assoc extra (last ∷ []) more in
+        let same : front ++ seg ≡ (front ++ extra) ++ last ∷ [] = ap (λ l. front ++ l) seg' ∙ sym (append_assoc front extra (last ∷ [])) in
+        let can' = subst CanGoOn same can in
+        let whole_call : (front ++ extra) ++ last ∷ [] ≡ front ++ name_at f c' ∷ sign_at OpenParenthesis d' ∷ inside =
+        append_assoc front extra (last ∷ []) ∙ ap (λ l. front ++ name_at f c' ∷ sign_at OpenParenthesis d' ∷ l) (sym z.2) in
+        subst (λ k. IsGrammarFault end whole (token_fault BadArguments k)) (sym (ap (column_of end) at))
+        (stops_later end name c d ts BadArguments rest r extra more last at (λ q k. absurd (let n : ⊥ = cc in n)) (none_in_call f c' d' z.0 last g xs u (subst (λ l. grammar.AreCalled l xs) z.2 h) a) c' can'
+        ((front, inside, f, d', g, xs, whole_call, u, h, a), can') none)
+    go BadOffset r seg more e (n, c', s, far) can none =
+        let front : List Placed = name_at name c ∷ sign_at Assign d ∷ (find r).before in
+        let at : rest ≡ token_number_at n c' ∷ more = e ∙ ap (λ l. l ++ more) s in
+        let same : front ++ seg ≡ (front ++ []) ++ token_number_at n c' ∷ [] = ap (λ l. front ++ l) s ∙ ap (λ l. l ++ token_number_at n c' ∷ []) (sym (append-nil front)) in
+        let can' = subst CanGoOn same can in
+        let inside = far_in_brackets (name_at name c) (sign_at Assign d) ts (find r).before BadOffset rest r (find r).all refl in
+        subst (λ k. IsGrammarFault end whole (token_fault BadOffset k)) (sym (ap (column_of end) at))
+        (stops_later end name c d ts BadOffset rest r [] more (token_number_at n c') at (λ q k. refl) none_in_nothing c' can'
+        ((front ++ [], n, refl, far, subst IsInBrackets (sym (append-nil front)) inside), can') none)
+    go _ r seg more e told can none = absurd told
+
+got_no_end : (a : Term) (s : Placed) (rest : List Placed) → IsNoEnd (Got a (s ∷ rest))
+got_no_end a s rest b e = cc
+
+pub goes_on : (end : ℕ) (name : List ℕ) (c d : ℕ) (ts : List Placed) (a : Term) (u : Placed) (rest : List Placed) → GrammarReads (Expression ts) (Got a (u ∷ rest)) → IsFaultAt end (name_at name c ∷ sign_at Assign d ∷ ts) Expected (u ∷ rest)
+goes_on end name c d ts a u rest r =
+    let w = find r in
+    let h = sound r in
+    let before : List Placed = name_at name c ∷ sign_at Assign d ∷ w.before in
+    let same = one_before ts h.0 w.before (u ∷ rest) h.1 w.all in
+    let can = expression_goes_on name c d w.before h.0 [] (ap shape same) (subst SomeExpression (sym (append-nil h.0)) (a, h.2)) in
+    let free = subst (λ l. HasNoBad (name_at name c ∷ sign_at Assign d ∷ l)) (append-nil w.before) (none_in_assignment name c d r [] (u ∷ rest) refl (λ q e. refl) none_in_nothing) in
+    let x = walked r in
+    let y = x.1 [] in
+    let one = one_before ts y.before w.before (u ∷ rest) y.all w.all in
+    let refused : step_on (walk (Some (place.Operand [])) (shape w.before)) (shape_of u.token) ≡ None =
+    subst (λ l. step_on (walk (Some (place.Operand [])) (shape l)) (shape_of u.token) ≡ None) one (y.ends ∙ quiet_step [] u.token x.0) in
+    let all : name_at name c ∷ sign_at Assign d ∷ ts ≡ before ++ u ∷ rest = ap (λ l. name_at name c ∷ sign_at Assign d ∷ l) w.all in
+    let none = none_of_expression (name_at name c) (sign_at Assign d) ts (no_expression ts (Got a (u ∷ rest)) r (got_no_end a u rest)) in
+    subst (λ l. IsGrammarFault end l (token_fault Expected u.column)) (sym all) (unexpected end before rest u can free (refused_after name c d w.before u refused) (subst IsNone all none))
+
+-- a name and the sign of assignment, as the code finds them before the expression
+abbrev pub Begins : List ℕ → List Placed → List Placed → Type 0
+Begins name ts us = (s : Placed) × (rest : List Placed) × (ts ≡ s ∷ rest) × (s.token ≡ token.Name name) × FollowsSign Assign rest us
+
+pub begins_is : (name : List ℕ) (ts us : List Placed) → Begins name ts us → (c d : ℕ) × (ts ≡ name_at name c ∷ sign_at Assign d ∷ us)
+begins_is name ts us h =
+    let f = front_is ts (token.Name name) (ap head h.2 ∙ ap (λ x. Some x) h.3) in
+    let g = after_is Assign h.1 us h.4 in
+    (f.0, g.0, f.1 ∙ ap (λ l. name_at name f.0 ∷ tail l) h.2 ∙ ap (λ l. name_at name f.0 ∷ l) g.1)
+
+pub nothing_at_all : (end : ℕ) → IsGrammarFault end [] (token_fault Expected end)
+nothing_at_all end = expected_at_end end [] nothing_goes_on none_in_nothing none_of_nothing
+
+pub fault_nothing : (end : ℕ) (ts : List Placed) → ts ≡ [] → IsFaultOf end ts (token_fault Expected (column_of end ts))
+fault_nothing end ts e = inr (subst (λ l. IsGrammarFault end l (token_fault Expected (column_of end l))) (sym e) (nothing_at_all end))
+
+pub fault_no_name : (end : ℕ) (ts : List Placed) (s : Placed) (rest : List Placed) → ts ≡ s ∷ rest → ((name : List ℕ) → s.token ≡ token.Name name → ⊥) → IsFaultOf end ts (token_fault Expected (column_of end ts))
+fault_no_name end ts s rest e n = inr (subst (λ l. IsGrammarFault end l (token_fault Expected (column_of end l))) (sym e) (no_name end s rest n))
+
+pub fault_no_assign : (end : ℕ) (ts : List Placed) (s : Placed) (rest : List Placed) (name : List ℕ) → ts ≡ s ∷ rest → s.token ≡ token.Name name → IsNot Assign (head rest) → IsFaultOf end ts (token_fault Expected (column_of end rest))
+fault_no_assign end ts s rest name e f n =
+    let at = front_is ts (token.Name name) (ap head e ∙ ap (λ x. Some x) f) in
+    let same : ts ≡ name_at name at.0 ∷ rest = at.1 ∙ ap (λ l. name_at name at.0 ∷ tail l) e in
+    inr (subst (λ l. IsGrammarFault end l (token_fault Expected (column_of end rest))) (sym same) (no_assign end name at.0 rest n))
+
+pub fault_stops : (end : ℕ) (name : List ℕ) (ts us : List Placed) (stop : Stop) → Begins name ts us → ParserStopsAt (Expression us) stop → IsFaultOf end ts (fault_of_stop end stop)
+fault_stops end name ts us Memory h r = inl refl
+fault_stops end name ts us (At kind rest) h r =
+    let b = begins_is name ts us h in
+    inr (subst (λ l. IsGrammarFault end l (record { kind = kind; column = column_of end rest.now })) (sym b.2) (stops end name b.0 b.1 us kind rest.now r))
+
+pub fault_goes_on : (end : ℕ) (name : List ℕ) (ts us : List Placed) (a : Term) (left : List Placed) (u : Placed) (rest : List Placed) → Begins name ts us → left ≡ u ∷ rest → GrammarReads (Expression us) (Got a left) → IsFaultOf end ts (record { kind = Expected; column = column_of end left })
+fault_goes_on end name ts us a left u rest h e r =
+    let b = begins_is name ts us h in
+    let f : IsGrammarFault end ts (token_fault Expected (column_of end (u ∷ rest))) =
+    subst (λ l. IsGrammarFault end l (token_fault Expected (column_of end (u ∷ rest)))) (sym b.2) (goes_on end name b.0 b.1 us a u rest (subst (λ l. GrammarReads (Expression us) (Got a l)) e r)) in
+    inr (subst (λ l. IsGrammarFault end ts (token_fault Expected (column_of end l))) (sym e) f)
+
+pub ends : (name target : List ℕ) (ts us : List Placed) (a : Term) (left : List Placed) → target ≡ name → Begins name ts us → left ≡ [] → GrammarReads (Expression us) (Got a left) → IsAssignment ts (record { target = target; expr = a })
+ends name target ts us a left e h f r =
+    let b = begins_is name ts us h in
+    (b.0, b.1, us, b.2 ∙ ap (λ n. name_at n b.0 ∷ sign_at Assign b.1 ∷ us) (sym e), sound_all us a (subst (λ l. GrammarReads (Expression us) (Got a l)) f r))
+
+pub ends_only : (name target : List ℕ) (ts us : List Placed) (a : Term) (left : List Placed) → target ≡ name → Begins name ts us → left ≡ [] → GrammarReads (Expression us) (Got a left) → (b : Assignment) → IsAssignment ts b → b ≡ record { target = target; expr = a }
+ends_only name target ts us a left e h f r = λ b is. one ts b (record { target = target; expr = a }) is (ends name target ts us a left e h f r)
+
+-- what is told of the tokens is told of the text
+text_fault_of : (text : List ℕ) (ts : List Placed) → token_list text ≡ Ok ts → (token_fault : CalcFault) → IsFaultOf (length text + 1) ts token_fault → IsTextFault text token_fault
+text_fault_of text ts e token_fault (inl m) = inl m
+text_fault_of text ts e token_fault (inr g) = inr (subst (λ r. MatchResult r (λ us. IsGrammarFault (length text + 1) us token_fault) (λ first. token_fault ≡ first)) (sym e) g)
+
+pub text_fault : (text : List ℕ) (ts : List Placed) → token_list text ≡ Ok ts → (r : Result Assignment CalcFault) → IfErr r (λ token_fault. IsFaultOf (length text + 1) ts token_fault) → IfErr r (λ token_fault. IsTextFault text token_fault)
+text_fault text ts e (Ok a) h = tt
+text_fault text ts e (Err token_fault) h = text_fault_of text ts e token_fault h

@@ -1,0 +1,283 @@
+-- How an expression is read, step after step, over what waits.
+use Rattle.std.proofs.Common.{◌≡◌, ℕ, suc, ◌+◌, ℤ, pos, List, [], ◌∷◌, ◌++◌, Option, Some, None, Ok, Err, Bool, true, false, refl, sym, ap, ◌∙◌, subst, append_assoc, append-nil, add-one, vec_len, Global, arith}
+use Rattle.std.proofs.lemmas.List.{reverse-append, nil_from_length}
+use Rattle.std.specs.Borrow.{Bor}
+use Rattle.std.specs.Prelude.{Vec}
+use Rattle.cell_calc_tokens.specs.declared.calc_fault.CalcKind.{CalcKind}
+use Rattle.cell_calc_tokens.specs.declared.calc_fault.CalcKind.TheVariants.{Expected, UnknownFunction, Arguments as BadArguments}
+use Rattle.cell_calc_tokens.specs.declared.function.Function.{Function}
+use Rattle.cell_calc_tokens.specs.declared.function.Function.TheVariants.{If}
+use Rattle.cell_calc_tokens.specs.declared.operator.Operator.{Operator}
+use Rattle.cell_calc_language.specs.declared.token_parsing.Stop.{Stop}
+use Rattle.cell_calc_language.specs.declared.token_parsing.Stop.TheVariants.{Memory, At}
+use Rattle.cell_calc_language.specs.declared.expression_reader.Frame.{Frame}
+use Rattle.cell_calc_language.specs.declared.expression_reader.Frame.TheVariants as frame
+use Rattle.cell_calc_steps.specs.declared.named.Step.{Step}
+use Rattle.cell_calc_steps.specs.declared.named.Step.TheVariants as step
+use Rattle.cell_calc_tokens.specs.declared.token.Placed.{Placed}
+use Rattle.cell_calc_tokens.specs.declared.token.Sign.{Sign}
+use Rattle.cell_calc_tokens.specs.declared.token.Sign.TheVariants.{Minus, Exclamation, Question, Colon, OpenParenthesis, CloseParenthesis, OpenBracket, Comma}
+use Rattle.cell_calc_tokens.specs.declared.token.Token.{Token}
+use Rattle.cell_calc_tokens.specs.declared.token.Token.TheVariants as token
+use Rattle.cell_calc_tokens.specs.Function.{function_of, accepts}
+use Rattle.cell_calc_tokens.specs.Operator.{level_of}
+use Rattle.cell_calc_language.specs.Postfix.{postfix, postfix_all}
+use Rattle.cell_calc_grammar.specs.TokensRead as reading
+use Rattle.cell_calc_grammar.specs.TokensRead.{PartOfExpression, tail, Outcome, Got, GotAll, Stops, State, Operand, More, Expression, Choice, AfterQuestion, Called, Onward, next, GoesOn, IsNot, BeginsNone, negate, invert, after_bracket, close, join, choose, move, call_judged, call, add, GrammarReads, nothing, whole, stopped, done, expression, unread, unchosen, unasked, no_colon, otherwise, arguments, halted, unended}
+use Rattle.cell_calc_language.specs.Stopping.{ParserStopsAt, IsPartStop, FollowsSign, IsCallOf}
+use Rattle.cell_calc_grammar.specs.Term.{Term, Number, Map, Negated, Not, Binary, Call, Terms, NoTerms, Then, count}
+use Rattle.cell_calc_tokens.specs.Token.{token_number_at, name_at, sign_at, head}
+use Rattle.cell_calc_language.specs.parts.Built.{built}
+use Rattle.cell_calc_language.specs.parts.Waiting.{add_all, Fills, Awaits, IsReadExpression, latest_first}
+use Rattle.cell_calc_language.proofs.PostfixLemmas.{are_of_built}
+use Rattle.cell_calc_grammar.proofs.Sound.{front_is}
+
+-- a sign at the front, as it stands there
+pub after_is : (s : Sign) (ts us : List Placed) → FollowsSign s ts us → (c : ℕ) × (ts ≡ sign_at s c ∷ us)
+after_is s ts us h =
+    let f = front_is ts (token.Sign s) h.0 in
+    (f.0, f.1 ∙ ap (λ l. sign_at s f.0 ∷ l) h.1)
+
+call_is : (name : List ℕ) (ts us : List Placed) → IsCallOf name ts us → (c d : ℕ) × (ts ≡ name_at name c ∷ sign_at OpenParenthesis d ∷ us)
+call_is name ts us h =
+    let f = front_is ts (token.Name name) h.0 in
+    let g = after_is OpenParenthesis (tail ts) us h.1 in
+    (f.0, g.0, f.1 ∙ ap (λ l. name_at name f.0 ∷ l) g.1)
+
+map_reads : (name : List ℕ) (c : ℕ) (ts us : List Placed) → FollowsSign OpenBracket ts us → (p : PartOfExpression (ℤ × ℤ)) → reading.offsets us ≡ p → GrammarReads (Operand (name_at name c ∷ ts)) (move name c p)
+map_reads name c ts us h p e =
+    let a = after_is OpenBracket ts us h in
+    subst (λ l. GrammarReads (Operand (name_at name c ∷ l)) (move name c p)) (sym a.1) (subst (λ q. GrammarReads (Operand (name_at name c ∷ sign_at OpenBracket a.0 ∷ us)) (move name c q)) e reading.moved)
+
+begins_none : (s : Sign) → (s ≡ Minus → ⊥) → (s ≡ Exclamation → ⊥) → (s ≡ OpenParenthesis → ⊥) → BeginsNone (Some (token.Sign s))
+begins_none Minus n m o = n refl
+begins_none Exclamation n m o = m refl
+begins_none OpenParenthesis n m o = o refl
+begins_none _ n m o = tt
+
+add_all_stops : (xs : Terms) (kind : CalcKind) (ts : List Placed) → add_all xs (Stops kind ts) ≡ Stops kind ts
+add_all_stops NoTerms kind ts = refl
+add_all_stops (Then a xs) kind ts = ap (add a) (add_all_stops xs kind ts)
+
+-- a fault goes through whatever waits
+stops : (s : State) (fs : List Frame) (steps : List Step) (kind : CalcKind) (ts : List Placed) → Fills s fs steps (Stops kind ts) → GrammarReads s (Stops kind ts)
+stops s [] steps kind ts h = h.1
+stops s (frame.Negated ∷ fs) steps kind ts h = stops s fs steps kind ts h
+stops s (frame.Not ∷ fs) steps kind ts h = stops s fs steps kind ts h
+stops s (frame.Level k ∷ fs) steps kind ts h = stops s fs steps kind ts (h (Stops kind ts) stopped)
+stops s (frame.Joined k op ∷ fs) steps kind ts h = stops s fs h.1 kind ts (h.3 (Stops kind ts) stopped)
+stops s (frame.Choice ∷ fs) steps kind ts h = stops s fs steps kind ts (h (Stops kind ts) unread)
+stops s (frame.AfterQuestion ∷ fs) steps kind ts h = stops s fs h.1 kind ts (h.3 (Stops kind ts) unasked)
+stops s (frame.AfterColon ∷ fs) steps kind ts h = stops s fs h.2 kind ts h.4
+stops s (frame.Parenthesis ∷ fs) steps kind ts h = stops s fs steps kind ts h
+stops s (frame.Call f from n ∷ fs) steps kind ts h =
+    stops s fs h.1 kind ts (subst (λ o. Fills s fs h.1 (call f from.now o)) (add_all_stops h.0 kind ts) (h.4 (Stops kind ts) halted))
+
+-- where an operand or an expression is to be read
+module _ (s : State) (fs : List Frame) (steps : List Step) (ts : List Placed) where
+  stops_at : (kind : CalcKind) (us : List Placed) → Awaits s fs steps (Operand ts) → GrammarReads (Operand ts) (Stops kind us) → GrammarReads s (Stops kind us)
+  stops_at kind us h r = stops s fs steps kind us (h (Stops kind us) r)
+
+  operand_read : (a : Term) (us : List Placed) → Awaits s fs steps (Operand ts) → GrammarReads (Operand ts) (Got a us) → IsReadExpression s fs (steps ++ postfix a) us
+  operand_read a us h r = (a, steps, refl, h (Got a us) r)
+
+  pub entered : Awaits s fs steps (Expression ts) → Awaits s (frame.Level 6 ∷ frame.Choice ∷ fs) steps (Operand ts)
+  entered h = λ o r p m q c. h q (expression (whole r m) c)
+
+  pub no_token : Awaits s fs steps (Operand ts) → ts ≡ [] → GrammarReads s (Stops Expected ts)
+  no_token h e = stops_at Expected ts h (rw e (nothing tt))
+
+  pub number_read : (n : ℕ) (p : Placed) (us : List Placed) → Awaits s fs steps (Operand ts) → ts ≡ p ∷ us → p.token ≡ token.Number n → IsReadExpression s fs (steps ++ step.Number n ∷ []) us
+  number_read n p us h e f =
+      let g = front_is ts (token.Number n) (ap head e ∙ ap (λ x. Some x) f) in
+      operand_read (Number n) us h (subst (λ l. GrammarReads (Operand l) (Got (Number n) us)) (sym (g.1 ∙ ap (λ l. token_number_at n g.0 ∷ tail l) e)) reading.number)
+
+  pub minus : (us : List Placed) → Awaits s fs steps (Operand ts) → FollowsSign Minus ts us → Awaits s (frame.Negated ∷ fs) steps (Operand us)
+  minus us h a = λ o r. h (negate o) (subst (λ l. GrammarReads (Operand l) (negate o)) (sym (after_is Minus ts us a).1) (reading.negated r))
+
+  pub exclamation : (us : List Placed) → Awaits s fs steps (Operand ts) → FollowsSign Exclamation ts us → Awaits s (frame.Not ∷ fs) steps (Operand us)
+  exclamation us h a = λ o r. h (invert o) (subst (λ l. GrammarReads (Operand l) (invert o)) (sym (after_is Exclamation ts us a).1) (reading.not r))
+
+  pub opened : (us : List Placed) → Awaits s fs steps (Operand ts) → FollowsSign OpenParenthesis ts us → Awaits s (frame.Parenthesis ∷ fs) steps (Expression us)
+  opened us h a = λ o r. h (close o) (subst (λ l. GrammarReads (Operand l) (close o)) (sym (after_is OpenParenthesis ts us a).1) (reading.inside r))
+
+  pub no_operand : (sign : Sign) → Awaits s fs steps (Operand ts) → head ts ≡ Some (token.Sign sign) → (sign ≡ Minus → ⊥) → (sign ≡ Exclamation → ⊥) → (sign ≡ OpenParenthesis → ⊥) → GrammarReads s (Stops Expected ts)
+  no_operand sign h e n m o = stops_at Expected ts h (nothing (subst BeginsNone (sym e) (begins_none sign n m o)))
+
+-- after a map's name
+module _ (s : State) (fs : List Frame) (steps : List Step) (name copy : List ℕ) (c : ℕ) (ts : List Placed) where
+  pub map_alone : Awaits s fs steps (Operand (name_at name c ∷ ts)) → copy ≡ name → IsNot OpenParenthesis (head ts) → IsNot OpenBracket (head ts) → IsReadExpression s fs (steps ++ step.Map copy (pos 0) (pos 0) c ∷ []) ts
+  map_alone h e n m = operand_read s fs steps (name_at name c ∷ ts) (Map copy (pos 0) (pos 0) c) ts h (rw e (reading.map (n, m)))
+
+  pub map_moved : (us rest : List Placed) (down right : ℤ) → Awaits s fs steps (Operand (name_at name c ∷ ts)) → copy ≡ name → FollowsSign OpenBracket ts us → reading.offsets us ≡ Ok ((down, right), rest)
+      → IsReadExpression s fs (steps ++ step.Map copy down right c ∷ []) rest
+  map_moved us rest down right h e a p = operand_read s fs steps (name_at name c ∷ ts) (Map copy down right c) rest h (rw e (map_reads name c ts us a (Ok ((down, right), rest)) p))
+
+  pub map_stops : (us : List Placed) (e : Stop) → Awaits s fs steps (Operand (name_at name c ∷ ts)) → FollowsSign OpenBracket ts us → IsPartStop (reading.offsets us) e → ParserStopsAt s e
+  map_stops us Memory h a p = tt
+  map_stops us (At kind rest) h a p = stops_at s fs steps (name_at name c ∷ ts) kind rest.now h (map_reads name c ts us a (Err (kind, rest.now)) p)
+
+-- after a call's name and the opening parenthesis
+module _ (s : State) (fs : List Frame) (steps : List Step) (name : List ℕ) (from : Bor (List Placed)) (us : List Placed) (h : Awaits s fs steps (Operand from.now)) (a : IsCallOf name from.now us) where
+  pub unknown_call : function_of name ≡ None → GrammarReads s (Stops UnknownFunction from.now)
+  unknown_call e = stops_at s fs steps from.now UnknownFunction from.now h (subst (λ l. GrammarReads (Operand l) (Stops UnknownFunction l)) (sym (call_is name from.now us a).2) (reading.unknown e))
+
+  call_reads : (f : Function) (o : Outcome) → function_of name ≡ Some f → GrammarReads (Called us) o → GrammarReads (Operand from.now) (call f from.now o)
+  call_reads f o e r = subst (λ l. GrammarReads (Operand l) (call f l o)) (sym (call_is name from.now us a).2) (reading.called f e r)
+
+  -- without arguments
+  judged_empty : (f : Function) (rest : List Placed) (b : Bool) → function_of name ≡ Some f → FollowsSign CloseParenthesis us rest → accepts f 0 ≡ b → GrammarReads (Operand from.now) (call_judged b f NoTerms from.now rest)
+  judged_empty f rest b e d g =
+      subst (λ x. GrammarReads (Operand from.now) (call_judged x f NoTerms from.now rest)) g
+      (call_reads f (GotAll NoTerms rest) e (subst (λ l. GrammarReads (Called l) (GotAll NoTerms rest)) (sym (after_is CloseParenthesis us rest d).1) reading.none))
+
+  pub empty_call : (f : Function) (rest : List Placed) → function_of name ≡ Some f → FollowsSign CloseParenthesis us rest → accepts f 0 ≡ true → IsReadExpression s fs (steps ++ step.Call f 0 ∷ []) rest
+  empty_call f rest e d g = operand_read s fs steps from.now (Call f NoTerms) rest h (judged_empty f rest true e d g)
+
+  pub refused_empty : (f : Function) (rest : List Placed) → function_of name ≡ Some f → FollowsSign CloseParenthesis us rest → accepts f 0 ≡ false → GrammarReads s (Stops BadArguments from.now)
+  refused_empty f rest e d g = stops_at s fs steps from.now BadArguments from.now h (judged_empty f rest false e d g)
+
+  pub first_argument : (f : Function) → function_of name ≡ Some f → IsNot CloseParenthesis (head us) → Awaits s (frame.Call f from 0 ∷ fs) steps (Expression us)
+  first_argument f e n = λ o r. (NoTerms, steps, sym (append-nil steps), refl, λ p m. h (call f from.now p) (call_reads f p e (reading.some n (arguments r m))))
+
+more_reads : (k : ℕ) (ts : List Placed) (a : Term) (op : Operator) (rest : List Placed) (o p : Outcome) → GoesOn k ts op rest → GrammarReads (reading.Whole (level_of op) rest) o → GrammarReads (More k (join op a o)) p → GrammarReads (More k (Got a ts)) p
+more_reads k [] a op rest o p g r m = let h : ⊥ = cc (g.1) in absurd h
+more_reads k (s ∷ ts) a op rest o p g r m = reading.more op g.1 (subst (λ l. GrammarReads (reading.Whole (level_of op) l) o) (sym g.0) r) m
+
+not_closed : (t : Option Token) (a : Term) (ts : List Placed) → IsNot CloseParenthesis t → after_bracket t a ts ≡ Stops Expected ts
+not_closed (Some (token.Sign CloseParenthesis)) a ts n = absurd (n refl)
+not_closed _ a ts n = refl
+
+-- after an operand, or more
+module _ (s : State) (fs : List Frame) (steps : List Step) (ts : List Placed) where
+  pub negated : IsReadExpression s (frame.Negated ∷ fs) steps ts → IsReadExpression s fs (steps ++ step.Negated ∷ []) ts
+  negated h = (Negated h.0, h.1, ap (λ l. l ++ step.Negated ∷ []) h.2 ∙ append_assoc h.1 (postfix h.0) (step.Negated ∷ []), h.3)
+
+  pub inverted : IsReadExpression s (frame.Not ∷ fs) steps ts → IsReadExpression s fs (steps ++ step.Not ∷ []) ts
+  inverted h = (Not h.0, h.1, ap (λ l. l ++ step.Not ∷ []) h.2 ∙ append_assoc h.1 (postfix h.0) (step.Not ∷ []), h.3)
+
+  pub joined : (k : ℕ) (op : Operator) → IsReadExpression s (frame.Joined k op ∷ fs) steps ts → IsReadExpression s (frame.Level k ∷ fs) (steps ++ step.Binary op ∷ []) ts
+  joined k op h =
+      let f = h.3 in
+      (Binary op f.0 h.0, f.1, ap (λ l. l ++ step.Binary op ∷ []) (h.2 ∙ ap (λ l. l ++ postfix h.0) f.2) ∙ simp append_assoc, f.3)
+
+  pub chosen : IsReadExpression s (frame.AfterColon ∷ fs) steps ts → IsReadExpression s fs (steps ++ step.Call If 3 ∷ []) ts
+  chosen h =
+      let f = h.3 in
+      (Call If (Then f.0 (Then f.1 (Then h.0 NoTerms))), f.2, ap (λ l. l ++ step.Call If 3 ∷ []) (h.2 ∙ ap (λ l. l ++ postfix h.0) f.3) ∙ simp (append_assoc, append-nil), f.4)
+
+  pub no_more : (k : ℕ) → IsReadExpression s (frame.Level k ∷ fs) steps ts → next k ts ≡ None → IsReadExpression s fs steps ts
+  no_more k h e = (h.0, h.1, h.2, h.3 (Got h.0 ts) (done e))
+
+  pub more : (k : ℕ) (op : Operator) (us : List Placed) → IsReadExpression s (frame.Level k ∷ fs) steps ts → GoesOn k ts op us → Awaits s (frame.Level (level_of op) ∷ frame.Joined k op ∷ fs) steps (Operand us)
+  more k op us h g = λ o r p m. (h.0, h.1, h.2, λ q n. h.3 q (more_reads k ts h.0 op us p q g (whole r m) n))
+
+  pub not_asked : IsReadExpression s (frame.Choice ∷ fs) steps ts → IsNot Question (head ts) → IsReadExpression s fs steps ts
+  not_asked h n = (h.0, h.1, h.2, h.3 (Got h.0 ts) (unchosen n))
+
+  pub asked : (us : List Placed) → IsReadExpression s (frame.Choice ∷ fs) steps ts → FollowsSign Question ts us → Awaits s (frame.AfterQuestion ∷ fs) steps (Expression us)
+  asked us h a = λ o r. (h.0, h.1, h.2, λ p m. h.3 p (subst (λ l. GrammarReads (Choice (Got h.0 l)) p) (sym (after_is Question ts us a).1) (reading.asked r m)))
+
+  pub colon_missing : IsReadExpression s (frame.AfterQuestion ∷ fs) steps ts → IsNot Colon (head ts) → GrammarReads s (Stops Expected ts)
+  colon_missing h n = stops s fs h.3.1 Expected ts (h.3.3 (Stops Expected ts) (no_colon n))
+
+  pub colon : (us : List Placed) → IsReadExpression s (frame.AfterQuestion ∷ fs) steps ts → FollowsSign Colon ts us → Awaits s (frame.AfterColon ∷ fs) steps (Expression us)
+  colon us h a = λ o r.
+      let f = h.3 in (
+        f.0,
+        h.0,
+        f.1,
+        h.2 ∙ ap (λ l. l ++ postfix h.0) f.2 ∙ append_assoc f.1 (postfix f.0) (postfix h.0),
+        f.3 (choose f.0 h.0 o) (subst (λ l. GrammarReads (AfterQuestion f.0 (Got h.0 l)) (choose f.0 h.0 o)) (sym (after_is Colon ts us a).1) (otherwise r)),
+      )
+
+  pub unclosed : IsReadExpression s (frame.Parenthesis ∷ fs) steps ts → IsNot CloseParenthesis (head ts) → GrammarReads s (Stops Expected ts)
+  unclosed h n = stops s fs h.1 Expected ts (subst (Fills s fs h.1) (not_closed (head ts) h.0 ts n) h.3)
+
+-- arguments, and a last one
+with_last : Terms → Term → Terms
+with_last NoTerms b = Then b NoTerms
+with_last (Then a xs) b = Then a (with_last xs b)
+
+count_with_last : (xs : Terms) (b : Term) → count (with_last xs b) ≡ suc (count xs)
+unfolding with_last
+count_with_last NoTerms b = refl
+count_with_last (Then a xs) b = ap suc (count_with_last xs b)
+
+postfix_with_last : (xs : Terms) (b : Term) → postfix_all (with_last xs b) ≡ postfix_all xs ++ postfix b
+unfolding with_last
+postfix_with_last NoTerms b = append-nil (postfix b)
+postfix_with_last (Then a xs) b = ap (λ l. postfix a ++ l) (postfix_with_last xs b) ∙ sym (append_assoc (postfix a) (postfix_all xs) (postfix b))
+
+add_with_last : (xs : Terms) (b : Term) (o : Outcome) → add_all xs (add b o) ≡ add_all (with_last xs b) o
+unfolding with_last
+add_with_last NoTerms b o = refl
+add_with_last (Then a xs) b o = ap (add a) (add_with_last xs b o)
+
+add_all_last : (xs : Terms) (b : Term) (us : List Placed) → add_all xs (GotAll (Then b NoTerms) us) ≡ GotAll (with_last xs b) us
+unfolding with_last
+add_all_last NoTerms b us = refl
+add_all_last (Then a xs) b us = ap (add a) (add_all_last xs b us)
+
+-- after an argument of a call
+module _ (s : State) (fs : List Frame) (steps : List Step) (ts : List Placed) (f : Function) (from : Bor (List Placed)) (n m : ℕ) (e : m ≡ n + 1) (h : IsReadExpression s (frame.Call f from n ∷ fs) steps ts) where
+  all : Terms
+  all = with_last h.3.0 h.0
+
+  counted : count all ≡ m
+  unfolding all
+  counted = count_with_last h.3.0 h.0 ∙ ap suc h.3.3 ∙ sym (add-one n) ∙ sym e
+
+  all_steps : steps ≡ h.3.1 ++ postfix_all all
+  unfolding all
+  all_steps = h.2 ∙ ap (λ l. l ++ postfix h.0) h.3.2 ∙ append_assoc h.3.1 (postfix_all h.3.0) (postfix h.0) ∙ ap (λ l. h.3.1 ++ l) (sym (postfix_with_last h.3.0 h.0))
+
+  pub another_argument : (us : List Placed) → FollowsSign Comma ts us → Awaits s (frame.Call f from m ∷ fs) steps (Expression us)
+  unfolding all
+  another_argument us a = λ o r. (
+    all,
+    h.3.1,
+    all_steps,
+    counted,
+    λ p q. subst (λ x. Fills s fs h.3.1 (call f from.now x)) (add_with_last h.3.0 h.0 p)
+        (h.3.4 (add h.0 p) (subst (λ l. GrammarReads (Onward (Got h.0 l)) (add h.0 p)) (sym (after_is Comma ts us a).1) (reading.another (arguments r q)))),
+  )
+
+  pub unended_call : IsNot CloseParenthesis (head ts) → IsNot Comma (head ts) → GrammarReads s (Stops Expected ts)
+  unended_call c d = stops s fs h.3.1 Expected ts (subst (λ x. Fills s fs h.3.1 (call f from.now x)) (add_all_stops h.3.0 Expected ts) (h.3.4 (Stops Expected ts) (unended c d)))
+
+  judged_call : (us : List Placed) (b : Bool) → FollowsSign CloseParenthesis ts us → accepts f m ≡ b → Fills s fs h.3.1 (call_judged b f all from.now us)
+  unfolding all
+  judged_call us b a g =
+      subst (λ x. Fills s fs h.3.1 (call_judged x f all from.now us)) (ap (accepts f) counted ∙ g)
+      (subst (λ x. Fills s fs h.3.1 (call f from.now x)) (add_all_last h.3.0 h.0 us)
+      (h.3.4 (GotAll (Then h.0 NoTerms) us) (subst (λ l. GrammarReads (Onward (Got h.0 l)) (GotAll (Then h.0 NoTerms) us)) (sym (after_is CloseParenthesis ts us a).1) reading.last)))
+
+  pub refused_call : (us : List Placed) → FollowsSign CloseParenthesis ts us → accepts f m ≡ false → GrammarReads s (Stops BadArguments from.now)
+  refused_call us a g = stops s fs h.3.1 BadArguments from.now (judged_call us false a g)
+
+  pub accepted_call : (us : List Placed) → FollowsSign CloseParenthesis ts us → accepts f m ≡ true → IsReadExpression s fs (steps ++ step.Call f m ∷ []) us
+  accepted_call us a g = (
+    Call f all,
+    h.3.1,
+    ap (λ l. l ++ step.Call f m ∷ []) all_steps ∙ append_assoc h.3.1 (postfix_all all) (step.Call f m ∷ []) ∙ ap (λ k. h.3.1 ++ (postfix_all all ++ step.Call f k ∷ [])) (sym counted),
+    judged_call us true a g,
+  )
+
+-- at the beginning nothing waits
+pub begins : (fs : List Frame) (steps : List Step) (ts : List Placed) → fs ≡ [] → steps ≡ [] → Awaits (Expression ts) (latest_first fs) steps (Expression ts)
+begins fs steps ts e g = λ o r. rw (e, g) (refl, r)
+
+-- the latest of the frames goes on
+pub resumes : (s : State) (fs gs : List Frame) (f : Frame) (steps : List Step) (ts : List Placed) → fs ≡ gs ++ f ∷ [] → IsReadExpression s (latest_first fs) steps ts → IsReadExpression s (f ∷ latest_first gs) steps ts
+resumes s fs gs f steps ts e h = subst (λ l. IsReadExpression s l steps ts) (ap latest_first e ∙ reverse-append gs (f ∷ [])) h
+
+-- at the end nothing waits
+pub ends : (s : State) (frames : Vec Frame Global) (steps : List Step) (ts : List Placed) → vec_len frames ≡ 0 → IsReadExpression s (latest_first frames.items) steps ts
+    → (GrammarReads s (Got (built steps) ts)) × (steps ≡ postfix (built steps))
+ends s frames steps ts e h =
+    let len = frames.ok.0 in
+    let none : frames.items ≡ [] = nil_from_length frames.items (omega arith) in
+    let g = subst (λ l. IsReadExpression s (latest_first l) steps ts) none h in
+    let b = are_of_built g.0 steps (g.2 ∙ ap (λ l. l ++ postfix g.0) g.3.0) in
+    (subst (λ a. GrammarReads s (Got a ts)) (sym b.0) g.3.1, b.1)

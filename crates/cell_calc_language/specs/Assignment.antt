@@ -1,0 +1,16 @@
+-- Which lists of tokens stand for which assignments (r.mapcalc manual).
+use Rattle.std.specs.Prelude.{◌≡◌, ℕ, List, ◌∷◌, IsOkAnd}
+use Rattle.cell_calc_language.specs.declared.assignment.Assignment.{Assignment}
+use Rattle.cell_calc_tokens.specs.declared.token.Placed.{Placed}
+use Rattle.cell_calc_tokens.specs.declared.token.Sign.TheVariants.{Assign}
+use Rattle.cell_calc_grammar.specs.Grammar.{IsExpression}
+use Rattle.cell_calc_tokens.specs.Token.{name_at, sign_at}
+use Rattle.cell_calc_tokens.specs.Tokens.{token_list}
+
+-- assignment = NAME "=" expr
+abbrev pub IsAssignment : List Placed → Assignment → Type 0
+IsAssignment ts a = (c d : ℕ) × (us : List Placed) × (ts ≡ name_at a.target c ∷ sign_at Assign d ∷ us) × IsExpression us a.expr
+
+-- a text stands for an assignment where it has tokens that do
+abbrev pub IsAssignmentText : List ℕ → Assignment → Type 0
+IsAssignmentText text a = IsOkAnd (token_list text) (λ ts. IsAssignment ts a)

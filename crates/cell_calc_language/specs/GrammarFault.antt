@@ -1,0 +1,115 @@
+-- Why a list of tokens stands for no assignment, and which fault it tells first (profile).
+use Rattle.std.specs.Prelude.{◌≡◌, ◌<◌, ◌+◌, ℕ, ℤ, List, [], ◌∷◌, ◌++◌, length, Some, None, false, ◌⊎◌, MatchResult}
+use Rattle.cell_calc_language.specs.declared.assignment.Assignment.{Assignment}
+use Rattle.cell_calc_tokens.specs.declared.calc_fault.CalcFault.{CalcFault}
+use Rattle.cell_calc_tokens.specs.declared.calc_fault.CalcKind.{CalcKind}
+use Rattle.cell_calc_tokens.specs.declared.calc_fault.CalcKind.TheVariants.{Expected, UnknownFunction, Arguments, BadOffset}
+use Rattle.cell_calc_tokens.specs.declared.function.Function.{Function}
+use Rattle.cell_calc_tokens.specs.declared.token.Placed.{Placed}
+use Rattle.cell_calc_tokens.specs.declared.token.Sign.TheVariants.{OpenParenthesis, OpenBracket, Comma, Minus, Plus}
+use Rattle.cell_calc_language.specs.Assignment.{IsAssignment}
+use Rattle.cell_calc_tokens.specs.Function.{function_of, accepts}
+use Rattle.cell_calc_grammar.specs.Grammar.{IsOffset, AreCalled}
+use Rattle.cell_calc_grammar.specs.Shape.{shape}
+use Rattle.cell_calc_grammar.specs.Term.{Terms, count}
+use Rattle.cell_calc_tokens.specs.Token.{token_number_at, name_at, sign_at}
+use Rattle.cell_calc_tokens.specs.Tokens.{token_fault, no_memory, token_list}
+
+-- the column of the first of the tokens, or the end of the text
+abbrev pub column_of : (end : ℕ) → List Placed → ℕ
+column_of end [] = end
+column_of end (s ∷ rest) = s.column
+
+-- by its shape the list can go on: some assignment begins so, with other names and numbers in the
+-- place of its own (so any name before `(` calls, with any number of arguments, and any number is an
+-- offset)
+abbrev pub CanGoOn : List Placed → Type 0
+CanGoOn ts =
+    (us after : List Placed) × (a : Assignment) × (shape us ≡ shape ts) × IsAssignment (us ++ after) a
+
+-- the list stands for no assignment
+abbrev pub IsNone : List Placed → Type 0
+IsNone ts = (a : Assignment) → IsAssignment ts a → ⊥
+
+-- the tokens end with a name that is no function's, and an opening parenthesis
+abbrev pub IsUnknown : (column : ℕ) → List Placed → Type 0
+IsUnknown column ts =
+    (front : List Placed) × (name : List ℕ) × (d : ℕ)
+    × (ts ≡ front ++ name_at name column ∷ sign_at OpenParenthesis d ∷ []) × (function_of name ≡ None)
+
+-- the tokens end with a call of a function that does not take so many arguments
+abbrev pub IsMiscounted : (column : ℕ) → List Placed → Type 0
+IsMiscounted column ts =
+    (front inside : List Placed) × (name : List ℕ) × (d : ℕ) × (f : Function) × (xs : Terms)
+    × (ts ≡ front ++ name_at name column ∷ sign_at OpenParenthesis d ∷ inside)
+    × (function_of name ≡ Some f) × AreCalled inside xs × (accepts f (count xs) ≡ false)
+
+-- the sign before the number of an offset, or none
+pub data IsOffsetSign : List Placed → Type 0 where
+  unsigned : IsOffsetSign []
+  minus : (c : ℕ) → IsOffsetSign (sign_at Minus c ∷ [])
+  plus : (c : ℕ) → IsOffsetSign (sign_at Plus c ∷ [])
+
+-- what stands between an opening bracket and the number of the first offset, or of the second
+pub data IsBeforeNumber : List Placed → Type 0 where
+  first : {ts : List Placed} → IsOffsetSign ts → IsBeforeNumber ts
+  second : {ts us : List Placed} {down : ℤ} (c : ℕ) → IsOffset ts down → IsOffsetSign us
+      → IsBeforeNumber (ts ++ sign_at Comma c ∷ us)
+
+-- the tokens end inside the brackets of a map, where the number of an offset comes next
+abbrev pub IsInBrackets : List Placed → Type 0
+IsInBrackets before =
+    (front inner : List Placed) × (name : List ℕ) × (c d : ℕ)
+    × (before ≡ front ++ name_at name c ∷ sign_at OpenBracket d ∷ inner) × IsBeforeNumber inner
+
+-- the tokens end with the number of an offset, which is over 255
+abbrev pub IsFar : (column : ℕ) → List Placed → Type 0
+IsFar column ts =
+    (before : List Placed) × (n : ℕ) × (ts ≡ before ++ token_number_at n column ∷ []) × (255 < n)
+    × IsInBrackets before
+
+-- the tokens before can go on, and with the next one they cannot
+abbrev pub IsUnexpected : (column : ℕ) → (before : List Placed) → Placed → Type 0
+IsUnexpected column before next =
+    (next.column ≡ column) × CanGoOn before × (CanGoOn (before ++ next ∷ []) → ⊥)
+
+-- reading from the left, at the next token a fault of the kind is told, at the column
+abbrev pub Tells : CalcKind → (column : ℕ) → (before : List Placed) → Placed → Type 0
+Tells Expected column before next = IsUnexpected column before next
+Tells UnknownFunction column before next =
+    IsUnknown column (before ++ next ∷ []) × CanGoOn (before ++ next ∷ [])
+Tells Arguments column before next =
+    IsMiscounted column (before ++ next ∷ []) × CanGoOn (before ++ next ∷ [])
+Tells BadOffset column before next =
+    IsFar column (before ++ next ∷ []) × CanGoOn (before ++ next ∷ [])
+Tells _ column before next = ⊥
+
+-- none of the tokens tells a fault
+abbrev pub TellsNone : List Placed → Type 0
+TellsNone ts =
+    (before rest : List Placed) (next : Placed) (kind : CalcKind) (column : ℕ)
+    → ts ≡ before ++ next ∷ rest → Tells kind column before next → ⊥
+
+-- a token tells the fault, and none before it tells any
+abbrev pub IsToldFirst : List Placed → CalcFault → Type 0
+IsToldFirst ts token_fault =
+    (before rest : List Placed) × (next : Placed) × (ts ≡ before ++ next ∷ rest)
+    × Tells token_fault.kind token_fault.column before next × TellsNone before
+
+-- no token tells a fault, and the list can go on: more is expected at the end
+abbrev pub IsToldAtEnd : (end : ℕ) → List Placed → CalcFault → Type 0
+IsToldAtEnd end ts told = (told ≡ token_fault Expected end) × CanGoOn ts × TellsNone ts
+
+-- the list stands for no assignment, and this is the first fault that reading from the left can tell
+abbrev pub IsGrammarFault : (end : ℕ) → List Placed → CalcFault → Type 0
+IsGrammarFault end ts token_fault = (IsToldFirst ts token_fault ⊎ IsToldAtEnd end ts token_fault) × IsNone ts
+
+-- the fault is one of the grammar, if memory lasts
+abbrev pub IsFaultOf : (end : ℕ) → List Placed → CalcFault → Type 0
+IsFaultOf end ts token_fault = (token_fault ≡ no_memory) ⊎ IsGrammarFault end ts token_fault
+
+-- the fault is the first of the text's tokens, or else one of the grammar, if memory lasts
+abbrev pub IsTextFault : (text : List ℕ) → CalcFault → Type 0
+IsTextFault text token_fault =
+    (token_fault ≡ no_memory)
+    ⊎ MatchResult (token_list text) (λ ts. IsGrammarFault (length text + 1) ts token_fault) (λ first. token_fault ≡ first)

@@ -1,0 +1,79 @@
+-- What waits for an operand, while an expression is read.
+use Rattle.std.specs.Prelude.{◌≡◌, ℕ, List, [], ◌∷◌, ◌++◌, reverse, length, vec_len, ◌+◌, ◌*◌, Result, Ok, Err}
+use Rattle.cell_calc_language.specs.declared.token_parsing.Stop.{Stop}
+use Rattle.cell_calc_language.specs.declared.expression_reader.Frame.{Frame}
+use Rattle.cell_calc_language.specs.declared.expression_reader.Frame.TheVariants as frame
+use Rattle.cell_calc_language.specs.declared.expression_reader.Reader.{Reader}
+use Rattle.cell_calc_language.specs.declared.expression_reader.Turn.{Turn}
+use Rattle.cell_calc_language.specs.declared.expression_reader.Turn.TheVariants as turn
+use Rattle.cell_calc_steps.specs.declared.named.Step.{Step}
+use Rattle.cell_calc_tokens.specs.declared.token.Placed.{Placed}
+use Rattle.cell_calc_language.specs.Postfix.{postfix, postfix_all}
+use Rattle.cell_calc_grammar.specs.TokensRead.{Outcome, Got, State, Operand, More, Choice, AfterQuestion, Onward, GrammarReads, negate, invert, close, join, choose, call, add}
+use Rattle.cell_calc_language.specs.Stopping.{ParserStopsAt}
+use Rattle.cell_calc_grammar.specs.Term.{Term, Terms, NoTerms, Then, count}
+
+-- arguments, before others
+abbrev pub add_all : Terms → Outcome → Outcome
+add_all NoTerms o = o
+add_all (Then a xs) o = add a (add_all xs o)
+
+-- with this outcome the state is read: it comes after these steps, and these frames wait for it, the latest first
+abbrev pub Fills : State → List Frame → List Step → Outcome → Type 0
+Fills s [] steps o = (steps ≡ []) × GrammarReads s o
+Fills s (frame.Negated ∷ fs) steps o = Fills s fs steps (negate o)
+Fills s (frame.Not ∷ fs) steps o = Fills s fs steps (invert o)
+Fills s (frame.Level k ∷ fs) steps o = (p : Outcome) → GrammarReads (More k o) p → Fills s fs steps p
+Fills s (frame.Joined k op ∷ fs) steps o =
+    (a : Term) × (before : List Step) × (steps ≡ before ++ postfix a) × ((p : Outcome) → GrammarReads (More k (join op a o)) p → Fills s fs before p)
+Fills s (frame.Choice ∷ fs) steps o = (p : Outcome) → GrammarReads (Choice o) p → Fills s fs steps p
+Fills s (frame.AfterQuestion ∷ fs) steps o =
+    (x : Term) × (before : List Step) × (steps ≡ before ++ postfix x) × ((p : Outcome) → GrammarReads (AfterQuestion x o) p → Fills s fs before p)
+Fills s (frame.AfterColon ∷ fs) steps o =
+    (x a : Term) × (before : List Step) × (steps ≡ before ++ (postfix x ++ postfix a)) × Fills s fs before (choose x a o)
+Fills s (frame.Parenthesis ∷ fs) steps o = Fills s fs steps (close o)
+Fills s (frame.Call f from n ∷ fs) steps o =
+    (xs : Terms) × (before : List Step) × (steps ≡ before ++ postfix_all xs) × (count xs ≡ n)
+    × ((p : Outcome) → GrammarReads (Onward o) p → Fills s fs before (call f from.now (add_all xs p)))
+
+-- whatever is read of the second state, with it the first is read
+abbrev pub Awaits : State → List Frame → List Step → State → Type 0
+Awaits s fs steps t = (o : Outcome) → GrammarReads t o → Fills s fs steps o
+
+-- the last steps are those of an operand, with which the state is read; the rest follows
+abbrev pub IsReadExpression : State → List Frame → List Step → List Placed → Type 0
+IsReadExpression s fs steps rest = (a : Term) × (before : List Step) × (steps ≡ before ++ postfix a) × Fills s fs before (Got a rest)
+
+abbrev pub latest_first : List Frame → List Frame
+latest_first fs = reverse fs
+
+-- the frames of a reader
+abbrev pub waiting : Reader → List Frame
+waiting r = latest_first r.frames.items
+
+-- what has been read so far awaits what is read of the second state: with it the first is read
+abbrev pub IsAwaited : State → Reader → State → Type 0
+IsAwaited s r t = Awaits s (waiting r) r.steps.items t
+
+-- the frame, and then the others, wait for what has been read
+abbrev pub IsResumed : State → Reader → Frame → List Placed → Type 0
+IsResumed s r f rest = IsReadExpression s (f ∷ waiting r) r.steps.items rest
+
+-- the state is read, with what the turn says
+abbrev pub IsTurn : State → Reader → Turn → Type 0
+IsTurn s r (turn.Operand ts) = IsAwaited s r (Operand ts.now)
+IsTurn s r (turn.After ts) = IsReadExpression s (waiting r) r.steps.items ts.now
+
+-- the state is read, with what the turn says, or reading stops
+abbrev pub Goes : State → Reader → Result Turn Stop → Type 0
+Goes s r (Ok turn) = IsTurn s r turn
+Goes s r (Err e) = ParserStopsAt s e
+
+-- the tokens of a turn
+abbrev pub turn_tokens : Turn → List Placed
+turn_tokens (turn.Operand ts) = ts.now
+turn_tokens (turn.After ts) = ts.now
+
+-- the work that is left: a token makes four frames at most
+abbrev pub work : List Placed → Reader → ℕ
+work ts r = 4 * length ts + vec_len r.frames

@@ -1,0 +1,43 @@
+//! Assignments.
+
+ghost use Rattle.std.specs.Prelude.{◌≡◌, ◌≤◌, List, length, IfOk, IfErr};
+ghost use Rattle.cell_calc_language.specs.declared.assignment.Assignment.{Assignment};
+ghost use Rattle.cell_calc_tokens.specs.declared.token.Placed.{Placed};
+ghost use Rattle.cell_calc_language.specs.Assignment.{IsAssignment, IsAssignmentText};
+ghost use Rattle.cell_calc_language.specs.GrammarFault.{IsTextFault};
+
+use crate::expr::Expr;
+use crate::token_parsing::assignment;
+use cell_calc_tokens::calc_fault::CalcFault;
+use cell_calc_tokens::tokens::tokens;
+use cell_core_values::name::Name;
+use std::alloc::Global;
+
+/// `NAME = EXPRESSION`: what r.mapcalc makes, and of what.
+#[derive(Drop)]
+pub struct Assignment {
+    pub target: Name,
+    pub expr: Expr,
+}
+
+/// Reads `NAME = EXPRESSION` (r.mapcalc manual; whole numbers, the operators and functions of specs/Operator and specs/Function).
+///
+/// # Errors
+///
+/// The first fault of the text's tokens, or else of its grammar, read from the left; columns count bytes
+/// from 1, and the end of the text is the column after its last byte. `Memory`, with column 0, where out of
+/// memory.
+pub fn parse(alloc: Global, text: &[u8]) -> Result<Assignment, CalcFault>
+    requires { length text.now ≤ 65535 }
+    ensures ok { IfOk result (λ a. IsAssignmentText text.now a) }
+    ensures only { IfOk result (λ a. (b : Assignment) → IsAssignmentText text.now b → b ≡ a) }
+    ensures fault { IfErr result (λ fault. IsTextFault text.now fault) }
+{
+    let found = tokens(alloc, text)?;
+    assignment(alloc, text.len() as u32 + 1, &found)
+}
+
+/// A list of tokens stands for no second assignment.
+pub fn one_assignment()
+    ensures { (ts : List Placed) (a b : Assignment) → IsAssignment ts a → IsAssignment ts b → a ≡ b }
+{}

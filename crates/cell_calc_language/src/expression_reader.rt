@@ -1,0 +1,340 @@
+//! Expressions, read with a stack of the reader's own.
+
+ghost use Rattle.std.specs.Prelude.{◌≡◌, ◌<◌, ◌≤◌, ◌+◌, ◌*◌, ◌++◌, [], ◌∷◌, length, vec_len, IfOk, IfErr};
+ghost use Rattle.cell_calc_language.specs.declared.token_parsing.Stop.TheVariants.{Memory};
+ghost use Rattle.cell_calc_language.specs.declared.expression_reader.Frame.TheVariants as frame;
+ghost use Rattle.cell_calc_tokens.specs.declared.token.Sign.TheVariants.{OpenParenthesis};
+ghost use Rattle.cell_calc_language.specs.Postfix.{postfix};
+ghost use Rattle.cell_calc_grammar.specs.TokensRead.{State, Operand, Expression, Got, GrammarReads, IsNot};
+ghost use Rattle.cell_calc_language.specs.Stopping.{ParserStopsAt, FollowsSign, IsCallOf};
+ghost use Rattle.cell_calc_tokens.specs.Token.{head, name_at};
+ghost use Rattle.cell_calc_language.specs.parts.Built.{built};
+ghost use Rattle.cell_calc_language.specs.parts.Waiting.{IsAwaited, IsResumed, IsReadExpression, Goes, waiting, latest_first, turn_tokens, work};
+
+use crate::token_parsing::{Stop, after_sign, copied, first, next, offsets};
+use cell_calc_steps::named::Step;
+use cell_calc_tokens::calc_fault::CalcKind;
+use cell_calc_tokens::function::{Function, accepts, function_of};
+use cell_calc_tokens::operator::{Operator, TOP_LEVEL, level_of};
+use cell_calc_tokens::token::{Placed, Sign, Token};
+use cell_core_values::name::Name;
+use std::alloc::Global;
+
+/// What waits for the operand or the expression that is being read.
+#[derive(Clone, Copy)]
+enum Frame<'a> {
+    Negated,
+    Not,
+    /// An expression of the level, whose first operand is being read.
+    Level(u32),
+    /// An expression of the level, where the right operand is being read; the left one is among the steps.
+    Joined(u32, Operator),
+    /// An expression, which `?` may follow.
+    Choice,
+    /// What is chosen where the condition holds is being read.
+    AfterQuestion,
+    /// What is chosen otherwise is being read.
+    AfterColon,
+    /// What stands in parentheses is being read.
+    Parenthesis,
+    /// An argument is being read, after so many; the call begins at `from`.
+    Call {
+        function: Function,
+        from: &'a [Placed],
+        count: usize,
+    },
+}
+
+/// What comes next, and the tokens from there.
+#[derive(Clone, Copy)]
+enum Turn<'a> {
+    /// An operand is to be read.
+    Operand(&'a [Placed]),
+    /// An operand, or more, has been read.
+    After(&'a [Placed]),
+}
+
+/// What has been read of an expression: its steps so far, and what waits for more.
+#[derive(Drop)]
+struct Reader<'a> {
+    frames: Vec<Frame<'a>>,
+    steps: Vec<Step>,
+}
+
+fn push<'a>(frames: &mut Vec<Frame<'a>>, frame: Frame<'a>) -> Result<(), Stop<'a>>
+    ensures ok { IfOk result (λ _. latest_first frames.new.items ≡ frame.entry ∷ latest_first frames.old.items) }
+    ensures len { IfOk result (λ _. vec_len frames.new ≡ vec_len frames.old + 1) }
+    ensures err { IfErr result (λ e. e ≡ Memory) }
+{
+    match frames.push(frame) {
+        Ok(()) => Ok(()),
+        Err(_) => Err(Stop::Memory),
+    }
+}
+
+fn put<'a>(steps: &mut Vec<Step>, step: Step) -> Result<(), Stop<'a>>
+    ensures ok { IfOk result (λ _. steps.new.items ≡ steps.old.items ++ step ∷ []) }
+    ensures err { IfErr result (λ e. e ≡ Memory) }
+{
+    match steps.push(step) {
+        Ok(()) => Ok(()),
+        Err(_) => Err(Stop::Memory),
+    }
+}
+
+impl<'a> Reader<'a> {
+    // An expression begins.
+    fn enter(&mut self, tokens: &'a [Placed]) -> Result<Turn<'a>, Stop<'a>>
+        ensures goes { (s : State) → IsAwaited s self.old (Expression tokens.now) → Goes s self.new result }
+        ensures lighter { IfOk result (λ turn. work (turn_tokens turn) self.new ≤ work tokens.now self.old + 2) }
+    {
+        push(&mut self.frames, Frame::Choice)?;
+        push(&mut self.frames, Frame::Level(TOP_LEVEL))?;
+        Ok(Turn::Operand(tokens))
+    }
+
+    // What is being read ends with the step.
+    fn end(&mut self, step: Step, tokens: &'a [Placed]) -> Result<Turn<'a>, Stop<'a>>
+        ensures goes { (s : State) → IsReadExpression s (waiting self.old) (self.old.steps.items ++ step ∷ []) tokens.now → Goes s self.new result }
+        ensures lighter { IfOk result (λ turn. work (turn_tokens turn) self.new ≤ work tokens.now self.old) }
+    {
+        put(&mut self.steps, step)?;
+        Ok(Turn::After(tokens))
+    }
+
+    fn operand(&mut self, alloc: Global, tokens: &'a [Placed]) -> Result<Turn<'a>, Stop<'a>>
+        ensures goes { (s : State) → IsAwaited s self.old (Operand tokens.now) → Goes s self.new result }
+        ensures lighter { IfOk result (λ turn. work (turn_tokens turn) self.new < work tokens.now self.old) }
+    {
+        let Some((placed, rest)) = first(tokens) else {
+            return Err(Stop::At(CalcKind::Expected, tokens));
+        };
+        match &placed.token {
+            Token::Number(n) => self.end(Step::Number(*n), rest),
+            Token::Name(name) => match after_sign(Sign::OpenParenthesis, rest) {
+                Some(inside) => self.call(name, tokens, inside),
+                None => self.map(alloc, name, placed.column, rest),
+            },
+            Token::Sign(sign) => self.signed(*sign, tokens, rest),
+        }
+    }
+
+    // An operand that begins with a sign, or none.
+    fn signed(
+        &mut self,
+        sign: Sign,
+        tokens: &'a [Placed],
+        rest: &'a [Placed],
+    ) -> Result<Turn<'a>, Stop<'a>>
+        requires { FollowsSign sign tokens.now rest.now }
+        ensures goes { (s : State) → IsAwaited s self.old (Operand tokens.now) → Goes s self.new result }
+        ensures lighter { IfOk result (λ turn. work (turn_tokens turn) self.new ≤ work rest.now self.old + 3) }
+    {
+        match sign {
+            Sign::Minus => {
+                push(&mut self.frames, Frame::Negated)?;
+                Ok(Turn::Operand(rest))
+            }
+            Sign::Exclamation => {
+                push(&mut self.frames, Frame::Not)?;
+                Ok(Turn::Operand(rest))
+            }
+            Sign::OpenParenthesis => {
+                push(&mut self.frames, Frame::Parenthesis)?;
+                self.enter(rest)
+            }
+            _ => Err(Stop::At(CalcKind::Expected, tokens)),
+        }
+    }
+
+    // A map with its offsets, if they follow its name.
+    fn map(
+        &mut self,
+        alloc: Global,
+        name: &Name,
+        column: u32,
+        tokens: &'a [Placed],
+    ) -> Result<Turn<'a>, Stop<'a>>
+        requires { IsNot OpenParenthesis (head tokens.now) }
+        ensures goes { (s : State) → IsAwaited s self.old (Operand (name_at name.now column ∷ tokens.now)) → Goes s self.new result }
+        ensures lighter { IfOk result (λ turn. work (turn_tokens turn) self.new ≤ work tokens.now self.old) }
+    {
+        let name = copied(alloc, name)?;
+        let Some(after) = after_sign(Sign::OpenBracket, tokens) else {
+            let map = Step::Map {
+                name,
+                down: 0,
+                right: 0,
+                column,
+            };
+            return self.end(map, tokens);
+        };
+        let ((down, right), rest) = offsets(after)?;
+        let map = Step::Map {
+            name,
+            down,
+            right,
+            column,
+        };
+        self.end(map, rest)
+    }
+
+    // A call, from its name; the opening parenthesis stands before what is inside.
+    fn call(
+        &mut self,
+        name: &Name,
+        tokens: &'a [Placed],
+        inside: &'a [Placed],
+    ) -> Result<Turn<'a>, Stop<'a>>
+        requires { IsCallOf name.now tokens.now inside.now }
+        ensures goes { (s : State) → IsAwaited s self.old (Operand tokens.now) → Goes s self.new result }
+        ensures lighter { IfOk result (λ turn. work (turn_tokens turn) self.new ≤ work inside.now self.old + 3) }
+    {
+        let Some(function) = function_of(name.bytes()) else {
+            return Err(Stop::At(CalcKind::UnknownFunction, tokens));
+        };
+        match after_sign(Sign::CloseParenthesis, inside) {
+            Some(rest) => {
+                if accepts(function, 0) {
+                    self.end(Step::Call(function, 0), rest)
+                } else {
+                    Err(Stop::At(CalcKind::Arguments, tokens))
+                }
+            }
+            None => {
+                let waits = Frame::Call {
+                    function,
+                    from: tokens,
+                    count: 0,
+                };
+                push(&mut self.frames, waits)?;
+                self.enter(inside)
+            }
+        }
+    }
+
+    // The frame that waited for what has been read goes on.
+    fn resume(&mut self, frame: Frame<'a>, tokens: &'a [Placed]) -> Result<Turn<'a>, Stop<'a>>
+        ensures goes { (s : State) → IsResumed s self.old frame.entry tokens.now → Goes s self.new result }
+        ensures lighter { IfOk result (λ turn. work (turn_tokens turn) self.new ≤ work tokens.now self.old) }
+    {
+        match frame {
+            Frame::Negated => self.end(Step::Negated, tokens),
+            Frame::Not => self.end(Step::Not, tokens),
+            Frame::Level(level) => self.level(level, tokens),
+            Frame::Joined(level, operator) => {
+                put(&mut self.steps, Step::Binary(operator))?;
+                self.level(level, tokens)
+            }
+            Frame::Choice => self.choice(tokens),
+            Frame::AfterQuestion => self.otherwise(tokens),
+            Frame::AfterColon => self.end(Step::Call(Function::If, 3), tokens),
+            Frame::Parenthesis => match after_sign(Sign::CloseParenthesis, tokens) {
+                Some(rest) => Ok(Turn::After(rest)),
+                None => Err(Stop::At(CalcKind::Expected, tokens)),
+            },
+            Frame::Call {
+                function,
+                from,
+                count,
+            } => self.argument(function, from, count, tokens),
+        }
+    }
+
+    // After an expression of the level, which an operator may join to another.
+    fn level(&mut self, level: u32, tokens: &'a [Placed]) -> Result<Turn<'a>, Stop<'a>>
+        ensures goes { (s : State) → IsResumed s self.old (frame.Level level) tokens.now → Goes s self.new result }
+        ensures lighter { IfOk result (λ turn. work (turn_tokens turn) self.new ≤ work tokens.now self.old) }
+    {
+        let Some((operator, rest)) = next(level, tokens) else {
+            return Ok(Turn::After(tokens));
+        };
+        push(&mut self.frames, Frame::Joined(level, operator))?;
+        push(&mut self.frames, Frame::Level(level_of(operator)))?;
+        Ok(Turn::Operand(rest))
+    }
+
+    // After a condition, or an expression that is none.
+    fn choice(&mut self, tokens: &'a [Placed]) -> Result<Turn<'a>, Stop<'a>>
+        ensures goes { (s : State) → IsResumed s self.old frame.Choice tokens.now → Goes s self.new result }
+        ensures lighter { IfOk result (λ turn. work (turn_tokens turn) self.new ≤ work tokens.now self.old) }
+    {
+        let Some(rest) = after_sign(Sign::Question, tokens) else {
+            return Ok(Turn::After(tokens));
+        };
+        push(&mut self.frames, Frame::AfterQuestion)?;
+        self.enter(rest)
+    }
+
+    // After what is chosen where the condition holds.
+    fn otherwise(&mut self, tokens: &'a [Placed]) -> Result<Turn<'a>, Stop<'a>>
+        ensures goes { (s : State) → IsResumed s self.old frame.AfterQuestion tokens.now → Goes s self.new result }
+        ensures lighter { IfOk result (λ turn. work (turn_tokens turn) self.new ≤ work tokens.now self.old) }
+    {
+        let Some(rest) = after_sign(Sign::Colon, tokens) else {
+            return Err(Stop::At(CalcKind::Expected, tokens));
+        };
+        push(&mut self.frames, Frame::AfterColon)?;
+        self.enter(rest)
+    }
+
+    // After an argument, which came after so many others of the call.
+    fn argument(
+        &mut self,
+        function: Function,
+        from: &'a [Placed],
+        before: usize,
+        tokens: &'a [Placed],
+    ) -> Result<Turn<'a>, Stop<'a>>
+        ensures goes { (s : State) → IsResumed s self.old (frame.Call function from.entry before) tokens.now → Goes s self.new result }
+        ensures lighter { IfOk result (λ turn. work (turn_tokens turn) self.new ≤ work tokens.now self.old) }
+    {
+        // Each argument took a step, so that memory ends before the count does.
+        let Some(count) = before.checked_add(1) else {
+            return Err(Stop::Memory);
+        };
+        if let Some(rest) = after_sign(Sign::CloseParenthesis, tokens) {
+            if accepts(function, count) {
+                return self.end(Step::Call(function, count), rest);
+            }
+            return Err(Stop::At(CalcKind::Arguments, from));
+        }
+        let Some(rest) = after_sign(Sign::Comma, tokens) else {
+            return Err(Stop::At(CalcKind::Expected, tokens));
+        };
+        push(
+            &mut self.frames,
+            Frame::Call {
+                function,
+                from,
+                count,
+            },
+        )?;
+        self.enter(rest)
+    }
+}
+
+/// The steps of the expression that is read, and the tokens after it.
+pub(crate) fn expression<'a>(
+    alloc: Global,
+    tokens: &'a [Placed],
+) -> Result<(Vec<Step>, &'a [Placed]), Stop<'a>>
+    ensures ok { IfOk result (λ x. GrammarReads (Expression tokens.now) (Got (built x.0.items) x.1.now)) }
+    ensures steps { IfOk result (λ x. x.0.items ≡ postfix (built x.0.items)) }
+    ensures err { IfErr result (λ e. ParserStopsAt (Expression tokens.now) e) }
+{
+    let mut reader = Reader {
+        frames: Vec::new(alloc),
+        steps: Vec::new(alloc),
+    };
+    let mut turn = reader.enter(tokens)?;
+    'turns: loop {
+        turn = match turn {
+            Turn::Operand(tokens) => reader.operand(alloc, tokens)?,
+            Turn::After(tokens) => match reader.frames.pop() {
+                Some(frame) => reader.resume(frame, tokens)?,
+                None => return Ok((reader.steps, tokens)),
+            },
+        };
+    }
+}

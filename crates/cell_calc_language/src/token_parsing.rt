@@ -1,0 +1,189 @@
+//! From tokens to an assignment.
+
+ghost use Rattle.std.specs.Prelude.{◌≡◌, ◌<◌, ◌≤◌, [], ◌∷◌, None, length, IfOk, IfErr, IfSome, IfNone};
+ghost use Rattle.cell_calc_language.specs.declared.assignment.Assignment.{Assignment};
+ghost use Rattle.cell_calc_language.specs.declared.token_parsing.Stop.TheVariants.{Memory};
+ghost use Rattle.cell_calc_language.specs.Assignment.{IsAssignment};
+ghost use Rattle.cell_calc_language.specs.GrammarFault.{IsFaultOf, column_of};
+ghost use Rattle.cell_calc_grammar.specs.TokensRead.{next, offset, distance, offsets, GoesOn, IsNot};
+ghost use Rattle.cell_calc_language.specs.Stopping.{IsPartRead, FollowsSign, fault_of_stop};
+ghost use Rattle.cell_calc_tokens.specs.Token.{head, AreCategories};
+
+use crate::assignment::Assignment;
+use crate::expr::Expr;
+use crate::expression_reader::expression;
+use cell_calc_tokens::calc_fault::{CalcFault, CalcKind};
+use cell_calc_tokens::operator::{Operator, level_of, operator_of};
+use cell_calc_tokens::token::{Placed, Sign, Token};
+use cell_core_values::name::Name;
+use std::alloc::Global;
+
+/// Why reading stops.
+#[derive(Clone, Copy)]
+pub(crate) enum Stop<'a> {
+    Memory,
+    /// A fault, and the tokens from where it is reported.
+    At(CalcKind, &'a [Placed]),
+}
+
+fn column_of(end: u32, tokens: &[Placed]) -> u32
+    ensures { result ≡ column_of end tokens.now }
+{
+    match tokens {
+        [] => end,
+        [placed, ..] => placed.column,
+    }
+}
+
+fn fault_of(end: u32, stop: Stop) -> CalcFault
+    ensures { result ≡ fault_of_stop end stop.entry }
+{
+    match stop {
+        Stop::Memory => CalcFault {
+            kind: CalcKind::Memory,
+            column: 0,
+        },
+        Stop::At(kind, rest) => CalcFault {
+            kind,
+            column: column_of(end, rest),
+        },
+    }
+}
+
+// The first token, and those after it.
+pub(crate) fn first<'a>(tokens: &'a [Placed]) -> Option<(&'a Placed, &'a [Placed])>
+    ensures some { IfSome result (λ x. tokens.now ≡ x.0.now ∷ x.1.now) }
+    ensures none { IfNone result (tokens.now ≡ []) }
+{
+    match tokens {
+        [] => None,
+        [placed, rest @ ..] => Some((placed, rest)),
+    }
+}
+
+// What comes after a sign, if it is at the front.
+pub(crate) fn after_sign<'a>(sign: Sign, tokens: &'a [Placed]) -> Option<&'a [Placed]>
+    ensures some { IfSome result (λ rest. FollowsSign sign tokens.now rest.now) }
+    ensures none { IfNone result (IsNot sign (head tokens.now)) }
+    ensures shorter { IfSome result (λ rest. length rest.now < length tokens.now) }
+{
+    let (placed, rest) = first(tokens)?;
+    match &placed.token {
+        Token::Sign(found) if *found == sign => Some(rest),
+        _ => None,
+    }
+}
+
+// The operator at the front and what comes after it, if an expression of the level goes on with it.
+pub(crate) fn next<'a>(level: u32, tokens: &'a [Placed]) -> Option<(Operator, &'a [Placed])>
+    ensures some { IfSome result (λ x. GoesOn level tokens.now x.0 x.1.now) }
+    ensures none { IfNone result (next level tokens.now ≡ None) }
+    ensures shorter { IfSome result (λ x. length x.1.now < length tokens.now) }
+{
+    let (placed, rest) = first(tokens)?;
+    let operator = operator_of(&placed.token)?;
+    if level_of(operator) < level {
+        Some((operator, rest))
+    } else {
+        None
+    }
+}
+
+pub(crate) fn copied<'a>(alloc: Global, name: &Name) -> Result<Name, Stop<'a>>
+    ensures ok { IfOk result (λ copy. copy ≡ name.now) }
+    ensures err { IfErr result (λ e. e ≡ Memory) }
+{
+    match name.copy(alloc) {
+        Ok(copy) => Ok(copy),
+        Err(_) => Err(Stop::Memory),
+    }
+}
+
+fn distance<'a>(tokens: &'a [Placed]) -> Result<(u32, &'a [Placed]), Stop<'a>>
+    ensures told { IsPartRead (distance tokens.now) result }
+    ensures near { IfOk result (λ x. x.0 ≤ 255) }
+    ensures shorter { IfOk result (λ x. length x.1.now < length tokens.now) }
+{
+    let Some((placed, rest)) = first(tokens) else {
+        return Err(Stop::At(CalcKind::Expected, tokens));
+    };
+    match &placed.token {
+        Token::Number(n) => {
+            if *n <= 255 {
+                Ok((*n, rest))
+            } else {
+                Err(Stop::At(CalcKind::BadOffset, tokens))
+            }
+        }
+        _ => Err(Stop::At(CalcKind::Expected, tokens)),
+    }
+}
+
+fn offset<'a>(tokens: &'a [Placed]) -> Result<(i32, &'a [Placed]), Stop<'a>>
+    ensures told { IsPartRead (offset tokens.now) result }
+    ensures shorter { IfOk result (λ x. length x.1.now < length tokens.now) }
+{
+    if let Some(after) = after_sign(Sign::Minus, tokens) {
+        let (n, rest) = distance(after)?;
+        return Ok((-(n as i32), rest));
+    }
+    if let Some(after) = after_sign(Sign::Plus, tokens) {
+        let (n, rest) = distance(after)?;
+        return Ok((n as i32, rest));
+    }
+    let (n, rest) = distance(tokens)?;
+    Ok((n as i32, rest))
+}
+
+// Both offsets and the closing bracket.
+pub(crate) fn offsets<'a>(tokens: &'a [Placed]) -> Result<((i32, i32), &'a [Placed]), Stop<'a>>
+    ensures told { IsPartRead (offsets tokens.now) result }
+    ensures shorter { IfOk result (λ x. length x.1.now < length tokens.now) }
+{
+    let (down, rest) = offset(tokens)?;
+    let Some(after) = after_sign(Sign::Comma, rest) else {
+        return Err(Stop::At(CalcKind::Expected, rest));
+    };
+    let (right, rest) = offset(after)?;
+    let Some(after) = after_sign(Sign::CloseBracket, rest) else {
+        return Err(Stop::At(CalcKind::Expected, rest));
+    };
+    Ok(((down, right), after))
+}
+
+/// The assignment that the tokens of a text stand for; the text ends before the column `end`.
+pub(crate) fn assignment(
+    alloc: Global,
+    end: u32,
+    tokens: &[Placed],
+) -> Result<Assignment, CalcFault>
+    requires { AreCategories tokens.now }
+    ensures ok { IfOk result (λ a. IsAssignment tokens.now a) }
+    ensures only { IfOk result (λ a. (b : Assignment) → IsAssignment tokens.now b → b ≡ a) }
+    ensures fault { IfErr result (λ fault. IsFaultOf end tokens.now fault) }
+{
+    let Some((placed, rest)) = first(tokens) else {
+        return Err(fault_of(end, Stop::At(CalcKind::Expected, tokens)));
+    };
+    let Token::Name(name) = &placed.token else {
+        return Err(fault_of(end, Stop::At(CalcKind::Expected, tokens)));
+    };
+    let Some(after) = after_sign(Sign::Assign, rest) else {
+        return Err(fault_of(end, Stop::At(CalcKind::Expected, rest)));
+    };
+    let target = match copied(alloc, name) {
+        Ok(target) => target,
+        Err(stop) => return Err(fault_of(end, stop)),
+    };
+    let (steps, left) = match expression(alloc, after) {
+        Ok(read) => read,
+        Err(stop) => return Err(fault_of(end, stop)),
+    };
+    match first(left) {
+        None => Ok(Assignment {
+            target,
+            expr: Expr { steps },
+        }),
+        Some(_) => Err(fault_of(end, Stop::At(CalcKind::Expected, left))),
+    }
+}

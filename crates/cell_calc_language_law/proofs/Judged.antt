@@ -1,0 +1,173 @@
+-- A list of tokens has one first fault at most, and stands for an assignment or has one.
+use Rattle.std.proofs.Common.{◌≡◌, ℕ, List, [], ◌∷◌, ◌++◌, Option, Some, refl, sym, ap, ◌∙◌, subst, append_assoc, append-nil, ◌⊎◌, inl, inr}
+use Rattle.cell_calc_language.specs.declared.assignment.Assignment.{Assignment}
+use Rattle.cell_calc_tokens.specs.declared.calc_fault.CalcFault.{CalcFault}
+use Rattle.cell_calc_tokens.specs.declared.calc_fault.CalcKind.{CalcKind}
+use Rattle.cell_calc_tokens.specs.declared.calc_fault.CalcKind.TheVariants.{Expected, UnknownFunction, Arguments as BadArguments, BadOffset}
+use Rattle.cell_calc_tokens.specs.declared.token.Placed.{Placed}
+use Rattle.cell_calc_tokens.specs.declared.token.Sign.TheVariants.{OpenParenthesis, CloseParenthesis, Assign}
+use Rattle.cell_calc_tokens.specs.declared.token.Token.{Token}
+use Rattle.cell_calc_tokens.specs.declared.token.Token.TheVariants as token
+use Rattle.cell_calc_language.specs.Assignment.{IsAssignment}
+use Rattle.cell_calc_grammar.specs.Grammar.{AreCalled}
+use Rattle.cell_calc_language.specs.GrammarFault.{column_of, IsUnknown, IsMiscounted, IsFar, Tells, IsGrammarFault}
+use Rattle.cell_calc_grammar.specs.TokensRead.{Outcome, Got, GotAll, Stops, Expression, IsNot, GrammarReads, tail}
+use Rattle.cell_calc_grammar.specs.Term.{Terms}
+use Rattle.cell_calc_tokens.specs.Token.{token_number_at, name_at, sign_at, head}
+use Rattle.cell_calc_tokens.specs.Tokens.{token_fault}
+use Rattle.cell_calc_language.proofs.Bad.{Bad, bad_call, called_end, none_inside}
+use Rattle.cell_calc_language.proofs.Faults.{no_name, no_assign, nothing_at_all, stops, goes_on}
+use Rattle.cell_calc_grammar.proofs.Sound.{front_is, sound, sound_all}
+use Rattle.cell_calc_grammar.proofs.Splits.{Cuts, same, before, behind, cuts, not_nothing, same_last}
+use Rattle.cell_calc_language_law.proofs.Total.{read_somehow}
+
+same_fault : (f g : CalcFault) → f.kind ≡ g.kind → f.column ≡ g.column → f ≡ g
+same_fault f g e h =
+    let kind : f ≡ record f { kind = g.kind } = ap (λ k. let x : CalcFault = record f { kind = k } in x) e in
+    kind ∙ ap (λ c. let x : CalcFault = record { kind = g.kind; column = c } in x) h
+
+same_column : (s t : Placed) → s ≡ t → s.column ≡ t.column
+same_column s t e = ap (λ (x : Placed). x.column) e
+
+same_token : (s t : Placed) → s ≡ t → s.token ≡ t.token
+same_token s t e = ap (λ (x : Placed). x.token) e
+
+unknown_last : (column : ℕ) (b : List Placed) (n : Placed) → IsUnknown column (b ++ n ∷ []) → n.token ≡ token.Sign OpenParenthesis
+unknown_last column b n (front, name, d, e, u) =
+    same_token n (sign_at OpenParenthesis d) (same_last b n (front ++ name_at name column ∷ []) (sign_at OpenParenthesis d) (e ∙ sym (append_assoc front (name_at name column ∷ []) (sign_at OpenParenthesis d ∷ []))))
+
+miscounted_last : (column : ℕ) (b : List Placed) (n : Placed) → IsMiscounted column (b ++ n ∷ []) → n.token ≡ token.Sign CloseParenthesis
+miscounted_last column b n (front, inside, name, d, f, xs, e, u, h, a) =
+    let z = called_end h in
+    let call : List Placed = name_at name column ∷ sign_at OpenParenthesis d ∷ z.0 in
+    same_token n (sign_at CloseParenthesis z.1) (same_last b n (front ++ call) (sign_at CloseParenthesis z.1)
+    (e ∙ ap (λ l. front ++ name_at name column ∷ sign_at OpenParenthesis d ∷ l) z.2 ∙ sym (append_assoc front call (sign_at CloseParenthesis z.1 ∷ []))))
+
+far_last : (column : ℕ) (b : List Placed) (n : Placed) → IsFar column (b ++ n ∷ []) → (m : ℕ) × (n ≡ token_number_at m column)
+far_last column b n (front, m, e, far, inside) = (m, same_last b n front (token_number_at m column) e)
+
+-- two kinds at one token
+not_both : {A : Type 0} (t u v : Token) → t ≡ u → t ≡ v → (u ≡ v → ⊥) → A
+not_both t u v e f n = absurd (n (sym e ∙ f))
+
+two_short : (s : Placed) (m : List Placed) (x y : Placed) → s ∷ [] ≡ m ++ x ∷ y ∷ [] → ⊥
+two_short s [] x y e = cc
+two_short s (z ∷ m) x y e =
+    let f : [] ≡ m ++ x ∷ y ∷ [] = cc in
+    not_nothing m x (y ∷ []) f
+
+one_unknown : (c c' : ℕ) (read : List Placed) → IsUnknown c read → IsUnknown c' read → c ≡ c'
+one_unknown c c' read (front, name, d, e, u) (front', name', d', e', u') =
+    go (cuts front (name_at name c) (sign_at OpenParenthesis d ∷ []) front' (name_at name' c') (sign_at OpenParenthesis d' ∷ []) (sym e ∙ e'))
+  where
+    go : Cuts front (name_at name c) (sign_at OpenParenthesis d ∷ []) front' (name_at name' c') (sign_at OpenParenthesis d' ∷ []) → c ≡ c'
+    go (same f g h) = same_column (name_at name c) (name_at name' c') g
+    go (before m f g) = absurd (two_short (sign_at OpenParenthesis d) m (name_at name' c') (sign_at OpenParenthesis d') g)
+    go (behind m f g) = absurd (two_short (sign_at OpenParenthesis d') m (name_at name c) (sign_at OpenParenthesis d) g)
+
+-- no call that ends there begins within another
+not_within : (c d : ℕ) (inside : List Placed) (xs : Terms) → AreCalled inside xs → (ts : List Placed) (bad : Bad BadArguments ts) (m : List Placed) → sign_at OpenParenthesis d ∷ inside ≡ m ++ name_at bad.name bad.column ∷ bad.ends → ⊥
+not_within c d inside xs h ts bad [] e =
+    let f : sign_at OpenParenthesis d ≡ name_at bad.name bad.column = cc in
+    let g = same_token (sign_at OpenParenthesis d) (name_at bad.name bad.column) f in
+    cc
+not_within c d inside xs h ts bad (x ∷ m) e =
+    let f : inside ≡ m ++ name_at bad.name bad.column ∷ bad.ends = cc in
+    none_inside inside xs h BadArguments ts bad m [] (f ∙ ap (λ l. m ++ name_at bad.name bad.column ∷ l) (sym (append-nil bad.ends)))
+
+one_miscounted : (c c' : ℕ) (b : List Placed) (n : Placed) → Tells BadArguments c b n → Tells BadArguments c' b n → c ≡ c'
+one_miscounted c c' b n ((front, inside, name, d, f, xs, e, u, h, a), can) ((front', inside', name', d', f', xs', e', u', h', a'), can') =
+    go (cuts front (name_at name c) (sign_at OpenParenthesis d ∷ inside) front' (name_at name' c') (sign_at OpenParenthesis d' ∷ inside') (sym e ∙ e'))
+  where
+    go : Cuts front (name_at name c) (sign_at OpenParenthesis d ∷ inside) front' (name_at name' c') (sign_at OpenParenthesis d' ∷ inside') → c ≡ c'
+    go (same i j k) = same_column (name_at name c) (name_at name' c') j
+    go (before m i j) = absurd (not_within c d inside xs h (b ++ n ∷ []) (bad_call (b ++ n ∷ []) front' inside' name' c' d' f' xs' e' u' h' a') m j)
+    go (behind m i j) = absurd (not_within c' d' inside' xs' h' (b ++ n ∷ []) (bad_call (b ++ n ∷ []) front inside name c d f xs e u h a) m j)
+
+-- a token tells one fault at most
+one_told : (k k' : CalcKind) (c c' : ℕ) (b : List Placed) (n : Placed) → Tells k c b n → Tells k' c' b n → (k ≡ k') × (c ≡ c')
+one_told Expected Expected c c' b n t t' = (refl, sym t.0 ∙ t'.0)
+one_told Expected UnknownFunction c c' b n t t' = absurd (t.2 t'.1)
+one_told Expected BadArguments c c' b n t t' = absurd (t.2 t'.1)
+one_told Expected BadOffset c c' b n t t' = absurd (t.2 t'.1)
+one_told UnknownFunction Expected c c' b n t t' = absurd (t'.2 t.1)
+one_told BadArguments Expected c c' b n t t' = absurd (t'.2 t.1)
+one_told BadOffset Expected c c' b n t t' = absurd (t'.2 t.1)
+one_told UnknownFunction UnknownFunction c c' b n t t' = (refl, one_unknown c c' (b ++ n ∷ []) t.0 t'.0)
+one_told UnknownFunction BadArguments c c' b n t t' = not_both n.token (token.Sign OpenParenthesis) (token.Sign CloseParenthesis) (unknown_last c b n t.0) (miscounted_last c' b n t'.0) (λ k. cc)
+one_told UnknownFunction BadOffset c c' b n t t' =
+    let f = far_last c' b n t'.0 in
+    not_both n.token (token.Sign OpenParenthesis) (token.Number f.0) (unknown_last c b n t.0) (same_token n (token_number_at f.0 c') f.1) (λ k. cc)
+one_told BadArguments UnknownFunction c c' b n t t' = not_both n.token (token.Sign CloseParenthesis) (token.Sign OpenParenthesis) (miscounted_last c b n t.0) (unknown_last c' b n t'.0) (λ k. cc)
+one_told BadArguments BadArguments c c' b n t t' = (refl, one_miscounted c c' b n t t')
+one_told BadArguments BadOffset c c' b n t t' =
+    let f = far_last c' b n t'.0 in
+    not_both n.token (token.Sign CloseParenthesis) (token.Number f.0) (miscounted_last c b n t.0) (same_token n (token_number_at f.0 c') f.1) (λ k. cc)
+one_told BadOffset UnknownFunction c c' b n t t' =
+    let f = far_last c b n t.0 in
+    not_both n.token (token.Number f.0) (token.Sign OpenParenthesis) (same_token n (token_number_at f.0 c) f.1) (unknown_last c' b n t'.0) (λ k. cc)
+one_told BadOffset BadArguments c c' b n t t' =
+    let f = far_last c b n t.0 in
+    not_both n.token (token.Number f.0) (token.Sign CloseParenthesis) (same_token n (token_number_at f.0 c) f.1) (miscounted_last c' b n t'.0) (λ k. cc)
+one_told BadOffset BadOffset c c' b n t t' =
+    let f = far_last c b n t.0 in
+    let g = far_last c' b n t'.0 in
+    (refl, sym (same_column n (token_number_at f.0 c) f.1) ∙ same_column n (token_number_at g.0 c') g.1)
+one_told _ Expected c c' b n t t' = absurd t
+one_told _ UnknownFunction c c' b n t t' = absurd t
+one_told _ BadArguments c c' b n t t' = absurd t
+one_told _ BadOffset c c' b n t t' = absurd t
+one_told _ _ c c' b n t t' = absurd t'
+
+pub one_fault : (end : ℕ) (ts : List Placed) (f g : CalcFault) → IsGrammarFault end ts f → IsGrammarFault end ts g → f ≡ g
+one_fault end ts f g (inl (b, r, n, e, t, none), _) (inl (b', r', n', e', t', none'), _) = go (cuts b n r b' n' r' (sym e ∙ e'))
+  where
+    go : Cuts b n r b' n' r' → f ≡ g
+    go (same h i j) =
+        let s = subst (λ x. Tells f.kind f.column b' x) i (subst (λ l. Tells f.kind f.column l n) h t) in
+        let o = one_told f.kind g.kind f.column g.column b' n' s t' in
+        same_fault f g o.0 o.1
+    go (before m h i) = absurd (none' b m n f.kind f.column h t)
+    go (behind m h i) = absurd (none b' m n' g.kind g.column h t')
+one_fault end ts f g (inl (b, r, n, e, t, none), _) (inr (e', can, none'), _) = absurd (none' b r n f.kind f.column e t)
+one_fault end ts f g (inr (e, can, none), _) (inl (b', r', n', e', t', none'), _) = absurd (none b' r' n' g.kind g.column e' t')
+one_fault end ts f g (inr (e, can, none), _) (inr (e', can', none'), _) = e ∙ sym e'
+
+-- the list stands for an assignment, or has a fault
+abbrev pub IsJudged : ℕ → List Placed → Type 0
+IsJudged end ts = ((a : Assignment) × IsAssignment ts a) ⊎ ((told : CalcFault) × IsGrammarFault end ts told)
+
+judged_read : (end : ℕ) (name : List ℕ) (c d : ℕ) (us : List Placed) (o : Outcome) → GrammarReads (Expression us) o → IsJudged end (name_at name c ∷ sign_at Assign d ∷ us)
+judged_read end name c d us (Got a []) r =
+    let x : Assignment = record { target = name; expr = a } in
+    inl (x, (c, d, us, refl, sound_all us a r))
+judged_read end name c d us (Got a (u ∷ rest)) r = inr (token_fault Expected u.column, goes_on end name c d us a u rest r)
+judged_read end name c d us (GotAll xs rest) r = absurd (sound r)
+judged_read end name c d us (Stops kind rest) r = inr (token_fault kind (column_of end rest), stops end name c d us kind rest r)
+
+judged_named : (end : ℕ) (name : List ℕ) (c : ℕ) (ts : List Placed) → IsJudged end (name_at name c ∷ ts)
+judged_named end name c ts = go (head ts) refl
+  where
+    others : IsNot Assign (head ts) → IsJudged end (name_at name c ∷ ts)
+    others n = inr (token_fault Expected (column_of end ts), no_assign end name c ts n)
+
+    go : (t : Option Token) → head ts ≡ t → IsJudged end (name_at name c ∷ ts)
+    go (Some (token.Sign Assign)) e =
+        let f = front_is ts (token.Sign Assign) e in
+        let x = read_somehow (tail ts) in
+        subst (λ l. IsJudged end (name_at name c ∷ l)) (sym f.1) (judged_read end name c f.0 (tail ts) x.0 x.1)
+    go _ e = others (subst (IsNot Assign) (sym e) (λ k. cc))
+
+pub each_judged : (end : ℕ) (ts : List Placed) → IsJudged end ts
+each_judged end [] = inr (token_fault Expected end, nothing_at_all end)
+each_judged end (s ∷ ts) = go s.token refl
+  where
+    others : ((name : List ℕ) → s.token ≡ token.Name name → ⊥) → IsJudged end (s ∷ ts)
+    others n = inr (token_fault Expected s.column, no_name end s ts n)
+
+    go : (t : Token) → s.token ≡ t → IsJudged end (s ∷ ts)
+    go (token.Name name) e =
+        let f = front_is (s ∷ ts) (token.Name name) (ap (λ x. Some x) e) in
+        subst (IsJudged end) (sym f.1) (judged_named end name f.0 ts)
+    go (token.Number m) e = others (λ name k. let x : token.Number m ≡ token.Name name = sym e ∙ k in cc)
+    go (token.Sign z) e = others (λ name k. let x : token.Sign z ≡ token.Name name = sym e ∙ k in cc)

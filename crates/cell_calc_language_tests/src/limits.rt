@@ -1,0 +1,72 @@
+//! Texts of a thousand tokens, and longer ones.
+
+use crate::faults::fault_of;
+use cell_calc_language::calc_fault::{CalcFault, CalcKind};
+use std::alloc::Global;
+use std::test::Fail;
+
+// `x =`, the first text so many times, a 1 and the second text so many times.
+fn repeated(
+    alloc: Global,
+    before: &[u8],
+    first: u32,
+    after: &[u8],
+    second: u32,
+) -> Result<Vec<u8>, Fail> {
+    let mut text = b"x = ".to_vec(alloc)?;
+    for _ in 0..first {
+        text.extend_from_slice(before)?;
+    }
+    text.push(b'1')?;
+    for _ in 0..second {
+        text.extend_from_slice(after)?;
+    }
+    Ok(text)
+}
+
+#[test]
+fn a_thousand_tokens(rt: HostRuntime) -> Result<(), Fail> {
+    for (before, first, after, second, column) in [
+        (b"-".as_slice(), 1, b" + 1".as_slice(), 498, None),
+        (b"-", 2, b" + 1", 498, Some(1999)),
+        (b"-", 997, b"", 0, None),
+        (b"-", 998, b"", 0, Some(1003)),
+        (b"(", 498, b")", 498, None),
+        (b"abs(", 332, b")", 332, None),
+        (b"", 0, b" ? 1 : 1", 249, None),
+    ] {
+        let text = repeated(rt.alloc(), before, first, after, second)?;
+        let fault = column.map(|column| CalcFault {
+            kind: CalcKind::TooLong,
+            column,
+        });
+        assert_eq!(rt; fault_of(rt.alloc(), &text), fault);
+    }
+    Ok(())
+}
+
+#[test]
+fn what_follows_a_thousand_tokens_is_too_long(rt: HostRuntime) -> Result<(), Fail> {
+    let mut text = repeated(rt.alloc(), b"-", 1, b" + 1", 498)?;
+    text.push(b'$')?;
+    let fault = CalcFault {
+        kind: CalcKind::TooLong,
+        column: 1999,
+    };
+    assert_eq!(rt; fault_of(rt.alloc(), &text), Some(fault));
+    Ok(())
+}
+
+// The longest text, of 999 tokens and blanks after them, a hundred times: bench/parse.py times this test.
+#[test]
+fn the_longest_text(rt: HostRuntime) -> Result<(), Fail> {
+    let mut text = repeated(rt.alloc(), b"", 0, b" + 1", 498)?;
+    for _ in text.len()..65535 {
+        text.push(b' ')?;
+    }
+    assert_eq!(rt; text.len(), 65535);
+    for _ in 0..100 {
+        assert_eq!(rt; fault_of(rt.alloc(), text.as_slice()), None);
+    }
+    Ok(())
+}

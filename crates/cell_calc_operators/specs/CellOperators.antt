@@ -1,0 +1,114 @@
+-- What operators and functions make of cells (r.mapcalc manual; the range, division, ties and nulls among known ones are the profile's).
+use Rattle.std.specs.Prelude.{ℕ, ℤ, pos, negsuc, int_le, Bool, true, false, not, ◌&&◌, ◌||◌, ◌==◌, nat_le, List, [], ◌∷◌, Some, None, slice_index_or, length, ◌-◌, if◌then◌else◌, filter, fold, count_by}
+use Rattle.std.specs.Int.{int_min, int_max}
+use Rattle.std.specs.List.{list_any, list_all}
+use Rattle.cell_core_values.specs.Cell.{cell_eq}
+use Rattle.cell_core.specs.Grid.{CellValue}
+
+-- in the range of the categories
+abbrev pub is_category : ℤ → Bool
+is_category n = int_le (negsuc 2147483646) n && int_le n (pos 2147483647)
+
+-- a result outside it is null
+abbrev pub fit : ℤ → CellValue
+fit n = if is_category n then Some n else None
+
+-- 0
+abbrev pub is_zero : ℤ → Bool
+is_zero (pos n) = n == 0
+is_zero (negsuc n) = false
+
+-- 1 or 0
+abbrev pub truth : Bool → CellValue
+truth b = if b then Some (pos 1) else Some (pos 0)
+
+-- of a category; null for null
+abbrev pub of_one : (ℤ → CellValue) → CellValue → CellValue
+of_one f None = None
+of_one f (Some x) = f x
+
+-- of two categories; null if one is null
+abbrev pub of_both : (ℤ → ℤ → CellValue) → CellValue → CellValue → CellValue
+of_both f None b = None
+of_both f (Some x) None = None
+of_both f (Some x) (Some y) = f x y
+
+-- null
+abbrev pub is_null : CellValue → Bool
+is_null None = true
+is_null (Some x) = false
+
+-- 0, and no null
+abbrev pub is_false : CellValue → Bool
+is_false None = false
+is_false (Some x) = is_zero x
+
+-- a category other than 0
+abbrev pub is_true : CellValue → Bool
+is_true None = false
+is_true (Some x) = not (is_zero x)
+
+-- 0 where one of them is 0, else null where one is null, else 1
+abbrev pub known_and : CellValue → CellValue → CellValue
+known_and a b = if is_false a || is_false b then Some (pos 0) else (if is_null a || is_null b then None else Some (pos 1))
+
+-- 1 where one of them is a category other than 0, else null where one is null, else 0
+abbrev pub known_or : CellValue → CellValue → CellValue
+known_or a b = if is_true a || is_true b then Some (pos 1) else (if is_null a || is_null b then None else Some (pos 0))
+
+-- null if the condition is null; the first where it is not 0, else the second
+abbrev pub chosen : CellValue → CellValue → CellValue → CellValue
+chosen None a b = None
+chosen (Some x) a b = if is_zero x then b else a
+
+-- the lesser of two, and the greater; null if one is null
+abbrev pub lesser : CellValue → CellValue → CellValue
+lesser a b = of_both (λ x y. Some (int_min x y)) a b
+
+abbrev pub greater : CellValue → CellValue → CellValue
+greater a b = of_both (λ x y. Some (int_max x y)) a b
+
+-- the least, and the greatest; null if one is null, and where there is none
+abbrev pub least : List CellValue → CellValue
+least [] = None
+least (a ∷ xs) = fold lesser a xs
+
+abbrev pub greatest_cell : List CellValue → CellValue
+greatest_cell [] = None
+greatest_cell (a ∷ xs) = fold greater a xs
+
+-- those that are not null
+abbrev pub known : List CellValue → List CellValue
+known xs = filter (λ a. not (is_null a)) xs
+
+-- how often a value occurs
+abbrev pub occurrences : CellValue → List CellValue → ℕ
+occurrences v xs = count_by (cell_eq v) xs
+
+-- none of the values occurs more often than this one
+abbrev pub is_most_frequent : List CellValue → CellValue → Bool
+is_most_frequent xs v = list_all (λ w. nat_le (occurrences w xs) (occurrences v xs)) xs
+
+-- the least value than which none occurs more often
+abbrev pub most_frequent : List CellValue → CellValue
+most_frequent xs = least (filter (is_most_frequent xs) xs)
+
+-- the same, null if one is null
+abbrev pub mode : List CellValue → CellValue
+mode xs = if list_any is_null xs then None else most_frequent xs
+
+-- the first; null where there is none
+abbrev pub first_known : List CellValue → CellValue
+first_known [] = None
+first_known (a ∷ xs) = a
+
+-- the last; null where there is none
+abbrev pub last_argument : List CellValue → CellValue
+last_argument xs = slice_index_or xs (length xs - 1) None
+
+-- if(x) is as if(x,1,0), and if(x,a) as if(x,a,0)
+abbrev pub if_of : List CellValue → CellValue
+if_of (x ∷ []) = chosen x (Some (pos 1)) (Some (pos 0))
+if_of (x ∷ a ∷ []) = chosen x a (Some (pos 0))
+if_of (x ∷ a ∷ b ∷ []) = chosen x a b
+if_of _ = None

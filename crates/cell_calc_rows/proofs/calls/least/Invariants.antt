@@ -1,0 +1,12 @@
+use Rattle.std.proofs.Common.{◌≡◌, ◌<◌, ℕ, length, take, map}
+use Rattle.std.specs.Prelude.{fold}
+use Rattle.cell_calc_rows.specs.RowValues.{at, column}
+use Rattle.cell_calc_operators.specs.CellOperators.{lesser}
+use Rattle.cell_calc_rows.proofs.calls.least.Given as goal
+
+abbrev pub invariant-loop-other : goal.invariant-loop-other
+invariant-loop-other l =
+    record {
+      width : length l.row ≡ length l.initial.row;
+      done : (c : ℕ) → c < length l.row → at l.row c ≡ fold lesser (at l.initial.row c) (take l.other-index (column c (map (λ cells. cells.items) l.others)));
+    }

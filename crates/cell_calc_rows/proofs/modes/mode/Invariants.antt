@@ -1,0 +1,12 @@
+use Rattle.std.proofs.Common.{◌≡◌, ◌<◌, ℕ, length, map}
+use Rattle.cell_calc_rows.specs.RowValues.{at, column}
+use Rattle.cell_calc_operators.specs.CellOperators.{mode}
+use Rattle.cell_calc_rows.proofs.modes.mode.Given as goal
+
+abbrev pub invariant-loop-c : goal.invariant-loop-c
+invariant-loop-c l =
+    record {
+      width : length l.row ≡ length l.initial.row;
+      room : length l.cells ≡ length l.arguments;
+      done : (k : ℕ) → k < l.c → at l.row k ≡ mode (column k (map (λ cells. cells.items) l.arguments));
+    }

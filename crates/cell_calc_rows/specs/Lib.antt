@@ -1,0 +1,3 @@
+-- Rows of cells, column by column.
+pub mod RowValues
+pub mod parts

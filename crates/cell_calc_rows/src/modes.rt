@@ -1,0 +1,142 @@
+//! The most frequent cells of rows, column by column: the categories of a column are put in order, and the longest run of
+//! equal ones is found.
+
+ghost use Rattle.std.specs.Prelude.{◌≡◌, ◌≤◌, ◌<◌, ◌+◌, ℕ, List, length, map, take, All, IsPermutation, IsSorted, OnOk, nat_lt, if◌then◌else◌, false};
+ghost use Rattle.cell_core_values.specs.Cell.{cell_cmp, cell_eq};
+ghost use Rattle.cell_core.specs.Grid.{CellValue};
+ghost use Rattle.cell_calc_operators.specs.CellOperators.{most_frequent, mode, known, is_null};
+ghost use Rattle.cell_calc_rows.specs.RowValues.{at, column};
+
+use cell_calc_operators::cell_operators::is_null;
+use cell_core::cell::Cell;
+use cell_core::memory::Memory;
+use std::alloc::Global;
+
+fn at(cells: &[Cell], c: usize) -> Cell
+    requires { c < length cells.now }
+    ensures { result ≡ at cells.now c }
+{
+    cells[c]
+}
+
+// 1 for a category, 0 for null.
+fn counted(cell: Cell) -> usize
+    ensures { result ≡ (if is_null cell then 0 else 1) }
+{
+    if is_null(cell) { 0 } else { 1 }
+}
+
+// Puts the categories of a column before all else, and counts them.
+fn gather(arguments: &[Vec<Cell>], c: usize, cells: &mut [Cell]) -> usize
+    requires column { All (λ row. c < length row.items) arguments.now }
+    requires room { length cells.old ≡ length arguments.now }
+    ensures length { length cells.new ≡ length cells.old }
+    ensures count { result ≤ length cells.old }
+    ensures known { take result cells.new ≡ known (column c (map (λ row. row.items) arguments.now)) }
+{
+    let mut count = 0;
+    for other in arguments {
+        let cell = at(other.as_slice(), c);
+        cells[count] = cell;
+        count += counted(cell);
+    }
+    count
+}
+
+// How long a run is before a cell that follows its last one.
+fn continued(run: usize, last: Cell, cell: Cell) -> usize
+    ensures { result ≡ (if cell_eq cell last then run else 0) }
+{
+    if cell == last { run } else { 0 }
+}
+
+// The cell of the longer of two runs, of the first where both are as long.
+fn longer(best: Cell, most: usize, cell: Cell, run: usize) -> Cell
+    ensures { result ≡ (if nat_lt most run then cell else best) }
+{
+    if most < run { cell } else { best }
+}
+
+// The category of the longest run, of several the first.
+fn longest_run(cells: &[Cell]) -> Cell
+    requires known { All (λ cell. is_null cell ≡ false) cells.now }
+    requires sorted { IsSorted cell_cmp cells.now }
+    ensures { (xs : List CellValue) → IsPermutation xs cells.now → result ≡ most_frequent xs }
+{
+    if cells.is_empty() {
+        return Cell::null();
+    }
+    let mut best = at(cells, 0);
+    let mut most = 1;
+    let mut run = 1;
+    for i in 1..cells.len() {
+        let cell = at(cells, i);
+        run = continued(run, at(cells, i - 1), cell) + 1;
+        best = longer(best, most, cell, run);
+        most = most.max(run);
+    }
+    best
+}
+
+fn most_frequent(cells: &mut [Cell]) -> Cell
+    requires { All (λ cell. is_null cell ≡ false) cells.old }
+    ensures { result ≡ most_frequent cells.old }
+{
+    cells.sort_unstable();
+    longest_run(cells)
+}
+
+fn known_mode_at(arguments: &[Vec<Cell>], c: usize, cells: &mut [Cell]) -> Cell
+    requires column { All (λ row. c < length row.items) arguments.now }
+    requires room { length cells.old ≡ length arguments.now }
+    ensures room { length cells.new ≡ length cells.old }
+    ensures mode { result ≡ most_frequent (known (column c (map (λ row. row.items) arguments.now))) }
+{
+    let count = gather(arguments, c, cells);
+    most_frequent(&mut cells[..count])
+}
+
+fn mode_at(arguments: &[Vec<Cell>], c: usize, cells: &mut [Cell]) -> Cell
+    requires column { All (λ row. c < length row.items) arguments.now }
+    requires room { length cells.old ≡ length arguments.now }
+    ensures room { length cells.new ≡ length cells.old }
+    ensures mode { result ≡ mode (column c (map (λ row. row.items) arguments.now)) }
+{
+    let count = gather(arguments, c, cells);
+    if count < arguments.len() {
+        return Cell::null();
+    }
+    most_frequent(&mut cells[..count])
+}
+
+/// The most frequent cells of the columns, null where one is null.
+pub(crate) fn mode(alloc: Global, arguments: &[Vec<Cell>], row: &mut [Cell]) -> Result<(), Memory>
+    requires { All (λ cells. length cells.items ≡ length row.old) arguments.now }
+    ensures width { length row.new ≡ length row.old }
+    ensures each { OnOk result ((c : ℕ) → c < length row.old → at row.new c ≡ mode (column c (map (λ cells. cells.items) arguments.now))) }
+{
+    let mut spare = Vec::from_elem(alloc, Cell::null(), arguments.len())?;
+    let cells = spare.as_mut_slice();
+    for c in 0..row.len() {
+        row[c] = mode_at(arguments, c, cells);
+    }
+    Ok(())
+}
+
+/// The most frequent categories of the columns.
+pub(crate) fn known_mode(
+    alloc: Global,
+    arguments: &[Vec<Cell>],
+    row: &mut [Cell],
+) -> Result<(), Memory>
+    requires { All (λ cells. length cells.items ≡ length row.old) arguments.now }
+    ensures width { length row.new ≡ length row.old }
+    ensures each { OnOk result ((c : ℕ) → c < length row.old → at row.new c ≡ most_frequent (known (column c (map (λ cells. cells.items) arguments.now)))) }
+{
+    let mut spare = Vec::from_elem(alloc, Cell::null(), arguments.len())?;
+    let cells = spare.as_mut_slice();
+    for c in 0..row.len() {
+        row[c] = known_mode_at(arguments, c, cells);
+    }
+    Ok(())
+}

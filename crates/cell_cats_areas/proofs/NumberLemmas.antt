@@ -1,0 +1,182 @@
+-- Labels are replaced by numbers.
+use Rattle.std.proofs.Common.{◌≡◌, ℕ, zero, suc, ℤ, true, false, ◌+◌, ◌*◌, ◌<◌, ◌≤◌, ◌++◌, [], ◌∷◌, List, Some, None, is_some, pos, length, get_or, set, refl, ap, sym, ◌∙◌, arith, ⊎_elim, eq-eqb, add-one, get_or-set_other, get_or-set_same}
+use Rattle.std.proofs.lemmas.List.{length-set, length_push, get_or_push, get_or_append_left, get_or_past}
+use Rattle.std.proofs.lemmas.Bool.{cases_lt, cases_order, cases_Bool, ne_eqb, cond-true, cond-false}
+use Rattle.cell_core.specs.Grid.{Grid, CellValue}
+use Rattle.std.proofs.Math.Nat.{mul-le-mul_right}
+use Rattle.cell_core_values.specs.Region.{IsRegion, RegionValue}
+use Rattle.cell_cats_areas.specs.declared.clump.Joining.{Joining}
+use Rattle.cell_cats_areas.specs.Areas.{Position, cell_at_spot, AreAdjacent}
+use Rattle.cell_cats_areas.specs.parts.Labels.{PointDown}
+use Rattle.cell_cats_areas.specs.parts.Meetings.{AreSound}
+use Rattle.cell_cats_areas.specs.parts.CellPlaces.{position}
+use Rattle.cell_cats_areas.specs.parts.AreasRead.{WasRead, area_label_at}
+use Rattle.cell_cats_areas.specs.parts.Starts.{IsEarlier, begins, starts, start_of_run}
+use Rattle.cell_cats_areas.specs.parts.AreaNumbers.{is_first, firsts_below, area_number, area_number_at, AreNumbered, CanNumber, IsNumbered, cell_number}
+use Rattle.cell_cats_areas.specs.parts.LabelTables.{AreLabels}
+use Rattle.cell_cats_areas.proofs.NearLemmas.{label_below}
+use Rattle.cell_cats_areas.proofs.StartLemmas.{grows, place_inside, begins_from, count_begins, count_stays, starts_most}
+
+-- ---- the count of open labels, place by place
+
+pub firsts_more : (j : Joining) (m : Grid) (labels : List ℕ) (k : ℕ) → is_first labels k ≡ true → firsts_below j m labels (suc k) ≡ firsts_below j m labels k ++ start_of_run j m k ∷ []
+firsts_more j m labels k is = cond-true (is_first labels k) _ _ is
+
+pub firsts_same : (j : Joining) (m : Grid) (labels : List ℕ) (k : ℕ) → is_first labels k ≡ false → firsts_below j m labels (suc k) ≡ firsts_below j m labels k
+firsts_same j m labels k is = cond-false (is_first labels k) _ _ is
+
+count_more : (j : Joining) (m : Grid) (labels : List ℕ) (k : ℕ) → is_first labels k ≡ true → length (firsts_below j m labels (suc k)) ≡ length (firsts_below j m labels k) + 1
+count_more j m labels k is = ap (length {A = Position}) (firsts_more j m labels k is) ∙ length_push (firsts_below j m labels k) (start_of_run j m k)
+
+count_step : (j : Joining) (m : Grid) (labels : List ℕ) (k : ℕ) → length (firsts_below j m labels k) ≤ length (firsts_below j m labels (suc k))
+count_step j m labels k =
+    ⊎_elim (λ yes'. let e = count_more j m labels k yes' in omega arith)
+    (λ no'. let e = ap (length {A = Position}) (firsts_same j m labels k no') in omega arith) (cases_Bool (is_first labels k))
+
+count_most : (j : Joining) (m : Grid) (labels : List ℕ) (k : ℕ) → length (firsts_below j m labels k) ≤ k
+count_most j m labels zero = omega arith
+count_most j m labels (suc k) =
+    let before = count_most j m labels k in
+    ⊎_elim (λ yes'. let e = count_more j m labels k yes' in omega arith)
+    (λ no'. let e = ap (length {A = Position}) (firsts_same j m labels k no') in omega arith) (cases_Bool (is_first labels k))
+
+-- of two open labels the greater has the greater number
+pub number_lt : (j : Joining) (m : Grid) (labels : List ℕ) (a b : ℕ) → a < b → is_first labels b ≡ true → area_number j m labels a < area_number j m labels b
+number_lt j m labels a b lt is =
+    let before = grows (λ n. length (firsts_below j m labels n)) (count_step j m labels) (suc a) b (omega arith) in
+    let more = count_more j m labels b is in
+    omega arith
+
+pub number_apart : (j : Joining) (m : Grid) (labels : List ℕ) (a b : ℕ) → is_first labels a ≡ true → is_first labels b ≡ true → area_number j m labels a ≡ area_number j m labels b → a ≡ b
+number_apart j m labels a b a_is b_is same =
+    ⊎_elim (λ e. e)
+    (λ apart. ⊎_elim (λ lt. absurd (let less = number_lt j m labels a b lt b_is in omega arith)) (λ lt. absurd (let less = number_lt j m labels b a lt a_is in omega arith)) apart)
+    (cases_order a b)
+
+-- ---- a pass over the table, place by place
+
+-- a write of the number of the open label
+number_written : (j : Joining) (m : Grid) (labels : List ℕ) (open_of : ℕ → ℕ) (place : ℕ) (table : List ℕ) (count new v : ℕ) → AreNumbered j m labels open_of place table count → place < length table → v ≡ area_number j m labels (open_of place) → new ≡ length (firsts_below j m labels (suc place)) → AreNumbered j m labels open_of (place + 1) (set table place v) new
+number_written j m labels open_of place table count new v h inside is counted = record {
+  long = length-set table place v ∙ h.long;
+  later = λ k le. get_or-set_other table place k v 0 (omega arith) ∙ h.later k (omega arith);
+  done = λ k lt. ⊎_elim (λ below. get_or-set_other table place k v 0 (omega arith) ∙ h.done k below)
+      (λ le. let e : k ≡ place = omega arith in
+      ap (λ (n : ℕ). get_or (set table place v) n 0) e ∙ get_or-set_same table place v 0 inside ∙ is ∙ ap (λ (n : ℕ). area_number j m labels (open_of n)) (sym e)) (cases_lt k place);
+  counted = counted ∙ ap (λ (n : ℕ). length (firsts_below j m labels n)) (sym (add-one place));
+}
+
+-- an open label gets the next number
+pub AreNumbered-open : (j : Joining) (m : Grid) (labels : List ℕ) (open_of : ℕ → ℕ) (place : ℕ) (table : List ℕ) (count : ℕ) → AreSound j m labels open_of → AreNumbered j m labels open_of place table count → place < length table → get_or table place 0 ≡ place → AreNumbered j m labels open_of (place + 1) (set table place (count + 1)) (count + 1)
+AreNumbered-open j m labels open_of place table count sound h inside here =
+    let open' : get_or labels place 0 ≡ place = sym (h.later place (omega arith)) ∙ here in
+    let is : open_of place ≡ place = sound.tells.itself place (let long = h.long in omega arith) open' in
+    let more = count_more j m labels place (eq-eqb _ _ open') in
+    let counted : count + 1 ≡ length (firsts_below j m labels (suc place)) = ap (λ (n : ℕ). n + 1) h.counted ∙ sym more in
+    number_written j m labels open_of place table count (count + 1) (count + 1) h inside (counted ∙ ap (λ (n : ℕ). area_number j m labels n) (sym is)) counted
+
+-- a closed label gets the number of the one that it points to
+pub AreNumbered-closed : (j : Joining) (m : Grid) (labels : List ℕ) (open_of : ℕ → ℕ) (place : ℕ) (table : List ℕ) (count : ℕ) → AreSound j m labels open_of → AreNumbered j m labels open_of place table count → place < length table → get_or table place 0 < place → AreNumbered j m labels open_of (place + 1) (set table place (get_or table (get_or table place 0) 0)) count
+AreNumbered-closed j m labels open_of place table count sound h inside less =
+    let long = h.long in
+    let same_label : get_or table place 0 ≡ get_or labels place 0 = h.later place (omega arith) in
+    let up : ℕ = get_or table place 0 in
+    let leads : open_of up ≡ open_of place = ap open_of same_label ∙ sound.tells.points place (omega arith) in
+    let is : get_or table up 0 ≡ area_number j m labels (open_of place) = h.done up less ∙ ap (λ (n : ℕ). area_number j m labels n) leads in
+    let same = firsts_same j m labels place (ne_eqb _ _ (λ e. absurd (omega arith))) in
+    number_written j m labels open_of place table count count (get_or table up 0) h inside is (h.counted ∙ ap (length {A = Position}) (sym same))
+
+-- before the pass
+pub CanNumber-first : (table : List ℕ) → PointDown table → CanNumber 0 table
+CanNumber-first table down = record {
+  down = λ k le. down k;
+  most = λ k. ⊎_elim (λ lt. let le = down k in omega arith) (λ ge. let past : get_or table k 0 ≡ 0 = get_or_past table k 0 ge in omega arith) (cases_lt k (length table));
+}
+
+pub AreNumbered-first : (j : Joining) (m : Grid) (table : List ℕ) (open_of : ℕ → ℕ) → AreNumbered j m table open_of 0 table 0
+AreNumbered-first j m table open_of = record {
+  long = refl;
+  later = λ k le. refl;
+  done = λ k lt. absurd (omega arith);
+  counted = refl;
+}
+
+-- ---- the numbers of cells
+
+module _ (j : Joining) (m : Grid) (table : List ℕ) (h : AreLabels j m table) where
+  pub number_is : (p : Position) → area_number_at j m table h p ≡ area_number j m table (h.has_read.open_of (area_label_at m h.labels p))
+  unfolding area_number_at
+  number_is p = refl
+
+  pub cell_numbered : (p : Position) (v : ℤ) → cell_at_spot m p ≡ Some v → cell_number j m table h p ≡ Some (pos (area_number_at j m table h p))
+  cell_numbered p v is = cond-true (is_some (cell_at_spot m p)) (Some (pos (area_number_at j m table h p))) None (ap (λ (x : CellValue). is_some x) is)
+
+  pub cell_null : (p : Position) → cell_at_spot m p ≡ None → cell_number j m table h p ≡ None
+  cell_null p is = cond-false (is_some (cell_at_spot m p)) (Some (pos (area_number_at j m table h p))) None (ap (λ (x : CellValue). is_some x) is)
+
+  pub read_all : (p : Position) (v : ℤ) → cell_at_spot m p ≡ Some v → WasRead m h.labels p
+  read_all p v is = let lt = place_inside m p (h.has_read.read.inside p v is) in let long = h.long in omega arith
+
+  pub number_met : (p q : Position) (v : ℤ) → AreAdjacent j p q → cell_at_spot m p ≡ Some v → cell_at_spot m q ≡ Some v → area_number_at j m table h p ≡ area_number_at j m table h q
+  number_met p q v near p_is q_is = number_is p ∙ ap (area_number j m table) (h.has_read.read.meet p q v near p_is q_is (read_all p v p_is) (read_all q v q_is)) ∙ sym (number_is q)
+
+  pub number_small : (p : Position) (v : ℤ) → cell_at_spot m p ≡ Some v → length table < 2147483648 → area_number_at j m table h p < 2147483648
+  number_small p v is short =
+      let below = label_below j m table h.labels h.has_read.open_of h.has_read.read p v is (read_all p v is) in
+      let low = h.has_read.read.sound.tells.low (area_label_at m h.labels p) below in
+      let most = count_most j m table (suc (h.has_read.open_of (area_label_at m h.labels p))) in
+      let e = number_is p in
+      omega arith
+
+  -- the cell with a label of its own
+  module _ (numbers : List ℕ) (n : IsNumbered j m table h numbers) (r c : ℕ) (v : ℤ) (is : cell_at_spot m (position r c) ≡ Some v) (none : (q : Position) → IsEarlier j r c q → cell_at_spot m q ≡ Some v → ⊥) where
+    begun : begins j m (position r c) ≡ true
+    begun = begins_from j m r c v is none
+
+    own : area_label_at m h.labels (position r c) ≡ starts j m (r * m.region.cols + c)
+    own = h.has_read.read.own (position r c) (h.has_read.read.inside (position r c) v is) begun (read_all (position r c) v is)
+
+    own_below : starts j m (r * m.region.cols + c) < length table
+    own_below = (let below = label_below j m table h.labels h.has_read.open_of h.has_read.read (position r c) v is (read_all (position r c) v is) in let e = own in omega arith)
+
+    pub own_inside : starts j m (r * m.region.cols + c) < length numbers
+    own_inside = (let below = own_below in let long = n.long in omega arith)
+
+    pub number_own : get_or numbers (starts j m (r * m.region.cols + c)) 0 ≡ area_number_at j m table h (position r c)
+    number_own = n.done (starts j m (r * m.region.cols + c)) own_below ∙ ap (λ (k : ℕ). area_number j m table (h.has_read.open_of k)) (sym own) ∙ sym (number_is (position r c))
+
+    pub own_next : starts j m (r * m.region.cols + (c + 1)) ≡ starts j m (r * m.region.cols + c) + 1
+    own_next =
+        let e : r * m.region.cols + (c + 1) ≡ suc (r * m.region.cols + c) = omega arith in
+        ap (starts j m) e ∙ count_begins j m r c ((h.has_read.read.inside (position r c) v is).1) begun
+
+-- a cell with none
+pub stays_next : (j : Joining) (m : Grid) (r c : ℕ) → c < m.region.cols → begins j m (position r c) ≡ false → starts j m (r * m.region.cols + (c + 1)) ≡ starts j m (r * m.region.cols + c)
+stays_next j m r c c_in none =
+    let e : r * m.region.cols + (c + 1) ≡ suc (r * m.region.cols + c) = omega arith in
+    ap (starts j m) e ∙ count_stays j m r c c_in none
+
+-- one row more
+pub cells_more : (f : ℕ → ℕ → CellValue) (w r : ℕ) (rows : List (List CellValue)) (row : List CellValue) → length rows ≡ r → ((s c : ℕ) → s < r → c < w → get_or (get_or rows s []) c None ≡ f s c) → ((k : ℕ) → k < w → get_or row k None ≡ f r k) → (s c : ℕ) → s < r + 1 → c < w → get_or (get_or (rows ++ row ∷ []) s []) c None ≡ f s c
+cells_more f w r rows row long before here s c lt inside =
+    ⊎_elim
+    (λ below. ap (λ (xs : List CellValue). get_or xs c None) (get_or_append_left rows (row ∷ []) [] s (omega arith)) ∙ before s c below inside)
+    (λ le. let e : s ≡ r = omega arith in
+    ap (λ (n : ℕ). get_or (get_or (rows ++ row ∷ []) n []) c None) e ∙ ap (λ (xs : List CellValue). get_or xs c None) (get_or_push rows row [] r long) ∙ here c inside ∙ ap (λ (n : ℕ). f n c) (sym e))
+    (cases_lt s r)
+
+-- a table is no longer than a map has cells
+pub table_short : (j : Joining) (m : Grid) (table : List ℕ) → AreLabels j m table → IsRegion m.region → length table < 2147483648
+table_short j m table h region =
+    let most = starts_most j m (length h.labels) in
+    let long = h.has_read.read.long in
+    let all = h.long in
+    let cells = region.cells_most in
+    omega arith
+
+-- the labels of one more row are not too many
+pub row_fits : (e : RegionValue) (count row : ℕ) → IsRegion e → row < e.rows → count ≤ row * e.cols → count + e.cols < 2147483648
+row_fits e count row is inside most =
+    let cells = is.cells_most in
+    let whole : (row + 1) * e.cols ≤ e.rows * e.cols = mul-le-mul_right e.cols (omega arith) in
+    omega arith

@@ -1,0 +1,47 @@
+use Rattle.std.proofs.Common.{◌≡◌, ◌+◌, arith, rules, refl, ap, replicate, ◌∙◌}
+use Rattle.cell_cats_areas.proofs.LineLemmas.{all_rows, cells_first}
+use Rattle.cell_cats_areas.proofs.NumberLemmas.{row_fits}
+use Rattle.cell_cats_areas.proofs.scan.label_cells.Goals as goal
+
+pub loop-row-init : goal.loop-row-init
+loop-row-init c =
+    let m = c.args.map.now in
+    let cols : c.cols-cols.result ≡ m.region.cols = c.cols-cols.ensures.value ∙ ap (λ r. r.cols) c.region-region.ensures.value in
+    let line : c.as_mut_slice-line.result.now ≡ replicate (m.region.cols + 1) c.outside.result =
+    c.as_mut_slice-line.ensures.value ∙ c.in_ok-whole.ensures.items_if_clones_equal (λ y e. e) ∙ rw cols refl in
+    let none = c.in_ok-table.ensures.items in
+    record {
+      wide = c.as_mut_slice-cells.ensures.len ∙ c.in_ok-buffer.ensures.len ∙ cols;
+      down = rw none (λ k. search rules);
+      most = rw none (omega arith);
+      read = rw none (cells_first c.args.joining m c.as_mut_slice-line.result.now c.outside.result
+          c.region-region.ensures.filled line c.outside.ensures);
+    }
+
+pub label_row-requires : goal.label_row-requires
+label_row-requires c =
+    let region = c.region-region.ensures.value in
+    let is = c.loop-row.invariant in
+    let row = rw (c.rows-row-end.ensures.value ∙ ap (λ r. r.rows) region) at c.loop-row-test.true in
+    record {
+      row = row;
+      wide = is.wide;
+      down = is.down;
+      short = row_fits c.args.map.now.region _ c.loop-row.row (rw region at c.cols-cols.ensures.region) row is.most;
+      read = is.read;
+    }
+
+pub loop-row-preserved : goal.loop-row-preserved
+loop-row-preserved c = record {
+  wide = c.label_row.auto.cells ∙ c.loop-row.invariant.wide;
+  down = c.in_ok-label_row.ensures.down;
+  most = omega (arith, c.loop-row.invariant.most, c.in_ok-label_row.ensures.long);
+  read = c.in_ok-label_row.ensures.read;
+}
+
+pub returns : goal.returns
+returns c =
+    let is = c.loop-row.invariant in
+    let all = all_rows c.loop-row-test.false c.loop-row.auto.row-end
+    (c.rows-row-end.ensures.value ∙ ap (λ r. r.rows) c.region-region.ensures.value) in
+    record { down = is.down; labels = is.read.labels; long = is.read.count ∙ rw all (omega arith); has_read = is.read.has_read }

@@ -1,0 +1,92 @@
+-- What is known of the labels once the first cells of a map were read, in row order.
+use Rattle.std.specs.Prelude.{ℕ, ℤ, suc, ◌+◌, ◌*◌, ◌<◌, ◌≤◌, ◌≡◌, List, length, Some, None, true, slice_index, slice_index_or}
+use Rattle.cell_core.specs.Grid.{Grid}
+use Rattle.cell_cats_areas.specs.declared.clump.Joining.{Joining}
+use Rattle.cell_cats_areas.specs.declared.near.Labelled.{Labelled}
+use Rattle.cell_cats_areas.specs.declared.near.Near.{Near}
+use Rattle.cell_cats_areas.specs.Areas.{Position, cell_at_spot, AreAdjacent, AreJoined}
+use Rattle.cell_cats_areas.specs.parts.Meetings.{AreSound}
+use Rattle.cell_cats_areas.specs.parts.CellPlaces.{cell_place, IsInside}
+use Rattle.cell_cats_areas.specs.parts.Starts.{IsEarlier, IsLeft, IsAbove, IsUpperLeft, IsUpperRight, IsCellAt, begins, starts, start_of_run}
+
+-- the label of a cell, of the labels of the cells in row order
+abbrev pub area_label_at : Grid → List ℕ → Position → ℕ
+area_label_at m labels p = slice_index labels (cell_place m.region.cols p)
+
+-- a cell was read
+abbrev pub WasRead : Grid → List ℕ → Position → Type 0
+WasRead m labels p = cell_place m.region.cols p < length labels
+
+-- the table, and the labels of the cells that were read
+pub record AreRowsRead (j : Joining) (m : Grid) (table labels : List ℕ) (open_of : ℕ → ℕ) : Type 0 where
+  pub inside : (p : Position) (v : ℤ) → cell_at_spot m p ≡ Some v → IsInside m p
+  pub long : length table ≡ starts j m (length labels)
+  pub sound : AreSound j m table open_of
+  -- a cell has a label that was given before the next cell was read, and is joined to the cell whose own label it is
+  pub few : (p : Position) (v : ℤ) → cell_at_spot m p ≡ Some v → WasRead m labels p → area_label_at m labels p < starts j m (suc (cell_place m.region.cols p))
+  pub joined : (p : Position) (v : ℤ) → cell_at_spot m p ≡ Some v → WasRead m labels p → AreJoined j m (start_of_run j m (area_label_at m labels p)) p
+  pub own : (p : Position) → IsInside m p → begins j m p ≡ true → WasRead m labels p → area_label_at m labels p ≡ starts j m (cell_place m.region.cols p)
+  -- the labels of adjacent cells of one category lead to one open label
+  pub meet : (p q : Position) (v : ℤ) → AreAdjacent j p q → cell_at_spot m p ≡ Some v → cell_at_spot m q ≡ Some v → WasRead m labels p → WasRead m labels q → open_of (area_label_at m labels p) ≡ open_of (area_label_at m labels q)
+
+pub record HasRead (j : Joining) (m : Grid) (table labels : List ℕ) : Type 0 where
+  pub open_of : ℕ → ℕ
+  pub read : AreRowsRead j m table labels open_of
+
+-- a cell and what it is labelled with are those of the one cell of a kind, among the first cells of a map; null where there is none
+pub record TellsLabels (m : Grid) (count : ℕ) (label_of : Position → ℕ) (Lies : Position → Type 0) (x : Labelled) : Type 0 where
+  pub some : (v : ℤ) → x.cell ≡ Some v → (q : Position) × Lies q × (cell_at_spot m q ≡ Some v) × (x.label ≡ label_of q) × (cell_place m.region.cols q < count)
+  pub all : (q : Position) (v : ℤ) → Lies q → cell_at_spot m q ≡ Some v → x.cell ≡ Some v
+
+-- they are those of the neighbours of a cell that come before it
+pub record AreNear (m : Grid) (count : ℕ) (label_of : Position → ℕ) (r c : ℕ) (near : Near) : Type 0 where
+  pub left : TellsLabels m count label_of (IsLeft r c) near.left
+  pub upper_left : TellsLabels m count label_of (IsUpperLeft r c) near.upper_left
+  pub above : TellsLabels m count label_of (IsAbove r c) near.above
+  pub upper_right : TellsLabels m count label_of (IsUpperRight r c) near.upper_right
+
+-- they are those of a row up to a column, and of the row above it from there on; null stands after them
+pub record IsLine (m : Grid) (count : ℕ) (label_of : Position → ℕ) (r c : ℕ) (line : List Labelled) : Type 0 where
+  pub wide : length line ≡ m.region.cols + 1
+  pub end : (d : Labelled) → (slice_index_or line m.region.cols d).cell ≡ None
+  pub here : (k : ℕ) (d : Labelled) → k < c → TellsLabels m count label_of (IsCellAt r k) (slice_index_or line k d)
+  pub above : (k : ℕ) (d : Labelled) → c ≤ k → k < m.region.cols → TellsLabels m count label_of (IsAbove r k) (slice_index_or line k d)
+
+-- the cells before a column of a row were read, and their labels stand in the table and in the line
+pub record HaveCells (j : Joining) (m : Grid) (table : List ℕ) (line : List Labelled) (r c : ℕ) : Type 0 where
+  pub labels : List ℕ
+  pub has_read : HasRead j m table labels
+  pub count : length labels ≡ r * m.region.cols + c
+  pub is_line : IsLine m (length labels) (area_label_at m labels) r c line
+
+-- the neighbours of the cell at a column, of those that were in hand at the one before it, and of a line
+abbrev pub near_at : List Labelled → ℕ → Near → Near
+near_at line c near = record { left = near.left; upper_left = near.above; above = slice_index_or line c near.left; upper_right = slice_index_or line (c + 1) near.left }
+
+-- what was read on the left of a cell, while the neighbours of the cell there are in hand
+pub record AreBeside (m : Grid) (count : ℕ) (label_of : Position → ℕ) (r c : ℕ) (near : Near) : Type 0 where
+  pub left : TellsLabels m count label_of (IsLeft r c) near.left
+  pub upper_left : TellsLabels m count label_of (IsUpperLeft r c) near.above
+
+-- the same of the cells before a column, and what was read beside the next
+pub record IsAreaReading (j : Joining) (m : Grid) (table : List ℕ) (line : List Labelled) (r c : ℕ) (near : Near) : Type 0 where
+  pub cells : HaveCells j m table line r c
+  pub beside : AreBeside m (length cells.labels) (area_label_at m cells.labels) r c near
+
+-- their labels are of a table
+pub record AreInside (count : ℕ) (near : Near) : Type 0 where
+  pub left : (v : ℤ) → near.left.cell ≡ Some v → near.left.label < count
+  pub upper_left : (v : ℤ) → near.upper_left.cell ≡ Some v → near.upper_left.label < count
+  pub above : (v : ℤ) → near.above.cell ≡ Some v → near.above.label < count
+  pub upper_right : (v : ℤ) → near.upper_right.cell ≡ Some v → near.upper_right.label < count
+
+-- a cell shares the label of a neighbour of its category, and all such neighbours lead to one open label
+pub record Shares (j : Joining) (m : Grid) (table labels : List ℕ) (before : ℕ → ℕ) (r c : ℕ) (v : ℤ) (label : ℕ) : Type 0 where
+  pub after : ℕ → ℕ
+  pub sound : AreSound j m table after
+  pub keeps : (a b : ℕ) → before a ≡ before b → after a ≡ after b
+  pub from : Position
+  pub earlier : IsEarlier j r c from
+  pub alike : cell_at_spot m from ≡ Some v
+  pub same : label ≡ area_label_at m labels from
+  pub meet : (q : Position) → IsEarlier j r c q → cell_at_spot m q ≡ Some v → after (area_label_at m labels q) ≡ after label

@@ -1,0 +1,153 @@
+//! Numbers in place of labels.
+
+ghost use Rattle.std.specs.Prelude.{◌≡◌, ℕ, ℤ, pos, ◌+◌, ◌*◌, ◌<◌, ◌≤◌, length, List, Some, None, IfOk, slice_index};
+ghost use Rattle.cell_core.specs.Grid.{Grid};
+ghost use Rattle.cell_cats_areas.specs.declared.clump.Joining.{Joining};
+ghost use Rattle.cell_cats_areas.specs.Areas.{IsClumping, cell_at_spot};
+ghost use Rattle.cell_cats_areas.specs.parts.Labels.{PointDown};
+ghost use Rattle.cell_cats_areas.specs.parts.Meetings.{AreSound};
+ghost use Rattle.cell_cats_areas.specs.parts.AreaNumbers.{AreNumbered, AreWritten, CanNumber, HaveNumbers, IsNumbered, area_number_at, area_number};
+ghost use Rattle.cell_cats_areas.specs.parts.CellPlaces.{position};
+ghost use Rattle.cell_cats_areas.specs.parts.AreasRead.{AreNear};
+ghost use Rattle.cell_cats_areas.specs.parts.Starts.{starts};
+ghost use Rattle.cell_cats_areas.specs.parts.LabelTables.{AreLabels};
+
+use crate::clump::Joining;
+use crate::near::{Labelled, Near, known_label, outside};
+use cell_core::cell::Cell;
+use cell_core::map::{CellMap, MapBuilder};
+use cell_core::memory::Memory;
+use std::alloc::Global;
+
+// Replaces a label by a number: an open one by the next number, a closed one by that of the label that it points
+// to. Returns the greatest number so far.
+fn number_label(table: &mut [u32], place: u32, count: u32) -> u32
+    requires inside { place < length table.old }
+    requires short { length table.old < 2147483648 }
+    requires ready { CanNumber place table.old }
+    requires few { count ≤ place }
+    ensures ready { CanNumber (place + 1) table.new }
+    ensures few { result ≤ place + 1 }
+    ensures numbered { (j : Joining) (m : Grid) (labels : List ℕ) (open_of : ℕ → ℕ) →
+        AreSound j m labels open_of →
+        AreNumbered j m labels open_of place table.old count → AreNumbered j m labels open_of (place + 1) table.new result }
+{
+    let label = table[place as usize];
+    if label == place {
+        table[place as usize] = count + 1;
+        count + 1
+    } else {
+        table[place as usize] = table[label as usize];
+        count
+    }
+}
+
+// Replaces each label of a table by the number of its area.
+fn number_labels(table: &mut [u32])
+    requires down { PointDown table.old }
+    requires short { length table.old < 2147483648 }
+    ensures numbered { (j : Joining) (m : Grid) (open_of : ℕ → ℕ) → AreSound j m table.old open_of →
+        (k : ℕ) → k < length table.old → slice_index table.new k ≡ area_number j m table.old (open_of k) }
+{
+    let mut count = 0;
+    for place in 0..table.len() as u32 {
+        count = number_label(table, place, count);
+    }
+}
+
+// What null has for a number: no category is so great.
+const NO_NUMBER: u32 = 1 << 31;
+
+// The cell of a number.
+fn number_cell(number: u32) -> Cell
+    ensures within { number < 2147483648 → result ≡ Some (pos number) }
+    ensures past { 2147483648 ≤ number → result ≡ None }
+{
+    match i32::try_from(number) {
+        Ok(category) => Cell::value(category).unwrap_or(Cell::null()),
+        Err(_) => Cell::null(),
+    }
+}
+
+// The number of a cell: one that it shares with its neighbours, or else that of the next label.
+fn number_of_cell(joining: Joining, cell: Cell, near: &Near, table: &[u32], next: &mut usize) -> u32
+    ensures null { cell ≡ None → result ≡ 2147483648 }
+    ensures number { (m : Grid) (r c : ℕ) (v : ℤ) (labels : List ℕ) (h : AreLabels joining m labels) → cell ≡ Some v → cell_at_spot m (position r c) ≡ Some v → r < m.region.rows → c < m.region.cols → next.old ≡ starts joining m (r * m.region.cols + c) → IsNumbered joining m labels h table.now →
+        AreNear m (r * m.region.cols + c) (area_number_at joining m labels h) r c near.now → result ≡ area_number_at joining m labels h (position r c) }
+    ensures next { (m : Grid) (r c : ℕ) (labels : List ℕ) (h : AreLabels joining m labels) → cell ≡ cell_at_spot m (position r c) → r < m.region.rows → c < m.region.cols → next.old ≡ starts joining m (r * m.region.cols + c) → IsNumbered joining m labels h table.now →
+        AreNear m (r * m.region.cols + c) (area_number_at joining m labels h) r c near.now → next.new ≡ starts joining m (r * m.region.cols + (c + 1)) }
+{
+    if !cell.get().is_some() {
+        return NO_NUMBER;
+    }
+    if let Some(number) = known_label(joining, cell, near) {
+        return number;
+    }
+    match table.get(*next) {
+        Some(number) => {
+            *next += 1;
+            *number
+        }
+        None => 0,
+    }
+}
+
+// Replaces the cells of a row by their numbers. The line is as for the labels. The first cell of the row that shares no label
+// has this one. Returns that of the first such cell after the row.
+#[inline(never)]
+fn number_row(
+    map: &CellMap,
+    row: u32,
+    joining: Joining,
+    table: &[u32],
+    first: usize,
+    cells: &mut [Cell],
+    line: &mut [Labelled],
+) -> usize
+    requires row { row < map.now.region.rows }
+    requires wide { length cells.old ≡ map.now.region.cols }
+    requires long { length line.old ≡ map.now.region.cols + 1 }
+    ensures numbers { (labels : List ℕ) (h : AreLabels joining map.now labels) → IsNumbered joining map.now labels h table.now → HaveNumbers joining map.now labels h first line.old row 0 → HaveNumbers joining map.now labels h result line.new (row + 1) 0 }
+    ensures cells { (labels : List ℕ) (h : AreLabels joining map.now labels) → IsNumbered joining map.now labels h table.now → HaveNumbers joining map.now labels h first line.old row 0 → AreWritten joining map.now labels h row map.now.region.cols cells.new }
+{
+    map.copy_row(row, cells);
+    let mut next = first;
+    let mut near = Near::at_the_edge();
+    for col in 0..cells.len() {
+        near = near.moved(line, col);
+        let cell = cells[col];
+        near.left = Labelled {
+            cell,
+            label: number_of_cell(joining, cell, &near, table, &mut next),
+        };
+        line[col] = near.left;
+        cells[col] = number_cell(near.left.label);
+    }
+    next
+}
+
+/// The map of the numbers of a map's cells, of the table of its labels.
+pub fn number_cells(
+    alloc: Global,
+    map: &CellMap,
+    joining: Joining,
+    table: &mut [u32],
+) -> Result<CellMap, Memory>
+    requires labels { AreLabels joining map.now table.old }
+    ensures { IfOk result (IsClumping joining map.now) }
+{
+    let region = map.region();
+    let cols = region.cols() as usize;
+    number_labels(table);
+    let mut buffer = vec![in alloc; Cell::null(); cols]?;
+    let cells = buffer.as_mut_slice();
+    let mut whole = vec![in alloc; outside(); cols + 1]?;
+    let line = whole.as_mut_slice();
+    let mut builder = MapBuilder::new(alloc, region);
+    let mut next = 0;
+    for row in 0..region.rows() {
+        next = number_row(map, row, joining, table, next, cells, line);
+        builder.push_row(cells)?;
+    }
+    Ok(builder.finish())
+}

@@ -1,0 +1,51 @@
+//! The numbering of a map's areas.
+
+ghost use Rattle.std.specs.Prelude.{IfOk};
+ghost use Rattle.cell_cats_areas.specs.Areas.{IsClumping};
+ghost use Rattle.cell_cats_areas.specs.declared.clump.Joining.TheVariants.{Edges};
+
+use crate::area_numbers::number_cells;
+use crate::scan::label_cells;
+use cell_core::map::CellMap;
+use cell_core::memory::Memory;
+use std::alloc::Global;
+
+/// Which cells are adjacent (r.clump manual, four neighbours, or with the flag `d` eight).
+#[derive(Clone, Copy, Debug, PartialEq, Eq)]
+pub enum Joining {
+    /// Cells that share an edge.
+    Edges,
+    /// Cells that share an edge or touch at a corner.
+    EdgesAndCorners,
+}
+
+/// The map in which each cell that is not null has the number of its area, over the same region and
+/// without labels. Null stays null.
+///
+/// Two cells are of one area where a path of adjacent cells of one category joins them (r.clump
+/// manual). Areas are numbered 1, 2, .. in the order of their first cells, row by row from the top
+/// left (profile). The rows `1 2` and `2 1` give `1 2` and `3 4` by edges, and `1 2` and `2 1` by edges
+/// and corners.
+///
+/// It takes four bytes for each run of equal cells side by side, and a few rows, besides the map that it returns.
+///
+/// # Errors
+///
+/// [`Memory`] when out of memory.
+pub fn clump_with(alloc: Global, map: &CellMap, joining: Joining) -> Result<CellMap, Memory>
+    ensures { IfOk result (IsClumping joining map.now) }
+{
+    let mut table = label_cells(alloc, map, joining)?;
+    number_cells(alloc, map, joining, table.as_mut_slice())
+}
+
+/// The numbers of the areas that are joined by edges: [`clump_with`] by [`Joining::Edges`].
+///
+/// # Errors
+///
+/// [`Memory`] when out of memory.
+pub fn clump(alloc: Global, map: &CellMap) -> Result<CellMap, Memory>
+    ensures { IfOk result (IsClumping Edges map.now) }
+{
+    clump_with(alloc, map, Joining::Edges)
+}

@@ -1,0 +1,39 @@
+//! Labels of runs, and the table that says which were joined.
+
+ghost use Rattle.std.specs.Prelude.{◌≡◌, ℕ, ◌<◌, ◌≤◌, length, slice_index};
+ghost use Rattle.cell_cats_areas.specs.parts.Labels.{PointDown, TellsOpen, after_join};
+
+/// The open label that a label leads to. The way to it is halved, after its first step.
+pub fn open_label(table: &mut [u32], label: u32) -> u32
+    requires down { PointDown table.old }
+    requires inside { label < length table.old }
+    ensures down { PointDown table.new }
+    ensures low { result ≤ label }
+    ensures tells { (open_of : ℕ → ℕ) → TellsOpen table.old open_of → TellsOpen table.new open_of }
+    ensures open { (open_of : ℕ → ℕ) → TellsOpen table.old open_of → result ≡ open_of label }
+{
+    let mut at = table[label as usize];
+    while table[at as usize] != at {
+        let next = table[table[at as usize] as usize];
+        table[at as usize] = next;
+        at = next;
+    }
+    at
+}
+
+/// Joins two labels: of the open labels that they lead to the greater is closed, and points to the smaller.
+pub fn join_labels(table: &mut [u32], one: u32, other: u32)
+    requires down { PointDown table.old }
+    requires one_inside { one < length table.old }
+    requires other_inside { other < length table.old }
+    ensures down { PointDown table.new }
+    ensures tells { (open_of : ℕ → ℕ) → TellsOpen table.old open_of → TellsOpen table.new (after_join open_of one other) }
+{
+    let first = open_label(table, one);
+    let second = open_label(table, other);
+    if first < second {
+        table[second as usize] = first;
+    } else {
+        table[first as usize] = second;
+    }
+}

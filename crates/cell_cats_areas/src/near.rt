@@ -1,0 +1,220 @@
+//! The neighbours of a cell that come before it in row order, and the label that it shares with them.
+
+ghost use Rattle.std.specs.Prelude.{◌≡◌, ◌≢◌, ℕ, ℤ, ◌<◌, ◌≤◌, ◌+◌, ◌*◌, ◌^◌, ◌++◌, ◌∷◌, [], ◌⊎◌, List, length, slice_index_or, Some, None, IsSome, IfSome, IfOk};
+ghost use Rattle.cell_core.specs.Grid.{Grid};
+ghost use Rattle.cell_cats_areas.specs.declared.clump.Joining.{Joining};
+ghost use Rattle.cell_cats_areas.specs.declared.clump.Joining.TheVariants.{Edges, EdgesAndCorners};
+ghost use Rattle.cell_cats_areas.specs.Areas.{Position, cell_at_spot};
+ghost use Rattle.cell_cats_areas.specs.parts.Labels.{PointDown};
+ghost use Rattle.cell_cats_areas.specs.parts.CellPlaces.{position};
+ghost use Rattle.cell_cats_areas.specs.parts.AreasRead.{AreInside, AreNear, AreRowsRead, HasRead, Shares, area_label_at, near_at};
+ghost use Rattle.cell_cats_areas.specs.parts.Starts.{IsEarlier, IsAbove, IsLeft};
+
+use crate::clump::Joining;
+use crate::labels::join_labels;
+use cell_core::cell::Cell;
+use cell_core::memory::Memory;
+
+// A cell, and its label or its number.
+#[derive(Clone, Copy)]
+pub(crate) struct Labelled {
+    pub(crate) cell: Cell,
+    pub(crate) label: u32,
+}
+
+// What stands where the map ends.
+pub(crate) fn outside() -> Labelled
+    ensures { result.cell ≡ None }
+{
+    Labelled {
+        cell: Cell::null(),
+        label: 0,
+    }
+}
+
+// The neighbours of a cell that come before it, null where the map ends.
+#[derive(Clone, Copy)]
+pub(crate) struct Near {
+    pub(crate) left: Labelled,
+    pub(crate) upper_left: Labelled,
+    pub(crate) above: Labelled,
+    pub(crate) upper_right: Labelled,
+}
+
+impl Near {
+    // The neighbours before the first cell of a row: nothing stands there.
+    #[inline(always)]
+    pub(crate) fn at_the_edge() -> Near
+        ensures left { result.left.cell ≡ None }
+        ensures above { result.above.cell ≡ None }
+    {
+        Near {
+            left: outside(),
+            upper_left: outside(),
+            above: outside(),
+            upper_right: outside(),
+        }
+    }
+
+    // The neighbours of the cell at a column, of those in hand at the one before it, which itself stands on the left by now,
+    // and of the line.
+    #[inline(always)]
+    pub(crate) fn moved(self, line: &[Labelled], col: usize) -> Near
+        requires { col + 1 < length line.now }
+        ensures { result ≡ near_at line.now col self }
+    {
+        Near {
+            left: self.left,
+            upper_left: self.above,
+            // Part by part: copied whole, its two parts are read as one number, which costs a shift at each cell.
+            above: Labelled {
+                cell: line[col].cell,
+                label: line[col].label,
+            },
+            upper_right: line[col + 1],
+        }
+    }
+}
+
+// The label that a cell shares with a neighbour on an edge, if there is one. If there are two and no other cell has joined
+// them, their labels are joined.
+fn shared_by_edges(table: &mut [u32], cell: Cell, near: &Near) -> Option<u32>
+    requires some { IsSome cell }
+    requires down { PointDown table.old }
+    requires inside { AreInside (length table.old) near.now }
+    ensures down { PointDown table.new }
+    ensures kept { result ≡ None → table.new ≡ table.old }
+    ensures shares { IfSome result (λ label. (m : Grid) (r c : ℕ) (v : ℤ) (labels : List ℕ) (open_of : ℕ → ℕ) → cell ≡ Some v → cell_at_spot m (position r c) ≡ Some v → AreNear m (length labels) (area_label_at m labels) r c near.now →
+        AreRowsRead Edges m table.old labels open_of → Shares Edges m table.new labels open_of r c v label) }
+    ensures none { result ≡ None → (m : Grid) (r c : ℕ) (v : ℤ) (count : ℕ) (label_of : Position → ℕ) → cell ≡ Some v → AreNear m count label_of r c near.now →
+        (q : Position) → IsEarlier Edges r c q → cell_at_spot m q ≡ Some v → ⊥ }
+{
+    if near.left.cell != cell {
+        return if near.above.cell == cell {
+            Some(near.above.label)
+        } else {
+            None
+        };
+    }
+    if near.above.cell == cell && near.upper_left.cell != cell {
+        join_labels(table, near.above.label, near.left.label);
+    }
+    Some(near.left.label)
+}
+
+// The label that a cell shares with a neighbour on an edge or at a corner, if there is one. If there are two that no other
+// cell has joined, their labels are joined. The one above touches each of the others.
+fn shared_by_corners(table: &mut [u32], cell: Cell, near: &Near) -> Option<u32>
+    requires some { IsSome cell }
+    requires down { PointDown table.old }
+    requires inside { AreInside (length table.old) near.now }
+    ensures down { PointDown table.new }
+    ensures kept { result ≡ None → table.new ≡ table.old }
+    ensures shares { IfSome result (λ label. (m : Grid) (r c : ℕ) (v : ℤ) (labels : List ℕ) (open_of : ℕ → ℕ) → cell ≡ Some v → cell_at_spot m (position r c) ≡ Some v → AreNear m (length labels) (area_label_at m labels) r c near.now →
+        AreRowsRead EdgesAndCorners m table.old labels open_of → Shares EdgesAndCorners m table.new labels open_of r c v label) }
+    ensures none { result ≡ None → (m : Grid) (r c : ℕ) (v : ℤ) (count : ℕ) (label_of : Position → ℕ) → cell ≡ Some v → AreNear m count label_of r c near.now →
+        (q : Position) → IsEarlier EdgesAndCorners r c q → cell_at_spot m q ≡ Some v → ⊥ }
+{
+    if near.above.cell == cell {
+        return Some(near.above.label);
+    }
+    if near.left.cell != cell {
+        return shared_at_corners(table, cell, near);
+    }
+    if near.upper_right.cell == cell {
+        join_labels(table, near.upper_right.label, near.left.label);
+    }
+    Some(near.left.label)
+}
+
+// The label that a cell shares with a neighbour at a corner, if there is one. If there are two, their labels are joined.
+fn shared_at_corners(table: &mut [u32], cell: Cell, near: &Near) -> Option<u32>
+    requires some { IsSome cell }
+    requires down { PointDown table.old }
+    requires inside { AreInside (length table.old) near.now }
+    ensures down { PointDown table.new }
+    ensures kept { result ≡ None → table.new ≡ table.old }
+    ensures shares { IfSome result (λ label. (m : Grid) (r c : ℕ) (v : ℤ) (labels : List ℕ) (open_of : ℕ → ℕ) → cell ≡ Some v → cell_at_spot m (position r c) ≡ Some v → AreNear m (length labels) (area_label_at m labels) r c near.now →
+        ((q : Position) → IsLeft r c q ⊎ IsAbove r c q → cell_at_spot m q ≡ Some v → ⊥) → AreRowsRead EdgesAndCorners m table.old labels open_of → Shares EdgesAndCorners m table.new labels open_of r c v label) }
+    ensures none { result ≡ None → (near.now.upper_left.cell ≢ cell) × (near.now.upper_right.cell ≢ cell) }
+{
+    if near.upper_left.cell != cell {
+        return if near.upper_right.cell == cell {
+            Some(near.upper_right.label)
+        } else {
+            None
+        };
+    }
+    if near.upper_right.cell == cell && near.upper_right.label != near.upper_left.label {
+        join_labels(table, near.upper_right.label, near.upper_left.label);
+    }
+    Some(near.upper_left.label)
+}
+
+// The label that a cell shares with its neighbours, if it does.
+fn shared_label(table: &mut [u32], joining: Joining, cell: Cell, near: &Near) -> Option<u32>
+    requires some { IsSome cell }
+    requires down { PointDown table.old }
+    requires inside { AreInside (length table.old) near.now }
+    ensures down { PointDown table.new }
+    ensures kept { result ≡ None → table.new ≡ table.old }
+    ensures shares { IfSome result (λ label. (m : Grid) (r c : ℕ) (v : ℤ) (labels : List ℕ) (open_of : ℕ → ℕ) → cell ≡ Some v → cell_at_spot m (position r c) ≡ Some v → AreNear m (length labels) (area_label_at m labels) r c near.now →
+        AreRowsRead joining m table.old labels open_of → Shares joining m table.new labels open_of r c v label) }
+    ensures none { result ≡ None → (m : Grid) (r c : ℕ) (v : ℤ) (count : ℕ) (label_of : Position → ℕ) → cell ≡ Some v → AreNear m count label_of r c near.now →
+        (q : Position) → IsEarlier joining r c q → cell_at_spot m q ≡ Some v → ⊥ }
+{
+    match joining {
+        Joining::Edges => shared_by_edges(table, cell, near),
+        Joining::EdgesAndCorners => shared_by_corners(table, cell, near),
+    }
+}
+
+// The label of a cell: one that it shares with its neighbours, or else the next one. Null has none.
+pub(crate) fn label_cell(
+    table: &mut Vec<u32>,
+    joining: Joining,
+    cell: Cell,
+    near: &Near,
+) -> Result<u32, Memory>
+    requires down { PointDown table.old.items }
+    requires inside { AreInside (length table.old.items) near.now }
+    requires short { length table.old.items < 2 ^ 31 }
+    ensures down { IfOk result (λ label. PointDown table.new.items) }
+    ensures long { IfOk result (λ label. length table.new.items ≤ length table.old.items + 1) }
+    ensures read { IfOk result (λ label. (m : Grid) (r c : ℕ) (labels : List ℕ) → cell ≡ cell_at_spot m (position r c) → c < m.region.cols → length labels ≡ r * m.region.cols + c → AreNear m (length labels) (area_label_at m labels) r c near.now →
+        HasRead joining m table.old.items labels → HasRead joining m table.new.items (labels ++ label ∷ [])) }
+{
+    if !cell.get().is_some() {
+        return Ok(0);
+    }
+    if let Some(label) = shared_label(table.as_mut_slice(), joining, cell, near) {
+        return Ok(label);
+    }
+    let label = table.len() as u32;
+    table.push(label)?;
+    Ok(label)
+}
+
+// The label or number of a neighbour of a cell's category, if there is one. Null is taken for a category.
+pub(crate) fn known_label(joining: Joining, cell: Cell, near: &Near) -> Option<u32>
+    ensures some { IfSome result (λ label. (m : Grid) (r c : ℕ) (v : ℤ) (count : ℕ) (label_of : Position → ℕ) → cell ≡ Some v → AreNear m count label_of r c near.now →
+        (q : Position) × IsEarlier joining r c q × (cell_at_spot m q ≡ Some v) × (label ≡ label_of q)) }
+    ensures none { result ≡ None → (m : Grid) (r c : ℕ) (v : ℤ) (count : ℕ) (label_of : Position → ℕ) → cell ≡ Some v → AreNear m count label_of r c near.now →
+        (q : Position) → IsEarlier joining r c q → cell_at_spot m q ≡ Some v → ⊥ }
+{
+    if near.left.cell == cell {
+        return Some(near.left.label);
+    }
+    if near.above.cell == cell {
+        return Some(near.above.label);
+    }
+    if let Joining::EdgesAndCorners = joining {
+        if near.upper_left.cell == cell {
+            return Some(near.upper_left.label);
+        }
+        if near.upper_right.cell == cell {
+            return Some(near.upper_right.label);
+        }
+    }
+    None
+}

@@ -1,0 +1,48 @@
+//! The areas of maps that are given as lists of categories.
+
+ghost use Rattle.std.specs.Prelude.{◌<◌};
+
+use cell_cats_areas::clump::{Joining, clump, clump_with};
+use cell_core::map::CellMap;
+use cell_core_test_maps::maps::{categories_of, map_of};
+use std::alloc::AllocGlobal;
+use std::process::Abort;
+use std::test::Fail;
+
+// The map has the region of another, and the wanted numbers.
+fn expect_map<R: Abort + AllocGlobal>(
+    rt: &R,
+    clumps: &CellMap,
+    map: &CellMap,
+    wanted: &[i32],
+) -> Result<(), Fail> {
+    assert!(rt; clumps.region() == map.region());
+    let numbers = categories_of(rt.alloc(), clumps)?;
+    let of = categories_of(rt.alloc(), map)?;
+    assert_eq!(rt;
+        numbers.as_slice(),
+        wanted,
+        "the areas of {of:?}, row by row"
+    );
+    Ok(())
+}
+
+/// The numbers of the areas of a map of these categories are the wanted ones; by edges, those of `clump` are the same.
+pub(crate) fn expect_numbers<R: Abort + AllocGlobal>(
+    rt: &R,
+    categories: &[i32],
+    cols: u32,
+    joining: Joining,
+    wanted: &[i32],
+) -> Result<(), Fail>
+    requires { 0 < cols }
+{
+    let map = map_of(rt.alloc(), categories, cols)?.ok_or("no map")?;
+    let clumps = clump_with(rt.alloc(), &map, joining)?;
+    expect_map(rt, &clumps, &map, wanted)?;
+    if let Joining::Edges = joining {
+        let by_edges = clump(rt.alloc(), &map)?;
+        expect_map(rt, &by_edges, &map, wanted)?;
+    }
+    Ok(())
+}

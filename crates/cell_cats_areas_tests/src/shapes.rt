@@ -1,0 +1,80 @@
+//! Shapes whose labels are joined late, and wide rows.
+
+ghost use Rattle.std.specs.Prelude.{◌<◌};
+
+use crate::maps::expect_numbers;
+use cell_cats_areas::clump::Joining;
+use std::alloc::Global;
+use std::test::Fail;
+
+const WIDEST: u32 = 65535;
+
+// A row of teeth over one bar: its categories, and the numbers of its areas.
+fn comb(alloc: Global, rows: u32, cols: u32) -> Result<(Vec<i32>, Vec<i32>), Fail>
+    requires { cols < 64 }
+{
+    let (mut categories, mut numbers) = (Vec::new(alloc), Vec::new(alloc));
+    for r in 0..rows {
+        for c in 0..cols {
+            let is_gap = r < rows - 1 && c % 2 == 1;
+            categories.push(if is_gap { 2 } else { 1 })?;
+            numbers.push(if is_gap { 1 + (c as i32 + 1) / 2 } else { 1 })?;
+        }
+    }
+    Ok((categories, numbers))
+}
+
+#[test]
+fn combs(rt: HostRuntime) -> Result<(), Fail> {
+    for half in 0..32 {
+        for rows in 2..9 {
+            let cols = 2 * half + 1;
+            let (categories, numbers) = comb(rt.alloc(), rows, cols)?;
+            expect_numbers(&rt, &categories, cols, Joining::Edges, &numbers)?;
+            expect_numbers(&rt, &categories, cols, Joining::EdgesAndCorners, &numbers)?;
+        }
+    }
+    Ok(())
+}
+
+#[test]
+fn checkerboards(rt: HostRuntime) -> Result<(), Fail> {
+    for rows in 2..12 {
+        for cols in 2..12 {
+            let (mut categories, mut places) = (Vec::new(rt.alloc()), Vec::new(rt.alloc()));
+            for r in 0..rows {
+                for c in 0..cols {
+                    categories.push(if (r + c) % 2 == 0 { 1 } else { 2 })?;
+                    places.push((r * cols + c + 1) as i32)?;
+                }
+            }
+            expect_numbers(&rt, &categories, cols, Joining::Edges, &places)?;
+            expect_numbers(
+                &rt,
+                &categories,
+                cols,
+                Joining::EdgesAndCorners,
+                &categories,
+            )?;
+        }
+    }
+    Ok(())
+}
+
+#[test]
+fn widest_rows(rt: HostRuntime) -> Result<(), Fail> {
+    let (mut turns, mut places) = (Vec::new(rt.alloc()), Vec::new(rt.alloc()));
+    let (mut alike, mut ones) = (Vec::new(rt.alloc()), Vec::new(rt.alloc()));
+    for c in 0..WIDEST {
+        turns.push(if c % 2 == 0 { 1 } else { 2 })?;
+        places.push(c as i32 + 1)?;
+        alike.push(7)?;
+        ones.push(1)?;
+    }
+    for joining in [Joining::Edges, Joining::EdgesAndCorners] {
+        expect_numbers(&rt, &turns, WIDEST, joining, &places)?;
+        expect_numbers(&rt, &turns, 1, joining, &places)?;
+        expect_numbers(&rt, &alike, WIDEST, joining, &ones)?;
+    }
+    Ok(())
+}

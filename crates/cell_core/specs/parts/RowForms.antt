@@ -1,0 +1,67 @@
+-- How a row is kept, as its runs or as its cells, and the runs that are still to come from either.
+use Rattle.std.specs.Prelude.{ℕ, suc, ◌+◌, ◌<◌, ◌^◌, Bool, not, ◌==◌, List, [], ◌∷◌, map, length, drop, if◌then◌else◌}
+use lib.Lanes.{mask_l}
+use Rattle.cell_core_values.specs.Cell.{cell_eq}
+use Rattle.cell_core.specs.Grid.{CellValue}
+use Rattle.cell_core.specs.Runs.{RunValue, AreRuns, written_out}
+use Rattle.cell_core.specs.declared.row.Kept.{Kept}
+use Rattle.cell_core.specs.declared.row.Kept.TheVariants as kept
+use Rattle.cell_core.specs.declared.runs.Rest.{Rest}
+use Rattle.cell_core.specs.declared.runs.Rest.TheVariants as rest
+
+-- the cells that are kept
+abbrev pub cells_of_row : Kept → List CellValue
+cells_of_row (kept.Runs runs) = written_out runs.items
+cells_of_row (kept.Cells cells) = cells.items
+
+-- what is kept as runs are runs, and cells are no more than a run may have
+abbrev pub IsKept : Kept → Type 0
+IsKept (kept.Runs runs) = AreRuns runs.items
+IsKept (kept.Cells cells) = length cells.items < 2 ^ 32
+
+-- how many cells at the start equal a cell
+abbrev pub alike : CellValue → List CellValue → ℕ
+alike x [] = 0
+alike x (y ∷ cells) = if cell_eq y x then suc (alike x cells) else 0
+
+-- the runs with a cell before them
+abbrev pub with_cell : CellValue → List RunValue → List RunValue
+with_cell x [] = (x, 1) ∷ []
+with_cell x (run ∷ runs) = if cell_eq run.0 x then (x, run.1 + 1) ∷ runs else (x, 1) ∷ run ∷ runs
+
+-- the runs of cells
+abbrev pub runs_in : List CellValue → List RunValue
+runs_in [] = []
+runs_in (x ∷ cells) = with_cell x (runs_in cells)
+
+-- the runs of cells behind a run that may go on in them
+abbrev pub runs_from : RunValue → List CellValue → List RunValue
+runs_from run cells = (run.0, run.1 + alike run.0 cells) ∷ runs_in (drop (alike run.0 cells) cells)
+
+-- whether each of some cells differs from the one before it, the first from x
+abbrev pub marks : CellValue → List CellValue → List Bool
+marks x [] = []
+marks x (y ∷ cells) = not (cell_eq y x) ∷ marks y cells
+
+-- the same as bits, from the lowest on
+abbrev pub mark_bits : CellValue → List CellValue → ℕ
+mark_bits x cells = mask_l (marks x cells)
+
+-- which bytes are not 0, as bits
+abbrev pub flag_bits : List ℕ → ℕ
+flag_bits flags = mask_l (map (λ f. not (f == 0)) flags)
+
+-- how many runs begin after a cell
+abbrev pub breaks : CellValue → List CellValue → ℕ
+breaks x [] = 0
+breaks x (y ∷ cells) = if cell_eq y x then breaks y cells else suc (breaks y cells)
+
+-- the runs still to come
+abbrev pub runs_left : Rest → List RunValue
+runs_left (rest.Runs runs) = runs.now
+runs_left (rest.Cells cells) = runs_in cells.now
+
+-- cells are no more than a run may have
+abbrev pub IsShort : Rest → Type 0
+IsShort (rest.Runs runs) = Unit {0}
+IsShort (rest.Cells cells) = length cells.now < 2 ^ 32

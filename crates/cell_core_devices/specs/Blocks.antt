@@ -1,0 +1,52 @@
+-- Output that is gathered in a block before a sink takes it. The block remembers that the sink refused a put.
+use Rattle.std.specs.Prelude.{ℕ, ◌≡◌, ◌+◌, ◌-◌, ◌^◌, ◌<◌, Bool, true, false, List, [], ◌++◌, length, min, Option, Result, Ok, Err}
+use Rattle.cell_core_devices.specs.Device.{Faults, after_put, append_known}
+use Rattle.cell_core_devices.specs.declared.sink.WriteFault.{WriteFault}
+
+-- how many bytes a block holds at most
+abbrev pub room : ℕ
+room = 4096
+
+-- a number of bytes, or the greatest number of 64 bits where there are more
+abbrev pub capped_count : ℕ → ℕ
+capped_count n = min n (2 ^ 64 - 1)
+
+-- the bytes that a block holds, how many the sink took, and whether it refused a put
+pub record BlockValue : Type 0 where
+  pub held : List ℕ
+  pub written : ℕ
+  pub failed : Bool
+
+-- nothing was written through it
+abbrev pub empty_block : BlockValue
+empty_block = record { held = []; written = 0; failed = false }
+
+-- the block holds the rest of a text; or the sink refused a put, and some of the text is lost
+abbrev pub IsRest : Bool → List ℕ → List ℕ → Type 0
+IsRest false held rest = held ≡ rest
+IsRest true held rest = 0 < length rest
+
+-- a text was appended: since it had taken `before`, with the faults `start`, the sink took a prefix of the text, and the
+-- block holds the rest or has failed
+pub record Appended (before : Option (List ℕ)) (start : Faults) (text : List ℕ) (now : Option (List ℕ)) (faults : Faults) (block : BlockValue) : Type 0 where
+  pub front : List ℕ
+  pub rest : List ℕ
+  pub whole : front ++ rest ≡ text
+  pub taken : now ≡ append_known before front
+  pub count : block.written ≡ capped_count (length front)
+  pub fails : faults ≡ after_put start block.failed
+  pub held : IsRest block.failed block.held rest
+
+-- whatever was appended before is followed by the text
+pub record Appends {S : Type 0} (taken : S → Option (List ℕ)) (faults : S → Faults) (old : S) (block : BlockValue) (text : List ℕ) (now : S) (new : BlockValue) : Type 0 where
+  pub adds : (before : Option (List ℕ)) (start : Faults) (all : List ℕ) → Appended before start all (taken old) (faults old) block → Appended before start (all ++ text) (taken now) (faults now) new
+
+-- a block of whose bytes all were put, or the first of them until a put was refused
+abbrev pub settled : BlockValue → Result Unit WriteFault → ℕ → BlockValue
+settled block (Ok done) all = record { held = []; written = capped_count (block.written + all); failed = false }
+settled block (Err fault) all = record { held = []; written = capped_count (block.written + fault.written); failed = true }
+
+-- the fault of a block, if it failed
+abbrev pub fault_if : Bool → ℕ → Result Unit WriteFault
+fault_if false written = Ok tt
+fault_if true written = Err (record { written = written })

@@ -1,0 +1,84 @@
+-- What is known of a source and of a sink, and what a call does to it.
+use Rattle.std.specs.Prelude.{ℕ, min, ◌≡◌, ◌≤◌, ◌++◌, ◌||◌, Bool, false, true, List, [], length, take, drop, Option, Some, None, Result, MatchResult}
+use Rattle.cell_core_devices.specs.declared.source.Asked.{Asked}
+
+-- the bytes to come, and whether the source then fails
+pub record Coming : Type 0 where
+  pub bytes : List ℕ
+  pub fails : Bool
+
+-- what is left after n bytes
+abbrev pub after_bytes : Coming → ℕ → Coming
+after_bytes c n = record { bytes = drop n c.bytes; fails = c.fails }
+
+-- the first n bytes of the buffer are the next n; none only at the end of a source that does not fail
+pub record Gives (c : Coming) (new : Option Coming) (n : ℕ) (buf : List ℕ) : Type 0 where
+  pub count : n ≤ length c.bytes
+  pub bytes : take n buf ≡ take n c.bytes
+  pub rest : new ≡ Some (after_bytes c n)
+  pub end : n ≡ 0 → c.bytes ≡ []
+  pub ends : n ≡ 0 → c.fails ≡ false
+
+-- nothing is left of a source that fails
+pub record FailsNow (c : Coming) (new : Option Coming) : Type 0 where
+  pub none : c.bytes ≡ []
+  pub fails : c.fails ≡ true
+  pub rest : new ≡ Some c
+
+-- what a call of take does: an unknown source stays unknown
+abbrev pub Takes : {E : Type 0} → Option Coming → Option Coming → Result ℕ E → List ℕ → Type 0
+Takes None new r buf = new ≡ None
+Takes (Some c) new r buf = MatchResult r (λ n. Gives c new n buf) (λ _. FailsNow c new)
+
+-- known bytes grow
+abbrev pub append_known : Option (List ℕ) → List ℕ → Option (List ℕ)
+append_known None bs = None
+append_known (Some xs) bs = Some (xs ++ bs)
+
+-- which calls a sink has answered with an `Err`: whether a put, and whether a flush
+pub record Faults : Type 0 where
+  pub refused : Bool
+  pub unflushed : Bool
+
+-- none
+abbrev pub no_faults : Faults
+no_faults = record { refused = false; unflushed = false }
+
+-- after puts of which one failed, or none
+abbrev pub after_put : Faults → Bool → Faults
+after_put faults false = faults
+after_put faults true = record { refused = true; unflushed = faults.unflushed }
+
+-- after a flush that failed, or did not
+abbrev pub after_flush : Faults → Bool → Faults
+after_flush faults false = faults
+after_flush faults true = record { refused = faults.refused; unflushed = true }
+
+-- whether any call failed
+abbrev pub has_failed : Faults → Bool
+has_failed faults = faults.refused || faults.unflushed
+
+-- a sink over memory: the bytes that it took, which calls failed, the room that is left,
+-- the most bytes that one call moves, and whether a flush fails
+pub record Taken : Type 0 where
+  pub bytes : List ℕ
+  pub faults : Faults
+  pub room : ℕ
+  pub piece : ℕ
+  pub flush_fails : Bool
+
+-- a source over memory: its bytes to come, whether it then fails, the most bytes that one call moves, and how far it
+-- was asked
+pub record Stored : Type 0 where
+  pub bytes : List ℕ
+  pub fails : Bool
+  pub piece : ℕ
+  pub asked : Asked
+
+-- what is to come of it
+abbrev pub stored_coming : Stored → Coming
+stored_coming s = record { bytes = s.bytes; fails = s.fails }
+
+-- how many bytes a call moves: as many as there are, at most a piece and at most the room for them
+abbrev pub moved_count : ℕ → ℕ → ℕ → ℕ
+moved_count there piece room = min (min there piece) room

@@ -1,0 +1,171 @@
+//! Output gathered in a block, so that each put carries a few KiB. The block remembers a refused put, so that those who write
+//! through it ask for the fault once.
+
+ghost use Rattle.std.specs.Prelude.{◌≡◌, ℕ, ◌+◌, ◌≤◌, List, [], ◌++◌, length, take, Option, false};
+ghost use Rattle.cell_core_devices.specs.Device.{Faults};
+ghost use Rattle.cell_core_devices.specs.Blocks.{BlockValue, room, Appended, Appends, empty_block, settled, fault_if};
+
+use crate::sink::{Sink, WriteFault, put_bytes};
+use std::marker::Model;
+
+// The number of bytes that a block holds at most.
+const ROOM: usize = 4096;
+
+/// Bytes held until they fill a block, the number of bytes that the sink took, and whether it refused a put.
+///
+/// It takes no memory. After a refused put nothing more is put.
+#[derive(Drop)]
+pub struct Block {
+    bytes: [u8; ROOM],
+    len: usize,
+    written: u64,
+    failed: bool,
+}
+
+impl Model for Block {
+    ghost use Rattle.std.specs.Prelude.{◌≤◌, take};
+    ghost use Rattle.cell_core_devices.specs.Blocks.{BlockValue, room};
+
+    ghost Value = { BlockValue };
+
+    ghost view = { λ block. record { held = take block.len block.bytes; written = block.written; failed = block.failed } };
+
+    ghost invariant = { λ block. block.len ≤ room };
+}
+
+impl Block {
+    /// A block through which nothing was written.
+    pub fn new() -> Block
+        ensures value { result ≡ empty_block }
+        ensures nothing { (before : Option (List ℕ)) (start : Faults) → Appended before start [] before start result }
+    {
+        Block {
+            bytes: [0; ROOM],
+            len: 0,
+            written: 0,
+            failed: false,
+        }
+    }
+
+    /// The number of bytes that the sink took, or the greatest `u64` where it took more.
+    pub fn written(&self) -> u64
+        ensures { result ≡ self.now.written }
+    {
+        self.written
+    }
+
+    /// Whether the sink refused a put.
+    pub fn has_failed(&self) -> bool
+        ensures { result ≡ self.now.failed }
+    {
+        self.failed
+    }
+
+    /// Whether all went well.
+    ///
+    /// # Errors
+    ///
+    /// `WriteFault` with the number of bytes that the sink took in all, where it refused a put.
+    pub fn outcome(&self) -> Result<(), WriteFault>
+        ensures { result ≡ fault_if self.now.failed self.now.written }
+    {
+        if self.has_failed() {
+            return Err(WriteFault {
+                written: self.written(),
+            });
+        }
+        Ok(())
+    }
+
+    // The number of bytes held.
+    fn len(&self) -> usize
+        ensures value { result ≡ length self.now.held }
+        ensures within { result ≤ room }
+    {
+        self.len
+    }
+
+    // The bytes held.
+    fn bytes(&self) -> &[u8]
+        ensures { result.now ≡ self.now.held }
+    {
+        &self.bytes[..self.len]
+    }
+
+    // Holds the bytes.
+    fn keep(&mut self, bytes: &[u8])
+        requires { length self.old.held + length bytes.now ≤ room }
+        ensures { self.new ≡ record { held = self.old.held ++ bytes.now; written = self.old.written; failed = self.old.failed } }
+    {
+        let end = self.len + bytes.len();
+        self.bytes[self.len..end].copy_from_slice(bytes);
+        self.len = end;
+    }
+
+    // Holds nothing, after so many bytes were put or a put was refused.
+    fn settle(&mut self, put: Result<(), WriteFault>, all: u64)
+        requires { self.old.failed ≡ false }
+        ensures { self.new ≡ settled self.old put all }
+    {
+        let taken = match put {
+            Ok(()) => all,
+            Err(fault) => {
+                self.failed = true;
+                fault.written
+            }
+        };
+        self.written = self.written.saturating_add(taken);
+        self.len = 0;
+    }
+
+    /// Puts what is held on the sink, unless it refused a put.
+    pub fn empty<W: Sink>(&mut self, out: &mut W)
+        ensures appends { Appends W.taken W.faults out.old self.old [] out.new self.new }
+        ensures held { self.new.failed ≡ false → self.new.held ≡ [] }
+    {
+        if self.has_failed() {
+            return;
+        }
+        let all = self.len() as u64;
+        let put = put_bytes(out, self.bytes());
+        self.settle(put, all);
+    }
+
+    // Puts the bytes on the sink, past the block, which holds nothing.
+    fn put_long<W: Sink>(&mut self, out: &mut W, bytes: &[u8])
+        requires failed { self.old.failed ≡ false }
+        requires held { self.old.held ≡ [] }
+        ensures { Appends W.taken W.faults out.old self.old bytes.now out.new self.new }
+    {
+        let put = put_bytes(out, bytes);
+        self.settle(put, bytes.len() as u64);
+    }
+
+    // Puts what is held on the sink, and then gathers the bytes, or puts them too where they are more than a block holds.
+    #[cold]
+    fn push_past<W: Sink>(&mut self, out: &mut W, bytes: &[u8])
+        ensures { Appends W.taken W.faults out.old self.old bytes.now out.new self.new }
+    {
+        self.empty(out);
+        if self.has_failed() {
+            return;
+        }
+        if bytes.len() > ROOM {
+            self.put_long(out, bytes);
+            return;
+        }
+        self.keep(bytes);
+    }
+
+    /// Gathers the bytes, of any number, and puts on the sink what does not fit the block, unless it refused a put.
+    #[inline]
+    pub fn push<W: Sink>(&mut self, out: &mut W, bytes: &[u8])
+        ensures { Appends W.taken W.faults out.old self.old bytes.now out.new self.new }
+    {
+        if bytes.len() > ROOM - self.len() {
+            self.push_past(out, bytes);
+            return;
+        }
+        self.keep(bytes);
+    }
+}

@@ -1,0 +1,234 @@
+//! Where bytes go: a trait, a loop over it, a sink over std's writers and one over memory.
+
+ghost use Rattle.std.specs.Prelude.{◌≡◌, ℕ, ◌+◌, ◌<◌, ◌≤◌, List, [], ◌++◌, length, take, Option, None, IfOk, OnOk, IfErr, OnErr, MatchResult, is_err, true, ◌-◌};
+ghost use Rattle.cell_core_devices.specs.Device.{append_known, Faults, no_faults, after_put, after_flush, Taken, moved_count};
+
+use crate::device::DeviceFault;
+use std::io::Write;
+use std::marker::Model;
+
+/// Where bytes go.
+pub trait Sink {
+    /// The bytes taken, where they are known; None where they are not.
+    ghost taken: { Self → Option (List ℕ) };
+
+    /// Which of its calls returned an `Err`: whether a put, and whether a flush.
+    ghost faults: { Self → Faults };
+
+    /// Takes the first bytes of a slice that is not empty, and returns how many: 1 or more.
+    ///
+    /// # Errors
+    ///
+    /// [`DeviceFault`] where it takes none. It has refused a put from then on.
+    fn put(&mut self, bytes: &[u8]) -> Result<usize, DeviceFault>
+        requires { 0 < length bytes.now }
+        ensures count { IfOk result (λ n. (0 < n) × (n ≤ length bytes.now)) }
+        ensures ok { IfOk result (λ n. taken self.new ≡ append_known (taken self.old) (take n bytes.now)) }
+        ensures err { OnErr result (taken self.new ≡ taken self.old) }
+        ensures faults { faults self.new ≡ after_put (faults self.old) (is_err result) };
+
+    /// Hands on what it holds back. It takes no bytes.
+    ///
+    /// # Errors
+    ///
+    /// [`DeviceFault`] where that fails. It has failed to flush from then on.
+    fn flush(&mut self) -> Result<(), DeviceFault>
+        ensures taken { taken self.new ≡ taken self.old }
+        ensures faults { faults self.new ≡ after_flush (faults self.old) (is_err result) };
+}
+
+/// How many bytes went out before the sink failed.
+#[derive(Clone, Copy, Debug, PartialEq, Eq)]
+pub struct WriteFault {
+    /// The number of bytes that the sink took: of the slice or the text that was put, or, where a block gathers the
+    /// output, of all that was put through the block.
+    pub written: u64,
+}
+
+/// Puts all the bytes of a slice. An empty one makes no call.
+///
+/// # Errors
+///
+/// [`WriteFault`] where the sink fails: exactly the first `written` bytes went out.
+pub fn put_bytes<W: Sink>(out: &mut W, bytes: &[u8]) -> Result<(), WriteFault>
+    ensures ok { OnOk result (W.taken out.new ≡ append_known (W.taken out.old) bytes.now) }
+    ensures within { IfErr result (λ fault. fault.written < length bytes.now) }
+    ensures err { IfErr result (λ fault. W.taken out.new ≡ append_known (W.taken out.old) (take fault.written bytes.now)) }
+    ensures faults { W.faults out.new ≡ after_put (W.faults out.old) (is_err result) }
+    ensures empty { bytes.now ≡ [] → out.new ≡ out.old }
+{
+    let mut at = 0;
+    while at < bytes.len() {
+        match out.put(&bytes[at..]) {
+            Ok(n) => at += n,
+            Err(_) => return Err(WriteFault { written: at as u64 }),
+        }
+    }
+    Ok(())
+}
+
+/// A sink over std's writers. Nothing is known of its bytes. Each `Err` of the writer, of whatever
+/// kind, is returned as [`DeviceFault`], and so is a write of 0 bytes.
+#[derive(Debug, Drop)]
+pub struct WriteSink<W> {
+    writer: W,
+    refused: bool,
+    unflushed: bool,
+}
+
+impl<W> Model for WriteSink<W> {
+    ghost use Rattle.cell_core_devices.specs.Device.{Faults};
+
+    ghost Value = { W × Faults };
+
+    ghost view = { λ s. (s.writer, record { refused = s.refused; unflushed = s.unflushed }) };
+}
+
+impl<W: Write + Drop> WriteSink<W> {
+    /// A sink that hands its bytes to the writer. Takes no memory.
+    pub fn new(writer: W) -> WriteSink<W>
+        ensures value { result ≡ (writer, no_faults) }
+        ensures taken { ⟦<WriteSink<W> as Sink>⟧.taken result ≡ None }
+        ensures faults { ⟦<WriteSink<W> as Sink>⟧.faults result ≡ no_faults }
+    {
+        WriteSink {
+            writer,
+            refused: false,
+            unflushed: false,
+        }
+    }
+}
+
+impl<W: Write> Sink for WriteSink<W> {
+    ghost use Rattle.std.specs.Prelude.{None, ◌≡◌, ◌<◌, ◌≤◌, length, IfOk, is_err};
+    ghost use Rattle.cell_core_devices.specs.Device.{after_put, after_flush};
+    ghost use Rattle.std.specs.Io.KnownBytes.{WriteAppends, Keeps};
+
+    ghost taken = { λ _. None };
+
+    ghost faults = { λ s. s.1 };
+
+    fn put(&mut self, bytes: &[u8]) -> Result<usize, DeviceFault>
+        requires { 0 < length bytes.now }
+        ensures count { IfOk result (λ n. (0 < n) × (n ≤ length bytes.now)) }
+        ensures faults { self.new.1 ≡ after_put self.old.1 (is_err result) }
+        // What the writer holds, where that is known, has grown by what was taken.
+        ensures written { WriteAppends (W.contents self.old.0) (W.contents self.new.0) result bytes.now }
+    {
+        match self.writer.write(bytes) {
+            Ok(0) | Err(_) => {
+                self.refused = true;
+                Err(DeviceFault)
+            }
+            Ok(n) => Ok(n),
+        }
+    }
+
+    fn flush(&mut self) -> Result<(), DeviceFault>
+        ensures faults { self.new.1 ≡ after_flush self.old.1 (is_err result) }
+        ensures written { Keeps (W.contents self.old.0) (W.contents self.new.0) }
+    {
+        match self.writer.flush() {
+            Ok(()) => Ok(()),
+            Err(_) => {
+                self.unflushed = true;
+                Err(DeviceFault)
+            }
+        }
+    }
+}
+
+/// A sink that writes over memory of a fixed size, and fails where it is full.
+#[derive(Debug, Drop)]
+pub struct MemorySink {
+    room: Vec<u8>,
+    at: usize,
+    piece: usize,
+    flush_fails: bool,
+    refused: bool,
+    unflushed: bool,
+}
+
+impl Model for MemorySink {
+    ghost use Rattle.std.specs.Prelude.{take, ◌<◌, ◌≤◌, ◌-◌, length};
+    ghost use Rattle.cell_core_devices.specs.Device.{Faults, Taken};
+
+    ghost Value = { Taken };
+
+    ghost view = { λ s. record { bytes = take s.at s.room.items; faults = record { refused = s.refused; unflushed = s.unflushed }; room = length s.room.items - s.at; piece = s.piece; flush_fails = s.flush_fails } };
+
+    ghost invariant = { λ s. (s.at ≤ length s.room.items) × (0 < s.piece) };
+}
+
+impl MemorySink {
+    /// A sink that writes over `room`, of whose bytes one call takes at most `piece`, and whose
+    /// flush fails or not. Takes no memory.
+    pub fn new(room: Vec<u8>, piece: usize, flush_fails: bool) -> MemorySink
+        requires { 0 < piece }
+        ensures { result ≡ record { bytes = []; faults = no_faults; room = length room.items; piece = piece; flush_fails = flush_fails } }
+    {
+        MemorySink {
+            room,
+            at: 0,
+            piece,
+            flush_fails,
+            refused: false,
+            unflushed: false,
+        }
+    }
+
+    /// The bytes that it took.
+    pub fn bytes(&self) -> &[u8]
+        ensures { result.now ≡ self.now.bytes }
+    {
+        &self.room[..self.at]
+    }
+}
+
+// Writes the bytes into the room from a place on.
+fn write_at(room: &mut [u8], at: usize, bytes: &[u8])
+    requires { at + length bytes.now ≤ length room.old }
+    ensures front { take (at + length bytes.now) room.new ≡ take at room.old ++ bytes.now }
+    ensures len { length room.new ≡ length room.old }
+{
+    room[at..at + bytes.len()].copy_from_slice(bytes);
+}
+
+impl Sink for MemorySink {
+    ghost use Rattle.std.specs.Prelude.{Some, ◌≡◌, ◌<◌, ◌≤◌, ◌-◌, ◌++◌, length, take, IfOk, OnErr, MatchResult, is_err, true};
+    ghost use Rattle.cell_core_devices.specs.Device.{after_put, after_flush, moved_count};
+
+    ghost taken = { λ s. Some s.bytes };
+
+    ghost faults = { λ s. s.faults };
+
+    fn put(&mut self, bytes: &[u8]) -> Result<usize, DeviceFault>
+        requires { 0 < length bytes.now }
+        ensures count { IfOk result (λ n. (0 < n) × (n ≤ length bytes.now)) }
+        ensures moved { IfOk result (λ n. n ≡ moved_count (length bytes.now) self.old.piece self.old.room) }
+        ensures full { OnErr result (self.old.room ≡ 0) }
+        ensures taken { MatchResult result
+            (λ n. self.new ≡ record self.old { bytes = self.old.bytes ++ take n bytes.now; room = self.old.room - n })
+            (λ _. self.new ≡ record self.old { faults = after_put self.old.faults true }) }
+    {
+        let n = bytes.len().min(self.piece).min(self.room.len() - self.at);
+        if n == 0 {
+            self.refused = true;
+            return Err(DeviceFault);
+        }
+        write_at(&mut self.room, self.at, &bytes[..n]);
+        self.at += n;
+        Ok(n)
+    }
+
+    fn flush(&mut self) -> Result<(), DeviceFault>
+        ensures fails { is_err result ≡ self.old.flush_fails }
+        ensures taken { self.new ≡ record self.old { faults = after_flush self.old.faults (is_err result) } }
+    {
+        if self.flush_fails {
+            self.unflushed = true;
+            return Err(DeviceFault);
+        }
+        Ok(())
+    }
+}

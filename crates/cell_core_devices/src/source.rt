@@ -1,0 +1,191 @@
+//! Where bytes come from: a trait, a source over std's readers and one over memory.
+
+ghost use Rattle.std.specs.Prelude.{◌≡◌, ◌<◌, ◌≤◌, Option, None, length, drop, IfOk, MatchResult};
+ghost use Rattle.cell_core_devices.specs.Asking.{after_take};
+ghost use Rattle.cell_core_devices.specs.Device.{Coming, Takes, Stored, moved_count};
+
+use crate::device::DeviceFault;
+use std::io::Read;
+use std::marker::Model;
+
+/// How far a source was asked.
+#[derive(Clone, Copy, Debug, PartialEq, Eq)]
+pub enum Asked {
+    /// Each call gave bytes, or there was none yet.
+    Going,
+    /// The last call told the end, and it was the first that gave no bytes.
+    Ended,
+    /// The last call returned an `Err`, and it was the first that gave no bytes.
+    Failed,
+    /// It was asked again after its end or an `Err`.
+    Again,
+}
+
+impl Asked {
+    /// How far it was asked after one more call, with this answer.
+    pub fn after(self, answer: Result<usize, DeviceFault>) -> Asked
+        ensures { result ≡ after_take self answer }
+    {
+        match (self, answer) {
+            (Asked::Going, Ok(0)) => Asked::Ended,
+            (Asked::Going, Ok(_)) => Asked::Going,
+            (Asked::Going, Err(_)) => Asked::Failed,
+            _ => Asked::Again,
+        }
+    }
+}
+
+/// Where bytes come from.
+pub trait Source {
+    ghost use Rattle.cell_core_devices.specs.declared.source.Asked.{Asked};
+
+    /// Where it is known, its bytes to come, and whether it then fails; None where it is unknown.
+    ghost coming: { Self → Option Coming };
+
+    /// How far it was asked: whether it has told its end or failed, and whether it was asked after that.
+    ghost asked: { Self → Asked };
+
+    /// Puts the next bytes at the start of a slice that is not empty, and returns how many: 0
+    /// only at the end.
+    ///
+    /// # Errors
+    ///
+    /// [`DeviceFault`] where the source fails.
+    fn take(&mut self, buf: &mut [u8]) -> Result<usize, DeviceFault>
+        requires { 0 < length buf.old }
+        ensures count { IfOk result (λ n. n ≤ length buf.new) }
+        ensures bytes { Takes (coming self.old) (coming self.new) result buf.new }
+        ensures asked { asked self.new ≡ after_take (asked self.old) result };
+}
+
+/// A source over std's readers. Nothing is known of its bytes, and each `Err` of the reader, of
+/// whatever kind, is returned as [`DeviceFault`].
+#[derive(Debug, Drop)]
+pub struct ReadSource<R> {
+    reader: R,
+    asked: Asked,
+}
+
+impl<R> Model for ReadSource<R> {
+    ghost use Rattle.cell_core_devices.specs.declared.source.Asked.{Asked};
+
+    ghost Value = { R × Asked };
+
+    ghost view = { λ s. (s.reader, s.asked) };
+}
+
+impl<R: Read + Drop> ReadSource<R> {
+    /// A source of the reader's bytes. Takes no memory.
+    pub fn new(reader: R) -> ReadSource<R>
+        ensures value { result ≡ (reader, Asked.Going) }
+        ensures coming { ⟦<ReadSource<R> as Source>⟧.coming result ≡ None }
+        ensures asked { ⟦<ReadSource<R> as Source>⟧.asked result ≡ Asked.Going }
+    {
+        ReadSource {
+            reader,
+            asked: Asked::Going,
+        }
+    }
+}
+
+impl<R: Read> Source for ReadSource<R> {
+    ghost use Rattle.std.specs.Prelude.{None, ◌≡◌, ◌<◌, ◌≤◌, length, IfOk};
+    ghost use Rattle.std.specs.Io.KnownBytes.{ReadConsumes};
+    ghost use Rattle.cell_core_devices.specs.Asking.{after_take};
+
+    ghost coming = { λ _. None };
+
+    ghost asked = { λ s. s.1 };
+
+    fn take(&mut self, buf: &mut [u8]) -> Result<usize, DeviceFault>
+        requires { 0 < length buf.old }
+        ensures count { IfOk result (λ n. n ≤ length buf.new) }
+        // What the reader has left, where that is known, has lost what was taken.
+        ensures read { ReadConsumes (R.remaining self.old.0) (R.remaining self.new.0) result buf.new }
+        ensures asked { self.new.1 ≡ after_take self.old.1 result }
+    {
+        match self.reader.read(buf) {
+            Ok(n) => {
+                self.asked = self.asked.after(Ok(n));
+                Ok(n)
+            }
+            Err(_) => {
+                self.asked = self.asked.after(Err(DeviceFault));
+                Err(DeviceFault)
+            }
+        }
+    }
+}
+
+/// A source of bytes in memory, which then ends or fails.
+#[derive(Debug, Drop)]
+pub struct MemorySource {
+    bytes: Vec<u8>,
+    at: usize,
+    piece: usize,
+    fails: bool,
+    asked: Asked,
+}
+
+impl Model for MemorySource {
+    ghost use Rattle.std.specs.Prelude.{drop, ◌<◌, ◌≤◌, length};
+    ghost use Rattle.cell_core_devices.specs.Device.{Stored};
+
+    ghost Value = { Stored };
+
+    ghost view = { λ s. record { bytes = drop s.at s.bytes.items; fails = s.fails; piece = s.piece; asked = s.asked } };
+
+    ghost invariant = { λ s. (s.at ≤ length s.bytes.items) × (0 < s.piece) };
+}
+
+impl MemorySource {
+    /// A source of these bytes, of which one call gives at most `piece`, and which then fails or
+    /// ends. Takes no memory.
+    pub fn new(bytes: Vec<u8>, piece: usize, fails: bool) -> MemorySource
+        requires { 0 < piece }
+        ensures { result ≡ record { bytes = bytes.items; fails = fails; piece = piece; asked = Asked.Going } }
+    {
+        MemorySource {
+            bytes,
+            at: 0,
+            piece,
+            fails,
+            asked: Asked::Going,
+        }
+    }
+}
+
+impl Source for MemorySource {
+    ghost use Rattle.std.specs.Prelude.{Some, ◌≡◌, ◌<◌, ◌≤◌, ◌++◌, length, take, drop, IfOk, OnErr, MatchResult};
+    ghost use Rattle.cell_core_devices.specs.Asking.{after_take};
+    ghost use Rattle.cell_core_devices.specs.Device.{Takes, stored_coming, moved_count};
+
+    ghost coming = { λ s. Some (stored_coming s) };
+
+    ghost asked = { λ s. s.asked };
+
+    fn take(&mut self, buf: &mut [u8]) -> Result<usize, DeviceFault>
+        requires { 0 < length buf.old }
+        ensures count { IfOk result (λ n. n ≤ length buf.new) }
+        ensures bytes { Takes (Some (stored_coming self.old)) (Some (stored_coming self.new)) result buf.new }
+        ensures moved { IfOk result (λ n. n ≡ moved_count (length self.old.bytes) self.old.piece (length buf.old)) }
+        // After the bytes given the slice is as it was.
+        ensures slice { IfOk result (λ n. buf.new ≡ take n self.old.bytes ++ drop n buf.old) }
+        ensures unchanged { OnErr result (buf.new ≡ buf.old) }
+        ensures rest { MatchResult result
+            (λ n. self.new ≡ record self.old { bytes = drop n self.old.bytes; asked = after_take self.old.asked result })
+            (λ _. self.new ≡ record self.old { asked = after_take self.old.asked result }) }
+        ensures asked { self.new.asked ≡ after_take self.old.asked result }
+    {
+        let rest = &self.bytes[self.at..];
+        if rest.is_empty() && self.fails {
+            self.asked = self.asked.after(Err(DeviceFault));
+            return Err(DeviceFault);
+        }
+        let n = rest.len().min(self.piece).min(buf.len());
+        buf[..n].copy_from_slice(&rest[..n]);
+        self.at += n;
+        self.asked = self.asked.after(Ok(n));
+        Ok(n)
+    }
+}

@@ -1,0 +1,36 @@
+-- The texts that may name a map (profile), and lists of names.
+use Rattle.std.specs.Prelude.{ℕ, Bool, false, ◌&&◌, ◌||◌, ◌==◌, ◌≢◌, nat_le, List, [], ◌∷◌, length, Option, AllPairs, bytes_eq}
+use Rattle.std.specs.List.{list_all, position_from}
+
+-- the greatest number of bytes of a name (profile)
+abbrev pub most_bytes : ℕ
+most_bytes = 64
+
+-- a byte from the first to the second
+abbrev pub is_from_to : ℕ → ℕ → ℕ → Bool
+is_from_to low high b = nat_le low b && nat_le b high
+
+-- an ASCII letter or an underscore
+abbrev pub is_name_start : ℕ → Bool
+is_name_start b = (is_from_to 65 90 b || is_from_to 97 122 b) || b == 95
+
+-- an ASCII letter, a digit, an underscore or a point
+abbrev pub is_name_byte : ℕ → Bool
+is_name_byte b = (is_name_start b || is_from_to 48 57 b) || b == 46
+
+-- a first byte that may begin a name
+abbrev pub starts_name : List ℕ → Bool
+starts_name [] = false
+starts_name (b ∷ bs) = is_name_start b
+
+-- 1 to 64 bytes, a letter or an underscore first, then such and digits and points
+abbrev pub is_name : List ℕ → Bool
+is_name bs = starts_name bs && (list_all is_name_byte bs && nat_le (length bs) most_bytes)
+
+-- the first place of a name in a list of names, from 0
+abbrev pub place_of : List ℕ → List (List ℕ) → Option ℕ
+place_of name names = position_from (λ n. bytes_eq n name) 0 names
+
+-- no name stands twice
+abbrev pub AreDistinct : List (List ℕ) → Type 0
+AreDistinct names = AllPairs (λ a b. a ≢ b) names

@@ -1,0 +1,50 @@
+-- The rectangle that a map covers, in units of 10^-8, and its numbers of rows and columns (g.region manual).
+use Rattle.std.specs.Prelude.{ℕ, ℤ, pos, negsuc, ◌≡◌, ◌≤◌, ◌<◌, ◌*◌, Result, Ok, Err, Bool, ◌&&◌, not, int_lt, int_le, nat_le, if◌then◌else◌}
+use Rattle.cell_core_values.specs.declared.region.RegionFault.{RegionFault}
+use Rattle.cell_core_values.specs.declared.region.RegionFault.TheVariants.{BadExtent, BadRows, BadCols, TooManyCells}
+
+-- four edges and two numbers
+pub record RegionValue : Type 0 where
+  pub north : ℤ
+  pub south : ℤ
+  pub east : ℤ
+  pub west : ℤ
+  pub rows : ℕ
+  pub cols : ℕ
+
+-- the greatest number of rows, and of columns (profile)
+abbrev pub most_side : ℕ
+most_side = 65535
+
+-- the greatest number of cells: that of the categories above 0 (profile)
+abbrev pub most_cells : ℕ
+most_cells = 2147483647
+
+-- the first edge lies above the second, and both have at most ten digits before the point (profile)
+abbrev pub is_above : ℤ → ℤ → Bool
+is_above high low = int_lt low high && (int_le (negsuc 999999999999999998) low && int_le high (pos 999999999999999999))
+
+-- what may be a number of rows or of columns (profile)
+abbrev pub is_side : ℕ → Bool
+is_side n = nat_le 1 n && nat_le n most_side
+
+-- whether so many cells may be
+abbrev pub is_countable : RegionValue → Bool
+is_countable e = nat_le (e.rows * e.cols) most_cells
+
+-- north above south, and east above west
+abbrev pub is_rectangle : RegionValue → Bool
+is_rectangle e = is_above e.north e.south && is_above e.east e.west
+
+-- the first fault of six numbers, in the order of the checks
+abbrev pub region_fault : RegionValue → Result RegionValue RegionFault
+region_fault e = if not (is_rectangle e) then Err BadExtent else (if not (is_side e.rows) then Err BadRows else (if not (is_side e.cols) then Err BadCols else (if not (is_countable e) then Err TooManyCells else Ok e)))
+
+-- what each region meets: its numbers are accepted, so its sides are 1 to 65535
+pub record IsRegion (e : RegionValue) : Type 0 where
+  pub rows_least : 0 < e.rows
+  pub rows_most : e.rows ≤ most_side
+  pub cols_least : 0 < e.cols
+  pub cols_most : e.cols ≤ most_side
+  pub cells_most : e.rows * e.cols ≤ most_cells
+  pub accepted : region_fault e ≡ Ok e

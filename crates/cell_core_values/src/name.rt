@@ -1,0 +1,213 @@
+//! Names of maps, and lists of distinct names.
+
+ghost use Rattle.std.specs.Prelude.{◌≡◌, ◌↔◌, ℕ, ◌<◌, List, ◌++◌, [], ◌∷◌, Some, None, Ok, Err, IfSome, IfOk, IfErr, OnOk, OnErr, true, false, length, slice_get};
+ghost use Rattle.std.specs.List.{list_all};
+ghost use Rattle.cell_core_values.specs.Name.{is_name, is_name_start, is_name_byte, starts_name, place_of, AreDistinct};
+
+use crate::memory::Memory;
+use std::alloc::Global;
+use std::collections::BTreeMap;
+use std::marker::Model;
+
+// The greatest number of bytes of a name.
+const MOST_BYTES: usize = 64;
+
+/// Why bytes were not read as a name.
+#[derive(Clone, Copy, Debug, PartialEq, Eq)]
+pub enum NameFault {
+    /// The bytes are no name.
+    BadName,
+    /// Memory was refused.
+    Memory,
+}
+
+/// The name of a map: 1 to 64 bytes, an ASCII letter or `_` first, then ASCII letters, digits,
+/// `_` and `.` (profile).
+#[derive(Debug, Drop)]
+pub struct Name {
+    text: Vec<u8>,
+}
+
+impl Model for Name {
+    ghost use Rattle.std.specs.Prelude.{List, ℕ, ◌≡◌, true};
+    ghost use Rattle.cell_core_values.specs.Name.{is_name};
+
+    ghost Value = { List ℕ };
+
+    ghost view = { λ n. n.text.items };
+
+    ghost invariant = { λ n. is_name n.text.items ≡ true };
+}
+
+fn is_name_start(b: u8) -> bool
+    ensures { result ≡ is_name_start b }
+{
+    (b'A' <= b && b <= b'Z') || (b'a' <= b && b <= b'z') || b == b'_'
+}
+
+/// Whether a byte is an ASCII letter, a digit, `_` or `.`, as the bytes of a name are. Takes no memory.
+pub fn is_name_byte(b: u8) -> bool
+    ensures { result ≡ is_name_byte b }
+{
+    is_name_start(b) || (b'0' <= b && b <= b'9') || b == b'.'
+}
+
+/// Whether the first byte is an ASCII letter or `_`, as that of a name is. Takes no memory.
+pub fn starts_name(text: &[u8]) -> bool
+    ensures { result ≡ starts_name text.now }
+{
+    match text {
+        [] => false,
+        [first, ..] => is_name_start(*first),
+    }
+}
+
+fn is_name(text: &[u8]) -> bool
+    ensures { result ≡ is_name text.now }
+{
+    starts_name(text) && has_name_bytes(text) && text.len() <= MOST_BYTES
+}
+
+fn has_name_bytes(text: &[u8]) -> bool
+    ensures { result ≡ list_all is_name_byte text.now }
+{
+    text.iter().all(|b| is_name_byte(*b))
+}
+
+impl Name {
+    /// The name that these bytes are.
+    ///
+    /// # Errors
+    ///
+    /// [`NameFault::BadName`] exactly where they are no name, else [`NameFault::Memory`] where
+    /// memory for a copy was refused.
+    pub fn read(alloc: Global, text: &[u8]) -> Result<Name, NameFault>
+        ensures text { IfOk result (λ name. name ≡ text.now) }
+        ensures good { OnOk result (is_name text.now ≡ true) }
+        ensures bad { (result ≡ Err NameFault.BadName) ↔ (is_name text.now ≡ false) }
+    {
+        if !is_name(text) {
+            return Err(NameFault::BadName);
+        }
+        match Vec::from_slice(alloc, text) {
+            Ok(text) => Ok(Name { text }),
+            Err(_) => Err(NameFault::Memory),
+        }
+    }
+
+    /// Its bytes.
+    pub fn bytes(&self) -> &[u8]
+        ensures value { result.now ≡ self.now }
+        ensures name { is_name self.now ≡ true }
+    {
+        &self.text
+    }
+
+    /// An equal name.
+    ///
+    /// # Errors
+    ///
+    /// [`Memory`] where memory for the copy was refused.
+    pub fn copy(&self, alloc: Global) -> Result<Name, Memory>
+        ensures { IfOk result (λ name. name ≡ self.now) }
+    {
+        let text = Vec::from_slice(alloc, self.bytes())?;
+        Ok(Name { text })
+    }
+}
+
+/// Distinct names in the order in which they were pushed. A name is found in a time that grows
+/// with the logarithm of their number.
+#[derive(Debug, Drop)]
+pub struct Names {
+    alloc: Global,
+    names: Vec<Name>,
+    // The place of each name, by a copy of its bytes.
+    places: BTreeMap<Vec<u8>, usize>,
+}
+
+impl Model for Names {
+    ghost use Rattle.std.specs.Prelude.{List, ℕ};
+    ghost use Rattle.cell_core_values.specs.Name.{AreDistinct};
+    ghost use Rattle.cell_core_values.specs.parts.NamePlaces.{ArePlaces};
+
+    ghost Value = { List (List ℕ) };
+
+    ghost view = { λ n. n.names.items };
+
+    ghost invariant = { λ n. AreDistinct n.names.items × ArePlaces (λ key. key.items) n.names.items n.places.entries };
+}
+
+impl Names {
+    /// No names yet. Takes no memory.
+    pub fn new(alloc: Global) -> Names
+        ensures { result ≡ [] }
+    {
+        Names {
+            alloc,
+            names: Vec::new(alloc),
+            places: BTreeMap::new(alloc),
+        }
+    }
+
+    /// How many names there are.
+    pub fn len(&self) -> usize
+        ensures count { result ≡ length self.now }
+        ensures distinct { AreDistinct self.now }
+    {
+        self.names.len()
+    }
+
+    /// The place of a name, from 0, or None where it is not there.
+    pub fn find(&self, text: &[u8]) -> Option<usize>
+        ensures place { result ≡ place_of text.now self.now }
+        ensures within { IfSome result (λ i. i < length self.now) }
+    {
+        self.places.get(text).copied()
+    }
+
+    /// The name at a place, from 0.
+    pub fn name(&self, i: usize) -> &Name
+        requires { i < length self.now }
+        ensures value { slice_get self.now i ≡ Some result.now }
+        ensures place { place_of result.now self.now ≡ Some i }
+    {
+        &self.names[i]
+    }
+
+    /// Puts a name last that is not there yet.
+    ///
+    /// # Errors
+    ///
+    /// [`Memory`] where memory was refused: the names are unchanged, and the one given is dropped.
+    pub fn push(&mut self, name: Name) -> Result<(), Memory>
+        requires { place_of name self.old ≡ None }
+        ensures ok { OnOk result (self.new ≡ self.old ++ name ∷ []) }
+        ensures err { OnErr result (self.new ≡ self.old) }
+    {
+        match self.keep(name) {
+            Ok(()) => Ok(()),
+            Err(_) => Err(Memory),
+        }
+    }
+
+    /// Puts a name last that is not there yet, or gives it back where memory was refused.
+    pub fn keep(&mut self, name: Name) -> Result<(), Name>
+        requires { place_of name self.old ≡ None }
+        ensures ok { OnOk result (self.new ≡ self.old ++ name ∷ []) }
+        ensures err { OnErr result (self.new ≡ self.old) }
+        ensures given_back { IfErr result (λ back. back ≡ name) }
+    {
+        // All memory is taken before the first change.
+        let Ok(()) = self.names.reserve(1) else {
+            return Err(name);
+        };
+        let Ok(key) = Vec::from_slice(self.alloc, name.bytes()) else {
+            return Err(name);
+        };
+        let Ok(_) = self.places.insert(key, self.names.len()) else {
+            return Err(name);
+        };
+        self.names.push(name).map_err(|back| back.value)
+    }
+}

@@ -1,0 +1,196 @@
+//! The rectangle that a map covers, cut into rows and columns.
+
+ghost use Rattle.std.specs.Prelude.{◌≡◌, ◌<◌, ◌≤◌, ◌*◌, ◌↔◌, IsTrue, nat_le};
+ghost use Rattle.cell_core_values.specs.Region.{RegionValue, IsRegion, most_side, most_cells, region_fault, is_above, is_side};
+ghost use Rattle.cell_core_values.specs.SameRegion.{is_same_region};
+
+use std::marker::Model;
+
+/// Why six numbers are no region: the first reason in this order (profile).
+#[derive(Clone, Copy, Debug, PartialEq, Eq)]
+pub enum RegionFault {
+    /// The north edge is not above the south edge, the east edge is not above the west edge, or
+    /// an edge lies beyond 9999999999.99999999 either way.
+    BadExtent,
+    /// The number of rows is not from 1 to 65535.
+    BadRows,
+    /// The number of columns is not from 1 to 65535.
+    BadCols,
+    /// There are more than 2147483647 cells.
+    TooManyCells,
+}
+
+// The greatest edge, in units of 10^-8; its opposite is the least.
+const MOST_EDGE: i64 = 999999999999999999;
+
+// The greatest number of rows, and of columns.
+const MOST_SIDE: u32 = 65535;
+
+// The greatest number of cells.
+const MOST_CELLS: u32 = 2147483647;
+
+/// A rectangle with its numbers of rows and columns (g.region manual).
+///
+/// The four edges are whole numbers of 10^-8 map units. Two regions are equal exactly where all
+/// six numbers are.
+#[derive(Clone, Copy, Debug)]
+pub struct Region {
+    north: i64,
+    south: i64,
+    east: i64,
+    west: i64,
+    rows: u32,
+    cols: u32,
+}
+
+impl Model for Region {
+    ghost use Rattle.cell_core_values.specs.Region.{RegionValue, IsRegion};
+
+    ghost Value = { RegionValue };
+
+    ghost view = { λ r. record { north = r.north; south = r.south; east = r.east; west = r.west; rows = r.rows; cols = r.cols } };
+
+    ghost invariant = { λ r. IsRegion (record { north = r.north; south = r.south; east = r.east; west = r.west; rows = r.rows; cols = r.cols }) };
+
+    ghost inverse = { λ e. record { north = e.north; south = e.south; east = e.east; west = e.west; rows = e.rows; cols = e.cols } };
+}
+
+// Whether the first edge lies above the second, both within the limits.
+fn is_above(high: i64, low: i64) -> bool
+    ensures { result ≡ is_above high low }
+{
+    low < high && -MOST_EDGE <= low && high <= MOST_EDGE
+}
+
+// Whether it may be a number of rows or of columns.
+fn is_side(count: u32) -> bool
+    ensures { result ≡ is_side count }
+{
+    1 <= count && count <= MOST_SIDE
+}
+
+// Whether so many rows of so many columns have no more cells than there are categories above 0.
+fn is_countable(rows: u32, cols: u32) -> bool
+    requires { (rows ≤ most_side) × (cols ≤ most_side) }
+    ensures { result ≡ nat_le (rows * cols) most_cells }
+{
+    rows * cols <= MOST_CELLS
+}
+
+// Whether all six numbers are equal.
+fn is_same_region(a: &Region, b: &Region) -> bool
+    ensures { result ≡ is_same_region a.now b.now }
+{
+    (a.north, a.south, a.east, a.west, a.rows, a.cols)
+        == (b.north, b.south, b.east, b.west, b.rows, b.cols)
+}
+
+impl Region {
+    /// The region of these edges, in units of 10^-8, with these numbers of rows and columns.
+    ///
+    /// # Errors
+    ///
+    /// The first [`RegionFault`] in the order that its variants have.
+    pub fn new(
+        north: i64,
+        south: i64,
+        east: i64,
+        west: i64,
+        rows: u32,
+        cols: u32,
+    ) -> Result<Region, RegionFault>
+        ensures { result ≡ region_fault (record { north = north; south = south; east = east; west = west; rows = rows; cols = cols }) }
+    {
+        if !is_above(north, south) || !is_above(east, west) {
+            return Err(RegionFault::BadExtent);
+        }
+        if !is_side(rows) {
+            return Err(RegionFault::BadRows);
+        }
+        if !is_side(cols) {
+            return Err(RegionFault::BadCols);
+        }
+        if !is_countable(rows, cols) {
+            return Err(RegionFault::TooManyCells);
+        }
+        Ok(Region {
+            north,
+            south,
+            east,
+            west,
+            rows,
+            cols,
+        })
+    }
+
+    /// The upper edge, in units of 10^-8.
+    pub fn north(&self) -> i64
+        ensures value { result ≡ self.now.north }
+        ensures region { IsRegion self.now }
+    {
+        self.north
+    }
+
+    /// The lower edge, in units of 10^-8.
+    pub fn south(&self) -> i64
+        ensures value { result ≡ self.now.south }
+        ensures region { IsRegion self.now }
+    {
+        self.south
+    }
+
+    /// The right edge, in units of 10^-8.
+    pub fn east(&self) -> i64
+        ensures value { result ≡ self.now.east }
+        ensures region { IsRegion self.now }
+    {
+        self.east
+    }
+
+    /// The left edge, in units of 10^-8.
+    pub fn west(&self) -> i64
+        ensures value { result ≡ self.now.west }
+        ensures region { IsRegion self.now }
+    {
+        self.west
+    }
+
+    /// The number of rows, 1 to 65535.
+    pub fn rows(&self) -> u32
+        ensures value { result ≡ self.now.rows }
+        ensures region { IsRegion self.now }
+    {
+        self.rows
+    }
+
+    /// The number of columns, 1 to 65535.
+    pub fn cols(&self) -> u32
+        ensures value { result ≡ self.now.cols }
+        ensures region { IsRegion self.now }
+    {
+        self.cols
+    }
+}
+
+impl PartialEq for Region {
+    ghost use Rattle.std.specs.Prelude.{◌≡◌, ◌↔◌, IsTrue};
+    ghost use Rattle.std.specs.Cmp.{partial_equiv_from_equiv};
+    ghost use Rattle.cell_core_values.specs.SameRegion.{is_same_region, is_same_region_equiv};
+
+    ghost eq = { is_same_region };
+
+    ghost laws = { partial_equiv_from_equiv is_same_region_equiv };
+
+    fn eq(&self, other: &Region) -> bool
+        ensures value { result ≡ is_same_region self.now other.now }
+        ensures same { IsTrue result ↔ (self.now ≡ other.now) }
+    {
+        is_same_region(self, other)
+    }
+}
+
+impl Eq for Region {
+    ghost use Rattle.cell_core_values.specs.SameRegion.{is_same_region_equiv};
+
+    ghost laws = { is_same_region_equiv };
+}

@@ -1,8 +1,0 @@
--- How many cells have a combination (r.stats manual, flag `-c`).
-use Rattle.std.specs.Prelude.{ℕ, List, count_by}
-use Rattle.std.specs.Ordering.{eq_by_cmp}
-use Rattle.cell_combinations.specs.Combinations.{Combination, combination_cmp}
-
--- how many cells have the combination
-abbrev pub count_of : Combination → List Combination → ℕ
-count_of k cells = count_by (eq_by_cmp combination_cmp k) cells

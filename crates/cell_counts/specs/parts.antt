@@ -1,4 +1,0 @@
--- Combinations of one map, counts on their way to the list, the list in order.
-pub mod Alone
-pub mod Held
-pub mod Joined

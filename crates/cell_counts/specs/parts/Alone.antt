@@ -1,8 +1,0 @@
--- The combinations of one map.
-use Rattle.std.specs.Prelude.{[], ◌∷◌}
-use Rattle.cell_core.specs.Grid.{CellValue}
-use Rattle.cell_combinations.specs.Combinations.{Combination}
-
--- the combination of a cell of one map
-abbrev pub alone : CellValue → Combination
-alone cell = cell ∷ []

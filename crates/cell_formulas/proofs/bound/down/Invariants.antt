@@ -1,6 +1,0 @@
-use Rattle.std.proofs.Common.{◌≡◌, ◌≤◌, take}
-use Rattle.cell_formulas.specs.parts.Steps.{greatest, down_step}
-use Rattle.cell_formulas.proofs.bound.down.Given as goal
-
-abbrev pub invariant-loop-step : goal.invariant-loop-step
-invariant-loop-step l = record { value : l.down ≡ greatest (down_step l.i) (take l.step-index l.steps); bound : l.down ≤ 255 }

@@ -1,6 +1,0 @@
--- Labels of areas, what they lead to once some were joined, and their numbers.
-pub mod Added
-pub mod Greatest
-pub mod Labels
-pub mod Meetings
-pub mod Numbers

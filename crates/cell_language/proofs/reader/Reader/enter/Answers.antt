@@ -1,6 +1,0 @@
-use Rattle.cell_language.specs.parts.Waiting.{waiting}
-use Rattle.cell_language.proofs.Steps.{entered}
-use Rattle.cell_language.proofs.reader.Reader.enter.Goals as goal
-
-pub returns-clause-goes : goal.returns-clause-goes
-returns-clause-goes c = λ s h. rw (c.in_ok-push-2.ensures.ok, c.in_ok-push.ensures.ok) (entered s (waiting c.args.self.now) c.args.self.now.steps.items c.args.tokens.now h)

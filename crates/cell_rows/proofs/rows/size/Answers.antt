@@ -1,5 +1,0 @@
-use Rattle.std.proofs.Common.{rules}
-use Rattle.cell_rows.proofs.rows.size.Goals as goal
-
-pub returns-clause-each : goal.returns-clause-each
-returns-clause-each c = λ k h. let e = c.each.ensures.each k h in search rules

@@ -1,0 +1,137 @@
+//! The printed form of cells, line by line.
+
+ghost use Rattle.std.specs.Prelude.{◌≡◌, ◌<◌, ◌≤◌, [], All, length, flat_map, replicate, IfOk};
+ghost use Rattle.cell_core_devices.specs.Blocks.{Appends};
+ghost use Rattle.cell_core_values.specs.Region.{IsRegion};
+ghost use Rattle.cell_stats_combinations.specs.Combinations.{row_combinations};
+ghost use Rattle.cell_stats_combinations.specs.LeftOut.{kept};
+ghost use Rattle.cell_stats.specs.TableText.{cell_line, cell_lines};
+
+use crate::format::Format;
+use crate::printing::write_cell_line;
+use cell_core::block::Block;
+use cell_core::cell::Cell;
+use cell_core::memory::Memory;
+use cell_core::shelf::Shelf;
+use cell_core::sink::Sink;
+use cell_stats_combinations::skip::{Skip, is_left_out};
+use cell_stats_counts::cursor::{Cursor, cursors_of, pass_all, restart_all};
+use cell_stats_counts::selection::Selection;
+use std::alloc::Global;
+use std::marker::Model;
+
+/// The memory for a walk over the cells of several maps of a shelf. It is seen as their number.
+#[derive(Drop)]
+pub struct CellWalk<'a> {
+    cursors: Vec<Cursor<'a>>,
+    cells: Vec<Cell>,
+}
+
+impl<'a> Model for CellWalk<'a> {
+    ghost use Rattle.std.specs.Prelude.{ℕ, ◌≡◌, length};
+
+    ghost Value = { ℕ };
+
+    ghost view = { λ walk. length walk.cells.items };
+
+    ghost invariant = { λ walk. length walk.cursors.items ≡ length walk.cells.items };
+}
+
+impl<'a> CellWalk<'a> {
+    /// The memory for a walk over the picked maps, which are places on the shelf.
+    ///
+    /// # Errors
+    ///
+    /// `Memory`, where memory is refused.
+    pub fn new(alloc: Global, shelf: &'a Shelf, picks: &[usize]) -> Result<CellWalk<'a>, Memory>
+        requires { All (λ i. i < length shelf.now.maps) picks.now }
+        ensures { IfOk result (λ walk. walk ≡ length picks.now) }
+    {
+        let cursors = cursors_of(alloc, shelf, picks)?;
+        let cells = vec![in alloc; Cell::null(); picks.len()]?;
+        Ok(CellWalk { cursors, cells })
+    }
+}
+
+// Writes the lines of cells that are alike, or none where they are left out.
+fn write_lines<W: Sink>(
+    out: &mut W,
+    block: &mut Block,
+    selection: Selection<'_, '_>,
+    cells: &[Cell],
+    count: u32,
+    format: &Format,
+)
+    requires picked { All (λ i. i < length selection.shelf.now.maps) selection.picks.now }
+    requires some { 0 < length selection.picks.now }
+    requires width { length cells.now ≡ length selection.picks.now }
+    ensures { Appends W.taken W.faults out.old block.old (flat_map (cell_line format.now selection.entry.shelf.now.maps selection.entry.picks.now) (kept selection.entry.skip (replicate count cells.now))) out.new block.new }
+{
+    if is_left_out(selection.skip, cells) {
+        return;
+    }
+    for line in 0..count {
+        write_cell_line(out, block, selection.shelf, selection.picks, cells, format);
+    }
+}
+
+// Writes the lines of the cells of a row.
+fn write_row<'a, W: Sink>(
+    out: &mut W,
+    block: &mut Block,
+    selection: Selection<'a, '_>,
+    format: &Format,
+    row: u32,
+    cursors: &mut [Cursor<'a>],
+    cells: &mut [Cell],
+)
+    requires picked { All (λ i. i < length selection.shelf.now.maps) selection.picks.now }
+    requires some { 0 < length selection.picks.now }
+    requires row_in_range { row < selection.shelf.now.region.rows }
+    requires cursors { length cursors.old ≡ length selection.picks.now }
+    requires cells { length cells.old ≡ length selection.picks.now }
+    ensures { Appends W.taken W.faults out.old block.old (flat_map (cell_line format.now selection.entry.shelf.now.maps selection.entry.picks.now) (kept selection.entry.skip (row_combinations selection.entry.shelf.now.maps selection.entry.picks.now selection.entry.shelf.now.region.cols row))) out.new block.new }
+{
+    let cols = selection.shelf.region().cols();
+    restart_all(cursors, selection.shelf, selection.picks, row);
+    let mut col = 0;
+    let mut count = pass_all(cursors, 0, cols, cells);
+    while col < cols {
+        write_lines(out, block, selection, cells, count, format);
+        col += count;
+        count = pass_all(cursors, count, cols - col, cells);
+    }
+}
+
+/// Writes a line for each cell of the picked maps that is not left out, row by row from the top left. The walk has the memory
+/// for it, so that it takes none.
+///
+/// The text is gathered in the block, which goes on holding its last part. After a refused put nothing more is written.
+pub fn write_cells<'a, W: Sink>(
+    out: &mut W,
+    block: &mut Block,
+    walk: CellWalk<'a>,
+    shelf: &'a Shelf,
+    picks: &[usize],
+    skip: Skip,
+    format: &Format,
+)
+    requires picked { All (λ i. i < length shelf.now.maps) picks.now }
+    requires some { 0 < length picks.now }
+    requires width { walk ≡ length picks.now }
+    ensures { Appends W.taken W.faults out.old block.old (cell_lines format.now skip shelf.now.maps picks.now shelf.now.region.rows shelf.now.region.cols) out.new block.new }
+{
+    let CellWalk {
+        mut cursors,
+        mut cells,
+    } = walk;
+    let cursors = cursors.as_mut_slice();
+    let cells = cells.as_mut_slice();
+    let selection = Selection { shelf, picks, skip };
+    for row in 0..shelf.region().rows() {
+        if block.has_failed() {
+            return;
+        }
+        write_row(out, block, selection, format, row, cursors, cells);
+    }
+}

@@ -1,0 +1,37 @@
+-- The combinations of the cells of several maps, and their order (r.stats manual; null last is the profile's).
+use Rattle.std.specs.Prelude.{ℕ, List, map, None, flat_map, slice_get}
+use Rattle.std.specs.Option.{option_map_or}
+use Rattle.std.specs.declared.cmp.Ordering.{Ordering}
+use Rattle.std.specs.Cmp.{IsTotalOrder}
+use Rattle.std.specs.Cmp.Lexicographic.{slice_cmp, lists_total}
+use Rattle.std.specs.List.{range_with_len}
+use Rattle.cell_core_values.specs.Cell.{cell_cmp, cell_cmp_total}
+use Rattle.cell_core.specs.Grid.{Grid, CellValue, cell_at}
+
+-- a cell of each picked map
+abbrev pub Combination : Type 0
+Combination = List CellValue
+
+-- ascending by the first cell, then by the second, and so on; null is last (profile)
+abbrev pub combination_cmp : Combination → Combination → Ordering
+combination_cmp = slice_cmp cell_cmp
+
+-- the order is total
+pub combination_cmp_total : IsTotalOrder combination_cmp
+combination_cmp_total = lists_total cell_cmp_total
+
+-- the cell at a row and a column of the map in a place
+abbrev pub cell_of_map : List Grid → ℕ → ℕ → ℕ → CellValue
+cell_of_map maps row col place = option_map_or (λ m. cell_at m row col) (slice_get maps place) None
+
+-- the combination at a row and a column
+abbrev pub combination_at : List Grid → List ℕ → ℕ → ℕ → Combination
+combination_at maps picks row col = map (cell_of_map maps row col) picks
+
+-- the combinations of a row, from the left
+abbrev pub row_combinations : List Grid → List ℕ → ℕ → ℕ → List Combination
+row_combinations maps picks cols row = map (combination_at maps picks row) (range_with_len 0 cols)
+
+-- the combinations of all cells, row by row from the top left
+abbrev pub all_combinations : List Grid → List ℕ → ℕ → ℕ → List Combination
+all_combinations maps picks rows cols = flat_map (row_combinations maps picks cols) (range_with_len 0 rows)

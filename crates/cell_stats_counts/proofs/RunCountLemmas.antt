@@ -1,0 +1,114 @@
+-- What the runs of one map add to the counts.
+use Rattle.std.proofs.Common.{◌≡◌, ℕ, zero, suc, ◌+◌, ◌^◌, ◌<◌, ◌≤◌, List, [], ◌∷◌, ◌++◌, length, map, replicate, get_or, Bool, true, false, not, cond, Some, None, refl, ap, sym, ◌∙◌, arith, append-nil, length-append, add-one, add-zero, zero-add}
+use Rattle.std.proofs.lemmas.List.{length-replicate, map-append}
+use Rattle.std.proofs.lemmas.List.Elements.{filter-append}
+use Rattle.std.specs.List.{range_with_len}
+use Rattle.std.specs.Prelude.{slice_get}
+use Rattle.cell_core.specs.Grid.{Grid, CellValue, row_at}
+use Rattle.cell_core.specs.Runs.{RunValue, written_out}
+use Rattle.cell_stats_combinations.specs.declared.skip.Skip.{Skip}
+use Rattle.cell_stats_combinations.specs.Combinations.{Combination, combination_at, all_combinations, row_combinations}
+use Rattle.cell_stats_counts.specs.Counts.{count_of}
+use Rattle.cell_stats_counts.specs.parts.Alone.{alone}
+use Rattle.cell_stats_counts.specs.Cursors.{row_in}
+use Rattle.cell_stats_counts.specs.parts.HeldPlaces.{is_same}
+use Rattle.cell_stats_combinations.specs.LeftOut.{kept, is_left_out}
+use Rattle.cell_stats_counts.proofs.WalkLemmas.{row-of, cell-row, count-append, count-replicate, kept-replicate, all_combinations_more, count_small}
+
+-- the counts of two parts
+count-both : (skip : Skip) (k : Combination) (xs ys : List Combination) → count_of k (kept skip (xs ++ ys)) ≡ count_of k (kept skip xs) + count_of k (kept skip ys)
+count-both skip k xs ys = ap (count_of k) (filter-append (λ x. not (is_left_out skip x)) xs ys) ∙ count-append k (kept skip xs) (kept skip ys)
+
+-- a stretch of a combination by itself
+count-stretch : (skip : Skip) (k q : Combination) (n : ℕ) (b : Bool) → is_left_out skip q ≡ b → count_of k (kept skip (replicate n q)) ≡ cond b 0 (cond (is_same k q) n 0)
+count-stretch skip k q n true l = ap (count_of k) (kept-replicate skip q n true l)
+count-stretch skip k q n false l = ap (count_of k) (kept-replicate skip q n false l) ∙ count-replicate k q n
+
+map-replicate : (n : ℕ) (x : CellValue) → map alone (replicate n x) ≡ replicate n (alone x)
+map-replicate zero x = refl
+map-replicate (suc n) x = ap (λ (l : List Combination). alone x ∷ l) (map-replicate n x)
+
+-- how many cells of a combination some runs have that are not left out
+abbrev pub runs-count : Skip → Combination → List RunValue → ℕ
+runs-count skip k runs = count_of k (kept skip (map alone (written_out runs)))
+
+-- the first run, and the others
+pub runs-first : (skip : Skip) (k : Combination) (x : CellValue) (n : ℕ) (rest : List RunValue) (b : Bool) → is_left_out skip (alone x) ≡ b → runs-count skip k ((x, n) ∷ rest) ≡ cond b 0 (cond (is_same k (alone x)) n 0) + runs-count skip k rest
+runs-first skip k x n rest b l =
+    ap (λ (z : List Combination). count_of k (kept skip z)) (map-append alone (replicate n x) (written_out rest) ∙ ap (λ (z : List Combination). z ++ map alone (written_out rest)) (map-replicate n x))
+    ∙ count-both skip k (replicate n (alone x)) (map alone (written_out rest)) ∙ ap (λ m. m + runs-count skip k rest) (count-stretch skip k (alone x) n b l)
+
+pub length-first : (x : CellValue) (n : ℕ) (rest : List RunValue) → length (written_out ((x, n) ∷ rest)) ≡ n + length (written_out rest)
+length-first x n rest = length-append (replicate n x) (written_out rest) ∙ ap (λ m. m + length (written_out rest)) (length-replicate n x)
+
+cond-le : (b : Bool) (n : ℕ) → cond b n 0 ≤ n
+cond-le true n = omega arith
+cond-le false n = omega arith
+
+module _ (skip : Skip) (k : Combination) (runs rest : List RunValue) (x : CellValue) (n : ℕ) (steps : runs ≡ (x, n) ∷ rest) where
+  size : length (written_out runs) ≡ n + length (written_out rest)
+  size = ap (λ (l : List RunValue). length (written_out l)) steps ∙ length-first x n rest
+
+  -- a run that is left out adds nothing
+  pub run-left : (old all : ℕ) → is_left_out skip (alone x) ≡ true → old + runs-count skip k runs ≡ all → old + runs-count skip k rest ≡ all
+  run-left old all l e =
+      let first : runs-count skip k runs ≡ 0 + runs-count skip k rest = ap (runs-count skip k) steps ∙ runs-first skip k x n rest true l in
+      omega (arith, e, first)
+
+  -- another adds its cells
+  pub run-more : (old new all : ℕ) → is_left_out skip (alone x) ≡ false → new ≡ old + cond (is_same k (alone x)) n 0 → old + runs-count skip k runs ≡ all → new + runs-count skip k rest ≡ all
+  run-more old new all l grown e =
+      let first : runs-count skip k runs ≡ cond (is_same k (alone x)) n 0 + runs-count skip k rest = ap (runs-count skip k) steps ∙ runs-first skip k x n rest false l in
+      omega (arith, e, first, grown)
+
+  pub room-left : (old most : ℕ) → old + length (written_out runs) < most → old + length (written_out rest) < most
+  room-left old most h = omega (arith, h, size)
+
+  pub room-more : (old new most : ℕ) → new ≡ old + cond (is_same k (alone x)) n 0 → old + length (written_out runs) < most → new + length (written_out rest) < most
+  room-more old new most grown h = omega (arith, h, size, grown, cond-le (is_same k (alone x)) n)
+
+  pub room-first : (old most : ℕ) → old + length (written_out runs) < most → old + n < most
+  room-first old most h = omega (arith, h, size)
+
+-- ---- a row of one map
+
+row-get : (l : List CellValue) (a : ℕ) (f : ℕ → Combination) → ((j : ℕ) → f (a + j) ≡ alone (get_or l j None)) → map f (range_with_len a (length l)) ≡ map alone l
+row-get [] a f h = refl
+row-get (x ∷ l) a f h =
+    let here : f a ≡ alone x = ap f (sym (add-zero a)) ∙ h 0 in
+    let behind : (j : ℕ) → f (a + 1 + j) ≡ alone (get_or l j None) = λ j. ap f (next j) ∙ h (suc j) in
+    ap (λ (y : Combination). y ∷ map f (range_with_len (a + 1) (length l))) here ∙ ap (λ (t : List Combination). alone x ∷ t) (row-get l (a + 1) f behind)
+  where
+    next : (j : ℕ) → a + 1 + j ≡ a + suc j
+    next j = omega arith
+
+row-alone : (maps : List Grid) (row p cols : ℕ) → length (row_in maps row p) ≡ cols → row_combinations maps (p ∷ []) cols row ≡ map alone (row_in maps row p)
+row-alone maps row p cols wide =
+    ap (λ n. map (combination_at maps (p ∷ []) row) (range_with_len 0 n)) (sym wide)
+    ∙ row-get (row_in maps row p) 0 (combination_at maps (p ∷ []) row) (λ j. ap (combination_at maps (p ∷ []) row) (zero-add j) ∙ ap alone (cell-row maps row j p))
+
+-- the one place
+pub single : (places : List ℕ) (d : ℕ) → length places ≡ 1 → places ≡ get_or places 0 d ∷ []
+single [] d e = cc
+single (p ∷ []) d e = refl
+single (p ∷ q ∷ places) d e = absurd (omega (arith, e))
+
+-- a row more of one map is counted
+pub counted-alone : (skip : Skip) (k : Combination) (maps : List Grid) (picks : List ℕ) (row p cols : ℕ) (m : Grid) (runs : List RunValue) (old new : ℕ) → picks ≡ p ∷ [] → slice_get maps p ≡ Some m → written_out runs ≡ row_at m row → length (written_out runs) ≡ cols → old ≡ count_of k (kept skip (all_combinations maps picks row cols)) → new ≡ old + runs-count skip k runs → new ≡ count_of k (kept skip (all_combinations maps picks (row + 1) cols))
+counted-alone skip k maps picks row p cols m runs old new sole e written wide was grown =
+    let base = all_combinations maps picks row cols in
+    let same : row_in maps row p ≡ written_out runs = row-of maps row p m e ∙ sym written in
+    let line : map alone (written_out runs) ≡ row_combinations maps picks cols row =
+    ap (map alone) (sym same) ∙ sym (row-alone maps row p cols (ap length same ∙ wide)) ∙ ap (λ (l : List ℕ). row_combinations maps l cols row) (sym sole) in
+    grown ∙ ap (λ n. n + runs-count skip k runs) was ∙ ap (λ (l : List Combination). count_of k (kept skip base) + count_of k (kept skip l)) line
+    ∙ sym (count-both skip k base (row_combinations maps picks cols row)) ∙ ap (λ (l : List Combination). count_of k (kept skip l)) (sym (all_combinations_more maps picks cols row))
+    ∙ ap (λ r. count_of k (kept skip (all_combinations maps picks r cols))) (sym (add-one row))
+
+-- and its cells fit
+pub fits-alone : (skip : Skip) (k : Combination) (maps : List Grid) (picks : List ℕ) (row cols old size : ℕ) → row ≤ 65535 → cols ≤ 65535 → old ≡ count_of k (kept skip (all_combinations maps picks row cols)) → size ≡ cols → old + size < 2 ^ 64
+fits-alone skip k maps picks row cols old size hr hc was wide =
+    let base = all_combinations maps picks row cols in
+    let none : 0 ≤ 65535 = omega arith in
+    let small = count_small maps picks cols skip k row 0 hr none hc in
+    let same : count_of k (kept skip (base ++ [])) ≡ count_of k (kept skip base) = ap (λ (l : List Combination). count_of k (kept skip l)) (append-nil base) in
+    omega (arith, small, same, was, wide, hc)

@@ -1,0 +1,228 @@
+use Rattle.std.proofs.Common.{◌≡◌, ℕ, ◌≤◌, ◌<◌, ◌+◌, ◌^◌, List, length, subst, arith, ap, sym, ◌∙◌, append-nil}
+use Rattle.std.proofs.lemmas.Result.{IfOk-from_err}
+use Rattle.std.proofs.lemmas.List.{with_items_is}
+use borrow.Author.Count.{falls}
+use Rattle.cell_core_values.specs.Region.{RegionValue, IsRegion}
+use Rattle.cell_core.specs.Grid.{Grid}
+use Rattle.cell_stats_combinations.specs.declared.skip.Skip.{Skip}
+use Rattle.cell_stats_combinations.specs.Combinations.{Combination, all_combinations}
+use Rattle.cell_stats_counts.specs.Counts.{count_of}
+use Rattle.cell_stats_counts.specs.Listed.{Counts, listed_of, HasNoZero}
+use Rattle.cell_stats_counts.specs.parts.HeldPlaces.{gathered_of, total_of}
+use Rattle.cell_stats_combinations.specs.LeftOut.{kept}
+use Rattle.cell_stats_counts.specs.declared.counting.Held.{Held}
+use Rattle.cell_stats_counts.proofs.WalkLemmas.{count_small}
+use Rattle.cell_stats_counts.proofs.counts.count_cells.Goals as goal
+
+below : {row last rows : ℕ} → row < last → last ≡ rows → row < rows
+below lower same = omega arith
+
+at_most : {row last rows : ℕ} → row ≤ last → last ≡ rows → row ≤ rows
+at_most within same = omega arith
+
+at_end : {row last rows : ℕ} → row ≤ last → last ≤ row → last ≡ rows → row ≡ rows
+at_end within ended same = omega arith
+
+some_same : {n m : ℕ} → 0 < n → m ≡ n → 0 < m
+some_same some same = omega arith
+
+-- a count of the rows so far fits
+fits : (maps : List Grid) (picks : List ℕ) (cols : ℕ) (skip : Skip) (k : Combination) (row rows total : ℕ)
+    → row ≤ rows → rows ≤ 65535 → cols ≤ 65535
+    → total ≡ count_of k (kept skip (all_combinations maps picks row cols)) → total < 2 ^ 64
+fits maps picks cols skip k row rows total within high wide counted =
+    let few : row ≤ 65535 = omega arith in
+    let none : 0 ≤ 65535 = omega arith in
+    let small = count_small maps picks cols skip k row 0 few none wide in
+    let same = ap (λ (l : List Combination). count_of k (kept skip l))
+    (append-nil (all_combinations maps picks row cols)) in
+    omega (arith, small, same)
+
+pub loop-row-init : goal.loop-row-init
+loop-row-init c =
+    let empty = c.new-counted.ensures.none in
+    let wide = sym c.in_ok-cells.cells.ok.0 ∙ c.in_ok-cells.ensures.len in
+    record {
+      counted = λ k.
+          ap (λ n. n + gathered_of k c.new-counted.result) (c.in_ok-places.ensures.nothing (length c.args.picks.now) k)
+          ∙ ap (λ (es : Counts). 0 + (listed_of k es + listed_of k c.new-counted.result.pending.items)) empty
+          ∙ ap (λ (es : Counts). 0 + (0 + listed_of k es)) c.new-counted.ensures.settled;
+      no_zero = (
+        subst HasNoZero (sym empty) (λ i d within. absurd (omega (arith, within))),
+        subst HasNoZero (sym c.new-counted.ensures.settled) (λ i d within. absurd (omega (arith, within))),
+      );
+      spare = ap length (c.in_ok-spare.ensures ∙ c.deref.ensures.value) ∙ wide;
+      places = c.in_ok-places.ensures.some;
+      cells = wide;
+      cursors = ap length c.as_mut_slice-cursors.ensures.value ∙ c.in_ok-started.ensures;
+    }
+
+pub cursors_of-requires : goal.cursors_of-requires
+cursors_of-requires c = c.requires.picked
+
+pub make_room-requires-clause-width : goal.make_room-requires-clause-width
+make_room-requires-clause-width c = (c.requires.width.1, c.loop-row.invariant.spare)
+
+pub make_room-requires-clause-places : goal.make_room-requires-clause-places
+make_room-requires-clause-places c = c.loop-row.invariant.places
+
+pub make_room-requires-clause-fits : goal.make_room-requires-clause-fits
+make_room-requires-clause-fits c = λ k.
+    let shelf = c.args.shelf.now in
+    let region : IsRegion shelf.region = rw (← c.region.ensures.value) c.rows-row-end.ensures.region in
+    let rows = c.rows-row-end.ensures.value ∙ ap (λ (r : RegionValue). r.rows) c.region.ensures.value in
+    fits shelf.maps c.args.picks.now shelf.region.cols c.args.skip k c.loop-row.row shelf.region.rows _
+    (at_most c.loop-row.auto.row-end rows) region.rows_most region.cols_most
+    (c.loop-row.invariant.counted k)
+
+pub make_room-requires-clause-no_zero : goal.make_room-requires-clause-no_zero
+make_room-requires-clause-no_zero c = c.loop-row.invariant.no_zero
+
+pub count_row-requires-clause-picked : goal.count_row-requires-clause-picked
+count_row-requires-clause-picked c = c.requires.picked
+
+pub count_row-requires-clause-width : goal.count_row-requires-clause-width
+count_row-requires-clause-width c = c.requires.width.1
+
+pub count_row-requires-clause-row_in_range : goal.count_row-requires-clause-row_in_range
+count_row-requires-clause-row_in_range c =
+    below c.loop-row-test.true (c.rows-row-end.ensures.value ∙ ap (λ (r : RegionValue). r.rows) c.region.ensures.value)
+
+pub count_row-requires-clause-region : goal.count_row-requires-clause-region
+count_row-requires-clause-region c = rw (← c.region.ensures.value) c.rows-row-end.ensures.region
+
+pub count_row-requires-clause-cursors : goal.count_row-requires-clause-cursors
+count_row-requires-clause-cursors c = c.loop-row.invariant.cursors
+
+pub count_row-requires-clause-cells : goal.count_row-requires-clause-cells
+count_row-requires-clause-cells c = ap length c.as_mut_slice.ensures.value ∙ c.loop-row.invariant.cells
+
+pub count_row-requires-clause-spare : goal.count_row-requires-clause-spare
+count_row-requires-clause-spare c = c.in_ok-before.ensures.spare
+
+pub count_row-requires-clause-places : goal.count_row-requires-clause-places
+count_row-requires-clause-places c =
+    some_same c.in_ok-before.ensures.places (ap length c.as_mut_slice-in-loop-row.ensures.value)
+
+pub count_row-requires-clause-no_zero : goal.count_row-requires-clause-no_zero
+count_row-requires-clause-no_zero c = c.in_ok-before.ensures.no_zero
+
+pub count_row-requires-clause-counted : goal.count_row-requires-clause-counted
+count_row-requires-clause-counted c = λ k.
+    ap (λ (p : List Held). total_of (length c.args.picks.now) k p c.make_room.new.counted)
+    c.as_mut_slice-in-loop-row.ensures.value ∙ c.in_ok-before.ensures.ok k ∙ c.loop-row.invariant.counted k
+
+pub loop-row-smaller : goal.loop-row-smaller
+loop-row-smaller c = falls _ _ c.loop-row-test.true
+
+pub loop-row-preserved : goal.loop-row-preserved
+loop-row-preserved c =
+    let new = c.count_row.new in
+    let places = with_items_is c.make_room.new.places new.places
+    (c.count_row.auto.places ∙ c.as_mut_slice-in-loop-row.ensures.len) in
+    let cells = with_items_is c.loop-row.cells new.cells (c.count_row.auto.cells ∙ c.as_mut_slice.ensures.len) in
+    record {
+      counted = λ k. ap (λ (p : List Held). total_of (length c.args.picks.now) k p new.counted) places
+          ∙ c.in_ok-count_row.ensures.ok k;
+      no_zero = c.in_ok-count_row.ensures.no_zero;
+      spare = c.in_ok-count_row.ensures.spare;
+      places = some_same c.in_ok-before.ensures.places
+          (ap length places ∙ c.count_row.auto.places ∙ ap length c.as_mut_slice-in-loop-row.ensures.value);
+      cells = ap length cells ∙ c.count_row.auto.cells ∙ ap length c.as_mut_slice.ensures.value
+          ∙ c.loop-row.invariant.cells;
+      cursors = c.count_row.auto.cursors ∙ c.loop-row.invariant.cursors;
+    }
+
+pub flush_all-requires-clause-width : goal.flush_all-requires-clause-width
+flush_all-requires-clause-width c = (c.requires.width.1, c.loop-row.invariant.spare)
+
+pub flush_all-requires-clause-fits : goal.flush_all-requires-clause-fits
+flush_all-requires-clause-fits c = λ k.
+    let shelf = c.args.shelf.now in
+    let region : IsRegion shelf.region = rw (← c.region.ensures.value) c.rows-row-end.ensures.region in
+    let rows = c.rows-row-end.ensures.value ∙ ap (λ (r : RegionValue). r.rows) c.region.ensures.value in
+    fits shelf.maps c.args.picks.now shelf.region.cols c.args.skip k c.loop-row.row shelf.region.rows _
+    (at_most c.loop-row.auto.row-end rows) region.rows_most region.cols_most
+    (ap (λ (p : List Held). total_of (length c.args.picks.now) k p c.loop-row.counted) c.deref-2.ensures.value
+    ∙ c.loop-row.invariant.counted k)
+
+pub flush_all-requires-clause-no_zero : goal.flush_all-requires-clause-no_zero
+flush_all-requires-clause-no_zero c = c.loop-row.invariant.no_zero
+
+pub returns-clause-counts : goal.returns-clause-counts
+returns-clause-counts c = λ k.
+    let maps = c.args.shelf.now.maps in
+    let picks = c.args.picks.now in
+    let skip = c.args.skip in
+    let value = c.args.shelf.now.region in
+    let last = at_end c.loop-row.auto.row-end c.loop-row-test.false
+    (c.rows-row-end.ensures.value ∙ ap (λ (r : RegionValue). r.rows) c.region.ensures.value) in
+    c.listed.ensures.counts k ∙ c.in_ok-flush_all.ensures.ok k ∙ ap (λ (p : List Held). total_of (length picks) k p c.loop-row.counted) c.deref-2.ensures.value ∙ c.loop-row.invariant.counted k
+    ∙ ap (λ r. count_of k (kept skip (all_combinations maps picks r value.cols))) last
+
+pub returns-clause-no_zero : goal.returns-clause-no_zero
+returns-clause-no_zero c = c.listed.ensures.no_zero
+
+pub listed-requires-clause-fits : goal.listed-requires-clause-fits
+listed-requires-clause-fits c = λ k.
+    let shelf = c.args.shelf.now in
+    let region : IsRegion shelf.region = rw (← c.region.ensures.value) c.rows-row-end.ensures.region in
+    let rows = c.rows-row-end.ensures.value ∙ ap (λ (r : RegionValue). r.rows) c.region.ensures.value in
+    fits shelf.maps c.args.picks.now shelf.region.cols c.args.skip k c.loop-row.row shelf.region.rows _
+    (at_most c.loop-row.auto.row-end rows) region.rows_most region.cols_most
+    (c.in_ok-flush_all.ensures.ok k ∙ ap (λ (p : List Held). total_of (length c.args.picks.now) k p c.loop-row.counted) c.deref-2.ensures.value
+    ∙ c.loop-row.invariant.counted k)
+
+pub returns-in_err-cells-clause-counts : goal.returns-in_err-cells-clause-counts
+returns-in_err-cells-clause-counts c = IfOk-from_err c.from_residual.result _ c.from_residual.ensures.0
+
+pub returns-in_err-cells-clause-no_zero : goal.returns-in_err-cells-clause-no_zero
+returns-in_err-cells-clause-no_zero c = IfOk-from_err c.from_residual.result _ c.from_residual.ensures.0
+
+pub returns-in_err-spare-clause-counts : goal.returns-in_err-spare-clause-counts
+returns-in_err-spare-clause-counts c =
+    IfOk-from_err c.from_residual-in_err-spare.result _ c.from_residual-in_err-spare.ensures.0
+
+pub returns-in_err-spare-clause-no_zero : goal.returns-in_err-spare-clause-no_zero
+returns-in_err-spare-clause-no_zero c =
+    IfOk-from_err c.from_residual-in_err-spare.result _ c.from_residual-in_err-spare.ensures.0
+
+pub returns-in_err-places-clause-counts : goal.returns-in_err-places-clause-counts
+returns-in_err-places-clause-counts c =
+    IfOk-from_err c.from_residual-in_err-places.result _ c.from_residual-in_err-places.ensures.0
+
+pub returns-in_err-places-clause-no_zero : goal.returns-in_err-places-clause-no_zero
+returns-in_err-places-clause-no_zero c =
+    IfOk-from_err c.from_residual-in_err-places.result _ c.from_residual-in_err-places.ensures.0
+
+pub returns-in_err-started-clause-counts : goal.returns-in_err-started-clause-counts
+returns-in_err-started-clause-counts c =
+    IfOk-from_err c.from_residual-in_err-started.result _ c.from_residual-in_err-started.ensures.0
+
+pub returns-in_err-started-clause-no_zero : goal.returns-in_err-started-clause-no_zero
+returns-in_err-started-clause-no_zero c =
+    IfOk-from_err c.from_residual-in_err-started.result _ c.from_residual-in_err-started.ensures.0
+
+pub returns-in_err-before-clause-counts : goal.returns-in_err-before-clause-counts
+returns-in_err-before-clause-counts c =
+    IfOk-from_err c.from_residual-in_err-before.result _ c.from_residual-in_err-before.ensures.0
+
+pub returns-in_err-before-clause-no_zero : goal.returns-in_err-before-clause-no_zero
+returns-in_err-before-clause-no_zero c =
+    IfOk-from_err c.from_residual-in_err-before.result _ c.from_residual-in_err-before.ensures.0
+
+pub returns-in_err-count_row-clause-counts : goal.returns-in_err-count_row-clause-counts
+returns-in_err-count_row-clause-counts c =
+    IfOk-from_err c.from_residual-in_err-count_row.result _ c.from_residual-in_err-count_row.ensures.0
+
+pub returns-in_err-count_row-clause-no_zero : goal.returns-in_err-count_row-clause-no_zero
+returns-in_err-count_row-clause-no_zero c =
+    IfOk-from_err c.from_residual-in_err-count_row.result _ c.from_residual-in_err-count_row.ensures.0
+
+pub returns-in_err-flush_all-clause-counts : goal.returns-in_err-flush_all-clause-counts
+returns-in_err-flush_all-clause-counts c =
+    IfOk-from_err c.from_residual-in_err-flush_all.result _ c.from_residual-in_err-flush_all.ensures.0
+
+pub returns-in_err-flush_all-clause-no_zero : goal.returns-in_err-flush_all-clause-no_zero
+returns-in_err-flush_all-clause-no_zero c =
+    IfOk-from_err c.from_residual-in_err-flush_all.result _ c.from_residual-in_err-flush_all.ensures.0

@@ -1,0 +1,31 @@
+-- A place in the row of a map, as a walk over its runs has it.
+use Rattle.std.specs.Prelude.{ℕ, ◌≡◌, ◌<◌, List, [], ◌++◌, All, replicate, slice_get, refl}
+use Rattle.std.specs.Coded.{Coded, code_by, coded×, coded_ℕ, coded_ℤ, coded_list, coded_option}
+use Rattle.std.specs.Option.{option_map_or}
+use Rattle.cell_core.specs.Grid.{Grid, CellValue, row_at}
+use Rattle.cell_core.specs.Runs.{RunValue, written_out}
+
+-- the cell at the place, in how many columns from there on it is the same, and the runs after these
+pub record CursorValue : Type 0 where
+  pub runs : List RunValue
+  pub cell : CellValue
+  pub left : ℕ
+
+-- the cells from the place on
+abbrev pub to_come : CursorValue → List CellValue
+to_come c = replicate c.left c.cell ++ written_out c.runs
+
+-- no run to come is empty, and the present one only where none is to come
+pub record AreCursorsReady (c : CursorValue) : Type 0 where
+  pub runs : All (λ run. 0 < run.1) c.runs
+  pub present : c.left ≡ 0 → c.runs ≡ []
+
+-- the row of the map in a place
+abbrev pub row_in : List Grid → ℕ → ℕ → List CellValue
+row_in maps row place = option_map_or (λ m. row_at m row) (slice_get maps place) []
+
+-- how a cursor is stored
+abbrev pub cursor_code : Coded CursorValue
+cursor_code =
+    code_by (List RunValue × (CellValue × ℕ)) (coded× (coded_list (coded× (coded_option coded_ℤ) coded_ℕ)) (coded× (coded_option coded_ℤ) coded_ℕ))
+    (λ c. (c.runs, (c.cell, c.left))) (λ p. record { runs = p.0; cell = p.1.0; left = p.1.1 }) (λ _. refl)

@@ -1,0 +1,20 @@
+-- Counts of combinations in a list.
+use Rattle.std.specs.Prelude.{ℕ, ◌<◌, List, All, cond, sum_by}
+use Rattle.std.specs.Ordering.{eq_by_cmp}
+use Rattle.cell_stats_combinations.specs.Combinations.{Combination, combination_cmp}
+
+-- combinations, each with a number of cells
+abbrev pub Counts : Type 0
+Counts = List (Combination × ℕ)
+
+-- how many cells of a combination an entry counts
+abbrev pub entry_of : Combination → Combination × ℕ → ℕ
+entry_of k entry = cond (eq_by_cmp combination_cmp k entry.0) entry.1 0
+
+-- how many the list counts, all entries of the combination together
+abbrev pub listed_of : Combination → Counts → ℕ
+listed_of k entries = sum_by (entry_of k) entries
+
+-- no entry counts nothing
+abbrev pub HasNoZero : Counts → Type 0
+HasNoZero entries = All (λ entry. 0 < entry.1) entries

@@ -1,0 +1,4 @@
+-- Combinations of one map, counts on their way to the list, the list in order.
+pub mod Alone
+pub mod HeldPlaces
+pub mod Joined

@@ -1,0 +1,21 @@
+-- A list in order whose entries of one combination are added up in place.
+use Rattle.std.specs.Prelude.{ℕ, ◌≡◌, ◌+◌, ◌<◌, ◌≤◌, false, length, take, drop, slice_index_or}
+use Rattle.std.specs.Ordering.{is_lt}
+use Rattle.std.specs.declared.cmp.Ordering.TheVariants.{Less}
+use Rattle.cell_stats_combinations.specs.Combinations.{Combination, combination_cmp}
+use Rattle.cell_stats_counts.specs.Listed.{Counts, listed_of, HasNoZero}
+
+-- no combination is less than the one before it
+abbrev pub IsRising : Counts → Type 0
+IsRising entries = (i : ℕ) (d : Combination × ℕ) → i + 1 < length entries → is_lt (combination_cmp (slice_index_or entries (i + 1) d).0 (slice_index_or entries i d).0) ≡ false
+
+-- the entries before `at` are added up in those to `last`, which strictly ascend, and the others are as they were
+pub record IsJoined (old now : Counts) (last at : ℕ) : Type 0 where
+  pub size : length now ≡ length old
+  pub before : last < at
+  pub within : at ≤ length old
+  pub ascends : (i : ℕ) (d : Combination × ℕ) → i < last → combination_cmp (slice_index_or now i d).0 (slice_index_or now (i + 1) d).0 ≡ Less
+  pub border : (d : Combination × ℕ) → at < length old → is_lt (combination_cmp (slice_index_or old at d).0 (slice_index_or now last d).0) ≡ false
+  pub others : (i : ℕ) (d : Combination × ℕ) → at ≤ i → slice_index_or now i d ≡ slice_index_or old i d
+  pub counts : (k : Combination) → listed_of k (take (last + 1) now) + listed_of k (drop at old) ≡ listed_of k old
+  pub no_zero : HasNoZero (take (last + 1) now)

@@ -1,0 +1,270 @@
+//! Counts of combinations: in an ordered map, and some that are on their way to it.
+
+ghost use Rattle.std.specs.Prelude.{[], ℕ, ◌≡◌, ◌≢◌, ◌+◌, ◌-◌, ◌<◌, ◌≤◌, ◌^◌, ◌↔◌, length, take, All, Some, cond, OnOk, IfOk, IsTrue};
+ghost use Rattle.cell_stats_combinations.specs.Combinations.{Combination, combination_cmp};
+ghost use Rattle.cell_stats_counts.specs.parts.HeldPlaces.{is_same, held_by, held_of, total_of, gathered_of, GathersNoZero};
+
+use crate::gathered::{Gathered, code_of, merge, settle};
+use cell_core::cell::Cell;
+use cell_core::memory::Memory;
+use cell_core::shelf::Shelf;
+use cell_stats_combinations::combination::Combo;
+use std::alloc::Global;
+
+// How many combinations are held at first: at least, and at most. All numbers of places are powers of two.
+const FEWEST: u32 = 64;
+
+const FIRST: u32 = 4096;
+
+// The most combinations that are ever held.
+const MOST: usize = 262144;
+
+// How many times as many are held where there were too few places.
+const GROWTH: usize = 8;
+
+// There are too few places where one in so many has sent a new combination to the map.
+const CROWD: usize = 64;
+
+// How many places are looked at for a combination, where the list has few.
+const NEAR: usize = 12;
+
+// The most maps that are tallied together.
+const WIDEST: usize = 16;
+
+// How many cells of a combination are not in the map yet, and the combination, followed by nulls.
+#[derive(Clone, Copy)]
+pub(crate) struct Held {
+    count: u64,
+    cells: [Cell; WIDEST],
+}
+
+// A number of a combination. Those of neighbouring categories are close to each other.
+fn number_of(cells: &[Cell]) -> usize {
+    let mut number: u64 = 0;
+    for cell in cells {
+        number = number.wrapping_mul(1009).wrapping_add(code_of(*cell));
+    }
+    number.wrapping_add((number >> 18).wrapping_mul(40503)) as usize
+}
+
+// Whether the place holds the combination.
+fn is_held(held: &Held, cells: &[Cell]) -> bool
+    requires { length cells.now ≤ 16 }
+    ensures { IsTrue result ↔ (take (length cells.now) held.now.cells ≡ cells.now) }
+{
+    for (i, cell) in cells.iter().enumerate() {
+        if held.cells[i] != *cell {
+            return false;
+        }
+    }
+    true
+}
+
+// The place where a combination is looked for first. The number of places is a power of two, so that no division is needed.
+fn own_place(cells: &[Cell], places: usize) -> usize
+    requires { 0 < places }
+    ensures { result < places }
+{
+    let last = places - 1;
+    (number_of(cells) & last).min(last)
+}
+
+// How many places are looked at for a combination: where the list has more combinations than there are places, the one that is
+// looked for is hardly near.
+fn near_of(places: usize, listed: usize) -> usize {
+    if listed < places { NEAR } else { 1 }
+}
+
+// Where a combination is held, or else a place near its own that holds nothing, or else its own.
+fn place_near(cells: &[Cell], own: usize, near: usize, places: &[Held]) -> usize
+    requires width { length cells.now ≤ 16 }
+    requires own { own < length places.now }
+    ensures { result < length places.now }
+{
+    let end = places.len().min(own.saturating_add(near));
+    for at in own..end {
+        if places[at].count == 0 || is_held(&places[at], cells) {
+            return at;
+        }
+    }
+    own
+}
+
+// Brings what a place holds to the map.
+fn flush(
+    alloc: Global,
+    held: &Held,
+    width: usize,
+    spare: &mut Combo,
+    counted: &mut Gathered,
+) -> Result<(), Memory>
+    requires width { (width ≤ 16) × (length spare.old ≡ width) }
+    requires fits { (k : Combination) → gathered_of k counted.old + held_by width k held.now < 2 ^ 64 }
+    requires no_zero { GathersNoZero counted.old }
+    ensures ok { OnOk result ((k : Combination) → gathered_of k counted.new ≡ gathered_of k counted.old + held_by width k held.now) }
+    ensures no_zero { OnOk result (GathersNoZero counted.new) }
+    ensures spare { length spare.new ≡ width }
+{
+    if held.count == 0 {
+        return Ok(());
+    }
+    spare.write(&held.cells[..width]);
+    merge(alloc, spare, held.count, counted)?;
+    Ok(())
+}
+
+// Makes a place hold cells of a combination.
+fn hold(held: &mut Held, cells: &[Cell], count: u64)
+    requires { length cells.now ≤ 16 }
+    ensures cells { take (length cells.now) held.new.cells ≡ cells.now }
+    ensures count { held.new.count ≡ count }
+{
+    held.cells[..cells.len()].copy_from_slice(cells);
+    held.count = count;
+}
+
+// Counts cells of a combination that its own place does not hold, at a place near that. What it held of another goes to the
+// map. It stays out of the loop over the cells, where it is rare.
+#[inline(never)]
+fn add_near(
+    alloc: Global,
+    cells: &[Cell],
+    count: u64,
+    own: usize,
+    spare: &mut Combo,
+    places: &mut [Held],
+    counted: &mut Gathered,
+) -> Result<(), Memory>
+    requires width { (length cells.now ≤ 16) × (length spare.old ≡ length cells.now) }
+    requires own { own < length places.old }
+    requires fits { (k : Combination) → total_of (length cells.now) k places.old counted.old + count < 2 ^ 64 }
+    requires no_zero { GathersNoZero counted.old }
+    ensures ok { OnOk result ((k : Combination) → total_of (length cells.now) k places.new counted.new ≡ total_of (length cells.now) k places.old counted.old + cond (is_same k cells.now) count 0) }
+    ensures no_zero { OnOk result (GathersNoZero counted.new) }
+    ensures spare { length spare.new ≡ length cells.now }
+{
+    let near = near_of(places.len(), counted.len());
+    let at = place_near(cells, own, near, places);
+    let place = &mut places[at];
+    if is_held(place, cells) {
+        place.count += count;
+        return Ok(());
+    }
+    flush(alloc, place, cells.len(), spare, counted)?;
+    hold(place, cells, count);
+    Ok(())
+}
+
+// Counts cells of a combination at a place for it.
+#[inline(always)]
+pub(crate) fn add(
+    alloc: Global,
+    cells: &[Cell],
+    count: u64,
+    spare: &mut Combo,
+    places: &mut [Held],
+    counted: &mut Gathered,
+) -> Result<(), Memory>
+    requires width { (length cells.now ≤ 16) × (length spare.old ≡ length cells.now) }
+    requires places { 0 < length places.old }
+    requires fits { (k : Combination) → total_of (length cells.now) k places.old counted.old + count < 2 ^ 64 }
+    requires no_zero { GathersNoZero counted.old }
+    ensures ok { OnOk result ((k : Combination) → total_of (length cells.now) k places.new counted.new ≡ total_of (length cells.now) k places.old counted.old + cond (is_same k cells.now) count 0) }
+    ensures no_zero { OnOk result (GathersNoZero counted.new) }
+    ensures spare { length spare.new ≡ length cells.now }
+{
+    let own = own_place(cells, places.len());
+    let place = &mut places[own];
+    if is_held(place, cells) {
+        place.count += count;
+        return Ok(());
+    }
+    add_near(alloc, cells, count, own, spare, places, counted)
+}
+
+// How many combinations are held at first: fewer where there are few cells.
+fn places_for(shelf: &Shelf) -> usize
+    ensures { 0 < result }
+{
+    let region = shelf.region();
+    let cells = region.rows().saturating_mul(region.cols());
+    (cells / 2).clamp(FEWEST, FIRST).next_power_of_two() as usize
+}
+
+// Places that hold nothing.
+fn places_of(alloc: Global, many: usize) -> Result<Vec<Held>, Memory>
+    requires { 0 < many }
+    ensures some { IfOk result (λ places. 0 < length places.items) }
+    ensures nothing { IfOk result (λ places. (width : ℕ) (k : Combination) → held_of width k places.items ≡ 0) }
+{
+    let nothing = Held {
+        count: 0,
+        cells: [Cell::null(); WIDEST],
+    };
+    let places = vec![in alloc; nothing; many]?;
+    Ok(places)
+}
+
+// The places to begin with. They hold nothing.
+pub(crate) fn first_places(alloc: Global, shelf: &Shelf) -> Result<Vec<Held>, Memory>
+    ensures some { IfOk result (λ places. 0 < length places.items) }
+    ensures nothing { IfOk result (λ places. (width : ℕ) (k : Combination) → held_of width k places.items ≡ 0) }
+{
+    places_of(alloc, places_for(shelf))
+}
+
+// Brings all that the places hold to the map.
+pub(crate) fn flush_all(
+    alloc: Global,
+    width: usize,
+    spare: &mut Combo,
+    places: &[Held],
+    counted: &mut Gathered,
+) -> Result<(), Memory>
+    requires width { (width ≤ 16) × (length spare.old ≡ width) }
+    requires fits { (k : Combination) → total_of width k places.now counted.old < 2 ^ 64 }
+    requires no_zero { GathersNoZero counted.old }
+    ensures ok { OnOk result ((k : Combination) → gathered_of k counted.new ≡ total_of width k places.now counted.old) }
+    ensures no_zero { OnOk result (GathersNoZero counted.new) }
+    ensures settled { OnOk result (counted.new.pending.items ≡ []) }
+    ensures spare { OnOk result (length spare.new ≡ width) }
+{
+    for held in places {
+        flush(alloc, held, width, spare, counted)?;
+    }
+    settle(alloc, counted)?;
+    Ok(())
+}
+
+// Whether the places are too few for the combinations, by how many of these are new in the map.
+fn are_crowded(places: usize, new: usize) -> bool {
+    places < MOST && new > places / CROWD
+}
+
+// Makes more places where there are too few. `before` is how many combinations the map had when the places were made;
+// returns the same number for the places that there are now.
+pub(crate) fn make_room(
+    alloc: Global,
+    width: usize,
+    before: usize,
+    spare: &mut Combo,
+    places: &mut Vec<Held>,
+    counted: &mut Gathered,
+) -> Result<usize, Memory>
+    requires width { (width ≤ 16) × (length spare.old ≡ width) }
+    requires places { 0 < length places.old.items }
+    requires fits { (k : Combination) → total_of width k places.old.items counted.old < 2 ^ 64 }
+    requires no_zero { GathersNoZero counted.old }
+    ensures ok { OnOk result ((k : Combination) → total_of width k places.new.items counted.new ≡ total_of width k places.old.items counted.old) }
+    ensures no_zero { OnOk result (GathersNoZero counted.new) }
+    ensures places { OnOk result (0 < length places.new.items) }
+    ensures spare { OnOk result (length spare.new ≡ width) }
+{
+    if !are_crowded(places.len(), counted.len().saturating_sub(before)) {
+        return Ok(before);
+    }
+    flush_all(alloc, width, spare, places.as_slice(), counted)?;
+    let more = places_of(alloc, places.len().saturating_mul(GROWTH).min(MOST))?;
+    *places = more;
+    Ok(counted.len())
+}

@@ -1,0 +1,302 @@
+//! Counts of combinations in a list, in which each is found by a number of it.
+
+ghost use Rattle.std.specs.Prelude.{◌≡◌, ◌≢◌, ◌+◌, ◌<◌, ◌≤◌, ◌^◌, [], ℕ, slice_index_or, All, IfOk, OnOk, IsTrue, false, cond, length, take, map};
+ghost use Rattle.std.specs.List.Sorted.{IsStrictlySortedBy};
+ghost use Rattle.cell_stats_combinations.specs.Combinations.{Combination, combination_cmp};
+ghost use Rattle.cell_stats_counts.specs.Listed.{Counts, listed_of, HasNoZero};
+ghost use Rattle.cell_stats_counts.specs.parts.HeldPlaces.{is_same, gathered_of, GathersNoZero, Grows};
+ghost use Rattle.cell_stats_counts.specs.parts.Joined.{IsRising, IsJoined};
+
+use cell_core::cell::Cell;
+use cell_core::memory::Memory;
+use cell_stats_combinations::combination::Combo;
+use std::alloc::Global;
+
+// How many places are looked at for a combination.
+const NEAR: usize = 32;
+
+// The places of the index at first.
+const FIRST: usize = 1024;
+
+// How many combinations are pending before they are looked for together.
+const BATCH: usize = 64;
+
+// A place that names no entry.
+const NONE: u64 = u64::MAX;
+
+// The lower half of a number.
+const LOW: u64 = u32::MAX as u64;
+
+// Counts of combinations, and the places of an index: each that is taken has the lower half of the number of a combination,
+// and below it where its entry stands. What is pending is counted too.
+#[derive(Drop)]
+pub(crate) struct Gathered {
+    entries: Vec<(Combo, u64)>,
+    index: Vec<u64>,
+    pending: Vec<(Combo, u64)>,
+}
+
+// A number of a cell.
+#[inline(always)]
+pub(crate) fn code_of(cell: Cell) -> u64 {
+    match cell.get() {
+        Some(category) => (i64::from(category) + 2147483648) as u64,
+        None => 0,
+    }
+}
+
+// A number of a combination, all of whose upper bits depend on each cell.
+fn number_of(cells: &[Cell]) -> u64 {
+    let mut number: u64 = 0;
+    for cell in cells {
+        number = (number.rotate_left(29) ^ code_of(*cell)).wrapping_mul(11400714819323198485);
+    }
+    number
+}
+
+// The place where a combination is looked for first. The number of places is a power of two.
+fn own_spot(number: u64, places: usize) -> usize {
+    ((number >> 32) as usize) & places.saturating_sub(1)
+}
+
+// Where a combination is found, or else a place near its own that names no entry, or else its own.
+fn spot_of(number: u64, cells: &[Cell], entries: &[(Combo, u64)], index: &[u64]) -> usize {
+    let own = own_spot(number, index.len());
+    let end = index.len().min(own.saturating_add(NEAR));
+    for spot in own..end {
+        let place = index[spot];
+        if place == NONE {
+            return spot;
+        }
+        if place >> 32 == number & LOW {
+            if let Some(entry) = entries.get((place & LOW) as usize) {
+                if entry.0.cells() == cells {
+                    return spot;
+                }
+            }
+        }
+    }
+    own
+}
+
+// Has a place name an entry.
+fn note(index: &mut [u64], spot: usize, number: u64, at: usize) {
+    if let Some(place) = index.get_mut(spot) {
+        *place = (number & LOW) << 32 | at as u64 & LOW;
+    }
+}
+
+// An index of the entries, of twice as many places as there were.
+fn index_of(alloc: Global, entries: &[(Combo, u64)], before: usize) -> Result<Vec<u64>, Memory> {
+    let mut index = vec![in alloc; NONE; before.saturating_mul(2).max(FIRST)]?;
+    for (at, entry) in entries.iter().enumerate() {
+        let cells = entry.0.cells();
+        let number = number_of(cells);
+        let spot = spot_of(number, cells, entries, &index);
+        note(index.as_mut_slice(), spot, number, at);
+    }
+    Ok(index)
+}
+
+// Whether an entry counts the combination.
+fn is_of(entry: &(Combo, u64), combo: &Combo) -> bool
+    ensures { result ≡ is_same entry.now.0 combo.now }
+{
+    entry.0 == *combo
+}
+
+// Whether two entries count one combination.
+fn are_same(entries: &[(Combo, u64)], a: usize, b: usize) -> bool
+    requires { (a < length entries.now) × (b < length entries.now) }
+    ensures { (d : Combination × ℕ) → result ≡ is_same (slice_index_or entries.now a d).0 (slice_index_or entries.now b d).0 }
+{
+    is_of(&entries[a], &entries[b].0)
+}
+
+// Adds cells to the entry at a place, if it has the combination, and tells whether it has.
+fn has_added(entries: &mut [(Combo, u64)], at: usize, combo: &Combo, count: u64) -> bool
+    requires fits { listed_of combo.now entries.old + count < 2 ^ 64 }
+    requires no_zero { HasNoZero entries.old }
+    ensures counts { (k : Combination) → listed_of k entries.new ≡ listed_of k entries.old + cond result (cond (is_same k combo.now) count 0) 0 }
+    ensures no_zero { HasNoZero entries.new }
+{
+    if at >= entries.len() {
+        return false;
+    }
+    let entry = &mut entries[at];
+    if !is_of(entry, combo) {
+        return false;
+    }
+    entry.1 += count;
+    true
+}
+
+// The entry that a place names, or none.
+fn named(index: &[u64], spot: usize) -> usize {
+    match index.get(spot) {
+        Some(place) => (*place & LOW) as usize,
+        None => usize::MAX,
+    }
+}
+
+// For each pending combination the entry that is named where it is looked for first. These reads wait for memory together.
+fn guesses_of(pending: &[(Combo, u64)], index: &[u64]) -> [usize; BATCH] {
+    let mut guesses = [0; BATCH];
+    for (guess, entry) in guesses.iter_mut().zip(pending.iter()) {
+        *guess = named(index, own_spot(number_of(entry.0.cells()), index.len()));
+    }
+    guesses
+}
+
+// The guess at a place.
+fn guess_at(guesses: &[usize; BATCH], at: usize) -> usize {
+    guesses[at.min(BATCH - 1)]
+}
+
+// Counts cells of a combination in the entries: in the one that is guessed, or another that has it, or a new one.
+fn put(
+    alloc: Global,
+    combo: Combo,
+    count: u64,
+    guess: usize,
+    entries: &mut Vec<(Combo, u64)>,
+    index: &mut Vec<u64>,
+) -> Result<(), Memory>
+    requires some { 0 < count }
+    requires fits { listed_of combo entries.old.items + count < 2 ^ 64 }
+    requires no_zero { HasNoZero entries.old.items }
+    ensures ok { OnOk result ((k : Combination) → listed_of k entries.new.items ≡ listed_of k entries.old.items + cond (is_same k combo) count 0) }
+    ensures no_zero { OnOk result (HasNoZero entries.new.items) }
+{
+    if has_added(entries.as_mut_slice(), guess, &combo, count) {
+        return Ok(());
+    }
+    let number = number_of(combo.cells());
+    let spot = spot_of(number, combo.cells(), entries.as_slice(), index.as_slice());
+    let at = named(index.as_slice(), spot);
+    if has_added(entries.as_mut_slice(), at, &combo, count) {
+        return Ok(());
+    }
+    let end = entries.len();
+    entries.push((combo, count))?;
+    note(index.as_mut_slice(), spot, number, end);
+    let places = index.len();
+    if end >= places / 2 {
+        *index = Vec::new(alloc);
+        *index = index_of(alloc, entries.as_slice(), places)?;
+    }
+    Ok(())
+}
+
+// Brings what is pending to the entries.
+pub(crate) fn settle(alloc: Global, counted: &mut Gathered) -> Result<(), Memory>
+    requires fits { (k : Combination) → gathered_of k counted.old < 2 ^ 64 }
+    requires no_zero { GathersNoZero counted.old }
+    ensures ok { OnOk result ((k : Combination) → gathered_of k counted.new ≡ gathered_of k counted.old) }
+    ensures no_zero { OnOk result (GathersNoZero counted.new) }
+    ensures settled { OnOk result (counted.new.pending.items ≡ []) }
+{
+    let guesses = guesses_of(&counted.pending, &counted.index);
+    while let Some((combo, count)) = counted.pending.pop() {
+        let guess = guess_at(&guesses, counted.pending.len());
+        put(
+            alloc,
+            combo,
+            count,
+            guess,
+            &mut counted.entries,
+            &mut counted.index,
+        )?;
+    }
+    Ok(())
+}
+
+// Counts cells of a combination: they are pending, and some are brought to the entries together.
+pub(crate) fn merge(
+    alloc: Global,
+    combo: &Combo,
+    count: u64,
+    counted: &mut Gathered,
+) -> Result<(), Memory>
+    requires some { 0 < count }
+    requires fits { (k : Combination) → gathered_of k counted.old + cond (is_same k combo.now) count 0 < 2 ^ 64 }
+    requires no_zero { GathersNoZero counted.old }
+    ensures ok { OnOk result (Grows counted.old counted.new combo.now count) }
+    ensures no_zero { OnOk result (GathersNoZero counted.new) }
+{
+    let key = Combo::from_cells(alloc, combo.cells())?;
+    counted.pending.push((key, count))?;
+    if counted.pending.len() < BATCH {
+        return Ok(());
+    }
+    settle(alloc, counted)
+}
+
+// Takes the entry at a place in: it is added to the last one that was taken, or it is the next. Returns the last place then.
+fn take_in(entries: &mut [(Combo, u64)], last: usize, at: usize) -> usize
+    requires places { (last < at) × (at < length entries.old) }
+    requires fits { (d : Combination × ℕ) → (slice_index_or entries.old last d).0 ≡ (slice_index_or entries.old at d).0 → (slice_index_or entries.old last d).1 + (slice_index_or entries.old at d).1 < 2 ^ 64 }
+    ensures joined { (old : Counts) → IsRising old → HasNoZero old → IsJoined old entries.old last at → IsJoined old entries.new result (at + 1) }
+{
+    if are_same(entries, at, last) {
+        let more = entries[at].1;
+        entries[last].1 += more;
+        return last;
+    }
+    entries.swap(last + 1, at);
+    last + 1
+}
+
+// Adds up the entries of each combination in a list in order. They are the first so many then.
+fn join(entries: &mut [(Combo, u64)]) -> usize
+    requires rising { IsRising entries.old }
+    requires fits { (k : Combination) → listed_of k entries.old < 2 ^ 64 }
+    requires no_zero { HasNoZero entries.old }
+    ensures ascending { IsStrictlySortedBy combination_cmp (map (λ entry. entry.0) (take result entries.new)) }
+    ensures counts { (k : Combination) → listed_of k (take result entries.new) ≡ listed_of k entries.old }
+    ensures no_zero { HasNoZero (take result entries.new) }
+{
+    if entries.is_empty() {
+        return 0;
+    }
+    let mut last = 0;
+    for at in 1..entries.len() {
+        last = take_in(entries, last, at);
+    }
+    last + 1
+}
+
+// Puts the list in order, with one entry for each combination.
+pub(crate) fn listed(counted: Gathered) -> Vec<(Combo, u64)>
+    requires fits { (k : Combination) → gathered_of k counted < 2 ^ 64 }
+    requires no_zero { GathersNoZero counted }
+    requires settled { counted.pending.items ≡ [] }
+    ensures ascending { IsStrictlySortedBy combination_cmp (map (λ entry. entry.0) result.items) }
+    ensures counts { (k : Combination) → listed_of k result.items ≡ gathered_of k counted }
+    ensures no_zero { HasNoZero result.items }
+{
+    let mut entries = counted.entries;
+    entries.sort_unstable();
+    let kept = join(entries.as_mut_slice());
+    entries.truncate(kept);
+    entries
+}
+
+impl Gathered {
+    // None yet.
+    pub(crate) fn new(alloc: Global) -> Gathered
+        ensures none { result.entries.items ≡ [] }
+        ensures settled { result.pending.items ≡ [] }
+    {
+        Gathered {
+            entries: Vec::new(alloc),
+            index: Vec::new(alloc),
+            pending: Vec::new(alloc),
+        }
+    }
+
+    // How many entries there are.
+    pub(crate) fn len(&self) -> usize {
+        self.entries.len()
+    }
+}

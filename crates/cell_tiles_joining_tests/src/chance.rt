@@ -1,0 +1,42 @@
+//! Maps that look like chance, and cuts of them.
+
+use cell_core::memory::Memory;
+use cell_core_test_maps::maps::NULL;
+use std::alloc::Global;
+
+/// The next number of a sequence that looks like chance (Knuth's multiplier).
+pub(crate) fn next_random(seed: u64) -> u64 {
+    seed.wrapping_mul(6364136223846793005)
+        .wrapping_add(1442695040888963407)
+}
+
+/// So many categories below a number, at most 3, of which the last stands for null.
+pub(crate) fn categories_by(
+    alloc: Global,
+    seed: &mut u64,
+    count: usize,
+    kinds: u64,
+) -> Result<Vec<i32>, Memory> {
+    let mut categories = Vec::new(alloc);
+    for _ in 0..count {
+        *seed = next_random(*seed);
+        let kind = (*seed >> 33) % kinds.max(1);
+        categories.push(if kind == 3 { NULL } else { kind as i32 })?;
+    }
+    Ok(categories)
+}
+
+/// Heights of bands that make so many rows together.
+pub(crate) fn heights_by(alloc: Global, seed: &mut u64, rows: usize) -> Result<Vec<usize>, Memory> {
+    let mut heights = Vec::new(alloc);
+    let mut left = rows;
+    for _ in 0..rows {
+        if left > 0 {
+            *seed = next_random(*seed);
+            let height = 1 + ((*seed >> 33) as usize) % left;
+            heights.push(height)?;
+            left = left.saturating_sub(height);
+        }
+    }
+    Ok(heights)
+}

@@ -1,0 +1,105 @@
+-- Values of parts: an expression has the same value over a part of maps, where what it reads lies in the part or the maps end.
+use Rattle.std.specs.Prelude.{ℕ, pos, ◌+ℤ◌, Some, slice_get, [], ◌∷◌, Bool, true, false, ◌||◌, ◌==◌, ◌≡◌, ◌≤◌, ◌<◌, ◌+◌, ◌⊎◌, max, List, All, if◌then◌else◌}
+use Rattle.cell_core_values.specs.Region.{RegionValue}
+use Rattle.cell_core.specs.Grid.{Grid, CellValue, IsFilled}
+use Rattle.cell_calc_tokens.specs.declared.function.Function.{Function}
+use Rattle.cell_calc_tokens.specs.declared.function.Function.TheVariants.{Row, Column, RowCount, ColumnCount}
+use Rattle.cell_calc_language.specs.Grammatical.{up_by, down_by}
+use Rattle.cell_calc_operators.specs.Applied.{Spot, spot, negated, inverted, applied, call_result}
+use Rattle.cell_calc_operators.specs.Offsets.{cell_in}
+use Rattle.cell_calc_binding.specs.Formula.{Formula, Number, Map, Negated, Not, Binary, Call, Formulas, NoFormulas, Then}
+use Rattle.cell_calc_binding.specs.Reach.{up_of, down_of}
+use Rattle.cell_calc_binding.specs.Value.{value}
+use Rattle.cell_tiles_law.specs.Parts.{Rectangle, AreCutOut}
+
+abbrev mutual
+  -- the most columns to the left that an offset for a place asks for
+  pub left_of : ℕ → Formula → ℕ
+  left_of i (Number n) = 0
+  left_of i (Map j down right) = if i == j then up_by right else 0
+  left_of i (Negated a) = left_of i a
+  left_of i (Not a) = left_of i a
+  left_of i (Binary op a b) = max (left_of i a) (left_of i b)
+  left_of i (Call f xs) = left_of_all i xs
+
+  pub left_of_all : ℕ → Formulas → ℕ
+  left_of_all i NoFormulas = 0
+  left_of_all i (Then a xs) = max (left_of i a) (left_of_all i xs)
+
+abbrev mutual
+  -- the most columns to the right
+  pub right_of : ℕ → Formula → ℕ
+  right_of i (Number n) = 0
+  right_of i (Map j down right) = if i == j then down_by right else 0
+  right_of i (Negated a) = right_of i a
+  right_of i (Not a) = right_of i a
+  right_of i (Binary op a b) = max (right_of i a) (right_of i b)
+  right_of i (Call f xs) = right_of_all i xs
+
+  pub right_of_all : ℕ → Formulas → ℕ
+  right_of_all i NoFormulas = 0
+  right_of_all i (Then a xs) = max (right_of i a) (right_of_all i xs)
+
+-- what an expression reads at a cell of a rectangle lies in the rectangle, or on a side where the region ends
+pub record ReadsWithin (f : Formula) (region : RegionValue) (r : Rectangle) (row col : ℕ) : Type 0 where
+  pub up : (place : ℕ) → (r.top ≡ 0) ⊎ (up_of place f ≤ row)
+  pub down : (place : ℕ) → (region.rows ≤ r.top + r.rows) ⊎ (row + down_of place f < r.rows)
+  pub left : (place : ℕ) → (r.left ≡ 0) ⊎ (left_of place f ≤ col)
+  pub right : (place : ℕ) → (region.cols ≤ r.left + r.cols) ⊎ (col + right_of place f < r.cols)
+
+abbrev mutual
+  -- whether one of these functions is called
+  pub calls : (Function → Bool) → Formula → Bool
+  calls these (Number n) = false
+  calls these (Map i down right) = false
+  calls these (Negated a) = calls these a
+  calls these (Not a) = calls these a
+  calls these (Binary op a b) = calls these a || calls these b
+  calls these (Call f xs) = these f || call_any these xs
+
+  pub call_any : (Function → Bool) → Formulas → Bool
+  call_any these NoFormulas = false
+  call_any these (Then a xs) = calls these a || call_any these xs
+
+-- row() and nrows(), and col() and ncols()
+abbrev pub asks_rows : Function → Bool
+asks_rows Row = true
+asks_rows RowCount = true
+asks_rows f = false
+
+abbrev pub asks_cols : Function → Bool
+asks_cols Column = true
+asks_cols ColumnCount = true
+asks_cols f = false
+
+-- and it does not ask for rows, or all of them are there; likewise columns
+pub record HasHalo (f : Formula) (region : RegionValue) (r : Rectangle) (row col : ℕ) : Type 0 where
+  pub reads : ReadsWithin f region r row col
+  pub rows : (calls asks_rows f ≡ false) ⊎ ((r.top ≡ 0) × (r.rows ≡ region.rows))
+  pub cols : (calls asks_cols f ≡ false) ⊎ ((r.left ≡ 0) × (r.cols ≡ region.cols))
+
+-- a halo is enough: the value over the part is that over the whole
+abbrev pub HaloIsEnough : Type 0
+HaloIsEnough = (f : Formula) (whole part : List Grid) (region : RegionValue) (r : Rectangle) (row col : ℕ) → All (λ m. IsFilled region m.rows) whole → AreCutOut r whole part → HasHalo f region r row col → value f part (record { rows = r.rows; cols = r.cols; row = row; col = col }) ≡ value f whole (spot region (r.top + row) (r.left + col))
+
+abbrev mutual
+  -- the value where row() and its like tell of another spot than the one that offsets are counted from
+  pub value_told : Formula → List Grid → (here told : Spot) → CellValue
+  value_told (Number n) maps here told = Some (pos n)
+  value_told (Map i down right) maps here told = cell_in (slice_get maps i) (pos here.row +ℤ down) (pos here.col +ℤ right)
+  value_told (Negated a) maps here told = negated (value_told a maps here told)
+  value_told (Not a) maps here told = inverted (value_told a maps here told)
+  value_told (Binary op a b) maps here told = applied op (value_told a maps here told) (value_told b maps here told)
+  value_told (Call f xs) maps here told = call_result f told (values_told xs maps here told)
+
+  pub values_told : Formulas → List Grid → (here told : Spot) → List CellValue
+  values_told NoFormulas maps here told = []
+  values_told (Then a xs) maps here told = value_told a maps here told ∷ values_told xs maps here told
+
+-- told of that spot itself, it is the value
+abbrev pub ToldOfItself : Type 0
+ToldOfItself = (f : Formula) (maps : List Grid) (s : Spot) → value_told f maps s s ≡ value f maps s
+
+-- told of the spot in the whole, any expression has the value over the whole
+abbrev pub ReachIsEnough : Type 0
+ReachIsEnough = (f : Formula) (whole part : List Grid) (region : RegionValue) (r : Rectangle) (row col : ℕ) → All (λ m. IsFilled region m.rows) whole → AreCutOut r whole part → ReadsWithin f region r row col → value_told f part (record { rows = r.rows; cols = r.cols; row = row; col = col }) (spot region (r.top + row) (r.left + col)) ≡ value f whole (spot region (r.top + row) (r.left + col))

@@ -1,0 +1,63 @@
+-- Parts of maps: a rectangle of their cells, as maps of their own (the regions and labels of parts do not matter here).
+use Rattle.std.specs.Prelude.{ℕ, Bool, ◌&&◌, nat_le, nat_lt, ◌≡◌, ◌≤◌, ◌<◌, ◌+◌, List, [], ◌∷◌, ◌++◌, length, All, count_by, sum, map, flat_map, take, drop}
+use Rattle.cell_core.specs.Grid.{Grid, CellValue}
+use Rattle.cell_stats_combinations.specs.Combinations.{cell_of_map}
+
+-- a rectangle of cells: its first row and column, and how many of each
+pub record Rectangle : Type 0 where
+  pub top : ℕ
+  pub left : ℕ
+  pub rows : ℕ
+  pub cols : ℕ
+
+-- whether the cell at a row and a column lies in it
+abbrev pub is_in : Rectangle → ℕ → ℕ → Bool
+is_in r row col = (nat_le r.top row && nat_lt row (r.top + r.rows)) && (nat_le r.left col && nat_lt col (r.left + r.cols))
+
+-- rectangles that cover so many rows and columns: each cell lies in one, and none reaches outside
+pub record AreTiling (rows cols : ℕ) (places : List Rectangle) : Type 0 where
+  pub within : All (λ r. (r.top + r.rows ≤ rows) × (r.left + r.cols ≤ cols)) places
+  pub once : (row col : ℕ) → row < rows → col < cols → count_by (λ r. is_in r row col) places ≡ 1
+
+-- lengths laid end to end, from a number on: where each begins, and the length
+abbrev pub stretches : ℕ → List ℕ → List (ℕ × ℕ)
+stretches from [] = []
+stretches from (n ∷ lengths) = (from, n) ∷ stretches (from + n) lengths
+
+-- cuts across the whole, between rows of so many heights and columns of so many widths: the rectangles row by row
+abbrev pub grid_of_cuts : (heights widths : List ℕ) → List Rectangle
+grid_of_cuts heights widths = flat_map (λ h. map (λ w. record { top = h.0; left = w.0; rows = h.1; cols = w.1 }) (stretches 0 widths)) (stretches 0 heights)
+
+-- whatever the heights and the widths, each cell lies in one of them
+abbrev pub GridsCover : Type 0
+GridsCover = (heights widths : List ℕ) → AreTiling (sum heights) (sum widths) (grid_of_cuts heights widths)
+
+-- the maps of a part have the cells that those of the whole have in the rectangle
+abbrev pub IsPart : Rectangle → (whole part : List Grid) → Type 0
+IsPart r whole part = (row col place : ℕ) → row < r.rows → col < r.cols → cell_of_map part row col place ≡ cell_of_map whole (r.top + row) (r.left + col) place
+
+-- a map that is cut below so many rows: its rows are those of the upper part, then those of the lower
+pub record Cut : Type 0 where
+  pub whole : Grid
+  pub upper : Grid
+  pub lower : Grid
+
+pub record IsCutBelow (above : ℕ) (cut : Cut) : Type 0 where
+  pub rows : cut.whole.rows ≡ cut.upper.rows ++ cut.lower.rows
+  pub count : length cut.upper.rows ≡ above
+
+-- maps that are cut so: the upper maps are a part of the whole, and so are the lower ones
+abbrev pub CutsAreParts : Type 0
+CutsAreParts = (above below cols : ℕ) (cuts : List Cut) → All (IsCutBelow above) cuts → IsPart (record { top = 0; left = 0; rows = above; cols = cols }) (map (λ cut. cut.whole) cuts) (map (λ cut. cut.upper) cuts) × IsPart (record { top = above; left = 0; rows = below; cols = cols }) (map (λ cut. cut.whole) cuts) (map (λ cut. cut.lower) cuts)
+
+-- the cells of rows in a rectangle, row by row
+abbrev pub cut_out : Rectangle → List (List CellValue) → List (List CellValue)
+cut_out r rows = map (λ row. take r.cols (drop r.left row)) (take r.rows (drop r.top rows))
+
+-- maps whose rows are those cells of the maps of the whole
+abbrev pub AreCutOut : Rectangle → (whole part : List Grid) → Type 0
+AreCutOut r whole part = map (λ m. m.rows) part ≡ map (λ m. cut_out r m.rows) whole
+
+-- whatever rectangle is cut out, it is a part
+abbrev pub CutOutsAreParts : Type 0
+CutOutsAreParts = (r : Rectangle) (whole part : List Grid) → AreCutOut r whole part → IsPart r whole part

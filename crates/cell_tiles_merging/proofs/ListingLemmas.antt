@@ -1,0 +1,221 @@
+-- Lists of entries, and merges of tables.
+use Rattle.std.proofs.Common.{◌≡◌, ℕ, zero, suc, ◌+◌, ◌<◌, List, [], ◌∷◌, ◌++◌, map, length, get_or, Option, Some, None, true, false, cond, unwrap_or, refl, ap, sym, ◌∙◌, arith, zero-add, add-zero, subst, take, drop, ◌==◌}
+use Rattle.std.proofs.lemmas.Bool.{eqb-true}
+use Rattle.std.proofs.lemmas.List.{take-map, drop-map}
+use Rattle.std.proofs.lemmas.List.Elements.{All-nil, All-head, All-tail}
+use Rattle.std.proofs.lemmas.List.Sums.{sum_by-cons, sum_by-append, sum_by-take-drop}
+use Rattle.std.specs.Prelude.{sum_by, flat_map, All}
+use Rattle.std.specs.List.{Contains, AllByRecursion}
+use Rattle.std.specs.List.Sorted.{IsStrictlySortedBy}
+use Rattle.std.specs.Ordering.{eq_by_cmp, is_eq}
+use Rattle.std.specs.FinMap.Entries.{find}
+use Rattle.std.specs.declared.cmp.Ordering.TheVariants.{Less}
+use Rattle.cell_core.specs.Grid.{Grid}
+use Rattle.cell_stats_combinations.specs.declared.skip.Skip.{Skip}
+use Rattle.cell_stats_combinations.specs.Combinations.{Combination, combination_cmp, all_combinations}
+use Rattle.cell_stats_combinations.proofs.OrderLemmas.{combination_cmp-total, combination_cmp-exact, is_equal}
+use Rattle.cell_stats_counts.specs.Listed.{entry_of, listed_of}
+use Rattle.cell_stats.specs.CategoryTables.{Pairs, IsTable}
+use Rattle.cell_stats.proofs.TableLemmas.{ascending_to}
+use Rattle.cell_stats.proofs.SortedLemmas.{each_found}
+use Rattle.cell_tiles_law.specs.TableParts.{count_in, IsMerge}
+use Rattle.cell_tiles_law.proofs.MergeLemmas.{tables-merge}
+use Rattle.cell_tiles_merging.specs.Merging.{AreTablesOf, IsListing, IsMergeRefused, PartGroup, MergesMerge}
+use Rattle.cell_tiles_merging.specs.parts.Pairwise.{AreBeyond, merged_of}
+use Rattle.cell_tiles_merging.specs.declared.merge_fault.MergeFault.{MergeFault}
+use Rattle.cell_tiles_merging.specs.declared.merge_fault.MergeFault.TheVariants.{TooMany, Memory}
+use Rattle.cell_tiles_merging.proofs.PairLemmas.{keys_of, listed-merged, ascends-merged, zeros-merged}
+
+-- ---- what is listed of a combination stands beside it
+
+none-behind : (x : Combination) (es : Pairs) → AllByRecursion (λ y. combination_cmp x y ≡ Less) (keys_of es) → listed_of x es ≡ 0
+none-behind x [] above = refl
+none-behind x (e ∷ es) above =
+    let here : entry_of x e ≡ 0 = ap (λ o. cond (is_eq o) e.1 0) above.0 in
+    omega (arith, sum_by-cons (entry_of x) e es, here, none-behind x es above.1)
+
+pub listed-beside : (k : Combination) (es : Pairs) → IsStrictlySortedBy combination_cmp (keys_of es) → count_in k es ≡ listed_of k es
+unfolding IsStrictlySortedBy
+listed-beside k [] up = refl
+listed-beside k (e ∷ es) up =
+    elim (eq_by_cmp combination_cmp k e.0) as (λ b. eq_by_cmp combination_cmp k e.0 ≡ b → unwrap_or (cond b (Some e.1) (find combination_cmp k es)) 0 ≡ cond b e.1 0 + listed_of k es) [
+      | true ↦ λ t.
+          let none : listed_of k es ≡ 0 = ap (λ x. listed_of x es) (combination_cmp-exact k e.0 (is_equal _ t)) ∙ none-behind e.0 es up.0 in
+          omega (arith, none)
+      | false ↦ λ t. listed-beside k es up.1 ∙ sym (zero-add (listed_of k es))
+    ] refl ∙ sym (sum_by-cons (entry_of k) e es)
+
+-- what stands beside a combination is listed with it
+stands : (k : Combination) (n : ℕ) (es : Pairs) → find combination_cmp k es ≡ Some n → Contains es (k, n)
+stands k n [] e = cc
+stands k n (x ∷ es) e =
+    elim (eq_by_cmp combination_cmp k x.0) as (λ b. eq_by_cmp combination_cmp k x.0 ≡ b → cond b (Some x.1) (find combination_cmp k es) ≡ Some n → Contains (x ∷ es) (k, n)) [
+      | true ↦ λ t is.
+          let same : k ≡ x.0 = combination_cmp-exact k x.0 (is_equal _ t) in
+          let count : x.1 ≡ n = cc in
+          (0, omega arith, λ i. (sym same i, count i))
+      | false ↦ λ t is. let rest = stands k n es is in (suc rest.0, omega (arith, rest.1), rest.2)
+    ] refl e
+
+-- and what is listed stands beside its combination
+found-listed : (k : Combination) (n : ℕ) (es : Pairs) → IsStrictlySortedBy combination_cmp (keys_of es) → Contains es (k, n) → find combination_cmp k es ≡ Some n
+found-listed k n es up c = let at : find combination_cmp (get_or es c.0 (k, n)).0 es ≡ Some (get_or es c.0 (k, n)).1 = each_found combination_cmp combination_cmp-total es (ascending_to es up) c.0 (k, n) c.1 in
+    rw c.2 at at
+
+none-or-some : (o : Option ℕ) (n : ℕ) → 0 < n → n ≡ unwrap_or o 0 → o ≡ Some n
+none-or-some None n some is = absurd (omega (arith, some, is))
+none-or-some (Some m) n some is = ap Some (sym is)
+
+-- ---- merges, by what stands beside combinations
+
+pub IsMerge-from : (tables : List Pairs) (merged : Pairs) → IsListing merged → ((k : Combination) → count_in k merged ≡ sum_by (count_in k) tables) → IsMerge tables merged
+IsMerge-from tables merged listing sums = record {
+  ascending = listing.ascending;
+  counted = λ k n. (
+    λ c.
+        let is : find combination_cmp k merged ≡ Some n = found-listed k n merged listing.ascending c in
+        let some : 0 < n = subst (λ (e : Combination × ℕ). 0 < e.1) c.2 (listing.no_zero c.0 (k, n) c.1) in
+        (some, sym (ap (λ o. unwrap_or o 0) is) ∙ sums k),
+    λ h. stands k n merged (none-or-some (find combination_cmp k merged) n h.0 (h.1 ∙ sym (sums k))),
+  );
+}
+
+pub beside-merge : (tables : List Pairs) (merged : Pairs) → IsMerge tables merged → (k : Combination) → count_in k merged ≡ sum_by (count_in k) tables
+beside-merge tables merged merge k = by (find combination_cmp k merged) refl (sum_by (count_in k) tables) refl
+  where
+    by : (o : Option ℕ) → find combination_cmp k merged ≡ o → (n : ℕ) → sum_by (count_in k) tables ≡ n → unwrap_or o 0 ≡ n
+    by (Some m) is n sum = ((merge.counted k m).0 (stands k m merged is)).1 ∙ sum
+    by None is zero sum = refl
+    by None is (suc n) sum =
+        let c = (merge.counted k (suc n)).1 (omega arith, sym sum) in
+        let found = found-listed k (suc n) merged merge.ascending c in
+        let both : None ≡ Some (suc n) = sym is ∙ found in
+        cc
+
+-- ---- merges of merges
+
+flat-cons : (group : PartGroup) (groups : List PartGroup) → flat_map (λ (g : PartGroup). g.tables) (group ∷ groups) ≡ group.tables ++ flat_map (λ (g : PartGroup). g.tables) groups
+flat-cons group groups = refl
+
+sum-groups : (k : Combination) (groups : List PartGroup) → All (λ group. IsMerge group.tables group.merged) groups → sum_by (count_in k) (map (λ group. group.merged) groups) ≡ sum_by (count_in k) (flat_map (λ group. group.tables) groups)
+sum-groups k [] all = refl
+sum-groups k (group ∷ groups) all =
+    let P : PartGroup → Type 0 = λ g. IsMerge g.tables g.merged in
+    let here = beside-merge group.tables group.merged (All-head P group groups all) k in
+    omega (
+      arith,
+      sum_by-cons (count_in k) group.merged (map (λ (g : PartGroup). g.merged) groups),
+      ap (sum_by (count_in k)) (flat-cons group groups),
+      sum_by-append (count_in k) group.tables (flat_map (λ (g : PartGroup). g.tables) groups),
+      here,
+      sum-groups k groups (All-tail P group groups all),
+    )
+
+pub merges-merge : MergesMerge
+merges-merge groups all pairs merge = record {
+  ascending = merge.ascending;
+  counted = λ k n.
+      let sums = sum-groups k groups all in
+      let h = merge.counted k n in
+      (λ c. let both = h.0 c in (both.0, both.1 ∙ sums), λ p. h.1 (p.0, p.1 ∙ sym sums));
+}
+
+-- ---- what is merged
+
+pub listing-none : IsListing []
+unfolding IsStrictlySortedBy
+listing-none = record { ascending = tt; no_zero = All-nil (λ (e : Combination × ℕ). 0 < e.1) }
+
+pub merge-none : IsMerge [] []
+merge-none = IsMerge-from [] [] listing-none (λ k. refl)
+
+pub merge-one : (table : Pairs) → IsListing table → IsMerge (table ∷ []) table
+merge-one table listing = IsMerge-from (table ∷ []) table listing (λ k. sym (sum_by-cons (count_in k) table [] ∙ add-zero (count_in k table)))
+
+pub listing-merged : (one other : Pairs) → IsListing one → IsListing other → IsListing (merged_of one other)
+listing-merged one other first second = record {
+  ascending = ascends-merged one other first.ascending second.ascending;
+  no_zero = zeros-merged one other first.no_zero second.no_zero;
+}
+
+-- the merges of the first tables and of the others make that of all
+pub merge-split : (tables : List Pairs) (n : ℕ) (one other : Pairs) → IsListing one → IsListing other → IsMerge (take n tables) one → IsMerge (drop n tables) other → IsMerge tables (merged_of one other)
+merge-split tables n one other first second left right =
+    IsMerge-from tables (merged_of one other) (listing-merged one other first second) (λ k.
+    let all = listing-merged one other first second in
+    omega (
+      arith,
+      listed-beside k (merged_of one other) all.ascending,
+      listed-merged k one other,
+      listed-beside k one first.ascending,
+      listed-beside k other second.ascending,
+      beside-merge (take n tables) one left k,
+      beside-merge (drop n tables) other right k,
+      sum_by-take-drop (count_in k) tables n,
+    ))
+
+-- ---- what is refused
+
+pub refused-two : (fault : MergeFault) (tables : List Pairs) (n : ℕ) (one other : Pairs) → IsListing one → IsListing other → IsMerge (take n tables) one → IsMerge (drop n tables) other → AreBeyond fault one other → IsMergeRefused fault tables
+refused-two (TooMany k) tables n one other first second left right beyond =
+    omega (
+      arith,
+      beyond,
+      listed-beside k one first.ascending,
+      listed-beside k other second.ascending,
+      beside-merge (take n tables) one left k,
+      beside-merge (drop n tables) other right k,
+      sum_by-take-drop (count_in k) tables n,
+    )
+refused-two Memory tables n one other first second left right beyond = tt
+
+pub refused-first : (fault : MergeFault) (tables : List Pairs) (n : ℕ) → IsMergeRefused fault (take n tables) → IsMergeRefused fault tables
+refused-first (TooMany k) tables n beyond = omega (arith, beyond, sum_by-take-drop (count_in k) tables n)
+refused-first Memory tables n beyond = tt
+
+pub refused-last : (fault : MergeFault) (tables : List Pairs) (n : ℕ) → IsMergeRefused fault (drop n tables) → IsMergeRefused fault tables
+refused-last (TooMany k) tables n beyond = omega (arith, beyond, sum_by-take-drop (count_in k) tables n)
+refused-last Memory tables n beyond = tt
+
+-- ---- tables of parts
+
+pub whole-table : (skip : Skip) (picks : List ℕ) (rows cols : ℕ) (whole : List Grid) (tables : List Pairs) (merged : Pairs) → IsMerge tables merged → AreTablesOf skip picks rows cols whole tables → IsTable skip (all_combinations whole picks rows cols) merged
+whole-table skip picks rows cols whole tables merged merge are =
+    (tables-merge rows cols whole are.parts are.cover picks skip merged).0 (subst (λ ts. IsMerge ts merged) are.are merge)
+
+-- ---- tables that stand in a list
+
+module _ {X : Type 0} (pairs_of : X → Pairs) where
+  pub merge-empty : (xs : List X) → (length xs == 0) ≡ true → IsMerge (map pairs_of xs) []
+  merge-empty [] e = merge-none
+  merge-empty (x ∷ xs) e = absurd (let none : suc (length xs) ≡ 0 = eqb-true (suc (length xs)) 0 e in omega (arith, none))
+
+  pub merge-single : (xs : List X) (x : X) → length xs ≡ 1 → x ≡ get_or xs 0 x → IsListing (pairs_of x) → IsMerge (map pairs_of xs) (pairs_of x)
+  merge-single [] x e is listing = absurd (omega (arith, e))
+  merge-single (y ∷ []) x e is listing = subst (λ (z : X). IsMerge (pairs_of z ∷ []) (pairs_of x)) is (merge-one (pairs_of x) listing)
+  merge-single (y ∷ z ∷ xs) x e is listing = absurd (omega (arith, e))
+
+  pub listing-at : (xs : List X) (x : X) → length xs ≡ 1 → x ≡ get_or xs 0 x → All (λ y. IsListing (pairs_of y)) xs → IsListing (pairs_of x)
+  listing-at [] x e is all = absurd (omega (arith, e))
+  listing-at (y ∷ xs) x e is all = subst (λ (z : X). IsListing (pairs_of z)) (sym is) (All-head (λ z. IsListing (pairs_of z)) y xs all)
+
+  -- merges of the first tables and of the others, merged
+  module _ (xs : List X) (n : ℕ) (first second : List X) (front : first ≡ take n xs) (back : second ≡ drop n xs) where
+    fronts : map pairs_of first ≡ take n (map pairs_of xs)
+    fronts = ap (map pairs_of) front ∙ sym (take-map pairs_of n xs)
+
+    backs : map pairs_of second ≡ drop n (map pairs_of xs)
+    backs = ap (map pairs_of) back ∙ sym (drop-map pairs_of n xs)
+
+    pub refused-front : (fault : MergeFault) → IsMergeRefused fault (map pairs_of first) → IsMergeRefused fault (map pairs_of xs)
+    refused-front fault h = refused-first fault (map pairs_of xs) n (subst (IsMergeRefused fault) fronts h)
+
+    pub refused-back : (fault : MergeFault) → IsMergeRefused fault (map pairs_of second) → IsMergeRefused fault (map pairs_of xs)
+    refused-back fault h = refused-last fault (map pairs_of xs) n (subst (IsMergeRefused fault) backs h)
+
+    module _ (one other : Pairs) (listing : IsListing one) (listing_too : IsListing other) (left : IsMerge (map pairs_of first) one) (right : IsMerge (map pairs_of second) other) where
+      pub merge-halves : IsMerge (map pairs_of xs) (merged_of one other)
+      merge-halves = merge-split (map pairs_of xs) n one other listing listing_too (subst (λ ts. IsMerge ts one) fronts left) (subst (λ ts. IsMerge ts other) backs right)
+
+      pub refused-halves : (fault : MergeFault) → AreBeyond fault one other → IsMergeRefused fault (map pairs_of xs)
+      refused-halves fault h = refused-two fault (map pairs_of xs) n one other listing listing_too (subst (λ ts. IsMerge ts one) fronts left) (subst (λ ts. IsMerge ts other) backs right) h

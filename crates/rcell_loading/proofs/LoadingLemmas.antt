@@ -1,0 +1,138 @@
+-- One grid more on the shelf.
+use Rattle.std.proofs.Common.{◌≡◌, ◌≢◌, ℕ, zero, suc, ◌+◌, ◌<◌, Bool, true, false, cond, List, [], ◌∷◌, ◌++◌, length, take, Option, Some, None, Result, Ok, Err, IsSome, IfOk, IfErr, slice_get, refl, ap, sym, ◌∙◌, arith, add-one}
+use Rattle.std.specs.List.{position_from}
+use Rattle.cell_core_devices.specs.Device.{Coming}
+use Rattle.cell_core.specs.Grid.{Grid}
+use Rattle.cell_core_values.specs.Name.{place_of}
+use Rattle.cell_core_values.specs.Region.{RegionValue}
+use Rattle.cell_core_values.specs.SameRegion.{is_same_region, is_same_region-Decides}
+use Rattle.cell_core.specs.Shelf.{ShelfValue}
+use Rattle.cell_core.specs.ShelfRefused.{IsMapRefused}
+use Rattle.cell_core.specs.declared.shelf.ShelfFault.{ShelfFault}
+use Rattle.cell_core.specs.declared.shelf.ShelfFault.TheVariants.{Exists, OtherRegion, Memory}
+use Rattle.cell_ascii_meaning.specs.CellTexts.{grid_of}
+use Rattle.rcell_loading.specs.Sources.{AllKnown, known_of, coming_of}
+use Rattle.rcell_loading.specs.RunFaults.{IsOfInput, IsOfGrid, IsBeforeExecution, NamesItsGrid}
+use Rattle.rcell_loading.specs.parts.Refused.{of_shelf}
+use Rattle.rcell_loading.specs.Loading.{added, shelf_placed, with_grid, shelf_from, then_grids}
+use Rattle.rcell_loading.specs.declared.run_fault.RunFault.{RunFault}
+use Rattle.rcell_loading.specs.declared.run_fault.RunFault.TheVariants.{GridRegion, GridTwice}
+
+differs : (t : Bool) → (t ≡ true → ⊥) → t ≡ false
+differs true apart = absurd (apart refl)
+differs false apart = refl
+
+-- another region is refused
+pub added-other : (grid : ℕ) (shelf : ShelfValue) (name : List ℕ) (map : Grid) → place_of name shelf.names ≡ None → map.region ≢ shelf.region → added grid shelf name map (place_of name shelf.names) ≡ Err (GridRegion grid)
+added-other grid shelf name map free apart =
+    let other : is_same_region map.region shelf.region ≡ false = differs _ (λ t. apart ((is_same_region-Decides map.region shelf.region).0 t)) in
+    rw (free, other) refl
+
+-- a map of the shelf's region, under a new name, goes last
+pub added-same : (grid : ℕ) (shelf : ShelfValue) (name : List ℕ) (map : Grid) → place_of name shelf.names ≡ None → map.region ≡ shelf.region → added grid shelf name map (place_of name shelf.names) ≡ Ok (record shelf { names = shelf.names ++ name ∷ []; maps = shelf.maps ++ map ∷ [] })
+added-same grid shelf name map free same =
+    let same_test : is_same_region map.region shelf.region ≡ true = (is_same_region-Decides map.region shelf.region).1 same in
+    rw (free, same_test) refl
+
+-- a name that stands already is refused
+pub added-twice : (grid : ℕ) (shelf : ShelfValue) (name : List ℕ) (map : Grid) (o : Option ℕ) → IsSome o → added grid shelf name map o ≡ Err (GridTwice grid)
+added-twice grid shelf name map None some = cc
+added-twice grid shelf name map (Some place) some = refl
+
+-- what the shelf refuses is the fault of the grid
+pub added-refused : (grid : ℕ) (shelf : ShelfValue) (name : List ℕ) (map : Grid) (fault : ShelfFault) → IsMapRefused shelf name map fault → IsOfInput (of_shelf grid fault)
+    → added grid shelf name map (place_of name shelf.names) ≡ Err (of_shelf grid fault)
+added-refused grid shelf name map Exists reason input = added-twice grid shelf name map _ reason
+added-refused grid shelf name map OtherRegion reason input = added-other grid shelf name map reason.0 reason.1
+added-refused grid shelf name map Memory reason input = absurd input
+
+-- it is told before execution, and names the grid
+pub refused-early : (grid : ℕ) (fault : ShelfFault) → IsBeforeExecution (of_shelf grid fault)
+refused-early grid Exists = tt
+refused-early grid OtherRegion = tt
+refused-early grid Memory = refl
+
+pub refused-told : (grid : ℕ) (fault : ShelfFault) (count : ℕ) → grid < count → NamesItsGrid count (of_shelf grid fault)
+refused-told grid Exists count within = within
+refused-told grid OtherRegion count within = within
+refused-told grid Memory count within = tt
+
+pub refused-whose : (grid : ℕ) (fault : ShelfFault) → IsOfGrid grid (of_shelf grid fault)
+refused-whose grid Exists = refl
+refused-whose grid OtherRegion = refl
+refused-whose grid Memory = tt
+
+-- the first map makes the shelf
+pub added-first : (grid : ℕ) (region : RegionValue) (name : List ℕ) (map : Grid) → map.region ≡ region → added grid (record { region = region; names = []; maps = [] }) name map None ≡ Ok (record { region = region; names = name ∷ []; maps = map ∷ [] })
+added-first grid region name map same =
+    let same_test : is_same_region map.region region ≡ true = (is_same_region-Decides map.region region).1 same in
+    rw same_test refl
+
+pub first_ok : (r : Result ShelfValue RunFault) (grid : ℕ) (region : RegionValue) (shelf : ShelfValue) (name : List ℕ) (map : Grid) → shelf ≡ record { region = region; names = []; maps = [] } → region ≡ map.region
+    → IfOk r (λ s. added grid shelf name map (place_of name shelf.names) ≡ Ok s) → IfOk r (λ s. shelf_placed grid None name map ≡ Ok s)
+first_ok (Err f) grid region shelf name map is same h = tt
+first_ok (Ok s) grid region shelf name map is same h =
+    let told : added grid (record { region = region; names = []; maps = [] }) name map None ≡ Ok s = ap (λ (s : ShelfValue). added grid s name map (place_of name s.names)) (sym is) ∙ h in
+    let taken = added-first grid region name map (sym same) in
+    ap (λ r. Ok (record { region = r; names = name ∷ []; maps = map ∷ [] })) (sym same) ∙ sym taken ∙ told
+
+-- the first map is not refused
+pub first_fault : (r : Result ShelfValue RunFault) (grid : ℕ) (region : RegionValue) (shelf : ShelfValue) (name : List ℕ) (map : Grid) → shelf ≡ record { region = region; names = []; maps = [] } → region ≡ map.region
+    → IfErr r (λ f. IsOfInput f → added grid shelf name map (place_of name shelf.names) ≡ Err f) → IfErr r (λ f. IsOfInput f → shelf_placed grid None name map ≡ Err f)
+first_fault (Ok s) grid region shelf name map is same h = tt
+first_fault (Err f) grid region shelf name map is same h = λ input.
+    let told : added grid (record { region = region; names = []; maps = [] }) name map None ≡ Err f = ap (λ (s : ShelfValue). added grid s name map (place_of name s.names)) (sym is) ∙ h input in
+    let taken = added-first grid region name map (sym same) in
+    cc
+
+module _ {R : Type 0} (coming : R → Option Coming) (grid : ℕ) (shelf : Option ShelfValue) (g : List ℕ × R) (rest : List (List ℕ × R)) where
+  more : (next : ShelfValue) → AllKnown coming (g ∷ rest) → (IsSome (coming g.1) → with_grid grid shelf g.0 (grid_of (coming_of coming g.1)) ≡ Ok next)
+      → AllKnown coming rest × (shelf_from grid shelf (known_of coming (g ∷ rest)) ≡ shelf_from (grid + 1) (Some next) (known_of coming rest))
+  unfolding shelf_from
+  more next known one = (known.1, ap (then_grids (λ s. shelf_from (grid + 1) (Some s) (known_of coming rest))) (one known.0))
+
+  fails : (f : RunFault) → AllKnown coming (g ∷ rest) → (IsSome (coming g.1) → with_grid grid shelf g.0 (grid_of (coming_of coming g.1)) ≡ Err f)
+      → shelf_from grid shelf (known_of coming (g ∷ rest)) ≡ Err f
+  unfolding shelf_from
+  fails f known one = ap (then_grids (λ s. shelf_from (grid + 1) (Some s) (known_of coming rest))) (one known.0)
+
+  -- a grid more
+  pub shelf_more : (gs : List (List ℕ × R)) (next : ShelfValue) → gs ≡ g ∷ rest → AllKnown coming gs → (IsSome (coming g.1) → with_grid grid shelf g.0 (grid_of (coming_of coming g.1)) ≡ Ok next)
+      → AllKnown coming rest × (shelf_from grid shelf (known_of coming gs) ≡ shelf_from (grid + 1) (Some next) (known_of coming rest))
+  shelf_more gs next is known one = rw is (more next (rw is at known) one)
+
+  -- a grid that is refused
+  pub shelf_fails : (gs : List (List ℕ × R)) (f : RunFault) → gs ≡ g ∷ rest → AllKnown coming gs → (IsSome (coming g.1) → with_grid grid shelf g.0 (grid_of (coming_of coming g.1)) ≡ Err f)
+      → shelf_from grid shelf (known_of coming gs) ≡ Err f
+  shelf_fails gs f is known one = rw is (fails f (rw is at known) one)
+
+pub shelf_all : (grid : ℕ) (shelf : Option ShelfValue) → shelf_from grid shelf [] ≡ Ok shelf
+unfolding shelf_from
+shelf_all grid shelf = refl
+
+pub no_more : {X : Type 0} (xs : List X) → length xs ≡ 0 → xs ≡ []
+no_more [] e = refl
+no_more (x ∷ xs) e = absurd (omega arith)
+
+-- a name that is found at a place does not stand before it
+position_from-before : {K : Type 0} (t : K → Bool) (i : ℕ) (xs : List K) (p j : ℕ) → position_from t i xs ≡ Some p → i + j ≡ p → position_from t i (take j xs) ≡ None
+position_from-before t i [] p j e at = cc
+position_from-before t i (x ∷ xs) p zero e at = refl
+position_from-before {K} t i (x ∷ xs) p (suc j) e at = by (t x) (λ h. position_from-before t (i + 1) xs p j h (omega arith)) e
+  where
+    by : (b : Bool) → (position_from t (i + 1) xs ≡ Some p → position_from t (i + 1) (take j xs) ≡ None)
+        → cond b (Some i) (position_from t (i + 1) xs) ≡ Some p → cond b (Some i) (position_from t (i + 1) (take j xs)) ≡ None
+    by true rest h = let q : i ≡ p = cc in absurd (omega arith)
+    by false rest h = rest h
+
+pub place_of-before : (name : List ℕ) (names : List (List ℕ)) (i : ℕ) → place_of name names ≡ Some i → place_of name (take i names) ≡ None
+place_of-before name names i e = position_from-before _ 0 names i i e (omega arith)
+
+-- one element more
+take_got : {X : Type 0} (xs : List X) (i : ℕ) (x : X) → slice_get xs i ≡ Some x → take (suc i) xs ≡ take i xs ++ x ∷ []
+take_got [] i x e = cc
+take_got (y ∷ ys) zero x e = cc
+take_got (y ∷ ys) (suc i) x e = ap (λ l. y ∷ l) (take_got ys i x e)
+
+pub name_more : (names : List (List ℕ)) (i : ℕ) (x : List ℕ) → slice_get names i ≡ Some x → take i names ++ x ∷ [] ≡ take (i + 1) names
+name_more names i x e = rw add-one (sym (take_got names i x e))

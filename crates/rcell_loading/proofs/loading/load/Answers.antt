@@ -1,0 +1,40 @@
+use Rattle.std.proofs.Common.{◌≡◌, [], length, Ok, ap, ◌∙◌, sym, arith, rules}
+use Rattle.std.specs.Vec.Iter.{into_iter_items}
+use Rattle.rcell_loading.specs.Sources.{known_of}
+use Rattle.rcell_loading.specs.Loading.{shelf_from}
+use Rattle.rcell_loading.proofs.LoadingLemmas.{shelf_more, shelf_fails, shelf_all, no_more}
+use Rattle.rcell_loading.proofs.loading.load.Goals as goal
+
+pub returns-in-Err-clause-fault : goal.returns-in-Err-clause-fault
+returns-in-Err-clause-fault g c =
+    let coming = g.R.Source.coming in
+    let at = c.loop-name in
+    let is = c.in-Some.ensures.steps.0 in
+    λ known input.
+    let so = at.invariant.loads known in
+    so.1 ∙ shelf_fails coming at.grid at.shelf (c.in-Some.name, c.in-Some.source) (into_iter_items c.next.new.self) (into_iter_items at.name-iterator) c.in-Err.fault is so.0 (λ k. c.in-Err.ensures.fault k input)
+
+pub loop-name-preserved : goal.loop-name-preserved
+loop-name-preserved g c =
+    let coming = g.R.Source.coming in
+    let at = c.loop-name in
+    let is = c.in-Some.ensures.steps.0 in
+    record {
+      loads = λ known.
+          let so = at.invariant.loads known in
+          let n = shelf_more coming at.grid at.shelf (c.in-Some.name, c.in-Some.source) (into_iter_items c.next.new.self) (into_iter_items at.name-iterator) c.in-Ok.more is so.0 c.in-Ok.ensures.ok in
+          (n.0, so.1 ∙ n.1);
+      count = search rules;
+      len = let was = at.invariant.len in
+          let gone = c.in-Some.ensures.steps.1 in
+          let short = ap (λ l. length l) is in
+          omega arith;
+      begun = search rules;
+    }
+
+pub returns-clause-ok : goal.returns-clause-ok
+returns-clause-ok g c =
+    let coming = g.R.Source.coming in
+    let at = c.loop-name in
+    let none : into_iter_items at.name-iterator ≡ [] = no_more (into_iter_items at.name-iterator) (sym at.invariant.len ∙ c.in-None.ensures.steps.0) in
+    λ known. (at.invariant.loads known).1 ∙ ap (λ l. shelf_from at.grid at.shelf (known_of coming l)) none ∙ shelf_all at.grid at.shelf ∙ ap Ok c.in-Some-shelf.is

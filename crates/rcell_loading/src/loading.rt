@@ -1,0 +1,133 @@
+//! The shelf of the grids.
+
+ghost use Rattle.std.specs.Prelude.{ℕ, ◌≡◌, ◌+◌, ◌<◌, IsSome, IfOk, IfErr, Ok, Err, Some, length, vec_len};
+ghost use Rattle.cell_core_values.specs.Name.{place_of};
+ghost use Rattle.cell_ascii_meaning.specs.CellTexts.{grid_of};
+ghost use Rattle.rcell_loading.specs.RunFaults.{IsOfInput, IsOfGrid, IsBeforeExecution, NamesItsGrid};
+ghost use Rattle.rcell_loading.specs.Loading.{added, shelf_placed, with_grid, shelf_of};
+ghost use Rattle.rcell_loading.specs.Sources.{AllKnown, known_of, coming_of};
+ghost use Rattle.rcell_loading.specs.parts.Refused.{of_shelf};
+
+use crate::run_fault::RunFault;
+use cell_ascii::grid_reader::read_map;
+use cell_core::map::CellMap;
+use cell_core::memory::Memory;
+use cell_core::name::{Name, Names};
+use cell_core::shelf::{Shelf, ShelfFault};
+use cell_core::source::Source;
+use std::alloc::Global;
+
+// The fault of a grid that the shelf refuses.
+fn of_shelf(grid: usize, fault: ShelfFault) -> RunFault
+    ensures { result ≡ of_shelf grid fault }
+{
+    match fault {
+        ShelfFault::Exists => RunFault::GridTwice { grid },
+        ShelfFault::OtherRegion => RunFault::GridRegion { grid },
+        ShelfFault::Memory => RunFault::Memory { line: 0 },
+    }
+}
+
+// The shelf with one more map.
+fn added(mut shelf: Shelf, grid: usize, name: Name, map: CellMap) -> Result<Shelf, RunFault>
+    ensures ok { IfOk result (λ s. added grid shelf name map (place_of name shelf.names) ≡ Ok s) }
+    ensures fault { IfErr result (λ f. IsOfInput f → added grid shelf name map (place_of name shelf.names) ≡ Err f) }
+    ensures early { IfErr result IsBeforeExecution }
+    ensures told { (count : ℕ) → grid < count → IfErr result (NamesItsGrid count) }
+    ensures whose { IfErr result (IsOfGrid grid) }
+{
+    match shelf.add(name, map) {
+        Ok(()) => Ok(shelf),
+        Err(refused) => Err(of_shelf(grid, refused.fault)),
+    }
+}
+
+// The shelf with one more map, or a new one of the map's region.
+fn placed(
+    alloc: Global,
+    shelf: Option<Shelf>,
+    grid: usize,
+    name: Name,
+    map: CellMap,
+) -> Result<Shelf, RunFault>
+    ensures ok { IfOk result (λ s. shelf_placed grid shelf name map ≡ Ok s) }
+    ensures fault { IfErr result (λ f. IsOfInput f → shelf_placed grid shelf name map ≡ Err f) }
+    ensures early { IfErr result IsBeforeExecution }
+    ensures told { (count : ℕ) → grid < count → IfErr result (NamesItsGrid count) }
+    ensures whose { IfErr result (IsOfGrid grid) }
+{
+    match shelf {
+        Some(shelf) => added(shelf, grid, name, map),
+        None => {
+            let shelf = Shelf::new(alloc, map.region());
+            added(shelf, grid, name, map)
+        }
+    }
+}
+
+// Reads a grid whole, and puts it on the shelf.
+fn with_grid<R: Source + Drop>(
+    alloc: Global,
+    shelf: Option<Shelf>,
+    grid: usize,
+    name: Name,
+    source: R,
+) -> Result<Shelf, RunFault>
+    ensures ok { IsSome (R.coming source) → IfOk result (λ s. with_grid grid shelf name (grid_of (coming_of R.coming source)) ≡ Ok s) }
+    ensures fault { IsSome (R.coming source) → IfErr result (λ f. IsOfInput f → with_grid grid shelf name (grid_of (coming_of R.coming source)) ≡ Err f) }
+    ensures early { IfErr result IsBeforeExecution }
+    ensures told { (count : ℕ) → grid < count → IfErr result (NamesItsGrid count) }
+    ensures whose { IfErr result (IsOfGrid grid) }
+{
+    let map = match read_map(alloc, source) {
+        Ok(map) => map,
+        Err(fault) => return Err(RunFault::Grid { grid, fault }),
+    };
+    placed(alloc, shelf, grid, name, map)
+}
+
+/// Reads the grids, each whole and in order, and puts them on a shelf.
+///
+/// # Errors
+///
+/// That of the first grid that has one: [`RunFault::Grid`] where its text is refused, then [`RunFault::GridTwice`] where
+/// its name stands already, then [`RunFault::GridRegion`] where its region is not the first grid's. Where memory was
+/// refused, [`RunFault::Grid`] of kind `Memory`, or [`RunFault::Memory`], both with line 0.
+pub fn load<R: Source + Drop>(alloc: Global, grids: Vec<(Name, R)>) -> Result<Shelf, RunFault>
+    requires { 0 < vec_len grids }
+    ensures ok { AllKnown R.coming grids.items → IfOk result (λ s. shelf_of (known_of R.coming grids.items) ≡ Ok (Some s)) }
+    ensures fault { AllKnown R.coming grids.items → IfErr result (λ f. IsOfInput f → shelf_of (known_of R.coming grids.items) ≡ Err f) }
+    ensures early { IfErr result IsBeforeExecution }
+    ensures told { IfErr result (NamesItsGrid (length grids.items)) }
+{
+    let mut shelf = None;
+    let mut grid = 0;
+    for (name, source) in grids {
+        match with_grid(alloc, shelf, grid, name, source) {
+            Ok(more) => shelf = Some(more),
+            Err(fault) => return Err(fault),
+        }
+        grid += 1;
+    }
+    match shelf {
+        Some(shelf) => Ok(shelf),
+        None => unreachable!(),
+    }
+}
+
+/// The names of the maps on a shelf, in order.
+///
+/// # Errors
+///
+/// [`Memory`] where memory was refused.
+pub fn names_of(alloc: Global, shelf: &Shelf) -> Result<Names, Memory>
+    ensures names { IfOk result (λ names. names ≡ shelf.now.names) }
+    ensures count { IfOk result (λ names. length names ≡ length shelf.now.maps) }
+{
+    let mut names = Names::new(alloc);
+    for i in 0..shelf.len() {
+        let name = shelf.name(i).copy(alloc)?;
+        names.push(name)?;
+    }
+    Ok(names)
+}

@@ -1,0 +1,25 @@
+//! The faults of a run.
+
+use cell_ascii::grid_fault::GridFault;
+use rcell_script_commands::script_fault::ScriptFault;
+
+/// Why a run did not do its work. `grid` is a place among the grids, from 0.
+#[derive(Clone, Copy, Debug, PartialEq, Eq)]
+pub enum RunFault {
+    /// The name of a grid is on the shelf already.
+    GridTwice { grid: usize },
+    /// A grid has another region than the first.
+    GridRegion { grid: usize },
+    /// A grid could not be read.
+    Grid { grid: usize, fault: GridFault },
+    /// The reader of the script failed.
+    ScriptRead,
+    /// The script has over 1,048,576 bytes.
+    ScriptSize,
+    /// The script was refused.
+    Script(ScriptFault),
+    /// A growth was refused; the line is that of the statement in execution, 0 before execution.
+    Memory { line: u64 },
+    /// A write, or the flush at the end, failed.
+    Write,
+}

@@ -1,0 +1,26 @@
+-- Windows of the maps that an expression reads.
+use Rattle.std.specs.Prelude.{◌≡◌, ◌<◌, ℕ, List, [], ◌∷◌, Option, Some, None, slice_get}
+use Rattle.cell_core.specs.Grid.{Grid}
+use Rattle.cell_calc_binding.specs.Formula.{Formula}
+use Rattle.cell_calc_binding.specs.Reach.{up_of, down_of}
+use Rattle.cell_calc.specs.Window.{Window, IsWindowOf}
+
+-- a window of a map that stands at a row and reaches so far
+abbrev pub IsSet : (row up down : ℕ) → Option Window → Option Grid → Type 0
+IsSet row up down None m = ⊥
+IsSet row up down (Some w) None = ⊥
+IsSet row up down (Some w) (Some m) = (w.centre ≡ row) × ((w.above ≡ up) × ((w.below ≡ down) × IsWindowOf w m))
+
+-- so many first maps have such windows
+abbrev pub AreSet : Formula → (count row : ℕ) → List Window → List Grid → Type 0
+AreSet f count row windows maps = (i : ℕ) → i < count → IsSet row (up_of i f) (down_of i f) (slice_get windows i) (slice_get maps i)
+
+-- a map before others, where there is one
+abbrev pub then_maps : Option Grid → List Grid → List Grid
+then_maps None maps = maps
+then_maps (Some m) maps = m ∷ maps
+
+-- the maps at places, in the order of the places
+abbrev pub picked : List ℕ → List Grid → List Grid
+picked [] maps = []
+picked (i ∷ places) maps = then_maps (slice_get maps i) (picked places maps)

@@ -1,0 +1,113 @@
+//! Maps of values.
+
+ghost use Rattle.std.specs.Prelude.{◌≡◌, ◌<◌, ◌≤◌, ◌+◌, ℕ, length, slice_get, Some, All, IfOk};
+ghost use Rattle.cell_core.specs.Grid.{cell_at, no_labels};
+ghost use Rattle.cell_calc_binding.specs.Reach.{top_of};
+ghost use Rattle.cell_calc_operators.specs.Applied.{spot};
+ghost use Rattle.cell_calc_binding.specs.Value.{value};
+ghost use Rattle.rcell_making.specs.parts.WindowsSet.{AreSet, picked};
+
+use cell_calc::rows_of_values::eval_row;
+use cell_calc::window::RowWindow;
+use cell_calc_binding::bound::Bound;
+use cell_core::cell::Cell;
+use cell_core::map::{CellMap, MapBuilder};
+use cell_core::memory::Memory;
+use cell_core::shelf::Shelf;
+use std::alloc::Global;
+
+// The map that stands at a place of a list of places.
+fn map_at<'a>(shelf: &'a Shelf, places: &[usize], i: usize) -> &'a CellMap
+    requires place { i < length places.now }
+    requires within { All (λ place. place < length shelf.now.maps) places.now }
+    ensures value { slice_get (picked places.now shelf.now.maps) i ≡ Some result.now }
+    ensures region { result.now.region ≡ shelf.now.region }
+{
+    shelf.map(places[i])
+}
+
+// A window for each map that is read, at the first row.
+fn open(
+    alloc: Global,
+    bound: &Bound,
+    places: &[usize],
+    shelf: &Shelf,
+) -> Result<Vec<RowWindow>, Memory>
+    requires places { top_of bound.now ≡ length places.now }
+    requires within { All (λ place. place < length shelf.now.maps) places.now }
+    ensures set { IfOk result (λ windows. AreSet bound.now (length places.now) 0 windows.items (picked places.now shelf.now.maps)) }
+    ensures count { IfOk result (λ windows. length windows.items ≡ length places.now) }
+{
+    let mut windows = Vec::new(alloc);
+    for i in 0..places.len() {
+        let (up, down) = bound.reach(i);
+        windows.push(RowWindow::new(alloc, map_at(shelf, places, i), up, down)?)?;
+    }
+    Ok(windows)
+}
+
+// Moves each window down by one row, if there is one.
+fn advance(bound: &Bound, places: &[usize], shelf: &Shelf, row: u32, windows: &mut [RowWindow])
+    requires count { length windows.old ≡ length places.now }
+    requires within { All (λ place. place < length shelf.now.maps) places.now }
+    requires set { AreSet bound.now (length windows.old) row windows.old (picked places.now shelf.now.maps) }
+    ensures count { length windows.new ≡ length windows.old }
+    ensures set { row + 1 < shelf.now.region.rows → AreSet bound.now (length windows.old) (row + 1) windows.new (picked places.now shelf.now.maps) }
+{
+    let _ = bound;
+    if row as u64 + 1 >= shelf.region().rows() as u64 {
+        return;
+    }
+    for i in 0..windows.len() {
+        windows[i].advance(map_at(shelf, places, i));
+    }
+}
+
+// The map of an expression's values over the maps at places, without labels.
+fn evaluate_over(
+    alloc: Global,
+    bound: &Bound,
+    places: &[usize],
+    shelf: &Shelf,
+) -> Result<CellMap, Memory>
+    requires places { top_of bound.now ≡ length places.now }
+    requires within { All (λ place. place < length shelf.now.maps) places.now }
+    ensures region { IfOk result (λ m. m.region ≡ shelf.now.region) }
+    ensures labels { IfOk result (λ m. m.labels ≡ no_labels) }
+    ensures cells { IfOk result (λ m. (r c : ℕ) → r < shelf.now.region.rows → c < shelf.now.region.cols → cell_at m r c ≡ value bound.now (picked places.now shelf.now.maps) (spot shelf.now.region r c)) }
+{
+    let region = shelf.region();
+    let mut windows = open(alloc, bound, places, shelf)?;
+    let mut builder = MapBuilder::new(alloc, region);
+    let mut cells = Vec::from_elem(alloc, Cell::null(), region.cols() as usize)?;
+    for row in 0..region.rows() {
+        eval_row(
+            alloc,
+            bound,
+            &region,
+            row,
+            windows.as_slice(),
+            cells.as_mut_slice(),
+        )?;
+        builder.push_row(cells.as_slice())?;
+        advance(bound, places, shelf, row, windows.as_mut_slice());
+    }
+    Ok(builder.finish())
+}
+
+/// The map of an expression's values over a shelf's maps, without labels.
+///
+/// # Errors
+///
+/// [`Memory`] where memory was refused.
+pub fn evaluate(alloc: Global, bound: &Bound, shelf: &Shelf) -> Result<CellMap, Memory>
+    requires { top_of bound.now ≤ length shelf.now.maps }
+    ensures region { IfOk result (λ m. m.region ≡ shelf.now.region) }
+    ensures labels { IfOk result (λ m. m.labels ≡ no_labels) }
+    ensures cells { IfOk result (λ m. (r c : ℕ) → r < shelf.now.region.rows → c < shelf.now.region.cols → cell_at m r c ≡ value bound.now shelf.now.maps (spot shelf.now.region r c)) }
+{
+    // Only the maps that are read have windows.
+    let (compact, places) = bound.compacted(alloc)?;
+    let map = evaluate_over(alloc, &compact, places.as_slice(), shelf)?;
+    Ok(map)
+}

@@ -1,0 +1,83 @@
+-- What is kept by each line that is read.
+use Rattle.std.proofs.Common.{◌≡◌, ℕ, zero, suc, ◌<◌, IfOk, List, [], ◌∷◌, ◌++◌, All, Some, None, Result, Ok, Err, refl, ap, sym, ◌∙◌, subst, arith}
+use Rattle.std.proofs.lemmas.List.Elements.{All-append}
+use Rattle.cell_cats.specs.Rule.{RuleValue}
+use Rattle.cell_cats.specs.declared.rules.LineKind.{LineKind}
+use Rattle.cell_cats.specs.declared.rules.LineKind.TheVariants as line_kind
+use Rattle.rcell_script.specs.KnownMaps.{known_after}
+use Rattle.rcell_script.specs.ScriptsRead.{start, with_statement, after_head, after_rule}
+use Rattle.rcell_script_commands.specs.FittingCommands.{FitsCommand, FitsHead}
+use Rattle.rcell_script.specs.FittingScripts.{Fits}
+use Rattle.rcell_script_commands.specs.declared.script_fault.ScriptFault.{ScriptFault}
+use Rattle.rcell_script_commands.specs.declared.script_fault.ScriptKind.{ScriptKind}
+use Rattle.rcell_script_commands.specs.declared.heads.Head.{Head}
+use Rattle.rcell_script_commands.specs.declared.heads.Head.TheVariants.{Skipped, Whole, Opened}
+use Rattle.rcell_script.specs.declared.line_reading.Block.{Block}
+use Rattle.rcell_script.specs.declared.line_reading.Progress.{Progress}
+use Rattle.rcell_script_commands.specs.declared.command.Command.{Command}
+use Rattle.rcell_script_commands.specs.declared.command.Command.TheVariants.{Reclass}
+use Rattle.rcell_script.specs.declared.statement.Statement.{Statement}
+use Rattle.rcell_script.specs.parts.Sound.{FitsBlock, known_after_all, IsSound}
+
+-- the names after one more statement
+known_after_all-more : (known : List (List ℕ)) (xs : List Statement) (s : Statement) → known_after_all known (xs ++ s ∷ []) ≡ known_after (known_after_all known xs) s.command
+known_after_all-more known [] s = refl
+known_after_all-more known (x ∷ xs) s = known_after_all-more (known_after known x.command) xs s
+
+-- one more statement that fits
+Fits-more : (known : List (List ℕ)) (xs : List Statement) (s : Statement) → Fits known xs → FitsCommand (known_after_all known xs) s.command → Fits known (xs ++ s ∷ [])
+Fits-more known [] s fits command = (command, record {})
+Fits-more known (x ∷ xs) s fits command = (fits.0, Fits-more (known_after known x.command) xs s fits.1 command)
+
+numbered-one : (s : Statement) → 0 < s.line → All (λ (s : Statement). 0 < s.line) (s ∷ [])
+numbered-one s h zero d k = h
+numbered-one s h (suc i) d k = absurd (omega arith)
+
+pub IsSound-statement : (first : List (List ℕ)) (read : Progress) (line : ℕ) (command : Command) → 0 < line → FitsCommand read.known command → IsSound first read → IsSound first (with_statement line command read)
+IsSound-statement first read line command h fits sound =
+    let s : Statement = record { line = line; command = command } in
+    record {
+      known = ap (λ names. known_after names command) sound.known ∙ sym (known_after_all-more first read.statements s);
+      fits = Fits-more first read.statements s sound.fits (subst (λ names. FitsCommand names command) sound.known fits);
+      pending = record {};
+      numbered = All-append (λ (s : Statement). 0 < s.line) read.statements (s ∷ []) sound.numbered (numbered-one s h);
+    }
+
+-- nothing was read
+pub IsSound-start : (known : List (List ℕ)) → IsSound known (start known)
+IsSound-start known = record { known = refl; fits = record {}; pending = record {}; numbered = λ i d h. absurd (omega arith) }
+
+-- without the rules that are being read
+pub IsSound-closed : (first : List (List ℕ)) (read : Progress) → IsSound first read → IsSound first (record read { pending = None })
+IsSound-closed first read sound = record { known = sound.known; fits = sound.fits; pending = record {}; numbered = sound.numbered }
+
+-- after a line outside the rules of r.reclass
+pub IsSound-head : (first : List (List ℕ)) (read more : Progress) (line : ℕ) (head : Head) → 0 < line → FitsHead read.known head → after_head line read (Ok head) ≡ Ok more → IsSound first read → IsSound first more
+IsSound-head first read more line Skipped h fits e sound = let same : read ≡ more = cc in subst (IsSound first) same sound
+IsSound-head first read more line (Whole command) h fits e sound =
+    let same : with_statement line command read ≡ more = cc in
+    subst (IsSound first) same (IsSound-statement first read line command h fits sound)
+IsSound-head first read more line (Opened place target) h fits e sound =
+    let block : Block = record { line = line; place = place; target = target; rules = [] } in
+    let same : (record read { pending = Some block }) ≡ more = cc in
+    subst (IsSound first) same (record { known = sound.known; fits = sound.fits; pending = (fits.1, (fits.0, h)); numbered = sound.numbered })
+
+-- after a line among rules
+pub IsSound-rule : (first : List (List ℕ)) (read more : Progress) (line : ℕ) (block : Block) (x : Result (LineKind × List RuleValue) ScriptKind) → FitsBlock read.known (Some block) → after_rule line read block x ≡ Ok more → IsSound first read → IsSound first more
+IsSound-rule first read more line block (Err kind) fits e sound = cc
+IsSound-rule first read more line block (Ok (line_kind.End, rules)) fits e sound =
+    let same : with_statement block.line (Reclass block.place block.target block.rules) read ≡ more = cc in
+    subst (IsSound first) same (IsSound-statement first read block.line (Reclass block.place block.target block.rules) fits.1.1 (fits.1.0, fits.0) sound)
+IsSound-rule first read more line block (Ok (line_kind.Skipped, rules)) fits e sound =
+    let same : (record read { pending = Some (record block { rules = rules }) }) ≡ more = cc in
+    subst (IsSound first) same (record { known = sound.known; fits = sound.fits; pending = fits; numbered = sound.numbered })
+IsSound-rule first read more line block (Ok (line_kind.Rule, rules)) fits e sound =
+    let same : (record read { pending = Some (record block { rules = rules }) }) ≡ more = cc in
+    subst (IsSound first) same (record { known = sound.known; fits = sound.fits; pending = fits; numbered = sound.numbered })
+
+-- a line among rules keeps what was kept
+pub IsSound-rules : (read : Progress) (line : ℕ) (block : Block) (x : Result (LineKind × List RuleValue) ScriptKind) (r : Result Progress ScriptFault) → read.pending ≡ Some block
+    → IfOk r (λ more. after_rule line (record read { pending = None }) block x ≡ Ok more) → IfOk r (λ more. (first : List (List ℕ)) → IsSound first read → IsSound first more)
+IsSound-rules read line block x (Err fault) pending e = record {}
+IsSound-rules read line block x (Ok more) pending e =
+    λ first sound. IsSound-rule first (record read { pending = None }) more line block x (subst (FitsBlock read.known) pending sound.pending) e (IsSound-closed first read sound)

@@ -1,0 +1,38 @@
+-- Each text is read to its end or to its first fault, where each line comes to something.
+use Rattle.std.proofs.Common.{ℕ, ◌+◌, List, [], ◌∷◌, Option, Some, None, Result, Ok, Err, refl}
+use Rattle.rcell_script_commands.specs.Commands.{IsHead}
+use Rattle.rcell_script_commands.specs.declared.script_fault.ScriptFault.{ScriptFault}
+use Rattle.rcell_script_commands.specs.declared.script_fault.ScriptKind.{ScriptKind}
+use Rattle.rcell_script_commands.specs.declared.heads.Head.{Head}
+use Rattle.rcell_script.specs.Lines.{script_lines}
+use Rattle.rcell_script.specs.ScriptsRead.{start, at_end, after_head, after_rule, rule_line, IsNextTo, IsNext, IsScriptReading}
+use Rattle.rcell_script.specs.declared.line_reading.Block.{Block}
+use Rattle.rcell_script.specs.declared.line_reading.Progress.{Progress}
+use Rattle.rcell_script.specs.declared.statement.Statement.{Statement}
+
+-- each line outside the rules of r.reclass is something, over known maps
+abbrev pub EachLineIsHead : Type 0
+EachLineIsHead = (known : List (List ℕ)) (line : List ℕ) → (head : Result Head ScriptKind) × IsHead known line head
+
+next_to : EachLineIsHead → (pending : Option Block) (line : ℕ) (read : Progress) (l : List ℕ) → (next : Result Progress ScriptFault) × IsNextTo pending line read l next
+next_to heads None line read l =
+    let h = heads read.known l in
+    (after_head line read h.0, (h.0, h.1, refl))
+next_to heads (Some block) line read l = (after_rule line (record read { pending = None }) block (rule_line block.rules l), refl)
+
+-- after a line come the others, whatever they come to
+then_rest : (ls : List (List ℕ)) (l : List ℕ) (line : ℕ) (read : Progress) → ((more : Progress) → (r : Result (List Statement) ScriptFault) × IsScriptReading (line + 1) more ls r)
+    → (next : Result Progress ScriptFault) → IsNext line read l next → (r : Result (List Statement) ScriptFault) × IsScriptReading line read (l ∷ ls) r
+then_rest ls l line read rest (Ok more) is =
+    let others = rest more in
+    (others.0, (Ok more, is, others.1))
+then_rest ls l line read rest (Err told) is = (Err told, (Err told, is, refl))
+
+read_lines : EachLineIsHead → (ls : List (List ℕ)) (line : ℕ) (read : Progress) → (r : Result (List Statement) ScriptFault) × IsScriptReading line read ls r
+read_lines heads [] line read = (at_end read, refl)
+read_lines heads (l ∷ ls) line read =
+    let next = next_to heads read.pending line read l in
+    then_rest ls l line read (λ more. read_lines heads ls (line + 1) more) next.0 next.1
+
+pub read_somehow : EachLineIsHead → (known : List (List ℕ)) (text : List ℕ) → (r : Result (List Statement) ScriptFault) × IsScriptReading 1 (start known) (script_lines text) r
+read_somehow heads known text = read_lines heads (script_lines text) 1 (start known)

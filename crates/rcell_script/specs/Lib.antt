@@ -1,0 +1,10 @@
+-- Scripts: their lines, which texts are scripts; how they are read, and which faults they have.
+pub mod Lines
+pub mod ReclassRules
+pub mod KnownMaps
+pub mod Scripts
+pub mod FittingScripts
+pub mod ScriptsRead
+pub mod ReadScripts
+pub mod ScriptLaw
+pub mod parts

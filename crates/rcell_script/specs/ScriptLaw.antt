@@ -1,0 +1,18 @@
+-- What is so of all texts.
+use Rattle.std.specs.Prelude.{ℕ, ◌≡◌, ◌↔◌, List}
+use Rattle.rcell_script.specs.Scripts.{IsScript}
+use Rattle.rcell_script.specs.ReadScripts.{IsReadAs, IsScriptFault}
+use Rattle.rcell_script_commands.specs.declared.script_fault.ScriptFault.{ScriptFault}
+use Rattle.rcell_script.specs.declared.statement.Statement.{Statement}
+
+-- a text is a script of one list of statements at most
+abbrev pub OneScript : Type 0
+OneScript = (known : List (List ℕ)) (text : List ℕ) (a b : List Statement) → IsScript known text a → IsScript known text b → a ≡ b
+
+-- a script has no fault
+abbrev pub NoFaultOfAScript : Type 0
+NoFaultOfAScript = (known : List (List ℕ)) (text : List ℕ) (a : List Statement) (fault : ScriptFault) → IsScript known text a → IsScriptFault known text fault → ⊥
+
+-- a text is read as statements exactly where it is a script of them
+abbrev pub ReadingDenotes : Type 0
+ReadingDenotes = (known : List (List ℕ)) (text : List ℕ) (statements : List Statement) → IsReadAs known text statements ↔ IsScript known text statements

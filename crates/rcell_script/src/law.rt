@@ -1,0 +1,25 @@
+//! Laws of scripts.
+
+ghost use Rattle.rcell_script.specs.ScriptLaw.{NoFaultOfAScript, OneScript, ReadingDenotes};
+
+use cell_calc_language::assignment::one_assignment;
+
+/// A text is a script of one list of statements at most.
+pub fn one_script()
+    ensures { OneScript }
+{
+    one_assignment();
+}
+
+/// A text that is a script has no fault.
+pub fn no_fault_of_a_script()
+    ensures { NoFaultOfAScript }
+{
+    one_assignment();
+}
+
+/// The reading of a text line by line gives statements exactly where the text is a script of them: its lines group into
+/// them.
+pub fn reading_denotes()
+    ensures { ReadingDenotes }
+{}

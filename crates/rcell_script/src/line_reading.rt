@@ -1,0 +1,254 @@
+//! The reading of a script line by line.
+
+ghost use Rattle.std.specs.Prelude.{◌≡◌, ◌≢◌, ◌<◌, ℕ, List, IfOk, IfErr, OnOk, Ok, Err, Some};
+ghost use Rattle.std.specs.Option.{option_map};
+ghost use Rattle.rcell_script.specs.KnownMaps.{known_after, made_by};
+ghost use Rattle.rcell_script.specs.ScriptsRead.{start, with_statement, after_head, after_rule, rule_line, IsNext, at_end};
+ghost use Rattle.rcell_script_commands.specs.FittingCommands.{FitsCommand, FitsHead};
+ghost use Rattle.rcell_script.specs.parts.Sound.{IsSound, FitsBlock};
+
+use crate::statement::{Script, Statement};
+use cell_cats::rules::{LineKind, RuleFault, Rules};
+use cell_core::memory::Memory;
+use cell_core::name::{Name, Names};
+use rcell_script_commands::command::Command;
+use rcell_script_commands::heads::{Head, MOST_LINE, head_of};
+use rcell_script_commands::script_fault::{ScriptFault, ScriptKind};
+use std::alloc::Global;
+
+/// An r.reclass whose rules are being read.
+#[derive(Drop)]
+pub(crate) struct Block {
+    line: u64,
+    place: usize,
+    target: Name,
+    rules: Rules,
+}
+
+/// What was read of a script: the names known, the statements, and the r.reclass whose rules are being read.
+#[derive(Drop)]
+pub(crate) struct Progress {
+    known: Names,
+    statements: Script,
+    pending: Option<Block>,
+}
+
+/// Memory was refused.
+pub(crate) const NO_MEMORY: ScriptFault = ScriptFault {
+    kind: ScriptKind::Memory,
+    line: 0,
+};
+
+// A fault at a line; being out of memory is told at line 0.
+fn fault_at(line: u64, kind: ScriptKind) -> ScriptFault
+    ensures other { kind ≢ ScriptKind.Memory → result ≡ record { kind = kind; line = line } }
+    ensures kind { result.kind ≡ kind }
+    ensures memory { kind ≡ ScriptKind.Memory → result.line ≡ 0 }
+{
+    match kind {
+        ScriptKind::Memory => NO_MEMORY,
+        _ => ScriptFault { kind, line },
+    }
+}
+
+// A copy of names.
+fn copied(alloc: Global, names: &Names) -> Result<Names, Memory>
+    ensures { IfOk result (λ copy. copy ≡ names.now) }
+{
+    let mut copy = Names::new(alloc);
+    for i in 0..names.len() {
+        let name = names.name(i).copy(alloc)?;
+        copy.push(name)?;
+    }
+    Ok(copy)
+}
+
+// The name of the map that a command makes.
+fn made_by(command: &Command) -> Option<&Name>
+    ensures { option_map (λ name. name.now) result ≡ made_by command.now }
+{
+    match command {
+        Command::Mapcalc { target, .. } => Some(target),
+        Command::Reclass { target, .. } => Some(target),
+        Command::Clump { target, .. } => Some(target),
+        _ => None,
+    }
+}
+
+// Puts the name of the map that a command makes, if it makes one, last among the known names.
+fn add_made(alloc: Global, known: &mut Names, command: &Command) -> Result<(), Memory>
+    requires { FitsCommand known.old command.now }
+    ensures { OnOk result (known.new ≡ known_after known.old command.now) }
+{
+    if let Some(name) = made_by(command) {
+        known.push(name.copy(alloc)?)?;
+    }
+    Ok(())
+}
+
+// A line among rules, and the rules with it.
+fn add_rule(rules: &mut Rules, line: &[u8]) -> Result<LineKind, ScriptKind>
+    ensures ok { IfOk result (λ kind. rule_line rules.old line.now ≡ Ok (kind, rules.new)) }
+    ensures err { IfErr result (λ kind. kind ≢ ScriptKind.Memory → rule_line rules.old line.now ≡ Err kind) }
+{
+    if line.len() > MOST_LINE {
+        return Err(ScriptKind::LongLine);
+    }
+    match rules.add_line(line) {
+        Ok(kind) => Ok(kind),
+        Err(RuleFault::Memory) => Err(ScriptKind::Memory),
+        Err(fault) => Err(ScriptKind::Rule(fault)),
+    }
+}
+
+impl Progress {
+    /// Nothing was read yet, over known names.
+    ///
+    /// # Errors
+    ///
+    /// [`Memory`] where memory was refused.
+    pub(crate) fn new(alloc: Global, known: &Names) -> Result<Progress, Memory>
+        ensures { IfOk result (λ read. read ≡ start known.now) }
+    {
+        let known = copied(alloc, known)?;
+        Ok(Progress {
+            known,
+            statements: Script::new(alloc),
+            pending: None,
+        })
+    }
+
+    // With one more statement.
+    fn with_statement(
+        mut self,
+        alloc: Global,
+        line: u64,
+        command: Command,
+    ) -> Result<Progress, Memory>
+        requires { FitsCommand self.known command }
+        ensures { IfOk result (λ read. read ≡ with_statement line command self) }
+    {
+        add_made(alloc, &mut self.known, &command)?;
+        self.statements.push(Statement { line, command })?;
+        self.pending = None;
+        Ok(self)
+    }
+
+    // After a line outside the rules of r.reclass.
+    fn with_head(self, alloc: Global, line: u64, head: Head) -> Result<Progress, Memory>
+        requires { FitsHead self.known head }
+        ensures { IfOk result (λ read. after_head line self (Ok head) ≡ Ok read) }
+    {
+        match head {
+            Head::Skipped => Ok(self),
+            Head::Whole(command) => self.with_statement(alloc, line, command),
+            Head::Opened { place, target } => Ok(Progress {
+                pending: Some(Block {
+                    line,
+                    place,
+                    target,
+                    rules: Rules::new(alloc),
+                }),
+                ..self
+            }),
+        }
+    }
+
+    // After a line among rules.
+    fn with_rule(
+        self,
+        alloc: Global,
+        line: u64,
+        mut block: Block,
+        text: &[u8],
+    ) -> Result<Progress, ScriptFault>
+        requires { FitsBlock self.known (Some block) }
+        ensures ok { IfOk result (λ read. after_rule line self block (rule_line block.rules text.now) ≡ Ok read) }
+        ensures err { IfErr result (λ fault. fault.kind ≢ ScriptKind.Memory → after_rule line self block (rule_line block.rules text.now) ≡ Err fault) }
+        ensures memory { IfErr result (λ fault. fault.kind ≡ ScriptKind.Memory → fault.line ≡ 0) }
+    {
+        match add_rule(&mut block.rules, text) {
+            Ok(LineKind::End) => {
+                let command = Command::Reclass {
+                    place: block.place,
+                    target: block.target,
+                    rules: block.rules,
+                };
+                match self.with_statement(alloc, block.line, command) {
+                    Ok(read) => Ok(read),
+                    Err(_) => Err(NO_MEMORY),
+                }
+            }
+            Ok(_) => Ok(Progress {
+                pending: Some(block),
+                ..self
+            }),
+            Err(kind) => Err(fault_at(line, kind)),
+        }
+    }
+}
+
+impl Progress {
+    /// What was read with one more line.
+    ///
+    /// # Errors
+    ///
+    /// The fault of the line, with its number; [`ScriptKind::Memory`] with line 0 where memory was refused.
+    pub(crate) fn with_line(
+        self,
+        alloc: Global,
+        line: u64,
+        text: &[u8],
+    ) -> Result<Progress, ScriptFault>
+        requires line { 0 < line }
+        requires fits { FitsBlock self.known self.pending }
+        ensures ok { IfOk result (λ read. IsNext line self text.now (Ok read)) }
+        ensures sound { IfOk result (λ read. (first : List (List ℕ)) → IsSound first self → IsSound first read) }
+        ensures err { IfErr result (λ fault. fault.kind ≢ ScriptKind.Memory → IsNext line self text.now (Err fault)) }
+        ensures memory { IfErr result (λ fault. fault.kind ≡ ScriptKind.Memory → fault.line ≡ 0) }
+    {
+        let Progress {
+            known,
+            statements,
+            pending,
+        } = self;
+        let read = Progress {
+            known,
+            statements,
+            pending: None,
+        };
+        if let Some(block) = pending {
+            return read.with_rule(alloc, line, block, text);
+        }
+        let head = match head_of(alloc, &read.known, text) {
+            Ok(head) => head,
+            Err(kind) => return Err(fault_at(line, kind)),
+        };
+        match read.with_head(alloc, line, head) {
+            Ok(read) => Ok(read),
+            Err(_) => Err(NO_MEMORY),
+        }
+    }
+
+    /// The statements, at the end of the lines.
+    ///
+    /// # Errors
+    ///
+    /// [`ScriptKind::MissingEnd`] at the line of an r.reclass whose rules have no end.
+    pub(crate) fn into_script(self) -> Result<Script, ScriptFault>
+        ensures { result ≡ at_end self }
+    {
+        let Progress {
+            known: _,
+            statements,
+            pending,
+        } = self;
+        match pending {
+            None => Ok(statements),
+            Some(block) => Err(ScriptFault {
+                kind: ScriptKind::MissingEnd,
+                line: block.line,
+            }),
+        }
+    }
+}

@@ -1,0 +1,43 @@
+//! From the text of a script to its statements.
+
+ghost use Rattle.std.specs.Prelude.{◌≡◌, ◌≢◌, ◌<◌, All, IfOk, IfErr};
+ghost use Rattle.rcell_script.specs.Scripts.{IsScript};
+ghost use Rattle.rcell_script.specs.ReadScripts.{IsScriptFault};
+ghost use Rattle.rcell_script.specs.FittingScripts.{Fits};
+
+use crate::line_reading::{NO_MEMORY, Progress};
+use crate::lines::lines_of;
+use crate::statement::Script;
+use cell_core::name::Names;
+use rcell_script_commands::script_fault::{ScriptFault, ScriptKind};
+use std::alloc::Global;
+
+/// The statements of a script over maps of these names: places are those of the names, then of the maps made, in order.
+///
+/// # Errors
+///
+/// The first fault, line by line from the top, with the number of its line from 1: [`ScriptKind::LongLine`], then
+/// [`ScriptKind::UnknownCommand`], then the faults of the command and of its rules; [`ScriptKind::MissingEnd`] at the
+/// line of an r.reclass whose rules have no end. [`ScriptKind::Memory`] with line 0 where memory was refused.
+pub fn parse_script(alloc: Global, text: &[u8], known: &Names) -> Result<Script, ScriptFault>
+    ensures ok { IfOk result (λ script. IsScript known.now text.now script) }
+    ensures fits { IfOk result (λ script. Fits known.now script) }
+    ensures numbered { IfOk result (λ script. All (λ s. 0 < s.line) script) }
+    ensures err { IfErr result (λ fault. fault.kind ≢ ScriptKind.Memory → IsScriptFault known.now text.now fault) }
+    ensures memory { IfErr result (λ fault. fault.kind ≡ ScriptKind.Memory → fault.line ≡ 0) }
+{
+    let Ok(lines) = lines_of(alloc, text) else {
+        return Err(NO_MEMORY);
+    };
+    let Ok(start) = Progress::new(alloc, known) else {
+        return Err(NO_MEMORY);
+    };
+    let mut read = start;
+    for (i, line) in lines.iter().enumerate() {
+        match read.with_line(alloc, i as u64 + 1, *line) {
+            Ok(more) => read = more,
+            Err(fault) => return Err(fault),
+        }
+    }
+    read.into_script()
+}

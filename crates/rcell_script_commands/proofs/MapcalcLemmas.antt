@@ -1,0 +1,63 @@
+-- What the line of an r.mapcalc comes to.
+use Rattle.std.proofs.Common.{◌≡◌, ◌≢◌, ℕ, ◌+◌, ◌≤◌, List, length, Option, Some, None, Result, Err, inl, inr, refl, ap, sym, subst, arith}
+use Rattle.std.specs.Option.{unwrap_or}
+use Rattle.cell_core_values.specs.Name.{place_of}
+use Rattle.cell_calc_binding.specs.Binding.{with_places, placed_all, IsBindingFault}
+use Rattle.cell_calc_binding.specs.Formula.{Formula}
+use Rattle.cell_calc_binding.specs.Reach.{top_of, top_of_all}
+use Rattle.cell_calc_grammar.specs.Term.{Term, Number, Map, Negated, Not, Binary, Call, Terms, NoTerms, Then}
+use Rattle.cell_calc_language.specs.Unknown.{first_column, unplaced, first_unknown, first_unknown_all}
+use Rattle.rcell_script_options.proofs.PlaceLemmas.{place_of-within}
+use Rattle.cell_calc_language.specs.Assignment.{IsAssignmentText}
+use Rattle.cell_calc_language.specs.GrammarFault.{IsTextFault}
+use Rattle.cell_calc_language.specs.declared.assignment.Assignment.{Assignment}
+use Rattle.cell_calc_tokens.specs.declared.calc_fault.CalcFault.{CalcFault}
+use Rattle.cell_calc_tokens.specs.declared.calc_fault.CalcKind.TheVariants as calc
+use Rattle.rcell_script_commands.specs.Commands.{mapcalc_of, IsMapcalc}
+use Rattle.rcell_script_commands.specs.RMapcalc.{assignment_text}
+use Rattle.rcell_script_commands.specs.declared.script_fault.ScriptKind.{ScriptKind}
+use Rattle.rcell_script_commands.specs.declared.script_fault.ScriptKind.TheVariants.{Calc}
+use Rattle.rcell_script_commands.specs.declared.heads.Head.{Head}
+
+-- the text is an assignment
+pub assigned : (known : List (List ℕ)) (line text : List ℕ) (a : Assignment) (head : Result Head ScriptKind) → text ≡ assignment_text line → IsAssignmentText text a → mapcalc_of known a ≡ head → IsMapcalc known line head
+assigned known line text a head e is of = inl (a, subst (λ t. IsAssignmentText t a) e is, of)
+
+-- the text is none
+pub unassigned : (known : List (List ℕ)) (line text : List ℕ) (fault : CalcFault) → text ≡ assignment_text line → IsTextFault text fault → fault.kind ≢ calc.Memory → IsMapcalc known line (Err (Calc fault))
+unassigned known line text fault e is memory = inr (fault, subst (λ t. IsTextFault t fault) e is, memory, refl)
+
+-- the fault of a first unknown map
+pub unbound : (known : List (List ℕ)) (a : Assignment) (fault : CalcFault) → IsBindingFault known a.expr fault → fault.kind ≢ calc.Memory → mapcalc_of known a ≡ Err (Calc fault)
+unbound known a fault (inl memory) other = absurd (other (ap (λ (f : CalcFault). f.kind) memory))
+unbound known a fault (inr (kind, unknown)) other = rw unknown (ap (λ k. Err (Calc (record { kind = k; column = fault.column }))) (sym kind))
+
+neither : (x y : Option ℕ) → first_column x y ≡ None → (x ≡ None) × (y ≡ None)
+neither None y e = (refl, e)
+neither (Some c) y e = cc
+
+placed-within : (names : List (List ℕ)) (name : List ℕ) (c : ℕ) (o : Option ℕ) → place_of name names ≡ o → unplaced o c ≡ None → unwrap_or o 0 + 1 ≤ length names
+placed-within names name c None p e = cc
+placed-within names name c (Some i) p e = omega (arith, place_of-within name names i p)
+
+mutual
+  -- no place is past the names
+  pub top-placed : (names : List (List ℕ)) (e : Term) → first_unknown names e ≡ None → top_of (with_places names e) ≤ length names
+  top-placed names (Number n) h = omega arith
+  top-placed names (Map name down right c) h = placed-within names name c (place_of name names) refl h
+  top-placed names (Negated a) h = top-placed names a h
+  top-placed names (Not a) h = top-placed names a h
+  top-placed names (Binary op a b) h =
+      let both = neither (first_unknown names a) (first_unknown names b) h in
+      omega (arith, top-placed names a both.0, top-placed names b both.1)
+  top-placed names (Call f xs) h = top-placed_all names xs h
+
+  top-placed_all : (names : List (List ℕ)) (es : Terms) → first_unknown_all names es ≡ None → top_of_all (placed_all names es) ≤ length names
+  top-placed_all names NoTerms h = omega arith
+  top-placed_all names (Then a xs) h =
+      let both = neither (first_unknown names a) (first_unknown_all names xs) h in
+      omega (arith, top-placed names a both.0, top-placed_all names xs both.1)
+
+-- a map that an assignment makes reads known maps
+pub fits_known : (names : List (List ℕ)) (e : Term) (bound : Formula) → bound ≡ with_places names e → first_unknown names e ≡ None → top_of bound ≤ length names
+fits_known names e bound is h = subst (λ f. top_of f ≤ length names) (sym is) (top-placed names e h)

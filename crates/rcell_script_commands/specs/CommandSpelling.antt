@@ -1,0 +1,16 @@
+-- Which line spells which command (the commands are those of the GRASS manual).
+use Rattle.std.specs.Prelude.{ℕ, List}
+use Rattle.rcell_script_commands.specs.RClump.{SpellsClump}
+use Rattle.rcell_script_commands.specs.RMapcalc.{SpellsMapcalc}
+use Rattle.rcell_script_commands.specs.ROutAscii.{SpellsOutAscii}
+use Rattle.rcell_script_commands.specs.RStats.{SpellsStats}
+use Rattle.rcell_script_commands.specs.declared.command.Command.{Command}
+use Rattle.rcell_script_commands.specs.declared.command.Command.TheVariants.{Mapcalc, Reclass, Clump, Stats, OutAscii}
+
+-- a line spells a command that is whole with it
+abbrev pub SpellsCommand : List (List ℕ) → List ℕ → Command → Type 0
+SpellsCommand known line (Mapcalc target bound) = SpellsMapcalc known line target bound
+SpellsCommand known line (Reclass place target rules) = ⊥
+SpellsCommand known line (Clump place target joining) = SpellsClump known line place target joining
+SpellsCommand known line (Stats places options) = SpellsStats known line places options
+SpellsCommand known line (OutAscii place null_text) = SpellsOutAscii known line place null_text

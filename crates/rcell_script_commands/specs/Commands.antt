@@ -1,0 +1,135 @@
+-- What a line is: skipped, a command that its options ask for, the beginning of an r.reclass, or a fault (the order of the faults is the profile's).
+use Rattle.std.specs.Prelude.{ℕ, ◌≡◌, ◌≢◌, ◌⊎◌, List, Option, Some, None, Result, Ok, Err, length, if◌then◌else◌, unwrap_or, Bool, true, false, [], ◌∷◌, nat_lt, bytes_eq, codes}
+use Rattle.cell_ascii_meaning.specs.GridWords.{usual_null}
+use Rattle.cell_calc_binding.specs.Binding.{with_places}
+use Rattle.cell_core_values.specs.Name.{place_of}
+use Rattle.cell_calc_language.specs.Assignment.{IsAssignmentText}
+use Rattle.cell_calc_language.specs.GrammarFault.{IsTextFault}
+use Rattle.cell_calc_language.specs.Unknown.{first_unknown}
+use Rattle.cell_stats_combinations.specs.Combinations.{Combination}
+use Rattle.cell_stats_combinations.specs.ComboText.{combo_of}
+use Rattle.cell_core_text.specs.Words.{words_of}
+use Rattle.cell_calc_language.specs.declared.assignment.Assignment.{Assignment}
+use Rattle.cell_calc_tokens.specs.declared.calc_fault.CalcFault.{CalcFault}
+use Rattle.cell_calc_tokens.specs.declared.calc_fault.CalcKind.TheVariants as calc
+use Rattle.cell_stats_combinations.specs.declared.combination_text.ComboFault.{ComboFault}
+use Rattle.rcell_script_commands.specs.ScriptFaults.{in_script}
+use Rattle.rcell_script_commands.specs.Skipped.{is_comment}
+use Rattle.rcell_script_options.specs.Maps.{new_target, from_to, input_place, input_places}
+use Rattle.rcell_script_options.specs.OptionReading.{options_then, options_of}
+use Rattle.rcell_script_options.specs.Options.{Given}
+use Rattle.rcell_script_commands.specs.RClump.{joining_of}
+use Rattle.rcell_script_commands.specs.RMapcalc.{assignment_text}
+use Rattle.rcell_script_commands.specs.RStats.{printed_with}
+use Rattle.rcell_script_commands.specs.declared.script_fault.ScriptKind.{ScriptKind}
+use Rattle.rcell_script_commands.specs.declared.script_fault.ScriptKind.TheVariants.{Calc, Combo, UnknownCommand, LongLine}
+use Rattle.rcell_script_commands.specs.declared.heads.Head.{Head}
+use Rattle.rcell_script_commands.specs.declared.heads.Head.TheVariants.{Whole, Skipped, Opened}
+use Rattle.rcell_script_options.specs.declared.option_fault.OptionFault.{OptionFault}
+use Rattle.rcell_script_options.specs.declared.options.Form.TheVariants as form
+use Rattle.rcell_script_commands.specs.declared.command.Command.{Command}
+use Rattle.rcell_script_commands.specs.declared.command.Command.TheVariants.{Mapcalc, Clump, Stats, OutAscii}
+
+-- the map that an assignment makes: each map that it reads is known, and the target is new
+abbrev pub mapcalc_of : List (List ℕ) → Assignment → Result Head ScriptKind
+mapcalc_of known a = by (first_unknown known a.expr)
+  where
+    by : Option ℕ → Result Head ScriptKind
+    by (Some column) = Err (Calc (record { kind = calc.UnknownMap; column = column }))
+    by None = in_script (new_target (place_of a.target known) (Ok (Whole (Mapcalc a.target (with_places known a.expr)))))
+
+-- the text is an assignment, and this is what comes of it
+abbrev pub IsAssigned : List (List ℕ) → List ℕ → Result Head ScriptKind → Type 0
+IsAssigned known text head = (a : Assignment) × IsAssignmentText text a × (mapcalc_of known a ≡ head)
+
+-- the text is no assignment, for this reason
+abbrev pub IsUnassigned : List ℕ → Result Head ScriptKind → Type 0
+IsUnassigned text head = (fault : CalcFault) × IsTextFault text fault × (fault.kind ≢ calc.Memory) × (Err (Calc fault) ≡ head)
+
+-- what the line of an r.mapcalc is, over known maps
+abbrev pub IsMapcalc : List (List ℕ) → List ℕ → Result Head ScriptKind → Type 0
+IsMapcalc known line head = IsAssigned known (assignment_text line) head ⊎ IsUnassigned (assignment_text line) head
+
+-- the place of the map that is read, and the name of the one that is made
+abbrev pub reclass_of : List (List ℕ) → List (List ℕ) → Result (ℕ × List ℕ) OptionFault
+reclass_of known words = options_then (from_to known) (options_of form.Reclass words)
+
+-- a map that is known, and one that is new
+abbrev pub clump_with : List (List ℕ) → Given → Result Command OptionFault
+clump_with known given = options_then (λ maps. Ok (Clump maps.0 maps.1 (joining_of given))) (from_to known given)
+
+-- the areas that words ask for
+abbrev pub clump_of : List (List ℕ) → List (List ℕ) → Result Command OptionFault
+clump_of known words = options_then (clump_with known) (options_of form.Clump words)
+
+-- the combination after which a table goes on, where one is given
+abbrev pub after_of : ℕ → Option (List ℕ) → Result (Option Combination) ScriptKind
+after_of width None = Ok None
+after_of width (Some text) = combined (combo_of width text)
+  where
+    combined : Result Combination ComboFault → Result (Option Combination) ScriptKind
+    combined (Ok combo) = Ok (Some combo)
+    combined (Err fault) = Err (Combo fault)
+
+-- the table of the maps at these places
+abbrev pub stats_at : Given → List ℕ → Result Command ScriptKind
+stats_at given places = options_then (λ after. Ok (Stats places (printed_with given after))) (after_of (length places) given.after)
+
+-- inputs, then flags that go together, then known maps, then a combination of their number
+abbrev pub stats_with : List (List ℕ) → Given → Result Command ScriptKind
+stats_with known given = options_then (stats_at given) (in_script (input_places known given))
+
+-- the table that words ask for
+abbrev pub stats_of : List (List ℕ) → List (List ℕ) → Result Command ScriptKind
+stats_of known words = options_then (stats_with known) (in_script (options_of form.Stats words))
+
+-- an input that is known; null is an asterisk where no text is given
+abbrev pub out_ascii_with : List (List ℕ) → Given → Result Command OptionFault
+out_ascii_with known given = options_then (λ place. Ok (OutAscii place (unwrap_or given.null_text usual_null))) (input_place known given)
+
+-- the grid text that words ask for
+abbrev pub out_ascii_of : List (List ℕ) → List (List ℕ) → Result Command OptionFault
+out_ascii_of known words = options_then (out_ascii_with known) (options_of form.OutAscii words)
+
+-- a command that is whole with its line
+abbrev pub as_whole : Result Command ScriptKind → Result Head ScriptKind
+as_whole (Ok command) = Ok (Whole command)
+as_whole (Err kind) = Err kind
+
+-- an r.reclass whose rules follow
+abbrev pub as_opened : Result (ℕ × List ℕ) ScriptKind → Result Head ScriptKind
+as_opened (Ok maps) = Ok (Opened maps.0 maps.1)
+as_opened (Err kind) = Err kind
+
+-- what a name of a command and the words after it begin, over known maps
+abbrev pub head_named : List (List ℕ) → List ℕ → List (List ℕ) → Result Head ScriptKind
+head_named known name words =
+    if bytes_eq name (codes "r.stats") then as_whole (stats_of known words)
+    else (if bytes_eq name (codes "r.out.ascii") then as_whole (in_script (out_ascii_of known words))
+    else (if bytes_eq name (codes "r.clump") then as_whole (in_script (clump_of known words))
+    else (if bytes_eq name (codes "r.reclass") then as_opened (in_script (reclass_of known words))
+    else Err UnknownCommand)))
+
+-- a line of blanks and a comment are skipped; in any other line the first word is the command
+abbrev pub head_of_words : List (List ℕ) → List (List ℕ) → Result Head ScriptKind
+head_of_words known [] = Ok Skipped
+head_of_words known (w ∷ ws) = if is_comment w then Ok Skipped else head_named known w ws
+
+-- the first word is that of an r.mapcalc
+abbrev pub is_mapcalc : List (List ℕ) → Bool
+is_mapcalc [] = false
+is_mapcalc (w ∷ ws) = bytes_eq w (codes "r.mapcalc")
+
+-- what a line of at most 65535 bytes is, an r.mapcalc or another
+abbrev pub IsShortHead : Bool → List (List ℕ) → List ℕ → Result Head ScriptKind → Type 0
+IsShortHead true known line head = IsMapcalc known line head
+IsShortHead false known line head = head_of_words known (words_of line) ≡ head
+
+-- what a line is that is longer than that, or not
+abbrev pub IsHeadOf : Bool → List (List ℕ) → List ℕ → Result Head ScriptKind → Type 0
+IsHeadOf true known line head = Err LongLine ≡ head
+IsHeadOf false known line head = IsShortHead (is_mapcalc (words_of line)) known line head
+
+-- what a line outside the rules of r.reclass is, over known maps
+abbrev pub IsHead : List (List ℕ) → List ℕ → Result Head ScriptKind → Type 0
+IsHead known line head = IsHeadOf (nat_lt 65535 (length line)) known line head

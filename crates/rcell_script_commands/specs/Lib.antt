@@ -1,0 +1,11 @@
+-- What one line of a script asks for: the options of a command, which lines spell it, and which faults a line has.
+pub mod Skipped
+pub mod RMapcalc
+pub mod RReclass
+pub mod RClump
+pub mod RStats
+pub mod ROutAscii
+pub mod CommandSpelling
+pub mod FittingCommands
+pub mod ScriptFaults
+pub mod Commands

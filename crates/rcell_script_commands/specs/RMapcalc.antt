@@ -1,0 +1,34 @@
+-- r.mapcalc: the assignment of a line (r.mapcalc manual).
+use Rattle.std.specs.Prelude.{ℕ, ◌-◌, List, [], ◌∷◌, ◌++◌, length, replicate, if◌then◌else◌, ◌≡◌, None, codes}
+use Rattle.cell_calc_binding.specs.Binding.{with_places}
+use Rattle.cell_calc_binding.specs.Formula.{Formula}
+use Rattle.cell_core_values.specs.Name.{place_of}
+use Rattle.cell_calc_language.specs.Assignment.{IsAssignmentText}
+use Rattle.cell_calc_language.specs.Unknown.{first_unknown}
+use Rattle.cell_core_text.specs.Blanks.{is_blank, after_blanks}
+use Rattle.cell_core_text.specs.Words.{words_of}
+use Rattle.cell_calc_language.specs.declared.assignment.Assignment.{Assignment}
+
+-- what stands after the first word of a text that begins with it
+abbrev pub text_after_command : List ℕ → List ℕ
+text_after_command [] = []
+text_after_command (b ∷ bs) = if is_blank b then b ∷ bs else text_after_command bs
+
+-- what stands after the command of a line
+abbrev pub after_command : List ℕ → List ℕ
+after_command line = text_after_command (after_blanks line)
+
+-- the assignment of a line: blanks stand for all up to the end of the command, so that columns count within the line
+abbrev pub assignment_text : List ℕ → List ℕ
+assignment_text line = replicate (length line - length (after_command line)) 32 ++ after_command line
+
+-- r.mapcalc: what follows the name is an assignment, whose maps are known and whose target is new
+pub record SpellsMapcalc (known : List (List ℕ)) (line target : List ℕ) (bound : Formula) : Type 0 where
+  pub words : List (List ℕ)
+  pub named : words_of line ≡ codes "r.mapcalc" ∷ words
+  pub assignment : Assignment
+  pub says : IsAssignmentText (assignment_text line) assignment
+  pub read : first_unknown known assignment.expr ≡ None
+  pub made : place_of assignment.target known ≡ None
+  pub target_is : assignment.target ≡ target
+  pub bound_is : with_places known assignment.expr ≡ bound

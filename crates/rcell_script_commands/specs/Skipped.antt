@@ -1,0 +1,13 @@
+-- Lines that say nothing (profile).
+use Rattle.std.specs.Prelude.{ℕ, Bool, false, ◌==◌, List, [], ◌∷◌, ◌≡◌, true}
+use Rattle.cell_cats.specs.RuleLine.{is_skipped}
+use Rattle.cell_core_text.specs.Blanks.{trimmed}
+
+-- a word that begins a comment: its first byte is `#`
+abbrev pub is_comment : List ℕ → Bool
+is_comment [] = false
+is_comment (b ∷ bs) = b == 35
+
+-- a line that says nothing: blanks alone, or a comment
+abbrev pub IsSkipped : List ℕ → Type 0
+IsSkipped bytes = is_skipped (trimmed bytes) ≡ true

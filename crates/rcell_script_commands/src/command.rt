@@ -1,0 +1,61 @@
+//! What a line of a script asks for.
+
+use cell_calc_binding::bound::Bound;
+use cell_cats::rules::Rules;
+use cell_cats_areas::clump::Joining;
+use cell_core::name::Name;
+use cell_stats_combinations::combination::Combo;
+use cell_stats_combinations::skip::Skip;
+pub use rcell_script_options::maps::Places;
+use rcell_script_options::null_text::{NullText, TableNullText};
+
+/// How r.stats prints a table, and what of it.
+#[derive(Drop)]
+pub struct StatsOptions {
+    /// Which combinations are left out (`-n`, `-N`).
+    pub skip: Skip,
+    /// Whether labels are printed (`-l`).
+    pub labels: bool,
+    /// Whether counts are printed (`-c`).
+    pub counts: bool,
+    /// Whether there is a line for each cell (`-1`).
+    pub cells: bool,
+    /// What stands between the fields of a line.
+    pub separator: u8,
+    /// What stands for null.
+    pub null_text: TableNullText,
+    /// The combination after which the table goes on, of as many cells as there are maps.
+    pub after: Option<Combo>,
+}
+
+/// What a statement asks for. A place is that of a map on the shelf before the statement.
+#[derive(Drop)]
+pub enum Command {
+    /// `r.mapcalc`: a map of the values of an expression.
+    Mapcalc {
+        target: Name,
+        bound: Bound,
+    },
+    /// `r.reclass`: a map of new categories by rules.
+    Reclass {
+        place: usize,
+        target: Name,
+        rules: Rules,
+    },
+    /// `r.clump`: a map of the numbers of areas.
+    Clump {
+        place: usize,
+        target: Name,
+        joining: Joining,
+    },
+    /// `r.stats`: the combinations that occur in the maps at the places.
+    Stats {
+        places: Places,
+        options: StatsOptions,
+    },
+    /// `r.out.ascii`: the grid text of the map at the place, in which the null text stands for null.
+    OutAscii {
+        place: usize,
+        null_text: NullText,
+    },
+}

@@ -1,0 +1,115 @@
+//! The command of a line.
+
+ghost use Rattle.std.specs.Prelude.{◌≡◌, ◌≢◌, IfOk, IfErr, Ok, Err, map};
+ghost use Rattle.rcell_script_commands.specs.Commands.{head_named, head_of_words, is_mapcalc, IsHead};
+ghost use Rattle.rcell_script_commands.specs.FittingCommands.{FitsHead};
+ghost use Rattle.rcell_script_commands.specs.Skipped.{is_comment};
+
+use crate::command::Command;
+use crate::r_clump::clump_of;
+use crate::r_mapcalc::mapcalc_of;
+use crate::r_out_ascii::out_ascii_of;
+use crate::r_reclass::reclass_of;
+use crate::r_stats::stats_of;
+use crate::script_fault::ScriptKind;
+use cell_core::name::{Name, Names};
+use cell_core_text::words::words_of;
+use std::alloc::Global;
+
+/// The most bytes of a line.
+pub const MOST_LINE: usize = 65535;
+
+/// What a line is that stands outside the rules of r.reclass.
+#[derive(Drop)]
+pub enum Head {
+    /// Blanks or a comment.
+    Skipped,
+    /// A command that is whole with the line.
+    Whole(Command),
+    /// An r.reclass, whose rules follow.
+    Opened { place: usize, target: Name },
+}
+
+// Whether a word begins a comment.
+fn is_comment(word: &[u8]) -> bool
+    ensures { result ≡ is_comment word.now }
+{
+    match word {
+        [] => false,
+        [first, ..] => *first == b'#',
+    }
+}
+
+// What a name of a command and the words after it begin.
+#[tactic(auto, using(crate::proofs::FaultLemmas::told))]
+fn head_named(
+    alloc: Global,
+    known: &Names,
+    name: &[u8],
+    words: &[&[u8]],
+) -> Result<Head, ScriptKind>
+    ensures ok { IfOk result (λ head. head_named known.now name.now (map (λ w. w.now) words.now) ≡ Ok head) }
+    ensures fits { IfOk result (FitsHead known.now) }
+    ensures err { IfErr result (λ kind. kind ≢ ScriptKind.Memory → head_named known.now name.now (map (λ w. w.now) words.now) ≡ Err kind) }
+{
+    if name == b"r.stats".as_slice() {
+        Ok(Head::Whole(stats_of(alloc, known, words)?))
+    } else if name == b"r.out.ascii".as_slice() {
+        Ok(Head::Whole(out_ascii_of(alloc, known, words)?))
+    } else if name == b"r.clump".as_slice() {
+        Ok(Head::Whole(clump_of(alloc, known, words)?))
+    } else if name == b"r.reclass".as_slice() {
+        let (place, target) = reclass_of(alloc, known, words)?;
+        Ok(Head::Opened { place, target })
+    } else {
+        Err(ScriptKind::UnknownCommand)
+    }
+}
+
+// What words are.
+fn head_of_words(alloc: Global, known: &Names, words: &[&[u8]]) -> Result<Head, ScriptKind>
+    ensures ok { IfOk result (λ head. head_of_words known.now (map (λ w. w.now) words.now) ≡ Ok head) }
+    ensures fits { IfOk result (FitsHead known.now) }
+    ensures err { IfErr result (λ kind. kind ≢ ScriptKind.Memory → head_of_words known.now (map (λ w. w.now) words.now) ≡ Err kind) }
+{
+    let Some((name, others)) = words.split_first() else {
+        return Ok(Head::Skipped);
+    };
+    if is_comment(*name) {
+        return Ok(Head::Skipped);
+    }
+    head_named(alloc, known, *name, others)
+}
+
+// Whether the first word is that of an r.mapcalc.
+fn is_mapcalc(words: &[&[u8]]) -> bool
+    ensures { result ≡ is_mapcalc (map (λ w. w.now) words.now) }
+{
+    match words {
+        [] => false,
+        [first, ..] => *first == b"r.mapcalc".as_slice(),
+    }
+}
+
+/// What a line is that stands outside the rules of r.reclass, over known maps.
+///
+/// # Errors
+///
+/// [`ScriptKind::LongLine`], then [`ScriptKind::UnknownCommand`], then the fault of the command;
+/// [`ScriptKind::Memory`] where memory was refused.
+pub fn head_of(alloc: Global, known: &Names, line: &[u8]) -> Result<Head, ScriptKind>
+    ensures ok { IfOk result (λ head. IsHead known.now line.now (Ok head)) }
+    ensures fits { IfOk result (FitsHead known.now) }
+    ensures err { IfErr result (λ kind. kind ≢ ScriptKind.Memory → IsHead known.now line.now (Err kind)) }
+{
+    if line.len() > MOST_LINE {
+        return Err(ScriptKind::LongLine);
+    }
+    let Ok(words) = words_of(alloc, line) else {
+        return Err(ScriptKind::Memory);
+    };
+    if is_mapcalc(&words) {
+        return mapcalc_of(alloc, known, line);
+    }
+    head_of_words(alloc, known, &words)
+}

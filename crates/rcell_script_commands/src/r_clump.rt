@@ -1,0 +1,49 @@
+//! The words of r.clump.
+
+ghost use Rattle.std.specs.Prelude.{◌≡◌, ◌≢◌, IfOk, IfErr, Ok, Err, map};
+ghost use Rattle.rcell_script_commands.specs.RClump.{joining_of};
+ghost use Rattle.rcell_script_commands.specs.Commands.{clump_of};
+ghost use Rattle.rcell_script_commands.specs.FittingCommands.{FitsCommand};
+
+use crate::command::Command;
+use cell_cats_areas::clump::Joining;
+use cell_core::name::Names;
+use rcell_script_options::maps::from_to;
+use rcell_script_options::option_fault::OptionFault;
+use rcell_script_options::options::{Form, Options, options_of};
+use std::alloc::Global;
+
+fn joining_of(options: &Options) -> Joining
+    ensures { result ≡ joining_of options.now }
+{
+    if options.has_flag(b'd') {
+        Joining::EdgesAndCorners
+    } else {
+        Joining::Edges
+    }
+}
+
+/// The areas that the words after r.clump ask for, over known maps.
+///
+/// # Errors
+///
+/// The fault of the first word that has one, then [`OptionFault::MissingOption`], [`OptionFault::UnknownMap`] and
+/// [`OptionFault::MapExists`]; [`OptionFault::Memory`] where memory was refused.
+pub(crate) fn clump_of(
+    alloc: Global,
+    known: &Names,
+    words: &[&[u8]],
+) -> Result<Command, OptionFault>
+    ensures ok { IfOk result (λ command. clump_of known.now (map (λ w. w.now) words.now) ≡ Ok command) }
+    ensures fits { IfOk result (FitsCommand known.now) }
+    ensures err { IfErr result (λ fault. fault ≢ OptionFault.Memory → clump_of known.now (map (λ w. w.now) words.now) ≡ Err fault) }
+{
+    let options = options_of(alloc, Form::Clump, words)?;
+    let joining = joining_of(&options);
+    let (place, target) = from_to(known, options)?;
+    Ok(Command::Clump {
+        place,
+        target,
+        joining,
+    })
+}

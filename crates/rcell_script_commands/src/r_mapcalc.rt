@@ -1,0 +1,98 @@
+//! The line of an r.mapcalc.
+
+ghost use Rattle.std.specs.Prelude.{◌≡◌, ◌≢◌, ◌≤◌, IfOk, IfErr, Ok, Err, length};
+ghost use Rattle.rcell_script_commands.specs.RMapcalc.{text_after_command, after_command, assignment_text};
+ghost use Rattle.rcell_script_commands.specs.Commands.{mapcalc_of, IsMapcalc};
+ghost use Rattle.rcell_script_commands.specs.FittingCommands.{FitsHead};
+
+use crate::command::Command;
+use crate::heads::Head;
+use crate::script_fault::ScriptKind;
+use cell_calc_binding::binding::resolve;
+use cell_calc_language::assignment::{Assignment, parse};
+use cell_calc_language::calc_fault::CalcKind;
+use cell_core::memory::Memory;
+use cell_core::name::Names;
+use cell_core_text::blanks::{after_blanks, is_blank};
+use std::alloc::Global;
+
+fn after_word<'a>(text: &'a [u8]) -> &'a [u8]
+    ensures text { result.now ≡ text_after_command text.now }
+    ensures shorter { length result.now ≤ length text.now }
+{
+    let mut rest = text;
+    while let [b, others @ ..] = rest {
+        if is_blank(*b) {
+            return rest;
+        }
+        rest = others;
+    }
+    rest
+}
+
+// What stands after the command of a line.
+fn after_command<'a>(line: &'a [u8]) -> &'a [u8]
+    ensures text { result.now ≡ after_command line.now }
+    ensures shorter { length result.now ≤ length line.now }
+{
+    after_word(after_blanks(line))
+}
+
+// The assignment of a line, with blanks for all up to the end of the command.
+fn assignment_text(alloc: Global, line: &[u8]) -> Result<Vec<u8>, Memory>
+    ensures text { IfOk result (λ text. text.items ≡ assignment_text line.now) }
+    ensures length { IfOk result (λ text. length text.items ≡ length line.now) }
+{
+    let rest = after_command(line);
+    let mut text = vec![in alloc; b' '; line.len() - rest.len()]?;
+    text.extend_from_slice(rest)?;
+    Ok(text)
+}
+
+// The map that an assignment makes.
+#[tactic(auto, using(crate::proofs::MapcalcLemmas::unbound, crate::proofs::MapcalcLemmas::fits_known))]
+fn mapcalc_with(alloc: Global, known: &Names, a: Assignment) -> Result<Head, ScriptKind>
+    ensures ok { IfOk result (λ head. mapcalc_of known.now a ≡ Ok head) }
+    ensures fits { IfOk result (FitsHead known.now) }
+    ensures err { IfErr result (λ kind. kind ≢ ScriptKind.Memory → mapcalc_of known.now a ≡ Err kind) }
+{
+    let Assignment { target, expr } = a;
+    let bound = match resolve(alloc, &expr, known) {
+        Ok(bound) => bound,
+        Err(fault) => {
+            return match fault.kind {
+                CalcKind::Memory => Err(ScriptKind::Memory),
+                _ => Err(ScriptKind::Calc(fault)),
+            };
+        }
+    };
+    match known.find(target.bytes()) {
+        Some(_) => Err(ScriptKind::MapExists),
+        None => Ok(Head::Whole(Command::Mapcalc { target, bound })),
+    }
+}
+
+/// The map that the line of an r.mapcalc makes, over known maps. The line has at most 65,535 bytes.
+///
+/// # Errors
+///
+/// [`ScriptKind::Calc`] with the fault of the assignment, then of its first unknown map; columns count within the line.
+/// Then [`ScriptKind::MapExists`]; [`ScriptKind::Memory`] where memory was refused.
+#[tactic(auto, using(crate::proofs::MapcalcLemmas::assigned, crate::proofs::MapcalcLemmas::unassigned))]
+pub(crate) fn mapcalc_of(alloc: Global, known: &Names, line: &[u8]) -> Result<Head, ScriptKind>
+    requires { length line.now ≤ 65535 }
+    ensures ok { IfOk result (λ head. IsMapcalc known.now line.now (Ok head)) }
+    ensures fits { IfOk result (FitsHead known.now) }
+    ensures err { IfErr result (λ kind. kind ≢ ScriptKind.Memory → IsMapcalc known.now line.now (Err kind)) }
+{
+    let Ok(text) = assignment_text(alloc, line) else {
+        return Err(ScriptKind::Memory);
+    };
+    match parse(alloc, &text) {
+        Ok(a) => mapcalc_with(alloc, known, a),
+        Err(fault) => match fault.kind {
+            CalcKind::Memory => Err(ScriptKind::Memory),
+            _ => Err(ScriptKind::Calc(fault)),
+        },
+    }
+}

@@ -1,0 +1,31 @@
+//! The words of r.reclass.
+
+ghost use Rattle.std.specs.Prelude.{◌≡◌, ◌≢◌, ◌<◌, IfOk, IfErr, Ok, Err, None, length, map};
+ghost use Rattle.cell_core_values.specs.Name.{place_of};
+ghost use Rattle.rcell_script_commands.specs.Commands.{reclass_of};
+
+use cell_core::name::{Name, Names};
+use rcell_script_options::maps::from_to;
+use rcell_script_options::option_fault::OptionFault;
+use rcell_script_options::options::{Form, options_of};
+use std::alloc::Global;
+
+/// The place of the map that the words after r.reclass name, over known maps, and the name of the one that is made.
+///
+/// # Errors
+///
+/// The fault of the first word that has one, then [`OptionFault::MissingOption`], [`OptionFault::UnknownMap`] and
+/// [`OptionFault::MapExists`]; [`OptionFault::Memory`] where memory was refused.
+pub(crate) fn reclass_of(
+    alloc: Global,
+    known: &Names,
+    words: &[&[u8]],
+) -> Result<(usize, Name), OptionFault>
+    ensures ok { IfOk result (λ maps. reclass_of known.now (map (λ w. w.now) words.now) ≡ Ok maps) }
+    ensures within { IfOk result (λ maps. maps.0 < length known.now) }
+    ensures new { IfOk result (λ maps. place_of maps.1 known.now ≡ None) }
+    ensures err { IfErr result (λ fault. fault ≢ OptionFault.Memory → reclass_of known.now (map (λ w. w.now) words.now) ≡ Err fault) }
+{
+    let options = options_of(alloc, Form::Reclass, words)?;
+    from_to(known, options)
+}

@@ -1,0 +1,91 @@
+//! The words of r.stats.
+
+ghost use Rattle.std.specs.Prelude.{◌≡◌, ◌≢◌, ◌≤◌, IfOk, IfErr, IfSome, Ok, Err, length, map};
+ghost use Rattle.std.specs.Option.{option_map};
+ghost use Rattle.rcell_script_commands.specs.RStats.{skip_of, printed_with};
+ghost use Rattle.rcell_script_commands.specs.Commands.{after_of, stats_of};
+ghost use Rattle.rcell_script_commands.specs.FittingCommands.{FitsCommand};
+
+use crate::command::{Command, StatsOptions};
+use crate::script_fault::ScriptKind;
+use cell_core::memory::Memory;
+use cell_core::name::Names;
+use cell_stats_combinations::combination::Combo;
+use cell_stats_combinations::combination_text::ComboFault;
+use cell_stats_combinations::skip::Skip;
+use rcell_script_options::maps::input_places;
+use rcell_script_options::options::{Form, Options, options_of};
+use std::alloc::Global;
+
+fn skip_of(options: &Options) -> Skip
+    ensures { result ≡ skip_of options.now }
+{
+    if options.has_flag(b'n') {
+        Skip::AnyNull
+    } else if options.has_flag(b'N') {
+        Skip::AllNull
+    } else {
+        Skip::Nothing
+    }
+}
+
+// The combination after which a table goes on, where one is given.
+fn after_of(alloc: Global, width: usize, given: Option<&[u8]>) -> Result<Option<Combo>, ScriptKind>
+    requires { (1 ≤ width) × (width ≤ 16) }
+    ensures ok { IfOk result (λ after. after_of width (option_map (λ text. text.now) given.entry) ≡ Ok after) }
+    ensures width { IfOk result (λ after. IfSome after (λ combo. length combo ≡ width)) }
+    ensures err { IfErr result (λ kind. kind ≢ ScriptKind.Memory → after_of width (option_map (λ text. text.now) given.entry) ≡ Err kind) }
+{
+    let Some(text) = given else {
+        return Ok(None);
+    };
+    match Combo::read(alloc, text, width) {
+        Ok(combo) => Ok(Some(combo)),
+        Err(ComboFault::Memory) => Err(ScriptKind::Memory),
+        Err(fault) => Err(ScriptKind::Combo(fault)),
+    }
+}
+
+// How a table is printed, and what of it.
+fn printed_with(
+    alloc: Global,
+    options: Options,
+    after: Option<Combo>,
+) -> Result<StatsOptions, Memory>
+    ensures { IfOk result (λ printed. printed ≡ printed_with options after) }
+{
+    let skip = skip_of(&options);
+    let labels = options.has_flag(b'l');
+    let counts = options.has_flag(b'c');
+    let cells = options.has_flag(b'1');
+    let separator = options.separator().unwrap_or(b' ');
+    let null_text = options.into_table_null_text(alloc)?;
+    Ok(StatsOptions {
+        skip,
+        labels,
+        counts,
+        cells,
+        separator,
+        null_text,
+        after,
+    })
+}
+
+/// The table that the words after r.stats ask for, over known maps.
+///
+/// # Errors
+///
+/// The fault of the first word that has one, then [`ScriptKind::MissingOption`], [`ScriptKind::BadOption`] where flags do
+/// not go together, [`ScriptKind::UnknownMap`] and [`ScriptKind::Combo`]; [`ScriptKind::Memory`] where memory was refused.
+#[tactic(auto, using(crate::proofs::FaultLemmas::told))]
+pub(crate) fn stats_of(alloc: Global, known: &Names, words: &[&[u8]]) -> Result<Command, ScriptKind>
+    ensures ok { IfOk result (λ command. stats_of known.now (map (λ w. w.now) words.now) ≡ Ok command) }
+    ensures fits { IfOk result (FitsCommand known.now) }
+    ensures err { IfErr result (λ kind. kind ≢ ScriptKind.Memory → stats_of known.now (map (λ w. w.now) words.now) ≡ Err kind) }
+{
+    let options = options_of(alloc, Form::Stats, words)?;
+    let places = input_places(alloc, known, &options)?;
+    let after = after_of(alloc, places.as_slice().len(), options.after())?;
+    let options = printed_with(alloc, options, after)?;
+    Ok(Command::Stats { places, options })
+}

@@ -1,0 +1,22 @@
+-- What is so of every text of a script.
+use Rattle.std.specs.Prelude.{ℕ, ◌⊎◌, List}
+use Rattle.rcell_script_commands.specs.declared.script_fault.ScriptFault.{ScriptFault}
+use Rattle.rcell_script.specs.ReadScripts.{IsScriptFault}
+use Rattle.rcell_script.specs.Scripts.{IsScript}
+use Rattle.rcell_script.specs.declared.statement.Statement.{Statement}
+
+-- the text is a script of some statements, and has no fault
+abbrev pub IsGoodText : List (List ℕ) → List ℕ → Type 0
+IsGoodText known text =
+    (statements : List Statement) × IsScript known text statements
+    × ((fault : ScriptFault) → IsScriptFault known text fault → ⊥)
+
+-- the text has a first fault, and is a script of no statements
+abbrev pub IsBadText : List (List ℕ) → List ℕ → Type 0
+IsBadText known text =
+    (fault : ScriptFault) × IsScriptFault known text fault
+    × ((statements : List Statement) → IsScript known text statements → ⊥)
+
+-- each text is the one or the other, over any known maps
+abbrev pub TextsAreJudged : Type 0
+TextsAreJudged = (known : List (List ℕ)) (text : List ℕ) → IsGoodText known text ⊎ IsBadText known text

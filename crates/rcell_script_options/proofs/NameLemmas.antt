@@ -1,0 +1,27 @@
+-- Texts that are all names.
+use Rattle.std.proofs.Common.{◌≡◌, ℕ, zero, suc, map, Bor, Err, ◌<◌, Bool, true, false, List, [], ◌∷◌, length, get_or, refl, ap, arith, ◌≤◌, ◌==◌}
+use Rattle.std.proofs.lemmas.List.{length-map}
+use Rattle.std.proofs.lemmas.List.Splits.{length-slice_split}
+use Rattle.cell_core_text.specs.Words.{parts_of}
+use Rattle.std.specs.Prelude.{◌&&◌}
+use Rattle.std.specs.List.{list_all}
+use Rattle.cell_core_values.specs.Name.{is_name}
+use Rattle.rcell_script_options.specs.declared.option_fault.OptionFault.TheVariants.{BadName}
+use Rattle.rcell_script_options.specs.Options.{names_from}
+
+and_no : (b : Bool) → (b && false) ≡ false
+and_no true = refl
+and_no false = refl
+
+list_all-no : (xs : List (Bor (List ℕ))) (i : ℕ) (d : Bor (List ℕ)) → i < length xs → is_name (get_or xs i d).now ≡ false → list_all is_name (map (λ text. text.now) xs) ≡ false
+list_all-no [] i d h bad = absurd (omega arith)
+list_all-no (x ∷ xs) zero d h bad = rw bad refl
+list_all-no (x ∷ xs) (suc i) d h bad = rw (list_all-no xs i d (omega arith) bad) (and_no _)
+
+-- one text is no name
+pub names_from-no : (xs : List (Bor (List ℕ))) (i : ℕ) (d : Bor (List ℕ)) → i < length xs → is_name (get_or xs i d).now ≡ false → names_from (map (λ text. text.now) xs) ≡ Err BadName
+names_from-no xs i d h bad = rw (list_all-no xs i d h bad) refl
+
+-- a value has one part or more
+pub parts-some : (parts : List (Bor (List ℕ))) (value : List ℕ) (n : ℕ) → map (λ w. w.now) parts ≡ parts_of value → n ≡ length parts → 1 ≤ n
+parts-some parts value n e count = omega (arith, count, length-map parts (λ w. w.now), ap length e, length-slice_split (λ b. b == 44) value)

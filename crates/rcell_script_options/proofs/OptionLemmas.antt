@@ -1,0 +1,423 @@
+-- The words after a command, one after another and all together.
+use Rattle.std.proofs.Common.{◌≡◌, ℕ, suc, Bool, true, false, cond, List, [], ◌∷◌, ◌++◌, All, Option, Some, None, Result, Ok, Err, inl, inr, refl, ap, sym, ◌∙◌, subst, append_assoc, arith}
+use Rattle.std.specs.Prelude.{◌⊎◌, ◌==◌, IsSome}
+use Rattle.std.specs.List.{flat_map, cons_option}
+use Rattle.std.specs.Option.{option_map, option_and_then}
+use Rattle.std.proofs.lemmas.List.{append-nil}
+use Rattle.std.proofs.lemmas.List.Elements.{All-nil, All-cons}
+use Rattle.cell_core_text.specs.Words.{parts_of, pair_of}
+use Rattle.rcell_script_options.specs.NullText.{null_text_of, table_null_text_of}
+use Rattle.rcell_script_options.specs.OptionWords.{letters_in, setting_in, IsOption, value_for, values_of, IsOnce, AreOptions}
+use Rattle.rcell_script_options.specs.Options.{Given, are_flags, option_key_of, option_name, names_of, separator_in, or_bad_option}
+use Rattle.rcell_script_options.specs.OptionReading.{options_then, no_options, with_flags, given_once, with_value, with_option, with_pair, with_word, with_words, options_of}
+use Rattle.rcell_script_options.specs.declared.option_fault.OptionFault.{OptionFault}
+use Rattle.rcell_script_options.specs.declared.option_fault.OptionFault.TheVariants.{BadOption}
+use Rattle.rcell_script_options.specs.declared.options.Form.{Form}
+use Rattle.rcell_script_options.specs.declared.options.Key.{Key}
+use Rattle.rcell_script_options.specs.declared.options.Key.TheVariants.{Input, Inputs, Output, Separator, NullText, TableNullText, After}
+
+abbrev listed : List ℕ → Result (List (List ℕ)) OptionFault
+listed value = names_of (parts_of value)
+
+abbrev separated : List ℕ → Result ℕ OptionFault
+separated value = or_bad_option (separator_in value)
+
+abbrev kept : List ℕ → Result (List ℕ) OptionFault
+kept value = Ok value
+
+-- ---- one key
+
+-- after the values for a key, of which there is one at most, and none where the key was given before
+abbrev Extends : {X : Type 0} → (List ℕ → Result X OptionFault) → List (List ℕ) → Option X → Option X → Type 0
+Extends read [] old new = old ≡ new
+Extends read (value ∷ []) None None = ⊥
+Extends read (value ∷ []) None (Some x) = read value ≡ Ok x
+Extends read (value ∷ []) (Some x) new = ⊥
+Extends read (value ∷ other ∷ values) old new = ⊥
+
+-- after a word that may give a value
+abbrev Steps : {X : Type 0} → (List ℕ → Result X OptionFault) → Option (List ℕ) → Option X → Option X → Type 0
+Steps read None old mid = old ≡ mid
+Steps read (Some value) None None = ⊥
+Steps read (Some value) None (Some x) = read value ≡ Ok x
+Steps read (Some value) (Some x) mid = ⊥
+
+joined : {X : Type 0} (read : List ℕ → Result X OptionFault) (value : Option (List ℕ)) (values : List (List ℕ)) (old mid new : Option X)
+    → Steps read value old mid → Extends read values mid new → Extends read (cons_option value values) old new
+joined read None values old mid new s e = subst (λ o. Extends read values o new) (sym s) e
+joined read (Some value) values None None new s e = absurd s
+joined read (Some value) [] None (Some x) None s e = cc
+joined read (Some value) [] None (Some x) (Some y) s e = let same : x ≡ y = cc in s ∙ ap Ok same
+joined read (Some value) (other ∷ []) None (Some x) new s e = absurd e
+joined read (Some value) (other ∷ more ∷ values) None (Some x) new s e = absurd e
+joined read (Some value) values (Some x) mid new s e = absurd s
+
+-- a value for a key that is read, and those after it
+record First {X : Type 0} (read : List ℕ → Result X OptionFault) (value : List ℕ) (values : List (List ℕ)) (old new : Option X) : Type 0 where
+  given : X
+  none : old ≡ None
+  is : read value ≡ Ok given
+  rest : Extends read values (Some given) new
+
+first : {X : Type 0} (read : List ℕ → Result X OptionFault) (value : List ℕ) (values : List (List ℕ)) (old new : Option X) → Extends read (value ∷ values) old new → First read value values old new
+first read value [] None None e = absurd e
+first read value [] None (Some x) e = record { given = x; none = refl; is = e; rest = refl }
+first read value [] (Some x) new e = absurd e
+first read value (other ∷ values) old new e = absurd e
+
+once-extends : {X : Type 0} (read : List ℕ → Result X OptionFault) (values : List (List ℕ)) (new : Option X) → IsOnce read values new → Extends read values None new
+once-extends read [] None e = refl
+once-extends read [] (Some x) e = absurd e
+once-extends read (value ∷ []) None e = absurd e
+once-extends read (value ∷ []) (Some x) e = e
+once-extends read (value ∷ other ∷ values) new e = absurd e
+
+extends-once : {X : Type 0} (read : List ℕ → Result X OptionFault) (values : List (List ℕ)) (new : Option X) → Extends read values None new → IsOnce read values new
+extends-once read [] None e = tt
+extends-once read [] (Some x) e = cc
+extends-once read (value ∷ []) None e = absurd e
+extends-once read (value ∷ []) (Some x) e = e
+extends-once read (value ∷ other ∷ values) new e = absurd e
+
+-- a value that is taken
+record Taken {X : Type 0} (read : List ℕ → Result X OptionFault) (value : List ℕ) (old : Option X) (with : X → Given) (mid : Given) : Type 0 where
+  given : X
+  none : old ≡ None
+  is : read value ≡ Ok given
+  mid_is : with given ≡ mid
+
+taken : {X : Type 0} (read : List ℕ → Result X OptionFault) (value : List ℕ) (old : Option X) (with : X → Given) (mid : Given)
+    → given_once old (options_then (λ x. Ok (with x)) (read value)) ≡ Ok mid → Taken read value old with mid
+taken read value (Some x) with mid e = cc
+taken read value None with mid e = by (read value) refl e
+  where
+    by : (r : _) → read value ≡ r → options_then (λ x. Ok (with x)) r ≡ Ok mid → Taken read value None with mid
+    by (Err kind) is f = cc
+    by (Ok x) is f = let same : with x ≡ mid = cc in record { given = x; none = refl; is = is; mid_is = same }
+
+take-value : {X : Type 0} (read : List ℕ → Result X OptionFault) (value : List ℕ) (old : Option X) (with : X → Given) (x : X) → old ≡ None → read value ≡ Ok x
+    → given_once old (options_then (λ x. Ok (with x)) (read value)) ≡ Ok (with x)
+take-value read value old with x none is = rw (none, is) refl
+
+-- ---- one word
+
+-- the key and the value of a pair, where the command has the key
+abbrev setting_of : Form → Option (List ℕ × List ℕ) → Option (Key × List ℕ)
+setting_of form pair = option_and_then (λ p. option_map (λ key. (key, p.1)) (option_key_of form p.0)) pair
+
+-- what a word of these letters and this setting adds
+record Adds (letters : List ℕ) (setting : Option (Key × List ℕ)) (old mid : Given) : Type 0 where
+  flags : old.flags ++ letters ≡ mid.flags
+  input : Steps option_name (value_for Input setting) old.input mid.input
+  inputs : Steps listed (value_for Inputs setting) old.inputs mid.inputs
+  output : Steps option_name (value_for Output setting) old.output mid.output
+  separator : Steps separated (value_for Separator setting) old.separator mid.separator
+  null_text : Steps null_text_of (value_for NullText setting) old.null_text mid.null_text
+  table_null_text : Steps table_null_text_of (value_for TableNullText setting) old.table_null_text mid.table_null_text
+  after : Steps kept (value_for After setting) old.after mid.after
+
+value-sound : (given mid : Given) (key : Key) (value : List ℕ) → with_value given key value ≡ Ok mid → Adds [] (Some (key, value)) given mid
+value-sound given mid Input value e =
+    let t = taken option_name value given.input (λ x. record given { input = Some x }) mid e in
+    subst (λ m. Adds [] (Some (Input, value)) given m) t.mid_is (record {
+      flags = append-nil given.flags;
+      input = subst (λ o. Steps option_name (Some value) o (Some t.given)) (sym t.none) t.is;
+      inputs = refl;
+      output = refl;
+      separator = refl;
+      null_text = refl;
+      table_null_text = refl;
+      after = refl;
+    })
+value-sound given mid Inputs value e =
+    let t = taken listed value given.inputs (λ x. record given { inputs = Some x }) mid e in
+    subst (λ m. Adds [] (Some (Inputs, value)) given m) t.mid_is (record {
+      flags = append-nil given.flags;
+      input = refl;
+      inputs = subst (λ o. Steps listed (Some value) o (Some t.given)) (sym t.none) t.is;
+      output = refl;
+      separator = refl;
+      null_text = refl;
+      table_null_text = refl;
+      after = refl;
+    })
+value-sound given mid Output value e =
+    let t = taken option_name value given.output (λ x. record given { output = Some x }) mid e in
+    subst (λ m. Adds [] (Some (Output, value)) given m) t.mid_is (record {
+      flags = append-nil given.flags;
+      input = refl;
+      inputs = refl;
+      output = subst (λ o. Steps option_name (Some value) o (Some t.given)) (sym t.none) t.is;
+      separator = refl;
+      null_text = refl;
+      table_null_text = refl;
+      after = refl;
+    })
+value-sound given mid Separator value e =
+    let t = taken separated value given.separator (λ x. record given { separator = Some x }) mid e in
+    subst (λ m. Adds [] (Some (Separator, value)) given m) t.mid_is (record {
+      flags = append-nil given.flags;
+      input = refl;
+      inputs = refl;
+      output = refl;
+      separator = subst (λ o. Steps separated (Some value) o (Some t.given)) (sym t.none) t.is;
+      null_text = refl;
+      table_null_text = refl;
+      after = refl;
+    })
+value-sound given mid NullText value e =
+    let t = taken null_text_of value given.null_text (λ x. record given { null_text = Some x }) mid e in
+    subst (λ m. Adds [] (Some (NullText, value)) given m) t.mid_is (record {
+      flags = append-nil given.flags;
+      input = refl;
+      inputs = refl;
+      output = refl;
+      separator = refl;
+      null_text = subst (λ o. Steps null_text_of (Some value) o (Some t.given)) (sym t.none) t.is;
+      table_null_text = refl;
+      after = refl;
+    })
+value-sound given mid TableNullText value e =
+    let t = taken table_null_text_of value given.table_null_text (λ x. record given { table_null_text = Some x }) mid e in
+    subst (λ m. Adds [] (Some (TableNullText, value)) given m) t.mid_is (record {
+      flags = append-nil given.flags;
+      input = refl;
+      inputs = refl;
+      output = refl;
+      separator = refl;
+      null_text = refl;
+      table_null_text = subst (λ o. Steps table_null_text_of (Some value) o (Some t.given)) (sym t.none) t.is;
+      after = refl;
+    })
+value-sound given mid After value e =
+    let t = taken kept value given.after (λ x. record given { after = Some x }) mid e in
+    subst (λ m. Adds [] (Some (After, value)) given m) t.mid_is (record {
+      flags = append-nil given.flags;
+      input = refl;
+      inputs = refl;
+      output = refl;
+      separator = refl;
+      null_text = refl;
+      table_null_text = refl;
+      after = subst (λ o. Steps kept (Some value) o (Some t.given)) (sym t.none) t.is;
+    })
+
+flags-sound : (form : Form) (given mid : Given) (letters : List ℕ) → with_flags form given letters ≡ Ok mid → (are_flags form letters ≡ true) × Adds letters None given mid
+flags-sound form given mid letters e = by (are_flags form letters) refl e
+  where
+    by : (good : Bool) → are_flags form letters ≡ good → cond good (Ok (record given { flags = given.flags ++ letters })) (Err BadOption) ≡ Ok mid → (are_flags form letters ≡ true) × Adds letters None given mid
+    by false g f = cc
+    by true g f =
+        let same : record given { flags = given.flags ++ letters } ≡ mid = cc in
+        (g, subst (λ m. Adds letters None given m) same (record { flags = refl; input = refl; inputs = refl; output = refl; separator = refl; null_text = refl; table_null_text = refl; after = refl }))
+
+-- a word that is read
+abbrev IsRead : Form → List ℕ → Given → Given → Type 0
+IsRead form word given mid = IsOption form word × Adds (letters_in word) (setting_in form word) given mid
+
+word-pair : (form : Form) (given mid : Given) (pair : Option (List ℕ × List ℕ)) → with_pair form given pair ≡ Ok mid
+    → (setting : Key × List ℕ) × (setting_of form pair ≡ Some setting) × Adds [] (Some setting) given mid
+word-pair form given mid None e = cc
+word-pair form given mid (Some p) e = by (option_key_of form p.0) refl e
+  where
+    by : (key : Option Key) → option_key_of form p.0 ≡ key → with_option given key p.1 ≡ Ok mid → (setting : Key × List ℕ) × (setting_of form (Some p) ≡ Some setting) × Adds [] (Some setting) given mid
+    by None k f = cc
+    by (Some key) k f = ((key, p.1), ap (option_map (λ key. (key, p.1))) k, value-sound given mid key p.1 f)
+
+-- a word whose first byte is a dash or none
+abbrev IsReadBy : Form → List ℕ → Given → Given → Bool → Option (Key × List ℕ) → Type 0
+IsReadBy form bs given mid dash setting = ((are_flags form (cond dash bs []) ≡ true) ⊎ IsSome (cond dash None setting)) × Adds (cond dash bs []) (cond dash None setting) given mid
+
+word-sound : (form : Form) (given mid : Given) (word : List ℕ) → with_word form given word ≡ Ok mid → IsRead form word given mid
+word-sound form given mid [] e = cc
+word-sound form given mid (b ∷ bs) e = by (b == 45) refl e
+  where
+    by : (dash : Bool) → (b == 45) ≡ dash → cond dash (with_flags form given bs) (with_pair form given (pair_of (b ∷ bs))) ≡ Ok mid → IsReadBy form bs given mid (b == 45) (setting_of form (pair_of (b ∷ bs)))
+    by true d f =
+        let s = flags-sound form given mid bs f in
+        subst (λ dash. IsReadBy form bs given mid dash (setting_of form (pair_of (b ∷ bs)))) (sym d) (inl s.0, s.1)
+    by false d f =
+        let s = word-pair form given mid (pair_of (b ∷ bs)) f in
+        subst (λ dash. IsReadBy form bs given mid dash (setting_of form (pair_of (b ∷ bs)))) (sym d)
+        (subst (λ (o : Option (Key × List ℕ)). IsReadBy form bs given mid false o) (sym s.1) (inr refl, s.2))
+
+-- ---- all words
+
+-- what letters and values for keys make of options
+record Whole (letters : List ℕ) (values : Key → List (List ℕ)) (old new : Given) : Type 0 where
+  flags : old.flags ++ letters ≡ new.flags
+  input : Extends option_name (values Input) old.input new.input
+  inputs : Extends listed (values Inputs) old.inputs new.inputs
+  output : Extends option_name (values Output) old.output new.output
+  separator : Extends separated (values Separator) old.separator new.separator
+  null_text : Extends null_text_of (values NullText) old.null_text new.null_text
+  table_null_text : Extends table_null_text_of (values TableNullText) old.table_null_text new.table_null_text
+  after : Extends kept (values After) old.after new.after
+
+-- what words make of options
+abbrev More : Form → List (List ℕ) → Given → Given → Type 0
+More form words old new = Whole (flat_map letters_in words) (λ key. values_of form key words) old new
+
+one-more : (form : Form) (word : List ℕ) (words : List (List ℕ)) (old mid new : Given) → Adds (letters_in word) (setting_in form word) old mid → More form words mid new → More form (word ∷ words) old new
+one-more form word words old mid new adds more = record {
+  flags = sym (append_assoc old.flags (letters_in word) (flat_map letters_in words)) ∙ ap (λ fs. fs ++ flat_map letters_in words) adds.flags ∙ more.flags;
+  input = joined option_name (value_for Input (setting_in form word)) (values_of form Input words) old.input mid.input new.input adds.input more.input;
+  inputs = joined listed (value_for Inputs (setting_in form word)) (values_of form Inputs words) old.inputs mid.inputs new.inputs adds.inputs more.inputs;
+  output = joined option_name (value_for Output (setting_in form word)) (values_of form Output words) old.output mid.output new.output adds.output more.output;
+  separator = joined separated (value_for Separator (setting_in form word)) (values_of form Separator words) old.separator mid.separator new.separator adds.separator more.separator;
+  null_text = joined null_text_of (value_for NullText (setting_in form word)) (values_of form NullText words) old.null_text mid.null_text new.null_text adds.null_text more.null_text;
+  table_null_text = joined table_null_text_of (value_for TableNullText (setting_in form word)) (values_of form TableNullText words) old.table_null_text mid.table_null_text new.table_null_text adds.table_null_text more.table_null_text;
+  after = joined kept (value_for After (setting_in form word)) (values_of form After words) old.after mid.after new.after adds.after more.after;
+}
+
+words-sound : (form : Form) (words : List (List ℕ)) (old new : Given) → with_words form old words ≡ Ok new → All (IsOption form) words × More form words old new
+words-sound form [] old new e =
+    let same : old ≡ new = cc in
+    (All-nil (IsOption form), subst (λ g. More form [] old g) same (record { flags = append-nil old.flags; input = refl; inputs = refl; output = refl; separator = refl; null_text = refl; table_null_text = refl; after = refl }))
+words-sound form (word ∷ words) old new e = by (λ mid f. words-sound form words mid new f) (with_word form old word) refl e
+  where
+    by : ((mid : Given) → with_words form mid words ≡ Ok new → All (IsOption form) words × More form words mid new)
+        → (read : Result Given OptionFault) → with_word form old word ≡ read → options_then (λ more. with_words form more words) read ≡ Ok new → All (IsOption form) (word ∷ words) × More form (word ∷ words) old new
+    by others (Err kind) r f = cc
+    by others (Ok mid) r f =
+        let is = word-sound form old mid word r in
+        let rest = others mid f in
+        (All-cons (IsOption form) word words is.0 rest.0, one-more form word words old mid new is.1 rest.1)
+
+-- a value for a key, and what the words after it make
+value-complete : (letters : List ℕ) (values : Key → List (List ℕ)) (old new : Given) (key : Key) (value : List ℕ)
+    → Whole letters (λ other. cons_option (value_for other (Some (key, value))) (values other)) old new → (mid : Given) × (with_value old key value ≡ Ok mid) × Whole letters values mid new
+value-complete letters values old new Input value whole =
+    let v = first option_name value (values Input) old.input new.input whole.input in (
+      record old { input = Some v.given },
+      take-value option_name value old.input (λ x. record old { input = Some x }) v.given v.none v.is,
+      record { flags = whole.flags; input = v.rest; inputs = whole.inputs; output = whole.output; separator = whole.separator; null_text = whole.null_text; table_null_text = whole.table_null_text; after = whole.after },
+    )
+value-complete letters values old new Inputs value whole =
+    let v = first listed value (values Inputs) old.inputs new.inputs whole.inputs in (
+      record old { inputs = Some v.given },
+      take-value listed value old.inputs (λ x. record old { inputs = Some x }) v.given v.none v.is,
+      record { flags = whole.flags; input = whole.input; inputs = v.rest; output = whole.output; separator = whole.separator; null_text = whole.null_text; table_null_text = whole.table_null_text; after = whole.after },
+    )
+value-complete letters values old new Output value whole =
+    let v = first option_name value (values Output) old.output new.output whole.output in (
+      record old { output = Some v.given },
+      take-value option_name value old.output (λ x. record old { output = Some x }) v.given v.none v.is,
+      record { flags = whole.flags; input = whole.input; inputs = whole.inputs; output = v.rest; separator = whole.separator; null_text = whole.null_text; table_null_text = whole.table_null_text; after = whole.after },
+    )
+value-complete letters values old new Separator value whole =
+    let v = first separated value (values Separator) old.separator new.separator whole.separator in (
+      record old { separator = Some v.given },
+      take-value separated value old.separator (λ x. record old { separator = Some x }) v.given v.none v.is,
+      record { flags = whole.flags; input = whole.input; inputs = whole.inputs; output = whole.output; separator = v.rest; null_text = whole.null_text; table_null_text = whole.table_null_text; after = whole.after },
+    )
+value-complete letters values old new NullText value whole =
+    let v = first null_text_of value (values NullText) old.null_text new.null_text whole.null_text in (
+      record old { null_text = Some v.given },
+      take-value null_text_of value old.null_text (λ x. record old { null_text = Some x }) v.given v.none v.is,
+      record { flags = whole.flags; input = whole.input; inputs = whole.inputs; output = whole.output; separator = whole.separator; null_text = v.rest; table_null_text = whole.table_null_text; after = whole.after },
+    )
+value-complete letters values old new TableNullText value whole =
+    let v = first table_null_text_of value (values TableNullText) old.table_null_text new.table_null_text whole.table_null_text in (
+      record old { table_null_text = Some v.given },
+      take-value table_null_text_of value old.table_null_text (λ x. record old { table_null_text = Some x }) v.given v.none v.is,
+      record { flags = whole.flags; input = whole.input; inputs = whole.inputs; output = whole.output; separator = whole.separator; null_text = whole.null_text; table_null_text = v.rest; after = whole.after },
+    )
+value-complete letters values old new After value whole =
+    let v = first kept value (values After) old.after new.after whole.after in (
+      record old { after = Some v.given },
+      take-value kept value old.after (λ x. record old { after = Some x }) v.given v.none v.is,
+      record { flags = whole.flags; input = whole.input; inputs = whole.inputs; output = whole.output; separator = whole.separator; null_text = whole.null_text; table_null_text = whole.table_null_text; after = v.rest },
+    )
+
+abbrev setting_with : Option Key → List ℕ → Option (Key × List ℕ)
+setting_with key value = option_map (λ key. (key, value)) key
+
+pair-complete : (form : Form) (letters : List ℕ) (values : Key → List (List ℕ)) (old new : Given) (pair : Option (List ℕ × List ℕ)) → IsSome (setting_of form pair)
+    → Whole letters (λ other. cons_option (value_for other (setting_of form pair)) (values other)) old new → (mid : Given) × (with_pair form old pair ≡ Ok mid) × Whole letters values mid new
+pair-complete form letters values old new None some whole = cc
+pair-complete form letters values old new (Some p) some whole = by (option_key_of form p.0) refl some whole
+  where
+    by : (key : Option Key) → option_key_of form p.0 ≡ key → IsSome (setting_with key p.1) → Whole letters (λ other. cons_option (value_for other (setting_with key p.1)) (values other)) old new
+        → (mid : Given) × (with_option old (option_key_of form p.0) p.1 ≡ Ok mid) × Whole letters values mid new
+    by None k some whole = cc
+    by (Some key) k some whole =
+        let v = value-complete letters values old new key p.1 whole in
+        (v.0, ap (λ o. with_option old o p.1) k ∙ v.1, v.2)
+
+flags-complete : (form : Form) (word letters : List ℕ) (values : Key → List (List ℕ)) (old new : Given) → are_flags form word ≡ true → Whole (word ++ letters) values old new
+    → (mid : Given) × (with_flags form old word ≡ Ok mid) × Whole letters values mid new
+flags-complete form word letters values old new good whole =
+    (record old { flags = old.flags ++ word }, rw good refl, record { flags = append_assoc old.flags word letters ∙ whole.flags; input = whole.input; inputs = whole.inputs; output = whole.output; separator = whole.separator; null_text = whole.null_text; table_null_text = whole.table_null_text; after = whole.after })
+
+abbrev setting_by : Form → List ℕ → Bool → Option (Key × List ℕ)
+setting_by form word dash = cond dash None (setting_of form (pair_of word))
+
+word-complete : (form : Form) (letters : List ℕ) (values : Key → List (List ℕ)) (old new : Given) (word : List ℕ) → IsOption form word
+    → Whole (letters_in word ++ letters) (λ key. cons_option (value_for key (setting_in form word)) (values key)) old new → (mid : Given) × (with_word form old word ≡ Ok mid) × Whole letters values mid new
+word-complete form letters values old new [] (inl good) whole = cc
+word-complete form letters values old new [] (inr some) whole = cc
+word-complete form letters values old new (b ∷ bs) is whole = by (b == 45) refl is whole
+  where
+    by : (dash : Bool) → (b == 45) ≡ dash → (are_flags form (cond dash bs []) ≡ true) ⊎ IsSome (setting_by form (b ∷ bs) dash)
+        → Whole (cond dash bs [] ++ letters) (λ key. cons_option (value_for key (setting_by form (b ∷ bs) dash)) (values key)) old new → (mid : Given) × (with_word form old (b ∷ bs) ≡ Ok mid) × Whole letters values mid new
+    by true d (inl good) whole =
+        let f = flags-complete form bs letters values old new good whole in
+        (f.0, ap (λ dash. cond dash (with_flags form old bs) (with_pair form old (pair_of (b ∷ bs)))) d ∙ f.1, f.2)
+    by true d (inr some) whole = cc
+    by false d (inl good) whole = cc
+    by false d (inr some) whole =
+        let p = pair-complete form letters values old new (pair_of (b ∷ bs)) some whole in
+        (p.0, ap (λ dash. cond dash (with_flags form old bs) (with_pair form old (pair_of (b ∷ bs)))) d ∙ p.1, p.2)
+
+-- options of equal parts
+abbrev of_fields : List ℕ → Option (List ℕ) → Option (List (List ℕ)) → Option (List ℕ) → Option ℕ → Option (List ℕ) → Option (List ℕ) → Option (List ℕ) → Given
+of_fields flags input inputs output separator null_text table_null_text after = record { flags = flags; input = input; inputs = inputs; output = output; separator = separator; null_text = null_text; table_null_text = table_null_text; after = after }
+
+same-options : (old new : Given) → Whole [] (λ key. []) old new → old ≡ new
+same-options old new more =
+    ap (λ (x : List ℕ). of_fields x old.input old.inputs old.output old.separator old.null_text old.table_null_text old.after) (sym (append-nil old.flags) ∙ more.flags)
+    ∙ ap (λ (x : Option (List ℕ)). of_fields new.flags x old.inputs old.output old.separator old.null_text old.table_null_text old.after) more.input
+    ∙ ap (λ (x : Option (List (List ℕ))). of_fields new.flags new.input x old.output old.separator old.null_text old.table_null_text old.after) more.inputs
+    ∙ ap (λ (x : Option (List ℕ)). of_fields new.flags new.input new.inputs x old.separator old.null_text old.table_null_text old.after) more.output
+    ∙ ap (λ (x : Option ℕ). of_fields new.flags new.input new.inputs new.output x old.null_text old.table_null_text old.after) more.separator
+    ∙ ap (λ (x : Option (List ℕ)). of_fields new.flags new.input new.inputs new.output new.separator x old.table_null_text old.after) more.null_text
+    ∙ ap (λ (x : Option (List ℕ)). of_fields new.flags new.input new.inputs new.output new.separator new.null_text x old.after) more.table_null_text
+    ∙ ap (λ (x : Option (List ℕ)). of_fields new.flags new.input new.inputs new.output new.separator new.null_text new.table_null_text x) more.after
+
+words-complete : (form : Form) (words : List (List ℕ)) (old new : Given) → All (IsOption form) words → More form words old new → with_words form old words ≡ Ok new
+words-complete form [] old new each more = ap Ok (same-options old new more)
+words-complete form (word ∷ words) old new each more =
+    let first_is : IsOption form word = each 0 word (omega arith) in
+    let m = word-complete form (flat_map letters_in words) (λ key. values_of form key words) old new word first_is more in
+    let rest = words-complete form words m.0 new (λ i d within. each (suc i) d (omega (arith, within))) m.2 in
+    ap (options_then (λ mid. with_words form mid words)) m.1 ∙ rest
+
+-- the options that words give, read one after another, are those that they spell together
+pub options-sound : (form : Form) (words : List (List ℕ)) (given : Given) → options_of form words ≡ Ok given → AreOptions form words given
+options-sound form words given e =
+    let s = words-sound form words no_options given e in
+    record {
+      each = s.0;
+      flags = s.1.flags;
+      input = extends-once option_name (values_of form Input words) given.input s.1.input;
+      inputs = extends-once listed (values_of form Inputs words) given.inputs s.1.inputs;
+      output = extends-once option_name (values_of form Output words) given.output s.1.output;
+      separator = extends-once separated (values_of form Separator words) given.separator s.1.separator;
+      null_text = extends-once null_text_of (values_of form NullText words) given.null_text s.1.null_text;
+      table_null_text = extends-once table_null_text_of (values_of form TableNullText words) given.table_null_text s.1.table_null_text;
+      after = extends-once kept (values_of form After words) given.after s.1.after;
+    }
+
+pub options-complete : (form : Form) (words : List (List ℕ)) (given : Given) → AreOptions form words given → options_of form words ≡ Ok given
+options-complete form words given are =
+    words-complete form words no_options given are.each (record {
+      flags = are.flags;
+      input = once-extends option_name (values_of form Input words) given.input are.input;
+      inputs = once-extends listed (values_of form Inputs words) given.inputs are.inputs;
+      output = once-extends option_name (values_of form Output words) given.output are.output;
+      separator = once-extends separated (values_of form Separator words) given.separator are.separator;
+      null_text = once-extends null_text_of (values_of form NullText words) given.null_text are.null_text;
+      table_null_text = once-extends table_null_text_of (values_of form TableNullText words) given.table_null_text are.table_null_text;
+      after = once-extends kept (values_of form After words) given.after are.after;
+    })

@@ -1,0 +1,420 @@
+//! The words after a command: flags, and keys with their values.
+
+ghost use Rattle.std.specs.Prelude.{◌≡◌, ◌≢◌, ◌≤◌, OnOk, IfOk, IfErr, Ok, Err, length, map, unwrap_or};
+ghost use Rattle.std.specs.List.{list_all};
+ghost use Rattle.std.specs.Option.{option_map};
+ghost use Rattle.cell_ascii_meaning.specs.Header.{usual_null};
+ghost use Rattle.cell_core_text.specs.Words.{parts_of};
+ghost use Rattle.rcell_script_options.specs.OptionReading.{no_options, with_flags, with_value, with_pair, with_word, with_words, options_of};
+ghost use Rattle.rcell_script_options.specs.parts.Keys.{is_given};
+ghost use Rattle.rcell_script_options.specs.Options.{is_flag, are_flags, has_flag, maker_key, stats_key, out_ascii_key, option_key_of, option_name, names_from, names_of, printed_byte, separator_in};
+
+use crate::null_text::{NullText, TableNullText};
+use crate::option_fault::OptionFault;
+use cell_core::memory::Memory;
+use cell_core::name::{Name, NameFault};
+use cell_core_text::words::{pair_of, parts_of};
+use std::alloc::Global;
+use std::marker::Model;
+
+/// The most maps that one r.stats takes.
+const MOST_INPUTS: usize = 16;
+
+/// A command that has options.
+#[derive(Clone, Copy)]
+pub enum Form {
+    Reclass,
+    Clump,
+    Stats,
+    OutAscii,
+}
+
+/// What a key asks for.
+#[derive(Clone, Copy)]
+pub enum Key {
+    /// One map that is read.
+    Input,
+    /// Several maps that are read.
+    Inputs,
+    /// The map that is made.
+    Output,
+    Separator,
+    /// What stands for null in a grid text.
+    NullText,
+    /// What stands for null in a table.
+    TableNullText,
+    After,
+}
+
+/// The names of 1 to 16 maps.
+#[derive(Drop)]
+pub(crate) struct Inputs {
+    names: Vec<Name>,
+}
+
+impl Model for Inputs {
+    ghost use Rattle.std.specs.Prelude.{List, ℕ, ◌≤◌, length};
+
+    ghost Value = { List (List ℕ) };
+
+    ghost view = { λ i. i.names.items };
+
+    ghost invariant = { λ i. (1 ≤ length i.names.items) × (length i.names.items ≤ 16) };
+}
+
+impl Inputs {
+    // These names.
+    fn of(names: Vec<Name>) -> Inputs
+        requires { (1 ≤ length names.items) × (length names.items ≤ 16) }
+        ensures { result ≡ names.items }
+    {
+        Inputs { names }
+    }
+
+    /// The names in order.
+    pub(crate) fn names(&self) -> &[Name]
+        ensures value { result.now ≡ self.now }
+        ensures some { 1 ≤ length self.now }
+        ensures most { length self.now ≤ 16 }
+    {
+        &self.names
+    }
+}
+
+/// The options that words gave so far.
+#[derive(Drop)]
+pub struct Options {
+    pub(crate) flags: Vec<u8>,
+    pub(crate) input: Option<Name>,
+    pub(crate) inputs: Option<Inputs>,
+    pub(crate) output: Option<Name>,
+    pub(crate) separator: Option<u8>,
+    pub(crate) null_text: Option<NullText>,
+    pub(crate) table_null_text: Option<TableNullText>,
+    pub(crate) after: Option<Vec<u8>>,
+}
+
+impl Model for Options {
+    ghost use Rattle.std.specs.Option.{option_map};
+    ghost use Rattle.rcell_script_options.specs.Options.{Given};
+
+    ghost Value = { Given };
+
+    ghost view = { λ o. record { flags = o.flags.items; input = o.input; inputs = o.inputs; output = o.output; separator = o.separator; null_text = o.null_text; table_null_text = o.table_null_text; after = option_map (λ text. text.items) o.after } };
+}
+
+fn is_flag(form: Form, letter: u8) -> bool
+    ensures { result ≡ is_flag form letter }
+{
+    match form {
+        Form::Clump => letter == b'd',
+        Form::Stats => {
+            letter == b'c' || letter == b'l' || letter == b'n' || letter == b'N' || letter == b'1'
+        }
+        _ => false,
+    }
+}
+
+fn are_all_flags(form: Form, letters: &[u8]) -> bool
+    ensures { result ≡ list_all (is_flag form) letters.now }
+{
+    letters.iter().all(|letter| is_flag(form, *letter))
+}
+
+// One or more letters, each a flag of the command.
+fn are_flags(form: Form, letters: &[u8]) -> bool
+    ensures { result ≡ are_flags form letters.now }
+{
+    !letters.is_empty() && are_all_flags(form, letters)
+}
+
+fn maker_key(text: &[u8]) -> Option<Key>
+    ensures { result ≡ maker_key text.now }
+{
+    if text == b"input".as_slice() {
+        Some(Key::Input)
+    } else if text == b"output".as_slice() {
+        Some(Key::Output)
+    } else {
+        None
+    }
+}
+
+fn stats_key(text: &[u8]) -> Option<Key>
+    ensures { result ≡ stats_key text.now }
+{
+    if text == b"input".as_slice() {
+        Some(Key::Inputs)
+    } else if text == b"separator".as_slice() {
+        Some(Key::Separator)
+    } else if text == b"null_value".as_slice() {
+        Some(Key::TableNullText)
+    } else if text == b"after".as_slice() {
+        Some(Key::After)
+    } else {
+        None
+    }
+}
+
+fn out_ascii_key(text: &[u8]) -> Option<Key>
+    ensures { result ≡ out_ascii_key text.now }
+{
+    if text == b"input".as_slice() {
+        Some(Key::Input)
+    } else if text == b"null_value".as_slice() {
+        Some(Key::NullText)
+    } else {
+        None
+    }
+}
+
+// The key of the command that a text names.
+fn key_of(form: Form, text: &[u8]) -> Option<Key>
+    ensures { result ≡ option_key_of form text.now }
+{
+    match form {
+        Form::Reclass => maker_key(text),
+        Form::Clump => maker_key(text),
+        Form::Stats => stats_key(text),
+        Form::OutAscii => out_ascii_key(text),
+    }
+}
+
+// The name of one map.
+fn name_of(alloc: Global, value: &[u8]) -> Result<Name, OptionFault>
+    ensures ok { IfOk result (λ name. option_name value.now ≡ Ok name) }
+    ensures err { IfErr result (λ fault. fault ≢ OptionFault.Memory → option_name value.now ≡ Err fault) }
+{
+    match Name::read(alloc, value) {
+        Ok(name) => Ok(name),
+        Err(NameFault::BadName) => Err(OptionFault::BadName),
+        Err(NameFault::Memory) => Err(OptionFault::Memory),
+    }
+}
+
+// The names that texts spell.
+fn names_from(alloc: Global, texts: &[&[u8]]) -> Result<Vec<Name>, OptionFault>
+    ensures ok { IfOk result (λ names. names_from (map (λ text. text.now) texts.now) ≡ Ok names.items) }
+    ensures count { IfOk result (λ names. length names.items ≡ length texts.now) }
+    ensures err { IfErr result (λ fault. fault ≢ OptionFault.Memory → names_from (map (λ text. text.now) texts.now) ≡ Err fault) }
+{
+    let mut names = Vec::new(alloc);
+    for text in texts {
+        match Name::read(alloc, *text) {
+            Ok(name) => match names.push(name) {
+                Ok(()) => {}
+                Err(_) => return Err(OptionFault::Memory),
+            },
+            Err(NameFault::BadName) => return Err(OptionFault::BadName),
+            Err(NameFault::Memory) => return Err(OptionFault::Memory),
+        }
+    }
+    Ok(names)
+}
+
+// The names of maps between commas.
+fn names_of(alloc: Global, value: &[u8]) -> Result<Inputs, OptionFault>
+    ensures ok { IfOk result (λ names. names_of (parts_of value.now) ≡ Ok names) }
+    ensures err { IfErr result (λ fault. fault ≢ OptionFault.Memory → names_of (parts_of value.now) ≡ Err fault) }
+{
+    let Ok(parts) = parts_of(alloc, value) else {
+        return Err(OptionFault::Memory);
+    };
+    if parts.len() > MOST_INPUTS {
+        return Err(OptionFault::BadOption);
+    }
+    let names = names_from(alloc, &parts)?;
+    Ok(Inputs::of(names))
+}
+
+fn printed_byte(value: &[u8]) -> Option<u8>
+    ensures { result ≡ printed_byte value.now }
+{
+    match value {
+        [b] if b'!' <= *b && *b <= b'~' => Some(*b),
+        _ => None,
+    }
+}
+
+// The byte between the fields of a line.
+fn separator_in(value: &[u8]) -> Option<u8>
+    ensures { result ≡ separator_in value.now }
+{
+    if value == b"pipe".as_slice() {
+        Some(b'|')
+    } else if value == b"comma".as_slice() {
+        Some(b',')
+    } else if value == b"space".as_slice() {
+        Some(b' ')
+    } else if value == b"tab".as_slice() {
+        Some(b'\t')
+    } else {
+        printed_byte(value)
+    }
+}
+
+impl Options {
+    // No option was given.
+    fn new(alloc: Global) -> Options
+        ensures { result ≡ no_options }
+    {
+        Options {
+            flags: Vec::new(alloc),
+            input: None,
+            inputs: None,
+            output: None,
+            separator: None,
+            null_text: None,
+            table_null_text: None,
+            after: None,
+        }
+    }
+
+    /// Whether a flag was given.
+    pub fn has_flag(&self, letter: u8) -> bool
+        ensures { result ≡ has_flag letter self.now }
+    {
+        self.flags.iter().any(|flag| *flag == letter)
+    }
+
+    /// The byte between the fields of a line, where one was given.
+    pub fn separator(&self) -> Option<u8>
+        ensures { result ≡ self.now.separator }
+    {
+        self.separator
+    }
+
+    /// The text of `after`, where it was given.
+    pub fn after(&self) -> Option<&[u8]>
+        ensures { option_map (λ text. text.now) result ≡ self.now.after }
+    {
+        match &self.after {
+            Some(text) => Some(text.as_slice()),
+            None => None,
+        }
+    }
+
+    /// What stands for null in a grid text, an asterisk where nothing was given.
+    ///
+    /// # Errors
+    ///
+    /// [`Memory`] where memory for the asterisk was refused.
+    pub fn into_null_text(self, alloc: Global) -> Result<NullText, Memory>
+        ensures { IfOk result (λ text. text ≡ unwrap_or self.null_text usual_null) }
+    {
+        let Options { null_text, .. } = self;
+        match null_text {
+            Some(text) => Ok(text),
+            None => NullText::usual(alloc),
+        }
+    }
+
+    /// What stands for null in a table, an asterisk where nothing was given.
+    ///
+    /// # Errors
+    ///
+    /// [`Memory`] where memory for the asterisk was refused.
+    pub fn into_table_null_text(self, alloc: Global) -> Result<TableNullText, Memory>
+        ensures { IfOk result (λ text. text ≡ unwrap_or self.table_null_text usual_null) }
+    {
+        let Options {
+            table_null_text,
+            ..
+        } = self;
+        match table_null_text {
+            Some(text) => Ok(text),
+            None => TableNullText::usual(alloc),
+        }
+    }
+
+    /// The names of the map that is read and of the one that is made, as far as they were given.
+    pub(crate) fn into_names(self) -> (Option<Name>, Option<Name>)
+        ensures { result ≡ (self.input, self.output) }
+    {
+        (self.input, self.output)
+    }
+
+    fn is_given(&self, key: Key) -> bool
+        ensures { result ≡ is_given self.now key }
+    {
+        match key {
+            Key::Input => self.input.is_some(),
+            Key::Inputs => self.inputs.is_some(),
+            Key::Output => self.output.is_some(),
+            Key::Separator => self.separator.is_some(),
+            Key::NullText => self.null_text.is_some(),
+            Key::TableNullText => self.table_null_text.is_some(),
+            Key::After => self.after.is_some(),
+        }
+    }
+
+    // Adds flags.
+    fn add_flags(&mut self, form: Form, letters: &[u8]) -> Result<(), OptionFault>
+        ensures ok { OnOk result (with_flags form self.old letters.now ≡ Ok self.new) }
+        ensures err { IfErr result (λ fault. fault ≢ OptionFault.Memory → with_flags form self.old letters.now ≡ Err fault) }
+    {
+        if !are_flags(form, letters) {
+            return Err(OptionFault::BadOption);
+        }
+        self.flags.extend_from_slice(letters)?;
+        Ok(())
+    }
+
+    // Sets the value of a key, which may be given once.
+    fn set_value(&mut self, alloc: Global, key: Key, value: &[u8]) -> Result<(), OptionFault>
+        ensures ok { OnOk result (with_value self.old key value.now ≡ Ok self.new) }
+        ensures err { IfErr result (λ fault. fault ≢ OptionFault.Memory → with_value self.old key value.now ≡ Err fault) }
+    {
+        if self.is_given(key) {
+            return Err(OptionFault::BadOption);
+        }
+        match key {
+            Key::Input => self.input = Some(name_of(alloc, value)?),
+            Key::Inputs => self.inputs = Some(names_of(alloc, value)?),
+            Key::Output => self.output = Some(name_of(alloc, value)?),
+            Key::Separator => self.separator = Some(separator_in(value).ok_or(
+                OptionFault::BadOption,
+            )?),
+            Key::NullText => self.null_text = Some(NullText::read(alloc, value)?),
+            Key::TableNullText => self.table_null_text = Some(TableNullText::read(alloc, value)?),
+            Key::After => self.after = Some(Vec::from_slice(alloc, value)?),
+        }
+        Ok(())
+    }
+
+    // Adds the options of one more word.
+    fn add_word(&mut self, alloc: Global, form: Form, word: &[u8]) -> Result<(), OptionFault>
+        ensures ok { OnOk result (with_word form self.old word.now ≡ Ok self.new) }
+        ensures err { IfErr result (λ fault. fault ≢ OptionFault.Memory → with_word form self.old word.now ≡ Err fault) }
+    {
+        let Some((first, letters)) = word.split_first() else {
+            return Err(OptionFault::BadOption);
+        };
+        if *first == b'-' {
+            return self.add_flags(form, letters);
+        }
+        let Some((key, value)) = pair_of(word) else {
+            return Err(OptionFault::BadOption);
+        };
+        match key_of(form, key) {
+            Some(key) => self.set_value(alloc, key, value),
+            None => Err(OptionFault::BadOption),
+        }
+    }
+}
+
+/// The options that the words after a command give.
+///
+/// # Errors
+///
+/// The fault of the first word that has one, [`OptionFault::Memory`] where memory was refused.
+pub fn options_of(alloc: Global, form: Form, words: &[&[u8]]) -> Result<Options, OptionFault>
+    ensures ok { IfOk result (λ options. options_of form (map (λ w. w.now) words.now) ≡ Ok options) }
+    ensures err { IfErr result (λ fault. fault ≢ OptionFault.Memory → options_of form (map (λ w. w.now) words.now) ≡ Err fault) }
+{
+    let mut options = Options::new(alloc);
+    for word in words {
+        options.add_word(alloc, form, *word)?;
+    }
+    Ok(options)
+}
