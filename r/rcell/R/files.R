@@ -11,6 +11,7 @@ check_filename <- function(filename, overwrite) {
 
 # Writes a raster under another name in the same folder, and renames it with what GDAL has put beside it.
 written <- function(raster, filename) {
+  force(raster)
   if (!nzchar(filename)) return(raster)
   room <- tempfile(".rcell-", tmpdir = dirname(filename))
   if (!dir.create(room, showWarnings = FALSE)) write_failed(filename, "its folder takes no file")

@@ -4,11 +4,11 @@ DIRECTIONS <- c(4, 8)
 
 # The connected areas of `x`: r.clump, of the classes asked for.
 clump_lines <- function(directions, classes = NULL) {
-  if (length(directions) != 1L || !(directions %in% DIRECTIONS)) refuse("directions = is 4 or 8", status = 2L)
+  if (length(directions) != 1L || !(directions %in% DIRECTIONS)) refuse("directions= is 4 or 8", status = 2L)
   flag <- if (directions == 8) " -d" else ""
   if (is.null(classes)) return(sprintf("r.clump%s input=map output=patch", flag))
   if (!is.numeric(classes) || !length(classes) || anyNA(classes) || any(classes != trunc(classes))) {
-    refuse("classes = are whole numbers", status = 2L)
+    refuse("classes= are whole numbers", status = 2L)
   }
   c("r.reclass input=map output=kept", sprintf("%.0f = %.0f", classes, classes), "end",
     sprintf("r.clump%s input=kept output=patch", flag))

@@ -36,8 +36,14 @@ matrix_source <- function(name, given) {
 }
 
 raster_source <- function(name, raster) {
+  # Methods of S4 put errors of their arguments into errors of their own.
+  force(raster)
   if (nlyr(raster) != 1L) bad_map(name, sprintf("has %d layers: give one, as x[[1]]", nlyr(raster)))
   if (!hasValues(raster)) bad_map(name, "a raster without values")
+  scale <- scoff(raster)
+  if (any(scale != c(1, 0))) {
+    bad_map(name, sprintf("its values are scaled: each cell times %g, plus %g; write them out as whole numbers first", scale[[1]], scale[[2]]))
+  }
   list(name = name, raster = raster, template = template_of(raster), region = region_of(name, raster), labels = labels_of(raster))
 }
 
@@ -63,7 +69,7 @@ open_raster <- function(name, path) {
     tryCatch(rast(path), error = function(e) read_failed(name, sprintf("cannot open: %s: %s", path, told(e)))),
     warning = function(w) {
       if (grepl("rotated", conditionMessage(w), fixed = TRUE)) {
-        bad_map(name, "a rotated raster: warp it to rows from west to east first (terra: rectify)")
+        bad_map(name, "a rotated transform: warp the map to rows from west to east first (terra: rectify)")
       }
       if (grepl("GDAL error", conditionMessage(w), fixed = TRUE)) invokeRestart("muffleWarning")
     })

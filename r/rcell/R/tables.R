@@ -5,7 +5,7 @@ UNITS <- c(m2 = 1, ha = 1e4, km2 = 1e6)
 check_unit <- function(area) {
   if (is.null(area)) return(invisible())
   if (!is.character(area) || length(area) != 1L || !(area %in% names(UNITS))) {
-    refuse(sprintf("area = is one of %s, and not %s", paste(names(UNITS), collapse = ", "), paste(format(area), collapse = " ")), status = 2L)
+    refuse(sprintf("area= is one of %s, and not %s", paste(names(UNITS), collapse = ", "), paste(format(area), collapse = " ")), status = 2L)
   }
 }
 
@@ -20,19 +20,20 @@ metres_of_unit <- function(template) {
 # The area of a cell in the unit asked for.
 cell_area <- function(template, unit) {
   if (is_in_degrees(template)) {
-    refuse("the map is in degrees, where the area of a cell differs from row to row: project it first (terra: project), or see terra::cellSize")
+    refuse(paste0("area= needs a map in metres or feet: in degrees the area of a cell differs from row to row. Weigh the rows: count by ",
+      "`r.mapcalc row = row()` and `r.stats -c input=row,MAP`, and multiply the cells of each row by the area of its cells"))
   }
   prod(res(template)) * metres_of_unit(template)^2 / UNITS[[unit]]
 }
 
 # A table with the columns that are asked for, or as a matrix.
 finished <- function(table, answer, statement, area, percent, wide) {
-  asked <- c(if (!is.null(area)) "area =", if (percent) "percent =", if (wide) "wide =")
+  asked <- c(if (!is.null(area)) "area=", if (percent) "percent=", if (wide) "wide=")
   if (length(asked) && !("c" %in% statement$flags)) {
     refuse(sprintf("%s needs a table with cells: r.stats -c", asked[[1]]), "script", statement$line)
   }
   if (wide && length(statement$maps) != 2L) {
-    refuse(sprintf("wide = needs a table of two maps, and this one has %d", length(statement$maps)), "script", statement$line)
+    refuse(sprintf("wide= needs a table of two maps, and this one has %d", length(statement$maps)), "script", statement$line)
   }
   if (!is.null(area)) table[[area]] <- table$cells * cell_area(answer$template, area)
   if (percent) table$percent <- 100 * table$cells / sum(as.numeric(table$cells))

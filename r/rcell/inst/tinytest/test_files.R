@@ -13,7 +13,7 @@ expect_identical(basename(sources(found)), "kind.tif")
 expect_true(compareGeom(found, lc))
 expect_identical(levels(found)[[1]][[2]], c("wood", "town, dense"))
 expect_identical(levels(found)[[1]][[1]], c(1L, 100000L))
-expect_identical(values(found, mat = FALSE), values(rcell_grid(rules, "kind", lc = lc), mat = FALSE))
+expect_equivalent(values(found, mat = FALSE), values(rcell_grid(rules, "kind", lc = lc), mat = FALSE))
 expect_equal(sort(unique(values(found, mat = FALSE))), c(1, 100000))
 expect_identical(sort(list.files(room, all.files = TRUE, no.. = TRUE)), c("kind.tif", "kind.tif.aux.xml"))
 
@@ -23,12 +23,12 @@ expect_equal(values(rast(file("great.tif")), mat = FALSE), values(lc, mat = FALS
 
 # Areas, and a file that is there already.
 rcell_areas(lc, filename = file("areas.tif"))
-expect_identical(as_rows(rast(file("areas.tif"))), as_rows(rcell_areas(lc)))
+expect_equivalent(as_rows(rast(file("areas.tif"))), as_rows(rcell_areas(lc)))
 before <- tools::md5sum(file("areas.tif"))
 expect_inherits(refusal(rcell_areas(lc, 8, filename = file("areas.tif"))), "rcell_write_failed")
 expect_identical(tools::md5sum(file("areas.tif")), before)
 rcell_areas(lc, 8, filename = file("areas.tif"), overwrite = TRUE)
-expect_identical(as_rows(rast(file("areas.tif"))), as_rows(rcell_areas(lc, 8)))
+expect_equivalent(as_rows(rast(file("areas.tif"))), as_rows(rcell_areas(lc, 8)))
 rcell_grid("", "lc", lc = lc, filename = file("kind.tif"), overwrite = TRUE)
 expect_false(file.exists(file("kind.tif.aux.xml")))
 

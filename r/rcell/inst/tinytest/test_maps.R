@@ -46,7 +46,7 @@ expect_identical(bad(3e9)$text, "not a map of whole numbers: the cell at row 2, 
 for (value in c(-2147483648, 4294967295, 1e300, Inf, 0.1)) expect_inherits(bad(value), "rcell_bad_map", info = value)
 scaled <- first
 writeRaster(scaled, file("scaled.tif"), datatype = "INT2S", scale = 0.1)
-expect_inherits(refusal(counts(file("scaled.tif"))), "rcell_bad_map")
+expect_true(grepl("^its values are scaled: each cell times 0.1, plus 0", refusal(counts(file("scaled.tif")))$text))
 writeRaster(first * 1e9 * 2, file("wide.tif"), datatype = "INT4U")
 expect_inherits(refusal(counts(file("wide.tif"))), "rcell_bad_map")
 writeRaster(classify(first, cbind(NA, -2147483648)), file("least.tif"), datatype = "INT4S", NAflag = 0)
@@ -79,7 +79,7 @@ expect_inherits(refusal(suppressWarnings(counts(file("half.tif")))), "rcell_read
 writeLines(c("<VRTDataset rasterXSize=\"5\" rasterYSize=\"4\"><GeoTransform>5, 1, 0.5, 9, 0.5, -1</GeoTransform>",
   "<VRTRasterBand dataType=\"Int32\" band=\"1\"><SimpleSource><SourceFilename relativeToVRT=\"1\">a b.tif</SourceFilename>",
   "<SourceBand>1</SourceBand></SimpleSource></VRTRasterBand></VRTDataset>"), file("turned.vrt"))
-expect_true(grepl("^a rotated raster", refusal(counts(file("turned.vrt")))$text))
+expect_true(grepl("^a rotated transform", refusal(counts(file("turned.vrt")))$text))
 
 # Edges are compared as texts of eight decimals.
 moved <- function(by) rast(matrix(1, 2, 2), extent = ext(8 + 1 / 3 + by, 9 + by, 47, 48), crs = "EPSG:4326")

@@ -51,6 +51,7 @@ asked <- run(c("suppressMessages(library(rcell))", sprintf("answer <- tryCatch(r
   "  interrupt = function(e) 'interrupted')", "cat(answer, length(list.files(tempdir(), '^rcell-')))"))
 begun <- Sys.time()
 while (!file.exists(file.path(room, "pid")) && asked$is_alive() && Sys.time() < begun + 300) Sys.sleep(0.1)
+if (!asked$is_alive()) stop(asked$read_all_output())
 Sys.sleep(0.5)
 asked$interrupt()
 asked$wait(60000)

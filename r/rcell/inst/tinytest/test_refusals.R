@@ -29,7 +29,7 @@ expect_identical(refusal(rcell_grid("", "lend", lc = lc))$text, "no map lend: th
 expect_identical(refusal(rcell_run("r.stats input=lc", maps = list("land-use" = lc)))$source, "arguments")
 expect_identical(refusal(rcell_run(NA, lc = lc))$text, "the script is no text")
 expect_true(grepl("^neither a path nor a SpatRaster", refusal(rcell_run("", lc = 1:3))$text))
-expect_identical(refusal(rcell_areas(lc, 6))$text, "directions = is 4 or 8")
+expect_identical(refusal(rcell_areas(lc, 6))$text, "directions= is 4 or 8")
 
 # Marks may not make a script too long without a word.
 long <- paste(c(rep("r.stats input=lc", 2), rep(paste0("#", strrep("x", 60000)), 17), "#", strrep("#", 28500)), collapse = "\n")

@@ -14,7 +14,7 @@ expect_identical(rcell_table("r.stats input=lc", maps = list(lc = lc)), data.fra
 
 # The matrix of two maps.
 wide <- rcell_table("r.stats -c -n input=lc,zone", lc = lc, zone = zone, wide = TRUE)
-expect_identical(wide, matrix(c(3L, 0L, 1L, 2L, 4L, 0L), 3, dimnames = list(lc = c("1", "2", "3"), zone = c("7", "8"))))
+expect_identical(wide, matrix(c(3L, 1L, 1L, 2L, 3L, 0L), 3, dimnames = list(lc = c("1", "2", "3"), zone = c("7", "8"))))
 expect_identical(dim(rcell_table("r.stats -c input=lc,zone", lc = lc, zone = zone, wide = TRUE)), c(4L, 3L))
 expect_identical(rcell_table("r.stats -c -n input=lc,zone", lc = lc, zone = zone, area = "m2", wide = TRUE), wide * 100)
 
@@ -36,19 +36,21 @@ expect_identical(sum(outputs[[4]]$cells), 10L)
 expect_identical(length(rcell_table("r.stats -c input=lc\nr.stats -c input=zone", lc = lc, zone = zone)), 2L)
 expect_identical(rcell_run("r.mapcalc x = lc", lc = lc), structure(list(), names = character()))
 
-# Labels are joined by the category: those of the raster, and those of the rules.
-odd <- c("wood, wet", "a b  c", "tab\there", "pipe|", "quote\"", "#no", "Wiese \u00fc", "NA", "*", "null", "back\\slash", "'", " in front")
+# Labels are joined by the category: those of the raster (terra takes a label `NA` for none), and those of the rules.
+odd <- c("wood, wet", "a b  c", "tab\there", "pipe|", "quote\"", "#no", "Wiese \u00fc", "n/a", "*", "null", "back\\slash", "'", " in front")
 labelled <- rast(matrix(seq_along(odd), 1), extent = ext(0, 13, 0, 1), crs = "EPSG:32632")
 levels(labelled) <- data.frame(value = seq_along(odd), cover = odd)
 expect_identical(rcell_table("r.stats -cl input=x", x = labelled)$x_label, odd)
 rules <- "r.reclass input=lc output=kind\n1 2 = 1 built \u00fcp, mostly\n3 = 2 water\n* = 3\nend\nr.stats -cl input=kind"
 expect_identical(rcell_table(rules, lc = lc)$kind_label, c("built \u00fcp, mostly", "water", NA))
+expect_identical(rcell_table("r.reclass input=lc output=k\n1 = 1 NA\n2 = 2   in # front \n3 = 3 *\nend\nr.stats -cnl input=k", lc = lc)$k_label,
+  c("NA", "in # front", "*"))
 expect_identical(rownames(rcell_table("r.stats -cnl input=lc,zone", lc = rcell_grid(sub("r.stats.*", "", rules), "kind", lc = lc),
   zone = zone, wide = TRUE)), c("built \u00fcp, mostly", "water"))
 
 # What can't be answered.
-expect_identical(refusal(rcell_table("r.stats input=lc", lc = lc, area = "ha"))$text, "area = needs a table with cells: r.stats -c")
-expect_identical(refusal(rcell_table("r.stats -c input=lc", lc = lc, area = "acre"))$text, "area = is one of m2, ha, km2, and not acre")
+expect_identical(refusal(rcell_table("r.stats input=lc", lc = lc, area = "ha"))$text, "area= needs a table with cells: r.stats -c")
+expect_identical(refusal(rcell_table("r.stats -c input=lc", lc = lc, area = "acre"))$text, "area= is one of m2, ha, km2, and not acre")
 expect_identical(refusal(rcell_table("r.stats -c input=lc", lc = lc, wide = TRUE))$line, 1L)
 expect_inherits(refusal(rcell_table("r.out.ascii input=lc", lc = lc)), "rcell_refused")
 degrees <- rast(nrows = 2, ncols = 2, vals = 1)
