@@ -1,0 +1,97 @@
+"""Runs the table of cases on each front that is installed, and compares; the last line is 'N passed, M failed'.
+
+    /usr/bin/python3 fronts/run.py [FRONT...]
+
+A front is a program that prints for each case a line `case NAME`, and below it, each after a blank, what came out.
+"""
+
+from __future__ import annotations
+
+import os
+import pathlib
+import shutil
+import subprocess
+import sys
+
+from cases import Case, cases
+
+HERE = pathlib.Path(__file__).resolve().parent
+REPOSITORY = HERE.parent
+FRONTS = ("python", "r")
+
+
+def environment() -> dict[str, str]:
+    known = {"PYTHONDONTWRITEBYTECODE": "1", "LC_ALL": "C.UTF-8", "RCELL": str(REPOSITORY / "bin/rcell")}
+    return {**os.environ, **known, "PYTHONPATH": str(REPOSITORY / "python/src")}
+
+
+def missing_of_python() -> str:
+    for library in ("numpy", "rasterio"):
+        if subprocess.run([sys.executable, "-c", f"import {library}"], capture_output=True).returncode:
+            return f"python3-{library} is not installed"
+    return ""
+
+
+def missing_of_r() -> str:
+    if not shutil.which("Rscript"):
+        return "R is not installed (r-base-core)"
+    test = 'for (p in c("terra", "data.table", "processx", "rcell")) if (!nzchar(system.file(package = p))) cat(p, "")'
+    missing = subprocess.run(["Rscript", "--no-init-file", "-e", test], capture_output=True, text=True).stdout.strip()
+    return f"packages of R are not installed: {missing}" if missing else ""
+
+
+def command(front: str) -> list[str]:
+    return [sys.executable, str(HERE / "front_python.py")] if front == "python" else ["Rscript", str(HERE / "front_r.R"), str(HERE)]
+
+
+def found_by(front: str) -> tuple[dict[str, list[str]], str]:
+    """What a front answers for each case, and what it said besides."""
+    ran = subprocess.run(command(front), env=environment(), capture_output=True, encoding="utf-8", errors="replace")
+    found: dict[str, list[str]] = {}
+    name = ""
+    for line in ran.stdout.splitlines():
+        if line.startswith("case "):
+            name = line[5:]
+            found[name] = []
+        elif name:
+            found[name].append(line[1:])
+    return found, ran.stderr
+
+
+def is_right(case: Case, lines: list[str]) -> bool:
+    """An answer must be the same; of a refusal all that the case names, the text as far as it goes."""
+    if not case.is_refused:
+        return lines == case.answer
+    told = dict(line.split(": ", 1) for line in lines if ": " in line)
+    wanted = dict(line.split(": ", 1) for line in case.answer)
+    text = wanted.pop("text")
+    return told.get("text", "").startswith(text) and all(told.get(key) == value for key, value in wanted.items())
+
+
+def run(front: str) -> tuple[int, int]:
+    """How many cases passed on a front, and how many failed."""
+    missing = missing_of_python() if front == "python" else missing_of_r()
+    if missing:
+        print(f"fronts: {front} is left out: {missing}")
+        return 0, 0
+    found, said = found_by(front)
+    wrong = [case for case in cases() if not is_right(case, found.get(case.name, []))]
+    for case in wrong:
+        print(f"fronts: {front}: {case.name}", "  expected:", *(f"    {line}" for line in case.answer), "  found:", sep="\n")
+        print(*(f"    {line}" for line in found.get(case.name, ["nothing"])), sep="\n")
+    if wrong and said:
+        print(said)
+    right = len(cases()) - len(wrong)
+    print(f"fronts: {front}: {right} cases of {len(cases())}")
+    return right, len(wrong)
+
+
+def main() -> int:
+    counts = [run(front) for front in sys.argv[1:] or FRONTS]
+    failed = sum(count[1] for count in counts)
+    print(f"{sum(count[0] for count in counts)} passed, {failed} failed")
+    return 1 if failed else 0
+
+
+if __name__ == "__main__":
+    sys.exit(main())

@@ -1,0 +1,52 @@
+# What goes wrong: conditions, each with a class of its own.
+
+# Ends the call with an error of the given class and fields.
+signal <- function(class, message, ...) {
+  stop(structure(class = c(class, "rcell_error", "error", "condition"), list(message = message, call = NULL, ...)))
+}
+
+# A map, a script or a request was refused, and nothing was answered. `content` is the line of the script itself.
+refuse <- function(text, source = "arguments", line = 0L, status = 1L, content = NULL, class = NULL) {
+  column <- column_in(text)
+  place <- if (line > 0L) sprintf("%s, line %d", source, line) else source
+  message <- paste0(place, ": ", text)
+  if (!is.null(content)) {
+    message <- paste0(message, "\n  ", content)
+    if (!is.na(column)) message <- paste0(message, "\n  ", mark_under(content, column))
+  }
+  signal(c(class, "rcell_refused"), message,
+    source = source, line = line, column = column, text = text, status = status, content = content)
+}
+
+# The column that a message of the program names, in bytes from 1.
+column_in <- function(text) {
+  found <- regmatches(text, regexec(" at column ([0-9]+)$", text))[[1]]
+  if (length(found) == 2L) as.integer(found[2]) else NA_integer_
+}
+
+# Blanks up to the column, which counts bytes, and a mark beneath it; a tab stays a tab.
+mark_under <- function(content, column) {
+  bytes <- charToRaw(content)
+  before <- bytes[seq_len(min(column - 1L, length(bytes)))]
+  starts <- bitwAnd(as.integer(before), 0xC0L) != 0x80L
+  paste0(paste(ifelse(before[starts] == as.raw(9L), "\t", " "), collapse = ""), "^")
+}
+
+# A map that is no map of whole numbers, or has no grid of its own. The cell is the first that is wrong, from 1 at the top left.
+bad_map <- function(name, text, row = NA_integer_, column = NA_integer_, value = NA_real_, class = NULL, status = 1L) {
+  signal(c(class, "rcell_bad_map", "rcell_refused"), paste0(name, ": ", text),
+    name = name, row = row, column = column, value = value, source = name, line = 0L, text = text, status = status)
+}
+
+# A file that cannot be opened, or a part of it that cannot be read.
+read_failed <- function(name, text) bad_map(name, text, class = "rcell_read_failed", status = 4L)
+
+# A file could not be written whole; nothing is left of it.
+write_failed <- function(path, text) signal("rcell_write_failed", sprintf("%s cannot be written: %s", path, text), path = path)
+
+# The program was ended by a signal.
+killed <- function(number) {
+  name <- if (number == 9L) " (SIGKILL)" else if (number == 15L) " (SIGTERM)" else ""
+  cause <- if (number == 9L) "too little memory, or someone ended it" else "someone ended it"
+  signal("rcell_killed", sprintf("the program was killed by signal %d%s: %s", number, name, cause), signal = number)
+}

@@ -1,0 +1,55 @@
+# Maps that are written: a file has its name only when all of it is there.
+
+check_filename <- function(filename, overwrite) {
+  if (!nzchar(filename)) return(invisible())
+  folder <- dirname(filename)
+  if (!dir.exists(folder)) write_failed(filename, "No such file or directory")
+  if (file.access(folder, 2L) != 0L) write_failed(filename, "Permission denied")
+  if (dir.exists(filename)) write_failed(filename, "Is a directory")
+  if (file.exists(filename) && !overwrite) write_failed(filename, "it exists, and overwrite is FALSE")
+}
+
+# Writes a raster under another name in the same folder, and renames it with what GDAL has put beside it.
+written <- function(raster, filename) {
+  force(raster)
+  if (!nzchar(filename)) return(raster)
+  room <- tempfile(".rcell-", tmpdir = dirname(filename))
+  if (!dir.create(room, showWarnings = FALSE)) write_failed(filename, "its folder takes no file")
+  on.exit(unlink(room, recursive = TRUE))
+  path <- file.path(room, basename(filename))
+  failed <- function(e) write_failed(filename, told(e))
+  tryCatch(withCallingHandlers(writeRaster(raster, path, datatype = "INT4S"), warning = without_colours), error = failed, warning = failed)
+  check_whole(raster, path, filename)
+  unlink(paste0(filename, ".aux.xml"))
+  for (suffix in c(".aux.xml", "")) {
+    if (file.exists(paste0(path, suffix)) && !file.rename(paste0(path, suffix), paste0(filename, suffix))) {
+      write_failed(filename, "it cannot be renamed")
+    }
+  }
+  rast(filename)
+}
+
+# terra would give a map with labels colours as well, and says that this type has none.
+without_colours <- function(w) {
+  if (grepl("color-table", conditionMessage(w), fixed = TRUE)) invokeRestart("muffleWarning")
+}
+
+# A disk may be full only when a file is closed, which no one is told of: it is read again, and compared.
+check_whole <- function(raster, path, filename) {
+  failed <- function(e) write_failed(filename, told(e))
+  again <- tryCatch(rast(path), error = failed, warning = failed)
+  readStart(raster)
+  readStart(again)
+  on.exit({
+    readStop(raster)
+    readStop(again)
+  })
+  count <- max(1L, BLOCK_CELLS %/% as.integer(ncol(raster)))
+  for (row in seq(1L, as.integer(nrow(raster)), by = count)) {
+    rows <- min(count, as.integer(nrow(raster)) - row + 1L)
+    cells <- tryCatch(lapply(list(raster, again), readValues, row = row, nrows = rows), error = failed, warning = failed)
+    if (!identical(is.na(cells[[1]]), is.na(cells[[2]])) || any(cells[[1]] != cells[[2]], na.rm = TRUE)) {
+      write_failed(filename, "what was written is not what was to be written")
+    }
+  }
+}

@@ -1,0 +1,180 @@
+# Maps that go in: rasters of terra, paths and matrices, and grids of the program's own form.
+
+BLOCK_CELLS <- 1048576L
+HEADER_BYTES <- 65536L
+CATEGORY_LIMIT <- 2147483647
+EXACT_FLOAT <- 16777216
+EXACT_TYPES <- c("INT1U", "INT2U", "INT2S")
+HEADER_LINE <- "^[ \t\r\n]*(north|south|east|west|rows|cols|null|type|multiplier):"
+
+# The maps of a call: those of `...` and of `maps`, each by its name.
+sources_of <- function(dots, maps) {
+  given <- c(maps, dots)
+  if (!length(given) || is.null(names(given)) || any(!nzchar(names(given)))) {
+    refuse("a map without a name, or none at all: name them, as lc = \"landcover.tif\"", status = 2L)
+  }
+  twice <- names(given)[duplicated(names(given))]
+  if (length(twice)) refuse(sprintf("the map %s is given twice", twice[[1]]), status = 2L)
+  sources <- Map(source_of, names(given), given)
+  check_regions(sources)
+  sources
+}
+
+source_of <- function(name, given) {
+  if (inherits(given, "SpatRaster")) return(raster_source(name, given))
+  if (is.character(given) && length(given) == 1L && !is.na(given)) return(path_source(name, given))
+  if (is.matrix(given) && (is.numeric(given) || is.logical(given))) return(matrix_source(name, given))
+  bad_map(name, sprintf("neither a path nor a SpatRaster nor a matrix of numbers, but a %s", class(given)[[1]]))
+}
+
+# A matrix has cells of side 1, the bottom left corner at 0, 0, and no reference system.
+matrix_source <- function(name, given) {
+  if (!length(given)) bad_map(name, sprintf("a matrix without cells (%d x %d)", nrow(given), ncol(given)))
+  raster <- rast(nrows = nrow(given), ncols = ncol(given), xmin = 0, xmax = ncol(given), ymin = 0, ymax = nrow(given), crs = "")
+  values(raster) <- as.vector(t(given))
+  raster_source(name, raster)
+}
+
+raster_source <- function(name, raster) {
+  # Methods of S4 put errors of their arguments into errors of their own.
+  force(raster)
+  if (nlyr(raster) != 1L) bad_map(name, sprintf("has %d layers: give one, as x[[1]]", nlyr(raster)))
+  if (!hasValues(raster)) bad_map(name, "a raster without values")
+  scale <- scoff(raster)
+  if (any(scale != c(1, 0))) {
+    bad_map(name, sprintf("its values are scaled: each cell times %g, plus %g; write them out as whole numbers first", scale[[1]], scale[[2]]))
+  }
+  list(name = name, raster = raster, template = template_of(raster), region = region_of(name, raster), labels = labels_of(raster))
+}
+
+# The geometry alone: no cells, labels or colours.
+template_of <- function(raster) rast(nrows = nrow(raster), ncols = ncol(raster), extent = ext(raster), crs = crs(raster))
+
+path_source <- function(name, path) {
+  is_file <- file.exists(path)
+  if (!is_file && !grepl("^/vsi|^[A-Za-z][A-Za-z0-9+.-]+:", path)) {
+    read_failed(name, sprintf("cannot open: %s: No such file or directory", path))
+  }
+  if (is_file && !dir.exists(path)) {
+    if (file.access(path, 4L) != 0L) read_failed(name, sprintf("cannot open: %s: Permission denied", path))
+    head <- readBin(path, "raw", HEADER_BYTES)
+    if (!any(head == 0L) && grepl(HEADER_LINE, rawToChar(head), useBytes = TRUE)) return(text_source(name, path, rawToChar(head)))
+  }
+  raster_source(name, open_raster(name, path))
+}
+
+# terra only warns of a raster that is rotated, and reads it as if it were not.
+open_raster <- function(name, path) {
+  withCallingHandlers(
+    tryCatch(rast(path), error = function(e) read_failed(name, sprintf("cannot open: %s: %s", path, told(e)))),
+    warning = function(w) {
+      if (grepl("rotated", conditionMessage(w), fixed = TRUE)) {
+        bad_map(name, "a rotated transform: warp the map to rows from west to east first (terra: rectify)")
+      }
+      if (grepl("GDAL error", conditionMessage(w), fixed = TRUE)) invokeRestart("muffleWarning")
+    })
+}
+
+told <- function(e) sub("^\\[[a-zA-Z]+\\] ", "", conditionMessage(e))
+
+# A grid of the program's own form goes to it as it is. (GDAL would read it too, and take the null text `*` for 0.)
+text_source <- function(name, path, head) {
+  region <- header_region(head)
+  template <- NULL
+  if (!is.null(region)) {
+    edges <- as.numeric(region$edges)
+    template <- rast(nrows = region$rows, ncols = region$cols, xmin = edges[[4]], xmax = edges[[3]], ymin = edges[[2]],
+      ymax = edges[[1]], crs = "")
+  }
+  list(name = name, path = normalizePath(path), template = template, region = region)
+}
+
+# The region of a header; NULL where it is not one, which the program then says in its own words.
+header_region <- function(head) {
+  lines <- trimws(strsplit(head, "\n", fixed = TRUE, useBytes = TRUE)[[1]])
+  cells <- which(nzchar(lines) & !grepl("^[^ \t]*:", lines, useBytes = TRUE))
+  if (length(cells)) lines <- lines[seq_len(cells[[1]] - 1L)]
+  value <- function(key) sub(paste0("^", key, ":[ \t]*"), "", grep(paste0("^", key, ":"), lines, value = TRUE, useBytes = TRUE))
+  edges <- lapply(EDGES, value)
+  sides <- lapply(c("rows", "cols"), value)
+  is_edge <- vapply(edges, function(text) length(text) == 1L && grepl("^[-+]?[0-9]{1,10}(\\.[0-9]{0,8})?$", text), NA)
+  is_side <- vapply(sides, function(text) length(text) == 1L && grepl("^[0-9]{1,5}$", text), NA)
+  if (!all(is_edge, is_side)) return(NULL)
+  region <- list(edges = vapply(edges, decimals_of, ""), rows = as.integer(sides[[1]]), cols = as.integer(sides[[2]]))
+  if (inherits(try(check_region("", region), silent = TRUE), "try-error") || region$rows < 1L || region$cols < 1L) return(NULL)
+  region
+}
+
+# The text of an edge with eight decimals, digit by digit: a double has too few.
+decimals_of <- function(text) {
+  parts <- regmatches(text, regexec("^([-+]?)0*([0-9]+)\\.?([0-9]*)$", text))[[1]]
+  number <- paste0(parts[[3]], ".", substr(paste0(parts[[4]], "00000000"), 1L, DECIMALS))
+  if (parts[[2]] == "-" && grepl("[1-9]", number)) paste0("-", number) else number
+}
+
+# Labels by category. They never go through the program.
+labels_of <- function(raster) {
+  if (!is.factor(raster)) return(NULL)
+  table <- levels(raster)[[1]]
+  if (!is.data.frame(table) || NCOL(table) < 2L) return(NULL)
+  labels <- enc2utf8(as.character(table[[2]]))
+  kept <- !is.na(labels)
+  list(codes = as.integer(table[[1]])[kept], labels = labels[kept])
+}
+
+# Writes the text of a map by blocks of rows. A map of the program's own form is linked.
+send_map <- function(source, path) {
+  if (is.null(source$raster)) {
+    if (!file.symlink(source$path, path)) write_failed(path, "a link cannot be made")
+    return(invisible())
+  }
+  write_text(c(header_of(source$region), ""), path)
+  raster <- source$raster
+  is_exact <- is_exact_type(raster)
+  is_float <- datatype(raster) %in% "FLT4S"
+  readStart(raster)
+  on.exit(readStop(raster))
+  count <- max(1L, BLOCK_CELLS %/% source$region$cols)
+  for (row in seq(1L, source$region$rows, by = count)) {
+    cells <- read_block(source, row, min(count, source$region$rows - row + 1L))
+    whole <- if (is_exact) as.integer(cells) else whole_cells(source, cells, row)
+    if (is_float && any(abs(whole) > EXACT_FLOAT, na.rm = TRUE)) is_float <- warn_of_floats(source$name)
+    tryCatch(
+      fwrite(list(whole), path, append = TRUE, eol = " ", na = "*", col.names = FALSE, quote = FALSE, showProgress = FALSE),
+      error = function(e) write_failed(path, conditionMessage(e)))
+  }
+}
+
+warn_of_floats <- function(name) {
+  warning(sprintf("%s: floats of 32 bits are not exact beyond 16777216, and the map has greater cells", name), call. = FALSE)
+  FALSE
+}
+
+# A raster of a file whose cells can be nothing but categories.
+is_exact_type <- function(raster) isTRUE(is.int(raster)) && isTRUE(datatype(raster) %in% EXACT_TYPES)
+
+# A broken part of a file is an error, and never null.
+read_block <- function(source, row, count) {
+  failed <- function(e) {
+    text <- sprintf("rows %d to %d cannot be read: %s", row, row + count - 1L, told(e))
+    read_failed(source$name, text)
+  }
+  tryCatch(readValues(source$raster, row, count), error = failed, warning = failed)
+}
+
+# The cells of a block as whole numbers, or the first that is none by its row and column.
+whole_cells <- function(source, cells, first_row) {
+  whole <- suppressWarnings(as.integer(cells))
+  is_bad <- is.na(whole) != is.na(cells)
+  if (any(whole != cells, na.rm = TRUE) || any(is_bad)) {
+    place <- which(is_bad | (!is.na(whole) & whole != cells))[[1]]
+    cols <- source$region$cols
+    row <- first_row + (place - 1L) %/% cols
+    column <- (place - 1L) %% cols + 1L
+    value <- cells[[place]]
+    beyond <- if (abs(value) > CATEGORY_LIMIT) ", beyond 2147483647 either way" else ""
+    bad_map(source$name, sprintf("not a map of whole numbers: the cell at row %d, column %d is %s%s",
+      row, column, sprintf("%.15g", value), beyond), row, column, value)
+  }
+  whole
+}

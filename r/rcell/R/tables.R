@@ -1,0 +1,61 @@
+# What a table gets beside its counts: areas, percentages, the shape of a matrix.
+
+UNITS <- c(m2 = 1, ha = 1e4, km2 = 1e6)
+
+check_unit <- function(area) {
+  if (is.null(area)) return(invisible())
+  if (!is.character(area) || length(area) != 1L || !(area %in% names(UNITS))) {
+    refuse(sprintf("area= is one of %s, and not %s", paste(names(UNITS), collapse = ", "), paste(format(area), collapse = " ")), status = 2L)
+  }
+}
+
+is_in_degrees <- function(template) isTRUE(suppressWarnings(is.lonlat(template)))
+
+# How many metres the unit of the map has; 1 where nothing is known of it.
+metres_of_unit <- function(template) {
+  metres <- if (nzchar(crs(template))) suppressWarnings(linearUnits(template)) else NA_real_
+  if (is.na(metres) || metres <= 0) 1 else metres
+}
+
+# The area of a cell in the unit asked for.
+cell_area <- function(template, unit) {
+  if (is_in_degrees(template)) {
+    refuse(paste0("area= needs a map in metres or feet: in degrees the area of a cell differs from row to row. Weigh the rows: count by ",
+      "`r.mapcalc row = row()` and `r.stats -c input=row,MAP`, and multiply the cells of each row by the area of its cells"))
+  }
+  prod(res(template)) * metres_of_unit(template)^2 / UNITS[[unit]]
+}
+
+# A table with the columns that are asked for, or as a matrix.
+finished <- function(table, answer, statement, area, percent, wide) {
+  asked <- c(if (!is.null(area)) "area=", if (percent) "percent=", if (wide) "wide=")
+  if (length(asked) && !("c" %in% statement$flags)) {
+    refuse(sprintf("%s needs a table with cells: r.stats -c", asked[[1]]), "script", statement$line)
+  }
+  if (wide && length(statement$maps) != 2L) {
+    refuse(sprintf("wide= needs a table of two maps, and this one has %d", length(statement$maps)), "script", statement$line)
+  }
+  if (!is.null(area)) table[[area]] <- table$cells * cell_area(answer$template, area)
+  if (percent) table$percent <- 100 * table$cells / sum(as.numeric(table$cells))
+  if (wide) wide_of(table, statement, if (percent) "percent" else if (!is.null(area)) area else "cells") else table
+}
+
+# A table of two maps as a matrix with the labels, or else the categories, as its names; null is last.
+wide_of <- function(table, statement, value) {
+  has_labels <- "l" %in% statement$flags
+  sides <- list(table[[1]], table[[if (has_labels) 3L else 2L]])
+  labels <- if (has_labels) list(table[[2]], table[[4]])
+  codes <- lapply(sides, function(side) sort(unique(side), na.last = TRUE))
+  at <- Map(match, sides, codes)
+  numbers <- table[[value]]
+  matrix <- array(if (is.integer(numbers)) 0L else 0, lengths(codes))
+  matrix[cbind(at[[1]], at[[2]])] <- numbers
+  titles <- lapply(1:2, function(place) {
+    title <- as.character(codes[[place]])
+    label <- if (has_labels) labels[[place]][match(codes[[place]], sides[[place]])]
+    if (is.null(label)) title else ifelse(is.na(label), title, label)
+  })
+  names(titles) <- statement$maps
+  dimnames(matrix) <- titles
+  matrix
+}

@@ -1,0 +1,36 @@
+# What the tests share: maps made at random, and the class of what a call ends in.
+
+suppressMessages({
+  library(terra)
+  library(rcell)
+})
+terraOptions(progress = 0)
+
+# A map of some classes with nulls: noise, or patches as smooth as land cover.
+made_map <- function(rows, cols, classes, is_patchy = FALSE, seed = 1, cell = c(30, 30)) {
+  set.seed(seed)
+  cells <- sample(c(NA, seq_len(classes)), rows * cols, replace = TRUE, prob = c(0.05, rep(0.95 / classes, classes)))
+  map <- rast(nrows = rows, ncols = cols, xmin = 500000, xmax = 500000 + cols * cell[[1]], ymin = 5400000,
+    ymax = 5400000 + rows * cell[[2]], crs = "EPSG:32632", vals = cells)
+  if (is_patchy) map <- aggregate_up(map, 5, rows, cols)
+  map
+}
+
+# Each cell of the top left part becomes a block of so many cells a side.
+aggregate_up <- function(map, side, rows, cols) {
+  cells <- matrix(values(map, mat = FALSE), rows, cols, byrow = TRUE)
+  cells <- cells[(seq_len(rows) - 1) %/% side + 1, (seq_len(cols) - 1) %/% side + 1]
+  values(map) <- as.vector(t(cells))
+  map
+}
+
+# As rows from north to south.
+as_rows <- function(map) matrix(values(map, mat = FALSE), nrow(map), ncol(map), byrow = TRUE)
+
+# What a call is refused with, or NULL.
+refusal <- function(call) tryCatch({
+  force(call)
+  NULL
+}, rcell_error = function(e) e)
+
+leftovers <- function() list.files(tempdir(), pattern = "^rcell-", all.files = TRUE)

@@ -1,0 +1,108 @@
+source("helpers.R")
+
+room <- tempfile("maps \u00fc ")
+dir.create(room)
+file <- function(name) file.path(room, name)
+counts <- function(map) rcell_table("r.stats -c input=x", x = map)
+first <- made_map(4, 5, 3)
+
+# A raster in memory, of a file, of a VRT, south up, of a path with blanks and umlauts: the same.
+writeRaster(first, file("a b.tif"), datatype = "INT4S")
+expect_identical(counts(file("a b.tif")), counts(first))
+expect_identical(counts(rast(file("a b.tif"))), counts(first))
+expect_identical(counts(vrt(file("a b.tif"), file("v.vrt"))), counts(first))
+expect_identical(counts(classify(first, cbind(1, 1))), counts(first))
+upside <- flip(first, "vertical")
+expect_identical(as_rows(rcell_grid("", "x", x = upside)), as_rows(upside))
+for (type in c("INT1U", "INT2U", "INT2S", "FLT4S", "FLT8S")) {
+  writeRaster(first, file("typed.tif"), datatype = type, overwrite = TRUE)
+  expect_identical(counts(file("typed.tif")), counts(first), info = type)
+}
+
+# Blocks of rows, and a single row or column.
+many <- made_map(1100, 1000, 9, seed = 4)
+expect_identical(counts(many)$cells, as.integer(table(values(many, mat = FALSE), useNA = "ifany")))
+expect_identical(values(rcell_grid("", "x", x = many), mat = FALSE), values(many, mat = FALSE))
+for (size in list(c(1, 7), c(7, 1), c(1, 1))) {
+  thin <- made_map(size[[1]], size[[2]], 3, seed = 9)
+  expect_identical(as_rows(rcell_grid("", "x", x = thin)), as_rows(thin))
+}
+
+# NaN and NA are null; the ends of the range are categories.
+expect_identical(counts(matrix(c(1, NaN, NA, 2147483647, -2147483647, -0), 2)),
+  data.frame(x = c(-2147483647L, 0L, 1L, 2147483647L, NA), cells = c(1L, 1L, 1L, 1L, 2L)))
+expect_identical(counts(matrix(c(TRUE, FALSE, NA), 1))$x, c(0L, 1L, NA))
+expect_identical(as_rows(rcell_grid("", "x", x = matrix(1:6, 2))), matrix(c(1, 2, 3, 4, 5, 6), 2))
+
+# What is no whole number is told by its row and column.
+bad <- function(value) {
+  cells <- matrix(1, 3, 4)
+  cells[2, 3] <- value
+  refusal(counts(cells))
+}
+expect_identical(conditionMessage(bad(2.5)), "x: not a map of whole numbers: the cell at row 2, column 3 is 2.5")
+expect_identical(bad(3e9)[c("name", "row", "column", "value")], list(name = "x", row = 2L, column = 3L, value = 3e9))
+expect_identical(bad(3e9)$text, "not a map of whole numbers: the cell at row 2, column 3 is 3000000000, beyond 2147483647 either way")
+for (value in c(-2147483648, 4294967295, 1e300, Inf, 0.1)) expect_inherits(bad(value), "rcell_bad_map", info = value)
+scaled <- first
+writeRaster(scaled, file("scaled.tif"), datatype = "INT2S", scale = 0.1)
+expect_true(grepl("^its values are scaled: each cell times 0.1, plus 0", refusal(counts(file("scaled.tif")))$text))
+writeRaster(first * 1e9 * 2, file("wide.tif"), datatype = "INT4U")
+expect_inherits(refusal(counts(file("wide.tif"))), "rcell_bad_map")
+writeRaster(classify(first, cbind(NA, -2147483648)), file("least.tif"), datatype = "INT4S", NAflag = 0)
+expect_inherits(refusal(counts(file("least.tif"))), "rcell_bad_map")
+
+# The cell that is wrong may be in a later block.
+late <- many
+late[1090, 17] <- 0.5
+expect_identical(refusal(counts(late))[c("row", "column")], list(row = 1090L, column = 17L))
+
+# Floats of 32 bits beyond 2^24 are taken, and warned of.
+writeRaster(first + 16777216, file("float.tif"), datatype = "FLT4S")
+expect_warning(counts(file("float.tif")), "not exact beyond 16777216")
+writeRaster(first, file("float.tif"), datatype = "FLT4S", overwrite = TRUE)
+expect_silent(counts(file("float.tif")))
+
+# Layers, no values, a file that is none, a part of a file that is missing.
+expect_identical(refusal(counts(c(first, first)))$text, "has 2 layers: give one, as x[[1]]")
+expect_identical(refusal(counts(rast(first)))$text, "a raster without values")
+expect_inherits(refusal(counts(file("nowhere.tif"))), "rcell_read_failed")
+expect_identical(refusal(counts(file("nowhere.tif")))$status, 4L)
+writeLines("nothing", file("text.tif"))
+expect_inherits(refusal(counts(file("text.tif"))), "rcell_read_failed")
+writeRaster(made_map(300, 300, 200), file("whole.tif"), datatype = "INT4S", gdal = "COMPRESS=NONE")
+bytes <- readBin(file("whole.tif"), "raw", 1e6)
+writeBin(bytes[seq_len(length(bytes) %/% 2)], file("half.tif"))
+expect_inherits(refusal(suppressWarnings(counts(file("half.tif")))), "rcell_read_failed")
+
+# A rotated raster of a file.
+writeLines(c("<VRTDataset rasterXSize=\"5\" rasterYSize=\"4\"><GeoTransform>5, 1, 0.5, 9, 0.5, -1</GeoTransform>",
+  "<VRTRasterBand dataType=\"Int32\" band=\"1\"><SimpleSource><SourceFilename relativeToVRT=\"1\">a b.tif</SourceFilename>",
+  "<SourceBand>1</SourceBand></SimpleSource></VRTRasterBand></VRTDataset>"), file("turned.vrt"))
+expect_true(grepl("^a rotated transform", refusal(counts(file("turned.vrt")))$text))
+
+# Edges are compared as texts of eight decimals.
+moved <- function(by) rast(matrix(1, 2, 2), extent = ext(8 + 1 / 3 + by, 9 + by, 47, 48), crs = "EPSG:4326")
+expect_identical(nrow(rcell_table("r.stats -c input=a,b", a = moved(0), b = moved(3e-9))), 1L)
+shifted <- refusal(rcell_table("r.stats -c input=a,b", a = moved(0), b = moved(7e-8)))
+expect_inherits(shifted, "rcell_other_region")
+expect_true(grepl("b: north 48, south 47, east 9.00000007, west 8.3333334", shifted$text))
+expect_true(grepl("east is 9.00000007, not 9 (0.00000007 more)", shifted$text, fixed = TRUE))
+thirds <- rast(nrows = 60, ncols = 60, xmin = 1 / 3, xmax = 1 / 3 + 0.5, ymin = -0.5, ymax = 0, vals = 1)
+expect_identical(ext(rcell_grid("", "x", x = thirds)), ext(thirds))
+expect_identical(counts(rast(matrix(1), extent = ext(500000, 600000, 5e6, 6e6)))$cells, 1L)
+expect_true(grepl("^an edge of more", refusal(counts(rast(matrix(1), extent = ext(0, 1e10, 0, 1), crs = "EPSG:32632")))$text))
+expect_true(grepl("^east is not above west", refusal(counts(rast(matrix(1), extent = ext(0, 1e-9, 0, 1), crs = "EPSG:32632")))$text))
+expect_inherits(refusal(counts(rast(nrows = 1, ncols = 65536, vals = 1))), "rcell_bad_map")
+
+# A grid of the program's own form goes to it as it is.
+writeLines(c("north: 3", "south: 0", "east: 2.000000001", "west: 0", "rows: 1", "cols: 2", "1 *"), file("bad.txt"))
+expect_identical(refusal(counts(file("bad.txt")))[c("source", "line", "text")], list(source = "x", line = 3L, text = "bad number"))
+writeLines(c("north: 3", "south: 0", "east: 2", "west: 0", "rows: 1", "cols: 2", "1 *"), file("good.txt"))
+expect_identical(counts(file("good.txt")), data.frame(x = c(1L, NA), cells = c(1L, 1L)))
+expect_identical(rcell_patches(file("good.txt"))$class, 1L)
+expect_identical(as.vector(ext(rcell_grid("", "x", x = file("good.txt")))), c(xmin = 0, xmax = 2, ymin = 0, ymax = 3))
+expect_identical(refusal(rcell_table("r.stats input=x,y", x = file("good.txt"), y = matrix(1, 1, 2)))$name, "y")
+
+unlink(room, recursive = TRUE)
+expect_identical(leftovers(), character())

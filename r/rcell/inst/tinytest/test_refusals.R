@@ -1,0 +1,42 @@
+source("helpers.R")
+
+lc <- made_map(3, 4, 3)
+
+# The words of the program, with the caller's own line and a mark beneath it.
+found <- refusal(rcell_run("# a note\nr.stats -c input=lc\nr.mapcalc x = lc + 1.5\nr.out.ascii input=x", lc = lc))
+expect_identical(class(found), c("rcell_refused", "rcell_error", "error", "condition"))
+expect_identical(found[c("source", "line", "column", "text", "status")],
+  list(source = "script", line = 3L, column = 20L, text = "number not whole at column 20", status = 1L))
+expect_identical(conditionMessage(found),
+  "script, line 3: number not whole at column 20\n  r.mapcalc x = lc + 1.5\n                     ^")
+expect_identical(refusal(rcell_run("r.stats -c input=lc\nr.stats -c input=lend\nr.stats input=lc", lc = lc))$line, 2L)
+expect_identical(refusal(rcell_run("r.stats -q input=lc", lc = lc))$text, "bad option")
+tabs <- refusal(rcell_run("r.mapcalc\tx = \u00fc", lc = lc))
+expect_identical(tabs$column, 15L)
+expect_true(endsWith(conditionMessage(tabs), "\n           \t    ^"))
+
+# A script that ends within rules, also where marks and wanted maps are added.
+expect_identical(refusal(rcell_run("r.stats input=lc\nr.reclass input=lc output=k\n1 = 1", lc = lc))[c("line", "text")],
+  list(line = 2L, text = "missing end"))
+expect_identical(refusal(rcell_grid("r.reclass input=lc output=k\n1 = 1", "k", lc = lc))$text, "missing end")
+expect_identical(refusal(rcell_run("r.reclass input=lc output=k\n1 = 1\nr.stats input=k", lc = lc))$line, 3L)
+
+# Names of maps.
+expect_identical(refusal(rcell_run("r.stats input=lc"))$status, 2L)
+expect_identical(refusal(rcell_run("r.stats input=lc", lc))$status, 2L)
+expect_identical(refusal(rcell_run("r.stats input=lc", lc = lc, maps = list(lc = lc)))$text, "the map lc is given twice")
+expect_identical(refusal(rcell_grid("", "lend", lc = lc))$text, "no map lend: there are lc")
+expect_identical(refusal(rcell_run("r.stats input=lc", maps = list("land-use" = lc)))$source, "arguments")
+expect_identical(refusal(rcell_run(NA, lc = lc))$text, "the script is no text")
+expect_true(grepl("^neither a path nor a SpatRaster", refusal(rcell_run("", lc = 1:3))$text))
+expect_identical(refusal(rcell_areas(lc, 6))$text, "directions= is 4 or 8")
+
+# Marks may not make a script too long without a word.
+long <- paste(c(rep("r.stats input=lc", 2), rep(paste0("#", strrep("x", 60000)), 17), "#", strrep("#", 28500)), collapse = "\n")
+expect_inherits(refusal(rcell_run(long, lc = lc)), "rcell_refused")
+expect_identical(leftovers(), character())
+
+# R completes names of arguments: a map may be called `s` or `n`, and a script is never given by name.
+expect_identical(rcell_table("r.stats -c input=s,n", s = lc, n = lc)$s, rcell_table("r.stats -c input=lc", lc = lc)$lc)
+expect_identical(as_rows(rcell_grid("", "n", n = lc)), as_rows(lc))
+expect_true(grepl("^the script comes first", refusal(rcell_run(script = "r.stats input=lc", lc = lc))$text))

@@ -1,0 +1,60 @@
+source("helpers.R")
+
+lc <- rast(matrix(c(1, 1, 2, NA, 1, 2, 2, 2, 3, 3, 1, 1), 3, byrow = TRUE), extent = ext(0, 40, 0, 30), crs = "EPSG:32632")
+zone <- rast(matrix(c(7, 7, 8, 8, 7, 7, 8, 8, NA, 7, 8, 8), 3, byrow = TRUE), extent = ext(0, 40, 0, 30), crs = "EPSG:32632")
+
+# Counts, areas, percentages.
+found <- rcell_table("r.stats -c input=lc", lc = lc)
+expect_identical(found, data.frame(lc = c(1L, 2L, 3L, NA), cells = c(5L, 4L, 2L, 1L)))
+expect_identical(rcell_table("r.stats -c -n input=lc", lc = lc, area = "m2")$m2, c(500, 400, 200))
+expect_identical(rcell_table("r.stats -c -n input=lc", lc = lc, area = "ha")$ha, c(5, 4, 2) / 100)
+expect_equal(rcell_table("r.stats -c input=lc", lc = lc, percent = TRUE)$percent, 100 * c(5, 4, 2, 1) / 12)
+expect_identical(names(rcell_table("r.stats -c input=lc,lc", lc = lc)), c("lc", "lc_2", "cells"))
+expect_identical(rcell_table("r.stats input=lc", maps = list(lc = lc)), data.frame(lc = c(1L, 2L, 3L, NA)))
+
+# The matrix of two maps.
+wide <- rcell_table("r.stats -c -n input=lc,zone", lc = lc, zone = zone, wide = TRUE)
+expect_identical(wide, matrix(c(3L, 1L, 1L, 2L, 3L, 0L), 3, dimnames = list(lc = c("1", "2", "3"), zone = c("7", "8"))))
+expect_identical(dim(rcell_table("r.stats -c input=lc,zone", lc = lc, zone = zone, wide = TRUE)), c(4L, 3L))
+expect_identical(rcell_table("r.stats -c -n input=lc,zone", lc = lc, zone = zone, area = "m2", wide = TRUE), wide * 100)
+
+# A table of one row, of no row, and of nulls alone.
+one <- rast(matrix(5), extent = ext(0, 1, 0, 1), crs = "EPSG:32632")
+expect_identical(rcell_table("r.stats -c input=one", one = one), data.frame(one = 5L, cells = 1L))
+nothing <- rast(matrix(NA_real_, 1, 3))
+expect_identical(rcell_table("r.stats -c input=x", x = matrix(NA_real_, 1, 3)), data.frame(x = NA_integer_, cells = 3L))
+expect_identical(nrow(rcell_table("r.stats -cn input=x", x = matrix(NA_real_, 1, 3))), 0L)
+expect_identical(rcell_run("r.stats -cn input=x\nr.stats -c input=x", x = matrix(NA_real_, 1, 3))[[2]]$cells, 3L)
+
+# Several outputs are parted, and named by their maps; several tables are a list.
+outputs <- rcell_run("r.stats -c input=lc\nr.out.ascii input=lc\nr.stats -1 input=zone\nr.stats -cn input=lc,zone", lc = lc, zone = zone)
+expect_identical(names(outputs), c("lc", "lc", "zone", "lc,zone"))
+expect_identical(outputs[[1]], found)
+expect_identical(values(outputs[[2]], mat = FALSE), values(lc, mat = FALSE))
+expect_identical(outputs[[3]]$zone, as.integer(values(zone, mat = FALSE)))
+expect_identical(sum(outputs[[4]]$cells), 10L)
+expect_identical(length(rcell_table("r.stats -c input=lc\nr.stats -c input=zone", lc = lc, zone = zone)), 2L)
+expect_identical(rcell_run("r.mapcalc x = lc", lc = lc), structure(list(), names = character()))
+
+# Labels are joined by the category: those of the raster (terra takes a label `NA` for none), and those of the rules.
+odd <- c("wood, wet", "a b  c", "tab\there", "pipe|", "quote\"", "#no", "Wiese \u00fc", "n/a", "*", "null", "back\\slash", "'", " in front")
+labelled <- rast(matrix(seq_along(odd), 1), extent = ext(0, 13, 0, 1), crs = "EPSG:32632")
+levels(labelled) <- data.frame(value = seq_along(odd), cover = odd)
+expect_identical(rcell_table("r.stats -cl input=x", x = labelled)$x_label, odd)
+rules <- "r.reclass input=lc output=kind\n1 2 = 1 built \u00fcp, mostly\n3 = 2 water\n* = 3\nend\nr.stats -cl input=kind"
+expect_identical(rcell_table(rules, lc = lc)$kind_label, c("built \u00fcp, mostly", "water", NA))
+expect_identical(rcell_table("r.reclass input=lc output=k\n1 = 1 NA\n2 = 2   in # front \n3 = 3 *\nend\nr.stats -cnl input=k", lc = lc)$k_label,
+  c("NA", "in # front", "*"))
+expect_identical(rownames(rcell_table("r.stats -cnl input=lc,zone", lc = rcell_grid(sub("r.stats.*", "", rules), "kind", lc = lc),
+  zone = zone, wide = TRUE)), c("built \u00fcp, mostly", "water"))
+
+# What can't be answered.
+expect_identical(refusal(rcell_table("r.stats input=lc", lc = lc, area = "ha"))$text, "area= needs a table with cells: r.stats -c")
+expect_identical(refusal(rcell_table("r.stats -c input=lc", lc = lc, area = "acre"))$text, "area= is one of m2, ha, km2, and not acre")
+expect_identical(refusal(rcell_table("r.stats -c input=lc", lc = lc, wide = TRUE))$line, 1L)
+expect_inherits(refusal(rcell_table("r.out.ascii input=lc", lc = lc)), "rcell_refused")
+degrees <- rast(nrows = 2, ncols = 2, vals = 1)
+expect_true(grepl("in degrees", refusal(rcell_table("r.stats -c input=x", x = degrees, area = "ha"))$text))
+feet <- rast(nrows = 1, ncols = 1, xmin = 0, xmax = 100, ymin = 0, ymax = 100, crs = "EPSG:2263", vals = 1)
+expect_equal(rcell_table("r.stats -c input=x", x = feet, area = "m2")$m2, (100 * 1200 / 3937)^2, tolerance = 1e-9)
+expect_identical(leftovers(), character())

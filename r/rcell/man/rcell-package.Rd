@@ -1,0 +1,53 @@
+\name{rcell-package}
+\alias{rcell-package}
+\alias{rcell}
+\docType{package}
+\title{Tables, Patches and Overlays of Land Cover by the Proved Program rcell}
+\description{
+Counts, cross tables, connected areas with sizes and perimeters, adjacency matrices, reclassifications and map algebra of rasters
+of whole numbers. Rasters of \pkg{terra} go in; data frames and rasters of \pkg{terra} come out; every number is counted by the
+program rcell, which is proved from the bytes of its input to the bytes of its output. What the package adds is tested and not
+proved: that a raster becomes the text of the same cells, that numbers are read back as they were written, and that labels, areas
+and percentages are joined to the right rows.
+}
+\section{Maps}{
+A map is given by its name. It is one of:
+\itemize{
+\item a \code{SpatRaster} of one layer, in memory or of a file;
+\item a path, URL or \code{/vsi..} path of anything that terra opens;
+\item a path of a grid of the program's own form, which goes to the program as it is;
+\item a matrix of numbers: cells of side 1, the bottom left corner at 0, 0, no reference system.
+}
+Cells are whole numbers to 2147483647 either way; \code{NA} and \code{NaN} are null. Floats are taken where they are whole
+numbers. All maps of a call have the region of the first: the same four edges to 8 decimals, and the same rows and columns. Nothing
+is resampled. Labels are those that \code{levels()} gives for a raster, or those of the r.reclass that made the map; they are joined
+by category.
+}
+\section{Conditions}{
+All errors are of the class \code{rcell_error}, and of one of these:
+\tabular{ll}{
+\code{rcell_refused} \tab the program or the package refuses a script, a map or a request; fields \code{source} (the name of a map,
+\code{"script"}, \code{"arguments"} or \code{"output"}), \code{line} (0 for none), \code{column} (in bytes, or \code{NA}),
+\code{text}, \code{status}, \code{content} (the line of the script) \cr
+\code{rcell_bad_map} \tab a map is not one of whole numbers, is rotated, has several layers; fields \code{name}, \code{row},
+\code{column}, \code{value}; also \code{rcell_refused} \cr
+\code{rcell_other_region} \tab a map has not the region of the first; also \code{rcell_bad_map} \cr
+\code{rcell_read_failed} \tab a file cannot be opened, or a part of it is broken; also \code{rcell_bad_map} \cr
+\code{rcell_out_of_memory} \tab the program had no memory; also \code{rcell_refused} \cr
+\code{rcell_killed} \tab the program was ended by a signal (field \code{signal}) \cr
+\code{rcell_missing}, \code{rcell_wrong_program} \tab there is no program, or one that this package does not know \cr
+\code{rcell_write_failed} \tab a file could not be written (field \code{path}); nothing of it is left \cr
+}
+An interrupt ends the program and is passed on. No call leaves a process or a temporary file behind, whatever happens; only where
+R itself is killed, its temporary folder stays, and the program runs to its end.
+}
+\seealso{
+\code{\link{rcell_table}}, \code{\link{rcell_run}}, \code{\link{rcell_grid}}, \code{\link{rcell_areas}}, \code{\link{rcell_patches}},
+\code{\link{rcell_adjacency}}, \code{\link{rcell_crosstab}}, \code{\link{rcell_program}}
+}
+\examples{
+lc <- matrix(c(1, 1, 2, 3, 2, 2), 2, byrow = TRUE)
+tryCatch(rcell_run("r.mapcalc half = lc * 0.5", lc = lc),
+  rcell_refused = function(e) message(conditionMessage(e)))
+}
+\keyword{package}

@@ -1,0 +1,28 @@
+\name{rcell_run}
+\alias{rcell_run}
+\title{Run a Script over Maps}
+\description{Runs a script of the program over maps of one region, and answers all that it writes.}
+\usage{
+rcell_run(.script, ..., maps = list(), program = NULL)
+}
+\arguments{
+\item{.script}{the lines of the script, as one text or a vector of lines. It comes first and is given without a name.}
+\item{...}{maps by name, as \code{lc = "landcover.tif"}; see \code{\link{rcell-package}}.}
+\item{maps}{maps by name in a list, for names that are arguments of this function.}
+\item{program}{the path of the program; see \code{\link{rcell_program}}.}
+}
+\details{
+The lines are those of the program: \code{r.mapcalc}, \code{r.reclass}, \code{r.clump}, \code{r.stats} and \code{r.out.ascii}, after
+the modules of GRASS of these names. The script goes to the program as it is, except that a line of r.stats or r.out.ascii is asked
+for plain numbers, and that a line which ends an output is added after each; a refusal names the line of your script.
+}
+\value{
+A list of the outputs in order, named by their maps: a data frame for each r.stats and a \code{SpatRaster} for each r.out.ascii. A data
+frame has a column of integers for each map, \code{NAME_label} after it with the flag \code{-l}, and \code{cells} with \code{-c}; null
+is \code{NA}. A name that occurs already has \code{_2} after it. Counts are integers; a sum of them may need \code{as.numeric}.
+}
+\examples{
+lc <- matrix(c(1, 1, 2, 3, 2, 2), 2, byrow = TRUE)
+rcell_run("r.clump input=lc output=areas
+           r.stats -c input=areas,lc", lc = lc)
+}

@@ -1,0 +1,29 @@
+\name{rcell_table}
+\alias{rcell_table}
+\title{The Table of a Script}
+\description{Runs a script, and answers its table with labels, areas or percentages, or as a matrix.}
+\usage{
+rcell_table(.script, ..., area = NULL, percent = FALSE, wide = FALSE,
+            maps = list(), program = NULL)
+}
+\arguments{
+\item{.script}{a line \code{r.stats ..}, or a script that has one or more of them.}
+\item{...}{maps by name, as \code{lc = "landcover.tif"}; see \code{\link{rcell-package}}.}
+\item{area}{\code{"m2"}, \code{"ha"} or \code{"km2"}: adds a column of areas with this name, the number of cells times the size of a
+cell in the unit of the reference system. A map in degrees is refused: there the area of a cell differs from row to row. One without
+a reference system is taken to be in metres.}
+\item{percent}{adds a column of percentages of all cells of the table.}
+\item{wide}{answers a table of two maps as a matrix: of percentages or areas where these are asked for, else of cells.}
+\item{maps, program}{as in \code{\link{rcell_run}}.}
+}
+\value{
+A data frame as in \code{\link{rcell_run}}, with the columns asked for; where the script has several r.stats, a list of them. With
+\code{wide = TRUE} a matrix whose rows are the categories of the first map and whose columns are those of the second: labels with
+\code{-l}, \code{NA} for null.
+}
+\examples{
+lc <- matrix(c(1, 1, 2, 3, 2, 2), 2, byrow = TRUE)
+zone <- matrix(c(7, 7, 8, 7, 8, 8), 2, byrow = TRUE)
+rcell_table("r.stats -c input=lc", lc = lc, percent = TRUE)
+rcell_table("r.stats -c input=lc,zone", lc = lc, zone = zone, wide = TRUE)
+}
