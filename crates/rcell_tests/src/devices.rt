@@ -42,6 +42,18 @@ enum Then<'a> {
     Turns([u8; 2]),
 }
 
+// Fills the bytes with two by turns, and tells whether the second is next.
+fn fill_by_turns(buf: &mut [u8], turns: [u8; 2], is_second: bool) -> bool
+    ensures { length buf.new ≡ length buf.old }
+{
+    let mut is_second = is_second;
+    for byte in buf.iter_mut() {
+        *byte = if is_second { turns[1] } else { turns[0] };
+        is_second = !is_second;
+    }
+    is_second
+}
+
 // A source of some bytes of which nothing is known.
 #[derive(Drop)]
 struct Unknown<'a> {
@@ -87,10 +99,7 @@ impl<'a> Unknown<'a> {
                 Err(DeviceFault)
             }
             Then::Turns(turns) => {
-                for byte in buf.iter_mut() {
-                    *byte = if self.is_second { turns[1] } else { turns[0] };
-                    self.is_second = !self.is_second;
-                }
+                self.is_second = fill_by_turns(buf, turns, self.is_second);
                 Ok(buf.len())
             }
         }
@@ -408,34 +417,37 @@ const BAD_CELL: &[(&[u8], &[u8])] = &[(
     b"north: 1\nsouth: 0\neast: 1\nwest: 0\nrows: 1\ncols: 1\nx\n",
 )];
 
-// A sink is not called where the grids or the script are refused, whether or not its flush would fail.
+// The run is refused with a status, and its sink is not called, whether or not its flush would fail.
+fn expect_no_call<'a, R: Abort + AllocGlobal>(
+    rt: &R,
+    grids: &[(&'a [u8], &'a [u8])],
+    then: Then<'a>,
+    script: &'a [u8],
+    script_then: Then<'a>,
+    status: u8,
+) -> Result<(), Fail> {
+    for flush_fails in [false, true] {
+        let mut out = Counting::new(200, flush_fails);
+        let script = Unknown::new(script, script_then);
+        let outcome = run_grids(rt.alloc(), script, grids, then, &mut out)?;
+        assert_eq!(rt; (outcome.status, outcome.written), (status, 0));
+        assert_eq!(rt; (out.room, out.refused, out.flushes), (200, false, 0));
+    }
+    Ok(())
+}
+
+const UNKNOWN_MAP: &[u8] = b"r.stats -c input=g\nr.stats -c input=h\n";
+
 #[test]
 fn what_is_refused_is_not_flushed(rt: HostRuntime) -> Result<(), Fail> {
     let long = vec![in rt.alloc(); b'#'; MOST_BYTES + 1]?;
-    for (grids, then, script, script_then, status) in [
-        (BAD_CELL, Then::Ends, SCRIPT, Then::Ends, 1),
-        (OTHER_REGIONS, Then::Ends, SCRIPT, Then::Ends, 1),
-        (SAME_NAMES, Then::Ends, SCRIPT, Then::Ends, 1),
-        (ONE_GRID, Then::Fails, SCRIPT, Then::Ends, 4),
-        (ONE_GRID, Then::Ends, SCRIPT, Then::Fails, 4),
-        (ONE_GRID, Then::Ends, long.as_slice(), Then::Ends, 1),
-        (
-            ONE_GRID,
-            Then::Ends,
-            b"r.stats -c input=g\nr.stats -c input=h\n",
-            Then::Ends,
-            1,
-        ),
-    ] {
-        for flush_fails in [false, true] {
-            let mut out = Counting::new(200, flush_fails);
-            let script = Unknown::new(script, script_then);
-            let outcome = run_grids(rt.alloc(), script, grids, then, &mut out)?;
-            assert_eq!(rt; (outcome.status, outcome.written), (status, 0));
-            assert_eq!(rt; (out.room, out.refused, out.flushes), (200, false, 0));
-        }
-    }
-    Ok(())
+    expect_no_call(&rt, BAD_CELL, Then::Ends, SCRIPT, Then::Ends, 1)?;
+    expect_no_call(&rt, OTHER_REGIONS, Then::Ends, SCRIPT, Then::Ends, 1)?;
+    expect_no_call(&rt, SAME_NAMES, Then::Ends, SCRIPT, Then::Ends, 1)?;
+    expect_no_call(&rt, ONE_GRID, Then::Fails, SCRIPT, Then::Ends, 4)?;
+    expect_no_call(&rt, ONE_GRID, Then::Ends, SCRIPT, Then::Fails, 4)?;
+    expect_no_call(&rt, ONE_GRID, Then::Ends, long.as_slice(), Then::Ends, 1)?;
+    expect_no_call(&rt, ONE_GRID, Then::Ends, UNKNOWN_MAP, Then::Ends, 1)
 }
 
 fn counted<R: AllocGlobal>(rt: &R, flush_fails: bool) -> Result<(Outcome, u32), Fail> {
