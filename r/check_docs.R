@@ -9,7 +9,7 @@ writes <- "--write" %in% arguments
 lines <- readLines(document, encoding = "UTF-8")
 room <- tempfile("docs")
 dir.create(room)
-file.copy(list.files("examples/rasters", full.names = TRUE), room)
+copied <- file.copy(list.files("examples/rasters", full.names = TRUE), room)
 setwd(room)
 options(width = 110L, digits = 7L)
 Sys.setenv(LANGUAGE = "en")

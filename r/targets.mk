@@ -12,4 +12,4 @@ r: static
 
 r-speed: bin/rcell
 	@sh tools/debian.sh $(R_PACKAGES)
-	RCELL=$(CURDIR)/bin/rcell Rscript bench/r.R $(SHORT)
+	@room=$$(mktemp -d) && R CMD INSTALL --library=$$room r/rcell > $$room/log 2>&1 && R_LIBS=$$room RCELL=$(CURDIR)/bin/rcell Rscript bench/r.R $(SHORT); status=$$?; rm -rf "$$room"; exit $$status

@@ -44,7 +44,7 @@ expect_inherits(refusal(rcell_run("r.stats input=lc", lc = lc, program = memory)
 slow <- script("slow", c(good, sprintf("echo $$ > '%s'; exec sleep 60", file.path(room, "pid"))))
 run <- function(lines, env = character()) {
   file <- file.path(room, "run.R")
-  writeLines(lines, file)
+  writeLines(c(paste(".libPaths(", paste(deparse(.libPaths()), collapse = ""), ")"), lines), file)
   processx::process$new(file.path(R.home("bin"), "Rscript"), file, env = c("current", env), stdout = "|", stderr = "2>&1")
 }
 asked <- run(c("suppressMessages(library(rcell))", sprintf("answer <- tryCatch(rcell_run('r.stats input=x', x = matrix(1), program = '%s'),", slow),

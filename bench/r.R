@@ -1,0 +1,127 @@
+# Times the package for R beside terra, and beside other ways of writing and reading cells: nanoseconds of the processor (user and
+# system, children too) a cell, by turns in one run, the least of the rounds.
+#
+#     RCELL=bin/rcell Rscript bench/r.R [--short]        maps of 2000 x 2000 cells, or of 300 x 300
+#
+# The package rcell must be installed, and the reference for all ratios is what stands in the same line.
+
+suppressMessages({
+  library(terra)
+  library(rcell)
+  library(data.table)
+})
+terraOptions(progress = 0)
+setDTthreads(1)
+SHORT <- "--short" %in% commandArgs(TRUE)
+SIDE <- if (SHORT) 300L else 2000L
+# terra's time for patches of noise grows with the square of the cells.
+SMALL <- 200L
+ROUNDS <- if (SHORT) 3L else 2L
+CLASSES <- 15L
+room <- tempfile("bench")
+dir.create(room)
+
+spent <- function() sum(proc.time()[c(1, 2, 4, 5)])
+
+# Runs each way in turn, and answers the least nanoseconds a cell of each.
+by_turns <- function(ways, cells) {
+  least <- rep(Inf, length(ways))
+  for (round in seq_len(ROUNDS)) for (place in seq_along(ways)) {
+    before <- spent()
+    ways[[place]]()
+    least[[place]] <- min(least[[place]], (spent() - before) / cells * 1e9)
+  }
+  names(least) <- names(ways)
+  least
+}
+
+show <- function(title, least) {
+  cat(sprintf("| %s | %s |\n", title, paste(sprintf("%s %.0f", names(least), least), collapse = " | ")))
+}
+
+# Patches as smooth as land cover, or noise; 3 cells of 100 are null.
+made <- function(side, is_patchy, classes = CLASSES) {
+  set.seed(1)
+  block <- if (is_patchy) 12L else 1L
+  few <- (side - 1L) %/% block + 1L
+  cells <- matrix(sample.int(classes, few * few, TRUE), few)
+  at <- (seq_len(side) - 1L) %/% block + 1L
+  cells <- cells[at, at]
+  cells[sample.int(side * side, side * side %/% 33L)] <- NA
+  map <- rast(nrows = side, ncols = side, xmin = 500000, xmax = 500000 + 30 * side, ymin = 5400000, ymax = 5400000 + 30 * side,
+    crs = "EPSG:32632")
+  values(map) <- as.vector(cells)
+  path <- file.path(room, sprintf("%s%d.tif", if (is_patchy) "patchy" else "noise", side))
+  writeRaster(map, path, datatype = "INT2S", overwrite = TRUE)
+  path
+}
+
+# Cells out and back, without the program.
+texts <- function() {
+  cat("\n| Cells, digits | ns a cell | | |\n|---|---|---|---|\n")
+  for (digits in c(1L, 3L, 6L)) {
+    set.seed(digits)
+    cells <- sample.int(10L^digits - 1L, SIDE * SIDE, TRUE)
+    file <- file.path(room, "cells")
+    raster <- rast(nrows = SIDE, ncols = SIDE, xmin = 0, xmax = SIDE, ymin = 0, ymax = SIDE, crs = "")
+    values(raster) <- cells
+    show(sprintf("out, %d", digits), by_turns(list(
+      "fwrite of one column" = function() fwrite(list(cells), file, eol = " ", na = "*", col.names = FALSE, quote = FALSE),
+      "write.table" = function() write.table(matrix(cells, SIDE, byrow = TRUE), file, col.names = FALSE, row.names = FALSE),
+      "AAIGrid of terra" = function() writeRaster(raster, paste0(file, ".asc"), datatype = "INT4S", overwrite = TRUE)), SIDE^2))
+    fwrite(list(cells), file, col.names = FALSE)
+    show(sprintf("back, %d", digits), by_turns(list(
+      "fread" = function() fread(file = file, header = FALSE, sep = "\n", colClasses = "integer")[[1]],
+      "scan" = function() scan(file, 0L, quiet = TRUE)), SIDE^2))
+  }
+}
+
+adjacency_by_table <- function(map) {
+  cells <- matrix(values(map, mat = FALSE), nrow(map), byrow = TRUE)
+  across <- table(cells[, -ncol(cells)], cells[, -1])
+  down <- table(cells[-nrow(cells), ], cells[-1, ])
+  across + t(across) + down + t(down)
+}
+
+pair <- function(terras, ours, cells) by_turns(list(terra = terras, rcell = ours), cells)
+
+calls <- function(path, other) {
+  cells <- SIDE^2
+  nine <- "r.mapcalc m = nmode(x[-1,-1],x[-1,0],x[-1,1],x[0,-1],x,x[0,1],x[1,-1],x[1,0],x[1,1])"
+  rules <- c("r.reclass input=x output=k", sprintf("%d = %d", seq_len(CLASSES), seq_len(CLASSES) %/% 4L), "end")
+  from_to <- cbind(seq_len(CLASSES), seq_len(CLASSES) %/% 4L)
+  show("counts (freq)", pair(function() freq(rast(path)), function() rcell_table("r.stats -c input=x", x = path), cells))
+  show("new classes (classify)", pair(function() classify(rast(path), from_to), function() rcell_grid(rules, "k", x = path), cells))
+  show("majority of nine (focal, modal)", pair(function() focal(rast(path), 3, "modal", na.rm = TRUE), function() rcell_grid(nine, "m", x = path), cells))
+  show("cross table (crosstab)", pair(function() crosstab(c(rast(path), rast(other)), long = TRUE), function() rcell_crosstab(path, other), cells))
+  show("adjacency (table of shifted matrices)", pair(function() adjacency_by_table(rast(path)), function() rcell_adjacency(path), cells))
+}
+
+patchy_calls <- function(path) {
+  cells <- SIDE^2
+  show("areas of one class (patches)", pair(function() patches(rast(path) == 3, directions = 8, zeroAsNA = TRUE),
+    function() rcell_areas(path, 8, classes = 3), cells))
+  show("sizes of one class; of all classes with perimeters", pair(function() freq(patches(rast(path) == 3, directions = 8, zeroAsNA = TRUE)),
+    function() rcell_patches(path), cells))
+}
+
+small_calls <- function(path, kind) {
+  of_each <- function() lapply(seq_len(CLASSES), function(class) patches(rast(path) == class, directions = 4, zeroAsNA = TRUE))
+  perimeters <- function() perim(as.polygons(rcell_areas(path, 4)))
+  show(sprintf("areas of each class, %s (patches of each)", kind), pair(of_each, function() rcell_patches(path, 4), SMALL^2))
+  show(sprintf("perimeters, %s (as.polygons, perim)", kind), pair(perimeters, function() rcell_patches(path, 4), SMALL^2))
+}
+
+cat(sprintf("R %s, terra %s, data.table %s; %d x %d cells; ns a cell of the processor\n", getRversion(), packageVersion("terra"),
+  packageVersion("data.table"), SIDE, SIDE))
+patchy <- made(SIDE, TRUE)
+noise <- made(SIDE, FALSE)
+texts()
+for (kind in c("patchy", "noise")) {
+  cat(sprintf("\n| Call, %s | terra | rcell |\n|---|---|---|\n", kind))
+  path <- if (kind == "patchy") patchy else noise
+  calls(path, if (kind == "patchy") noise else patchy)
+  if (kind == "patchy") patchy_calls(path)
+  small_calls(made(SMALL, kind == "patchy"), kind)
+}
+unlink(room, recursive = TRUE)
