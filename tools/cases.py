@@ -63,6 +63,11 @@ def output_to(place):
     return open(place, "wb")
 
 
+def folders():
+    """The folders of cases: those of cases/, and those of examples/ that have the words of a run."""
+    return sorted(glob.glob(f"{ROOT}/cases/*") + [os.path.dirname(it) for it in glob.glob(f"{ROOT}/examples/*/args")])
+
+
 def words_of(case):
     return read(f"{case}/args").splitlines()
 
@@ -178,7 +183,7 @@ def main():
     with tempfile.TemporaryDirectory(prefix="rcell-cases-") as room:
         shim = f"{room}/refuse.so"
         build_shim(sys.argv[1], shim)
-        for case in sorted(glob.glob(f"{ROOT}/cases/*") + glob.glob(f"{ROOT}/examples/*")):
+        for case in folders():
             wrong, grown, cut = judge(case, room, shim)
             refusals = f", {grown} growths refused in turn" * bool(grown) + f", an output of {cut} sizes" * bool(cut)
             print(f"{case[len(ROOT) + 1 :]}: {'FAILED: ' + wrong if wrong else 'ok' + refusals}", flush=True)

@@ -13,7 +13,6 @@ a folder beside it. The last line is 'N runs, M differences'.
 """
 import argparse
 import collections
-import glob
 import os
 import random
 import shutil
@@ -48,7 +47,7 @@ def answer_to_case(case, room):
 def compare_cases():
     runs = differences = 0
     with tempfile.TemporaryDirectory(prefix="rcell-model-") as room:
-        for case in sorted(glob.glob(f"{ROOT}/cases/*") + glob.glob(f"{ROOT}/examples/*")):
+        for case in cases.folders():
             if os.path.exists(f"{case}/output"):
                 continue
             runs += 1

@@ -1,11 +1,11 @@
 """The cases of the repository as texts in memory, what the model answers to them, and a report of what passed."""
 from __future__ import annotations
 
-import glob
 import os
 from dataclasses import dataclass, replace
 
 import model
+from cases import folders
 from compare import ROOT, answer_of_model, answer_to_case, keep, read
 from made_cases import Made
 from model_grids import Failing, is_name
@@ -38,7 +38,7 @@ class Cases:
 def cases_of(room: str) -> Cases:
     cases = Cases({}, {})
     os.makedirs(room)
-    for case in sorted(glob.glob(f"{ROOT}/cases/*") + glob.glob(f"{ROOT}/examples/*")):
+    for case in folders():
         if os.path.exists(f"{case}/output"):
             continue
         expected, folder, name = answer_to_case(case, room), f"{room}/{os.path.basename(case)}", case[len(ROOT) + 1 :]
