@@ -9,7 +9,7 @@ from __future__ import annotations
 import os
 import re
 import sys
-from dataclasses import dataclass
+from dataclasses import dataclass, replace
 from typing import Optional
 
 from model_expressions import CalcRefused, Expression, Parser, Place
@@ -396,6 +396,7 @@ def run(grids: list[tuple[bytes, Given]], script: Given) -> Answer:
     """A run over named grid texts and a script."""
     maps: Maps = {}
     region = None
+    names = tuple(name for name, _ in grids)
     try:
         for name, text in grids:
             grid = read_map(name, text)
@@ -407,9 +408,9 @@ def run(grids: list[tuple[bytes, Given]], script: Given) -> Answer:
             maps[name] = grid
         statements = ScriptReader(read_script(script), list(maps)).read()
     except Refused as fault:
-        return fault.answer()
+        return replace(fault.answer(), grids=names)
     parts = tuple((line, statement.run(maps, region)) for line, statement in statements)
-    return Answer(0, b"".join(output for _, output in parts), b"", parts, tuple(name for name, _ in grids))
+    return Answer(0, b"".join(output for _, output in parts), b"", parts, names)
 
 
 def is_utf8(word: bytes) -> bool:

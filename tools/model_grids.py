@@ -28,7 +28,7 @@ class Answer:
     output: bytes
     told: bytes
     parts: tuple[tuple[int, bytes], ...] = field(default=(), compare=False)  # the output of each statement, by its line
-    grids: tuple[bytes, ...] = field(default=(), compare=False)  # the names of the grids that were read
+    grids: tuple[bytes, ...] = field(default=(), compare=False)  # the names of the grids that were given
 
 
 class Refused(Exception):
