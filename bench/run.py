@@ -346,12 +346,11 @@ def parts_of(text):
     return {title: rest for title, _, rest in (part.partition("\n") for part in text.split("\n## ")[1:])}
 
 
-def write(found, where):
+def write(found):
     """Puts the parts that were measured into the document, in place of the same parts there."""
     def with_parts(old):
         parts = parts_of(old) | found
-        figures = "".join(f"\n## {title}\n{parts[title].rstrip()}\n" for title in TITLES if title in parts)
-        return "\n" + where + figures + "\n"
+        return "".join(f"\n## {title}\n{parts[title].rstrip()}\n" for title in TITLES if title in parts) + "\n"
 
     put_between(MARKS, with_parts)
 
@@ -375,9 +374,9 @@ def main():
             print(line, flush=True)
             lines.append(line)
         if lines:
-            found[title] = "\n" + "\n".join(lines) + "\n"
+            found[title] = f"\n{where}\n" + "\n".join(lines) + "\n"
     if wanted.write:
-        write(found, where)
+        write(found)
 
 
 if __name__ == "__main__":

@@ -7,6 +7,9 @@ import re
 ROOM = 100  # characters of a line that are shown
 FILLED = re.compile(r"\{([a-z_]+)\}")
 INDENT = "    "
+MOST_NAMES = 400  # names of maps among which the nearest is looked for
+LONGEST_NAME = 64
+LONGEST_VALUE = 300  # characters of a word or line within a sentence
 
 
 class Fault:
@@ -32,7 +35,11 @@ def folder():
 
 
 def filled(text, values):
-    return FILLED.sub(lambda found: str(values.get(found[1], found[0])), text)
+    return FILLED.sub(lambda found: cut(str(values.get(found[1], found[0]))), text)
+
+
+def cut(text):
+    return text if len(text) <= LONGEST_VALUE else text[:LONGEST_VALUE] + ".."
 
 
 def unlinked(text):
@@ -57,6 +64,9 @@ class Messages:
                 return message["causes"]
         return []
 
+    def has(self, part, text, name):
+        return any(cause["name"] == name for cause in self.causes(part, text))
+
     def said(self, part, text, name, values):
         """What a cause says, filled in: the cause, and what to write instead."""
         cause = next(cause for cause in self.causes(part, text) if cause["name"] == name)
@@ -76,10 +86,17 @@ class Messages:
 # Names
 
 
+def near_name(name, known, cutoff=0.6):
+    """The known name that is most like this one, in a list, or none; of very many names some are looked at."""
+    names = list(known)
+    names = names if len(names) <= MOST_NAMES else names[: MOST_NAMES // 2] + names[-MOST_NAMES // 2 :]
+    return difflib.get_close_matches(name[:LONGEST_NAME], names, n=1, cutoff=cutoff)
+
+
 def nearest(name, known):
     """What is known here, the nearest name first."""
-    near = difflib.get_close_matches(name, known, n=1, cutoff=0.5)
-    names = [shown(it) for it in known if it not in near]
+    near = near_name(name, known, 0.5)
+    names = [shown(it) for it in list(known)[:MOST_NAMES] if it not in near]
     if near:
         return "did you mean `%s`?" % shown(near[0]) + (" Known are here, too: %s" % ", ".join(names[:12]) if names else "")
     return "known are here: %s" % (", ".join(names[:12]) if names else "no maps")

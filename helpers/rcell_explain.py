@@ -12,6 +12,7 @@ from rcell_script import Script, is_name
 MESSAGE = re.compile(r"rcell: ([A-Za-z0-9_.]+):([0-9]+): (.*)")
 COLUMN = re.compile(r" at column ([0-9]+)$")
 MOST_FAULTS = 200
+LONGEST_MENDED = 8000  # characters of a line that is shown as it is to be written
 MOST_COUNTED = 1 << 30  # bytes of a grid whose words are counted
 
 
@@ -152,7 +153,7 @@ class Explanation:
             self.say_known("grid", text, text, self.counted(grid, given))
             return
         found = cause_of(grid, line, text)
-        if found is None:
+        if found is None or not self.messages.has("grid", text, found[0]):
             if given.is_kept and given.line(line) is None and line:
                 self.say("grid %s came through a pipe and line %d was not kept: run it on a file" % (source, line))
             self.say_all("grid", text)
@@ -289,7 +290,7 @@ class Explanation:
         mended = [whole] if whole else mended_lines(script, line, faults)
         rules = next((fault.values["file"] for fault in faults if fault.cause == "rules"), None)
         mended += ["(the rules of %s)" % rules, "end"] if mended and rules is not None else []
-        if mended:
+        if mended and sum(map(len, mended)) <= LONGEST_MENDED:
             self.say("write:")
             for it in mended:
                 self.say("  " + shown(it))

@@ -2,15 +2,15 @@
 
     judge_assignment(script, number, line, begin)   tells the script the faults of a line, whose command ends at `begin`
 """
-import difflib
 import re
 from fractions import Fraction
 
-from rcell_advice import nearest, new_name, shown
+from rcell_advice import near_name, nearest, new_name, shown
 
 MOST_TOKENS = 1000
 GREATEST, GREATEST_OFFSET, LONGEST_NAME = 2147483647, 255, 64
 MOST_MENDINGS = 60
+MOST_OF_A_KIND = 20  # faults of one kind that are told of a line
 TOKEN = re.compile(r"[A-Za-z0-9_.]+|&&&|\|\|\||&&|\|\||<=|>=|==|!=|[-+*/%<>!?:()\[\],=]")
 LEVELS = (("||", "|||"), ("&&", "&&&"), ("==", "!="), ("<", "<=", ">", ">="), ("+", "-"), ("*", "/", "%"))
 # Functions: the least and the greatest number of arguments.
@@ -187,9 +187,10 @@ class Assignment:
     # What is no part of an expression
 
     def leave_out_options(self):
-        for found in list(OPTION.finditer(self.work, self.begin)):
+        for found in list(OPTION.finditer(self.work, self.begin))[:MOST_OF_A_KIND]:
             # Behind an operand it is read as two signs and a name.
-            is_read = re.search(r"=.*[\w.)\]][ \t]*$", self.work[self.begin : found.start()])
+            before = self.work[self.begin : found.start()].rstrip(" \t")
+            is_read = "=" in before and (before[-1].isalnum() or before[-1] in "_.)]")
             self.tell(found.start(), found.end(), "unknown map" if is_read else "unexpected token", "option", "")
             self.blank(found.start(), found.end())
             self.left_out += 3
@@ -201,7 +202,7 @@ class Assignment:
             self.blank(start, end)
 
     def leave_out_quotes(self):
-        while True:
+        for _ in range(MOST_OF_A_KIND):
             found = re.compile("[\"']").search(self.work, self.begin)
             comment = self.work.find("#", self.begin)
             if not found or 0 <= comment < found.start():
@@ -240,14 +241,17 @@ class Assignment:
     # Tokens
 
     def make_tokens(self):
-        at = self.begin
+        at, bad = self.begin, 0
         while at < len(self.work):
             if self.work[at] in " \t\r":
                 at += 1
                 continue
             found = TOKEN.match(self.work, at)
             if found is None:
-                at = self.bad_byte(at)
+                at, bad = self.bad_byte(at), bad + 1
+                if bad == MOST_OF_A_KIND:
+                    self.tokens = []
+                    return
                 continue
             if len(self.tokens) + self.left_out >= MOST_TOKENS:
                 self.tell(at, found.end(), "expression too long", "tokens")
@@ -463,7 +467,7 @@ class Assignment:
     def bad_function(self, at):
         token = self.tokens[at]
         lower = token.text.lower()
-        near = difflib.get_close_matches(lower, FUNCTIONS, n=1, cutoff=0.75)
+        near = near_name(lower, FUNCTIONS, 0.75)
         cause, fix, values = "unknown function", None, {}
         if lower in FUNCTIONS and lower != token.text:
             cause, fix, values = "case", lower, {"fixed": lower}
@@ -533,7 +537,7 @@ class Assignment:
             self.tell(token.start, token.end, "unknown map", "made later", None, name=shown(token.text),
                       later=script.made_at[token.text])
             return
-        near = difflib.get_close_matches(token.text, script.known, n=1, cutoff=0.6)
+        near = near_name(token.text, script.known)
         self.tell(token.start, token.end, "unknown map", "unknown map", near[0] if near else None, name=shown(token.text),
                   near=nearest(token.text, script.known))
 

@@ -5,6 +5,7 @@
     Diagnosis(grid, start, ..)       the cause of a refusal, with values for its advice
 """
 import re
+from decimal import Decimal, InvalidOperation
 
 from rcell_advice import shown
 
@@ -226,19 +227,23 @@ def bad_number(grid, line, text):
         return found("separators", value.replace(",", ""))
     if re.fullmatch(r"[+-]?[0-9]+,[0-9]*", value):
         return found("decimal comma", value.replace(",", "."))
-    if re.fullmatch(r"[+-]?[0-9.]+[eE][+-]?[0-9]{1,2}", value):
+    if re.fullmatch(r"[+-]?[0-9.]+[eE][+-]?[0-9]{1,2}", value) and plain(value) is not None:
         return found("exponent", plain(value))
-    if re.fullmatch(r"[+-]?[0-9]{0,10}\.[0-9]{9,}", value):
+    if re.fullmatch(r"[+-]?[0-9]{0,10}\.[0-9]{9,}", value) and plain(value) is not None:
         return found("decimals", plain(value))
     return found("digits") if re.fullmatch(r"[+-]?[0-9]{11,}(\.[0-9]*)?", value) else found("no number")
 
 
 def plain(value):
-    from decimal import Decimal
-    text = "%f" % Decimal(value) if abs(Decimal(value)) < 10**11 and len(value) < 40 else value
-    if "." in value or "e-" in value.lower():
-        text = format(round(Decimal(value), 8), "f")
-    return text.rstrip("0").rstrip(".") if "." in text else text
+    """A number with at most 8 decimals and no exponent; None where it is no edge."""
+    try:
+        exact = Decimal(value)
+    except InvalidOperation:
+        return None
+    if len(value) > 40 or not abs(exact) < 10**10:
+        return None
+    text = format(exact.quantize(Decimal("0.00000001")), "f")
+    return text.rstrip("0").rstrip(".")
 
 
 def bad_type(grid, line, text):

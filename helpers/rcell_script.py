@@ -4,15 +4,16 @@
 
 A line is kept as text of one character a byte, so that places in it are bytes.
 """
-import difflib
 import re
 
-from rcell_advice import Fault, nearest, new_name, shown
+from rcell_advice import Fault, near_name, nearest, new_name, shown
 from rcell_expression import judge_assignment
 from rcell_grids import kind_of
 
 LONGEST_SCRIPT, LONGEST_LINE = 1048576, 65535
 MOST_INPUTS = 16
+MOST_FAULTS = 500  # that are looked for
+LONGEST_RULE = 2000  # characters of a rule whose forms are tried
 GREATEST = 2147483647
 LONGEST_NAME = 64
 NAME = re.compile(r"[A-Za-z_][A-Za-z0-9_.]{0,63}")
@@ -149,7 +150,7 @@ class Script:
     # Lines
 
     def judge(self):
-        while self.at < len(self.lines):
+        while self.at < len(self.lines) and len(self.faults) < MOST_FAULTS:
             number, line = self.next_line()
             if not is_skipped(line):
                 self.judge_line(number, line)
@@ -192,7 +193,7 @@ class Script:
     def other_command(self, number, line, start, end, word):
         """Tells what a word is that is no command; answers the command that is meant, or None."""
         meant, cause, values, fix = None, None, {"word": shown(word)}, None
-        near = difflib.get_close_matches(word.lower(), COMMANDS, n=1, cutoff=0.8)
+        near = near_name(word.lower(), COMMANDS, 0.8)
         before = self.lines[number - 2].rstrip(" \t\r") if number > 1 else ""
         if word.startswith("\xef\xbb\xbf"):
             if word[3:] in COMMANDS:
@@ -367,6 +368,8 @@ def rule_cause(line, text):
     """Which cause a refused rule has, the mended rule or None, and values for the advice."""
     stripped = line.strip(" \t\r")
     left, equals, right = stripped.partition("=")
+    if len(stripped) > LONGEST_RULE:
+        return bad_rule_cause(left, equals, right) if text == "bad rule" else "no number", None, {}
     recode = re.fullmatch(r"([+-]?\d+):([+-]?\d+):([+-]?\d+)(:.*)?", stripped)
     if recode:
         return "recode", "%s thru %s = %s" % recode.groups()[:3], {}
@@ -591,7 +594,7 @@ class Options:
             return "bad option", "absent option", {"key": shown(key), "fixed": ABSENT[lower]}, ("", "")
         meant = ALIASES.get(lower, lower)
         near = [it for it in self.known.keys if it.startswith(meant)] if meant else []
-        near = near or difflib.get_close_matches(meant, self.known.keys, n=1, cutoff=0.7)
+        near = near or near_name(meant, self.known.keys, 0.7)
         if near:
             return "bad option", "short key", {"key": shown(key)}, (near[0], value)
         keys = "its keys are %s" % " ".join(it + "=" for it in self.known.keys)
@@ -661,7 +664,7 @@ class Options:
         if name in script.made_at and script.made_at[name] > self.number:
             self.tell(start, end, "unknown map", "made later", None, name=shown(name), later=script.made_at[name])
         else:
-            near = difflib.get_close_matches(name, script.known, n=1, cutoff=0.6)
+            near = near_name(name, script.known)
             self.tell(start, end, "unknown map", "unknown map", near[0] if near and at >= 0 else None, name=shown(name),
                       near=nearest(name, script.known))
 

@@ -44,6 +44,9 @@ python3 tools/stale_edits.py || { echo '0 passed, 1 failed'; exit 1; }
 # Nor may a document say what the sources do not: messages and numbers of lines, which need no proof.
 python3 tools/documents.py --texts || { echo '0 passed, 1 failed'; exit 1; }
 
+# The rules of the house: widths, names, limits.
+python3 tools/lint || { echo '0 passed, 1 failed'; exit 1; }
+
 { rt ci; echo $? > "$room/status"; } 2>&1 | tee "$room/proofs"
 if [ "$(cat "$room/status")" != 0 ]; then
     tail -1 "$room/proofs" | grep -qE '^[0-9]+ passed, [0-9]+ failed$' || echo '0 passed, 1 failed'

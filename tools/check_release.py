@@ -12,6 +12,7 @@ import filecmp
 import os
 import re
 import shutil
+import struct
 import subprocess
 import sys
 import tempfile
@@ -23,6 +24,7 @@ HELPERS = f"{ROOT}/tools/test_helpers.py"
 COUNTS = re.compile(r"^(\d+) passed, (\d+) failed$")
 PATH_WITHOUT_KIT = "/usr/bin:/bin"
 RUNS = "300"
+KIND_OF_INTERPRETER = 3  # PT_INTERP of an ELF file
 
 
 class Count:
@@ -55,6 +57,24 @@ def check_static(count):
                         ("the static program beside the model", ["tools/compare.py", "--runs", RUNS, "--seed", "2", "--program", static])):
         ran = subprocess.run([sys.executable, *words], cwd=ROOT, stdout=subprocess.PIPE, stderr=subprocess.STDOUT, text=True)
         count.add(what, ran.stdout if ran.returncode else "")
+
+
+def interpreters(path):
+    """How many loaders of dynamic libraries a program of 64 bits asks for: none, if it is static."""
+    with open(path, "rb") as file:
+        program = file.read()
+    begin, size, count = struct.unpack_from("<Q", program, 32)[0], *struct.unpack_from("<HH", program, 54)
+    kinds = [struct.unpack_from("<I", program, begin + size * number)[0] for number in range(count)]
+    return kinds.count(KIND_OF_INTERPRETER)
+
+
+def check_needs(count, folder, names):
+    """The program needs no library, and the package no other."""
+    found = interpreters(f"{ROOT}/bin/rcell-static")
+    count.add("the static program needs no library", f"it names {found} loaders" if found else "")
+    package = next(name for name in names if name.endswith(".deb"))
+    depends = subprocess.run(["dpkg-deb", "-f", f"{folder}/{package}", "Depends"], capture_output=True, text=True)
+    count.add("the package depends on no other", (depends.stdout + depends.stderr).strip())
 
 
 def make(folder):
@@ -143,6 +163,7 @@ def main():
         if not ran.returncode:
             check_static(count)
             folder, names = check_same(count, room)
+            check_needs(count, folder, names)
             check_unpacked(count, room, folder, names)
             if wanted.keep:
                 shutil.copytree(folder, wanted.keep, dirs_exist_ok=True)

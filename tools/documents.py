@@ -12,8 +12,8 @@ blocks are taken from the top:
     text, sh         shown and not run: such a block has no command with its output
 The folder that a block goes to by `cd` is that of the next. With --write what is printed takes the place of what is shown.
 Of docs/DIFFERENCES.md the program's side of each table is run, too (tools/differences.py). What needs no program is tried
-first, and with --texts alone: docs/COMMANDS.md has the table of helpers/messages.json (tools/messages.py), docs/PROOFS.md the numbers of lines
-of the files that it lists, README.md the figures of docs/SPEED.md, and the manual pages pass the warnings of man where it
+first, and with --texts alone: docs/COMMANDS.md has the table of helpers/messages.json (tools/messages.py), docs/PROOFS.md and README.md
+the numbers of lines that have to be believed (tools/reading.py), README.md the figures of docs/SPEED.md, and the manual pages pass the warnings of man where it
 is installed. The last line is
 'N passed, M failed'.
 """
@@ -35,9 +35,9 @@ ROOT = os.path.dirname(os.path.dirname(os.path.abspath(__file__)))
 DOCUMENTS = ["README.md", "docs/ISLANDS.md", "docs/GUIDE.md", "docs/FROM_GRASS.md", "docs/COMMANDS.md", "docs/DIFFERENCES.md",
              "docs/PROOFS.md"]
 FENCE = re.compile(r"```(\S*)(?: file=(\S+))?(?: needs=(\S+))?\n(.*?)^```$", re.MULTILINE | re.DOTALL)
-COUNTED = re.compile(r"^\| (crates/\S+\.antt|all) \| (\d+) \| (\d+) \|", re.MULTILINE)
-# A line of a file of definitions that defines nothing: an import, a comment, or nothing at all.
-NO_DEFINITION = re.compile(rb"use |\s*--|\s*$")
+# What is said of the lines that have to be believed: numbers, and what stands around them.
+READING_ROW = re.compile(r"(`make reading(?: COMMAND=(?P<command>\S+))?` \| )(\d+)( \| )(\d+)( \| )(\d+)( \|)")
+READING_SENTENCE = re.compile(r"(for a table of (?P<command>r\.\w+) )(\d+)( lines, )(\d+)( with comments)")
 SPEED_ROW = re.compile(r"^\| ([^|]+) \| ([^|]+ cells) \| (.*?) \|$", re.MULTILINE)
 LANGUAGES = {"console", "text", "python", "sh"}
 SECONDS = 60
@@ -184,38 +184,34 @@ def check_differences(program):
     return passed, faults
 
 
-def check_counts_in(name, write):
-    """Whether a document has the numbers of lines and of definitions of the files that it lists, and of each table; `write` mends them."""
-    path, totals, counted, faults = f"{ROOT}/{name}", (0, 0), 0, []
-    with open(path, encoding="utf-8") as file:
-        document = file.read()
+def counts_of_reading(command):
+    """The numbers of lines that have to be believed: of definitions, with comments, and of Rust types."""
+    words = [sys.executable, f"{ROOT}/tools/reading.py", "--count", *([command] if command else [])]
+    return re.findall(r"\d+", subprocess.check_output(words, text=True))
 
-    def with_counts(found):
-        nonlocal totals, counted
-        if found[1] == "all":
-            counts, totals = totals, (0, 0)
-        else:
-            with open(f"{ROOT}/{found[1]}", "rb") as listed:
-                lines = listed.read().splitlines()
-            counts = len(lines), sum(not NO_DEFINITION.match(line) for line in lines)
-            totals = totals[0] + counts[0], totals[1] + counts[1]
-        is_right = counts == (int(found[2]), int(found[3]))
-        counted += is_right
-        if not is_right:
-            faults.append(f"{name}: {found[1]} has {counts[0]} lines, {counts[1]} of them definitions, and not {found[2]} and {found[3]} (--write mends it)")
-        return f"| {found[1]} | {counts[0]} | {counts[1]} |"
 
-    right = COUNTED.sub(with_counts, document)
-    if write:
-        with open(path, "w", encoding="utf-8") as file:
-            file.write(right)
+def check_reading(write):
+    """Whether docs/PROOFS.md and README.md have the numbers of lines that have to be believed; `write` mends them."""
+    counted, faults = 0, []
+    for name, pattern in (("docs/PROOFS.md", READING_ROW), ("README.md", READING_SENTENCE)):
+        with open(f"{ROOT}/{name}", encoding="utf-8") as file:
+            document = file.read()
+
+        def with_counts(found):
+            nonlocal counted
+            around, command, *parts = found.groups()
+            told, between = parts[0::2], [around, *parts[1::2]]
+            wanted = counts_of_reading(command)[:len(told)]
+            counted += told == wanted
+            if told != wanted:
+                faults.append(f"{name}: {command or 'all'} has {', '.join(wanted)} lines, and not {', '.join(told)}")
+            return "".join(text for pair in zip(between, [*wanted, ""]) for text in pair)
+
+        right = pattern.sub(with_counts, document)
+        if write:
+            with open(f"{ROOT}/{name}", "w", encoding="utf-8") as file:
+                file.write(right)
     return counted, faults
-
-
-def check_counts(write):
-    """The same of the documents that count definitions."""
-    told = [check_counts_in(name, write) for name in ("docs/MAP.md", "docs/PROOFS.md")]
-    return sum(counted for counted, _ in told), [fault for _, faults in told for fault in faults]
 
 
 def tables_of_speed():
@@ -281,7 +277,7 @@ def main():
     settings = words.parse_args()
     program = os.path.abspath(settings.program)
     texts = [("the messages", messages.check), ("the manual pages", check_pages),
-             ("the numbers of lines", lambda: check_counts(settings.write)), ("the figures", lambda: check_speed(settings.write))]
+             ("the numbers of lines", lambda: check_reading(settings.write)), ("the figures", lambda: check_speed(settings.write))]
     runs = [(name, lambda name=name: run_document(name, program, settings.write)) for name in settings.documents or DOCUMENTS]
     runs += [] if settings.documents else [("the tables of differences", lambda: check_differences(program))]
     checks = texts if settings.texts else runs if settings.documents else texts + runs

@@ -185,7 +185,8 @@ def test_files(room, tally):
     for command in ("rcell-aaigrid m.asc m.asc", "rcell-aaigrid m.asc hard.asc", "rcell-aaigrid soft.asc m.asc", "rcell-aaigrid m.asc soft.asc",
                     "rcell-aaigrid m.asc >> m.asc", "rcell-aaigrid < m.asc >> m.asc", "rcell-aaigrid m.asc ./folder/../m.asc"):
         ran = room.shell(command)
-        tally.same(command, (ran.returncode, ran.stderr, room.get("m.asc")), (1, b"rcell-aaigrid: the output file is the input file: choose another name\n", text))
+        tally.same(command, (ran.returncode, ran.stderr, room.get("m.asc")),
+                   (1, b"rcell-aaigrid: the output file is the input file: choose another name\n", text))
     ran = room.shell("cat m.asc | rcell-aaigrid | rcell <(echo r.stats -c input=m) m=/dev/stdin")
     tally.same("from pipe to pipe", ran.stdout, b"1 2\n2 2\n3 2\n")
     ran = room.shell("rcell-aaigrid m.asc /dev/stdout | tail -1; rcell-aaigrid <(cat m.asc) - | tail -1")

@@ -1,6 +1,7 @@
 """rcell-explain: what it hands on, pipes, signals, that it never says more of a script than rcell would."""
 import os
 
+PAGE = os.path.join(os.path.dirname(os.path.dirname(os.path.abspath(__file__))), "helpers", "rcell-explain.1")
 TOO_LONG = "r.stats -c input=land\n" + "r.mapcalc x = " + "land + " * 200 + "lend\n"
 
 
@@ -48,13 +49,27 @@ def test_pipes(room, tally):
 
 def test_hostile(room, tally):
     for name, script in (("long", TOO_LONG), ("deep", "r.mapcalc x = " + "(" * 900 + "land" + ")" * 899), ("bytes", bytes(range(256)) * 4),
-                         ("lines", "r.foo\n" * 20000), ("equals", "r.stats " + "=" * 5000), ("blank", "\n" * 100000)):
+                         ("lines", "r.foo\n" * 20000), ("equals", "r.stats " + "=" * 5000), ("blank", "\n" * 100000), ("quotes", "r.mapcalc x = " + "\"a" * 32000),
+                         ("options", "r.mapcalc x = " + "--o " * 16000), ("digits", "r.reclass input=land output=c\n" + "1" * 65000 + "- = 1\n"),
+                         ("unknown", "".join(f"r.mapcalc x{at} = y{at}\n" for at in range(20000))), ("carets", "r.mapcalc x = " + "^" * 65000),
+                         ("words", "r.stats " + "a'b " * 16000), ("names", "".join(f"r.mapcalc x{at} = land\n" for at in range(20000)) + "r.stats input=q")):
         room.put("script", script)
         ran = room.run("rcell-explain", "script", "land=land.txt")
         tally.true(f"a hostile script: {name}", b"Traceback" not in ran.stderr and len(ran.stderr) < 100000, ran.stderr[-500:])
         tally.true(f"nothing raw: {name}", not any(byte < 32 and byte != 10 for byte in ran.stderr), ran.stderr[:200])
 
 
+def test_page(room, tally):
+    """The example of the manual page, where the page is at hand."""
+    if not os.path.exists(PAGE):
+        return
+    with open(PAGE, encoding="utf-8") as file:
+        shown = file.read().split(".EX\n")[1].split(".EE")[0].replace("\\-", "-")
+    commands = [line[2:] for line in shown.splitlines() if line.startswith("$ ")]
+    ran = room.shell("cp land.txt landuse.txt; exec 2>&1; " + "; ".join(commands))
+    tally.same("the example of the manual page", "".join(f"$ {it}\n" for it in commands) + ran.stdout.decode(), shown)
+
+
 def test(room, tally):
-    for part in (test_handed_on, test_pipes, test_hostile):
+    for part in (test_handed_on, test_pipes, test_hostile, test_page):
         part(room, tally)

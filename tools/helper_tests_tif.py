@@ -26,6 +26,8 @@ for path, kind, nodata, rows, more in json.load(sys.stdin):
         if nodata is not None:
             made.GetRasterBand(at).SetNoDataValue(nodata)
         made.GetRasterBand(at).WriteArray(band)
+    if more.get("scale"):
+        made.GetRasterBand(1).SetScale(more["scale"])
     if more.get("mask"):
         made.CreateMaskBand(gdal.GMF_PER_DATASET)
         made.GetRasterBand(1).GetMaskBand().WriteArray(np.array(more["mask"], "uint8"))
@@ -155,6 +157,10 @@ def test_options(room, tally):
     for (words, wanted), (status, said) in zip(bad, answers):
         tally.same(f"{words}", (status, "Traceback" in said), (wanted, False))
     tally.same("--like, far away", answers[-1][1], "rcell-tif: m.tif: north: 2.6 in far.txt, but 2 in the map: more than half a cell apart\n")
+    make(room, [("scaled.tif", "uint8", None, "[[1, 2, 3], [4, 5, 6]]", {"scale": 0.1})])
+    (status, said), = run_all(room, [["scaled.tif", "scaled.txt"]])
+    tally.same("a scale", (status, said, room.get("scaled.txt").decode()),
+               (0, "rcell-tif: warning: the band has a scale of 0.1 and an offset of 0; the grid has its stored values\n", HEADER + "1 2 3\n4 5 6\n"))
     ran = room.run("rcell-tif", "m.tif", "no/folder/x.txt")
     tally.same("no such folder", (ran.returncode, b"Traceback" in ran.stderr), (1, False))
     ran = room.shell("rcell-tif m.tif - | rcell <(echo r.stats -c input=m) m=/dev/stdin")

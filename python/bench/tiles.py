@@ -2,8 +2,8 @@
 
     tiles.py [--side N] [--folder F] [PART ...]
 
-makes a land cover map of N x N cells (20,000) in F, and prints the PARTs: answers, workers, memory, joining; all of them
-where none is named. Times are those of the processors of the workers and of what they run, since the clock of a machine
+makes a land cover map of N x N cells (20,000) in F, and prints the PARTs: answers, grass (where it is
+installed), workers, memory, joining; all of them where none is named. Times are those of the processors of the workers and of what they run, since the clock of a machine
 that does other things tells little.
 """
 
@@ -13,13 +13,14 @@ import argparse
 import os
 import resource
 import signal
+import subprocess
 import tempfile
 import threading
 import time
 import warnings
 from collections.abc import Callable, Iterator
 from contextlib import contextmanager
-from dataclasses import dataclass
+from dataclasses import dataclass, replace
 from pathlib import Path
 from typing import Any
 
@@ -34,7 +35,7 @@ from rcell._program import execute
 from rcell.tiles._memory import Demand, areas_demand, grid_demand, places, sizes_demand, table_demand
 from rcell.tiles._scripts import NO_REACH, Reach
 from rcell.tiles._tasks import edges_of
-from rcell.tiles.joining import join
+from rcell.tiles.joining import Edges, Rectangle, join
 
 CLASSES = 12
 STRIP = 2000
@@ -188,10 +189,10 @@ def answers(path: Path, folder: Path, side: int) -> None:
             print(f"table, tiles of {size}: equal {found.equals(expected)}; {figures}", flush=True)
     out = folder / "answer.tif"
     tasks: list[tuple[str, str, int, Callable[[rcell.tiles.Mosaic], Any]]] = [
-        ("sum of nine offsets", f"r.mapcalc x = {SUM}", -2147483648, lambda mosaic: mosaic.grid(f"x = {SUM}", out)),
-        ("nmode over 3x3", f"r.mapcalc x = {NMODE}", -2147483648, lambda mosaic: mosaic.grid(f"x = {NMODE}", out)),
         ("clump by edges", "r.clump input=lc output=x", 0, lambda mosaic: mosaic.clump("lc", out)),
+        ("sum of nine offsets", f"r.mapcalc x = {SUM}", -2147483648, lambda mosaic: mosaic.grid(f"x = {SUM}", out)),
         ("clump by corners", "r.clump -d input=lc output=x", 0, lambda mosaic: mosaic.clump("lc", out, diagonal=True)),
+        ("nmode over 3x3", f"r.mapcalc x = {NMODE}", -2147483648, lambda mosaic: mosaic.grid(f"x = {NMODE}", out)),
     ]
     for name, script, null, tiled in tasks:
         cells, seconds, program = undivided(path, script, "x")
@@ -200,13 +201,19 @@ def answers(path: Path, folder: Path, side: int) -> None:
             with rcell.tiles.open(size=size, lc=str(path)) as mosaic:
                 answer, figures = measured(mosaic, lambda: tiled(mosaic))
                 print(f"{name}, tiles of {size}: equal {same(cells, out, null)}; {figures}", flush=True)
-                if null == 0:
+                if null == 0 and size == 4096:
                     patches, figures = measured(mosaic, lambda: mosaic.patches("lc", diagonal="corners" in name))
-                    sizes = np.bincount(np.maximum(cells, 0).reshape(-1))[1:]
-                    equal = len(patches) == answer and np.array_equal(patches["cells"].to_numpy(np.int64), sizes)
+                    equal = len(patches) == answer and np.array_equal(patches["cells"].to_numpy(np.int64), sizes_of(cells, answer))
                     print(f"sizes of {answer} areas, tiles of {size}: equal {equal}; {figures}", flush=True)
         del cells
         out.unlink()
+
+
+def sizes_of(cells: Any, areas: int) -> Any:
+    sizes = np.zeros(areas + 1, dtype=np.int64)
+    for top in range(0, len(cells), STRIP):
+        sizes += np.bincount(np.maximum(cells[top:top + STRIP], 0).reshape(-1), minlength=areas + 1)
+    return sizes[1:]
 
 
 def workers(path: Path, folder: Path, side: int) -> None:
@@ -230,8 +237,9 @@ def workers(path: Path, folder: Path, side: int) -> None:
 
 def memory(path: Path, folder: Path, side: int) -> None:
     """What a worker takes at its peak, beside what the formula says."""
-    loud = folder / "noise.tif"
-    noise(loud, 8192)
+    loud, quiet, part = folder / "noise.tif", folder / "quiet.tif", 4096
+    noise(loud, part)
+    land_cover(quiet, part)
     out = folder / "memory.tif"
     tasks: list[tuple[str, Demand, Callable[[rcell.tiles.Mosaic], Any]]] = [
         ("table", table_demand(1, 1, NO_REACH), lambda mosaic: mosaic.table("r.stats -c input=lc")),
@@ -239,15 +247,23 @@ def memory(path: Path, folder: Path, side: int) -> None:
         ("clump", areas_demand(1), lambda mosaic: mosaic.clump("lc", out)),
         ("sizes", sizes_demand(1), lambda mosaic: mosaic.patches("lc")),
     ]
-    for name, file, runs in (("noise", loud, 1.0), ("land cover", path, runs_of(path))):
-        for size in (1024, 2048, 4096, 8192):
+    for name, file, runs, areas in (("noise", loud, 1.0, 1.0), ("land cover", quiet, runs_of(quiet), areas_of(quiet))):
+        for size in (1024, 2048, 4096):
             for task, demand, work in tasks:
                 with rcell.tiles.open(size=size, scheduler=1, lc=str(file)) as mosaic:
                     _, figures = measured(mosaic, lambda: work(mosaic))
-                said = demand.bytes(size, size, runs)
+                said = demand.bytes(min(size, part), min(size, part), runs, areas)
                 print(f"{name}, {task}, tiles of {size}: {figures.both / MILLION:.0f} MB, {figures.alone / MILLION:.0f} MB alone; "
                       f"the formula {said / MILLION:.0f} MB, {said / figures.both - 1:+.0%}", flush=True)
     loud.unlink()
+    quiet.unlink()
+
+
+def areas_of(path: Path) -> float:
+    """Connected areas by edges, as a part of the cells, of the first cells of a map."""
+    with rasterio.open(path) as dataset:
+        cells = dataset.read(1, window=Window(0, 0, min(STRIP, dataset.width), min(STRIP, dataset.height)))
+    return float(len(rcell.areas(rcell.Map(cells, nodata=0)).table) / cells.size)
 
 
 def runs_of(path: Path) -> float:
@@ -273,9 +289,91 @@ def joining(path: Path, folder: Path, side: int) -> None:
         labels = sum(len(tile.touching) for tile in whole.tiles)
         print(f"{len(tiles)} tiles of {size}: {whole.areas} areas, {labels} that touch borders, {given / MILLION:.1f} MB of edges, "
               f"{seconds:.2f} s, {seconds / len(tiles) * 1e3:.2f} ms a tile, {seconds / labels * 1e9:.0f} ns a label", flush=True)
+    tile = edges_of(file, sheet, Rectangle(0, 0, min(side, 2048), min(side, 2048)), False)
+    for count in (8, 16, 32, 64):
+        before = resource.getrusage(resource.RUSAGE_SELF).ru_maxrss
+        start = time.process_time()
+        whole = join(again(tile, count))
+        seconds = time.process_time() - start
+        labels = sum(len(found.touching) for found in whole.tiles)
+        grown = (resource.getrusage(resource.RUSAGE_SELF).ru_maxrss - before) * 1024
+        print(f"one tile {count} x {count} times: {count * count * tile.place.rows * tile.place.cols / 1e9:.2f} thousand million cells, "
+              f"{labels} labels, {seconds:.2f} s, {seconds / labels * 1e9:.0f} ns a label, peak {grown / MILLION:.0f} MB higher", flush=True)
+        del whole
 
 
-PARTS = {"answers": answers, "workers": workers, "memory": memory, "joining": joining}
+def again(tile: Edges, count: int) -> Iterator[Edges]:
+    """A tile so many times beside and below itself, as a large map would give its tiles to the joining."""
+    rows, cols = tile.place.rows, tile.place.cols
+    for down in range(count):
+        for right in range(count):
+            yield replace(tile, place=Rectangle(down * rows, right * cols, rows, cols))
+
+
+GRASS = """
+set -e
+r.in.gdal -o --q input=$LC output=lc memory=300
+g.region raster=lc
+r.stats -c --q input=lc output=table.txt
+r.clump --q input=lc output=edges
+r.clump -d --q input=lc output=corners
+r.mapcalc --q "total = $SUM"
+r.neighbors --q input=lc output=modes method=mode size=3
+for map in edges corners total modes; do
+    r.out.gdal -c --q input=$map output=$map.tif type=Int32 nodata=-2147483648 createopt=TILED=YES,COMPRESS=DEFLATE,ZLEVEL=1,BIGTIFF=YES
+done
+"""
+
+
+def grass(path: Path, folder: Path, side: int) -> None:
+    """GRASS's modules beside tiles of 2,048, cell by cell; numbers of areas one to one, since GRASS has another order."""
+    subprocess.run(["grass", "--tmp-location", "XY", "--exec", "sh", "-c", GRASS], cwd=folder, check=True, stdout=subprocess.DEVNULL,
+                   stderr=subprocess.DEVNULL, env={**os.environ, "LC": str(path), "SUM": SUM})
+    out = folder / "tiles.tif"
+    with rcell.tiles.open(size=2048, lc=str(path)) as mosaic:
+        table = mosaic.table("r.stats -c input=lc")
+        ours = [f"{'*' if category is None else category} {cells}"
+                for category, cells in zip(table["lc"].astype(object).where(table["lc"].notna(), None), table["cells"])]
+        print(f"table: equal {ours == (folder / 'table.txt').read_text().split(chr(10))[:-1]}", flush=True)
+        mosaic.grid(f"x = {SUM}", out)
+        print(f"sum of nine offsets: equal {alike(folder / 'total.tif', out)}", flush=True)
+        mosaic.grid(f"x = {NMODE}", out)
+        print(f"nmode, by r.neighbors method=mode: cells that differ, GRASS null or ours null aside, {apart(folder / 'modes.tif', out)}", flush=True)
+        for name, diagonal in (("edges", False), ("corners", True)):
+            areas = mosaic.clump("lc", out, diagonal)
+            print(f"clump by {name}: one to one {one_to_one(folder / f'{name}.tif', out, areas)}", flush=True)
+    out.unlink()
+
+
+def strips(first: Path, second: Path) -> Iterator[tuple[Any, Any]]:
+    with rasterio.open(first) as one, rasterio.open(second) as other:
+        for top in range(0, one.height, STRIP):
+            window = Window(0, top, one.width, min(STRIP, one.height - top))
+            yield one.read(1, window=window), other.read(1, window=window)
+
+
+def alike(first: Path, second: Path) -> bool:
+    return all(np.array_equal(one, other) for one, other in strips(first, second))
+
+
+def apart(first: Path, second: Path) -> int:
+    """Cells that have a value in both maps and not the same."""
+    return sum(int(((one != other) & (one != -2147483648) & (other != -2147483648)).sum()) for one, other in strips(first, second))
+
+
+def one_to_one(first: Path, second: Path, areas: int) -> bool:
+    """Whether two maps of areas are the same but for the numbers."""
+    of = np.zeros(areas + 1, dtype=np.int32)
+    for one, other in strips(first, second):
+        one = np.where(one == -2147483648, 0, one)
+        if one.max() > areas:
+            return False
+        of[one.reshape(-1)] = other.reshape(-1)
+    return len(np.unique(of)) == areas + 1 and all(
+        np.array_equal(of[np.where(one == -2147483648, 0, one)], other) for one, other in strips(first, second))
+
+
+PARTS = {"answers": answers, "grass": grass, "workers": workers, "memory": memory, "joining": joining}
 
 
 def main() -> None:

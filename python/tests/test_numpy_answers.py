@@ -110,10 +110,16 @@ class Runs(unittest.TestCase):
         self.assertEqual((again.array.tolist(), again.transform), (areas.array.tolist(), (25, 0, 500, 0, -25, 1000)))
 
     def test_large_maps_come_in_pieces(self) -> None:
-        cells = np.arange(1_300 * 1_700, dtype=np.int32).reshape(1_300, 1_700) * 700 - 900_000_000
+        cells = np.arange(900 * 1_100, dtype=np.int32).reshape(900, 1_100) * 1_540 - 900_000_000
         result = rcell.run("r.stats -c input=lc after=600000000\nr.out.ascii input=lc\nr.stats -c input=lc after=640000000\nr.out.ascii input=lc", lc=cells)
         self.assertTrue((result[1].array == cells).all() and (result[3].array == cells).all())  # type: ignore[union-attr]
         self.assertEqual([len(table) for table in result.tables], [int((cells > 6e8).sum()), int((cells > 6.4e8).sum())])
+
+    def test_an_empty_table_behind_a_map_of_long_numbers(self) -> None:
+        cells = np.full((3, 4), 1_234_567_890)
+        result = rcell.run("r.out.ascii input=lc\nr.stats -c input=lc after=2000000000\nr.stats -c input=lc\nr.out.ascii input=lc", lc=cells)
+        self.assertEqual([table.rows for table in result.tables], [[], [(1_234_567_890, 12)]])
+        self.assertEqual(result[0].array.tolist(), result[3].array.tolist())  # type: ignore[union-attr]
 
     def test_threads_at_once(self) -> None:
         found: list[Any] = []
@@ -324,7 +330,7 @@ class Programs(unittest.TestCase):
         self.assertEqual(ran.stdout, "the program rcell was not found: neither in the environment variable RCELL, nor beside this Python, nor on the path\n", ran.stderr)
 
     def test_wrong(self) -> None:
-        for body in ("exit 0", "echo 7 1 1", "exit 3"):
+        for body in ("exit 0", "echo 7 1 1", "exit 3", "yes", "yes x | head -c 3000000 >&2; exit 1"):
             with self.assertRaises(rcell.WrongProgram):
                 rcell.program(self.program(body))
 

@@ -27,7 +27,7 @@ def plain(cells: Any, null: Any, nodata: int | None) -> list[int | None]:
 class WordsAreRead(unittest.TestCase):
     def test_random_arrays_of_every_type_and_width(self) -> None:
         random = np.random.default_rng(1)
-        for _ in range(2_000):
+        for _ in range(700):
             dtype = np.dtype(random.choice(TYPES))
             limits, limit = np.iinfo(dtype), int(random.choice(LIMITS))
             least = max(limits.min + (dtype == np.int32), -limit if random.random() < 0.5 else 0)

@@ -29,7 +29,9 @@ HERE = pathlib.Path(__file__).resolve().parent
 ROOT = HERE.parent.parent
 TRANSFORM = (25.0, 0.0, 500_000.0, 0.0, -25.0, 5_500_000.0)
 CODES = np.array([11, 12, 21, 22, 23, 24, 31, 41, 42, 43, 52, 71, 81, 82, 90])
-TEXT_CELLS = 2_000_000
+TEXT_CELLS = 500_000
+# Rows that the two commands of GDAL are given: they take so long that a part of a map says enough.
+GDAL_ROWS = 200
 Task = Callable[[], object]
 
 
@@ -80,14 +82,21 @@ def made_maps(folder: str, rows: int, cols: int) -> dict[str, str]:
 
 
 def aaigrid() -> list[str]:
-    """The command that turns GDAL's ASCII grid into a grid: the helper, or the script that came before it."""
-    for path in (ROOT / "helpers" / "rcell-aaigrid", ROOT / "tools" / "aaigrid.py"):
-        if path.exists():
-            return ["python3", str(path)]
-    raise FileNotFoundError("neither helpers/rcell-aaigrid nor tools/aaigrid.py")
+    """The command that turns GDAL's ASCII grid into a grid."""
+    return ["python3", str(ROOT / "helpers" / "rcell-aaigrid")]
 
 
-def from_geotiff(paths: dict[str, str], folder: str, cells: int, rounds: int) -> list[str]:
+def write_same_text(path: str, text: str) -> None:
+    """The text that the program gets of a raster, as a file."""
+    source = open_raster("lc", path)
+    words = Words(*source.range(), source.nodata)
+    with open(text, "wb") as file:
+        file.write(source.region.header().encode() + b"null: " + words.null + b"\n")
+        for block in source.blocks():
+            file.writelines(words.pieces(block.cells, block.null))
+
+
+def from_geotiff(paths: dict[str, str], folder: str, rows: int, cols: int, rounds: int) -> list[str]:
     """From a GeoTIFF to the table of its categories."""
     script = f"{folder}/counts"
     pathlib.Path(script).write_text("r.stats -c input=lc\n")
@@ -97,7 +106,7 @@ def from_geotiff(paths: dict[str, str], folder: str, cells: int, rounds: int) ->
         subprocess.run([rcell.program(), script, f"lc={text}"], check=True, stdout=subprocess.DEVNULL)
 
     def by_gdal(path: str) -> None:
-        subprocess.run(["gdal_translate", "-q", "-of", "AAIGrid", "-ot", "Int32", path, f"{folder}/map.asc"], check=True)
+        subprocess.run(["gdal_translate", "-q", "-of", "AAIGrid", "-ot", "Int32", "-srcwin", "0", "0", str(cols), str(GDAL_ROWS), path, f"{folder}/map.asc"], check=True)
         subprocess.run([*aaigrid(), f"{folder}/map.asc", f"{folder}/map.txt"], check=True, stderr=subprocess.DEVNULL)
         by_program(f"{folder}/map.txt")
 
@@ -112,12 +121,7 @@ def from_geotiff(paths: dict[str, str], folder: str, cells: int, rounds: int) ->
     lines = []
     for name, path in paths.items():
         text = f"{folder}/same.txt"
-        source = open_raster("lc", path)
-        words = Words(*source.range(), source.nodata)
-        with open(text, "wb") as file:
-            file.write(source.region.header().encode() + b"null: " + words.null + b"\n")
-            for block in source.blocks():
-                file.writelines(words.pieces(block.cells, block.null))
+        write_same_text(path, text)
         found = by_turns(
             {
                 "table": lambda: rcell.table("r.stats -c input=lc", lc=path),
@@ -125,9 +129,9 @@ def from_geotiff(paths: dict[str, str], folder: str, cells: int, rounds: int) ->
                 "read": lambda: reading(path),
                 "unique": lambda: by_numpy(path),
             },
-            cells,
+            rows * cols,
             rounds,
-        ) | by_turns({"gdal": lambda: by_gdal(path)}, cells, 1)
+        ) | by_turns({"gdal": lambda: by_gdal(path)}, GDAL_ROWS * cols, 1)
         lines.append(
             f"| {name} | {found['table']:.1f} | {found['program']:.1f} | {found['table'] / found['program']:.1f} | {found['read']:.1f} "
             f"| {found['gdal']:.0f} | {found['unique']:.1f} |"
@@ -180,7 +184,7 @@ def section(cells: int, rounds: int, geotiff: list[str], text: list[str]) -> str
     return f"""# The Python package
 
 Nanoseconds of the processor a cell (user and system, all processes), the least of {rounds} rounds in which each had its turn
-(`make python-speed`; of the two GDAL commands one). Maps of {cells / 1e6:g} million cells, made by the script, as GeoTIFF (deflate, tiles of 256 x 256).
+(`make python-speed`; the GDAL commands once, on the first {GDAL_ROWS} rows). Maps of {cells / 1e6:g} million cells, made by the script, as GeoTIFF (deflate, tiles of 256 x 256).
 
 From a GeoTIFF to the table of its categories: `rcell.table` answers a DataFrame; "program alone" is the program on a text that is
 there already, word for word the one that it gets through the pipe; "reading alone" is `rasterio`'s `read(1)`.
@@ -199,8 +203,8 @@ Cells to a text file and numbers from one, {TEXT_CELLS / 1e6:g} million cells; `
 
 def main() -> int:
     words = argparse.ArgumentParser(description=__doc__, formatter_class=argparse.RawDescriptionHelpFormatter)
-    words.add_argument("--cells", type=int, default=20_000_000)
-    words.add_argument("--rounds", type=int, default=5)
+    words.add_argument("--cells", type=int, default=10_000_000)
+    words.add_argument("--rounds", type=int, default=3)
     words.add_argument("--show", action="store_true")
     settings = words.parse_args()
     cols = 5_000
@@ -208,7 +212,7 @@ def main() -> int:
     rcell.table("r.stats -c input=lc", lc=np.ones((2, 2), np.uint8))
     with tempfile.TemporaryDirectory(prefix="rcell-speed-") as folder:
         paths = made_maps(folder, rows, cols)
-        text = section(rows * cols, settings.rounds, from_geotiff(paths, folder, rows * cols, settings.rounds), text_out_and_in(folder, settings.rounds))
+        text = section(rows * cols, settings.rounds, from_geotiff(paths, folder, rows, cols, settings.rounds), text_out_and_in(folder, settings.rounds))
     print(text)
     if not settings.show:
         (HERE.parent / "SPEED.md").write_text(text, encoding="utf-8")

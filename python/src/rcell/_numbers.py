@@ -18,6 +18,8 @@ NULL = -2_147_483_648
 
 # A piece of text whose numbers, and what is reckoned on the way, stay in the cache of a processor.
 PIECE_BYTES = 1 << 17
+# So many bytes tell of most texts that their numbers are not all of one width.
+GLANCE_BYTES = 256
 _STAR, _MINUS, _ZERO = b"*-0"
 _BLANK = ord(" ")
 # Of a word of so many digits, the bytes that are its own among those that were loaded: the last ones.
@@ -77,7 +79,9 @@ class _Loader:
 def _of_one_width(characters: NDArray[np.uint8], width: int) -> NDArray[Any] | None:
     """Numbers that all have so many digits, column by column; None where they have not."""
     count, rest = divmod(characters.size, width + 1)
-    if rest or not (characters[width :: width + 1] <= _BLANK).all() or np.count_nonzero(characters <= _BLANK) != count:
+    if rest or not (characters[width : GLANCE_BYTES : width + 1] <= _BLANK).all():
+        return None
+    if not (characters[width :: width + 1] <= _BLANK).all() or np.count_nonzero(characters <= _BLANK) != count:
         return None
     if width == 1:
         values = characters[::2].astype(np.int32) - _ZERO
@@ -93,6 +97,17 @@ def _of_one_width(characters: NDArray[np.uint8], width: int) -> NDArray[Any] | N
     return values
 
 
+def _is_long(is_separator: NDArray[np.bool_]) -> bool:
+    """Whether there is a word of over 8 digits."""
+    lengths = np.diff(np.flatnonzero(is_separator), prepend=-1)
+    return lengths.size > 0 and int(lengths.max()) > 9
+
+
+def _word_by_word(text: memoryview) -> NDArray[np.int64]:
+    """The numbers of any length."""
+    return np.fromstring(bytes(text).replace(b"*", str(NULL).encode()), np.int64, sep=" ")
+
+
 def _piece(text: memoryview) -> NDArray[Any]:
     """The numbers of whole words, each of which ends with a separator."""
     loader = _Loader(text)
@@ -101,15 +116,20 @@ def _piece(text: memoryview) -> NDArray[Any]:
     of_one_width = _of_one_width(loader.bytes, width) if 1 <= width <= 4 else None
     if of_one_width is not None:
         return of_one_width
+    if _is_long(is_separator[:GLANCE_BYTES]):
+        return _word_by_word(text)
     ends = np.flatnonzero(is_separator)
-    lengths = np.diff(ends, prepend=-1)
-    lengths -= 1
+    separators = ends.size
+    lengths = np.empty_like(ends)
+    lengths[0] = ends[0]
+    np.subtract(ends[1:], ends[:-1], out=lengths[1:])
+    lengths[1:] -= 1
     if int(lengths.min()) < 1:
         ends, lengths = ends[lengths > 0], lengths[lengths > 0]
     longest = int(lengths.max()) if lengths.size else 0
     if longest > 8:
-        return np.fromstring(bytes(text).replace(b"*", str(NULL).encode()), np.int64, sep=" ")
-    if np.count_nonzero(loader.bytes < _ZERO) == np.count_nonzero(is_separator):
+        return _word_by_word(text)
+    if np.count_nonzero(loader.bytes < _ZERO) == separators:
         return loader.values(ends, lengths, longest)
     first = loader.bytes[ends - lengths]
     is_negative = first == _MINUS

@@ -8,6 +8,7 @@ from __future__ import annotations
 
 import os
 import re
+import select
 import shutil
 import subprocess
 import sys
@@ -30,6 +31,8 @@ __all__ = ["NULL", "Output", "execute", "find_program"]
 
 PIPE_BYTES = 1 << 20
 PIECE_BYTES = 1 << 22
+# The program tells one line; of what another program may tell no more is kept.
+MESSAGE_LIMIT = 1 << 16
 _MESSAGE = re.compile(r"rcell: ([^:]*):(\d+): (.*)")
 _F_SETPIPE_SZ = 1031
 
@@ -100,6 +103,7 @@ def find_program(program: str | os.PathLike[str] | None = None) -> str:
     return path
 
 
+_UNKNOWN = "{} is not a program rcell of a version that this package knows"
 _PROBE_GRID = b"north: 1\nsouth: 0\neast: 3\nwest: 0\nrows: 1\ncols: 3\nnull: ***\n007 *** 012 "
 _PROBE_SCRIPT = b"r.clump -d input=g output=k\nr.stats -c input=g,k after=7,1\nr.stats input=k null_value=end\nr.stats -1 input=k\n"
 _PROBE_ANSWER = b"12 2 1\n* * 1\n1\n2\nend\n1\n*\n2\n"
@@ -112,12 +116,16 @@ def _probe(path: str) -> None:
             run.write(0, _PROBE_GRID)
             run.close_grid(0)
             run.write_script(_PROBE_SCRIPT)
-            answer = b"".join(run.pieces())
+            answer = b""
+            for piece in run.pieces():
+                answer += piece
+                if len(answer) > len(_PROBE_ANSWER):
+                    raise WrongProgram(_UNKNOWN.format(path))
             status = run.end()[0]
     except OSError as error:
         raise MissingProgram(f"the program {path} cannot be executed: {error.strerror}") from None
     if status != 0 or answer != _PROBE_ANSWER:
-        raise WrongProgram(f"{path} is not a program rcell of a version that this package knows")
+        raise WrongProgram(_UNKNOWN.format(path))
 
 
 # A run
@@ -154,6 +162,7 @@ class _Run:
             for reader in readers:
                 os.close(reader)
         self.is_reading = True
+        self._message = b""
         assert self._process.stdout is not None and self._process.stderr is not None
         _widen(self._process.stdout.fileno())
 
@@ -189,19 +198,31 @@ class _Run:
             self._writers[place] = -1
 
     def pieces(self) -> Iterator[bytes]:
-        """The output, as it comes."""
-        assert self._process.stdout is not None
+        """The output, as it comes; what comes on standard error meanwhile is kept."""
+        assert self._process.stdout is not None and self._process.stderr is not None
+        output, told = self._process.stdout.fileno(), self._process.stderr.fileno()
+        poll = select.poll()
+        poll.register(output, select.POLLIN)
+        poll.register(told, select.POLLIN)
         while True:
-            piece = os.read(self._process.stdout.fileno(), PIPE_BYTES)
-            if not piece:
-                return
-            yield piece
+            ready = {file for file, _ in poll.poll()}
+            if told in ready:
+                piece = os.read(told, PIPE_BYTES)
+                self._message = (self._message + piece)[:MESSAGE_LIMIT]
+                if not piece:
+                    poll.unregister(told)
+            if output in ready:
+                piece = os.read(output, PIPE_BYTES)
+                if not piece:
+                    return
+                yield piece
 
     def end(self) -> tuple[int, str]:
         """The status and the message, when all output has been read."""
         assert self._process.stderr is not None
-        message = self._process.stderr.read().decode("utf-8", "surrogateescape")
-        return self._process.wait(), message
+        while piece := self._process.stderr.read(PIPE_BYTES):
+            self._message = (self._message + piece)[:MESSAGE_LIMIT]
+        return self._process.wait(), self._message.decode("utf-8", "surrogateescape")
 
 
 def _widen(pipe: int) -> None:
@@ -349,28 +370,24 @@ class _Reader:
         cells = np.empty(region.rows * region.cols, np.int32)
         at = 0
         while at < cells.size:
-            lines = self._held.rfind(b"\n") + 1
-            numbers = numbers_of(self._held[:lines], np.int32)
-            if at + numbers.size > cells.size:
-                at = self._last_cells(cells, at)
-                break
-            cells[at : at + numbers.size] = numbers
-            at += numbers.size
-            self._held = self._held[lines:]
+            end, count = self._lines(cells.size - at)
+            numbers = numbers_of(self._held[:end], np.int32)
+            if numbers.size != count:
+                raise _Short
+            cells[at : at + count] = numbers
+            at += count
+            self._held = self._held[end:]
             if at < cells.size and not self._gather():
                 raise _Short
         return cells.reshape(region.rows, region.cols)
 
-    def _last_cells(self, cells: NDArray[np.int32], at: int) -> int:
-        """Fills up the cells with the first lines of what is held, which has more."""
-        ends = np.flatnonzero(np.frombuffer(self._held, np.uint8) == ord("\n"))
-        end = int(ends[cells.size - at - 1]) + 1
-        try:
-            cells[at:] = numbers_of(self._held[:end], np.int32)
-        except ValueError:
-            raise _Short from None
-        self._held = self._held[end:]
-        return cells.size
+    def _lines(self, most: int) -> tuple[int, int]:
+        """Where the whole lines end that are held, and how many they are; no more than so many."""
+        is_end = np.frombuffer(self._held, np.uint8) == ord("\n")
+        count = int(np.count_nonzero(is_end))
+        if count <= most:
+            return self._held.rfind(b"\n") + 1, count
+        return int(np.flatnonzero(is_end)[most - 1]) + 1, most
 
     def _gather(self) -> bool:
         """Holds some more pieces; False where there is none."""

@@ -87,6 +87,10 @@ def test_counts_go_beyond_32_bits_and_are_refused_beyond_64() -> None:
     assert listed(merge([half, less]))[0] == ((1,), 2**63 - 1)
     with pytest.raises(TooManyCells, match=r"combination 1$"):
         merge([half, half])
+    carried = Counts(np.array([[1]]), np.array([2**62 - 1]))
+    assert listed(merge([carried, carried]))[0] == ((1,), 2**63 - 2)
+    with pytest.raises(TooManyCells):
+        merge([carried, carried, Counts(np.array([[1]]), np.array([2]))])
     beyond = Counts(np.array([[4, NULL]]), np.array([2**63 - 1]))
     with pytest.raises(TooManyCells, match=r"combination 4 \*$") as fault:
         merge([beyond, beyond, beyond])

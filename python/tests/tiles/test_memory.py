@@ -20,13 +20,16 @@ def test_bytes_grow_with_cells_maps_and_runs() -> None:
     assert table.bytes(1000, 1000, runs=0.1) == 165_000_000 + 1_830_000
     assert grid_demand(1, 2, Reach(1, 1, 2, 2)).bytes(998, 996) == 165_000_000 + 13_300_000
     assert areas_demand(1).bytes(1000, 1000) > areas_demand(1).bytes(1000, 1000, runs=0.2)
-    assert sizes_demand(1).bytes(1000, 1000) > areas_demand(1).bytes(1000, 1000)
+    assert areas_demand(1).bytes(1000, 1000) == 165_000_000 + 13_300_000
+    assert areas_demand(1, number=8).bytes(1000, 1000) == 165_000_000 + 21_000_000
+    assert sizes_demand(1).bytes(1000, 1000) == 165_000_000 + 57_000_000
+    assert sizes_demand(1).bytes(1000, 1000, runs=0.2, areas=0.05) == 165_000_000 + 15_200_000
 
 
 @pytest.mark.parametrize("memory", [200_000_000, 500_000_000, 3_000_000_000, 10**12])
 def test_tiles_are_the_largest_that_fit(memory: int) -> None:
     demand = grid_demand(1, 2, Reach(255, 255, 255, 255))
-    rows, cols = size_for(demand, LARGE, memory, 400)
+    rows, cols = size_for(demand, LARGE, memory, 4)
     assert rows == cols and rows % 256 == 0
     assert demand.bytes(rows, cols) <= memory or rows == 256
     assert rows + 510 <= 65_535 and (rows + 510) ** 2 < 2**31

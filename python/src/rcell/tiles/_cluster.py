@@ -30,7 +30,14 @@ SHARE = 0.8
 
 
 class ClusterFailed(RuntimeError):
-    """The processes of this machine did not start, or the scheduler was not reached."""
+    """The processes of this machine did not start, or the scheduler was not reached, or it has no workers.
+
+    Examples
+    --------
+    >>> import rcell.tiles
+    >>> issubclass(rcell.tiles.ClusterFailed, RuntimeError)
+    True
+    """
 
 
 @dataclass(frozen=True)

@@ -60,7 +60,7 @@ class Demand:
     area: int = 0
     reach: Reach = NO_REACH
 
-    def bytes(self, rows: int, cols: int, runs: float = 1.0) -> int:
+    def bytes(self, rows: int, cols: int, runs: float = 1.0, areas: float | None = None) -> int:
         """Bytes that a worker and the program take together, at their peak, for a tile of so many rows and columns.
 
         Parameters
@@ -69,10 +69,14 @@ class Demand:
             Of the tile, without its halo.
         runs : float
             Runs of equal cells side by side, as a part of the cells; 1 is the most that there can be.
+        areas : float, optional
+            Connected areas, as a part of the cells; as many as runs where it is not given.
         """
         cells = (rows + self.reach.up + self.reach.down) * (cols + self.reach.left + self.reach.right)
-        program = self.maps * min(CELL, RUN * runs) + self.clumps * CLUMP * runs
-        return WORKER + math.ceil(cells * max(self.read + self.answer + program, self.after + self.area * runs))
+        program = self.maps * min(CELL, RUN * runs)
+        beside = self.read + program + max(self.answer, self.clumps * CLUMP * runs)
+        afterwards = self.after + self.area * (runs if areas is None else areas)
+        return WORKER + math.ceil(cells * max(beside, afterwards))
 
 
 def table_demand(read: int, maps: int, reach: Reach) -> Demand:
@@ -82,17 +86,18 @@ def table_demand(read: int, maps: int, reach: Reach) -> Demand:
 
 def grid_demand(read: int, maps: int, reach: Reach) -> Demand:
     """A map of int32, of which the halo is cut off before it is sent."""
-    return Demand(read, maps, answer=4, after=8 if reach == NO_REACH else 12, reach=reach)
+    return Demand(read, maps, answer=4, after=4 if reach == NO_REACH else 8, reach=reach)
 
 
-def areas_demand(read: int) -> Demand:
-    """The numbers of areas in int32, and those of the whole in int64 at most, with a table of them."""
-    return Demand(read, maps=2, clumps=1, answer=4, after=read + 12, area=8)
+def areas_demand(read: int, number: int = 4) -> Demand:
+    """The numbers of areas in int32; then, by a table of them, those of the whole, of 4 bytes in place or of 8."""
+    return Demand(read, maps=2, clumps=1, answer=4, after=read + (4 if number == 4 else 12), area=number)
 
 
 def sizes_demand(read: int) -> Demand:
-    """The numbers of areas in int32, then categories, cells and numbers of the whole, of each area."""
-    return Demand(read, maps=2, clumps=1, answer=4, after=read + 12, area=28)
+    """The numbers of areas in int32, and again to count them; then of each area its category, cells and number in the
+    whole, with those of tiles that wait to be taken."""
+    return Demand(read, maps=2, clumps=1, answer=4, after=read + 12, area=44)
 
 
 def size_for(demand: Demand, sheet: Sheet, memory: int, tasks: int) -> tuple[int, int]:

@@ -36,7 +36,13 @@ MOST_LABELS = 2**31 - 1
 
 
 class TooManyCells(ArithmeticError):
-    """A count of a merged table passes 2^63 - 1; `combination` is the one that it belongs to."""
+    """A count of a merged table passes 2^63 - 1; `combination` is the one that it belongs to.
+
+    Examples
+    --------
+    >>> str(TooManyCells((1, None)))
+    'more than 9223372036854775807 cells of the combination 1 *'
+    """
 
     def __init__(self, combination: tuple[int | None, ...]) -> None:
         super().__init__(combination)

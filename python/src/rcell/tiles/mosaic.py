@@ -35,11 +35,24 @@ NO_AREA = 0
 
 
 class NeedlessTiles(UserWarning):
-    """The maps fit into the memory of this machine: one run of the program is as fast as tiles are."""
+    """The maps fit into the memory of this machine: one run of the program is as fast as tiles are.
+
+    Examples
+    --------
+    >>> import warnings, rcell.tiles
+    >>> warnings.simplefilter("ignore", rcell.tiles.NeedlessTiles)
+    """
 
 
 class TooLittleMemory(RcellError, MemoryError):
-    """A tile of the size that was asked for may take more memory than a worker has."""
+    """A tile of the size that was asked for may take more memory than a worker has.
+
+    Examples
+    --------
+    >>> import rcell.tiles
+    >>> issubclass(rcell.tiles.TooLittleMemory, MemoryError)
+    True
+    """
 
 
 def refused(script: str, statement: Statement | None, text: str) -> Refused:
@@ -85,8 +98,12 @@ def open_mosaic(maps: Mapping[str, Any] | None = None, /, size: None | int | tup
     Examples
     --------
     >>> import rcell.tiles
-    >>> with rcell.tiles.open(size=256, scheduler=2, lc="landcover.tif") as mosaic:  # doctest: +SKIP
+    >>> with rcell.tiles.open(size=2, scheduler=2, lc="lc.tif") as mosaic:
     ...     print(mosaic.table("r.stats -c input=lc"))
+       lc  cells
+    0   1      2
+    1   2      3
+    2   3      1
     """
     twice = set(maps or {}) & set(named)
     if twice:
@@ -108,6 +125,12 @@ class Mosaic:
     ----------
     sheet : Sheet
         Rows, columns, transform and coordinate reference system of the whole.
+
+    Examples
+    --------
+    >>> import rcell.tiles
+    >>> rcell.tiles.open(size=2, lc="lc.tif")
+    <Mosaic of lc: 2 x 3 cells, tiles of 2 x 2 cells>
     """
 
     def __init__(self, sheet: Sheet, files: list[MapFile], size: tuple[int, int] | None, scheduler: None | int | str) -> None:
@@ -124,7 +147,14 @@ class Mosaic:
         self.close()
 
     def close(self) -> None:
-        """End the processes of this machine, or leave the cluster as it was."""
+        """End the processes of this machine, or leave the cluster as it was.
+
+        Examples
+        --------
+        >>> import rcell.tiles
+        >>> mosaic = rcell.tiles.open(lc="lc.tif")
+        >>> mosaic.close()
+        """
         self._engine.close()
 
     def __repr__(self) -> str:
@@ -133,17 +163,38 @@ class Mosaic:
 
     @property
     def shape(self) -> tuple[int, int]:
-        """Rows and columns of the whole."""
+        """Rows and columns of the whole.
+
+        Examples
+        --------
+        >>> import rcell.tiles
+        >>> rcell.tiles.open(lc="lc.tif").shape
+        (2, 3)
+        """
         return self.sheet.rows, self.sheet.cols
 
     @property
     def names(self) -> list[str]:
-        """The names of the maps."""
+        """The names of the maps.
+
+        Examples
+        --------
+        >>> import rcell.tiles
+        >>> rcell.tiles.open(lc="lc.tif").names
+        ['lc']
+        """
         return list(self._files)
 
     @property
     def is_needless(self) -> bool:
-        """Whether one run of the program has room for all maps, and a map made of them."""
+        """Whether one run of the program has room for all maps, and a map made of them.
+
+        Examples
+        --------
+        >>> import rcell.tiles
+        >>> rcell.tiles.open(lc="lc.tif").is_needless
+        True
+        """
         if max(self.shape) > SIDE_LIMIT or self.sheet.rows * self.sheet.cols >= 2**31:
             return False
         demand = Demand(read=0, maps=len(self._files) + 1)
@@ -175,6 +226,16 @@ class Mosaic:
         Refused
             As the program refuses the script.
         ReadFailed, WorkerLost, TooLittleMemory
+
+        Examples
+        --------
+        >>> import rcell.tiles
+        >>> with rcell.tiles.open(size=2, scheduler=scheduler, lc="lc.tif") as mosaic:
+        ...     print(mosaic.table("r.stats -c input=lc", percent=True))
+           lc  cells    percent
+        0   1      2  33.333333
+        1   2      3  50.000000
+        2   3      1  16.666667
         """
         stats, run = self._table_run(script)
         counts = self._counts(run)
@@ -224,6 +285,14 @@ class Mosaic:
         WriteFailed
             A full disk, a missing folder; nothing is left under `path`, and what was there before stays.
         ReadFailed, WorkerLost, TooLittleMemory
+
+        Examples
+        --------
+        >>> import rcell.tiles
+        >>> with rcell.tiles.open(size=2, scheduler=scheduler, lc="lc.tif") as mosaic:
+        ...     mosaic.grid("right = lc[0,1]", "right.tif")
+        >>> rcell.grid("r.mapcalc same = right", "right", right="right.tif").array.tolist()
+        [[1, 2, None], [2, 2, None]]
         """
         run, labels = self._grid_run(script)
         demand = grid_demand(self._read(run), run.made, run.script.reach)
@@ -258,9 +327,17 @@ class Mosaic:
         Raises
         ------
         Refused, WriteFailed, ReadFailed, WorkerLost, TooLittleMemory
+
+        Examples
+        --------
+        >>> import rcell.tiles
+        >>> with rcell.tiles.open(size=2, scheduler=scheduler, lc="lc.tif") as mosaic:
+        ...     mosaic.clump("lc", "areas.tif")
+        3
         """
         file = self._file(name)
-        demand = areas_demand(file.bytes)
+        # Before they are joined, it is not known how many areas there are: at most as many as cells.
+        demand = areas_demand(file.bytes, 4 if self.sheet.rows * self.sheet.cols < 2**31 else 8)
         tiles = list(places(self.sheet, self._size_for(demand)))
         memory = self._memory(demand, tiles[0])
         whole = self._joined(file, tiles, diagonal, memory)
@@ -292,6 +369,16 @@ class Mosaic:
         Raises
         ------
         Refused, ReadFailed, WorkerLost, TooLittleMemory
+
+        Examples
+        --------
+        >>> import rcell.tiles
+        >>> with rcell.tiles.open(size=2, scheduler=scheduler, lc="lc.tif") as mosaic:
+        ...     print(mosaic.patches("lc"))
+           patch  category  cells
+        0      1         1      2
+        1      2         2      3
+        2      3         3      1
         """
         file = self._file(name)
         demand = sizes_demand(file.bytes)

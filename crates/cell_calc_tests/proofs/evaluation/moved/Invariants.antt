@@ -1,4 +1,4 @@
-use Rattle.std.proofs.Common.{◌≡◌, ℕ}
+use Rattle.std.proofs.Common.{◌≡◌, ◌≤◌, ℕ}
 use Rattle.cell_calc.specs.Window.{IsWindowOf}
 use Rattle.cell_calc_tests.proofs.evaluation.moved.Given as goal
 
@@ -6,7 +6,8 @@ abbrev pub invariant-loop : goal.invariant-loop
 invariant-loop l =
     record {
       window : IsWindowOf l.window l.map;
-      centre : l.window.centre ≡ l.index;
+      centre : l.window.centre ≡ l.counter;
+      within : l.counter ≤ l.row;
       above : l.window.above ≡ l.above;
       below : l.window.below ≡ l.below;
     }

@@ -1,0 +1,101 @@
+"""Lints the crates: `make lint`, in seconds and without a proof.
+
+    python3 tools/lint [--write] [RULE..]
+
+Each rule has its findings, one a line, and a file of exceptions, lint/exceptions/RULE.txt. A finding that the file does not
+list is an error, and so is a line of the file that is no finding any more: the list may only shrink. Rules that
+count list a number a file, which may only fall. With --write the files are written as the findings are, which is for the
+commit that takes findings away; a file that would grow is left as it is. The last line is 'N passed, M failed'.
+"""
+import argparse
+import pathlib
+import shutil
+import subprocess
+import sys
+
+sys.path[:0] = [str(pathlib.Path(__file__).resolve().parent), str(pathlib.Path(__file__).resolve().parent.parent)]
+
+import rules  # noqa: E402  (the path above has to be set first)
+
+HERE = pathlib.Path(__file__).resolve().parent
+ROOT = HERE.parent.parent
+
+
+def exceptions_of(rule):
+    """The lines of a rule's file of exceptions, without comments."""
+    path = HERE / "exceptions" / f"{rule}.txt"
+    if not path.exists():
+        return [], []
+    lines = path.read_text(encoding="utf-8").splitlines()
+    return [it for it in lines if it.startswith("#")], [it for it in lines if it and not it.startswith("#")]
+
+
+def as_counts(lines):
+    return {key: int(number) for key, number in (line.rsplit(" ", 1) for line in lines)}
+
+
+def faults_of(rule, findings, allowed):
+    """What is wrong with findings beside the exceptions: a list of lines."""
+    if rule in rules.COUNTED:
+        found, listed = as_counts(findings), as_counts(allowed)
+        more = [f"{key}: {number}, and at most {listed.get(key, 0)} are listed" for key, number in found.items() if number > listed.get(key, 0)]
+        fewer = [f"{key}: {found.get(key, 0)}, fewer than the {number} listed (lower the list: make lint WRITE=1)"
+                 for key, number in listed.items() if found.get(key, 0) < number]
+        return more + fewer
+    new = [f"{it}: not listed" for it in findings if it not in set(allowed)]
+    gone = [f"{it}: listed, and no finding any more (make lint WRITE=1)" for it in allowed if it not in set(findings)]
+    return new + gone
+
+
+def total(rule, lines):
+    return sum(as_counts(lines).values()) if rule in rules.COUNTED else len(lines)
+
+
+def write_exceptions(rule, comments, findings, allowed):
+    """Writes the findings as the exceptions, unless there would be more of them."""
+    path = HERE / "exceptions" / f"{rule}.txt"
+    if path.exists() and any("not listed" in it or "at most" in it for it in faults_of(rule, findings, allowed)):
+        print(f"{rule}: the list would grow, and is left as it is")
+        return
+    path.write_text("".join(f"{line}\n" for line in [*comments, *findings]), encoding="utf-8")
+
+
+def python_faults():
+    """What ruff and mypy say of the Python of the tools, where they are installed."""
+    faults = []
+    for name, words in (("ruff", ["check", "--quiet", "tools", "bench"]), ("mypy", ["--no-error-summary", "tools/lint", "tools/reading.py"])):
+        program = shutil.which(name)
+        if program is None:
+            print(f"{name} is not installed, and was left out")
+            continue
+        done = subprocess.run([program, *words], cwd=ROOT, capture_output=True, text=True, check=False)
+        faults += done.stdout.splitlines() if done.returncode else []
+    return faults
+
+
+def main():
+    parser = argparse.ArgumentParser(prog="lint", description=__doc__.splitlines()[0])
+    parser.add_argument("--write", action="store_true", help="write the findings as the exceptions, where there are no more")
+    parser.add_argument("rules", nargs="*", metavar="RULE", help=", ".join(rules.ALL))
+    words = parser.parse_args()
+    failed = 0
+    for rule in words.rules or rules.ALL:
+        findings = rules.ALL[rule]()
+        comments, allowed = exceptions_of(rule)
+        if words.write:
+            write_exceptions(rule, comments or [f"# {rules.ALL[rule].__doc__.splitlines()[0]}"], findings, allowed)
+            comments, allowed = exceptions_of(rule)
+        faults = faults_of(rule, findings, allowed)
+        failed += bool(faults)
+        for fault in faults:
+            print(f"{rule}: {fault}")
+        print(f"{rule}: {total(rule, findings)} found, {total(rule, allowed)} listed{'' if faults else ', good'}")
+    for fault in (of_python := [] if words.rules else python_faults()):
+        print(f"python: {fault}")
+    failed += bool(of_python)
+    print(f"{len(words.rules or rules.ALL) + (not words.rules) - failed} passed, {failed} failed")
+    return 1 if failed else 0
+
+
+if __name__ == "__main__":
+    sys.exit(main())

@@ -1,0 +1,186 @@
+"""The rules of the lint. Each is a function that returns its findings, one a line; the first line of its doc says what they are."""
+import re
+from collections import Counter, defaultdict
+
+import sources
+
+CLAUSE_COLUMNS, LONGEST_CLAUSE, PROOF_COLUMNS = 100, 120, 120
+MOST_FUNCTIONS, MOST_CODE, MOST_PROOFS = 50, 800, 2500
+# Names that mean the same wherever they stand: Rust's own, and those that std's traits ask for.
+COMMON_FUNCTIONS = {"new", "len", "get", "next", "from", "is_empty", "bytes", "drop", "clone"}
+COMMON_FILES = {"lib", "main", "law"}
+COMMON_SPECS = {"Lib", "parts"}
+ANSWERS = {"Answers.antt", "Invariants.antt", "Proof.antt"}
+# The crates that the steps of an expression are for: those that make them, and the one that evaluates them.
+CRATES_OF_STEPS = {"cell_language", "cell_formulas", "cell_calc"}
+STEPS = re.compile(r"\.steps\(|\bstep::Step\b|declared\.step\b")
+
+
+def counted(counts):
+    return [f"{key} {number}" for key, number in sorted(counts.items()) if number]
+
+
+def wide_clauses():
+    """Clauses whose first line is over 100 columns, by file."""
+    counts = Counter()
+    for _, path, text in sources.read_files("src"):
+        counts[path] += sum(1 for line in text.split("\n") if re.match(r"\s*(requires|ensures)\b", line) and len(line) > CLAUSE_COLUMNS)
+    return counted(counts)
+
+
+def widest_clauses():
+    """Clauses that have a line over 120 columns, by file."""
+    counts = Counter()
+    for it in sources.read_functions():
+        counts[it.path] += sum(1 for clause in it.clauses if any(len(line) > LONGEST_CLAUSE for line in clause.text.split("\n")))
+    return counted(counts)
+
+
+def wide_proofs():
+    """Lines of proofs over 120 columns, by crate."""
+    counts = Counter()
+    for crate, _, text in sources.read_files("proofs"):
+        counts[crate] += sum(1 for line in text.split("\n") if len(line) > PROOF_COLUMNS)
+    return counted(counts)
+
+
+def crate_limits():
+    """Crates over 50 functions, 800 lines of code or 2,500 lines of proofs."""
+    functions, code, proofs = Counter(it.crate for it in sources.read_functions()), Counter(), Counter()
+    for crate, _, text in sources.read_files("src"):
+        code[crate] += sum(1 for line in text.split("\n") if line.strip() and not line.strip().startswith("//"))
+    for crate, _, text in sources.read_files("proofs"):
+        proofs[crate] += text.count("\n")
+    limits = (("functions", functions, MOST_FUNCTIONS), ("lines of code", code, MOST_CODE), ("lines of proofs", proofs, MOST_PROOFS))
+    return [f"{crate} {what} {counts[crate]}" for crate in sources.crate_names() for what, counts, most in limits if counts[crate] > most]
+
+
+def undocumented():
+    """Public functions without a doc comment."""
+    return [f"{it.path} {it.name}" for it in sources.read_functions()
+            if it.is_public and not it.is_of_trait_impl and not any(line.startswith("///") for line in it.comments)]
+
+
+def in_several(places, what):
+    return [f"{what} {name}: {', '.join(sorted(paths))}" for name, paths in sorted(places.items()) if len(paths) > 1]
+
+
+def names():
+    """Names that stand for several things: of modules, public functions, definitions and types."""
+    modules, files, functions, definitions, types = (defaultdict(set) for _ in range(5))
+    for _, path, text in sources.read_files("src"):
+        name = path.rpartition("/")[2].removesuffix(".rt")
+        if name not in COMMON_FILES:
+            modules[name].add(path)
+        for match in re.finditer(r"^(?:pub(?:\(crate\))? )?(?:struct|enum|trait|type) (\w+)", sources.blank_literals(text), re.MULTILINE):
+            types[match.group(1)].add(path)
+    for _, path, _ in sources.read_files("specs"):
+        name = path.rpartition("/")[2].removesuffix(".antt")
+        if name not in COMMON_SPECS:
+            files[name].add(path)
+    for it in sources.read_functions():
+        if it.is_public and not it.is_of_trait_impl and not it.container.startswith(("pub trait", "trait")) and it.name not in COMMON_FUNCTIONS:
+            functions[it.name].add(it.path)
+    for it in sources.read_definitions("specs").values():
+        definitions[it.name].add(it.path)
+        if it.kind in ("record", "data"):
+            types[it.name].add(it.path)
+    return [line for places, what in ((modules, "module"), (files, "specs"), (functions, "function"), (definitions, "definition"), (types, "type"))
+            for line in in_several(places, what)]
+
+
+def citations(kinds):
+    """Who cites what among definitions: from (module, name) or None, what an answer or a source cites, to (module, name) pairs."""
+    edges = defaultdict(set)
+    of_module = defaultdict(list)
+    for kind in kinds:
+        for it in sources.read_definitions(kind, True).values():
+            of_module[it.module].append(it)
+    for kind in ("src", *kinds):
+        for crate, path, text in sources.read_files(kind, True):
+            cite_file(edges, crate, path, text, of_module.get(sources.module_of(path), []) if kind != "src" else [])
+    return edges
+
+
+def cite_file(edges, crate, path, text, definitions):
+    """Adds what a file cites to the edges."""
+    imports, own = sources.read_imports(text), {it.name for it in definitions}
+    is_root = path.endswith(".rt") or path.rpartition("/")[2] in ANSWERS
+    starts = {it.line: it for it in definitions}
+    current = None
+    for number, line in enumerate(text.split("\n"), 1):
+        current = None if re.match(r"\s*module ", line) else starts.get(number, current)
+        if sources.is_import(line):
+            continue
+        source = None if is_root or current is None else (current.module, current.name)
+        for word in sources.words_of(line if "using(" in line else sources.without_comment(line)):
+            found = imports.targets(word)
+            head = word.strip(".:").split(".")[0]
+            if not found and head in own:
+                found = [(sources.module_of(path), head)]
+            edges[source].update(it for it in found if it != source)
+    for match in sources.CITED_PATH.finditer(text):
+        parts = match.group().split("::")
+        parts[0] = crate if parts[0] == "crate" else parts[0]
+        edges[None].add((".".join(parts[:-1]), parts[-1]))
+
+
+def reached_from(edges, starts):
+    seen, waiting = set(starts), list(starts)
+    while waiting:
+        for target in edges.get(waiting.pop(), ()):
+            if target not in seen:
+                seen.add(target)
+                waiting.append(target)
+    return seen
+
+
+def uncited():
+    """Definitions that no clause, definition or proof cites."""
+    seen = reached_from(citations(("specs", "proofs")), [None])
+    found = [it for key, it in sources.read_definitions("specs").items() if key not in seen and it.kind != "lemma" and not is_infix(it.name)]
+    return [f"{it.path} {it.name}" for it in sorted(found, key=lambda it: (it.path, it.line))]
+
+
+def is_infix(name):
+    """Whether a name is that of an operator, which stands among its operands without its marks."""
+    return "◌" in name
+
+
+def citing_of_public():
+    """The (module, name) pairs that clauses of public functions, traits and models cite."""
+    texts = {path: text for _, path, text in sources.read_files("src", True)}
+    found = set()
+    for it in sources.read_functions(True):
+        if it.is_public or it.container:
+            imports = sources.read_imports(texts[it.path])
+            for clause in it.clauses:
+                found |= sources.targets_in(clause.condition, imports)
+    return found
+
+
+def parts():
+    """Definitions outside specs/parts/ that no contract of a public function stands on."""
+    definitions = sources.read_definitions("specs", True)
+    seen = reached_from(citations(("specs",)), citing_of_public())
+    return [f"{it.path} {it.name}" for key, it in sorted(definitions.items(), key=lambda pair: (pair[1].path, pair[1].line))
+            if key not in seen and "/specs/parts/" not in it.path and not sources.OF_TESTS.match(it.crate) and it.kind != "lemma"]
+
+
+def steps():
+    """Places outside the crates of expressions that see the steps of one."""
+    return sorted({path for kind in ("src", "specs") for crate, path, text in sources.read_files(kind, True)
+                   if crate not in CRATES_OF_STEPS and STEPS.search(sources.without_comment(text))})
+
+
+def unused_edges():
+    """Libraries that crates.txt lists for a crate whose sources do not name them."""
+    found = []
+    for crate, used in sources.crate_edges().items():
+        texts = [text for kind in ("src", "specs", "proofs") for of, _, text in sources.read_files(kind, True) if of == crate]
+        found += [f"{crate} {name}" for name in used if not any(re.search(rf"\b{name}\b", text) for text in texts)]
+    return found
+
+
+ALL = {it.__name__: it for it in (wide_clauses, widest_clauses, wide_proofs, crate_limits, undocumented, names, uncited, parts, steps, unused_edges)}
+COUNTED = {"wide_clauses", "widest_clauses", "wide_proofs"}
