@@ -8,7 +8,7 @@ import subprocess
 import time
 
 ROOT = os.path.dirname(os.path.dirname(os.path.abspath(__file__)))
-TESTS = f"{ROOT}/crates/cell_calc_language_tests/out/cell_language_tests_tests"
+TESTS = f"{ROOT}/crates/cell_calc_language_tests/out/cell_calc_language_tests_tests"
 
 
 def seconds(test):
