@@ -9,6 +9,17 @@ check_filename <- function(filename, overwrite) {
   if (file.exists(filename) && !overwrite) write_failed(filename, "it exists, and overwrite is FALSE")
 }
 
+# In the C locale terra changes the letters of a path that are not ASCII, so the locale is another for the time of the call.
+with_path <- function(path, call) {
+  is_plain <- !any(charToRaw(path) > as.raw(127L)) || !validUTF8(path) || isTRUE(l10n_info()[["UTF-8"]])
+  if (!is_plain) {
+    before <- Sys.getlocale("LC_CTYPE")
+    on.exit(Sys.setlocale("LC_CTYPE", before))
+    suppressWarnings(Sys.setlocale("LC_CTYPE", "C.UTF-8"))
+  }
+  call
+}
+
 # Writes a raster under another name in the same folder, and renames it with what GDAL has put beside it.
 written <- function(raster, filename) {
   force(raster)
@@ -18,7 +29,7 @@ written <- function(raster, filename) {
   on.exit(unlink(room, recursive = TRUE))
   path <- file.path(room, basename(filename))
   failed <- function(e) write_failed(filename, told(e))
-  tryCatch(withCallingHandlers(writeRaster(raster, path, datatype = "INT4S"), warning = without_colours), error = failed, warning = failed)
+  tryCatch(withCallingHandlers(with_path(path, writeRaster(raster, path, datatype = "INT4S")), warning = without_colours), error = failed, warning = failed)
   check_whole(raster, path, filename)
   unlink(paste0(filename, ".aux.xml"))
   for (suffix in c(".aux.xml", "")) {
@@ -26,7 +37,7 @@ written <- function(raster, filename) {
       write_failed(filename, "it cannot be renamed")
     }
   }
-  rast(filename)
+  with_path(filename, rast(filename))
 }
 
 # terra would give a map with labels colours as well, and says that this type has none.
@@ -37,7 +48,7 @@ without_colours <- function(w) {
 # A disk may be full only when a file is closed, which no one is told of: it is read again, and compared.
 check_whole <- function(raster, path, filename) {
   failed <- function(e) write_failed(filename, told(e))
-  again <- tryCatch(rast(path), error = failed, warning = failed)
+  again <- tryCatch(with_path(path, rast(path)), error = failed, warning = failed)
   readStart(raster)
   readStart(again)
   on.exit({

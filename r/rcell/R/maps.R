@@ -66,7 +66,7 @@ path_source <- function(name, path) {
 # terra only warns of a raster that is rotated, and reads it as if it were not.
 open_raster <- function(name, path) {
   withCallingHandlers(
-    tryCatch(rast(path), error = function(e) read_failed(name, sprintf("cannot open: %s: %s", path, told(e)))),
+    tryCatch(with_path(path, rast(path)), error = function(e) read_failed(name, sprintf("cannot open: %s: %s", path, told(e)))),
     warning = function(w) {
       if (grepl("rotated", conditionMessage(w), fixed = TRUE)) {
         bad_map(name, "a rotated transform: warp the map to rows from west to east first (terra: rectify)")
