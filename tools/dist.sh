@@ -17,7 +17,7 @@ export LC_ALL=C
 room=$(mktemp -d)
 trap 'rm -rf "$room"' EXIT
 mkdir -p "$dist"
-rm -f "$dist"/rcell*.tar.gz "$dist"/rcell*.deb "$dist/SHA256SUMS"
+rm -f "$dist"/rcell-*.tar.gz "$dist"/rcell_*_amd64.deb "$dist/SHA256SUMS"
 
 # What both have, below the folder $1 as below a prefix.
 stage() {
@@ -72,4 +72,4 @@ install -m 644 bin/rcell.o "$(dirname "$(rt doc)")"/c/libos_c.a "$(dirname "$(rt
 install -m 644 packaging/object.md "$room/$object/README.md"
 pack "$object" "$dist/$object.tar.gz"
 
-(cd "$dist" && sha256sum rcell*.tar.gz rcell*.deb > SHA256SUMS)
+(cd "$dist" && sha256sum rcell-*.tar.gz rcell_*_amd64.deb > SHA256SUMS)
