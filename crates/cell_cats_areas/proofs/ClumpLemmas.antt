@@ -80,8 +80,7 @@ module _ (j : Joining) (m : Grid) (table : List ℕ) (h : AreLabels j m table) w
       let t = place_found k lt in
       let few = rd.few p v is (read_all j m table h p v is) in
       let below = place_lt m.region.cols p (start_of_run j m k) ((rd.inside p v is).1) less in
-      let here = t.2 in
-      let count = t.1 in
+      let here = t.2 in let count = t.1 in
       let le = count_le j m (suc (cell_place m.region.cols p)) t.0 (omega arith) in
       omega arith
 
@@ -89,8 +88,7 @@ module _ (j : Joining) (m : Grid) (table : List ℕ) (h : AreLabels j m table) w
   starts_before : (i n : ℕ) → i < n → n < length table → IsEarlierCell (start_of_run j m i) (start_of_run j m n)
   starts_before i n lt inside =
       let v = some_of (cell_at_spot m (start_of_run j m n)) (start_some n inside) in
-      let one = label_own i (omega arith) in
-      let other = label_own n inside in
+      let one = label_own i (omega arith) in let other = label_own n inside in
       ⊎_elim (λ e. absurd (let same = ap (area_label_at m h.labels) e in omega arith))
       (λ apart. ⊎_elim (λ less. less) (λ more. absurd (let less = label_before i (start_of_run j m n) v.0 (omega arith) v.1 more in omega arith)) apart)
       (cases_before (start_of_run j m i) (start_of_run j m n))

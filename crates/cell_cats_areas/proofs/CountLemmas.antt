@@ -53,8 +53,7 @@ number_at j m firsts d leading i lt =
             (subst (λ (p : Position). IsEarlierCell (get_or firsts k e) p) (sym (same l e (omega arith))) (leading.in_order k l e k_lt (omega arith)));
         exactly = λ p. (
           λ within.
-              let k : ℕ = within.0 in
-              let k_lt = within.1 in
+              let k : ℕ = within.0 in let k_lt = within.1 in
               let is : get_or firsts k p ≡ p = sym (same k p (omega arith)) ∙ within.2 in (
                 leading.are_first p (k, omega arith, is),
                 λ before. ⊎_elim
@@ -67,8 +66,7 @@ number_at j m firsts d leading i lt =
               ),
           λ both.
               let t = leading.no_gap p f both.0 f_in both.1 in
-              let k : ℕ = t.0 in
-              let k_lt = t.1 in
+              let k : ℕ = t.0 in let k_lt = t.1 in
               ⊎_elim (λ below. (k, omega arith, same k p below ∙ t.2))
               (λ le. absurd (both.1 (subst (λ (q : Position). IsEarlierCell f q) t.2 (subst (λ (q : Position). IsEarlierCell q (get_or firsts k p)) (here p) (leading.in_order i k p (omega arith) k_lt)))))
               (cases_lt k (i + 1)),

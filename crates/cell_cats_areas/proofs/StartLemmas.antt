@@ -109,10 +109,7 @@ above_found m (suc r) c v e = (position r c, (omega arith, refl), e)
 
 upper_left_found : (m : Grid) (r c : ℕ) (v : ℤ) → upper_left_of m r c ≡ Some v → (q : Position) × IsUpperLeft r c q × (cell_at_spot m q ≡ Some v)
 upper_left_found m zero c v e = absurd (let none : None ≡ Some v = e in cc)
-upper_left_found m (suc r) c v e =
-    let t = left_found m r c v e in
-    let row : t.0.row ≡ r = t.1.0 in
-    (t.0, (omega arith, t.1.1), t.2)
+upper_left_found m (suc r) c v e = let t = left_found m r c v e in let row = t.1.0 in (t.0, (omega arith, t.1.1), t.2)
 
 upper_right_found : (m : Grid) (r c : ℕ) (v : ℤ) → upper_right_of m r c ≡ Some v → (q : Position) × IsUpperRight r c q × (cell_at_spot m q ≡ Some v)
 upper_right_found m zero c v e = absurd (let none : None ≡ Some v = e in cc)
@@ -175,17 +172,17 @@ module _ (j : Joining) (m : Grid) where
   count_same : (k : ℕ) → begins j m (cell_of_place m.region.cols k) ≡ false → starts j m (suc k) ≡ starts j m k
   count_same k is = ap (length {A = Position}) (starts_same k is)
 
-  count_step : (k : ℕ) → starts j m k ≤ starts j m (suc k)
-  count_step k = ⊎_elim (λ yes'. let e = count_more k yes' in omega arith) (λ no'. let e = count_same k no' in omega arith) (cases_Bool (begins j m (cell_of_place m.region.cols k)))
+  count_step : (k : ℕ) → (starts j m k ≤ starts j m (suc k)) × (starts j m (suc k) ≤ starts j m k + 1)
+  count_step k =
+      ⊎_elim (λ yes'. let e = count_more k yes' in (omega arith, omega arith)) (λ no'. let e = count_same k no' in (omega arith, omega arith))
+      (cases_Bool (begins j m (cell_of_place m.region.cols k)))
 
   pub count_le : (k n : ℕ) → k ≤ n → starts j m k ≤ starts j m n
-  count_le = grows (starts j m) count_step
+  count_le = grows (starts j m) (λ k. (count_step k).0)
 
   pub starts_most : (k : ℕ) → starts j m k ≤ k
   starts_most zero = omega arith
-  starts_most (suc k) =
-      let before = starts_most k in
-      ⊎_elim (λ yes'. let e = count_more k yes' in omega arith) (λ no'. let e = count_same k no' in omega arith) (cases_Bool (begins j m (cell_of_place m.region.cols k)))
+  starts_most (suc k) = let before = starts_most k in let step = (count_step k).1 in omega arith
 
   kept_step : (n k : ℕ) (e : Position) → k < starts j m n → get_or (starts_below j m (suc n)) k e ≡ get_or (starts_below j m n) k e
   kept_step n k e lt =

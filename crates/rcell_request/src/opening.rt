@@ -1,6 +1,7 @@
 //! The files that a request names.
 
-ghost use Rattle.std.specs.Prelude.{◌≡◌, ◌≢◌, ◌<◌, IfErr, IfOk, map, vec_len};
+ghost use Rattle.std.specs.Prelude.{◌≡◌, ◌≢◌, ◌<◌, All, IfErr, IfOk, map, vec_len};
+ghost use Rattle.cell_core_devices.specs.declared.source.Asked.{Asked};
 ghost use Rattle.rcell_request.specs.Refusals.{IsOfOpening};
 
 use crate::command_words::Request;
@@ -33,7 +34,8 @@ fn of_opening(kind: ErrorKind, of_file: Refusal) -> Refusal
 
 // The file of a path; where it can't be opened, the refusal of the file is returned, or out of memory.
 fn open_file<R: Files>(rt: &R, path: &str, of_file: Refusal) -> Result<ReadSource<R::File>, Refusal>
-    ensures { IfErr result (λ refusal. refusal ≢ Refusal.Memory → refusal ≡ of_file) }
+    ensures asked { IfOk result (λ source. source.1 ≡ Asked.Going) }
+    ensures told { IfErr result (λ refusal. refusal ≢ Refusal.Memory → refusal ≡ of_file) }
 {
     match fs::open(rt, path) {
         Ok(file) => Ok(ReadSource::new(file)),
@@ -49,6 +51,7 @@ fn open_grid<R: Files + AllocGlobal>(
     path: &str,
 ) -> Result<(Name, ReadSource<R::File>), Refusal>
     ensures name { IfOk result (λ opened. opened.0 ≡ name.now) }
+    ensures asked { IfOk result (λ opened. opened.1.1 ≡ Asked.Going) }
     ensures told { IfErr result (λ refusal. refusal ≢ Refusal.Memory → refusal ≡ Refusal.GridFile grid) }
 {
     let source = open_file(rt, path, Refusal::GridFile { grid })?;
@@ -64,6 +67,7 @@ fn open_grids<R: Files + AllocGlobal>(
     request: &Request<'_>,
 ) -> Result<Vec<(Name, ReadSource<R::File>)>, Refusal>
     ensures names { IfOk result (λ opened. map (λ grid. grid.0) opened.items ≡ request.now.names.items) }
+    ensures asked { IfOk result (λ opened. All (λ grid. grid.1.1 ≡ Asked.Going) opened.items) }
     ensures told { IfErr result (IsOfOpening (vec_len request.now.names)) }
 {
     let mut grids = Vec::new(rt.alloc());
@@ -85,6 +89,9 @@ pub fn open<R: Files + AllocGlobal>(
     request: &Request<'_>,
 ) -> Result<Opened<R::File>, Refusal>
     ensures names { IfOk result (λ opened. map (λ grid. grid.0) opened.grids.items ≡ request.now.names.items) }
+    // Nothing is read yet: no source was asked, so none has ended or failed.
+    ensures asked { IfOk result (λ opened. (opened.script.1 ≡ Asked.Going)
+        × All (λ grid. grid.1.1 ≡ Asked.Going) opened.grids.items) }
     ensures told { IfErr result (IsOfOpening (vec_len request.now.names)) }
 {
     let script = open_file(rt, request.script, Refusal::ScriptFile)?;

@@ -311,3 +311,33 @@ fn tells_a_failing_reader(rt: HostRuntime) -> Result<(), Fail> {
     assert_eq!(rt; out.bytes().len(), 0);
     Ok(())
 }
+
+// A script of 2,000 lines, each of which makes a map: `m0000` to `m1999`.
+fn two_thousand_maps(alloc: Global) -> Result<Vec<u8>, Fail> {
+    let mut script = Vec::new(alloc);
+    for thousands in b"01" {
+        for hundreds in b"0123456789" {
+            for tens in b"0123456789" {
+                for ones in b"0123456789" {
+                    script.extend_from_slice(b"r.mapcalc m")?;
+                    script.extend_from_slice(&[*thousands, *hundreds, *tens, *ones])?;
+                    script.extend_from_slice(b" = g + 1\n")?;
+                }
+            }
+        }
+    }
+    Ok(script)
+}
+
+// There is no limit on the number of maps but that of the script's length.
+#[test]
+fn makes_two_thousand_maps(rt: HostRuntime) -> Result<(), Fail> {
+    let mut script = two_thousand_maps(rt.alloc())?;
+    script.extend_from_slice(b"r.stats -c input=m1999,m0000\n")?;
+    expect_text(
+        &rt,
+        &[(b"g", FOUR_CELLS)],
+        &script,
+        b"-6 -6 1\n2 2 2\n* * 1\n",
+    )
+}

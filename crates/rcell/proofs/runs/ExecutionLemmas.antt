@@ -4,10 +4,11 @@ use Rattle.std.specs.Prelude.{slice_get}
 use Rattle.std.proofs.Math.Seq.{drop-cons}
 use Rattle.std.proofs.lemmas.List.{take_more}
 use Rattle.cell_ascii_meaning.specs.Writing.{grid_text}
-use Rattle.cell_core_devices.specs.Device.{Faults, append_known}
+use Rattle.cell_core_devices.specs.Device.{Faults}
 use Rattle.cell_core.specs.Grid.{Grid}
 use Rattle.cell_core.specs.Shelf.{ShelfValue}
-use Rattle.cell_core_devices.specs.Blocks.{capped_count, BlockValue, Appended, Appends}
+use Rattle.cell_core_devices.specs.Blocks.{BlockValue, Appends}
+use Rattle.cell_ascii_writer.proofs.PutLemmas.{appended_put}
 use Rattle.rcell_script.specs.KnownMaps.{known_after}
 use Rattle.rcell_script_commands.specs.FittingCommands.{FitsCommand}
 use Rattle.rcell_script.specs.FittingScripts.{Fits}
@@ -21,14 +22,6 @@ use Rattle.rcell.specs.parts.OutputSteps.{HasExecuted}
 use Rattle.rcell.specs.runs.Execution.{IsShelfBefore, IsWithin}
 use Rattle.rcell.specs.runs.Outcomes.{IsDone}
 use Rattle.rcell.proofs.OutputLemmas.{Executes-append}
-
--- all was appended, and is put
-module _ {before now : Option (List ℕ)} {start faults : Faults} {text : List ℕ} {block : BlockValue} (p : Appended before start text now faults block) where
-  pub appended_put : block.failed ≡ false → block.held ≡ [] → (now ≡ append_known before text) × ((block.written ≡ capped_count (length text)) × (faults ≡ start))
-  appended_put good none =
-      let rest : [] ≡ p.rest = sym none ∙ rw good at p.held in
-      let front : p.front ≡ text = sym (append-nil p.front) ∙ ap (λ (l : List ℕ). p.front ++ l) rest ∙ p.whole in
-      (p.taken ∙ ap (append_known before) front, (p.count ∙ ap (λ (l : List ℕ). capped_count (length l)) front, rw good at p.fails))
 
 -- the text of a statement that asks for the grid text of a map
 pub grid_command : (shelf : ShelfValue) (command : Command) (place : ℕ) (text : List ℕ) (m : Grid) → command ≡ OutAscii place text → slice_get shelf.maps place ≡ Some m

@@ -129,6 +129,9 @@ loop-r-preserved c =
       right = c.write_new.ensures.right rules c.in_ok-pieces.ensures c.loop-r.invariant.right;
     }
 
+pub returns-clause-labels : goal.returns-clause-labels
+returns-clause-labels c = λ k. ap (λ (m : Grid). get m.labels k) c.in_ok-set_labels.ensures ∙ get-labels_of c.args.rules.now k
+
 pub returns-clause-made : goal.returns-clause-made
 returns-clause-made c =
     let is = c.region-region.ensures in
@@ -137,6 +140,3 @@ returns-clause-made c =
     let rows : c.loop-r.builder.rows ≡ new_rows c.args.rules.now c.args.given.now.rows =
     c.loop-r.invariant.rows ∙ ap (new_rows c.args.rules.now) (take_all c.loop-r.r c.args.given.now.rows all) in
     rw (c.in_ok-set_labels.ensures, c.finish-made.ensures, rows, c.loop-r.invariant.region) refl
-
-pub returns-clause-labels : goal.returns-clause-labels
-returns-clause-labels c = λ k. ap (λ (m : Grid). get m.labels k) c.in_ok-set_labels.ensures ∙ get-labels_of c.args.rules.now k

@@ -1,6 +1,8 @@
 use Rattle.std.proofs.lemmas.Result.{err_from_is_err_and, IfOk-from_err}
 use Rattle.std.proofs.Common.{rules, Bool, true, false, Result, MatchResult, Ok, Err, if◌then◌else◌, arith, ap, sym, map, take, length, ℕ, is_ok, subst, ◌≡◌, ◌≢◌, ◌<◌, ◌≤◌, ◌∙◌, ◌++◌, ◌∷◌, []}
 use Rattle.std.proofs.lemmas.List.{map-append, take_more, take_all}
+use Rattle.std.proofs.lemmas.List.Elements.{All-nil, All-push}
+use Rattle.cell_core_devices.specs.declared.source.Asked.TheVariants.{Going}
 use Rattle.rcell_request.specs.Refusals.{IsOfOpening}
 use Rattle.rcell_request.specs.declared.refusal.Refusal.{Refusal}
 use Rattle.rcell_request.specs.declared.refusal.Refusal.TheVariants.{Usage, GridWord, Memory, ScriptFile, GridFile}
@@ -47,7 +49,10 @@ returns-in_err-map_err-clause-told g c =
     rw (p.1, p.2) (made_told c.push.result _ c.in_err-map_err.ensures.cases (λ e h. let made : c.in_err-map_err.field-0.0 ≡ Memory = search rules in subst (IsOfOpening _) (sym made) tt))
 
 pub loop-grid-init : goal.loop-grid-init
-loop-grid-init g c = record { names = ap (map (λ grid. grid.0)) c.new-grids.ensures.items }
+loop-grid-init g c = record {
+  names = ap (map (λ grid. grid.0)) c.new-grids.ensures.items;
+  asked = rw c.new-grids.ensures.items (All-nil _);
+}
 
 pub loop-grid-smaller : goal.loop-grid-smaller
 loop-grid-smaller g c = falls _ c.loop-grid.grid c.loop-grid-test.true
@@ -63,7 +68,16 @@ loop-grid-preserved g c =
           ∙ ap (λ before. before ++ c.in_ok-opened.opened.0 ∷ []) c.loop-grid.invariant.names
           ∙ ap (λ name. take c.loop-grid.grid names ++ name ∷ []) (c.in_ok-opened.ensures.name ∙ c.index.ensures)
           ∙ sym (take_more names c.loop-grid.grid _ within);
+      asked = rw items_are
+          (All-push (λ grid. grid.1.1 ≡ Going) grids _ c.loop-grid.invariant.asked c.in_ok-opened.ensures.asked);
     }
+
+pub returns-in_err-opened-clause-asked : goal.returns-in_err-opened-clause-asked
+returns-in_err-opened-clause-asked g c = IfOk-from_err c.from_residual.result _ c.from_residual.ensures.0
+
+pub returns-in_err-map_err-clause-asked : goal.returns-in_err-map_err-clause-asked
+returns-in_err-map_err-clause-asked g c =
+    IfOk-from_err c.from_residual-in_err-map_err.result _ c.from_residual-in_err-map_err.ensures.0
 
 pub returns-clause-names : goal.returns-clause-names
 returns-clause-names g c =

@@ -4,7 +4,7 @@ use Rattle.rcell_script.specs.KnownMaps.{known_after}
 use Rattle.cell_core_devices.specs.Blocks.{BlockValue}
 use Rattle.cell_core_devices.proofs.BlockLemmas.{appends_then}
 use Rattle.rcell.specs.Output.{command_text}
-use Rattle.rcell.proofs.runs.ExecutionLemmas.{executed_all, executed_more, executed_within, before_at, fits_more, appended_put}
+use Rattle.rcell.proofs.runs.ExecutionLemmas.{executed_all, executed_more, executed_within, before_at, fits_more}
 use Rattle.rcell.proofs.runs.execution.execute.Goals as goal
 
 pub loop-statement-init : goal.loop-statement-init

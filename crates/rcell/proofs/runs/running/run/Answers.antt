@@ -86,6 +86,17 @@ of_input (Script fault) early lasts = lasts
 of_input (Memory line) early lasts = absurd (lasts tt)
 of_input Write early lasts = absurd early
 
+-- First, since a run that touches its sink before execution meets none of the clauses below either.
+pub returns-in-Err-clause-untouched : goal.returns-in-Err-clause-untouched
+returns-in-Err-clause-untouched g c = rw c.refused.ensures (λ early. refl)
+
+pub returns-in-Err-read_statements-clause-untouched : goal.returns-in-Err-read_statements-clause-untouched
+returns-in-Err-read_statements-clause-untouched g c = rw c.refused-in-Err-read_statements.ensures (λ early. refl)
+
+pub returns-in-Ok-read_statements-clause-untouched : goal.returns-in-Ok-read_statements-clause-untouched
+returns-in-Ok-read_statements-clause-untouched g c =
+    weaker c.put_out.result.fault _ _ (λ fault late early. not_both fault early late) c.put_out.ensures.late
+
 pub returns-in-Err-clause-done : goal.returns-in-Err-clause-done
 returns-in-Err-clause-done g c = rw c.refused.ensures (λ known tells none. not_none none)
 
