@@ -1,0 +1,2 @@
+-- Laws of tables.
+pub mod PageLaw
