@@ -1,11 +1,19 @@
 -- A number stands with one category, and the entries of a category are its cells.
+use Rattle.cell_cats_areas.proofs.CountLemmas.{no_number_is_left_out}
+use Rattle.cell_stats_counts.specs.Counts.{count_of}
 use Rattle.std.proofs.Common.{
   ◌≡◌,
   ℕ,
+  zero,
+  suc,
   ℤ,
   pos,
+  ◌<◌,
   [],
   ◌∷◌,
+  List,
+  length,
+  get_or,
   Some,
   None,
   IsSome,
@@ -19,11 +27,12 @@ use Rattle.std.proofs.Common.{
   ap,
   sym,
   ◌∙◌,
+  arith,
 }
 use Rattle.std.specs.Prelude.{Contains}
 use Rattle.std.specs.Ordering.{eq_by_cmp, is_eq}
 use Rattle.std.specs.Cmp.{tied_itself}
-use Rattle.cell_core.specs.Grid.{Grid, CellValue}
+use Rattle.cell_core.specs.Grid.{Grid, CellValue, IsFilled}
 use Rattle.cell_cats_areas.specs.declared.clump.Joining.{Joining}
 use Rattle.cell_cats_areas.specs.Areas.{Position, cell_at_spot, IsClumping}
 use Rattle.cell_cats_areas.proofs.PathLemmas.{AreJoined-first, AreJoined-last}
@@ -33,15 +42,20 @@ use Rattle.cell_stats_combinations.specs.Combinations.{Combination, combination_
 use Rattle.cell_stats_combinations.specs.LeftOut.{is_left_out}
 use Rattle.cell_stats_combinations.proofs.OrderLemmas.{combination_cmp-exact, is_equal}
 use Rattle.cell_stats.specs.CategoryTables.{Pairs, IsTable}
-use Rattle.cell_stats_law.proofs.CountLemmas.{counts-same, entry-at, table-sums}
+use Rattle.cell_stats_law.proofs.CountLemmas.{counts-same, counted-cell, entry-at, table-sums}
 use Rattle.cell_cats_law.specs.AreaLaw.{
   NumbersHaveOneCategory,
   EntriesAreWhole,
   AreasDivideTheirCategory,
+  NoAreaIsEmpty,
   cells_of_both,
 }
 
 -- ---- cells that are not null
+
+pub some-is : (c : CellValue) → IsSome c → (v : ℤ) × (c ≡ Some v)
+some-is None h = cc
+some-is (Some v) h = (v, refl)
 
 pub is-some : (c : CellValue) (v : ℤ) → c ≡ Some v → IsSome c
 is-some None v e = cc
@@ -177,3 +191,43 @@ areas-divide-their-category j m numbers is skip rows cols table is_table categor
     table-sums skip (cells_of_both m numbers rows cols) table is_table t
     ∙ counts-same (m ∷ numbers ∷ []) (m ∷ []) (0 ∷ 1 ∷ [])
     (0 ∷ []) u (eq_by_cmp combination_cmp (Some category ∷ [])) same rows cols
+
+-- ---- no area is empty
+
+in-row : (row : List CellValue) (c : ℕ) (v : ℤ) → get_or row c None ≡ Some v → c < length row
+in-row [] c v e = cc
+in-row (x ∷ row) zero v e = omega arith
+in-row (x ∷ row) (suc c) v e = omega (arith, in-row row c v e)
+
+in-rows : (rows : List (List CellValue)) (r c : ℕ) (v : ℤ) → get_or (get_or rows r []) c None ≡ Some v → r < length rows
+in-rows [] r c v e = absurd (omega (arith, in-row [] c v e))
+in-rows (row ∷ rows) zero c v e = omega arith
+in-rows (row ∷ rows) (suc r) c v e = omega (arith, in-rows rows r c v e)
+
+-- a cell that is not null lies in the region
+pub in-region : (m : Grid) → IsFilled m.region m.rows → (p : Position) (v : ℤ) → cell_at_spot m p ≡ Some v →
+    (p.row < m.region.rows) × (p.col < m.region.cols)
+in-region m filled p v e =
+    let low = in-rows m.rows p.row p.col v e in
+    let line = in-row (get_or m.rows p.row []) p.col v e in
+    let wide : length (get_or m.rows p.row []) ≡ m.region.cols = filled.width p.row [] low in
+    (omega (arith, low, filled.count), omega (arith, line, wide))
+
+pub no-area-is-empty : NoAreaIsEmpty
+no-area-is-empty j m numbers is filled skip table is_table category last size stands number least most =
+    let rows = numbers.region.rows in
+    let cols = numbers.region.cols in
+    let p = stands-at m numbers skip rows cols table is_table category (Some (pos last)) size stands in
+    let all = no_number_is_left_out j m numbers is p.at (is-some (cell_at_spot numbers p.at) (pos last) p.second) in
+    let same : all.0 ≡ last = let e = sym all.1 ∙ p.second in cc in
+    let occurs = all.3 number least (omega (arith, most, same)) in
+    let q = occurs.0 in
+    let v = some-is (cell_at_spot m q) (some-below j m numbers is q (pos number) occurs.1) in
+    let k : Combination = Some v.0 ∷ Some (pos number) ∷ [] in
+    let is_k : k ≡ cell_at_spot m q ∷ cell_at_spot numbers q ∷ [] = λ i. sym v.1 i ∷ sym occurs.1 i ∷ [] in
+    let inside = in-region numbers filled q (pos number) occurs.1 in
+    let counted = counted-cell (m ∷ numbers ∷ []) (0 ∷ 1 ∷ [])
+    (eq_by_cmp combination_cmp k) rows cols q.row q.col inside.0 inside.1
+    (equal-itself k (cell_at_spot m q ∷ cell_at_spot numbers q ∷ []) is_k) in
+    let cells = count_of k (cells_of_both m numbers rows cols) in
+    (v.0, cells, counted, (is_table.counted k cells).1 (kept-number skip v.0 (pos number), (counted, refl)))

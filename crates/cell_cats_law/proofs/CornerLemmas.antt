@@ -1,25 +1,5 @@
 -- What a path by edges joins, one by edges and corners joins.
-use Rattle.std.proofs.Common.{
-  ◌≡◌,
-  ℕ,
-  ℤ,
-  pos,
-  ◌≤◌,
-  [],
-  ◌∷◌,
-  List,
-  Some,
-  None,
-  IsSome,
-  refl,
-  sym,
-  ◌∙◌,
-  arith,
-  subst,
-  inl,
-  inr,
-  ⊎_elim,
-}
+use Rattle.std.proofs.Common.{◌≡◌, ℕ, pos, ◌≤◌, [], ◌∷◌, List, Some, None, sym, ◌∙◌, arith, subst, inl, inr, ⊎_elim}
 use Rattle.cell_core.specs.Grid.{Grid, CellValue}
 use Rattle.cell_cats_areas.specs.declared.clump.Joining.TheVariants.{Edges, EdgesAndCorners}
 use Rattle.cell_cats_areas.specs.Areas.{Position, cell_at_spot, IsEarlierCell, LeadsTo, AreJoined, IsFirst, HasNumber}
@@ -27,7 +7,7 @@ use Rattle.cell_cats_areas.proofs.PathLemmas.{AreJoined-sym, AreJoined-trans}
 use Rattle.cell_cats_areas.proofs.LawLemmas.{cases_before, within_le}
 use Rattle.cell_cats_areas.proofs.CountLemmas.{no_number_is_left_out}
 use Rattle.cell_cats_law.specs.CornerLaw.{CornersOnlyJoin, NumbersOnlyFall, CornersAddNoArea, OneByCorners}
-use Rattle.cell_cats_law.proofs.AreaLemmas.{is-some, some-below, none-below, stands-at}
+use Rattle.cell_cats_law.proofs.AreaLemmas.{is-some, some-is, some-below, none-below, stands-at}
 
 widen-leads : (p : Position) (others : List Position) (q : Position) → LeadsTo Edges p others q →
     LeadsTo EdgesAndCorners p others q
@@ -42,10 +22,6 @@ widen m p q h = record {
   alike = h.alike;
 }
 
-some-is : (c : CellValue) → IsSome c → (v : ℤ) × (c ≡ Some v)
-some-is None h = cc
-some-is (Some v) h = (v, refl)
-
 pub corners-only-join : CornersOnlyJoin
 corners-only-join m edges corners both p q some same =
     let v = some-is (cell_at_spot edges p) some in
@@ -55,7 +31,7 @@ corners-only-join m edges corners both p q some same =
 
 -- ---- numbers
 
-earlier-trans : (p q r : Position) → IsEarlierCell p q → IsEarlierCell q r → IsEarlierCell p r
+pub earlier-trans : (p q r : Position) → IsEarlierCell p q → IsEarlierCell q r → IsEarlierCell p r
 earlier-trans p q r (inl a) (inl b) = inl (omega (arith, a, b))
 earlier-trans p q r (inl a) (inr b) = inl (omega (arith, a, b.0))
 earlier-trans p q r (inr a) (inl b) = inl (omega (arith, a.0, b))

@@ -1,3 +1,4 @@
 pub mod AreaLemmas
 pub mod CornerLemmas
+pub mod RenumberedLemmas
 pub mod WithoutLemmas

@@ -30,21 +30,21 @@ use Rattle.cell_cats_areas.proofs.PathLemmas.{AreJoined-adjacent}
 use Rattle.cell_stats_combinations.specs.Combinations.{combination_cmp}
 use Rattle.cell_stats_law.proofs.CountLemmas.{counts-same}
 use Rattle.cell_cats_law.specs.AreaLaw.{IsWithout, OtherAreasStay, OtherAreasKeepTheirSize}
-use Rattle.cell_cats_law.proofs.AreaLemmas.{is-some, some-below, first-cell, tests-same}
+use Rattle.cell_cats_law.proofs.AreaLemmas.{is-some, some-is, some-below, first-cell, tests-same}
 
 module _ (j : Joining) (m numbers : Grid) (is : IsClumping j m numbers) (number : ℤ) (less : Grid)
     (without : IsWithout m numbers number less) where
-  abbrev gone : Position → Bool
+  abbrev pub gone : Position → Bool
   gone p = cell_eq (cell_at_spot numbers p) (Some number)
 
-  kept-cell : (p : Position) → gone p ≡ false → cell_at_spot less p ≡ cell_at_spot m p
+  pub kept-cell : (p : Position) → gone p ≡ false → cell_at_spot less p ≡ cell_at_spot m p
   kept-cell p stays = without p ∙ ap (λ b. cond b None (cell_at_spot m p)) stays
 
   gone-cell : (p : Position) → gone p ≡ true → cell_at_spot less p ≡ None
   gone-cell p goes = without p ∙ ap (λ b. cond b None (cell_at_spot m p)) goes
 
   -- what is not null is not of the area
-  stays-some : (p : Position) (v : ℤ) → cell_at_spot less p ≡ Some v → gone p ≡ false
+  pub stays-some : (p : Position) (v : ℤ) → cell_at_spot less p ≡ Some v → gone p ≡ false
   stays-some p v some = by (gone p) refl
     where
       by : (b : Bool) → gone p ≡ b → b ≡ false
@@ -63,7 +63,7 @@ module _ (j : Joining) (m numbers : Grid) (is : IsClumping j m numbers) (number 
       (some-before p v (All-head (λ s. cell_at_spot less s ≡ Some v) p ps all))
       (alike-before v ps (All-tail (λ s. cell_at_spot less s ≡ Some v) p ps all))
 
-  joined-before : (p q : Position) → AreJoined j less p q → AreJoined j m p q
+  pub joined-before : (p q : Position) → AreJoined j less p q → AreJoined j m p q
   joined-before p q h = record {
     category = h.category;
     others = h.others;
@@ -89,7 +89,7 @@ module _ (j : Joining) (m numbers : Grid) (is : IsClumping j m numbers) (number 
       All-cons (λ s. cell_at_spot less s ≡ Some v) p (x ∷ others) (kept-cell p stays ∙ here)
       (alike-after v x others q h.1 stays_too rest)
 
-  joined-after : (p q : Position) → gone p ≡ false → AreJoined j m p q → AreJoined j less p q
+  pub joined-after : (p q : Position) → gone p ≡ false → AreJoined j m p q → AreJoined j less p q
   joined-after p q stays h = record {
     category = h.category;
     others = h.others;
@@ -98,10 +98,6 @@ module _ (j : Joining) (m numbers : Grid) (is : IsClumping j m numbers) (number 
   }
 
   module _ (renumbered : Grid) (is_less : IsClumping j less renumbered) where
-    some-is : (c : CellValue) → IsSome c → (v : ℤ) × (c ≡ Some v)
-    some-is None h = cc
-    some-is (Some v) h = (v, refl)
-
     pub others-stay : (p q : Position) → IsSome (cell_at_spot less p) → IsSome (cell_at_spot less q) →
         (cell_at_spot renumbered p ≡ cell_at_spot renumbered q) ↔ (cell_at_spot numbers p ≡ cell_at_spot numbers q)
     others-stay p q some_p some_q =

@@ -1,7 +1,7 @@
 //! What clump maps say of the map that they number, and of each other.
 
-ghost use Rattle.cell_cats_law.specs.AreaLaw.{AreasDivideTheirCategory, EntriesAreWhole, NumbersHaveOneCategory};
-ghost use Rattle.cell_cats_law.specs.AreaLaw.{OtherAreasKeepTheirSize, OtherAreasStay};
+ghost use Rattle.cell_cats_law.specs.AreaLaw.{AreasDivideTheirCategory, EntriesAreWhole, NoAreaIsEmpty, NumbersHaveOneCategory};
+ghost use Rattle.cell_cats_law.specs.AreaLaw.{NumbersCloseUp, OtherAreasKeepTheirSize, OtherAreasStay};
 ghost use Rattle.cell_cats_law.specs.CornerLaw.{CornersAddNoArea, CornersOnlyJoin, NumbersOnlyFall, OneByCorners};
 
 /// In the table of a map and its clump map each number stands with one category.
@@ -19,6 +19,11 @@ pub fn areas_divide_their_category()
     ensures { AreasDivideTheirCategory }
 {}
 
+/// An area is never empty: where a number stands in that table, each from 1 to it does, with a count above 0.
+pub fn no_area_is_empty()
+    ensures { NoAreaIsEmpty }
+{}
+
 /// Where one whole area is made null, two other cells are of one area exactly where they were.
 pub fn other_areas_stay()
     ensures { OtherAreasStay }
@@ -27,6 +32,11 @@ pub fn other_areas_stay()
 /// And each other area keeps its size, whatever its number is now.
 pub fn other_areas_keep_their_size()
     ensures { OtherAreasKeepTheirSize }
+{}
+
+/// And the numbers close up: those before the number of the area stay, and those after it are one less.
+pub fn numbers_close_up()
+    ensures { NumbersCloseUp }
 {}
 
 /// Corners only join: cells of one area by edges are of one area by edges and corners.

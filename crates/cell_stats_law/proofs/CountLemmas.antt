@@ -1,4 +1,5 @@
 -- Counts among the cells of maps, and sums over the entries of their table.
+use Rattle.std.proofs.lemmas.Bool.{cases_order}
 use Rattle.std.proofs.Common.{
   ◌≡◌,
   ℕ,
@@ -6,6 +7,7 @@ use Rattle.std.proofs.Common.{
   suc,
   ◌+◌,
   ◌<◌,
+  ◌≤◌,
   map,
   [],
   ◌∷◌,
@@ -26,6 +28,7 @@ use Rattle.std.proofs.Common.{
   ◌∙◌,
   arith,
   IsTrue,
+  ⊎_elim,
 }
 use Rattle.std.specs.Prelude.{count_by, sum_by, filter, All, Contains}
 use Rattle.std.specs.List.{flat_map, range_with_len}
@@ -125,6 +128,51 @@ pub counted-at : (maps : List Grid) (picks : List ℕ) (t : Combination → Bool
     0 < count_by t (all_combinations maps picks rows cols) → At (combination_at maps picks) t
 counted-at maps picks t rows cols some = rows-at (combination_at maps picks) t (range_with_len 0 rows)
     (range_with_len 0 cols) some
+
+-- ---- a cell is counted
+
+module _ (f : ℕ → ℕ → Combination) (t : Combination → Bool) where
+  row-counted : (row a n col : ℕ) → a ≤ col → col < a + n → t (f row col) ≡ true →
+      0 < count_by t (map (f row) (range_with_len a n))
+  row-counted row a zero col least most is = absurd (omega (arith, least, most))
+  row-counted row a (suc n) col least most is =
+      let sum = count_by-cons t (f row a) (map (f row) (range_with_len (a + 1) n)) in
+      ⊎_elim
+      (λ same.
+      let one : one-if (t (f row a)) ≡ 1 = ap (λ c. one-if (t (f row c))) same ∙ ap one-if is in
+      omega (arith, sum, one))
+      (λ apart. ⊎_elim
+      (λ lt. let rest = row-counted row (a + 1) n col (omega (arith, lt))
+      (omega (arith, most)) is in omega (arith, sum, rest))
+      (λ gt. absurd (omega (arith, gt, least)))
+      apart)
+      (cases_order a col)
+
+  rows-counted : (a n row : ℕ) (cols : List ℕ) → a ≤ row → row < a + n → 0 < count_by t (map (f row) cols) →
+      0 < count_by t (flat_map (λ r. map (f r) cols) (range_with_len a n))
+  rows-counted a zero row cols least most some = absurd (omega (arith, least, most))
+  rows-counted a (suc n) row cols least most some =
+      let rest = flat_map (λ r. map (f r) cols) (range_with_len (a + 1) n) in
+      let sum = count_by-append t (map (f a) cols) rest in
+      ⊎_elim
+      (λ same.
+      let here : count_by t (map (f a) cols) ≡ count_by t (map (f row) cols) =
+      ap (λ r. count_by t (map (f r) cols)) same in
+      omega (arith, sum, here, some))
+      (λ apart. ⊎_elim
+      (λ lt. let more = rows-counted (a + 1) n row cols (omega (arith, lt))
+      (omega (arith, most)) some in omega (arith, sum, more))
+      (λ gt. absurd (omega (arith, gt, least)))
+      apart)
+      (cases_order a row)
+
+-- a cell within the rows and the columns is counted
+pub counted-cell : (maps : List Grid) (picks : List ℕ) (t : Combination → Bool) (rows cols row col : ℕ) → row < rows →
+    col < cols → t (combination_at maps picks row col) ≡ true → 0 < count_by t (all_combinations maps picks rows cols)
+counted-cell maps picks t rows cols row col low wide is =
+    let f = combination_at maps picks in
+    let line = row-counted f t row 0 cols col (omega arith) (omega (arith, wide)) is in
+    rows-counted f t 0 rows row (range_with_len 0 cols) (omega arith) (omega (arith, low)) line
 
 -- an entry of a table stands at a cell
 pub entry-at : (skip : Skip) (maps : List Grid) (picks : List ℕ) (rows cols : ℕ) (table : Pairs) →
