@@ -24,13 +24,13 @@ use Rattle.std.proofs.Common.{
   arith,
   subst,
 }
-use Rattle.std.specs.Prelude.{count_by, Contains}
-use Rattle.std.proofs.lemmas.List.Elements.{Contains-get_or}
+use Rattle.std.specs.Prelude.{count_by, Contains, All, if◌then◌else◌}
+use Rattle.std.proofs.lemmas.List.Elements.{Contains-get_or, All-head, All-tail}
 use Rattle.std.specs.Cmp.{tied_itself}
-use Rattle.std.specs.Option.{option_map_or}
+use Rattle.std.specs.Option.{option_map_or, option_map, option_or}
 use Rattle.std.specs.Ordering.{eq_by_cmp, is_eq}
 use Rattle.cell_core.specs.Grid.{Grid, CellValue, cell_at}
-use Rattle.cell_cats.specs.Rule.{RuleValue, new_category}
+use Rattle.cell_cats.specs.Rule.{RuleValue, lists, is_star_rule, last_such, outcome, new_category}
 use Rattle.cell_cats.specs.Reclass.{reclassed, new_row}
 use Rattle.cell_stats_combinations.specs.declared.skip.Skip.{Skip}
 use Rattle.cell_stats_combinations.specs.declared.skip.Skip.TheVariants.{Nothing, AnyNull, AllNull}
@@ -46,8 +46,37 @@ use Rattle.cell_stats_combinations.specs.LeftOut.{is_left_out}
 use Rattle.cell_stats_combinations.proofs.OrderLemmas.{combination_cmp-exact, is_equal}
 use Rattle.cell_stats_counts.specs.Counts.{count_of}
 use Rattle.cell_stats.specs.CategoryTables.{Pairs, IsTable}
-use Rattle.cell_stats_law.specs.ReclassLaw.{sent, IsReclassed, AreSentApart, ReclassKeepsCells, RenamingKeepsCounts}
+use Rattle.cell_stats_law.specs.ReclassLaw.{
+  sent,
+  IsReclassed,
+  AreSentApart,
+  ReclassKeepsCells,
+  RenamingKeepsCounts,
+  UnnamedIsNull,
+}
 use Rattle.cell_stats_law.proofs.CountLemmas.{counts-same, count-alike, counted-in, entry-of, table-sums}
+
+-- ---- what no rule names
+
+last-none : (p : RuleValue → Bool) (rules : List RuleValue) → All (λ rule. p rule ≡ false) rules →
+    last_such p rules ≡ None
+last-none p [] all = refl
+last-none p (rule ∷ rules) all =
+    ap (λ o. option_or o (if p rule then Some rule else None))
+    (last-none p rules (All-tail (λ rule. p rule ≡ false) rule rules all))
+    ∙ ap (λ b. if b then Some rule else None) (All-head (λ rule. p rule ≡ false) rule rules all)
+
+pub unnamed-is-null : UnnamedIsNull
+unnamed-is-null rules = (
+  refl,
+  λ x unlisted unstarred.
+      let listed = last-none (lists x) rules unlisted in
+      let starred = last-none is_star_rule rules unstarred in
+      λ i. outcome x (option_or (option_map (λ rule. rule.output) (listed i))
+      (option_map (λ rule. rule.output) (starred i))),
+)
+
+-- ---- the cells of a map by rules
 
 -- what stands at a place of a mapped list, also past its end
 map-at : {X Y : Type 0} (f : X → Y) (xs : List X) (i : ℕ) (d : X) → get_or (map f xs) i (f d) ≡ f (get_or xs i d)

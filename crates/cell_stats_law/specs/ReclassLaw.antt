@@ -1,8 +1,8 @@
 -- What rules make of a table: the cells that they send to one category are counted together, and none is lost.
-use Rattle.std.specs.Prelude.{ℕ, ◌≡◌, ◌↔◌, false, List, [], ◌∷◌, Some, Contains, filter, sum_by, slice_get}
+use Rattle.std.specs.Prelude.{ℕ, ℤ, ◌≡◌, ◌↔◌, false, List, [], ◌∷◌, Some, None, All, Contains, filter, sum_by, slice_get}
 use Rattle.std.specs.Ordering.{eq_by_cmp}
 use Rattle.cell_core.specs.Grid.{Grid}
-use Rattle.cell_cats.specs.Rule.{RuleValue, new_category}
+use Rattle.cell_cats.specs.Rule.{RuleValue, lists, is_star_rule, new_category}
 use Rattle.cell_cats.specs.Reclass.{reclassed}
 use Rattle.cell_stats_combinations.specs.declared.skip.Skip.{Skip}
 use Rattle.cell_stats_combinations.specs.declared.skip.Skip.TheVariants.{Nothing}
@@ -10,6 +10,10 @@ use Rattle.cell_stats_combinations.specs.Combinations.{Combination, combination_
 use Rattle.cell_stats_combinations.specs.LeftOut.{is_left_out}
 use Rattle.cell_stats_counts.specs.Counts.{count_of}
 use Rattle.cell_stats.specs.CategoryTables.{Pairs, IsTable}
+
+-- null stays null, and so is a category that no rule lists, where no rule is one of `*`
+abbrev pub UnnamedIsNull : Type 0
+UnnamedIsNull = (rules : List RuleValue) → (new_category rules None ≡ None) × ((x : ℤ) → All (λ rule. lists x rule ≡ false) rules → All (λ rule. is_star_rule rule ≡ false) rules → new_category rules (Some x) ≡ None)
 
 -- where the rules send a combination whose first cell they reclass
 abbrev pub sent : List RuleValue → Combination → Combination

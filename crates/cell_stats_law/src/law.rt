@@ -1,7 +1,7 @@
 //! What tables say of each other.
 
 ghost use Rattle.cell_stats_law.specs.PageLaw.{PagesJoin, RestFollows, RestOfRest};
-ghost use Rattle.cell_stats_law.specs.ReclassLaw.{ReclassKeepsCells, RenamingKeepsCounts};
+ghost use Rattle.cell_stats_law.specs.ReclassLaw.{ReclassKeepsCells, RenamingKeepsCounts, UnnamedIsNull};
 
 /// The entries of a table up to a combination, and then its rest after it, are the table.
 pub fn pages_join()
@@ -16,6 +16,11 @@ pub fn rest_follows()
 /// The rest of a rest, after a combination that comes no earlier, is the rest of the whole after it.
 pub fn rest_of_rest()
     ensures { RestOfRest }
+{}
+
+/// Null stays null, and so is a category that no rule lists, where no rule is one of `*`.
+pub fn unnamed_is_null()
+    ensures { UnnamedIsNull }
 {}
 
 /// Reclassing loses no cell and counts none twice: for each new category the count is the sum of the counts of the old ones
