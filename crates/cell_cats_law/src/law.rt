@@ -3,6 +3,7 @@
 ghost use Rattle.cell_cats_law.specs.AreaLaw.{AreasDivideTheirCategory, EntriesAreWhole, NoAreaIsEmpty, NumbersHaveOneCategory};
 ghost use Rattle.cell_cats_law.specs.AreaLaw.{NumbersCloseUp, OtherAreasKeepTheirSize, OtherAreasStay};
 ghost use Rattle.cell_cats_law.specs.CornerLaw.{CornersAddNoArea, CornersOnlyJoin, NumbersOnlyFall, OneByCorners};
+ghost use Rattle.cell_cats_law.specs.PartLaw.{PartsPrintTheWhole, ReclassedPartsAreParts, ReclassedPartsHaveTheLabels};
 
 /// In the table of a map and its clump map each number stands with one category.
 pub fn numbers_have_one_category()
@@ -57,4 +58,19 @@ pub fn corners_add_no_area()
 /// The table of both clump maps shows for each number by edges one number by corners.
 pub fn one_by_corners()
     ensures { OneByCorners }
+{}
+
+/// Whatever rectangle is cut out of maps: by rules it is what is cut out of the maps by rules.
+pub fn reclassed_parts_are_parts()
+    ensures { ReclassedPartsAreParts }
+{}
+
+/// And it has the labels of the maps by rules.
+pub fn reclassed_parts_have_the_labels()
+    ensures { ReclassedPartsHaveTheLabels }
+{}
+
+/// Where parts have the labels of the whole, a table is printed over them as over the whole.
+pub fn parts_print_the_whole()
+    ensures { PartsPrintTheWhole }
 {}

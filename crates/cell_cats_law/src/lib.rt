@@ -1,4 +1,4 @@
-//! Laws of areas: they divide their category, and corners only join them.
+//! Laws of areas, which divide their category and which corners only join, and of parts of maps by rules.
 #![tactic(auto)]
 
 pub mod law;
