@@ -1,0 +1,5 @@
+pub mod AreaLemmas
+pub mod CornerLemmas
+pub mod PartLemmas
+pub mod RenumberedLemmas
+pub mod WithoutLemmas

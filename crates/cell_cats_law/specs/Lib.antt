@@ -1,0 +1,4 @@
+-- Laws of areas.
+pub mod AreaLaw
+pub mod CornerLaw
+pub mod PartLaw

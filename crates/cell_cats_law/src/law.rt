@@ -1,0 +1,76 @@
+//! What clump maps say of the map that they number, and of each other.
+
+ghost use Rattle.cell_cats_law.specs.AreaLaw.{AreasDivideTheirCategory, EntriesAreWhole, NoAreaIsEmpty, NumbersHaveOneCategory};
+ghost use Rattle.cell_cats_law.specs.AreaLaw.{NumbersCloseUp, OtherAreasKeepTheirSize, OtherAreasStay};
+ghost use Rattle.cell_cats_law.specs.CornerLaw.{CornersAddNoArea, CornersOnlyJoin, NumbersOnlyFall, OneByCorners};
+ghost use Rattle.cell_cats_law.specs.PartLaw.{PartsPrintTheWhole, ReclassedPartsAreParts, ReclassedPartsHaveTheLabels};
+
+/// In the table of a map and its clump map each number stands with one category.
+pub fn numbers_have_one_category()
+    ensures { NumbersHaveOneCategory }
+{}
+
+/// An entry of that table counts the whole area: as many cells as have its number.
+pub fn entries_are_whole()
+    ensures { EntriesAreWhole }
+{}
+
+/// For each category the counts of its areas add up to its count.
+pub fn areas_divide_their_category()
+    ensures { AreasDivideTheirCategory }
+{}
+
+/// An area is never empty: where a number stands in that table, each from 1 to it does, with a count above 0.
+pub fn no_area_is_empty()
+    ensures { NoAreaIsEmpty }
+{}
+
+/// Where one whole area is made null, two other cells are of one area exactly where they were.
+pub fn other_areas_stay()
+    ensures { OtherAreasStay }
+{}
+
+/// And each other area keeps its size, whatever its number is now.
+pub fn other_areas_keep_their_size()
+    ensures { OtherAreasKeepTheirSize }
+{}
+
+/// And the numbers close up: those before the number of the area stay, and those after it are one less.
+pub fn numbers_close_up()
+    ensures { NumbersCloseUp }
+{}
+
+/// Corners only join: cells of one area by edges are of one area by edges and corners.
+pub fn corners_only_join()
+    ensures { CornersOnlyJoin }
+{}
+
+/// No cell has a greater number by corners than by edges.
+pub fn numbers_only_fall()
+    ensures { NumbersOnlyFall }
+{}
+
+/// There are no more areas by corners than by edges: each number of the one clump map is one of the other.
+pub fn corners_add_no_area()
+    ensures { CornersAddNoArea }
+{}
+
+/// The table of both clump maps shows for each number by edges one number by corners.
+pub fn one_by_corners()
+    ensures { OneByCorners }
+{}
+
+/// Whatever rectangle is cut out of maps: by rules it is what is cut out of the maps by rules.
+pub fn reclassed_parts_are_parts()
+    ensures { ReclassedPartsAreParts }
+{}
+
+/// And it has the labels of the maps by rules.
+pub fn reclassed_parts_have_the_labels()
+    ensures { ReclassedPartsHaveTheLabels }
+{}
+
+/// Where parts have the labels of the whole, a table is printed over them as over the whole.
+pub fn parts_print_the_whole()
+    ensures { PartsPrintTheWhole }
+{}

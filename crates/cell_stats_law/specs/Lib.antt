@@ -1,0 +1,3 @@
+-- Laws of tables.
+pub mod PageLaw
+pub mod ReclassLaw
