@@ -1,0 +1,3 @@
+-- What the laws of outputs state.
+pub mod ReadAgain
+pub mod OutputExists

@@ -1,0 +1,29 @@
+//! What is so of the outputs of every script.
+
+ghost use Rattle.rcell_law.specs.OutputExists.{AcceptedHaveOutput, OutputsExist};
+ghost use Rattle.rcell_law.specs.ReadAgain.{LabelsChangeNoOtherText, WrittenIsReadAgain, WrittenMapsAreGrids};
+
+/// Maps that r.out.ascii wrote, read as the grids of a second run, are the same maps, but for their labels.
+pub fn written_maps_are_grids()
+    ensures { WrittenMapsAreGrids }
+{}
+
+/// Statements that print no labels write the same whatever labels the maps have.
+pub fn labels_change_no_other_text()
+    ensures { LabelsChangeNoOtherText }
+{}
+
+/// Maps written by r.out.ascii and read as the grids of a second run give the same tables and the same texts.
+pub fn written_is_read_again()
+    ensures { WrittenIsReadAgain }
+{}
+
+/// Statements that fit the maps of a shelf have an output: there is a value at each cell, a class, and a clumping.
+pub fn outputs_exist()
+    ensures { OutputsExist }
+{}
+
+/// Every accepted script over grids of one region has an output.
+pub fn accepted_have_output()
+    ensures { AcceptedHaveOutput }
+{}
