@@ -3,3 +3,5 @@ pub mod AlikeLemmas
 pub mod WrittenLemmas
 pub mod ExistLemmas
 pub mod AcceptedLemmas
+pub mod GrownLemmas
+pub mod CutLemmas

@@ -1,3 +1,4 @@
 -- What the laws of outputs state.
 pub mod ReadAgain
 pub mod OutputExists
+pub mod CutScript

@@ -1,5 +1,6 @@
 //! What is so of the outputs of every script.
 
+ghost use Rattle.rcell_law.specs.CutScript.{CutInTwo};
 ghost use Rattle.rcell_law.specs.OutputExists.{AcceptedHaveOutput, OutputsExist};
 ghost use Rattle.rcell_law.specs.ReadAgain.{LabelsChangeNoOtherText, WrittenIsReadAgain, WrittenMapsAreGrids};
 
@@ -26,4 +27,10 @@ pub fn outputs_exist()
 /// Every accepted script over grids of one region has an output.
 pub fn accepted_have_output()
     ensures { AcceptedHaveOutput }
+{}
+
+/// A script cut in two: where the maps that the first part made are written and read again as grids, the second part writes
+/// what the whole would have written.
+pub fn cut_in_two()
+    ensures { CutInTwo }
 {}
