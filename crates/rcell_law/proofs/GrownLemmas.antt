@@ -144,7 +144,7 @@ grown_twice region a b c one other = record {
 }
 
 -- the names after a command are those that are known then
-names_after : (shelf : ShelfValue) (c : Command) (after : ShelfValue) → IsShelfAfter shelf c after
+pub names_after : (shelf : ShelfValue) (c : Command) (after : ShelfValue) → IsShelfAfter shelf c after
     → after.names ≡ known_after shelf.names c
 names_after shelf (Mapcalc target bound) after h = ap (λ (s : ShelfValue). s.names) h.1.1
 names_after shelf (Reclass place target rules) after h = by (slice_get shelf.maps place) h

@@ -5,3 +5,5 @@ pub mod ExistLemmas
 pub mod AcceptedLemmas
 pub mod GrownLemmas
 pub mod CutLemmas
+pub mod LineLemmas
+pub mod JoinedLemmas

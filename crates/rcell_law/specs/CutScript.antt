@@ -1,5 +1,5 @@
 -- A script cut in two runs: the second reads the maps that the first made, as r.out.ascii wrote them.
-use Rattle.std.specs.Prelude.{ℕ, ◌≡◌, ◌≤◌, ◌↔◌, false, List, ◌++◌, length, drop, All}
+use Rattle.std.specs.Prelude.{ℕ, ◌≡◌, ◌≤◌, ◌↔◌, false, List, [], ◌∷◌, ◌++◌, length, drop, All}
 use Rattle.cell_core_devices.specs.Device.{Coming}
 use Rattle.cell_core.specs.Shelf.{ShelfValue}
 use Rattle.cell_ascii_meaning.specs.Writing.{IsNullText}
@@ -26,3 +26,21 @@ CutInTwo = (grids : List Named) (first second : Coming) (shelf between : ShelfVa
     → PrintNoLabels two
     → IsAccepted (second_grids null_text grids between) second (bare between) two
     × ((rest : List ℕ) → IsOutput (bare between) two rest ↔ IsOutput shelf (one ++ two) (text ++ rest))
+
+-- a text that ends where a line does
+abbrev pub EndsLine : List ℕ → Type 0
+EndsLine text = (front : List ℕ) × (text ≡ front ++ 10 ∷ [])
+
+-- a script that ends where a line does, and a script over the maps that it leaves: one after the other they are a script,
+-- and what it writes is what the first writes, and then what the second writes over the first's maps, written and read again
+abbrev pub ScriptCutInTwo : Type 0
+ScriptCutInTwo = (grids : List Named) (first second : Coming) (shelf between : ShelfValue) (one two : List Statement)
+    (null_text text : List ℕ)
+    → IsAccepted grids first shelf one → Executes shelf one text between → EndsLine first.bytes
+    → IsNullText null_text → All (IsWritable null_text) (drop (length grids) between.maps)
+    → second.fails ≡ false → length (first.bytes ++ second.bytes) ≤ 1048576
+    → IsScript between.names second.bytes two → PrintNoLabels two
+    → (whole : List Statement)
+    × IsAccepted grids (record { bytes = first.bytes ++ second.bytes; fails = false }) shelf whole
+    × IsAccepted (second_grids null_text grids between) second (bare between) two
+    × ((rest : List ℕ) → IsOutput (bare between) two rest ↔ IsOutput shelf whole (text ++ rest))

@@ -1,6 +1,6 @@
 //! What is so of the outputs of every script.
 
-ghost use Rattle.rcell_law.specs.CutScript.{CutInTwo};
+ghost use Rattle.rcell_law.specs.CutScript.{CutInTwo, ScriptCutInTwo};
 ghost use Rattle.rcell_law.specs.OutputExists.{AcceptedHaveOutput, OutputsExist};
 ghost use Rattle.rcell_law.specs.ReadAgain.{LabelsChangeNoOtherText, WrittenIsReadAgain, WrittenMapsAreGrids};
 
@@ -33,4 +33,9 @@ pub fn accepted_have_output()
 /// what the whole would have written.
 pub fn cut_in_two()
     ensures { CutInTwo }
+{}
+
+/// The same of texts: the two parts, one after the other, are the script that writes what they write.
+pub fn script_cut_in_two()
+    ensures { ScriptCutInTwo }
 {}
