@@ -46,7 +46,7 @@ values_exist bound shelf =
 
 -- ---- a map by rules
 
-classes_filled : (rules : List RuleValue) (m : Grid) → IsFilled m.region m.rows → IsFilled m.region
+pub classes_filled : (rules : List RuleValue) (m : Grid) → IsFilled m.region m.rows → IsFilled m.region
     (reclassed rules m).rows
 classes_filled rules m h = record {
   count = length-map m.rows (new_row rules) ∙ h.count;

@@ -7,3 +7,5 @@ pub mod GrownLemmas
 pub mod CutLemmas
 pub mod LineLemmas
 pub mod JoinedLemmas
+pub mod RangeLemmas
+pub mod RunMapLemmas

@@ -2,3 +2,4 @@
 pub mod ReadAgain
 pub mod OutputExists
 pub mod CutScript
+pub mod RunMaps

@@ -3,6 +3,7 @@
 ghost use Rattle.rcell_law.specs.CutScript.{CutInTwo, ScriptCutInTwo};
 ghost use Rattle.rcell_law.specs.OutputExists.{AcceptedHaveOutput, OutputsExist};
 ghost use Rattle.rcell_law.specs.ReadAgain.{LabelsChangeNoOtherText, WrittenIsReadAgain, WrittenMapsAreGrids};
+ghost use Rattle.rcell_law.specs.RunMaps.{RunMapsAreWritable};
 
 /// Maps that r.out.ascii wrote, read as the grids of a second run, are the same maps, but for their labels.
 pub fn written_maps_are_grids()
@@ -38,4 +39,9 @@ pub fn cut_in_two()
 /// The same of texts: the two parts, one after the other, are the script that writes what they write.
 pub fn script_cut_in_two()
     ensures { ScriptCutInTwo }
+{}
+
+/// Each map of a run can be written and read again, with whatever text for null that is no whole number.
+pub fn run_maps_are_writable()
+    ensures { RunMapsAreWritable }
 {}
