@@ -67,6 +67,9 @@ try hostile python3 tools/hostile.py --short --clang "$kit/toolchain/bin/clang"
 # The program beside the plain model of the definitions: each case, and runs made at random.
 { python3 tools/compare.py --cases && python3 tools/compare.py --runs 3000 --seed 1 --program bin/rcell; } || status=1
 
+# Laws of a report, once on outputs: maps of the examples, and made ones of a million cells.
+try laws python3 tools/laws
+
 # The release, linked from the object that was proved: used where there is neither the kit nor Python, nor a source.
 python3 tools/program_object.py || status=1
 try release python3 tools/check_release.py
