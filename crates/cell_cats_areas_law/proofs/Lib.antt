@@ -1,0 +1,5 @@
+pub mod MadeLemmas
+pub mod LeadLemmas
+pub mod LinkLemmas
+pub mod FirstLemmas
+pub mod ExistsLemmas

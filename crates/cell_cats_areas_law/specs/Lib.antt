@@ -1,0 +1,2 @@
+-- What the law of clumpings states.
+pub mod ExistsLaw

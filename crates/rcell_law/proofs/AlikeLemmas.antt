@@ -1,0 +1,274 @@
+-- Statements that print no labels write the same over maps that differ in their labels alone.
+use Rattle.std.proofs.Common.{◌≡◌, ℕ, false, List, [], ◌∷◌, ◌++◌, map, Option, Some, None, IsSome, refl, ap, sym, ◌∙◌}
+use Rattle.std.proofs.Common.{subst, arith}
+use Rattle.std.specs.Prelude.{slice_get, flat_map, if◌then◌else◌, All}
+use Rattle.std.specs.Option.{option_map, option_map_or}
+use Rattle.std.proofs.lemmas.List.{map-append}
+use Rattle.std.proofs.lemmas.List.Elements.{All-head, All-tail}
+use Rattle.std.proofs.lemmas.Option.{slice_get-map, same_Some}
+use Rattle.cell_core_values.specs.Region.{RegionValue}
+use Rattle.cell_core.specs.Grid.{Grid, CellValue, cell_at, no_labels}
+use Rattle.cell_core.specs.Shelf.{ShelfValue}
+use Rattle.cell_calc_binding.specs.Formula.{Formula}
+use Rattle.cell_calc_binding.specs.Value.{value}
+use Rattle.cell_calc_operators.specs.Applied.{Spot, spot}
+use Rattle.cell_ascii_meaning.specs.Writing.{grid_text}
+use Rattle.cell_ascii_law_written.specs.WrittenLaw.{without_labels}
+use Rattle.cell_cats.specs.Rule.{RuleValue}
+use Rattle.cell_cats.specs.Reclass.{reclassed, new_rows}
+use Rattle.cell_cats_areas.specs.declared.clump.Joining.{Joining}
+use Rattle.cell_cats_areas.specs.Areas.{Position, cell_at_spot, AreJoined, IsFirst, HasNumber, IsClumping}
+use Rattle.cell_stats_combinations.specs.LeftOut.{kept}
+use Rattle.cell_stats_combinations.specs.Combinations.{all_combinations}
+use Rattle.cell_stats.specs.CategoryTables.{table_of}
+use Rattle.cell_stats.specs.TableText.{printed_pairs}
+use Rattle.rcell_script_commands.specs.declared.command.Command.{Command}
+use Rattle.rcell_script_commands.specs.declared.command.Command.TheVariants.{Mapcalc, Reclass, Clump, Stats, OutAscii}
+use Rattle.rcell_script_commands.specs.declared.command.StatsOptions.{StatsOptions}
+use Rattle.rcell_script.specs.declared.statement.Statement.{Statement}
+use Rattle.rcell_making.specs.Making.{AreValues, AreNumbers, IsOfMap, with_map}
+use Rattle.rcell.specs.After.{IsShelfAfter}
+use Rattle.rcell.specs.Output.{Executes, command_text, format_of, stats_text, out_ascii_text}
+use Rattle.rcell_law.specs.ReadAgain.{bare, prints_labels, PrintNoLabels, LabelsChangeNoOtherText}
+use Rattle.rcell_law.proofs.BareLemmas.{combinations_bare, grid_text_bare, value_bare, line_bare, pair_bare}
+
+-- shelves that differ in the labels of their maps alone
+pub record AreAlike (a b : ShelfValue) : Type 0 where
+  pub region : a.region ≡ b.region
+  pub names : a.names ≡ b.names
+  pub maps : map without_labels a.maps ≡ map without_labels b.maps
+
+pub AreAlike-sym : (a b : ShelfValue) → AreAlike a b → AreAlike b a
+AreAlike-sym a b h = record { region = sym h.region; names = sym h.names; maps = sym h.maps }
+
+bare_twice : (maps : List Grid) → map without_labels maps ≡ map without_labels (map without_labels maps)
+bare_twice [] = refl
+bare_twice (m ∷ maps) = ap (λ (ms : List Grid). without_labels m ∷ ms) (bare_twice maps)
+
+pub bare_alike : (shelf : ShelfValue) → AreAlike shelf (bare shelf)
+bare_alike shelf = record { region = refl; names = refl; maps = bare_twice shelf.maps }
+
+-- ---- what a command writes
+
+module _ (a b : ShelfValue) (alike : AreAlike a b) where
+  same_rows : a.region.rows ≡ b.region.rows
+  same_rows = ap (λ (r : RegionValue). r.rows) alike.region
+
+  same_cols : a.region.cols ≡ b.region.cols
+  same_cols = ap (λ (r : RegionValue). r.cols) alike.region
+
+  same_combinations : (places : List ℕ)
+      → all_combinations a.maps places a.region.rows a.region.cols
+      ≡ all_combinations b.maps places b.region.rows b.region.cols
+  same_combinations places =
+      combinations_bare a.maps places a.region.rows a.region.cols
+      ∙ (λ i. all_combinations (alike.maps i) places (same_rows i) (same_cols i))
+      ∙ sym (combinations_bare b.maps places b.region.rows b.region.cols)
+
+  same_value : (f : Formula) (s : Spot) → value f a.maps s ≡ value f b.maps s
+  same_value f s = value_bare f a.maps s ∙ ap (λ (ms : List Grid). value f ms s) alike.maps
+      ∙ sym (value_bare f b.maps s)
+
+  same_stats : (places : List ℕ) (options : StatsOptions) → options.labels ≡ false
+      → stats_text a places options ≡ stats_text b places options
+  same_stats places options none =
+      λ i. if options.cells then flat_map (λ k. line_bare (format_of options) none a.maps b.maps places k i)
+      (kept options.skip (same_combinations places i))
+      else flat_map (λ pair. pair_bare (format_of options) none a.maps b.maps places pair i)
+      (printed_pairs options.after (table_of options.skip (same_combinations places i)))
+
+  same_grid_text : (place : ℕ) (null_text : List ℕ)
+      → out_ascii_text a place null_text ≡ out_ascii_text b place null_text
+  same_grid_text place null_text =
+      grid_text_bare null_text a.maps place
+      ∙ ap (λ (ms : List Grid). option_map_or (grid_text null_text) (slice_get ms place) []) alike.maps
+      ∙ sym (grid_text_bare null_text b.maps place)
+
+  same_text : (c : Command) → prints_labels c ≡ false → command_text a c ≡ command_text b c
+  same_text (Mapcalc target bound) none = refl
+  same_text (Reclass place target rules) none = refl
+  same_text (Clump place target joining) none = refl
+  same_text (Stats places options) none = same_stats places options none
+  same_text (OutAscii place null_text) none = same_grid_text place null_text
+
+-- ---- areas read no labels
+
+module _ (j : Joining) (m n : Grid) (same : m.rows ≡ n.rows) where
+  cell_same : (p : Position) → cell_at_spot m p ≡ cell_at_spot n p
+  cell_same p = ap (λ (rows : List (List CellValue)). cell_at (record m { rows = rows }) p.row p.col) same
+
+  joined_same : (p q : Position) → AreJoined j m p q → AreJoined j n p q
+  joined_same p q h = record {
+    category = h.category;
+    others = h.others;
+    leads = h.leads;
+    alike = subst (λ (rows : List (List CellValue)). All
+        (λ s. cell_at (record m { rows = rows }) s.row s.col ≡ Some h.category) (p ∷ h.others)) same h.alike;
+  }
+
+module _ (j : Joining) (m n : Grid) (same : m.rows ≡ n.rows) where
+  first_same : (p : Position) → IsFirst j m p → IsFirst j n p
+  first_same p h = record {
+    category = subst IsSome (cell_same j m n same p) h.category;
+    none_before = λ q before joined. h.none_before q before (joined_same j n m (sym same) q p joined);
+  }
+
+module _ (j : Joining) (m n : Grid) (same : m.rows ≡ n.rows) where
+  number_same : (p : Position) (k : ℕ) → HasNumber j m p k → HasNumber j n p k
+  number_same p k h = record {
+    first = h.first;
+    is_first = first_same j m n same h.first h.is_first;
+    joined = joined_same j m n same h.first p h.joined;
+    firsts = h.firsts;
+    up_to = record {
+      in_order = h.up_to.in_order;
+      exactly = λ q. (
+        λ within. let both = (h.up_to.exactly q).0 within in (first_same j m n same q both.0, both.1),
+        λ both. (h.up_to.exactly q).1 (first_same j n m (sym same) q both.0, both.1),
+      );
+    };
+    count = h.count;
+  }
+
+  clumping_same : m.region ≡ n.region → (numbers : Grid) → IsClumping j m numbers → IsClumping j n numbers
+  clumping_same region numbers h = record {
+    region = h.region ∙ region;
+    labels = h.labels;
+    nulls = λ p none. h.nulls p (cell_same j m n same p ∙ none);
+    numbered = λ p some.
+        let given = h.numbered p (subst IsSome (sym (cell_same j m n same p)) some) in
+        (given.0, number_same p given.0 given.1, given.2);
+    same = λ p q some other.
+        let given = h.same p q (subst IsSome (sym (cell_same j m n same p)) some)
+        (subst IsSome (sym (cell_same j m n same q)) other) in
+        (λ e. joined_same j m n same p q (given.0 e), λ joined. given.1 (joined_same j n m (sym same) p q joined));
+  }
+
+-- ---- the shelf after a command
+
+abbrev AlikeAfter : ShelfValue → Command → ShelfValue → Type 0
+AlikeAfter b c x = (y : ShelfValue) × (IsShelfAfter b c y × AreAlike x y)
+
+module _ (a b : ShelfValue) (alike : AreAlike a b) where
+  with_alike : (target : List ℕ) (x y : Grid) → without_labels x ≡ without_labels y
+      → AreAlike (with_map a target x) (with_map b target y)
+  with_alike target x y same = record {
+    region = alike.region;
+    names = ap (λ (names : List (List ℕ)). names ++ target ∷ []) alike.names;
+    maps = map-append without_labels a.maps (x ∷ []) ∙ (λ i. alike.maps i ++ same i ∷ [])
+        ∙ sym (map-append without_labels b.maps (y ∷ []));
+  }
+
+  -- the map in a place of both
+  same_places : (place : ℕ)
+      → option_map without_labels (slice_get a.maps place) ≡ option_map without_labels (slice_get b.maps place)
+  same_places place =
+      sym (slice_get-map without_labels a.maps place) ∙ ap (λ (ms : List Grid). slice_get ms place) alike.maps
+      ∙ slice_get-map without_labels b.maps place
+
+  values_alike : (bound : Formula) (made : Grid) → AreValues bound a made → AreValues bound b made
+  values_alike bound made h =
+      let rows = same_rows a b alike in
+      let cols = same_cols a b alike in
+      record {
+        region = h.region ∙ alike.region;
+        filled = h.filled;
+        labels = h.labels;
+        cells = λ r c high wide.
+            h.cells r c (omega (arith, rows, high)) (omega (arith, cols, wide))
+            ∙ same_value a b alike bound (spot a.region r c)
+            ∙ ap (λ (e : RegionValue). value bound b.maps (spot e r c)) alike.region;
+      }
+
+  classes_alike : (target : List ℕ) (rules : List RuleValue) (x : ShelfValue) (o other : Option Grid)
+      → option_map without_labels o ≡ option_map without_labels other
+      → IsOfMap (λ m. x ≡ with_map a target (reclassed rules m)) o
+      → (y : ShelfValue) × (IsOfMap (λ m. y ≡ with_map b target (reclassed rules m)) other × AreAlike x y)
+  classes_alike target rules x None other same h = absurd h
+  classes_alike target rules x (Some m) None same h = cc
+  classes_alike target rules x (Some m) (Some n) same h =
+      let bares : without_labels m ≡ without_labels n = same_Some (without_labels m) (without_labels n) same in
+      let made : without_labels (reclassed rules m) ≡ without_labels (reclassed rules n) =
+      ap (λ (g : Grid). record { region = g.region; rows = new_rows rules g.rows; labels = no_labels }) bares in (
+        with_map b target (reclassed rules n),
+        (
+          refl,
+          subst (λ (s : ShelfValue). AreAlike s (with_map b target (reclassed rules n))) (sym h)
+              (with_alike target (reclassed rules m) (reclassed rules n) made),
+        ),
+      )
+
+  numbers_alike : (joining : Joining) (made : Grid) (o other : Option Grid)
+      → option_map without_labels o ≡ option_map without_labels other
+      → IsOfMap (λ m. AreNumbers joining m made) o → IsOfMap (λ m. AreNumbers joining m made) other
+  numbers_alike joining made None other same h = absurd h
+  numbers_alike joining made (Some m) None same h = cc
+  numbers_alike joining made (Some m) (Some n) same h =
+      let bares : without_labels m ≡ without_labels n = same_Some (without_labels m) (without_labels n) same in
+      record {
+        filled = h.filled;
+        clumping = clumping_same joining m n (ap (λ (g : Grid). g.rows) bares)
+            (ap (λ (g : Grid). g.region) bares) made h.clumping;
+      }
+
+  after_alike : (c : Command) (x : ShelfValue) → IsShelfAfter a c x → AlikeAfter b c x
+  after_alike (Mapcalc target bound) x h =
+      let made = h.0 in (
+        with_map b target made,
+        (
+          (made, (values_alike bound made h.1.0, refl)),
+          subst (λ (s : ShelfValue). AreAlike s (with_map b target made)) (sym h.1.1)
+              (with_alike target made made refl),
+        ),
+      )
+  after_alike (Reclass place target rules) x h = classes_alike target rules x (slice_get a.maps place)
+      (slice_get b.maps place) (same_places place) h
+  after_alike (Clump place target joining) x h =
+      let made = h.0 in (
+        with_map b target made,
+        (
+          (
+            made,
+            (
+              numbers_alike joining made (slice_get a.maps place) (slice_get b.maps place)
+                  (same_places place) h.1.0,
+              refl,
+            ),
+          ),
+          subst (λ (s : ShelfValue). AreAlike s (with_map b target made)) (sym h.1.1)
+              (with_alike target made made refl),
+        ),
+      )
+  after_alike (Stats places options) x h = (b, (refl, subst (λ (s : ShelfValue). AreAlike s b) (sym h) alike))
+  after_alike (OutAscii place null_text) x h = (b, (refl, subst (λ (s : ShelfValue). AreAlike s b) (sym h) alike))
+
+-- statements write the same, and leave shelves that differ in labels alone
+pub executes_alike : (statements : List Statement) → PrintNoLabels statements → (a b : ShelfValue) → AreAlike a b
+    → (text : List ℕ) (x : ShelfValue) → Executes a statements text x
+    → (y : ShelfValue) × (Executes b statements text y × AreAlike x y)
+executes_alike [] none a b alike text x h = (b, ((h.0, refl), subst (λ (s : ShelfValue). AreAlike s b) (sym h.1) alike))
+executes_alike (s ∷ ss) none a b alike text x (next, (rest, (step, (others, is)))) =
+    let first = All-head (λ (s : Statement). prints_labels s.command ≡ false) s ss none in
+    let after = after_alike a b alike s.command next step in
+    let more = executes_alike ss
+    (All-tail (λ (s : Statement). prints_labels s.command ≡ false) s ss none) next after.0 after.1.1 rest x others in (
+      more.0,
+      (
+        (
+          after.0,
+          (
+            rest,
+            (after.1.0, (more.1.0, is ∙ ap (λ (t : List ℕ). t ++ rest) (same_text a b alike s.command first))),
+          ),
+        ),
+        more.1.1,
+      ),
+    )
+
+pub labels_change_no_other_text : LabelsChangeNoOtherText
+labels_change_no_other_text shelf statements none text = (
+  λ h. let there = executes_alike statements none shelf (bare shelf) (bare_alike shelf) text h.0 h.1 in
+      (there.0, there.1.0),
+  λ h. let there = executes_alike statements none (bare shelf) shelf
+      (AreAlike-sym shelf (bare shelf) (bare_alike shelf)) text h.0 h.1 in (there.0, there.1.0),
+)

@@ -1,0 +1,11 @@
+pub mod BareLemmas
+pub mod AlikeLemmas
+pub mod WrittenLemmas
+pub mod ExistLemmas
+pub mod AcceptedLemmas
+pub mod GrownLemmas
+pub mod CutLemmas
+pub mod LineLemmas
+pub mod JoinedLemmas
+pub mod RangeLemmas
+pub mod RunMapLemmas

@@ -1,0 +1,515 @@
+-- Each map of a run has a region, its rows and columns, and categories in range.
+use Rattle.std.proofs.Common.{◌≡◌, ◌≢◌, ℕ, zero, suc, ℤ, ◌+◌, ◌*◌, ◌<◌, ◌≤◌, Bool, true, false, not, List, [], ◌∷◌}
+use Rattle.std.proofs.Common.{length, map, get_or, Option, Some, None, Result, Ok, Err, refl, ap, sym, ◌∙◌, subst}
+use Rattle.std.proofs.Common.{arith}
+use Rattle.std.specs.Prelude.{slice_get, All, IfSome, IsOkAnd, if◌then◌else◌, bytes_eq, nat_le, IsSome, ◌*ℤ◌}
+use Rattle.std.specs.Fmt.{signed_decimal}
+use Rattle.std.specs.List.{AllPairs}
+use Rattle.std.specs.Option.{option_map, option_or}
+use Rattle.std.proofs.lemmas.Bool.{and_parts, leb-true}
+use Rattle.std.proofs.lemmas.List.Elements.{All-nil, All-cons, All-head, All-tail, All-get_or, All-map, All-push}
+use Rattle.std.proofs.lemmas.List.Elements.{All-weaker, Contains-get_or}
+use Rattle.std.proofs.lemmas.Option.{slice_get_within, get_or_from_slice_get, same_Some}
+use Rattle.cell_core_values.specs.Region.{RegionValue, IsRegion, region_fault, is_rectangle, is_side, is_countable}
+use Rattle.cell_core_values.specs.Region.{most_side, most_cells}
+use Rattle.cell_core_values.specs.declared.region.RegionFault.TheVariants.{BadExtent, BadRows, BadCols, TooManyCells}
+use Rattle.cell_core_devices.specs.Device.{Coming}
+use Rattle.cell_core_text.specs.Blanks.{trimmed}
+use Rattle.cell_core_text.specs.Words.{list_words_of, pair_of}
+use Rattle.cell_core_text.specs.WholeNumbers.{whole_number, whole_in_range, is_in_range}
+use Rattle.cell_core.specs.Grid.{Grid, CellValue, IsFilled, cell_at}
+use Rattle.cell_core.specs.Shelf.{ShelfValue}
+use Rattle.cell_ascii_meaning.specs.GridText.{Denotes, data_words, line_words}
+use Rattle.cell_ascii_meaning.specs.declared.grid_fault.GridKind.{GridKind}
+use Rattle.cell_ascii_meaning.specs.declared.grid_fault.GridKind.TheVariants.{CellRange}
+use Rattle.cell_ascii_meaning.specs.GridWords.{Header, cell_of_number, cell_of_word}
+use Rattle.cell_ascii_law_written.specs.WrittenLaw.{IsWritable}
+use Rattle.cell_ascii_law_written.proofs.WritingNumberLemmas.{whole_back, in_range_low}
+use Rattle.cell_calc_operators.specs.Applied.{spot}
+use Rattle.cell_calc_binding.specs.Formula.{Formula}
+use Rattle.cell_cats.specs.Rule.{RuleValue, last_such, last_output, outcome, new_category, lists, is_star_rule}
+use Rattle.cell_cats.specs.RuleLine.{rule_of, of_sides, of_shape, of_numbers, output_of, is_null_word, is_star}
+use Rattle.cell_cats.specs.RuleLine.{left_side, is_output, is_star_left, output_word, label_of_right, listed_of_line}
+use Rattle.cell_cats.specs.Reclass.{reclassed, new_row}
+use Rattle.cell_cats.specs.declared.rule.Output.{Output}
+use Rattle.cell_cats.specs.declared.rule.Output.TheVariants.{Same, To}
+use Rattle.cell_cats.specs.declared.rules.RuleFault.{RuleFault}
+use Rattle.cell_cats_areas.specs.declared.clump.Joining.{Joining}
+use Rattle.cell_cats_areas.specs.Areas.{Position, cell_at_spot, IsEarlierCell, IsClumping, HasNumber}
+use Rattle.cell_cats_areas.specs.parts.CellPlaces.{position, cell_place, IsInside}
+use Rattle.cell_cats_areas.proofs.MeetingLemmas.{some_of}
+use Rattle.cell_cats_areas.proofs.StartLemmas.{inside_map, place_lt, place_inside}
+use Rattle.cell_calc_binding.specs.Binding.{with_places, placed_all}
+use Rattle.cell_calc_grammar.specs.Term as term
+use Rattle.cell_calc_grammar.specs.Term.{Term, Terms}
+use Rattle.cell_calc_language.specs.Grammatical.{IsGrammatical, AreGrammatical}
+use Rattle.cell_calc_language.specs.Assignment.{IsAssignment, IsAssignmentText}
+use Rattle.cell_calc_language.specs.declared.assignment.Assignment.{Assignment}
+use Rattle.cell_calc_language.proofs.Grammatical.{expression_grammatical, spelled_categories}
+use Rattle.cell_calc_tokens.specs.Token.{AreCategories}
+use Rattle.cell_calc_tokens.specs.Tokens.{token_list}
+use Rattle.cell_calc_tokens.specs.declared.calc_fault.CalcFault.{CalcFault}
+use Rattle.cell_calc_tokens.specs.declared.token.Placed.{Placed}
+use Rattle.cell_calc_tokens.proofs.SpellingLemmas.{are_spelled}
+use Rattle.rcell_loading.specs.Sources.{Named}
+use Rattle.rcell_script_commands.specs.CommandSpelling.{SpellsCommand}
+use Rattle.rcell_script_commands.specs.RMapcalc.{assignment_text}
+use Rattle.rcell_script_commands.specs.declared.command.Command.{Command}
+use Rattle.rcell_script_commands.specs.declared.command.Command.TheVariants.{Mapcalc, Reclass, Clump, Stats, OutAscii}
+use Rattle.rcell_script.specs.Lines.{Line, script_lines, numbered}
+use Rattle.rcell_script.specs.Scripts as scripts
+use Rattle.rcell_script.specs.Scripts.{Group, IsScript}
+use Rattle.rcell_script.specs.declared.statement.Statement.{Statement}
+use Rattle.rcell_making.specs.Making.{AreValues, AreNumbers, IsOfMap, with_map}
+use Rattle.rcell.specs.After.{IsShelfAfter}
+use Rattle.rcell.specs.Output.{Executes}
+use Rattle.rcell.specs.runs.Accepted.{AllDenote}
+use Rattle.rcell_law.specs.RunMaps.{RunMapsAreWritable}
+use Rattle.rcell_law.proofs.ExistLemmas.{classes_filled}
+use Rattle.rcell_script.specs.ReclassRules.{AreRules}
+use Rattle.rcell_script.specs.ReclassRules as rules
+use Rattle.rcell_law.proofs.RangeLemmas.{InRange, AllInRange, IsSpot, HasCategories, HaveCategories, value_in}
+use Rattle.rcell_law.proofs.RangeLemmas.{number_in, cells_in}
+
+-- ---- rules
+
+abbrev IsGoodOutput : Output → Type 0
+IsGoodOutput Same = Unit {0}
+IsGoodOutput (To cell) = InRange cell
+
+abbrev IsGoodOption : Option Output → Type 0
+IsGoodOption None = Unit {0}
+IsGoodOption (Some output) = IsGoodOutput output
+
+abbrev pub AreGoodRules : List RuleValue → Type 0
+AreGoodRules given = All (λ rule. IsGoodOutput rule.output) given
+
+whole_in : (word : List ℕ) → InRange (whole_in_range word)
+whole_in word = by (whole_number word)
+  where
+    if_in : (n : ℤ) (b : Bool) → is_in_range n ≡ b → InRange (if b then Some n else None)
+    if_in n true e = e
+    if_in n false e = tt
+
+    by : (o : Option ℤ) → InRange
+        (elim o as (λ _. CellValue) [ None ↦ None | Some n ↦ if is_in_range n then Some n else None ])
+    by None = tt
+    by (Some n) = if_in n (is_in_range n) refl
+
+good_output : (word : List ℕ) → IsGoodOption (output_of word)
+good_output word = by (is_null_word word) (is_star word) (whole_in_range word) (whole_in word)
+  where
+    number : (o : Option ℤ) → InRange o → IsGoodOption (option_map (λ n. To (Some n)) o)
+    number None h = tt
+    number (Some n) h = h
+
+    by : (null star : Bool) (o : Option ℤ) → InRange o
+        → IsGoodOption (if null then Some (To None) else (if star then Some Same else option_map (λ n. To (Some n)) o))
+    by true star o h = tt
+    by false true o h = tt
+    by false false o h = number o h
+
+abbrev IsGoodResult : Result RuleValue RuleFault → Type 0
+IsGoodResult (Ok rule) = IsGoodOutput rule.output
+IsGoodResult (Err fault) = Unit {0}
+
+good_numbers : (label : List ℕ) (listed : Option (Option (List (ℤ × ℤ)))) (output : Option Output) → IsGoodOption output
+    → IsGoodResult (of_numbers label listed output)
+good_numbers label None output h = tt
+good_numbers label (Some listed) None h = tt
+good_numbers label (Some listed) (Some output) h = h
+
+good_if : (t : Bool) (a b : Result RuleValue RuleFault) → IsGoodResult a → IsGoodResult b → IsGoodResult
+    (if t then a else b)
+good_if true a b h k = h
+good_if false a b h k = k
+
+good_shape : (right : List ℕ) (o : Option (Option (List (List ℕ × List ℕ)))) → IsGoodResult (of_shape right o)
+good_shape right None = tt
+good_shape right (Some left) =
+    good_if (is_output (is_star_left left) (output_word right))
+    (of_numbers (label_of_right right) (listed_of_line left) (output_of (output_word right))) _
+    (good_numbers (label_of_right right) (listed_of_line left) (output_of (output_word right))
+    (good_output (output_word right))) tt
+
+good_sides : (o : Option (List ℕ × List ℕ)) → IsGoodResult (of_sides o)
+good_sides None = tt
+good_sides (Some sides) = good_shape (trimmed sides.1) (left_side (list_words_of sides.0))
+
+good_rule : (bytes : List ℕ) (rule : RuleValue) → rule_of bytes ≡ Ok rule → IsGoodOutput rule.output
+good_rule bytes rule is = subst IsGoodResult is (good_sides (pair_of bytes))
+
+pub good_rules : (lines : List Line) (given : List RuleValue) → AreRules lines given → AreGoodRules given
+good_rules _ _ rules.none = All-nil (λ rule. IsGoodOutput rule.output)
+good_rules _ _ (rules.skipped says more) = good_rules _ _ more
+good_rules _ _ (rules.rule {line} {first} {rules = others} spells more) =
+    All-cons (λ rule. IsGoodOutput rule.output) first others (good_rule line.bytes first spells.rule_is)
+    (good_rules _ _ more)
+
+abbrev IsGoodLast : Option RuleValue → Type 0
+IsGoodLast None = Unit {0}
+IsGoodLast (Some rule) = IsGoodOutput rule.output
+
+last_good : (p : RuleValue → Bool) (given : List RuleValue) → AreGoodRules given → IsGoodLast (last_such p given)
+last_good p [] h = tt
+last_good p (rule ∷ given) h = by (last_such p given)
+    (last_good p given (All-tail (λ rule. IsGoodOutput rule.output) rule given h)) (p rule)
+  where
+    by : (o : Option RuleValue) → IsGoodLast o → (t : Bool) → IsGoodLast (option_or o (if t then Some rule else None))
+    by (Some other) k t = k
+    by None k true = All-head (λ rule. IsGoodOutput rule.output) rule given h
+    by None k false = tt
+
+output_good : (p : RuleValue → Bool) (given : List RuleValue) → AreGoodRules given → IsGoodOption (last_output p given)
+output_good p given h = by (last_such p given) (last_good p given h)
+  where
+    by : (o : Option RuleValue) → IsGoodLast o → IsGoodOption (option_map (λ rule. rule.output) o)
+    by None k = tt
+    by (Some rule) k = k
+
+class_in : (given : List RuleValue) → AreGoodRules given → (cell : CellValue) → InRange cell → InRange
+    (new_category given cell)
+class_in given h None is = tt
+class_in given h (Some x) is = by (last_output (lists x) given) (last_output is_star_rule given)
+    (output_good (lists x) given h) (output_good is_star_rule given h)
+  where
+    made : (o : Option Output) → IsGoodOption o → InRange (outcome x o)
+    made None k = tt
+    made (Some Same) k = is
+    made (Some (To cell)) k = k
+
+    by : (one other : Option Output) → IsGoodOption one → IsGoodOption other → InRange (outcome x (option_or one other))
+    by (Some output) other k l = made (Some output) k
+    by None other k l = made other l
+
+pub classes_in : (given : List RuleValue) → AreGoodRules given → (rows : List (List CellValue)) → AllInRange rows
+    → AllInRange (map (new_row given) rows)
+classes_in given h [] all = All-nil (λ row. All InRange row)
+classes_in given h (row ∷ rows) all =
+    All-cons (λ row. All InRange row) (new_row given row) (map (new_row given) rows)
+    (All-map InRange (new_category given) row
+    (All-weaker InRange (λ cell. InRange (new_category given cell)) (class_in given h) row
+    (All-head (λ row. All InRange row) row rows all)))
+    (classes_in given h rows (All-tail (λ row. All InRange row) row rows all))
+
+-- ---- numbers of areas
+
+-- cells in row order have places that rise
+rising : (w : ℕ) (ps : List Position) (d : Position) → AllPairs IsEarlierCell ps →
+    ((i : ℕ) → i < length ps → (get_or ps i d).col < w) → (i : ℕ) → i < length ps → i ≤ cell_place w (get_or ps i d)
+rising w ps d order inside zero lt = omega arith
+rising w ps d order inside (suc i) lt =
+    let before = rising w ps d order inside i (omega (arith, lt)) in
+    let step = place_lt w (get_or ps i d) (get_or ps (suc i) d) (inside i (omega (arith, lt)))
+    (order i (suc i) d (omega arith) lt) in
+    omega (arith, before, step)
+
+number_low : (j : Joining) (m : Grid) (p : Position) (n : ℕ) → IsFilled m.region m.rows → HasNumber j m p n
+    → n ≤ m.region.rows * m.region.cols
+number_low j m p n filled h = by n h.count
+  where
+    d : Position
+    d = position 0 0
+
+    inside : (i : ℕ) → i < length h.firsts → IsInside m (get_or h.firsts i d)
+    inside i lt =
+        let q : Position = get_or h.firsts i d in
+        let first = ((h.up_to.exactly q).0 (Contains-get_or h.firsts i d lt)).0 in
+        let v = some_of (cell_at_spot m q) first.category in
+        inside_map m q v.0 filled v.1
+
+    by : (n : ℕ) → length h.firsts ≡ n → n ≤ m.region.rows * m.region.cols
+    by zero e = omega arith
+    by (suc k) e =
+        let lt : k < length h.firsts = omega (arith, e) in
+        let last = rising m.region.cols h.firsts d h.up_to.in_order (λ i less. (inside i less).1) k lt in
+        let within = place_inside m (get_or h.firsts k d) (inside k lt) in
+        omega (arith, last, within)
+
+numbers_in : (j : Joining) (m made : Grid) → IsFilled m.region m.rows → IsRegion m.region
+    → IsFilled made.region made.rows → IsClumping j m made → AllInRange made.rows
+numbers_in j m made filled is made_filled clumping = cells_in made made_filled
+    (λ r c high wide. by (position r c) (cell_at_spot m (position r c)) refl)
+  where
+    by : (p : Position) (x : CellValue) → cell_at_spot m p ≡ x → InRange (cell_at_spot made p)
+    by p None e = subst InRange (sym (clumping.nulls p e)) tt
+    by p (Some v) e =
+        let some : IsSome (cell_at_spot m p) = rw e refl in
+        let given = clumping.numbered p some in
+        let low = number_low j m p given.0 filled given.1 in
+        let most = is.cells_most in
+        subst InRange (sym given.2) (number_in given.0 (omega (arith, low, most)))
+
+-- ---- maps of grids
+
+word_in : (h : Header) (word : List ℕ) (cell : CellValue) → cell_of_word h word ≡ Ok cell → InRange cell
+word_in h word cell e = by (bytes_eq word h.null_text) (whole_number word) e
+  where
+    good : Result CellValue GridKind → Type 0
+    good (Ok x) = InRange x
+    good (Err kind) = Unit {0}
+
+    product : (n : ℤ) (t : Bool) → is_in_range n ≡ t → good (if t then Ok (Some n) else Err CellRange)
+    product n true is = is
+    product n false is = tt
+
+    first : (n m : ℤ) (t : Bool) → good
+        (if t then (if is_in_range m then Ok (Some m) else Err CellRange) else Err CellRange)
+    first n m true = product m (is_in_range m) refl
+    first n m false = tt
+
+    number : (o : Option ℤ) → good (cell_of_number h.multiplier o)
+    number None = tt
+    number (Some n) = first n (n *ℤ h.multiplier) (is_in_range n)
+
+    by : (t : Bool) (o : Option ℤ) → (if t then Ok None else cell_of_number h.multiplier o) ≡ Ok cell → InRange cell
+    by true o is = let same : None ≡ cell = cc in subst InRange same tt
+    by false o is = subst good is (number o)
+
+denoted_in : (c : Coming) (m : Grid) → Denotes c m → AllInRange m.rows
+denoted_in c m h =
+    let rows : m.region.rows ≡ h.said.region.rows = ap (λ (r : RegionValue). r.rows) h.region in
+    let cols : m.region.cols ≡ h.said.region.cols = ap (λ (r : RegionValue). r.cols) h.region in
+    cells_in m (subst (λ (e : RegionValue). IsFilled e m.rows) (sym h.region) h.cells.shape)
+    (λ r k high wide. by (slice_get (data_words (line_words c.bytes)) (r * h.said.region.cols + k)) (cell_at m r k)
+    (h.cells.each r k (omega (arith, rows, high)) (omega (arith, cols, wide))))
+  where
+    by : (o : Option (List ℕ)) (cell : CellValue) → option_map (cell_of_word h.said) o ≡ Some (Ok cell) → InRange cell
+    by None cell e = cc
+    by (Some word) cell e = word_in h.said word cell (same_Some (cell_of_word h.said word) (Ok cell) e)
+
+region_is : (e : RegionValue) → region_fault e ≡ Ok e → IsRegion e
+region_is e accepted = by (parts (is_rectangle e) (is_side e.rows) (is_side e.cols) (is_countable e) accepted)
+  where
+    parts : (a b c d : Bool) →
+        (if not a then Err BadExtent else
+        (if not b then Err BadRows else
+        (if not c then Err BadCols else (if not d then Err TooManyCells else Ok e)))) ≡ Ok e
+        → (b ≡ true) × ((c ≡ true) × (d ≡ true))
+    parts false b c d h = cc
+    parts true false c d h = cc
+    parts true true false d h = cc
+    parts true true true false h = cc
+    parts true true true true h = (refl, (refl, refl))
+
+    by : (is_side e.rows ≡ true) × ((is_side e.cols ≡ true) × (is_countable e ≡ true)) → IsRegion e
+    by (b, (c, d)) =
+        let rows = and_parts (nat_le 1 e.rows) (nat_le e.rows most_side) b in
+        let cols = and_parts (nat_le 1 e.cols) (nat_le e.cols most_side) c in
+        record {
+          rows_least = leb-true 1 e.rows rows.0;
+          rows_most = leb-true e.rows most_side rows.1;
+          cols_least = leb-true 1 e.cols cols.0;
+          cols_most = leb-true e.cols most_side cols.1;
+          cells_most = leb-true (e.rows * e.cols) most_cells d;
+          accepted = accepted;
+        }
+
+-- ---- what holds of each map
+
+-- it has the region, its rows and columns, and categories in range
+record IsSound (region : RegionValue) (m : Grid) : Type 0 where
+  region_is : m.region ≡ region
+  filled : IsFilled m.region m.rows
+  range : AllInRange m.rows
+
+grids_sound : (region : RegionValue) (grids : List Named) (maps : List Grid) → AllDenote grids maps → All
+    (λ m. m.region ≡ region) maps → All (IsSound region) maps
+grids_sound region [] [] denote same = All-nil (IsSound region)
+grids_sound region [] (m ∷ maps) denote same = absurd denote
+grids_sound region (g ∷ grids) [] denote same = absurd denote
+grids_sound region (g ∷ grids) (m ∷ maps) denote same =
+    let h : Denotes g.1 m = denote.0 in
+    All-cons (IsSound region) m maps
+    (record {
+      region_is = All-head (λ m. m.region ≡ region) m maps same;
+      filled = subst (λ (e : RegionValue). IsFilled e m.rows) (sym h.region) h.cells.shape;
+      range = denoted_in g.1 m h;
+    })
+    (grids_sound region grids maps denote.1 (All-tail (λ m. m.region ≡ region) m maps same))
+
+grids_region : (region : RegionValue) (grids : List Named) (maps : List Grid) → 0 < length grids → AllDenote grids maps
+    → All (λ m. m.region ≡ region) maps → IsRegion region
+grids_region region [] maps some denote same = absurd (omega (arith, some))
+grids_region region (g ∷ grids) [] some denote same = absurd denote
+grids_region region (g ∷ grids) (m ∷ maps) some denote same =
+    let h : Denotes g.1 m = denote.0 in
+    let here : h.said.region ≡ region = sym h.region ∙ All-head (λ m. m.region ≡ region) m maps same in
+    subst IsRegion here (region_is h.said.region h.header.good)
+
+-- ---- what a script asks for
+
+abbrev IsGood : Command → Type 0
+IsGood (Mapcalc target bound) = HasCategories bound
+IsGood (Reclass place target given) = AreGoodRules given
+IsGood (Clump place target joining) = Unit {0}
+IsGood (Stats places options) = Unit {0}
+IsGood (OutAscii place null_text) = Unit {0}
+
+mutual
+  placed_categories : (names : List (List ℕ)) (e : Term) → IsGrammatical e → HasCategories (with_places names e)
+  placed_categories names (term.Number n) h = h
+  placed_categories names (term.Map name down right c) h = tt
+  placed_categories names (term.Negated a) h = placed_categories names a h
+  placed_categories names (term.Not a) h = placed_categories names a h
+  placed_categories names (term.Binary op a b) h = (placed_categories names a h.0, placed_categories names b h.1)
+  placed_categories names (term.Call f xs) h = all_categories names xs h.1
+
+  all_categories : (names : List (List ℕ)) (xs : Terms) → AreGrammatical xs → HaveCategories (placed_all names xs)
+  all_categories names term.NoTerms h = tt
+  all_categories names (term.Then a xs) h = (placed_categories names a h.0, all_categories names xs h.1)
+
+-- the numbers of an assignment's text are categories
+assigned : (text : List ℕ) (a : Assignment) → IsAssignmentText text a → IsGrammatical a.expr
+assigned text a is = by (token_list text) refl is
+  where
+    by : (r : Result (List Placed) CalcFault) → token_list text ≡ r → IsOkAnd r (λ ts. IsAssignment ts a)
+        → IsGrammatical a.expr
+    by (Err told) e h = absurd h
+    by (Ok ts) e (c, d, us, cut, stands) =
+        let all = subst AreCategories cut (spelled_categories (are_spelled text ts e)) in
+        expression_grammatical stands all.1.1
+
+spelled_good : (known : List (List ℕ)) (line : List ℕ) (c : Command) → SpellsCommand known line c → IsGood c
+spelled_good known line (Mapcalc target bound) h =
+    subst HasCategories h.bound_is
+    (placed_categories known h.assignment.expr (assigned (assignment_text line) h.assignment h.says))
+spelled_good known line (Reclass place target given) h = absurd h
+spelled_good known line (Clump place target joining) h = tt
+spelled_good known line (Stats places options) h = tt
+spelled_good known line (OutAscii place null_text) h = tt
+
+abbrev AreGood : List Statement → Type 0
+AreGood [] = Unit {0}
+AreGood (s ∷ ss) = IsGood s.command × AreGood ss
+
+group_good : (known : List (List ℕ)) (lines : List Line) (statements : List Statement) → Group known lines statements
+    → AreGood statements
+group_good known _ _ scripts.none = tt
+group_good known _ _ (scripts.skipped says more) = group_good known _ _ more
+group_good known _ _ (scripts.command {line} {command = c} spells more) =
+    (spelled_good known line.bytes c spells, group_good _ _ _ more)
+group_good known _ _ (scripts.reclass {inner} {rules = given} last spells are end more) =
+    (good_rules inner given are, group_good _ _ _ more)
+
+script_good : (known : List (List ℕ)) (text : List ℕ) (statements : List Statement) → IsScript known text statements
+    → AreGood statements
+unfolding IsScript
+script_good known text statements is = group_good known (numbered 1 (script_lines text)) statements is.grouped
+
+-- ---- the maps after statements
+
+module _ (region : RegionValue) (is : IsRegion region) where
+  record AreSound (shelf : ShelfValue) : Type 0 where
+    region_is : shelf.region ≡ region
+    maps : All (IsSound region) shelf.maps
+
+  sound_there : (maps : List Grid) (place : ℕ) (m : Grid) → All (IsSound region) maps → slice_get maps place ≡ Some m
+      → IsSound region m
+  sound_there maps place m all there =
+      subst (IsSound region) (get_or_from_slice_get maps place m m there)
+      (All-get_or (IsSound region) maps place m (slice_get_within maps place m there) all)
+
+  with_sound : (shelf : ShelfValue) (target : List ℕ) (made : Grid) → AreSound shelf → IsSound region made → AreSound
+      (with_map shelf target made)
+  with_sound shelf target made h k =
+      record { region_is = h.region_is; maps = All-push (IsSound region) shelf.maps made h.maps k }
+
+  values_sound : (bound : Formula) (shelf : ShelfValue) (made : Grid) → HasCategories bound → AreSound shelf
+      → AreValues bound shelf made → IsSound region made
+  values_sound bound shelf made good h k =
+      let rows : made.region.rows ≡ shelf.region.rows = ap (λ (r : RegionValue). r.rows) k.region in
+      let cols : made.region.cols ≡ shelf.region.cols = ap (λ (r : RegionValue). r.cols) k.region in
+      let rows_are : shelf.region.rows ≡ region.rows = ap (λ (r : RegionValue). r.rows) h.region_is in
+      let cols_are : shelf.region.cols ≡ region.cols = ap (λ (r : RegionValue). r.cols) h.region_is in
+      let rows_most = is.rows_most in
+      let cols_most = is.cols_most in
+      let all : All (λ m. AllInRange m.rows) shelf.maps = All-weaker (IsSound region) (λ m. AllInRange m.rows)
+      (λ m sound. sound.range) shelf.maps h.maps in
+      record {
+        region_is = k.region ∙ h.region_is;
+        filled = k.filled;
+        range = cells_in made k.filled (λ r c high wide.
+            let here : IsSpot (spot shelf.region r c) = record {
+              row = omega (arith, rows, high);
+              col = omega (arith, cols, wide);
+              rows = omega (arith, rows_are, rows_most);
+              cols = omega (arith, cols_are, cols_most);
+            } in
+            subst InRange (sym (k.cells r c (omega (arith, rows, high)) (omega (arith, cols, wide))))
+            (value_in shelf.maps all (spot shelf.region r c) here bound good));
+      }
+
+  reclassed_sound : (given : List RuleValue) (m : Grid) → AreGoodRules given → IsSound region m → IsSound region
+      (reclassed given m)
+  reclassed_sound given m good h = record {
+    region_is = h.region_is;
+    filled = classes_filled given m h.filled;
+    range = classes_in given good m.rows h.range;
+  }
+
+  after_sound : (shelf : ShelfValue) (c : Command) (after : ShelfValue) → IsGood c → AreSound shelf
+      → IsShelfAfter shelf c after → AreSound after
+  after_sound shelf (Mapcalc target bound) after good h step =
+      subst AreSound (sym step.1.1) (with_sound shelf target step.0 h (values_sound bound shelf step.0 good h step.1.0))
+  after_sound shelf (Reclass place target given) after good h step = by (slice_get shelf.maps place) refl step
+    where
+      by : (o : Option Grid) → slice_get shelf.maps place ≡ o → IsOfMap
+          (λ m. after ≡ with_map shelf target (reclassed given m)) o → AreSound after
+      by None there k = absurd k
+      by (Some m) there k =
+          subst AreSound (sym k) (with_sound shelf target (reclassed given m) h
+          (reclassed_sound given m good (sound_there shelf.maps place m h.maps there)))
+  after_sound shelf (Clump place target joining) after good h step =
+      subst AreSound (sym step.1.1) (with_sound shelf target step.0 h (by (slice_get shelf.maps place) refl step.1.0))
+    where
+      by : (o : Option Grid) → slice_get shelf.maps place ≡ o → IsOfMap (λ m. AreNumbers joining m step.0) o
+          → IsSound region step.0
+      by None there k = absurd k
+      by (Some m) there k =
+          let sound = sound_there shelf.maps place m h.maps there in
+          record {
+            region_is = k.clumping.region ∙ sound.region_is;
+            filled = k.filled;
+            range = numbers_in joining m step.0 sound.filled
+                (subst IsRegion (sym sound.region_is) is) k.filled k.clumping;
+          }
+  after_sound shelf (Stats places options) after good h step = subst AreSound (sym step) h
+  after_sound shelf (OutAscii place null_text) after good h step = subst AreSound (sym step) h
+
+  executes_sound : (statements : List Statement) (shelf after : ShelfValue) (text : List ℕ) → AreGood statements
+      → AreSound shelf → Executes shelf statements text after → AreSound after
+  executes_sound [] shelf after text good h done = subst AreSound (sym done.1) h
+  executes_sound (s ∷ ss) shelf after text good h (next, (rest, (step, (others, same)))) =
+      executes_sound ss next after rest good.1 (after_sound shelf s.command next good.0 h step) others
+
+-- ---- and can be written
+
+apart : (null_text : List ℕ) → whole_number null_text ≡ None → (cell : CellValue) → InRange cell → IfSome cell
+    (λ category. signed_decimal category ≢ null_text)
+apart null_text no_number None h = tt
+apart null_text no_number (Some z) h =
+    λ same. let both : Some z ≡ None = sym (whole_back z (in_range_low z h)) ∙ ap whole_number same ∙ no_number in cc
+
+sound_writable : (region : RegionValue) → IsRegion region → (null_text : List ℕ) → whole_number null_text ≡ None →
+    (m : Grid) → IsSound region m → IsWritable null_text m
+sound_writable region is null_text no_number m h = record {
+  region = subst IsRegion (sym h.region_is) is;
+  filled = h.filled;
+  range = h.range;
+  apart = All-weaker (λ row. All InRange row)
+      (λ row. All (λ cell. IfSome cell (λ category. signed_decimal category ≢ null_text)) row)
+      (λ row. All-weaker InRange (λ cell. IfSome cell (λ category. signed_decimal category ≢ null_text))
+      (apart null_text no_number) row) m.rows h.range;
+}
+
+pub run_maps_are_writable : RunMapsAreWritable
+run_maps_are_writable grids script shelf after statements text accepted done null_text no_number =
+    let are = accepted.loaded in
+    let is = grids_region shelf.region grids shelf.maps are.some are.denote are.one_region in
+    let before : AreSound shelf.region is shelf =
+    record { region_is = refl; maps = grids_sound shelf.region grids shelf.maps are.denote are.one_region } in
+    let sound = executes_sound shelf.region is statements shelf after text
+    (script_good shelf.names script.bytes statements accepted.denoted) before done in
+    All-weaker (IsSound shelf.region) (IsWritable null_text)
+    (sound_writable shelf.region is null_text no_number) after.maps sound.maps

@@ -1,0 +1,46 @@
+-- A script cut in two runs: the second reads the maps that the first made, as r.out.ascii wrote them.
+use Rattle.std.specs.Prelude.{ℕ, ◌≡◌, ◌≤◌, ◌↔◌, false, List, [], ◌∷◌, ◌++◌, length, drop, All}
+use Rattle.cell_core_devices.specs.Device.{Coming}
+use Rattle.cell_core.specs.Shelf.{ShelfValue}
+use Rattle.cell_ascii_meaning.specs.Writing.{IsNullText}
+use Rattle.cell_ascii_law_written.specs.WrittenLaw.{IsWritable}
+use Rattle.rcell_loading.specs.Sources.{Named}
+use Rattle.rcell_script.specs.Scripts.{IsScript}
+use Rattle.rcell_script.specs.declared.statement.Statement.{Statement}
+use Rattle.rcell.specs.Output.{Executes, IsOutput}
+use Rattle.rcell.specs.runs.Accepted.{IsAccepted}
+use Rattle.rcell_law.specs.ReadAgain.{bare, written_grids, PrintNoLabels}
+
+-- the grids of the second run: those of the first, then the maps that it made, each as r.out.ascii writes it
+abbrev pub second_grids : List ℕ → List Named → ShelfValue → List Named
+second_grids null_text grids between = grids ++ drop (length grids) (written_grids null_text between)
+
+-- where the first part of a script is accepted and leaves a shelf, a second part that prints no labels is accepted over
+-- what the first made, written and read again; and it writes what the whole writes after the first part's text
+abbrev pub CutInTwo : Type 0
+CutInTwo = (grids : List Named) (first second : Coming) (shelf between : ShelfValue) (one two : List Statement)
+    (null_text text : List ℕ)
+    → IsAccepted grids first shelf one → Executes shelf one text between
+    → IsNullText null_text → All (IsWritable null_text) (drop (length grids) between.maps)
+    → second.fails ≡ false → length second.bytes ≤ 1048576 → IsScript between.names second.bytes two
+    → PrintNoLabels two
+    → IsAccepted (second_grids null_text grids between) second (bare between) two
+    × ((rest : List ℕ) → IsOutput (bare between) two rest ↔ IsOutput shelf (one ++ two) (text ++ rest))
+
+-- a text that ends where a line does
+abbrev pub EndsLine : List ℕ → Type 0
+EndsLine text = (front : List ℕ) × (text ≡ front ++ 10 ∷ [])
+
+-- a script that ends where a line does, and a script over the maps that it leaves: one after the other they are a script,
+-- and what it writes is what the first writes, and then what the second writes over the first's maps, written and read again
+abbrev pub ScriptCutInTwo : Type 0
+ScriptCutInTwo = (grids : List Named) (first second : Coming) (shelf between : ShelfValue) (one two : List Statement)
+    (null_text text : List ℕ)
+    → IsAccepted grids first shelf one → Executes shelf one text between → EndsLine first.bytes
+    → IsNullText null_text → All (IsWritable null_text) (drop (length grids) between.maps)
+    → second.fails ≡ false → length (first.bytes ++ second.bytes) ≤ 1048576
+    → IsScript between.names second.bytes two → PrintNoLabels two
+    → (whole : List Statement)
+    × IsAccepted grids (record { bytes = first.bytes ++ second.bytes; fails = false }) shelf whole
+    × IsAccepted (second_grids null_text grids between) second (bare between) two
+    × ((rest : List ℕ) → IsOutput (bare between) two rest ↔ IsOutput shelf whole (text ++ rest))

@@ -1,0 +1,5 @@
+-- What the laws of outputs state.
+pub mod ReadAgain
+pub mod OutputExists
+pub mod CutScript
+pub mod RunMaps

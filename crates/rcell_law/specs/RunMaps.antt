@@ -1,0 +1,17 @@
+-- The maps of a run can be written and read again.
+use Rattle.std.specs.Prelude.{ℕ, ◌≡◌, List, None, All}
+use Rattle.cell_core_devices.specs.Device.{Coming}
+use Rattle.cell_core.specs.Shelf.{ShelfValue}
+use Rattle.cell_ascii_meaning.specs.EdgeNumbers.{whole_number}
+use Rattle.cell_ascii_law_written.specs.WrittenLaw.{IsWritable}
+use Rattle.rcell_loading.specs.Sources.{Named}
+use Rattle.rcell_script.specs.declared.statement.Statement.{Statement}
+use Rattle.rcell.specs.Output.{Executes}
+use Rattle.rcell.specs.runs.Accepted.{IsAccepted}
+
+-- each map of an accepted script can be written and read again, with whatever text for null that is no whole number
+abbrev pub RunMapsAreWritable : Type 0
+RunMapsAreWritable = (grids : List Named) (script : Coming) (shelf after : ShelfValue) (statements : List Statement)
+    (text : List ℕ)
+    → IsAccepted grids script shelf statements → Executes shelf statements text after
+    → (null_text : List ℕ) → whole_number null_text ≡ None → All (IsWritable null_text) after.maps

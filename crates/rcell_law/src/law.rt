@@ -1,0 +1,47 @@
+//! What is so of the outputs of every script.
+
+ghost use Rattle.rcell_law.specs.CutScript.{CutInTwo, ScriptCutInTwo};
+ghost use Rattle.rcell_law.specs.OutputExists.{AcceptedHaveOutput, OutputsExist};
+ghost use Rattle.rcell_law.specs.ReadAgain.{LabelsChangeNoOtherText, WrittenIsReadAgain, WrittenMapsAreGrids};
+ghost use Rattle.rcell_law.specs.RunMaps.{RunMapsAreWritable};
+
+/// Maps that r.out.ascii wrote, read as the grids of a second run, are the same maps, but for their labels.
+pub fn written_maps_are_grids()
+    ensures { WrittenMapsAreGrids }
+{}
+
+/// Statements that print no labels write the same whatever labels the maps have.
+pub fn labels_change_no_other_text()
+    ensures { LabelsChangeNoOtherText }
+{}
+
+/// Maps written by r.out.ascii and read as the grids of a second run give the same tables and the same texts.
+pub fn written_is_read_again()
+    ensures { WrittenIsReadAgain }
+{}
+
+/// Statements that fit the maps of a shelf have an output: there is a value at each cell, a class, and a clumping.
+pub fn outputs_exist()
+    ensures { OutputsExist }
+{}
+
+/// Every accepted script over grids of one region has an output.
+pub fn accepted_have_output()
+    ensures { AcceptedHaveOutput }
+{}
+
+/// A script cut in two: where the maps that the first part made are written and read again as grids, the second part writes
+/// what the whole would have written.
+pub fn cut_in_two()
+    ensures { CutInTwo }
+{}
+
+/// The same of texts: the two parts, one after the other, are the script that writes what they write.
+pub fn script_cut_in_two()
+    ensures { ScriptCutInTwo }
+{}
+
+/// Each map of a run can be written and read again, with whatever text for null that is no whole number.
+pub fn run_maps_are_writable()
+    ensures { RunMapsAreWritable }
+{}
