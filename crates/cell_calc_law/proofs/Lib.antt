@@ -1,0 +1,2 @@
+pub mod LocalLemmas
+pub mod MapLemmas

@@ -1,0 +1,2 @@
+-- What the laws of values of expressions state.
+pub mod LocalLaw

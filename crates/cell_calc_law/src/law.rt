@@ -1,0 +1,28 @@
+//! What local expressions and shifts make of maps, in the subject's words.
+
+ghost use Rattle.cell_calc_law.specs.LocalLaw.{CopyIsTheMap, EitherWayIsTheSame, LocalGoesByCombinations, OneMapOfValues, OneValueACombination};
+
+/// At cells of one combination of the maps that it reads, a local expression has one value.
+pub fn one_value_a_combination()
+    ensures { OneValueACombination }
+{}
+
+/// A function of the combination gives the values of a local expression, at each cell of whatever maps.
+pub fn local_goes_by_combinations()
+    ensures { LocalGoesByCombinations }
+{}
+
+/// Expressions that have the same value at each cell make the same map.
+pub fn one_map_of_values()
+    ensures { OneMapOfValues }
+{}
+
+/// After `x = g`, x has the rows of g.
+pub fn copy_is_the_map()
+    ensures { CopyIsTheMap }
+{}
+
+/// After `x = g` and `y = if(isnull(g), g, g)`, y is x, whatever expression g is.
+pub fn either_way_is_the_same()
+    ensures { EitherWayIsTheSame }
+{}
