@@ -1,2 +1,4 @@
+pub mod LineLemmas
 pub mod LocalLemmas
 pub mod MapLemmas
+pub mod ShiftLemmas

@@ -1,2 +1,3 @@
 -- What the laws of values of expressions state.
 pub mod LocalLaw
+pub mod ShiftLaw

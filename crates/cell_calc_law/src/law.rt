@@ -1,6 +1,7 @@
 //! What local expressions and shifts make of maps, in the subject's words.
 
 ghost use Rattle.cell_calc_law.specs.LocalLaw.{CopyIsTheMap, EitherWayIsTheSame, LocalGoesByCombinations, OneMapOfValues, OneValueACombination};
+ghost use Rattle.cell_calc_law.specs.ShiftLaw.{NullBeyondTheEdge, ShiftsAddUp, ShiftsOnlyLose};
 
 /// At cells of one combination of the maps that it reads, a local expression has one value.
 pub fn one_value_a_combination()
@@ -25,4 +26,19 @@ pub fn copy_is_the_map()
 /// After `x = g` and `y = if(isnull(g), g, g)`, y is x, whatever expression g is.
 pub fn either_way_is_the_same()
     ensures { EitherWayIsTheSame }
+{}
+
+/// After `x = g[a,b]`, `y = x[c,d]` and `z = g[a+c,b+d]`, y has the cell of z where the step by (c,d) stays within the region.
+pub fn shifts_add_up()
+    ensures { ShiftsAddUp }
+{}
+
+/// After `x = g[a,b]`, x is null where the step by (a,b) leaves the region.
+pub fn null_beyond_the_edge()
+    ensures { NullBeyondTheEdge }
+{}
+
+/// After `x = g[a,b]`, no category has more cells in x than in g.
+pub fn shifts_only_lose()
+    ensures { ShiftsOnlyLose }
 {}
