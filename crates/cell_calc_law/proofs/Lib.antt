@@ -1,4 +1,6 @@
+pub mod FollowLemmas
 pub mod LineLemmas
 pub mod LocalLemmas
 pub mod MapLemmas
 pub mod ShiftLemmas
+pub mod TallyLemmas

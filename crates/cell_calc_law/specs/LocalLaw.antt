@@ -1,5 +1,5 @@
 -- Local expressions read nothing but the cell itself, and so their values go by combinations (r.mapcalc and r.stats manuals).
-use Rattle.std.specs.Prelude.{ℕ, pos, ◌≡◌, ◌<◌, Bool, true, false, List, [], ◌∷◌, Contains, Some, slice_get, sum_by, cond}
+use Rattle.std.specs.Prelude.{ℕ, pos, ◌≡◌, ◌<◌, Bool, true, false, List, [], ◌∷◌, ◌++◌, length, All, Contains, Some, slice_get, map, filter, sum_by}
 use Rattle.cell_core_values.specs.Cell.{cell_eq}
 use Rattle.cell_core_values.specs.Region.{RegionValue}
 use Rattle.cell_core.specs.Grid.{Grid, CellValue, IsFilled}
@@ -14,7 +14,7 @@ use Rattle.cell_stats_combinations.specs.Combinations.{Combination, combination_
 use Rattle.cell_stats_combinations.specs.declared.skip.Skip.TheVariants.{Nothing}
 use Rattle.cell_stats_counts.specs.Counts.{count_of}
 use Rattle.cell_stats.specs.CategoryTables.{table_of}
-use Rattle.rcell_making.specs.Making.{AreValues}
+use Rattle.rcell_making.specs.Making.{AreValues, with_map}
 
 -- row() and col(), nrows() and ncols()
 abbrev pub asks_where : Function → Bool
@@ -70,13 +70,21 @@ cells_alone region m = all_combinations (m ∷ []) (0 ∷ []) region.rows region
 abbrev pub cells_of_shelf : ShelfValue → List ℕ → List Combination
 cells_of_shelf shelf picks = all_combinations shelf.maps picks shelf.region.rows shelf.region.cols
 
--- after `x = f`: the count of a value in the table of x is the sum of the counts, in the table of the maps that f reads, of the combinations that it is given for
-abbrev pub TableFollows : Type 0
-TableFollows =
+-- after `x = f`: as many cells of x have a value as the table of the maps that f reads counts for the combinations that give it
+abbrev pub CountsFollow : Type 0
+CountsFollow =
     (f : Formula) (picks : List ℕ) (given : Combination → CellValue) → GivesValues given f picks
     → (shelf : ShelfValue) (x : Grid) → AreValues f shelf x → (v : CellValue)
     → count_of (v ∷ []) (cells_alone shelf.region x)
-    ≡ sum_by (λ pair. cond (cell_eq v (given pair.0)) pair.1 0) (table_of Nothing (cells_of_shelf shelf picks))
+    ≡ sum_by (λ pair. pair.1) (filter (λ pair. cell_eq v (given pair.0)) (table_of Nothing (cells_of_shelf shelf picks)))
+
+-- after `x = f`: the table of the maps that f reads and of x is that of these maps, with the value behind each combination
+abbrev pub TableHasItsValues : Type 0
+TableHasItsValues =
+    (f : Formula) (picks : List ℕ) (given : Combination → CellValue) → GivesValues given f picks
+    → (shelf : ShelfValue) (name : List ℕ) (x : Grid) → All (λ place. place < length shelf.maps) picks → AreValues f shelf x
+    → table_of Nothing (cells_of_shelf (with_map shelf name x) (picks ++ length shelf.maps ∷ []))
+    ≡ map (λ pair. (pair.0 ++ given pair.0 ∷ [], pair.1)) (table_of Nothing (cells_of_shelf shelf picks))
 
 -- after `x = g`: x has the rows of g
 abbrev pub CopyIsTheMap : Type 0

@@ -1,6 +1,6 @@
 //! What local expressions and shifts make of maps, in the subject's words.
 
-ghost use Rattle.cell_calc_law.specs.LocalLaw.{CopyIsTheMap, EitherWayIsTheSame, LocalGoesByCombinations, OneMapOfValues, OneValueACombination};
+ghost use Rattle.cell_calc_law.specs.LocalLaw.{CopyIsTheMap, CountsFollow, EitherWayIsTheSame, LocalGoesByCombinations, OneMapOfValues, OneValueACombination};
 ghost use Rattle.cell_calc_law.specs.ShiftLaw.{NullBeyondTheEdge, ShiftsAddUp, ShiftsOnlyLose};
 
 /// At cells of one combination of the maps that it reads, a local expression has one value.
@@ -11,6 +11,12 @@ pub fn one_value_a_combination()
 /// A function of the combination gives the values of a local expression, at each cell of whatever maps.
 pub fn local_goes_by_combinations()
     ensures { LocalGoesByCombinations }
+{}
+
+/// After `x = f`, as many cells of x have a value as the table of the maps that f reads counts for the combinations that
+/// give it.
+pub fn counts_follow()
+    ensures { CountsFollow }
 {}
 
 /// Expressions that have the same value at each cell make the same map.
