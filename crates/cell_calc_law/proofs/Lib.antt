@@ -1,3 +1,4 @@
+pub mod ColumnLemmas
 pub mod FollowLemmas
 pub mod LineLemmas
 pub mod LocalLemmas

@@ -1,6 +1,6 @@
 //! What local expressions and shifts make of maps, in the subject's words.
 
-ghost use Rattle.cell_calc_law.specs.LocalLaw.{CopyIsTheMap, CountsFollow, EitherWayIsTheSame, LocalGoesByCombinations, OneMapOfValues, OneValueACombination};
+ghost use Rattle.cell_calc_law.specs.LocalLaw.{CopyIsTheMap, CountsFollow, EitherWayIsTheSame, LocalGoesByCombinations, OneMapOfValues, OneValueACombination, TableHasItsValues};
 ghost use Rattle.cell_calc_law.specs.ShiftLaw.{NullBeyondTheEdge, ShiftsAddUp, ShiftsOnlyLose};
 
 /// At cells of one combination of the maps that it reads, a local expression has one value.
@@ -17,6 +17,11 @@ pub fn local_goes_by_combinations()
 /// give it.
 pub fn counts_follow()
     ensures { CountsFollow }
+{}
+
+/// After `x = f`, the table of the maps that f reads and of x is that of these maps, with the value behind each combination.
+pub fn table_has_its_values()
+    ensures { TableHasItsValues }
 {}
 
 /// Expressions that have the same value at each cell make the same map.
