@@ -5,3 +5,4 @@ pub mod LocalLemmas
 pub mod MapLemmas
 pub mod ShiftLemmas
 pub mod TallyLemmas
+pub mod TileLemmas

@@ -2,6 +2,7 @@
 
 ghost use Rattle.cell_calc_law.specs.LocalLaw.{CopyIsTheMap, CountsFollow, EitherWayIsTheSame, LocalGoesByCombinations, OneMapOfValues, OneValueACombination, TableHasItsValues};
 ghost use Rattle.cell_calc_law.specs.ShiftLaw.{NullBeyondTheEdge, ShiftsAddUp, ShiftsOnlyLose};
+ghost use Rattle.cell_calc_law.specs.TileLaw.{TilesMakeTheMap};
 
 /// At cells of one combination of the maps that it reads, a local expression has one value.
 pub fn one_value_a_combination()
@@ -52,4 +53,10 @@ pub fn null_beyond_the_edge()
 /// After `x = g[a,b]`, no category has more cells in x than in g.
 pub fn shifts_only_lose()
     ensures { ShiftsOnlyLose }
+{}
+
+/// `x = f` over the whole and `y = f` over a tile with its halo: in the tile, y has the cells of x, if f does not ask for rows
+/// and columns.
+pub fn tiles_make_the_map()
+    ensures { TilesMakeTheMap }
 {}
