@@ -1,21 +1,18 @@
 -- The cells of a map of values, from the combinations of the maps that it is made of.
-use Rattle.std.proofs.Common.{◌≡◌, ℕ, zero, suc, ◌+◌, ◌<◌, List, [], ◌∷◌, ◌++◌, map, cond, refl, ap, sym, ◌∙◌, arith, zero-add}
+use Rattle.std.proofs.Common.{◌≡◌, ℕ, zero, suc, ◌+◌, ◌<◌, List, [], ◌∷◌, ◌++◌, map, cond, refl, ap, sym, ◌∙◌, arith}
 use Rattle.std.specs.Prelude.{count_by}
 use Rattle.std.specs.List.{flat_map, range_with_len}
 use Rattle.std.specs.Ordering.{eq_by_cmp, is_eq, ordering_then}
 use Rattle.std.specs.declared.cmp.Ordering.{Ordering}
 use Rattle.std.specs.declared.cmp.Ordering.TheVariants.{Less, Equal, Greater}
 use Rattle.std.proofs.lemmas.List.{map-append}
-use Rattle.cell_core.specs.Grid.{Grid, CellValue}
-use Rattle.cell_core.specs.Shelf.{ShelfValue}
+use Rattle.cell_core.specs.Grid.{CellValue}
 use Rattle.cell_core_values.specs.Cell.{cell_cmp, cell_eq}
-use Rattle.cell_calc_binding.specs.Formula.{Formula}
 use Rattle.cell_calc_operators.specs.Applied.{spot}
 use Rattle.cell_stats_combinations.specs.Combinations.{Combination, combination_cmp, combination_at}
 use Rattle.cell_stats_counts.specs.Counts.{count_of}
 use Rattle.cell_stats.proofs.TableLemmas.{count_cons}
-use Rattle.rcell_making.specs.Making.{AreValues}
-use Rattle.cell_calc_law.specs.LocalLaw.{GivesValues, cells_alone, cells_of_shelf, CountsFollow}
+use Rattle.cell_calc_law.specs.LocalLaw.{cells_alone, cells_of_shelf, CountsFollow}
 use Rattle.cell_calc_law.proofs.TallyLemmas.{sum-cons, table-counts}
 
 -- ---- combinations of all cells, each by a function of others
@@ -26,18 +23,21 @@ module _ (g : Combination → Combination) (made given : ℕ → ℕ → Combina
   row-mapped row a zero same = refl
   row-mapped row a (suc n) same =
       ap (λ (k : Combination). k ∷ map (made row) (range_with_len (a + 1) n)) (same a (omega arith))
-      ∙ ap (λ (l : List Combination). g (given row a) ∷ l) (row-mapped row (a + 1) n (λ col lt. same col (omega (arith, lt))))
+      ∙ ap (λ (l : List Combination). g (given row a) ∷ l)
+      (row-mapped row (a + 1) n (λ col lt. same col (omega (arith, lt))))
+
+  abbrev rows-of : (ℕ → ℕ → Combination) → (cols a n : ℕ) → List Combination
+  rows-of cells cols a n = flat_map (λ row. map (cells row) (range_with_len 0 cols)) (range_with_len a n)
 
   pub all-mapped : (cols a n : ℕ) → ((row col : ℕ) → row < a + n → col < cols → made row col ≡ g (given row col))
-      → flat_map (λ row. map (made row) (range_with_len 0 cols)) (range_with_len a n)
-      ≡ map g (flat_map (λ row. map (given row) (range_with_len 0 cols)) (range_with_len a n))
+      → rows-of made cols a n ≡ map g (rows-of given cols a n)
   all-mapped cols a zero same = refl
   all-mapped cols a (suc n) same =
       let first = row-mapped a 0 cols (λ col lt. same a col (omega arith) (omega (arith, lt))) in
       let others = all-mapped cols (a + 1) n (λ row col row_lt col_lt. same row col (omega (arith, row_lt)) col_lt) in
-      ap (λ l. l ++ flat_map (λ row. map (made row) (range_with_len 0 cols)) (range_with_len (a + 1) n)) first
+      ap (λ l. l ++ rows-of made cols (a + 1) n) first
       ∙ ap (λ l. map g (map (given a) (range_with_len 0 cols)) ++ l) others
-      ∙ sym (map-append g (map (given a) (range_with_len 0 cols)) (flat_map (λ row. map (given row) (range_with_len 0 cols)) (range_with_len (a + 1) n)))
+      ∙ sym (map-append g (map (given a) (range_with_len 0 cols)) (rows-of given cols (a + 1) n))
 
 -- ---- counts of one map
 
@@ -62,9 +62,11 @@ pub counts-follow : CountsFollow
 counts-follow f picks given gives shelf x are v =
     let rows = shelf.region.rows in
     let cols = shelf.region.cols in
+    let old = combination_at shelf.maps picks in
     let cells : cells_alone shelf.region x ≡ map (λ k. given k ∷ []) (cells_of_shelf shelf picks) =
-    all-mapped (λ k. given k ∷ []) (combination_at (x ∷ []) (0 ∷ [])) (combination_at shelf.maps picks) cols 0 rows (λ row col row_lt col_lt.
-    ap (λ (c : CellValue). c ∷ []) (are.cells row col (omega (arith, row_lt)) col_lt ∙ gives shelf.maps (spot shelf.region row col))) in
+    all-mapped (λ k. given k ∷ []) (combination_at (x ∷ []) (0 ∷ [])) old cols 0 rows (λ row col row_lt col_lt.
+    let value = are.cells row col (omega (arith, row_lt)) col_lt ∙ gives shelf.maps (spot shelf.region row col) in
+    ap (λ (c : CellValue). c ∷ []) value) in
     ap (count_of (v ∷ [])) cells
     ∙ count-mapped given v (cells_of_shelf shelf picks)
     ∙ sym (table-counts (λ k. cell_eq v (given k)) (cells_of_shelf shelf picks))

@@ -41,10 +41,14 @@ line-moved : (g h : ℕ → ℕ) (a b n : ℕ) → ((i : ℕ) → g (a + i) ≡ 
 line-moved g h a b zero same = refl
 line-moved g h a b (suc n) same =
     let first : g a ≡ h b = ap g (sym (add-zero a)) ∙ same 0 ∙ ap h (add-zero b) in
-    omega (arith, first, line-moved g h (a + 1) (b + 1) n (λ i.
-    let left : a + 1 + i ≡ a + suc i = omega arith in
-    let right : b + suc i ≡ b + 1 + i = omega arith in
-    ap g left ∙ same (suc i) ∙ ap h right))
+    omega (
+      arith,
+      first,
+      line-moved g h (a + 1) (b + 1) n (λ i.
+          let left : a + 1 + i ≡ a + suc i = omega arith in
+          let right : b + suc i ≡ b + 1 + i = omega arith in
+          ap g left ∙ same (suc i) ∙ ap h right),
+    )
 
 sub-pos : (p n : ℕ) → suc n ≤ p → sub_ℕ p (suc n) ≡ pos (p - suc n)
 sub-pos p n le = ap (λ b. cond b (negsuc (suc n - suc p)) (pos (p - suc n))) (le-ltb p (suc n) le)
@@ -80,3 +84,18 @@ module _ (f : ℤ → ℕ) (n : ℕ) (beyond : (i : ℕ) → n ≤ i → f (pos 
       let e : suc k + n ≡ n + suc k = omega arith in ap (line back 0) e in
       let start : line back (0 + suc k) n ≡ line back (suc k) n = ap (λ b. line back b n) (zero-add (suc k)) in
       omega (arith, first, moved, one, other, swap, start)
+
+-- ---- sums over so many rows and columns
+
+abbrev pub total : (ℕ → ℕ → ℕ) → (rows cols : ℕ) → ℕ
+total f rows cols = line (λ row. line (f row) 0 cols) 0 rows
+
+pub total-same : (f h : ℕ → ℕ → ℕ) (rows cols : ℕ)
+    → ((row col : ℕ) → row < rows → col < cols → f row col ≡ h row col) → total f rows cols ≡ total h rows cols
+total-same f h rows cols same =
+    line-same (λ row. line (f row) 0 cols) (λ row. line (h row) 0 cols) 0 rows (λ row _ row_lt.
+    line-same (f row) (h row) 0 cols (λ col _ col_lt. same row col (omega (arith, row_lt)) (omega (arith, col_lt))))
+
+pub none-line : (g : ℕ → ℕ) (a n : ℕ) → ((i : ℕ) → g i ≡ 0) → line g a n ≡ 0
+none-line g a zero none = refl
+none-line g a (suc n) none = omega (arith, none a, none-line g (a + 1) n none)

@@ -16,7 +16,8 @@ use Rattle.cell_calc_law.specs.LocalLaw.{asks_where, IsLocal, AreLocal, OneValue
 
 -- ---- a map at the cell itself
 
-here : (o : Option Grid) (row col : ℕ) → cell_in o (pos row +ℤ pos 0) (pos col +ℤ pos 0) ≡ option_map_or (λ m. cell_at m row col) o None
+here : (o : Option Grid) (row col : ℕ)
+    → cell_in o (pos row +ℤ pos 0) (pos col +ℤ pos 0) ≡ option_map_or (λ m. cell_at m row col) o None
 here None row col = refl
 here (Some m) row col =
     ap (λ n. get_or (get_or m.rows n []) (col + 0) None) (add-zero row)
@@ -50,13 +51,15 @@ picked-first p place c d e same is = ap (λ b. cond b c d) (eq-eqb p place same)
 picked-is : (maps : List Grid) (row col place : ℕ) (picks : List ℕ) → Contains picks place
     → picked picks (combination_at maps picks row col) place ≡ cell_of_map maps row col place
 picked-is maps row col place [] c = absurd (omega (arith, c.1))
-picked-is maps row col place (p ∷ picks) c = first_or_other (contains-rest p place picks c) (picked-is maps row col place picks)
+picked-is maps row col place (p ∷ picks) c =
+    first_or_other (contains-rest p place picks c) (picked-is maps row col place picks)
   where
     first_or_other : (p ≡ place) ⊎ Contains picks place
         → (Contains picks place → picked picks (combination_at maps picks row col) place ≡ cell_of_map maps row col place)
         → picked (p ∷ picks) (combination_at maps (p ∷ picks) row col) place ≡ cell_of_map maps row col place
     first_or_other (inl same) rest = picked-first p place _ _ _ same (ap (cell_of_map maps row col) same)
-    first_or_other (inr other) rest = picked-cell (cell_of_map maps row col p) _ _ (eqb p place) (λ e. ap (cell_of_map maps row col) (eqb-true p place e)) (rest other)
+    first_or_other (inr other) rest =
+        picked-cell (cell_of_map maps row col p) _ _ (eqb p place) (λ e. ap (cell_of_map maps row col) (eqb-true p place e)) (rest other)
 
 -- ---- the value
 
@@ -77,7 +80,8 @@ abbrev mutual
   all_given (Then a xs) picks k = given_by a picks k ∷ all_given xs picks k
 
 -- a function that does not ask where it is
-call-anywhere : (f : Function) (s t : Spot) (xs : List CellValue) → asks_where f ≡ false → call_result f s xs ≡ call_result f t xs
+call-anywhere : (f : Function) (s t : Spot) (xs : List CellValue) → asks_where f ≡ false
+    → call_result f s xs ≡ call_result f t xs
 call-anywhere function.Row s t xs e = cc
 call-anywhere function.Column s t xs e = cc
 call-anywhere function.RowCount s t xs e = cc
@@ -89,7 +93,8 @@ module _ (picks : List ℕ) (maps : List Grid) (s : Spot) where
   k = combination_at maps picks s.row s.col
 
   mutual
-    goes : (f : Formula) → IsLocal f → ((place : ℕ) → ReadsMap place f → Contains picks place) → value f maps s ≡ given_by f picks k
+    goes : (f : Formula) → IsLocal f → ((place : ℕ) → ReadsMap place f → Contains picks place)
+        → value f maps s ≡ given_by f picks k
     goes (Number n) local reads = refl
     goes (Map i down right) local reads =
         value-here maps i down right s local.0 local.1 ∙ sym (picked-is maps s.row s.col i picks (reads i refl))
@@ -101,7 +106,8 @@ module _ (picks : List ℕ) (maps : List Grid) (s : Spot) where
     goes (Call f xs) local reads =
         ap (call_result f s) (all-go xs local.1 reads) ∙ call-anywhere f s nowhere (all_given xs picks k) local.0
 
-    all-go : (xs : Formulas) → AreLocal xs → ((place : ℕ) → AreReading place xs → Contains picks place) → argument_values xs maps s ≡ all_given xs picks k
+    all-go : (xs : Formulas) → AreLocal xs → ((place : ℕ) → AreReading place xs → Contains picks place)
+        → argument_values xs maps s ≡ all_given xs picks k
     all-go NoFormulas local reads = refl
     all-go (Then a xs) local reads =
         ap (λ (x : CellValue). x ∷ argument_values xs maps s) (goes a local.0 (λ place h. reads place (inl h)))

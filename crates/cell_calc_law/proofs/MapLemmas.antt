@@ -25,8 +25,10 @@ module _ (region : RegionValue) (xs ys : List (List CellValue)) (x_filled : IsFi
       let y_count = y_filled.count in
       same_lists xs ys (omega arith) (λ r d lt.
       let within : r < length ys = omega arith in
-      let x_wide : length (get_or xs r []) ≡ region.cols = All-get_or (λ l. length l ≡ region.cols) xs r [] lt x_filled.width in
-      let y_wide : length (get_or ys r []) ≡ region.cols = All-get_or (λ l. length l ≡ region.cols) ys r [] within y_filled.width in
+      let x_wide : length (get_or xs r []) ≡ region.cols =
+      All-get_or (λ l. length l ≡ region.cols) xs r [] lt x_filled.width in
+      let y_wide : length (get_or ys r []) ≡ region.cols =
+      All-get_or (λ l. length l ≡ region.cols) ys r [] within y_filled.width in
       get_or_default xs r d [] lt
       ∙ same_lists (get_or xs r []) (get_or ys r []) (omega arith) (λ c e c_lt.
       get_or_default (get_or xs r []) c e None c_lt

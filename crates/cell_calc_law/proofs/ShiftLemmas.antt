@@ -1,6 +1,6 @@
 -- Maps at offsets: what they read, and how many cells they have.
-use Rattle.std.proofs.Common.{◌≡◌, ℕ, zero, suc, ℤ, pos, negsuc, ◌+◌, ◌<◌, ◌≤◌, ◌+ℤ◌, List, [], ◌∷◌, ◌++◌, map, length}
-use Rattle.std.proofs.Common.{get_or, Option, Some, None, All, cond, refl, ap, sym, ◌∙◌, arith, zero-add, inl, inr, ⊎_elim, ◌⊎◌}
+use Rattle.std.proofs.Common.{◌≡◌, ℕ, zero, suc, ℤ, pos, negsuc, ◌+◌, ◌≤◌, ◌+ℤ◌, List, [], ◌∷◌, ◌++◌, map, length}
+use Rattle.std.proofs.Common.{get_or, Option, Some, None, All, cond, refl, ap, sym, ◌∙◌, arith, inl, inr, ⊎_elim, ◌⊎◌}
 use Rattle.std.specs.Prelude.{slice_get}
 use Rattle.std.specs.List.{flat_map, range_with_len}
 use Rattle.std.specs.Option.{option_map_or}
@@ -10,19 +10,14 @@ use Rattle.std.proofs.lemmas.Bool.{cases_lt}
 use Rattle.std.proofs.lemmas.List.{get_or_past}
 use Rattle.cell_core_values.specs.Region.{RegionValue}
 use Rattle.cell_core.specs.Grid.{Grid, CellValue, IsFilled, cell_at}
-use Rattle.cell_core.specs.Shelf.{ShelfValue}
-use Rattle.cell_calc_operators.specs.Applied.{Spot, spot}
 use Rattle.cell_calc_operators.specs.Offsets.{item_at, cell_in, cell_at_offset, row_of}
-use Rattle.cell_calc_binding.specs.Formula.{Map}
-use Rattle.cell_calc_binding.specs.Value.{value}
 use Rattle.cell_stats.proofs.TableLemmas.{count_cons}
-use Rattle.cell_stats_combinations.specs.Combinations.{Combination, combination_cmp, cell_of_map, combination_at, row_combinations, all_combinations}
+use Rattle.cell_stats_combinations.specs.Combinations.{Combination, combination_cmp, cell_of_map, combination_at, all_combinations}
 use Rattle.cell_stats_counts.proofs.WalkLemmas.{count-append}
 use Rattle.cell_stats_counts.specs.Counts.{count_of}
-use Rattle.rcell_making.specs.Making.{AreValues, with_map}
 use Rattle.cell_calc_law.specs.LocalLaw.{cells_alone, cells_of_shelf}
 use Rattle.cell_calc_law.specs.ShiftLaw.{ShiftsAddUp, NullBeyondTheEdge, ShiftsOnlyLose}
-use Rattle.cell_calc_law.proofs.LineLemmas.{line, line-same, line-most, line-shifted}
+use Rattle.cell_calc_law.proofs.LineLemmas.{line, line-same, line-most, line-shifted, total, total-same, none-line}
 
 -- ---- offsets add up
 
@@ -31,17 +26,18 @@ last-of [] x = refl
 last-of (y ∷ xs) x = last-of xs x
 
 steps-add : (from to : ℕ) (a c : ℤ) → pos from +ℤ c ≡ pos to → pos to +ℤ a ≡ pos from +ℤ (a +ℤ c)
-steps-add from to a c step = ap (λ z. z +ℤ a) (sym step) ∙ +ℤ_assoc (pos from) c a ∙ ap (λ z. pos from +ℤ z) (+ℤ_comm c a)
+steps-add from to a c step =
+    ap (λ z. z +ℤ a) (sym step) ∙ +ℤ_assoc (pos from) c a ∙ ap (λ z. pos from +ℤ z) (+ℤ_comm c a)
 
 pub shifts-add-up : ShiftsAddUp
-shifts-add-up shelf place a b c d name x y z are_x are_y are_z row col to_row to_col row_lt col_lt row_step to_row_lt col_step to_col_lt =
+shifts-add-up shelf place a b c d name x y z are_x are_y are_z row col to_row to_col row_lt col_lt row_on to_row_lt col_on to_col_lt =
     are_y.cells row col row_lt col_lt
     ∙ ap (λ o. cell_in o (pos row +ℤ c) (pos col +ℤ d)) (last-of shelf.maps x)
-    ∙ ap (λ r. cell_at_offset x r (pos col +ℤ d)) row_step
-    ∙ ap (λ l. cell_at_offset x (pos to_row) l) col_step
+    ∙ ap (λ r. cell_at_offset x r (pos col +ℤ d)) row_on
+    ∙ ap (λ l. cell_at_offset x (pos to_row) l) col_on
     ∙ are_x.cells to_row to_col to_row_lt to_col_lt
-    ∙ ap (λ r. cell_in (slice_get shelf.maps place) r (pos to_col +ℤ b)) (steps-add row to_row a c row_step)
-    ∙ ap (λ l. cell_in (slice_get shelf.maps place) (pos row +ℤ (a +ℤ c)) l) (steps-add col to_col b d col_step)
+    ∙ ap (λ r. cell_in (slice_get shelf.maps place) r (pos to_col +ℤ b)) (steps-add row to_row a c row_on)
+    ∙ ap (λ l. cell_in (slice_get shelf.maps place) (pos row +ℤ (a +ℤ c)) l) (steps-add col to_col b d col_on)
     ∙ sym (are_z.cells row col row_lt col_lt)
 
 -- ---- beyond the edge
@@ -56,7 +52,8 @@ nothing-there (pos n) = refl
 nothing-there (negsuc n) = refl
 
 -- no row is longer than the region
-row-most : (region : RegionValue) (rows : List (List CellValue)) → IsFilled region rows → (z : ℤ) → length (item_at [] rows z) ≤ region.cols
+row-most : (region : RegionValue) (rows : List (List CellValue)) → IsFilled region rows → (z : ℤ)
+    → length (item_at [] rows z) ≤ region.cols
 row-most region rows filled (negsuc i) = omega arith
 row-most region rows filled (pos i) =
     ⊎_elim (λ within. let e = filled.width i [] within in omega (arith, e))
@@ -73,12 +70,15 @@ module _ (region : RegionValue) where
   fills-at (m ∷ maps) zero all = all 0 m (omega arith)
   fills-at (m ∷ maps) (suc place) all = fills-at maps place (λ i d lt. all (suc i) d (omega (arith, lt)))
 
-  row-beyond : (o : Option Grid) → Fills o → (r c : ℤ) → ((to : ℕ) → r ≡ pos to → region.rows ≤ to) → cell_in o r c ≡ None
+  row-beyond : (o : Option Grid) → Fills o → (r c : ℤ) → ((to : ℕ) → r ≡ pos to → region.rows ≤ to)
+      → cell_in o r c ≡ None
   row-beyond None fills r c far = refl
   row-beyond (Some m) fills r c far =
-      ap (λ l. item_at None l c) (item-beyond [] m.rows region.rows r (omega (arith, fills.count)) far) ∙ nothing-there c
+      ap (λ l. item_at None l c) (item-beyond [] m.rows region.rows r (omega (arith, fills.count)) far)
+      ∙ nothing-there c
 
-  col-beyond : (o : Option Grid) → Fills o → (r c : ℤ) → ((to : ℕ) → c ≡ pos to → region.cols ≤ to) → cell_in o r c ≡ None
+  col-beyond : (o : Option Grid) → Fills o → (r c : ℤ) → ((to : ℕ) → c ≡ pos to → region.cols ≤ to)
+      → cell_in o r c ≡ None
   col-beyond None fills r c far = refl
   col-beyond (Some m) fills r c far = item-beyond None (row_of m r) region.cols c (row-most region m.rows fills r) far
 
@@ -88,10 +88,14 @@ null-beyond-the-edge shelf place a b x all are row col row_lt col_lt far = are.c
     o : Option Grid
     o = slice_get shelf.maps place
 
-    by : ((to : ℕ) → pos row +ℤ a ≡ pos to → shelf.region.rows ≤ to) ⊎ ((to : ℕ) → pos col +ℤ b ≡ pos to → shelf.region.cols ≤ to)
+    by :
+        ((to : ℕ) → pos row +ℤ a ≡ pos to → shelf.region.rows ≤ to)
+        ⊎ ((to : ℕ) → pos col +ℤ b ≡ pos to → shelf.region.cols ≤ to)
         → cell_in (slice_get shelf.maps place) (pos row +ℤ a) (pos col +ℤ b) ≡ None
-    by (inl rows) = row-beyond shelf.region (slice_get shelf.maps place) (fills-at shelf.region shelf.maps place all) _ _ rows
-    by (inr cols) = col-beyond shelf.region (slice_get shelf.maps place) (fills-at shelf.region shelf.maps place all) _ _ cols
+    by (inl rows) =
+        row-beyond shelf.region (slice_get shelf.maps place) (fills-at shelf.region shelf.maps place all) _ _ rows
+    by (inr cols) =
+        col-beyond shelf.region (slice_get shelf.maps place) (fills-at shelf.region shelf.maps place all) _ _ cols
 
 -- ---- counts of a shifted map
 
@@ -106,52 +110,70 @@ count-lines : (f : ℕ → List Combination) (k : Combination) (a n : ℕ)
     → count_of k (flat_map f (range_with_len a n)) ≡ line (λ i. count_of k (f i)) a n
 count-lines f k a zero = refl
 count-lines f k a (suc n) =
-    count-append k (f a) (flat_map f (range_with_len (a + 1) n)) ∙ ap (λ m. count_of k (f a) + m) (count-lines f k (a + 1) n)
+    count-append k (f a) (flat_map f (range_with_len (a + 1) n))
+    ∙ ap (λ m. count_of k (f a) + m) (count-lines f k (a + 1) n)
+
+-- 1 where a combination is the one
+abbrev is-one : Combination → Combination → ℕ
+is-one k l = cond (eq_by_cmp combination_cmp k l) 1 0
 
 count-all : (maps : List Grid) (picks : List ℕ) (k : Combination) (rows cols : ℕ)
     → count_of k (all_combinations maps picks rows cols)
-    ≡ line (λ row. line (λ col. cond (eq_by_cmp combination_cmp k (combination_at maps picks row col)) 1 0) 0 cols) 0 rows
+    ≡ total (λ row col. is-one k (combination_at maps picks row col)) rows cols
 count-all maps picks k rows cols =
-    count-lines (row_combinations maps picks cols) k 0 rows
-    ∙ line-same (λ row. count_of k (row_combinations maps picks cols row)) (λ row. line (λ col. cond (eq_by_cmp combination_cmp k (combination_at maps picks row col)) 1 0) 0 cols) 0 rows (λ row le lt.
+    let one = λ (row col : ℕ). is-one k (combination_at maps picks row col) in
+    let row_of_cells = λ (row : ℕ). map (combination_at maps picks row) (range_with_len 0 cols) in
+    count-lines row_of_cells k 0 rows
+    ∙ line-same (λ row. count_of k (row_of_cells row)) (λ row. line (one row) 0 cols) 0 rows (λ row _ _.
     count-line (combination_at maps picks row) k 0 cols)
 
-module _ (category : ℤ) where
-  -- 1 where a cell has the category
-  abbrev has : CellValue → ℕ
-  has c = cond (eq_by_cmp combination_cmp (Some category ∷ []) (c ∷ [])) 1 0
+past-pos : (n i : ℕ) → n ≤ i → (to : ℕ) → pos i ≡ pos to → n ≤ to
+past-pos n i past to same = let e : i ≡ to = cc in omega (arith, e, past)
 
-  -- the cells of a map at every row and column: none has it outside the region
-  module _ (region : RegionValue) (o : Option Grid) (fills : Fills region o) where
-    past-pos : (n i : ℕ) → n ≤ i → (to : ℕ) → pos i ≡ pos to → n ≤ to
-    past-pos n i past to same = let e : i ≡ to = cc in omega (arith, e, past)
+past-neg : (n i : ℕ) → (to : ℕ) → negsuc i ≡ pos to → n ≤ to
+past-neg n i to same = cc
 
-    past-neg : (n i : ℕ) → (to : ℕ) → negsuc i ≡ pos to → n ≤ to
-    past-neg n i to same = cc
+-- 1 where a cell has the category
+abbrev has : ℤ → CellValue → ℕ
+has category c = is-one (Some category ∷ []) (c ∷ [])
 
-    cols-shifted : (b r : ℤ) → line (λ col. has (cell_in o r (pos col +ℤ b))) 0 region.cols ≤ line (λ col. has (cell_in o r (pos col))) 0 region.cols
-    cols-shifted b r =
-        line-shifted (λ c. has (cell_in o r c)) region.cols
-        (λ i past. ap has (col-beyond region o fills r (pos i) (past-pos region.cols i past)))
-        (λ i. ap has (col-beyond region o fills r (negsuc i) (past-neg region.cols i))) b
+-- the cells of a map at every row and column: none has the category outside the region
+module _ (category : ℤ) (region : RegionValue) (o : Option Grid) (fills : Fills region o) where
+  abbrev at : ℤ → ℤ → ℕ
+  at r c = has category (cell_in o r c)
 
-    none-line : (g : ℕ → ℕ) (a n : ℕ) → ((i : ℕ) → g i ≡ 0) → line g a n ≡ 0
-    none-line g a zero none = refl
-    none-line g a (suc n) none = omega (arith, none a, none-line g (a + 1) n none)
+  cols-shifted : (b r : ℤ)
+      → line (λ col. at r (pos col +ℤ b)) 0 region.cols ≤ line (λ col. at r (pos col)) 0 region.cols
+  cols-shifted b r =
+      line-shifted (at r) region.cols
+      (λ i past. ap (has category) (col-beyond region o fills r (pos i) (past-pos region.cols i past)))
+      (λ i. ap (has category) (col-beyond region o fills r (negsuc i) (past-neg region.cols i))) b
 
-    rows-shifted : (a b : ℤ) → line (λ row. line (λ col. has (cell_in o (pos row +ℤ a) (pos col +ℤ b))) 0 region.cols) 0 region.rows ≤ line (λ row. line (λ col. has (cell_in o (pos row) (pos col +ℤ b))) 0 region.cols) 0 region.rows
-    rows-shifted a b =
-        line-shifted (λ r. line (λ col. has (cell_in o r (pos col +ℤ b))) 0 region.cols) region.rows
-        (λ i past. none-line (λ col. has (cell_in o (pos i) (pos col +ℤ b))) 0 region.cols (λ col. ap has (row-beyond region o fills (pos i) (pos col +ℤ b) (past-pos region.rows i past))))
-        (λ i. none-line (λ col. has (cell_in o (negsuc i) (pos col +ℤ b))) 0 region.cols (λ col. ap has (row-beyond region o fills (negsuc i) (pos col +ℤ b) (past-neg region.rows i)))) a
+  -- a whole row beyond has none
+  row-none : (b r : ℤ) → ((to : ℕ) → r ≡ pos to → region.rows ≤ to) → line (λ col. at r (pos col +ℤ b)) 0 region.cols ≡ 0
+  row-none b r far =
+      none-line (λ col. at r (pos col +ℤ b)) 0 region.cols (λ col.
+      ap (has category) (row-beyond region o fills r (pos col +ℤ b) far))
 
-    both-shifted : (a b : ℤ) → line (λ row. line (λ col. has (cell_in o (pos row +ℤ a) (pos col +ℤ b))) 0 region.cols) 0 region.rows ≤ line (λ row. line (λ col. has (cell_in o (pos row) (pos col))) 0 region.cols) 0 region.rows
-    both-shifted a b =
-        let rows = rows-shifted a b in
-        let cols = line-most (λ row. line (λ col. has (cell_in o (pos row) (pos col +ℤ b))) 0 region.cols) (λ row. line (λ col. has (cell_in o (pos row) (pos col))) 0 region.cols) 0 region.rows (λ row le lt. cols-shifted b (pos row)) in
-        omega (arith, rows, cols)
+  rows-shifted : (a b : ℤ)
+      → total (λ row col. at (pos row +ℤ a) (pos col +ℤ b)) region.rows region.cols
+      ≤ total (λ row col. at (pos row) (pos col +ℤ b)) region.rows region.cols
+  rows-shifted a b =
+      line-shifted (λ r. line (λ col. at r (pos col +ℤ b)) 0 region.cols) region.rows
+      (λ i past. row-none b (pos i) (past-pos region.rows i past)) (λ i. row-none b (negsuc i) (past-neg region.rows i)) a
 
-cell-there : (o : Option Grid) (row col : ℕ) → option_map_or (λ m. cell_at m row col) o None ≡ cell_in o (pos row) (pos col)
+  both-shifted : (a b : ℤ)
+      → total (λ row col. at (pos row +ℤ a) (pos col +ℤ b)) region.rows region.cols
+      ≤ total (λ row col. at (pos row) (pos col)) region.rows region.cols
+  both-shifted a b =
+      let rows = rows-shifted a b in
+      let shifted = λ (row : ℕ). line (λ col. at (pos row) (pos col +ℤ b)) 0 region.cols in
+      let whole = λ (row : ℕ). line (λ col. at (pos row) (pos col)) 0 region.cols in
+      let cols = line-most shifted whole 0 region.rows (λ row _ _. cols-shifted b (pos row)) in
+      omega (arith, rows, cols)
+
+cell-there : (o : Option Grid) (row col : ℕ)
+    → option_map_or (λ m. cell_at m row col) o None ≡ cell_in o (pos row) (pos col)
 cell-there None row col = refl
 cell-there (Some m) row col = refl
 
@@ -161,15 +183,15 @@ shifts-only-lose shelf place a b x all are category =
     let cols = shelf.region.cols in
     let o = slice_get shelf.maps place in
     let k = Some category ∷ [] in
-    let made : count_of k (cells_alone shelf.region x) ≡ line (λ row. line (λ col. has category (cell_in o (pos row +ℤ a) (pos col +ℤ b))) 0 cols) 0 rows =
+    let shifted = λ (row col : ℕ). has category (cell_in o (pos row +ℤ a) (pos col +ℤ b)) in
+    let whole = λ (row col : ℕ). has category (cell_in o (pos row) (pos col)) in
+    let made : count_of k (cells_alone shelf.region x) ≡ total shifted rows cols =
     count-all (x ∷ []) (0 ∷ []) k rows cols
-    ∙ line-same (λ row. line (λ col. has category (cell_at x row col)) 0 cols) (λ row. line (λ col. has category (cell_in o (pos row +ℤ a) (pos col +ℤ b))) 0 cols) 0 rows (λ row le lt.
-    line-same (λ col. has category (cell_at x row col)) (λ col. has category (cell_in o (pos row +ℤ a) (pos col +ℤ b))) 0 cols (λ col col_le col_lt.
-    ap (has category) (are.cells row col (omega (arith, lt)) (omega (arith, col_lt))))) in
-    let given : count_of k (cells_of_shelf shelf (place ∷ [])) ≡ line (λ row. line (λ col. has category (cell_in o (pos row) (pos col))) 0 cols) 0 rows =
+    ∙ total-same (λ row col. has category (cell_at x row col)) shifted rows cols (λ row col row_lt col_lt.
+    ap (has category) (are.cells row col row_lt col_lt)) in
+    let given : count_of k (cells_of_shelf shelf (place ∷ [])) ≡ total whole rows cols =
     count-all shelf.maps (place ∷ []) k rows cols
-    ∙ line-same (λ row. line (λ col. has category (cell_of_map shelf.maps row col place)) 0 cols) (λ row. line (λ col. has category (cell_in o (pos row) (pos col))) 0 cols) 0 rows (λ row le lt.
-    line-same (λ col. has category (cell_of_map shelf.maps row col place)) (λ col. has category (cell_in o (pos row) (pos col))) 0 cols (λ col col_le col_lt.
-    ap (has category) (cell-there o row col))) in
+    ∙ total-same (λ row col. has category (cell_of_map shelf.maps row col place)) whole rows cols (λ row col _ _.
+    ap (has category) (cell-there o row col)) in
     let fewer = both-shifted category shelf.region o (fills-at shelf.region shelf.maps place all) a b in
     omega (arith, made, given, fewer)

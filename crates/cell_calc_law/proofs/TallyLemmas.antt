@@ -1,7 +1,7 @@
 -- Tables of cells that a function is applied to, and the counts of entries for which a test holds.
-use Rattle.std.proofs.Common.{◌≡◌, ℕ, zero, suc, ◌+◌, ◌<◌, List, [], ◌∷◌, ◌++◌, map, filter, length, get_or, All, Some}
+use Rattle.std.proofs.Common.{◌≡◌, ℕ, zero, suc, ◌+◌, ◌<◌, List, [], ◌∷◌, filter, length, get_or, All, Some}
 use Rattle.std.proofs.Common.{Bool, true, false, cond, refl, ap, sym, subst, ◌∙◌, arith, zero-add}
-use Rattle.std.specs.Prelude.{sum_by, count_by, Contains}
+use Rattle.std.specs.Prelude.{sum_by, count_by}
 use Rattle.std.specs.Ordering.{eq_by_cmp, is_eq, ordering_reverse}
 use Rattle.std.specs.declared.cmp.Ordering.{Ordering}
 use Rattle.std.specs.declared.cmp.Ordering.TheVariants.{Less, Equal, Greater}
@@ -49,10 +49,12 @@ mark-none k (e ∷ es) below =
     let first : mark k e ≡ 0 = ap (λ t. cond t 1 0) (eq-swap e.0 k ∙ ap is_eq (is_less _ both.0)) in
     omega (arith, sum-cons (mark k) e es, first, mark-none k es both.1)
 
-mark-one : (k : Combination) (es : Pairs) (n : ℕ) → is_sorted combination_cmp es ≡ true → find combination_cmp k es ≡ Some n → sum_by (mark k) es ≡ 1
+mark-one : (k : Combination) (es : Pairs) (n : ℕ) → is_sorted combination_cmp es ≡ true
+    → find combination_cmp k es ≡ Some n → sum_by (mark k) es ≡ 1
 mark-one k [] n sorted is = cc
 mark-one k (e ∷ es) n sorted is =
-    let both : (below_all combination_cmp e.0 es ≡ true) × (is_sorted combination_cmp es ≡ true) = both_true _ _ sorted in
+    let both : (below_all combination_cmp e.0 es ≡ true) × (is_sorted combination_cmp es ≡ true) =
+    both_true _ _ sorted in
     elim (eq_by_cmp combination_cmp k e.0) as (λ t. eq_by_cmp combination_cmp k e.0 ≡ t → cond t (Some e.1) (find combination_cmp k es) ≡ Some n → sum_by (mark k) (e ∷ es) ≡ 1) [
       | true ↦ λ t _.
           let same : k ≡ e.0 = combination_cmp-exact k e.0 (is_equal _ t) in
@@ -65,10 +67,12 @@ mark-one k (e ∷ es) n sorted is =
     ] refl is
 
 -- each cell is counted
-counts-itself : (cells : List Combination) (i : ℕ) (d : Combination) → i < length cells → 0 < count_of (get_or cells i d) cells
+counts-itself : (cells : List Combination) (i : ℕ) (d : Combination) → i < length cells
+    → 0 < count_of (get_or cells i d) cells
 counts-itself [] i d within = absurd (omega (arith, within))
 counts-itself (k ∷ cells) zero d within =
-    let one : ◌≡◌ {A = ℕ} (cond (eq_by_cmp combination_cmp k k) 1 0) 1 = ap (λ o. cond (is_eq o) 1 0) (tied_itself combination_cmp-total k) in
+    let one : ◌≡◌ {A = ℕ} (cond (eq_by_cmp combination_cmp k k) 1 0) 1 =
+    ap (λ o. cond (is_eq o) 1 0) (tied_itself combination_cmp-total k) in
     omega (arith, count_cons k k cells, one)
 counts-itself (k ∷ cells) (suc i) d within =
     omega (arith, count_cons (get_or cells i d) k cells, counts-itself cells i d (omega (arith, within)))
@@ -88,7 +92,8 @@ module _ (h : Combination → Bool) where
   nothing true = refl
   nothing false = refl
 
-  same-mark : (k a : Combination) (b : Bool) → eq_by_cmp combination_cmp a k ≡ b → ◌≡◌ {A = ℕ} (cond (h a) (cond b 1 0) 0) (cond (h k) (cond b 1 0) 0)
+  same-mark : (k a : Combination) (b : Bool) → eq_by_cmp combination_cmp a k ≡ b
+      → ◌≡◌ {A = ℕ} (cond (h a) (cond b 1 0) 0) (cond (h k) (cond b 1 0) 0)
   same-mark k a true e = ap (λ (x : Combination). cond (h x) 1 0) (combination_cmp-exact a k (is_equal _ e))
   same-mark k a false e = nothing (h a) ∙ sym (nothing (h k))
 
@@ -100,14 +105,17 @@ module _ (h : Combination → Bool) where
   sum-marks k [] = sym (nothing (h k))
   sum-marks k (e ∷ es) =
       let first = same-mark k e.0 (eq_by_cmp combination_cmp e.0 k) refl in
-      let whole : cond (h k) (sum_by (mark k) (e ∷ es)) 0 ≡ cond (h k) (mark k e + sum_by (mark k) es) 0 = ap (λ n. cond (h k) n 0) (sum-cons (mark k) e es) in
+      let whole : cond (h k) (sum_by (mark k) (e ∷ es)) 0 ≡ cond (h k) (mark k e + sum_by (mark k) es) 0 =
+      ap (λ n. cond (h k) n 0) (sum-cons (mark k) e es) in
       omega (arith, sum-cons (counted (mark k)) e es, first, sum-marks k es, whole, cond-add (h k) (mark k e) (sum_by (mark k) es))
 
   sum-more : (k : Combination) (cells : List Combination) (es : Pairs)
-      → sum_by (counted (λ e. count_of e.0 (k ∷ cells))) es ≡ sum_by (counted (mark k)) es + sum_by (counted (λ e. count_of e.0 cells)) es
+      → sum_by (counted (λ e. count_of e.0 (k ∷ cells))) es
+      ≡ sum_by (counted (mark k)) es + sum_by (counted (λ e. count_of e.0 cells)) es
   sum-more k cells [] = refl
   sum-more k cells (e ∷ es) =
-      let first : cond (h e.0) (count_of e.0 (k ∷ cells)) 0 ≡ cond (h e.0) (mark k e) 0 + cond (h e.0) (count_of e.0 cells) 0 =
+      let first : cond (h e.0) (count_of e.0 (k ∷ cells)) 0
+      ≡ cond (h e.0) (mark k e) 0 + cond (h e.0) (count_of e.0 cells) 0 =
       ap (λ n. cond (h e.0) n 0) (count_cons e.0 k cells) ∙ cond-add (h e.0) (mark k e) (count_of e.0 cells) in
       omega (
         arith,
@@ -124,21 +132,27 @@ module _ (h : Combination → Bool) where
       let first : cond (h e.0) (count_of e.0 []) 0 ≡ 0 = nothing (h e.0) in
       omega (arith, sum-cons (counted (λ e. count_of e.0 [])) e es, first, sum-none es)
 
-  sum-cells : (es : Pairs) (cells : List Combination) → All (λ k. sum_by (mark k) es ≡ 1) cells → sum_by (counted (λ e. count_of e.0 cells)) es ≡ count_by h cells
+  sum-cells : (es : Pairs) (cells : List Combination) → All (λ k. sum_by (mark k) es ≡ 1) cells
+      → sum_by (counted (λ e. count_of e.0 cells)) es ≡ count_by h cells
   sum-cells es [] all = sum-none es
   sum-cells es (k ∷ cells) all =
-      let first : sum_by (counted (mark k)) es ≡ cond (h k) 1 0 = sum-marks k es ∙ ap (λ n. cond (h k) n 0) (all 0 k (omega arith)) in
-      let cons : count_by h (k ∷ cells) ≡ cond (h k) 1 0 + count_by h cells = sum-cons (λ (x : Combination). cond (h x) 1 0) k cells in
+      let first : sum_by (counted (mark k)) es ≡ cond (h k) 1 0 =
+      sum-marks k es ∙ ap (λ n. cond (h k) n 0) (all 0 k (omega arith)) in
+      let cons : count_by h (k ∷ cells) ≡ cond (h k) 1 0 + count_by h cells =
+      sum-cons (λ (x : Combination). cond (h x) 1 0) k cells in
       omega (arith, sum-more k cells es, first, cons, sum-cells es cells (λ i d within. all (suc i) d (omega (arith, within))))
 
   sum-filter : (es : Pairs) → sum_by (λ e. e.1) (filter (λ e. h e.0) es) ≡ sum_by (counted (λ e. e.1)) es
   sum-filter [] = refl
-  sum-filter (e ∷ es) = by (h e.0) ∙ ap (λ n. cond (h e.0) e.1 0 + n) (sum-filter es) ∙ sym (sum-cons (counted (λ e. e.1)) e es)
+  sum-filter (e ∷ es) =
+      by (h e.0) ∙ ap (λ n. cond (h e.0) e.1 0 + n) (sum-filter es) ∙ sym (sum-cons (counted (λ e. e.1)) e es)
     where
       rest : Pairs
       rest = filter (λ e. h e.0) es
 
-      by : (b : Bool) → sum_by (λ (x : Combination × ℕ). x.1) (cond b (e ∷ filter (λ e. h e.0) es) (filter (λ e. h e.0) es)) ≡ cond b e.1 0 + sum_by (λ (x : Combination × ℕ). x.1) (filter (λ e. h e.0) es)
+      by : (b : Bool)
+          → sum_by (λ (x : Combination × ℕ). x.1) (cond b (e ∷ filter (λ e. h e.0) es) (filter (λ e. h e.0) es))
+          ≡ cond b e.1 0 + sum_by (λ (x : Combination × ℕ). x.1) (filter (λ e. h e.0) es)
       by true = sum-cons (λ (x : Combination × ℕ). x.1) e (filter (λ e. h e.0) es)
       by false = sym (zero-add _)
 
@@ -149,7 +163,8 @@ module _ (h : Combination → Bool) where
       omega (arith, sum-cons f e es, sum-cons g e es, first, sum-alike f g es (λ i d within. all (suc i) d (omega (arith, within))))
 
   -- the counts of the entries add up to the cells, where a test holds
-  pub table-counts : (cells : List Combination) → sum_by (λ e. e.1) (filter (λ e. h e.0) (table_of Nothing cells)) ≡ count_by h cells
+  pub table-counts : (cells : List Combination)
+      → sum_by (λ e. e.1) (filter (λ e. h e.0) (table_of Nothing cells)) ≡ count_by h cells
   table-counts cells =
       let es = table_of Nothing cells in
       let tally = whole-tally cells in

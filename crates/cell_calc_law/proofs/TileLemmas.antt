@@ -1,11 +1,7 @@
 -- Maps of values, by tiles with their halo.
 use Rattle.std.proofs.Common.{◌≡◌, ℕ, ◌+◌, ◌-◌, ◌<◌, ◌≤◌, min, ap, sym, ◌∙◌, arith}
-use Rattle.cell_core.specs.Grid.{Grid, cell_at}
-use Rattle.cell_core.specs.Shelf.{ShelfValue}
-use Rattle.cell_calc_operators.specs.Applied.{Spot, spot}
-use Rattle.cell_calc_binding.specs.Formula.{Formula}
+use Rattle.cell_calc_operators.specs.Applied.{spot}
 use Rattle.cell_calc_binding.specs.Value.{value}
-use Rattle.cell_tiles_law.specs.Parts.{Rectangle}
 use Rattle.cell_tiles_law.specs.ReachParts.{reach_of, spot_in}
 use Rattle.cell_tiles_law.proofs.ReachLemmas.{its-reach-is-enough}
 use Rattle.cell_calc_law.specs.TileLaw.{haloed, TilesMakeTheMap}

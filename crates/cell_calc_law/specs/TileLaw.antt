@@ -5,7 +5,7 @@ use Rattle.cell_core.specs.Shelf.{ShelfValue}
 use Rattle.cell_calc_binding.specs.Formula.{Formula}
 use Rattle.cell_tiles_law.specs.HaloParts.{calls, asks_rows, asks_cols}
 use Rattle.cell_tiles_law.specs.Parts.{Rectangle, AreCutOut}
-use Rattle.cell_tiles_law.specs.ReachParts.{reach_of, with_halo, HoldsCell}
+use Rattle.cell_tiles_law.specs.ReachParts.{reach_of, with_halo, IsCellInside}
 use Rattle.rcell_making.specs.Making.{AreValues}
 
 -- a tile with its halo: as many rows and columns around it as an expression reaches, as far as the region goes
@@ -25,5 +25,5 @@ TilesMakeTheMap =
     (f : Formula) (whole tile : ShelfValue) (r : Rectangle) → IsHaloedTile f r whole tile
     → calls asks_rows f ≡ false → calls asks_cols f ≡ false
     → (x y : Grid) → AreValues f whole x → AreValues f tile y
-    → (row col : ℕ) → HoldsCell whole.region r row col
+    → (row col : ℕ) → IsCellInside whole.region r row col
     → cell_at y (row - (haloed f whole r).top) (col - (haloed f whole r).left) ≡ cell_at x row col

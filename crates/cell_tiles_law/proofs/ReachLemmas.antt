@@ -1,18 +1,15 @@
 -- A rectangle with as many rows and columns around it as an expression reaches has what it reads.
-use Rattle.std.proofs.Common.{◌≡◌, ℕ, ◌+◌, ◌-◌, ◌<◌, ◌≤◌, max, min, List, Bool, true, false, cond, eqb, ap, sym, ◌∙◌, arith, inl, inr, ⊎_elim, ◌⊎◌}
-use Rattle.std.specs.Prelude.{All}
-use Rattle.std.proofs.Math.Nat.{le-max_left, le-max_right}
+use Rattle.std.proofs.Common.{◌≡◌, ℕ, ◌+◌, ◌-◌, ◌<◌, ◌≤◌, max, min, Bool, true, false, cond, eqb, ap, sym, ◌∙◌, arith, inl, inr, ⊎_elim, ◌⊎◌}
 use Rattle.std.proofs.lemmas.Bool.{cases_lt}
 use Rattle.cell_core_values.specs.Region.{RegionValue}
-use Rattle.cell_core.specs.Grid.{Grid, IsFilled}
-use Rattle.cell_calc_operators.specs.Applied.{Spot, spot}
+use Rattle.cell_calc_operators.specs.Applied.{spot}
 use Rattle.cell_calc_language.specs.Grammatical.{up_by, down_by}
 use Rattle.cell_calc_binding.specs.Formula.{Formula, Number, Map, Negated, Not, Binary, Call, Formulas, NoFormulas, Then}
 use Rattle.cell_calc_binding.specs.Reach.{up_of, down_of, up_of_all, down_of_all}
 use Rattle.cell_calc_binding.specs.Value.{value}
 use Rattle.cell_tiles_law.specs.HaloParts.{left_of, right_of, left_of_all, right_of_all, ReadsWithin, value_told}
-use Rattle.cell_tiles_law.specs.Parts.{Rectangle, AreCutOut}
-use Rattle.cell_tiles_law.specs.ReachParts.{reach_of, reach_of_all, IsWithinReach, MapsAreWithinReach, with_halo, spot_in, HoldsCell, ItsReachIsEnough, ItsReachIsEnoughTold}
+use Rattle.cell_tiles_law.specs.Parts.{Rectangle}
+use Rattle.cell_tiles_law.specs.ReachParts.{reach_of, reach_of_all, IsWithinReach, MapsAreWithinReach, with_halo, spot_in, IsCellInside, ItsReachIsEnough, ItsReachIsEnoughTold}
 use Rattle.cell_tiles_law.proofs.HaloLemmas.{halo-is-enough, reach-is-enough}
 
 own-most : (b : Bool) (n : ℕ) → cond b n 0 ≤ n
@@ -37,7 +34,8 @@ mutual
     left = own-most (eqb place i) (up_by right);
     right = own-most (eqb place i) (down_by right);
   }
-  within (Negated a) place = let h = within a place in record { up = h.up; down = h.down; left = h.left; right = h.right }
+  within (Negated a) place =
+      let h = within a place in record { up = h.up; down = h.down; left = h.left; right = h.right }
   within (Not a) place = let h = within a place in record { up = h.up; down = h.down; left = h.left; right = h.right }
   within (Binary op a b) place =
       let h = within a place in
@@ -48,7 +46,8 @@ mutual
         left = max-most _ _ _ _ h.left k.left;
         right = max-most _ _ _ _ h.right k.right;
       }
-  within (Call f xs) place = let h = all-within xs place in record { up = h.up; down = h.down; left = h.left; right = h.right }
+  within (Call f xs) place =
+      let h = all-within xs place in record { up = h.up; down = h.down; left = h.left; right = h.right }
 
   all-within : (xs : Formulas) (place : ℕ) → IsWithinAll xs place
   all-within NoFormulas place = record { up = omega arith; down = omega arith; left = omega arith; right = omega arith }
@@ -79,16 +78,18 @@ behind total first n up down reads i fits most from to =
 back : (first up i : ℕ) → first ≤ i → first - up + (i - (first - up)) ≡ i
 back first up i from = omega (arith, from)
 
-module _ (f : Formula) (region : RegionValue) (r : Rectangle) (row col : ℕ) (holds : HoldsCell region r row col) where
+module _ (f : Formula) (region : RegionValue) (r : Rectangle) (row col : ℕ) (holds : IsCellInside region r row col) where
   abbrev h : Rectangle
   h = with_halo region (reach_of f) r
 
   reads : ReadsWithin f region h (row - h.top) (col - h.left)
   reads = record {
     up = λ place. before r.top (reach_of f).up (up_of place f) row (within f place).up holds.below;
-    down = λ place. behind region.rows r.top r.rows (reach_of f).up (reach_of f).down (down_of place f) row holds.high (within f place).down holds.below holds.above;
+    down =
+        λ place. behind region.rows r.top r.rows (reach_of f).up (reach_of f).down (down_of place f) row holds.high (within f place).down holds.below holds.above;
     left = λ place. before r.left (reach_of f).left (left_of place f) col (within f place).left holds.right;
-    right = λ place. behind region.cols r.left r.cols (reach_of f).left (reach_of f).right (right_of place f) col holds.wide (within f place).right holds.right holds.left;
+    right =
+        λ place. behind region.cols r.left r.cols (reach_of f).left (reach_of f).right (right_of place f) col holds.wide (within f place).right holds.right holds.left;
   }
 
   there : spot region (h.top + (row - h.top)) (h.left + (col - h.left)) ≡ spot region row col

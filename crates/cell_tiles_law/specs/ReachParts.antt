@@ -67,7 +67,7 @@ abbrev pub spot_in : Rectangle → (row col : ℕ) → Spot
 spot_in r row col = record { rows = r.rows; cols = r.cols; row = row - r.top; col = col - r.left }
 
 -- a rectangle of a region, and a cell of it
-pub record HoldsCell (region : RegionValue) (r : Rectangle) (row col : ℕ) : Type 0 where
+pub record IsCellInside (region : RegionValue) (r : Rectangle) (row col : ℕ) : Type 0 where
   pub high : r.top + r.rows ≤ region.rows
   pub wide : r.left + r.cols ≤ region.cols
   pub below : r.top ≤ row
@@ -81,7 +81,7 @@ ItsReachIsEnough =
     (f : Formula) (whole part : List Grid) (region : RegionValue) (r : Rectangle)
     → All (λ m. IsFilled region m.rows) whole → AreCutOut (with_halo region (reach_of f) r) whole part
     → calls asks_rows f ≡ false → calls asks_cols f ≡ false
-    → (row col : ℕ) → HoldsCell region r row col
+    → (row col : ℕ) → IsCellInside region r row col
     → value f part (spot_in (with_halo region (reach_of f) r) row col) ≡ value f whole (spot region row col)
 
 -- and if it does, where it is told of the cell in the whole
@@ -89,6 +89,6 @@ abbrev pub ItsReachIsEnoughTold : Type 0
 ItsReachIsEnoughTold =
     (f : Formula) (whole part : List Grid) (region : RegionValue) (r : Rectangle)
     → All (λ m. IsFilled region m.rows) whole → AreCutOut (with_halo region (reach_of f) r) whole part
-    → (row col : ℕ) → HoldsCell region r row col
+    → (row col : ℕ) → IsCellInside region r row col
     → value_told f part (spot_in (with_halo region (reach_of f) r) row col) (spot region row col)
     ≡ value f whole (spot region row col)
