@@ -15,7 +15,7 @@ use Rattle.cell_core.specs.Grid.{Grid, CellValue, cell_at}
 use Rattle.cell_core_values.specs.Cell.{cell_cmp, cell_cmp_total}
 use Rattle.cell_calc_operators.specs.Applied.{spot}
 use Rattle.cell_stats_combinations.specs.declared.skip.Skip.TheVariants.{Nothing}
-use Rattle.cell_stats_combinations.specs.Combinations.{Combination, combination_cmp, cell_of_map, combination_at, all_combinations}
+use Rattle.cell_stats_combinations.specs.Combinations.{Combination, combination_cmp, cell_of_map, combination_at}
 use Rattle.cell_stats_combinations.proofs.OrderLemmas.{combination_cmp-exact, is_equal}
 use Rattle.cell_stats_counts.specs.Counts.{count_of}
 use Rattle.cell_stats.specs.CategoryTables.{Pairs, table_of}
@@ -82,7 +82,8 @@ module _ (given : Combination → CellValue) (wide : ℕ) where
   made-of : (q : Combination) (cells : List Combination) → 0 < count_of q (map more cells) → IsMadeOf q cells
   made-of q [] some = absurd (omega (arith, some))
   made-of q (c ∷ cells) some =
-      elim (eq_by_cmp combination_cmp q (more c)) as (λ b. eq_by_cmp combination_cmp q (more c) ≡ b → IsMadeOf q (c ∷ cells)) [
+      let is_first = eq_by_cmp combination_cmp q (more c) in
+      elim is_first as (λ b. is_first ≡ b → IsMadeOf q (c ∷ cells)) [
         | true ↦ λ same. (c, (0, omega arith, refl), combination_cmp-exact q (more c) (is_equal _ same))
         | false ↦ λ other.
             let fewer : count_of q (map more (c ∷ cells)) ≡ count_of q (map more cells) =
@@ -98,7 +99,7 @@ module _ (given : Combination → CellValue) (wide : ℕ) where
   below-more k [] k_wide all below = tt
   below-more k (e ∷ es) k_wide all below = (
     more-cmp k e.0 (given k) (given e.0) (k_wide ∙ sym (all 0 e (omega arith)))
-    ∙ ap (λ o. ordering_then o (ordering_then (cell_cmp (given k) (given e.0)) Equal)) below.0,
+        ∙ ap (λ o. ordering_then o (ordering_then (cell_cmp (given k) (given e.0)) Equal)) below.0,
     below-more k es k_wide (λ i d within. all (suc i) d (omega (arith, within))) below.1,
   )
 
@@ -190,19 +191,19 @@ module _ (maps : List Grid) (picks : List ℕ) where
   abbrev IsWide : Combination → Type 0
   IsWide c = length c ≡ length picks
 
+  abbrev cells_of_row : (cols row : ℕ) → List Combination
+  cells_of_row cols row = map (combination_at maps picks row) (range_with_len 0 cols)
+
   wide-row : (row : ℕ) (cs : List ℕ) → All IsWide (map (combination_at maps picks row) cs)
   wide-row row cs =
       All-map IsWide (combination_at maps picks row) cs (λ i d within.
       length-map picks (cell_of_map maps row (get_or cs i d)))
 
-  wide-rows : (cols : ℕ) (rows : List ℕ) → All IsWide (flat_map (λ row. map (combination_at maps picks row) (range_with_len 0 cols)) rows)
+  wide-rows : (cols : ℕ) (rows : List ℕ) → All IsWide (flat_map (cells_of_row cols) rows)
   wide-rows cols [] = λ i d within. absurd (omega (arith, within))
   wide-rows cols (row ∷ rows) =
-      let row_of_cells = λ (row : ℕ). map (combination_at maps picks row) (range_with_len 0 cols) in
-      All-append IsWide (row_of_cells row) (flat_map row_of_cells rows) (wide-row row (range_with_len 0 cols)) (wide-rows cols rows)
-
-  all-wide : (rows cols : ℕ) → All IsWide (all_combinations maps picks rows cols)
-  all-wide rows cols = wide-rows cols (range_with_len 0 rows)
+      All-append IsWide (cells_of_row cols row) (flat_map (cells_of_row cols) rows)
+      (wide-row row (range_with_len 0 cols)) (wide-rows cols rows)
 
 pub table-has-its-values : TableHasItsValues
 table-has-its-values f picks given gives shelf name x all are =
@@ -219,6 +220,7 @@ table-has-its-values f picks given gives shelf name x all are =
     let value = are.cells row col (omega (arith, row_lt)) col_lt ∙ gives shelf.maps (spot shelf.region row col) in
     more-cells shelf.maps x row col picks all ∙ ap (λ (c : CellValue). old row col ++ c ∷ []) value) in
     let keys_wide = table-wide shelf.maps picks Nothing rows cols es (table_of-IsTable Nothing cells) in
-    let tally = more-tally given wide cells es (all-wide shelf.maps picks rows cols) keys_wide (whole-tally cells) in
+    let cells_wide = wide-rows shelf.maps picks cols (range_with_len 0 rows) in
+    let tally = more-tally given wide cells es cells_wide keys_wide (whole-tally cells) in
     one_table after (table_of Nothing after) (map (more_of given wide) es) (whole-tally after)
     (subst (λ (l : List Combination). IsTally l (map (more_of given wide) es)) (sym same) tally)

@@ -1,6 +1,7 @@
 -- The value of a local expression, from the combination of the maps that it reads.
-use Rattle.std.proofs.Common.{◌≡◌, ℕ, zero, suc, ℤ, pos, ◌+◌, ◌+ℤ◌, List, [], ◌∷◌, get_or, Option, Some, None, Bool, true, false, cond, eqb, refl, ap, sym, ◌∙◌, arith, add-zero, inl, inr, ◌⊎◌}
-use Rattle.std.specs.Prelude.{Contains, slice_get}
+use Rattle.std.proofs.Common.{zero, suc, ◌+◌, ◌+ℤ◌, get_or, cond, eqb, refl, ap, sym, ◌∙◌, arith, add-zero, inl, inr}
+use Rattle.std.specs.Prelude.{◌≡◌, ℕ, ℤ, pos, ◌⊎◌, List, [], ◌∷◌, Option, Some, None, Bool, true, false}
+use Rattle.std.specs.List.{Contains, slice_get}
 use Rattle.std.specs.Option.{option_map_or}
 use Rattle.std.proofs.lemmas.Bool.{eqb-true, eq-eqb}
 use Rattle.cell_core.specs.Grid.{Grid, CellValue, cell_at}
@@ -9,7 +10,8 @@ use Rattle.cell_calc_tokens.specs.declared.function.Function.TheVariants as func
 use Rattle.cell_calc_operators.specs.Applied.{Spot, negated, inverted, applied, call_result}
 use Rattle.cell_calc_operators.specs.Offsets.{cell_in}
 use Rattle.cell_calc_binding.specs.Compact.{ReadsMap, AreReading}
-use Rattle.cell_calc_binding.specs.Formula.{Formula, Number, Map, Negated, Not, Binary, Call, Formulas, NoFormulas, Then}
+use Rattle.cell_calc_binding.specs.Formula as formula
+use Rattle.cell_calc_binding.specs.Formula.{Formula, Map, Formulas}
 use Rattle.cell_calc_binding.specs.Value.{value, argument_values}
 use Rattle.cell_stats_combinations.specs.Combinations.{Combination, cell_of_map, combination_at}
 use Rattle.cell_calc_law.specs.LocalLaw.{asks_where, IsLocal, AreLocal, OneValueACombination, LocalGoesByCombinations}
@@ -48,6 +50,10 @@ picked-cell c d e false one other = other
 picked-first : (p place : ℕ) (c d e : CellValue) → p ≡ place → c ≡ e → cond (eqb p place) c d ≡ e
 picked-first p place c d e same is = ap (λ b. cond b c d) (eq-eqb p place same) ∙ is
 
+abbrev IsPicked : List Grid → (row col place : ℕ) → List ℕ → Type 0
+IsPicked maps row col place picks =
+    picked picks (combination_at maps picks row col) place ≡ cell_of_map maps row col place
+
 picked-is : (maps : List Grid) (row col place : ℕ) (picks : List ℕ) → Contains picks place
     → picked picks (combination_at maps picks row col) place ≡ cell_of_map maps row col place
 picked-is maps row col place [] c = absurd (omega (arith, c.1))
@@ -55,11 +61,12 @@ picked-is maps row col place (p ∷ picks) c =
     first_or_other (contains-rest p place picks c) (picked-is maps row col place picks)
   where
     first_or_other : (p ≡ place) ⊎ Contains picks place
-        → (Contains picks place → picked picks (combination_at maps picks row col) place ≡ cell_of_map maps row col place)
+        → (Contains picks place → IsPicked maps row col place picks)
         → picked (p ∷ picks) (combination_at maps (p ∷ picks) row col) place ≡ cell_of_map maps row col place
     first_or_other (inl same) rest = picked-first p place _ _ _ same (ap (cell_of_map maps row col) same)
     first_or_other (inr other) rest =
-        picked-cell (cell_of_map maps row col p) _ _ (eqb p place) (λ e. ap (cell_of_map maps row col) (eqb-true p place e)) (rest other)
+        let same = λ (e : eqb p place ≡ true). ap (cell_of_map maps row col) (eqb-true p place e) in
+        picked-cell (cell_of_map maps row col p) _ _ (eqb p place) same (rest other)
 
 -- ---- the value
 
@@ -68,16 +75,16 @@ nowhere = record { rows = 0; cols = 0; row = 0; col = 0 }
 
 abbrev mutual
   given_by : Formula → List ℕ → Combination → CellValue
-  given_by (Number n) picks k = Some (pos n)
+  given_by (formula.Number n) picks k = Some (pos n)
   given_by (Map i down right) picks k = picked picks k i
-  given_by (Negated a) picks k = negated (given_by a picks k)
-  given_by (Not a) picks k = inverted (given_by a picks k)
-  given_by (Binary op a b) picks k = applied op (given_by a picks k) (given_by b picks k)
-  given_by (Call f xs) picks k = call_result f nowhere (all_given xs picks k)
+  given_by (formula.Negated a) picks k = negated (given_by a picks k)
+  given_by (formula.Not a) picks k = inverted (given_by a picks k)
+  given_by (formula.Binary op a b) picks k = applied op (given_by a picks k) (given_by b picks k)
+  given_by (formula.Call f xs) picks k = call_result f nowhere (all_given xs picks k)
 
   all_given : Formulas → List ℕ → Combination → List CellValue
-  all_given NoFormulas picks k = []
-  all_given (Then a xs) picks k = given_by a picks k ∷ all_given xs picks k
+  all_given formula.NoFormulas picks k = []
+  all_given (formula.Then a xs) picks k = given_by a picks k ∷ all_given xs picks k
 
 -- a function that does not ask where it is
 call-anywhere : (f : Function) (s t : Spot) (xs : List CellValue) → asks_where f ≡ false
@@ -95,21 +102,21 @@ module _ (picks : List ℕ) (maps : List Grid) (s : Spot) where
   mutual
     goes : (f : Formula) → IsLocal f → ((place : ℕ) → ReadsMap place f → Contains picks place)
         → value f maps s ≡ given_by f picks k
-    goes (Number n) local reads = refl
+    goes (formula.Number n) local reads = refl
     goes (Map i down right) local reads =
         value-here maps i down right s local.0 local.1 ∙ sym (picked-is maps s.row s.col i picks (reads i refl))
-    goes (Negated a) local reads = ap negated (goes a local reads)
-    goes (Not a) local reads = ap inverted (goes a local reads)
-    goes (Binary op a b) local reads =
+    goes (formula.Negated a) local reads = ap negated (goes a local reads)
+    goes (formula.Not a) local reads = ap inverted (goes a local reads)
+    goes (formula.Binary op a b) local reads =
         ap (λ x. applied op x (value b maps s)) (goes a local.0 (λ place h. reads place (inl h)))
         ∙ ap (λ y. applied op (given_by a picks k) y) (goes b local.1 (λ place h. reads place (inr h)))
-    goes (Call f xs) local reads =
+    goes (formula.Call f xs) local reads =
         ap (call_result f s) (all-go xs local.1 reads) ∙ call-anywhere f s nowhere (all_given xs picks k) local.0
 
     all-go : (xs : Formulas) → AreLocal xs → ((place : ℕ) → AreReading place xs → Contains picks place)
         → argument_values xs maps s ≡ all_given xs picks k
-    all-go NoFormulas local reads = refl
-    all-go (Then a xs) local reads =
+    all-go formula.NoFormulas local reads = refl
+    all-go (formula.Then a xs) local reads =
         ap (λ (x : CellValue). x ∷ argument_values xs maps s) (goes a local.0 (λ place h. reads place (inl h)))
         ∙ ap (λ (l : List CellValue). given_by a picks k ∷ l) (all-go xs local.1 (λ place h. reads place (inr h)))
 

@@ -15,20 +15,20 @@ use Rattle.cell_calc_law.specs.LocalLaw.{OneMapOfValues, CopyIsTheMap, EitherWay
 use Rattle.cell_calc_law.proofs.LocalLemmas.{value-here}
 
 -- rows of one region, of which each cell is the same, are the same
-module _ (region : RegionValue) (xs ys : List (List CellValue)) (x_filled : IsFilled region xs) (y_filled : IsFilled region ys) where
+module _ (region : RegionValue) (xs ys : List (List CellValue)) (x : IsFilled region xs) (y : IsFilled region ys) where
   pub same_rows :
       ((r c : ℕ) → r < region.rows → c < region.cols
       → get_or (get_or xs r []) c None ≡ get_or (get_or ys r []) c None)
       → xs ≡ ys
   same_rows cells =
-      let x_count = x_filled.count in
-      let y_count = y_filled.count in
+      let x_count = x.count in
+      let y_count = y.count in
       same_lists xs ys (omega arith) (λ r d lt.
       let within : r < length ys = omega arith in
       let x_wide : length (get_or xs r []) ≡ region.cols =
-      All-get_or (λ l. length l ≡ region.cols) xs r [] lt x_filled.width in
+      All-get_or (λ l. length l ≡ region.cols) xs r [] lt x.width in
       let y_wide : length (get_or ys r []) ≡ region.cols =
-      All-get_or (λ l. length l ≡ region.cols) ys r [] within y_filled.width in
+      All-get_or (λ l. length l ≡ region.cols) ys r [] within y.width in
       get_or_default xs r d [] lt
       ∙ same_lists (get_or xs r []) (get_or ys r []) (omega arith) (λ c e c_lt.
       get_or_default (get_or xs r []) c e None c_lt
@@ -40,8 +40,8 @@ same_grid : (a b : Grid) → a.region ≡ b.region → a.rows ≡ b.rows → a.l
 same_grid a b region rows labels = λ i. record { region = region i; rows = rows i; labels = labels i }
 
 -- the rows of a map of values fill the region of the shelf
-pub values-filled : (f : Formula) (shelf : ShelfValue) (x : Grid) → AreValues f shelf x → IsFilled shelf.region x.rows
-values-filled f shelf x are =
+pub fills : (f : Formula) (shelf : ShelfValue) (x : Grid) → AreValues f shelf x → IsFilled shelf.region x.rows
+fills f shelf x are =
     let rows : x.region.rows ≡ shelf.region.rows = ap (λ (r : RegionValue). r.rows) are.region in
     let cols : x.region.cols ≡ shelf.region.cols = ap (λ (r : RegionValue). r.cols) are.region in
     record {
@@ -52,7 +52,7 @@ values-filled f shelf x are =
 pub one-map-of-values : OneMapOfValues
 one-map-of-values f g shelf x y are_x are_y same =
     same_grid x y (are_x.region ∙ sym are_y.region)
-    (same_rows shelf.region x.rows y.rows (values-filled f shelf x are_x) (values-filled g shelf y are_y) (λ r c r_lt c_lt.
+    (same_rows shelf.region x.rows y.rows (fills f shelf x are_x) (fills g shelf y are_y) (λ r c r_lt c_lt.
     are_x.cells r c r_lt c_lt ∙ same r c r_lt c_lt ∙ sym (are_y.cells r c r_lt c_lt)))
     (are_x.labels ∙ sym are_y.labels)
 
@@ -62,11 +62,12 @@ either (Some n) = refl
 
 pub either-way-is-the-same : EitherWayIsTheSame
 either-way-is-the-same g shelf x y are_x are_y =
-    one-map-of-values (either_way g) g shelf y x are_y are_x (λ row col r_lt c_lt. either (value g shelf.maps (spot shelf.region row col)))
+    one-map-of-values (either_way g) g shelf y x are_y are_x (λ row col _ _.
+    either (value g shelf.maps (spot shelf.region row col)))
 
 pub copy-is-the-map : CopyIsTheMap
 copy-is-the-map shelf place g x is filled are =
-    same_rows shelf.region x.rows g.rows (values-filled (Map place (pos 0) (pos 0)) shelf x are) filled (λ r c r_lt c_lt.
+    same_rows shelf.region x.rows g.rows (fills (Map place (pos 0) (pos 0)) shelf x are) filled (λ r c r_lt c_lt.
     are.cells r c r_lt c_lt
     ∙ value-here shelf.maps place (pos 0) (pos 0) (spot shelf.region r c) refl refl
     ∙ ap (λ o. option_map_or (λ m. cell_at m r c) o None) is)

@@ -12,7 +12,7 @@ use Rattle.cell_core_values.specs.Region.{RegionValue}
 use Rattle.cell_core.specs.Grid.{Grid, CellValue, IsFilled, cell_at}
 use Rattle.cell_calc_operators.specs.Offsets.{item_at, cell_in, cell_at_offset, row_of}
 use Rattle.cell_stats.proofs.TableLemmas.{count_cons}
-use Rattle.cell_stats_combinations.specs.Combinations.{Combination, combination_cmp, cell_of_map, combination_at, all_combinations}
+use Rattle.cell_stats_combinations.specs.Combinations.{Combination, combination_cmp, combination_at, all_combinations}
 use Rattle.cell_stats_counts.proofs.WalkLemmas.{count-append}
 use Rattle.cell_stats_counts.specs.Counts.{count_of}
 use Rattle.cell_calc_law.specs.LocalLaw.{cells_alone, cells_of_shelf}
@@ -30,15 +30,15 @@ steps-add from to a c step =
     ap (λ z. z +ℤ a) (sym step) ∙ +ℤ_assoc (pos from) c a ∙ ap (λ z. pos from +ℤ z) (+ℤ_comm c a)
 
 pub shifts-add-up : ShiftsAddUp
-shifts-add-up shelf place a b c d name x y z are_x are_y are_z row col to_row to_col row_lt col_lt row_on to_row_lt col_on to_col_lt =
-    are_y.cells row col row_lt col_lt
+shifts-add-up shelf place a b c d name x y z are_x are_y are_z row col r l in_row in_col row_on row_in col_on col_in =
+    are_y.cells row col in_row in_col
     ∙ ap (λ o. cell_in o (pos row +ℤ c) (pos col +ℤ d)) (last-of shelf.maps x)
-    ∙ ap (λ r. cell_at_offset x r (pos col +ℤ d)) row_on
-    ∙ ap (λ l. cell_at_offset x (pos to_row) l) col_on
-    ∙ are_x.cells to_row to_col to_row_lt to_col_lt
-    ∙ ap (λ r. cell_in (slice_get shelf.maps place) r (pos to_col +ℤ b)) (steps-add row to_row a c row_on)
-    ∙ ap (λ l. cell_in (slice_get shelf.maps place) (pos row +ℤ (a +ℤ c)) l) (steps-add col to_col b d col_on)
-    ∙ sym (are_z.cells row col row_lt col_lt)
+    ∙ ap (λ z. cell_at_offset x z (pos col +ℤ d)) row_on
+    ∙ ap (λ z. cell_at_offset x (pos r) z) col_on
+    ∙ are_x.cells r l row_in col_in
+    ∙ ap (λ z. cell_in (slice_get shelf.maps place) z (pos l +ℤ b)) (steps-add row r a c row_on)
+    ∙ ap (λ z. cell_in (slice_get shelf.maps place) (pos row +ℤ (a +ℤ c)) z) (steps-add col l b d col_on)
+    ∙ sym (are_z.cells row col in_row in_col)
 
 -- ---- beyond the edge
 
@@ -150,7 +150,8 @@ module _ (category : ℤ) (region : RegionValue) (o : Option Grid) (fills : Fill
       (λ i. ap (has category) (col-beyond region o fills r (negsuc i) (past-neg region.cols i))) b
 
   -- a whole row beyond has none
-  row-none : (b r : ℤ) → ((to : ℕ) → r ≡ pos to → region.rows ≤ to) → line (λ col. at r (pos col +ℤ b)) 0 region.cols ≡ 0
+  row-none : (b r : ℤ) → ((to : ℕ) → r ≡ pos to → region.rows ≤ to)
+      → line (λ col. at r (pos col +ℤ b)) 0 region.cols ≡ 0
   row-none b r far =
       none-line (λ col. at r (pos col +ℤ b)) 0 region.cols (λ col.
       ap (has category) (row-beyond region o fills r (pos col +ℤ b) far))
@@ -160,7 +161,8 @@ module _ (category : ℤ) (region : RegionValue) (o : Option Grid) (fills : Fill
       ≤ total (λ row col. at (pos row) (pos col +ℤ b)) region.rows region.cols
   rows-shifted a b =
       line-shifted (λ r. line (λ col. at r (pos col +ℤ b)) 0 region.cols) region.rows
-      (λ i past. row-none b (pos i) (past-pos region.rows i past)) (λ i. row-none b (negsuc i) (past-neg region.rows i)) a
+      (λ i past. row-none b (pos i) (past-pos region.rows i past))
+      (λ i. row-none b (negsuc i) (past-neg region.rows i)) a
 
   both-shifted : (a b : ℤ)
       → total (λ row col. at (pos row +ℤ a) (pos col +ℤ b)) region.rows region.cols
@@ -183,6 +185,7 @@ shifts-only-lose shelf place a b x all are category =
     let cols = shelf.region.cols in
     let o = slice_get shelf.maps place in
     let k = Some category ∷ [] in
+    let given_cell = λ (row col : ℕ). option_map_or (λ m. cell_at m row col) o None in
     let shifted = λ (row col : ℕ). has category (cell_in o (pos row +ℤ a) (pos col +ℤ b)) in
     let whole = λ (row col : ℕ). has category (cell_in o (pos row) (pos col)) in
     let made : count_of k (cells_alone shelf.region x) ≡ total shifted rows cols =
@@ -191,7 +194,7 @@ shifts-only-lose shelf place a b x all are category =
     ap (has category) (are.cells row col row_lt col_lt)) in
     let given : count_of k (cells_of_shelf shelf (place ∷ [])) ≡ total whole rows cols =
     count-all shelf.maps (place ∷ []) k rows cols
-    ∙ total-same (λ row col. has category (cell_of_map shelf.maps row col place)) whole rows cols (λ row col _ _.
+    ∙ total-same (λ row col. has category (given_cell row col)) whole rows cols (λ row col _ _.
     ap (has category) (cell-there o row col)) in
     let fewer = both-shifted category shelf.region o (fills-at shelf.region shelf.maps place all) a b in
     omega (arith, made, given, fewer)

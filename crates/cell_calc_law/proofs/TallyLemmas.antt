@@ -23,7 +23,8 @@ kept-nothing (k ∷ cells) = ap (λ (l : List Combination). k ∷ l) (kept-nothi
 
 pub whole-tally : (cells : List Combination) → IsTally cells (table_of Nothing cells)
 whole-tally cells =
-    subst (λ (l : List Combination). IsTally l (table_of Nothing cells)) (kept-nothing cells) (counts_of-IsTally (kept Nothing cells))
+    let kept_cells = counts_of-IsTally (kept Nothing cells) in
+    subst (λ (l : List Combination). IsTally l (table_of Nothing cells)) (kept-nothing cells) kept_cells
 
 -- ---- each cell is counted by one entry
 
@@ -49,13 +50,19 @@ mark-none k (e ∷ es) below =
     let first : mark k e ≡ 0 = ap (λ t. cond t 1 0) (eq-swap e.0 k ∙ ap is_eq (is_less _ both.0)) in
     omega (arith, sum-cons (mark k) e es, first, mark-none k es both.1)
 
+-- where an entry is that of a combination, or another is: one is
+abbrev IsOneIf : Combination → Combination × ℕ → Pairs → ℕ → Bool → Type 0
+IsOneIf k e es n t =
+    eq_by_cmp combination_cmp k e.0 ≡ t → cond t (Some e.1) (find combination_cmp k es) ≡ Some n
+    → sum_by (mark k) (e ∷ es) ≡ 1
+
 mark-one : (k : Combination) (es : Pairs) (n : ℕ) → is_sorted combination_cmp es ≡ true
     → find combination_cmp k es ≡ Some n → sum_by (mark k) es ≡ 1
 mark-one k [] n sorted is = cc
 mark-one k (e ∷ es) n sorted is =
     let both : (below_all combination_cmp e.0 es ≡ true) × (is_sorted combination_cmp es ≡ true) =
     both_true _ _ sorted in
-    elim (eq_by_cmp combination_cmp k e.0) as (λ t. eq_by_cmp combination_cmp k e.0 ≡ t → cond t (Some e.1) (find combination_cmp k es) ≡ Some n → sum_by (mark k) (e ∷ es) ≡ 1) [
+    elim (eq_by_cmp combination_cmp k e.0) as (λ t. IsOneIf k e es n t) [
       | true ↦ λ t _.
           let same : k ≡ e.0 = combination_cmp-exact k e.0 (is_equal _ t) in
           let first : mark k e ≡ 1 = ap (λ b. cond b 1 0) (eq-swap e.0 k ∙ t) in
@@ -107,7 +114,8 @@ module _ (h : Combination → Bool) where
       let first = same-mark k e.0 (eq_by_cmp combination_cmp e.0 k) refl in
       let whole : cond (h k) (sum_by (mark k) (e ∷ es)) 0 ≡ cond (h k) (mark k e + sum_by (mark k) es) 0 =
       ap (λ n. cond (h k) n 0) (sum-cons (mark k) e es) in
-      omega (arith, sum-cons (counted (mark k)) e es, first, sum-marks k es, whole, cond-add (h k) (mark k e) (sum_by (mark k) es))
+      let split = cond-add (h k) (mark k e) (sum_by (mark k) es) in
+      omega (arith, sum-cons (counted (mark k)) e es, first, sum-marks k es, whole, split)
 
   sum-more : (k : Combination) (cells : List Combination) (es : Pairs)
       → sum_by (counted (λ e. count_of e.0 (k ∷ cells))) es
@@ -140,7 +148,8 @@ module _ (h : Combination → Bool) where
       sum-marks k es ∙ ap (λ n. cond (h k) n 0) (all 0 k (omega arith)) in
       let cons : count_by h (k ∷ cells) ≡ cond (h k) 1 0 + count_by h cells =
       sum-cons (λ (x : Combination). cond (h x) 1 0) k cells in
-      omega (arith, sum-more k cells es, first, cons, sum-cells es cells (λ i d within. all (suc i) d (omega (arith, within))))
+      let others = sum-cells es cells (λ i d within. all (suc i) d (omega (arith, within))) in
+      omega (arith, sum-more k cells es, first, cons, others)
 
   sum-filter : (es : Pairs) → sum_by (λ e. e.1) (filter (λ e. h e.0) es) ≡ sum_by (counted (λ e. e.1)) es
   sum-filter [] = refl
@@ -160,7 +169,8 @@ module _ (h : Combination → Bool) where
   sum-alike f g [] all = refl
   sum-alike f g (e ∷ es) all =
       let first : f e ≡ g e = all 0 e (omega arith) in
-      omega (arith, sum-cons f e es, sum-cons g e es, first, sum-alike f g es (λ i d within. all (suc i) d (omega (arith, within))))
+      let others = sum-alike f g es (λ i d within. all (suc i) d (omega (arith, within))) in
+      omega (arith, sum-cons f e es, sum-cons g e es, first, others)
 
   -- the counts of the entries add up to the cells, where a test holds
   pub table-counts : (cells : List Combination)
@@ -175,7 +185,8 @@ module _ (h : Combination → Bool) where
       ap (λ n. cond (h e.0) n 0) ((tally.counted e.0 e.1).0 (i, within, get_or-any es i d e within)).1)
       ∙ sum-cells es cells (λ i d within.
       let k = get_or cells i d in
-      mark-one k es (count_of k cells) is_found.sorted (is_found.finds k ∙ found-some (count_of k cells) (counts-itself cells i d within)))
+      let some = found-some (count_of k cells) (counts-itself cells i d within) in
+      mark-one k es (count_of k cells) is_found.sorted (is_found.finds k ∙ some))
     where
       get_or-any : {X : Type 0} (xs : List X) (i : ℕ) (d e : X) → i < length xs → get_or xs i e ≡ get_or xs i d
       get_or-any [] i d e within = absurd (omega (arith, within))

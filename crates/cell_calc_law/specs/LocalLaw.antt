@@ -1,4 +1,4 @@
--- Local expressions read nothing but the cell itself, and so their values go by combinations (r.mapcalc and r.stats manuals).
+-- Local expressions read nothing but the cell itself, so their values go by combinations (r.mapcalc, r.stats manuals).
 use Rattle.std.specs.Prelude.{ℕ, pos, ◌≡◌, ◌<◌, Bool, true, false, List, [], ◌∷◌, ◌++◌, length, All, Contains, Some, slice_get, map, filter, sum_by}
 use Rattle.cell_core_values.specs.Cell.{cell_eq}
 use Rattle.cell_core_values.specs.Region.{RegionValue}
@@ -70,19 +70,21 @@ cells_alone region m = all_combinations (m ∷ []) (0 ∷ []) region.rows region
 abbrev pub cells_of_shelf : ShelfValue → List ℕ → List Combination
 cells_of_shelf shelf picks = all_combinations shelf.maps picks shelf.region.rows shelf.region.cols
 
--- after `x = f`: as many cells of x have a value as the table of the maps that f reads counts for the combinations that give it
+-- after `x = f`: a value has as many cells in x as the table of the maps read counts for the combinations that give it
 abbrev pub CountsFollow : Type 0
 CountsFollow =
     (f : Formula) (picks : List ℕ) (given : Combination → CellValue) → GivesValues given f picks
     → (shelf : ShelfValue) (x : Grid) → AreValues f shelf x → (v : CellValue)
     → count_of (v ∷ []) (cells_alone shelf.region x)
-    ≡ sum_by (λ pair. pair.1) (filter (λ pair. cell_eq v (given pair.0)) (table_of Nothing (cells_of_shelf shelf picks)))
+    ≡ sum_by (λ pair. pair.1)
+    (filter (λ pair. cell_eq v (given pair.0)) (table_of Nothing (cells_of_shelf shelf picks)))
 
--- after `x = f`: the table of the maps that f reads and of x is that of these maps, with the value behind each combination
+-- after `x = f`: the table of the maps read and of x is that of these maps, with the value behind each combination
 abbrev pub TableHasItsValues : Type 0
 TableHasItsValues =
     (f : Formula) (picks : List ℕ) (given : Combination → CellValue) → GivesValues given f picks
-    → (shelf : ShelfValue) (name : List ℕ) (x : Grid) → All (λ place. place < length shelf.maps) picks → AreValues f shelf x
+    → (shelf : ShelfValue) (name : List ℕ) (x : Grid)
+    → All (λ place. place < length shelf.maps) picks → AreValues f shelf x
     → table_of Nothing (cells_of_shelf (with_map shelf name x) (picks ++ length shelf.maps ∷ []))
     ≡ map (λ pair. (pair.0 ++ given pair.0 ∷ [], pair.1)) (table_of Nothing (cells_of_shelf shelf picks))
 

@@ -1,4 +1,4 @@
--- Neighbours are shifts: a map at an offset is the map moved, and offsets add up (r.mapcalc manual; null outside is the profile's).
+-- Neighbours are shifts: a map at an offset is the map moved (r.mapcalc manual; null outside is the profile's).
 use Rattle.std.specs.Prelude.{ℕ, ℤ, pos, ◌≡◌, ◌+ℤ◌, ◌<◌, ◌≤◌, ◌⊎◌, List, [], ◌∷◌, length, All, Some, None}
 use Rattle.cell_core.specs.Grid.{Grid, IsFilled, cell_at}
 use Rattle.cell_core.specs.Shelf.{ShelfValue}
@@ -7,7 +7,7 @@ use Rattle.cell_stats_counts.specs.Counts.{count_of}
 use Rattle.rcell_making.specs.Making.{AreValues, with_map}
 use Rattle.cell_calc_law.specs.LocalLaw.{cells_alone, cells_of_shelf}
 
--- after `x = g[a,b]`, `y = x[c,d]` and `z = g[a+c,b+d]`: y has the cell of z where the step by (c,d) stays within the region
+-- after `x = g[a,b]`, `y = x[c,d]`, `z = g[a+c,b+d]`: y has the cell of z where the step by (c,d) stays in the region
 abbrev pub ShiftsAddUp : Type 0
 ShiftsAddUp =
     (shelf : ShelfValue) (place : ℕ) (a b c d : ℤ) (name : List ℕ) (x y z : Grid)
@@ -25,7 +25,8 @@ NullBeyondTheEdge =
     (shelf : ShelfValue) (place : ℕ) (a b : ℤ) (x : Grid)
     → All (λ m. IsFilled shelf.region m.rows) shelf.maps → AreValues (Map place a b) shelf x
     → (row col : ℕ) → row < shelf.region.rows → col < shelf.region.cols
-    → ((to : ℕ) → pos row +ℤ a ≡ pos to → shelf.region.rows ≤ to) ⊎ ((to : ℕ) → pos col +ℤ b ≡ pos to → shelf.region.cols ≤ to)
+    → ((to : ℕ) → pos row +ℤ a ≡ pos to → shelf.region.rows ≤ to)
+    ⊎ ((to : ℕ) → pos col +ℤ b ≡ pos to → shelf.region.cols ≤ to)
     → cell_at x row col ≡ None
 
 -- after `x = g[a,b]`: no category has more cells in x than in g

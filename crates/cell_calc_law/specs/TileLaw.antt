@@ -19,7 +19,7 @@ pub record IsHaloedTile (f : Formula) (r : Rectangle) (whole tile : ShelfValue) 
   pub rows : tile.region.rows ≡ (haloed f whole r).rows
   pub cols : tile.region.cols ≡ (haloed f whole r).cols
 
--- `x = f` over the whole and `y = f` over a tile with its halo: in the tile, y has the cells of x, if f does not ask for rows and columns
+-- `x = f` over the whole, `y = f` over a tile with its halo: y has the cells of x in the tile, if f asks for no row or column
 abbrev pub TilesMakeTheMap : Type 0
 TilesMakeTheMap =
     (f : Formula) (whole tile : ShelfValue) (r : Rectangle) → IsHaloedTile f r whole tile

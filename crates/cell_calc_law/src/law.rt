@@ -14,13 +14,14 @@ pub fn local_goes_by_combinations()
     ensures { LocalGoesByCombinations }
 {}
 
-/// After `x = f`, as many cells of x have a value as the table of the maps that f reads counts for the combinations that
-/// give it.
+/// After `x = f`, a value has as many cells in x as the table of the maps that f reads counts for the combinations that give
+/// it.
 pub fn counts_follow()
     ensures { CountsFollow }
 {}
 
-/// After `x = f`, the table of the maps that f reads and of x is that of these maps, with the value behind each combination.
+/// After `x = f`, the table of the maps that f reads and of x is that of these maps, with the value behind each
+/// combination.
 pub fn table_has_its_values()
     ensures { TableHasItsValues }
 {}
@@ -40,7 +41,7 @@ pub fn either_way_is_the_same()
     ensures { EitherWayIsTheSame }
 {}
 
-/// After `x = g[a,b]`, `y = x[c,d]` and `z = g[a+c,b+d]`, y has the cell of z where the step by (c,d) stays within the region.
+/// After `x = g[a,b]`, `y = x[c,d]` and `z = g[a+c,b+d]`, y has the cell of z where the step by (c,d) stays in the region.
 pub fn shifts_add_up()
     ensures { ShiftsAddUp }
 {}
@@ -55,8 +56,8 @@ pub fn shifts_only_lose()
     ensures { ShiftsOnlyLose }
 {}
 
-/// `x = f` over the whole and `y = f` over a tile with its halo: in the tile, y has the cells of x, if f does not ask for rows
-/// and columns.
+/// `x = f` over the whole and `y = f` over a tile with its halo: in the tile, y has the cells of x, if f asks for no row or
+/// column.
 pub fn tiles_make_the_map()
     ensures { TilesMakeTheMap }
 {}

@@ -33,7 +33,8 @@ abbrev mutual
   -- how far an expression reaches around a cell, over all its maps
   pub reach_of : Formula → Halo
   reach_of (Number n) = no_halo
-  reach_of (Map i down right) = record { up = up_by down; down = down_by down; left = up_by right; right = down_by right }
+  reach_of (Map i down right) =
+      record { up = up_by down; down = down_by down; left = up_by right; right = down_by right }
   reach_of (Negated a) = reach_of a
   reach_of (Not a) = reach_of a
   reach_of (Binary op a b) = wider (reach_of a) (reach_of b)
@@ -75,7 +76,7 @@ pub record IsCellInside (region : RegionValue) (r : Rectangle) (row col : ℕ) :
   pub right : r.left ≤ col
   pub left : col < r.left + r.cols
 
--- with as many rows and columns around a rectangle as an expression reaches, it has at each cell of the rectangle the value of the whole, if it does not ask for rows and columns
+-- with a halo of its reach, an expression that does not ask for rows and columns has the values of the whole in a rectangle
 abbrev pub ItsReachIsEnough : Type 0
 ItsReachIsEnough =
     (f : Formula) (whole part : List Grid) (region : RegionValue) (r : Rectangle)
@@ -84,7 +85,7 @@ ItsReachIsEnough =
     → (row col : ℕ) → IsCellInside region r row col
     → value f part (spot_in (with_halo region (reach_of f) r) row col) ≡ value f whole (spot region row col)
 
--- and if it does, where it is told of the cell in the whole
+-- and any expression does, where row() and its like are told of the cell in the whole
 abbrev pub ItsReachIsEnoughTold : Type 0
 ItsReachIsEnoughTold =
     (f : Formula) (whole part : List Grid) (region : RegionValue) (r : Rectangle)

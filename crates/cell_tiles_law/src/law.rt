@@ -79,13 +79,13 @@ pub fn maps_are_within_reach()
     ensures { MapsAreWithinReach }
 {}
 
-/// With as many rows and columns around a rectangle as an expression reaches, as far as the region goes, it has at each cell
-/// of the rectangle the value of the whole, if it does not ask for rows and columns.
+/// With a halo of its reach, as many rows and columns around a rectangle as the region has there, an expression that does
+/// not ask for rows and columns has the values of the whole in the rectangle.
 pub fn its_reach_is_enough()
     ensures { ItsReachIsEnough }
 {}
 
-/// And if it does, where it is told of the cell in the whole.
+/// And any expression does, where `row()` and its like are told of the cell in the whole.
 pub fn its_reach_is_enough_told()
     ensures { ItsReachIsEnoughTold }
 {}
