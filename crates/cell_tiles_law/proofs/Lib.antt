@@ -5,4 +5,5 @@ pub mod CutLemmas
 pub mod GridLemmas
 pub mod HaloLemmas
 pub mod MergeLemmas
+pub mod ReachLemmas
 pub mod SumLemmas

@@ -2,4 +2,5 @@
 pub mod AreaParts
 pub mod HaloParts
 pub mod Parts
+pub mod ReachParts
 pub mod TableParts

@@ -3,6 +3,7 @@
 ghost use Rattle.cell_tiles_law.specs.AreaParts.{AreasJoin, AreasJoinAtCut, CutOutsAreTiles, FirstsAreFirsts, FirstsOfTheWhole, NumbersJoin};
 ghost use Rattle.cell_tiles_law.specs.HaloParts.{HaloIsEnough, ReachIsEnough, ToldOfItself};
 ghost use Rattle.cell_tiles_law.specs.Parts.{CutOutsAreParts, CutsAreParts, GridsCover};
+ghost use Rattle.cell_tiles_law.specs.ReachParts.{ItsReachIsEnough, ItsReachIsEnoughTold, MapsAreWithinReach};
 ghost use Rattle.cell_tiles_law.specs.TableParts.{BandTablesMerge, BandsAddUp, CountsAddByCols, CountsAddByRows, PartsAddUp, TablesMerge, TablesMergeByRows};
 
 /// Cut between rows and columns wherever, the rectangles cover each cell once.
@@ -71,6 +72,22 @@ pub fn told_of_itself()
 /// in the part or the maps end.
 pub fn reach_is_enough()
     ensures { ReachIsEnough }
+{}
+
+/// No map is read further than the expression reaches.
+pub fn maps_are_within_reach()
+    ensures { MapsAreWithinReach }
+{}
+
+/// With a halo of its reach, as many rows and columns around a rectangle as the region has there, an expression that does
+/// not ask for rows and columns has the values of the whole in the rectangle.
+pub fn its_reach_is_enough()
+    ensures { ItsReachIsEnough }
+{}
+
+/// And any expression does, where `row()` and its like are told of the cell in the whole.
+pub fn its_reach_is_enough_told()
+    ensures { ItsReachIsEnoughTold }
 {}
 
 /// A map cut between two rows: a path joins two cells exactly where a chain of links does, each a path within one part or a

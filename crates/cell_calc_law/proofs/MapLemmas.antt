@@ -1,0 +1,73 @@
+-- Maps that have one cell everywhere are one map.
+use Rattle.std.proofs.Common.{◌≡◌, ℕ, ◌<◌, List, [], Some, None, length, get_or, pos, refl, ap, sym, ◌∙◌, arith}
+use Rattle.std.specs.Option.{option_map_or}
+use Rattle.std.proofs.lemmas.List.{get_or_default, same_lists}
+use Rattle.std.proofs.lemmas.List.Elements.{All-get_or}
+use Rattle.cell_core_values.specs.Region.{RegionValue}
+use Rattle.cell_core.specs.Grid.{Grid, CellValue, IsFilled, cell_at}
+use Rattle.cell_core.specs.Shelf.{ShelfValue}
+use Rattle.cell_calc_operators.specs.Applied.{spot}
+use Rattle.cell_calc_operators.specs.CellOperators.{chosen, truth, is_null}
+use Rattle.cell_calc_binding.specs.Formula.{Formula, Map}
+use Rattle.cell_calc_binding.specs.Value.{value}
+use Rattle.rcell_making.specs.Making.{AreValues}
+use Rattle.cell_calc_law.specs.LocalLaw.{OneMapOfValues, CopyIsTheMap, EitherWayIsTheSame, either_way}
+use Rattle.cell_calc_law.proofs.LocalLemmas.{value-here}
+
+-- rows of one region, of which each cell is the same, are the same
+module _ (region : RegionValue) (xs ys : List (List CellValue)) (x : IsFilled region xs) (y : IsFilled region ys) where
+  pub same_rows :
+      ((r c : ℕ) → r < region.rows → c < region.cols
+      → get_or (get_or xs r []) c None ≡ get_or (get_or ys r []) c None)
+      → xs ≡ ys
+  same_rows cells =
+      let x_count = x.count in
+      let y_count = y.count in
+      same_lists xs ys (omega arith) (λ r d lt.
+      let within : r < length ys = omega arith in
+      let x_wide : length (get_or xs r []) ≡ region.cols =
+      All-get_or (λ l. length l ≡ region.cols) xs r [] lt x.width in
+      let y_wide : length (get_or ys r []) ≡ region.cols =
+      All-get_or (λ l. length l ≡ region.cols) ys r [] within y.width in
+      get_or_default xs r d [] lt
+      ∙ same_lists (get_or xs r []) (get_or ys r []) (omega arith) (λ c e c_lt.
+      get_or_default (get_or xs r []) c e None c_lt
+      ∙ cells r c (omega arith) (omega arith)
+      ∙ get_or_default (get_or ys r []) c None e (omega arith))
+      ∙ get_or_default ys r [] d within)
+
+same_grid : (a b : Grid) → a.region ≡ b.region → a.rows ≡ b.rows → a.labels ≡ b.labels → a ≡ b
+same_grid a b region rows labels = λ i. record { region = region i; rows = rows i; labels = labels i }
+
+-- the rows of a map of values fill the region of the shelf
+pub fills : (f : Formula) (shelf : ShelfValue) (x : Grid) → AreValues f shelf x → IsFilled shelf.region x.rows
+fills f shelf x are =
+    let rows : x.region.rows ≡ shelf.region.rows = ap (λ (r : RegionValue). r.rows) are.region in
+    let cols : x.region.cols ≡ shelf.region.cols = ap (λ (r : RegionValue). r.cols) are.region in
+    record {
+      count = are.filled.count ∙ rows;
+      width = λ i d lt. are.filled.width i d lt ∙ cols;
+    }
+
+pub one-map-of-values : OneMapOfValues
+one-map-of-values f g shelf x y are_x are_y same =
+    same_grid x y (are_x.region ∙ sym are_y.region)
+    (same_rows shelf.region x.rows y.rows (fills f shelf x are_x) (fills g shelf y are_y) (λ r c r_lt c_lt.
+    are_x.cells r c r_lt c_lt ∙ same r c r_lt c_lt ∙ sym (are_y.cells r c r_lt c_lt)))
+    (are_x.labels ∙ sym are_y.labels)
+
+either : (v : CellValue) → chosen (truth (is_null v)) v v ≡ v
+either None = refl
+either (Some n) = refl
+
+pub either-way-is-the-same : EitherWayIsTheSame
+either-way-is-the-same g shelf x y are_x are_y =
+    one-map-of-values (either_way g) g shelf y x are_y are_x (λ row col _ _.
+    either (value g shelf.maps (spot shelf.region row col)))
+
+pub copy-is-the-map : CopyIsTheMap
+copy-is-the-map shelf place g x is filled are =
+    same_rows shelf.region x.rows g.rows (fills (Map place (pos 0) (pos 0)) shelf x are) filled (λ r c r_lt c_lt.
+    are.cells r c r_lt c_lt
+    ∙ value-here shelf.maps place (pos 0) (pos 0) (spot shelf.region r c) refl refl
+    ∙ ap (λ o. option_map_or (λ m. cell_at m r c) o None) is)

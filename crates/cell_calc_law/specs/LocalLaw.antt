@@ -1,0 +1,113 @@
+-- Local expressions read nothing but the cell itself, so their values go by combinations (r.mapcalc, r.stats manuals).
+use Rattle.std.specs.Prelude.{ℕ, pos, ◌≡◌, ◌<◌, Bool, true, false, List, [], ◌∷◌, ◌++◌, length, All, Contains, Some, slice_get, map, filter, sum_by}
+use Rattle.cell_core_values.specs.Cell.{cell_eq}
+use Rattle.cell_core_values.specs.Region.{RegionValue}
+use Rattle.cell_core.specs.Grid.{Grid, CellValue, IsFilled}
+use Rattle.cell_core.specs.Shelf.{ShelfValue}
+use Rattle.cell_calc_tokens.specs.declared.function.Function.{Function}
+use Rattle.cell_calc_tokens.specs.declared.function.Function.TheVariants.{If, IsNull, Row, Column, RowCount, ColumnCount}
+use Rattle.cell_calc_operators.specs.Applied.{Spot, spot}
+use Rattle.cell_calc_binding.specs.Compact.{ReadsMap}
+use Rattle.cell_calc_binding.specs.Formula.{Formula, Number, Map, Negated, Not, Binary, Call, Formulas, NoFormulas, Then}
+use Rattle.cell_calc_binding.specs.Value.{value}
+use Rattle.cell_stats_combinations.specs.Combinations.{Combination, combination_at, all_combinations}
+use Rattle.cell_stats_combinations.specs.declared.skip.Skip.TheVariants.{Nothing}
+use Rattle.cell_stats_counts.specs.Counts.{count_of}
+use Rattle.cell_stats.specs.CategoryTables.{table_of}
+use Rattle.rcell_making.specs.Making.{AreValues, with_map}
+
+-- row() and col(), nrows() and ncols()
+abbrev pub asks_where : Function → Bool
+asks_where Row = true
+asks_where Column = true
+asks_where RowCount = true
+asks_where ColumnCount = true
+asks_where f = false
+
+abbrev mutual
+  -- an expression that reads its maps at the cell itself, and neither a neighbour nor a row or a column
+  pub IsLocal : Formula → Type 0
+  IsLocal (Number n) = Unit {0}
+  IsLocal (Map i down right) = (down ≡ pos 0) × (right ≡ pos 0)
+  IsLocal (Negated a) = IsLocal a
+  IsLocal (Not a) = IsLocal a
+  IsLocal (Binary op a b) = IsLocal a × IsLocal b
+  IsLocal (Call f xs) = (asks_where f ≡ false) × AreLocal xs
+
+  -- each of the arguments is one
+  pub AreLocal : Formulas → Type 0
+  AreLocal NoFormulas = Unit {0}
+  AreLocal (Then a xs) = IsLocal a × AreLocal xs
+
+-- each map that an expression reads is among the picked ones
+abbrev pub ReadsAmong : List ℕ → Formula → Type 0
+ReadsAmong picks f = (place : ℕ) → ReadsMap place f → Contains picks place
+
+-- at cells of one combination of the maps that it reads, a local expression has one value
+abbrev pub OneValueACombination : Type 0
+OneValueACombination =
+    (f : Formula) (picks : List ℕ) → IsLocal f → ReadsAmong picks f
+    → (maps : List Grid) (s t : Spot)
+    → combination_at maps picks s.row s.col ≡ combination_at maps picks t.row t.col
+    → value f maps s ≡ value f maps t
+
+-- a function of the combination gives the values of an expression, at each cell of whatever maps
+abbrev pub GivesValues : (Combination → CellValue) → Formula → List ℕ → Type 0
+GivesValues given f picks =
+    (maps : List Grid) (s : Spot) → value f maps s ≡ given (combination_at maps picks s.row s.col)
+
+-- of a local expression there is such a function
+abbrev pub LocalGoesByCombinations : Type 0
+LocalGoesByCombinations =
+    (f : Formula) (picks : List ℕ) → IsLocal f → ReadsAmong picks f
+    → (given : Combination → CellValue) × GivesValues given f picks
+
+-- the cells of a map of so many rows and columns, as combinations of this one map
+abbrev pub cells_alone : RegionValue → Grid → List Combination
+cells_alone region m = all_combinations (m ∷ []) (0 ∷ []) region.rows region.cols
+
+-- the cells of maps of a shelf, as combinations of the picked ones
+abbrev pub cells_of_shelf : ShelfValue → List ℕ → List Combination
+cells_of_shelf shelf picks = all_combinations shelf.maps picks shelf.region.rows shelf.region.cols
+
+-- after `x = f`: a value has as many cells in x as the table of the maps read counts for the combinations that give it
+abbrev pub CountsFollow : Type 0
+CountsFollow =
+    (f : Formula) (picks : List ℕ) (given : Combination → CellValue) → GivesValues given f picks
+    → (shelf : ShelfValue) (x : Grid) → AreValues f shelf x → (v : CellValue)
+    → count_of (v ∷ []) (cells_alone shelf.region x)
+    ≡ sum_by (λ pair. pair.1)
+    (filter (λ pair. cell_eq v (given pair.0)) (table_of Nothing (cells_of_shelf shelf picks)))
+
+-- after `x = f`: the table of the maps read and of x is that of these maps, with the value behind each combination
+abbrev pub TableHasItsValues : Type 0
+TableHasItsValues =
+    (f : Formula) (picks : List ℕ) (given : Combination → CellValue) → GivesValues given f picks
+    → (shelf : ShelfValue) (name : List ℕ) (x : Grid)
+    → All (λ place. place < length shelf.maps) picks → AreValues f shelf x
+    → table_of Nothing (cells_of_shelf (with_map shelf name x) (picks ++ length shelf.maps ∷ []))
+    ≡ map (λ pair. (pair.0 ++ given pair.0 ∷ [], pair.1)) (table_of Nothing (cells_of_shelf shelf picks))
+
+-- after `x = g`: x has the rows of g
+abbrev pub CopyIsTheMap : Type 0
+CopyIsTheMap =
+    (shelf : ShelfValue) (place : ℕ) (g x : Grid) → slice_get shelf.maps place ≡ Some g
+    → IsFilled shelf.region g.rows → AreValues (Map place (pos 0) (pos 0)) shelf x → x.rows ≡ g.rows
+
+-- expressions that have the same value at each cell make the same map
+abbrev pub OneMapOfValues : Type 0
+OneMapOfValues =
+    (f g : Formula) (shelf : ShelfValue) (x y : Grid) → AreValues f shelf x → AreValues g shelf y
+    → ((row col : ℕ) → row < shelf.region.rows → col < shelf.region.cols
+    → value f shelf.maps (spot shelf.region row col) ≡ value g shelf.maps (spot shelf.region row col))
+    → x ≡ y
+
+-- if(isnull(g), g, g)
+abbrev pub either_way : Formula → Formula
+either_way g = Call If (Then (Call IsNull (Then g NoFormulas)) (Then g (Then g NoFormulas)))
+
+-- after `x = g` and `y = if(isnull(g), g, g)`: y is x, whatever expression g is
+abbrev pub EitherWayIsTheSame : Type 0
+EitherWayIsTheSame =
+    (g : Formula) (shelf : ShelfValue) (x y : Grid)
+    → AreValues g shelf x → AreValues (either_way g) shelf y → y ≡ x

@@ -1,0 +1,39 @@
+-- Neighbours are shifts: a map at an offset is the map moved (r.mapcalc manual; null outside is the profile's).
+use Rattle.std.specs.Prelude.{ℕ, ℤ, pos, ◌≡◌, ◌+ℤ◌, ◌<◌, ◌≤◌, ◌⊎◌, List, [], ◌∷◌, length, All, Some, None}
+use Rattle.cell_core.specs.Grid.{Grid, IsFilled, cell_at}
+use Rattle.cell_core.specs.Shelf.{ShelfValue}
+use Rattle.cell_calc_binding.specs.Formula.{Map}
+use Rattle.cell_stats_counts.specs.Counts.{count_of}
+use Rattle.rcell_making.specs.Making.{AreValues, with_map}
+use Rattle.cell_calc_law.specs.LocalLaw.{cells_alone, cells_of_shelf}
+
+-- after `x = g[a,b]`, `y = x[c,d]`, `z = g[a+c,b+d]`: y has the cell of z where the step by (c,d) stays in the region
+abbrev pub ShiftsAddUp : Type 0
+ShiftsAddUp =
+    (shelf : ShelfValue) (place : ℕ) (a b c d : ℤ) (name : List ℕ) (x y z : Grid)
+    → AreValues (Map place a b) shelf x
+    → AreValues (Map (length shelf.maps) c d) (with_map shelf name x) y
+    → AreValues (Map place (a +ℤ c) (b +ℤ d)) shelf z
+    → (row col to_row to_col : ℕ) → row < shelf.region.rows → col < shelf.region.cols
+    → pos row +ℤ c ≡ pos to_row → to_row < shelf.region.rows
+    → pos col +ℤ d ≡ pos to_col → to_col < shelf.region.cols
+    → cell_at y row col ≡ cell_at z row col
+
+-- after `x = g[a,b]`: x is null where the step by (a,b) leaves the region
+abbrev pub NullBeyondTheEdge : Type 0
+NullBeyondTheEdge =
+    (shelf : ShelfValue) (place : ℕ) (a b : ℤ) (x : Grid)
+    → All (λ m. IsFilled shelf.region m.rows) shelf.maps → AreValues (Map place a b) shelf x
+    → (row col : ℕ) → row < shelf.region.rows → col < shelf.region.cols
+    → ((to : ℕ) → pos row +ℤ a ≡ pos to → shelf.region.rows ≤ to)
+    ⊎ ((to : ℕ) → pos col +ℤ b ≡ pos to → shelf.region.cols ≤ to)
+    → cell_at x row col ≡ None
+
+-- after `x = g[a,b]`: no category has more cells in x than in g
+abbrev pub ShiftsOnlyLose : Type 0
+ShiftsOnlyLose =
+    (shelf : ShelfValue) (place : ℕ) (a b : ℤ) (x : Grid)
+    → All (λ m. IsFilled shelf.region m.rows) shelf.maps → AreValues (Map place a b) shelf x
+    → (category : ℤ)
+    → count_of (Some category ∷ []) (cells_alone shelf.region x)
+    ≤ count_of (Some category ∷ []) (cells_of_shelf shelf (place ∷ []))

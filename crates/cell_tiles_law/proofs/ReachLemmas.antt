@@ -1,0 +1,135 @@
+-- A rectangle with as many rows and columns around it as an expression reaches has what it reads.
+use Rattle.std.proofs.Common.{◌+◌, ◌-◌, ◌<◌, ◌≤◌, max, min, cond, eqb, ap, sym, ◌∙◌, arith, inl, inr, ⊎_elim}
+use Rattle.std.specs.Prelude.{◌≡◌, ℕ, ◌⊎◌, Bool, true, false}
+use Rattle.std.proofs.lemmas.Bool.{cases_lt}
+use Rattle.cell_core_values.specs.Region.{RegionValue}
+use Rattle.cell_calc_operators.specs.Applied.{spot}
+use Rattle.cell_calc_language.specs.Grammatical.{up_by, down_by}
+use Rattle.cell_calc_binding.specs.Formula as formula
+use Rattle.cell_calc_binding.specs.Formula.{Formula, Formulas}
+use Rattle.cell_calc_binding.specs.Reach.{up_of, down_of, up_of_all, down_of_all}
+use Rattle.cell_calc_binding.specs.Value.{value}
+use Rattle.cell_tiles_law.specs.HaloParts.{left_of, right_of, left_of_all, right_of_all, ReadsWithin, value_told}
+use Rattle.cell_tiles_law.specs.Parts.{Rectangle}
+use Rattle.cell_tiles_law.specs.ReachParts as reached
+use Rattle.cell_tiles_law.specs.ReachParts.{Halo, reach_of, reach_of_all, IsWithinReach, with_halo, IsCellInside}
+use Rattle.cell_tiles_law.proofs.HaloLemmas.{halo-is-enough, reach-is-enough}
+
+own-most : (b : Bool) (n : ℕ) → cond b n 0 ≤ n
+own-most true n = omega arith
+own-most false n = omega arith
+
+max-most : (a b c d : ℕ) → a ≤ c → b ≤ d → max a b ≤ max c d
+max-most a b c d one other = omega (arith, one, other)
+
+record IsWithinAll (xs : Formulas) (place : ℕ) : Type 0 where
+  up : up_of_all place xs ≤ (reach_of_all xs).up
+  down : down_of_all place xs ≤ (reach_of_all xs).down
+  left : left_of_all place xs ≤ (reach_of_all xs).left
+  right : right_of_all place xs ≤ (reach_of_all xs).right
+
+mutual
+  within : (f : Formula) (place : ℕ) → IsWithinReach f place
+  within (formula.Number n) place =
+      record { up = omega arith; down = omega arith; left = omega arith; right = omega arith }
+  within (formula.Map i down right) place = record {
+    up = own-most (eqb place i) (up_by down);
+    down = own-most (eqb place i) (down_by down);
+    left = own-most (eqb place i) (up_by right);
+    right = own-most (eqb place i) (down_by right);
+  }
+  within (formula.Negated a) place =
+      let h = within a place in record { up = h.up; down = h.down; left = h.left; right = h.right }
+  within (formula.Not a) place =
+      let h = within a place in record { up = h.up; down = h.down; left = h.left; right = h.right }
+  within (formula.Binary op a b) place =
+      let h = within a place in
+      let k = within b place in
+      record {
+        up = max-most _ _ _ _ h.up k.up;
+        down = max-most _ _ _ _ h.down k.down;
+        left = max-most _ _ _ _ h.left k.left;
+        right = max-most _ _ _ _ h.right k.right;
+      }
+  within (formula.Call f xs) place =
+      let h = all-within xs place in record { up = h.up; down = h.down; left = h.left; right = h.right }
+
+  all-within : (xs : Formulas) (place : ℕ) → IsWithinAll xs place
+  all-within formula.NoFormulas place =
+      record { up = omega arith; down = omega arith; left = omega arith; right = omega arith }
+  all-within (formula.Then a xs) place =
+      let h = within a place in
+      let k = all-within xs place in
+      record {
+        up = max-most _ _ _ _ h.up k.up;
+        down = max-most _ _ _ _ h.down k.down;
+        left = max-most _ _ _ _ h.left k.left;
+        right = max-most _ _ _ _ h.right k.right;
+      }
+
+pub maps-are-within-reach : reached.MapsAreWithinReach
+maps-are-within-reach f place = within f place
+
+-- ---- along a line: where a stretch with a halo begins, and what is read before and behind a cell of it
+
+before : (first up reads i : ℕ) → reads ≤ up → first ≤ i → (first - up ≡ 0) ⊎ (reads ≤ i - (first - up))
+before first up reads i most from =
+    ⊎_elim (λ less. inl (omega (arith, less))) (λ le. inr (omega (arith, le, most, from))) (cases_lt first up)
+
+-- how long the stretch is with its halo, within so many
+abbrev length-with : (total first n up down : ℕ) → ℕ
+length-with total first n up down = min total (first + n + down) - (first - up)
+
+behind : (total first n up down reads i : ℕ) → first + n ≤ total → reads ≤ down → first ≤ i → i < first + n
+    → (total ≤ first - up + length-with total first n up down)
+    ⊎ (i - (first - up) + reads < length-with total first n up down)
+behind total first n up down reads i fits most from to =
+    ⊎_elim (λ less. inr (omega (arith, less, most, from, to, fits))) (λ le. inl (omega (arith, le, fits)))
+    (cases_lt (first + n + down) total)
+
+back : (first up i : ℕ) → first ≤ i → first - up + (i - (first - up)) ≡ i
+back first up i from = omega (arith, from)
+
+module _ (f : Formula) (region : RegionValue) (r : Rectangle) (row col : ℕ) (is : IsCellInside region r row col) where
+  abbrev h : Rectangle
+  h = with_halo region (reach_of f) r
+
+  abbrev reach : Halo
+  reach = reach_of f
+
+  above-or : (place : ℕ) → (h.top ≡ 0) ⊎ (up_of place f ≤ row - h.top)
+  above-or place = before r.top reach.up (up_of place f) row (within f place).up is.below
+
+  below-or : (place : ℕ) → (region.rows ≤ h.top + h.rows) ⊎ (row - h.top + down_of place f < h.rows)
+  below-or place =
+      behind region.rows r.top r.rows reach.up reach.down (down_of place f) row is.high (within f place).down
+      is.below is.above
+
+  left-or : (place : ℕ) → (h.left ≡ 0) ⊎ (left_of place f ≤ col - h.left)
+  left-or place = before r.left reach.left (left_of place f) col (within f place).left is.right
+
+  right-or : (place : ℕ) → (region.cols ≤ h.left + h.cols) ⊎ (col - h.left + right_of place f < h.cols)
+  right-or place =
+      behind region.cols r.left r.cols reach.left reach.right (right_of place f) col is.wide (within f place).right
+      is.right is.left
+
+  reads : ReadsWithin f region h (row - h.top) (col - h.left)
+  reads = record { up = above-or; down = below-or; left = left-or; right = right-or }
+
+  there : spot region (h.top + (row - h.top)) (h.left + (col - h.left)) ≡ spot region row col
+  there =
+      ap (λ n. spot region n (h.left + (col - h.left))) (back r.top (reach_of f).up row is.below)
+      ∙ ap (λ n. spot region row n) (back r.left (reach_of f).left col is.right)
+
+pub its-reach-is-enough : reached.ItsReachIsEnough
+its-reach-is-enough f whole part region r all cut no_rows no_cols row col holds =
+    halo-is-enough f whole part region (with_halo region (reach_of f) r) _ _ all cut
+    (record { reads = reads f region r row col holds; rows = inl no_rows; cols = inl no_cols })
+    ∙ ap (value f whole) (there f region r row col holds)
+
+pub its-reach-is-enough-told : reached.ItsReachIsEnoughTold
+its-reach-is-enough-told f whole part region r all cut row col holds =
+    let here = reached.spot_in (with_halo region (reach_of f) r) row col in
+    ap (value_told f part here) (sym (there f region r row col holds))
+    ∙ reach-is-enough f whole part region (with_halo region (reach_of f) r) _ _ all cut (reads f region r row col holds)
+    ∙ ap (value f whole) (there f region r row col holds)

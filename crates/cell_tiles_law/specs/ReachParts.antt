@@ -1,0 +1,95 @@
+-- Parts with a halo: as many rows and columns around a rectangle as an expression reaches.
+use Rattle.std.specs.Prelude.{ℕ, ◌≡◌, ◌≤◌, ◌<◌, ◌+◌, ◌-◌, false, max, min, List, All}
+use Rattle.cell_core_values.specs.Region.{RegionValue}
+use Rattle.cell_core.specs.Grid.{Grid, IsFilled}
+use Rattle.cell_calc_language.specs.Grammatical.{up_by, down_by}
+use Rattle.cell_calc_operators.specs.Applied.{Spot, spot}
+use Rattle.cell_calc_binding.specs.Formula.{Formula, Number, Map, Negated, Not, Binary, Call, Formulas, NoFormulas, Then}
+use Rattle.cell_calc_binding.specs.Reach.{up_of, down_of}
+use Rattle.cell_calc_binding.specs.Value.{value}
+use Rattle.cell_tiles_law.specs.HaloParts.{left_of, right_of, calls, asks_rows, asks_cols, value_told}
+use Rattle.cell_tiles_law.specs.Parts.{Rectangle, AreCutOut}
+
+-- so many rows up and down, and columns to the left and to the right
+pub record Halo : Type 0 where
+  pub up : ℕ
+  pub down : ℕ
+  pub left : ℕ
+  pub right : ℕ
+
+abbrev pub no_halo : Halo
+no_halo = record { up = 0; down = 0; left = 0; right = 0 }
+
+-- the one that holds two others
+abbrev pub wider : Halo → Halo → Halo
+wider h k = record {
+  up = max h.up k.up;
+  down = max h.down k.down;
+  left = max h.left k.left;
+  right = max h.right k.right;
+}
+
+abbrev mutual
+  -- how far an expression reaches around a cell, over all its maps
+  pub reach_of : Formula → Halo
+  reach_of (Number n) = no_halo
+  reach_of (Map i down right) =
+      record { up = up_by down; down = down_by down; left = up_by right; right = down_by right }
+  reach_of (Negated a) = reach_of a
+  reach_of (Not a) = reach_of a
+  reach_of (Binary op a b) = wider (reach_of a) (reach_of b)
+  reach_of (Call f xs) = reach_of_all xs
+
+  pub reach_of_all : Formulas → Halo
+  reach_of_all NoFormulas = no_halo
+  reach_of_all (Then a xs) = wider (reach_of a) (reach_of_all xs)
+
+-- no map is read further than the expression reaches
+pub record IsWithinReach (f : Formula) (place : ℕ) : Type 0 where
+  pub up : up_of place f ≤ (reach_of f).up
+  pub down : down_of place f ≤ (reach_of f).down
+  pub left : left_of place f ≤ (reach_of f).left
+  pub right : right_of place f ≤ (reach_of f).right
+
+abbrev pub MapsAreWithinReach : Type 0
+MapsAreWithinReach = (f : Formula) (place : ℕ) → IsWithinReach f place
+
+-- a rectangle with so many rows and columns around it, as far as the region goes
+abbrev pub with_halo : RegionValue → Halo → Rectangle → Rectangle
+with_halo region h r = record {
+  top = r.top - h.up;
+  left = r.left - h.left;
+  rows = min region.rows (r.top + r.rows + h.down) - (r.top - h.up);
+  cols = min region.cols (r.left + r.cols + h.right) - (r.left - h.left);
+}
+
+-- a cell of the region, as one of a part of it
+abbrev pub spot_in : Rectangle → (row col : ℕ) → Spot
+spot_in r row col = record { rows = r.rows; cols = r.cols; row = row - r.top; col = col - r.left }
+
+-- a rectangle of a region, and a cell of it
+pub record IsCellInside (region : RegionValue) (r : Rectangle) (row col : ℕ) : Type 0 where
+  pub high : r.top + r.rows ≤ region.rows
+  pub wide : r.left + r.cols ≤ region.cols
+  pub below : r.top ≤ row
+  pub above : row < r.top + r.rows
+  pub right : r.left ≤ col
+  pub left : col < r.left + r.cols
+
+-- with a halo of its reach, an expression that does not ask for rows and columns has the values of the whole in a rectangle
+abbrev pub ItsReachIsEnough : Type 0
+ItsReachIsEnough =
+    (f : Formula) (whole part : List Grid) (region : RegionValue) (r : Rectangle)
+    → All (λ m. IsFilled region m.rows) whole → AreCutOut (with_halo region (reach_of f) r) whole part
+    → calls asks_rows f ≡ false → calls asks_cols f ≡ false
+    → (row col : ℕ) → IsCellInside region r row col
+    → value f part (spot_in (with_halo region (reach_of f) r) row col) ≡ value f whole (spot region row col)
+
+-- and any expression does, where row() and its like are told of the cell in the whole
+abbrev pub ItsReachIsEnoughTold : Type 0
+ItsReachIsEnoughTold =
+    (f : Formula) (whole part : List Grid) (region : RegionValue) (r : Rectangle)
+    → All (λ m. IsFilled region m.rows) whole → AreCutOut (with_halo region (reach_of f) r) whole part
+    → (row col : ℕ) → IsCellInside region r row col
+    → value_told f part (spot_in (with_halo region (reach_of f) r) row col) (spot region row col)
+    ≡ value f whole (spot region row col)
