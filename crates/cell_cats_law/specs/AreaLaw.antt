@@ -20,36 +20,65 @@ cells_of_both m numbers rows cols = all_combinations (m ∷ numbers ∷ []) (0 �
 
 -- in the table of a map and its clump map each number stands with one category
 abbrev pub NumbersHaveOneCategory : Type 0
-NumbersHaveOneCategory = (j : Joining) (m numbers : Grid) → IsClumping j m numbers → (skip : Skip) (rows cols : ℕ) (table : Pairs) → IsTable skip (cells_of_both m numbers rows cols) table → (number one other : CellValue) (a b : ℕ) → Contains table (one ∷ number ∷ [], a) → Contains table (other ∷ number ∷ [], b) → one ≡ other
+NumbersHaveOneCategory = (j : Joining) (m numbers : Grid) → IsClumping j m numbers
+    → (skip : Skip) (rows cols : ℕ) (table : Pairs) → IsTable skip (cells_of_both m numbers rows cols) table
+    → (number one other : CellValue) (a b : ℕ) → Contains table (one ∷ number ∷ [], a)
+    → Contains table (other ∷ number ∷ [], b) → one ≡ other
 
 -- an entry of it counts the whole area
 abbrev pub EntriesAreWhole : Type 0
-EntriesAreWhole = (j : Joining) (m numbers : Grid) → IsClumping j m numbers → (skip : Skip) (rows cols : ℕ) (table : Pairs) → IsTable skip (cells_of_both m numbers rows cols) table → (category number : CellValue) (n : ℕ) → Contains table (category ∷ number ∷ [], n) → n ≡ count_of (number ∷ []) (cells_of numbers rows cols)
+EntriesAreWhole = (j : Joining) (m numbers : Grid) → IsClumping j m numbers
+    → (skip : Skip) (rows cols : ℕ) (table : Pairs) → IsTable skip (cells_of_both m numbers rows cols) table
+    → (category number : CellValue) (n : ℕ) → Contains table (category ∷ number ∷ [], n)
+    → n ≡ count_of (number ∷ []) (cells_of numbers rows cols)
 
 -- the entries whose first cell is the category
 abbrev pub entries_of : ℤ → Pairs → Pairs
-entries_of category table = filter (λ pair. eq_by_cmp combination_cmp (Some category ∷ []) (take 1 pair.0)) table
+entries_of category table =
+    filter (λ pair. eq_by_cmp combination_cmp (Some category ∷ []) (take 1 pair.0)) table
 
 -- for each category the counts of its areas add up to its count
 abbrev pub AreasDivideTheirCategory : Type 0
-AreasDivideTheirCategory = (j : Joining) (m numbers : Grid) → IsClumping j m numbers → (skip : Skip) (rows cols : ℕ) (table : Pairs) → IsTable skip (cells_of_both m numbers rows cols) table → (category : ℤ) → sum_by (λ pair. pair.1) (entries_of category table) ≡ count_of (Some category ∷ []) (cells_of m rows cols)
+AreasDivideTheirCategory = (j : Joining) (m numbers : Grid) → IsClumping j m numbers
+    → (skip : Skip) (rows cols : ℕ) (table : Pairs) → IsTable skip (cells_of_both m numbers rows cols) table
+    → (category : ℤ)
+    → sum_by (λ pair. pair.1) (entries_of category table) ≡ count_of (Some category ∷ []) (cells_of m rows cols)
 
 -- an area is never empty: where a number stands in the table, each from 1 to it stands there, with a count above 0
 abbrev pub NoAreaIsEmpty : Type 0
-NoAreaIsEmpty = (j : Joining) (m numbers : Grid) → IsClumping j m numbers → IsFilled numbers.region numbers.rows → (skip : Skip) (table : Pairs) → IsTable skip (cells_of_both m numbers numbers.region.rows numbers.region.cols) table → (category : CellValue) (last size : ℕ) → Contains table (category ∷ Some (pos last) ∷ [], size) → (number : ℕ) → 1 ≤ number → number ≤ last → (other : ℤ) × (cells : ℕ) × (0 < cells) × Contains table (Some other ∷ Some (pos number) ∷ [], cells)
+NoAreaIsEmpty = (j : Joining) (m numbers : Grid) → IsClumping j m numbers → IsFilled numbers.region numbers.rows
+    → (skip : Skip) (table : Pairs)
+    → IsTable skip (cells_of_both m numbers numbers.region.rows numbers.region.cols) table
+    → (category : CellValue) (last size : ℕ) → Contains table (category ∷ Some (pos last) ∷ [], size)
+    → (number : ℕ) → 1 ≤ number → number ≤ last
+    → (other : ℤ) × (cells : ℕ) × (0 < cells) × Contains table (Some other ∷ Some (pos number) ∷ [], cells)
 
 -- a map in which one whole area is made null
 abbrev pub IsWithout : Grid → Grid → ℤ → Grid → Type 0
-IsWithout m numbers number less = (p : Position) → cell_at_spot less p ≡ (if cell_eq (cell_at_spot numbers p) (Some number) then None else cell_at_spot m p)
+IsWithout m numbers number less = (p : Position)
+    → cell_at_spot less p ≡ (if cell_eq (cell_at_spot numbers p) (Some number) then None else cell_at_spot m p)
 
 -- making null of one whole area changes no other: two cells are of one area where they were
 abbrev pub OtherAreasStay : Type 0
-OtherAreasStay = (j : Joining) (m numbers : Grid) → IsClumping j m numbers → (number : ℤ) (less renumbered : Grid) → IsWithout m numbers number less → IsClumping j less renumbered → (p q : Position) → IsSome (cell_at_spot less p) → IsSome (cell_at_spot less q) → (cell_at_spot renumbered p ≡ cell_at_spot renumbered q) ↔ (cell_at_spot numbers p ≡ cell_at_spot numbers q)
+OtherAreasStay = (j : Joining) (m numbers : Grid) → IsClumping j m numbers
+    → (number : ℤ) (less renumbered : Grid) → IsWithout m numbers number less → IsClumping j less renumbered
+    → (p q : Position) → IsSome (cell_at_spot less p) → IsSome (cell_at_spot less q)
+    → (cell_at_spot renumbered p ≡ cell_at_spot renumbered q)
+    ↔ (cell_at_spot numbers p ≡ cell_at_spot numbers q)
 
 -- and each other area keeps its size
 abbrev pub OtherAreasKeepTheirSize : Type 0
-OtherAreasKeepTheirSize = (j : Joining) (m numbers : Grid) → IsClumping j m numbers → (number : ℤ) (less renumbered : Grid) → IsWithout m numbers number less → IsClumping j less renumbered → (p : Position) (was now : ℤ) → was ≢ number → cell_at_spot numbers p ≡ Some was → cell_at_spot renumbered p ≡ Some now → (rows cols : ℕ) → count_of (Some now ∷ []) (cells_of renumbered rows cols) ≡ count_of (Some was ∷ []) (cells_of numbers rows cols)
+OtherAreasKeepTheirSize = (j : Joining) (m numbers : Grid) → IsClumping j m numbers
+    → (number : ℤ) (less renumbered : Grid) → IsWithout m numbers number less → IsClumping j less renumbered
+    → (p : Position) (was now : ℤ) → was ≢ number → cell_at_spot numbers p ≡ Some was
+    → cell_at_spot renumbered p ≡ Some now → (rows cols : ℕ)
+    → count_of (Some now ∷ []) (cells_of renumbered rows cols)
+      ≡ count_of (Some was ∷ []) (cells_of numbers rows cols)
 
 -- and the numbers close up: those before that of the area stay, and those after it are one less
 abbrev pub NumbersCloseUp : Type 0
-NumbersCloseUp = (j : Joining) (m numbers : Grid) → IsClumping j m numbers → (number : ℕ) → Occurs numbers number → (less renumbered : Grid) → IsWithout m numbers (pos number) less → IsClumping j less renumbered → (p : Position) (n : ℕ) → cell_at_spot numbers p ≡ Some (pos n) → (n < number → cell_at_spot renumbered p ≡ Some (pos n)) × (number < n → cell_at_spot renumbered p ≡ Some (pos (n - 1)))
+NumbersCloseUp = (j : Joining) (m numbers : Grid) → IsClumping j m numbers → (number : ℕ)
+    → Occurs numbers number → (less renumbered : Grid) → IsWithout m numbers (pos number) less
+    → IsClumping j less renumbered → (p : Position) (n : ℕ) → cell_at_spot numbers p ≡ Some (pos n)
+    → (n < number → cell_at_spot renumbered p ≡ Some (pos n))
+    × (number < n → cell_at_spot renumbered p ≡ Some (pos (n - 1)))

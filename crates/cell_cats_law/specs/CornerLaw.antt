@@ -15,16 +15,24 @@ pub record AreBothClumpings (m edges corners : Grid) : Type 0 where
 
 -- cells of one area by edges are of one area by corners
 abbrev pub CornersOnlyJoin : Type 0
-CornersOnlyJoin = (m edges corners : Grid) → AreBothClumpings m edges corners → (p q : Position) → IsSome (cell_at_spot edges p) → cell_at_spot edges p ≡ cell_at_spot edges q → cell_at_spot corners p ≡ cell_at_spot corners q
+CornersOnlyJoin = (m edges corners : Grid) → AreBothClumpings m edges corners → (p q : Position)
+    → IsSome (cell_at_spot edges p) → cell_at_spot edges p ≡ cell_at_spot edges q
+    → cell_at_spot corners p ≡ cell_at_spot corners q
 
 -- no cell has a greater number by corners than by edges
 abbrev pub NumbersOnlyFall : Type 0
-NumbersOnlyFall = (m edges corners : Grid) → AreBothClumpings m edges corners → (p : Position) (n k : ℕ) → cell_at_spot edges p ≡ Some (pos n) → cell_at_spot corners p ≡ Some (pos k) → k ≤ n
+NumbersOnlyFall = (m edges corners : Grid) → AreBothClumpings m edges corners → (p : Position) (n k : ℕ)
+    → cell_at_spot edges p ≡ Some (pos n) → cell_at_spot corners p ≡ Some (pos k) → k ≤ n
 
 -- there are no more areas by corners than by edges: each number by corners is one by edges
 abbrev pub CornersAddNoArea : Type 0
-CornersAddNoArea = (m edges corners : Grid) → AreBothClumpings m edges corners → (n : ℕ) → Occurs corners n → Occurs edges n
+CornersAddNoArea = (m edges corners : Grid) → AreBothClumpings m edges corners → (n : ℕ) → Occurs corners n
+    → Occurs edges n
 
 -- the table of both clump maps shows for each number by edges one by corners
 abbrev pub OneByCorners : Type 0
-OneByCorners = (m edges corners : Grid) → AreBothClumpings m edges corners → (skip : Skip) (rows cols : ℕ) (table : Pairs) → IsTable skip (all_combinations (edges ∷ corners ∷ []) (0 ∷ 1 ∷ []) rows cols) table → (number one other : CellValue) (a b : ℕ) → Contains table (number ∷ one ∷ [], a) → Contains table (number ∷ other ∷ [], b) → one ≡ other
+OneByCorners = (m edges corners : Grid) → AreBothClumpings m edges corners
+    → (skip : Skip) (rows cols : ℕ) (table : Pairs)
+    → IsTable skip (all_combinations (edges ∷ corners ∷ []) (0 ∷ 1 ∷ []) rows cols) table
+    → (number one other : CellValue) (a b : ℕ) → Contains table (number ∷ one ∷ [], a)
+    → Contains table (number ∷ other ∷ [], b) → one ≡ other

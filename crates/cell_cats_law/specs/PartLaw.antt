@@ -13,12 +13,16 @@ HaveTheLabels whole part = map (λ m. m.labels) part ≡ map (λ m. m.labels) wh
 
 -- whatever rectangle is cut out of maps, by rules it is what is cut out of the maps by rules
 abbrev pub ReclassedPartsAreParts : Type 0
-ReclassedPartsAreParts = (rules : List RuleValue) (r : Rectangle) (whole part : List Grid) → AreCutOut r whole part → AreCutOut r (map (reclassed rules) whole) (map (reclassed rules) part)
+ReclassedPartsAreParts = (rules : List RuleValue) (r : Rectangle) (whole part : List Grid)
+    → AreCutOut r whole part → AreCutOut r (map (reclassed rules) whole) (map (reclassed rules) part)
 
 -- and it has the labels of the maps by rules
 abbrev pub ReclassedPartsHaveTheLabels : Type 0
-ReclassedPartsHaveTheLabels = (rules : List RuleValue) (r : Rectangle) (whole part : List Grid) → AreCutOut r whole part → HaveTheLabels (map (reclassed rules) whole) (map (reclassed rules) part)
+ReclassedPartsHaveTheLabels = (rules : List RuleValue) (r : Rectangle) (whole part : List Grid)
+    → AreCutOut r whole part → HaveTheLabels (map (reclassed rules) whole) (map (reclassed rules) part)
 
 -- where parts have the labels of the whole, a table is printed over them as over the whole
 abbrev pub PartsPrintTheWhole : Type 0
-PartsPrintTheWhole = (whole part : List Grid) → HaveTheLabels whole part → (format : FormatValue) (picks : List ℕ) (table : Pairs) → table_text format part picks table ≡ table_text format whole picks table
+PartsPrintTheWhole = (whole part : List Grid) → HaveTheLabels whole part
+    → (format : FormatValue) (picks : List ℕ) (table : Pairs)
+    → table_text format part picks table ≡ table_text format whole picks table

@@ -11,12 +11,15 @@ up_to k pairs = filter (λ pair. is_le (combination_cmp pair.0 k)) pairs
 
 -- the entries of a table up to a combination, and then its rest after it, are the table
 abbrev pub PagesJoin : Type 0
-PagesJoin = (skip : Skip) (cells : List Combination) (table : Pairs) → IsTable skip cells table → (k : Combination) → up_to k table ++ rest_after k table ≡ table
+PagesJoin = (skip : Skip) (cells : List Combination) (table : Pairs) → IsTable skip cells table
+    → (k : Combination) → up_to k table ++ rest_after k table ≡ table
 
 -- the rest after the combination of an entry is what follows the entry
 abbrev pub RestFollows : Type 0
-RestFollows = (skip : Skip) (cells : List Combination) (page rest : Pairs) (last : Combination × ℕ) → IsTable skip cells (page ++ last ∷ rest) → rest_after last.0 (page ++ last ∷ rest) ≡ rest
+RestFollows = (skip : Skip) (cells : List Combination) (page rest : Pairs) (last : Combination × ℕ)
+    → IsTable skip cells (page ++ last ∷ rest) → rest_after last.0 (page ++ last ∷ rest) ≡ rest
 
 -- the rest of a rest, after a combination that comes no earlier, is the rest of the whole after it
 abbrev pub RestOfRest : Type 0
-RestOfRest = (table : Pairs) (j k : Combination) → is_le (combination_cmp j k) ≡ true → rest_after k (rest_after j table) ≡ rest_after k table
+RestOfRest = (table : Pairs) (j k : Combination) → is_le (combination_cmp j k) ≡ true
+    → rest_after k (rest_after j table) ≡ rest_after k table
