@@ -70,7 +70,8 @@ def all_below(crate):
 
 def text_of(path):
     """A file of definitions or lemmas, each of its imports on one line."""
-    return SPREAD.sub(lambda it: "{" + ", ".join(line.strip(" ,") for line in it[1].splitlines()) + "}", path.read_text(encoding="utf-8"))
+    text = path.read_text(encoding="utf-8")
+    return SPREAD.sub(lambda it: "{" + ", ".join(line.strip(" ,") for line in it[1].splitlines()) + "}", text)
 
 
 def module_path(crate, module):

@@ -4,7 +4,6 @@ import os
 import pathlib
 import random
 import subprocess
-from collections import Counter
 from dataclasses import dataclass
 
 ROOT = pathlib.Path(__file__).resolve().parent.parent.parent
@@ -115,7 +114,7 @@ class Runs:
         return map_of(self.output(f"{script}\nr.out.ascii input={name}", **grids))
 
     def table(self, script, names, **grids):
-        """The table of maps after a script: combinations as tuples of words, each with its count, in the order that is printed."""
+        """The table of maps after a script: combinations as tuples of words, each with its count, as they are printed."""
         return table_of(self.output(f"{script}\nr.stats -c input={names}", **grids))
 
 
@@ -123,8 +122,3 @@ def table_of(text):
     """A table as r.stats -c prints it."""
     lines = [line.split() for line in text.splitlines()]
     return {tuple(words[:-1]): int(words[-1]) for words in lines}
-
-
-def counted(cells):
-    """How often each cell or combination occurs."""
-    return Counter(cells)
