@@ -7,7 +7,7 @@ A document is run in a folder of its own that has bin/rcell, the helpers beside 
 blocks are taken from the top:
     console          lines that begin with `$ ` are given to sh, those with `> ` go on with the command above; the lines
                      after a command are what it must print, standard output and standard error together
-    console needs=A,B  the same where the programs A and B are installed; else it is told, and left out
+    console needs=A,B  the same where the programs A and B are installed (or files, by their paths); else it is told, and left out
     text file=PATH   a file (also python file=PATH); the commands of later blocks find it
     text, sh         shown and not run: such a block has no command with its output
 The folder that a block goes to by `cd` is that of the next. With --write what is printed takes the place of what is shown.
@@ -135,7 +135,7 @@ def judge(block, room):
     if block.file:
         room.put(block)
         return None, block.text
-    missing = [program for program in block.needs if not shutil.which(program)]
+    missing = [name for name in block.needs if not shutil.which(name) and not os.path.isfile(name)]
     if missing:
         print(f"left out, since {', '.join(missing)} is not installed: the block at line {block.line}")
         return None, block.text
