@@ -12,10 +12,10 @@ blocks are taken from the top:
     text, sh         shown and not run: such a block has no command with its output
 The folder that a block goes to by `cd` is that of the next. With --write what is printed takes the place of what is shown.
 Of docs/DIFFERENCES.md the program's side of each table is run, too (tools/differences.py). What needs no program is tried
-first, and with --texts alone: docs/COMMANDS.md has the table of helpers/messages.json (tools/messages.py), docs/PROOFS.md and README.md
-the numbers of lines that have to be believed (tools/reading.py), README.md the figures of docs/SPEED.md, and the manual pages pass the warnings of man where it
-is installed. The last line is
-'N passed, M failed'.
+first, and with --texts alone: docs/COMMANDS.md has the table of helpers/messages.json (tools/messages.py), docs/crates.svg the
+crates of crates.txt (tools/crate_graph.py), docs/PROOFS.md and README.md the numbers of lines that have to be believed
+(tools/reading.py), README.md the figures of docs/SPEED.md, and the manual pages pass the warnings of man where it is installed.
+The last line is 'N passed, M failed'.
 """
 import argparse
 import difflib
@@ -28,6 +28,7 @@ import sys
 import tempfile
 from dataclasses import dataclass, field
 
+import crate_graph
 import differences
 import messages
 
@@ -276,7 +277,7 @@ def main():
     words.add_argument("documents", nargs="*")
     settings = words.parse_args()
     program = os.path.abspath(settings.program)
-    texts = [("the messages", messages.check), ("the manual pages", check_pages),
+    texts = [("the messages", messages.check), ("the picture of the crates", crate_graph.check), ("the manual pages", check_pages),
              ("the numbers of lines", lambda: check_reading(settings.write)), ("the figures", lambda: check_speed(settings.write))]
     runs = [(name, lambda name=name: run_document(name, program, settings.write)) for name in settings.documents or DOCUMENTS]
     runs += [] if settings.documents else [("the tables of differences", lambda: check_differences(program))]

@@ -7,7 +7,8 @@
 The sources, each a package of Debian:
     almanac         r-base-core: the dataset `islands` of R, from The World Almanac and Book of Facts, 1975, page 406; in
                     thousands of square miles
-    shoreline       gmt-gshhg-full: the figure that GSHHG 2.3.7 (World Vector Shoreline) keeps with each polygon, in square kilometres
+    shoreline       gmt-gshhg-full: the figure that GSHHG 2.3.7 (World Vector Shoreline) keeps with each polygon, in square
+                    kilometres
     natural-earth   qgis-common: the polygons of Natural Earth at 1:10,000,000, measured here, in square kilometres
 
 It needs, of Debian, python3-numpy and python3-gdal.
