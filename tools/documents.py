@@ -11,7 +11,8 @@ blocks are taken from the top:
     text file=PATH   a file (also python file=PATH); the commands of later blocks find it
     text, sh         shown and not run: such a block has no command with its output
 The folder that a block goes to by `cd` is that of the next. With --write what is printed takes the place of what is shown.
-Of docs/DIFFERENCES.md the program's side of each table is run, too (tools/differences.py). What needs no program is tried
+Of docs/DIFFERENCES.md the program's side of each table is run, too (tools/differences.py), and the flags and keys that
+docs/COMMANDS.md and the manual page name are tried (tools/command_options.py). What needs no program is tried
 first, and with --texts alone: docs/COMMANDS.md has the table of helpers/messages.json (tools/messages.py), docs/crates.svg the
 crates of crates.txt (tools/crate_graph.py), docs/PROOFS.md and README.md the numbers of lines that have to be believed
 (tools/reading.py), README.md the figures of docs/SPEED.md, and the manual pages pass the warnings of man where it is installed.
@@ -28,6 +29,7 @@ import sys
 import tempfile
 from dataclasses import dataclass, field
 
+import command_options
 import crate_graph
 import differences
 import messages
@@ -280,7 +282,9 @@ def main():
     texts = [("the messages", messages.check), ("the picture of the crates", crate_graph.check), ("the manual pages", check_pages),
              ("the numbers of lines", lambda: check_reading(settings.write)), ("the figures", lambda: check_speed(settings.write))]
     runs = [(name, lambda name=name: run_document(name, program, settings.write)) for name in settings.documents or DOCUMENTS]
-    runs += [] if settings.documents else [("the tables of differences", lambda: check_differences(program))]
+    if not settings.documents:
+        runs += [("the tables of differences", lambda: check_differences(program)),
+                 ("the flags, keys and functions", lambda: command_options.check(program))]
     checks = texts if settings.texts else runs if settings.documents else texts + runs
     passed = failed = 0
     for name, check in checks:
