@@ -43,7 +43,7 @@ READING_ROW = re.compile(r"(`make reading(?: COMMAND=(?P<command>\S+))?` \| )(\d
 READING_SENTENCE = re.compile(r"(for a table of (?P<command>r\.\w+) )(\d+)( lines, )(\d+)( with comments)")
 SPEED_ROW = re.compile(r"^\| ([^|]+) \| ([^|]+ cells) \| (.*?) \|$", re.MULTILINE)
 LANGUAGES = {"console", "text", "python", "sh"}
-SECONDS = 60
+SECONDS = 600  # only what hangs takes longer, also on a machine with much other work
 END_OF_COMMAND = "==== a command of a document has ended ===="
 
 
