@@ -86,9 +86,10 @@ figures: bin/rcell
 	-python3 tools/documents.py --texts --write
 
 pictures: bin/rcell
-	@sh tools/debian.sh python3-matplotlib
+	@sh tools/debian.sh python3-matplotlib graphviz
 	$(PICTURES) islands docs/islands.png
 	$(PICTURES) speed docs/speed.png
+	python3 tools/crate_graph.py docs/crates.svg
 
 exchange: bin/rcell
 	python3 tools/exchange.py

@@ -316,14 +316,17 @@ def part(title, wanted):
     return tables(PARTS[title], wanted) if title in PARTS else grass_tables(wanted)
 
 
+def commit():
+    words = ["git", "log", "-1", "--format=%h"]
+    return subprocess.run(words, capture_output=True, text=True, cwd=ROOT).stdout.strip()
+
+
 def machine():
     """A sentence on what was measured, where."""
     with open("/proc/cpuinfo", encoding="utf-8") as file:
         model = next((line.split(":")[1].strip() for line in file if line.startswith("model name")), "an unknown processor")
-    say_of = lambda *words: subprocess.run(words, capture_output=True, text=True, cwd=ROOT).stdout.strip()
-    commit, day = say_of("git", "log", "-1", "--format=%h"), time.strftime("%Y-%m-%d")
-    load = os.getloadavg()[0]
-    return (f"Measured on {day} with the program of commit {commit}: {len(os.sched_getaffinity(0))} processors ({model}), "
+    day, load = time.strftime("%Y-%m-%d"), os.getloadavg()[0]
+    return (f"Measured on {day} with the program of commit {commit()}: {len(os.sched_getaffinity(0))} processors ({model}), "
             f"Linux {os.uname().release.split('-')[0]}, {compiler()}, load {load:.0f} at the start.\n")
 
 

@@ -10,7 +10,8 @@ import os
 import re
 import subprocess
 
-from run import (CLUMP, CLUMP_CORNERS, LONG_IF, OUT, READ, RECLASS, ROOT, STATS, SUM, WRITE, Contest, build, grid_file, put_between)
+from run import (CLUMP, CLUMP_CORNERS, LONG_IF, OUT, READ, RECLASS, ROOT, STATS, SUM, WRITE, Contest, build, commit, grid_file,
+                 put_between)
 
 SIDE = 2000
 RUNS = 3
@@ -62,8 +63,8 @@ def rows(program):
 
 
 def print_table(rows, marks, is_written):
-    """Prints the lines of a table as they come, and puts them into the document where that is asked for."""
-    lines = []
+    """Prints the lines of a table as they come, and puts them into the document if that is asked for."""
+    lines = [f"Of the program of commit {commit()}:\n", "\n"]
     for line in rows:
         print(line, flush=True)
         lines.append(line + "\n")

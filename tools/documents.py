@@ -7,15 +7,16 @@ A document is run in a folder of its own that has bin/rcell, the helpers beside 
 blocks are taken from the top:
     console          lines that begin with `$ ` are given to sh, those with `> ` go on with the command above; the lines
                      after a command are what it must print, standard output and standard error together
-    console needs=A,B  the same where the programs A and B are installed; else it is told, and left out
+    console needs=A,B  the same where the programs A and B are installed (or files, by their paths); else it is told, and left out
     text file=PATH   a file (also python file=PATH); the commands of later blocks find it
     text, sh         shown and not run: such a block has no command with its output
 The folder that a block goes to by `cd` is that of the next. With --write what is printed takes the place of what is shown.
-Of docs/DIFFERENCES.md the program's side of each table is run, too (tools/differences.py). What needs no program is tried
-first, and with --texts alone: docs/COMMANDS.md has the table of helpers/messages.json (tools/messages.py), docs/PROOFS.md and README.md
-the numbers of lines that have to be believed (tools/reading.py), README.md the figures of docs/SPEED.md, and the manual pages pass the warnings of man where it
-is installed. The last line is
-'N passed, M failed'.
+Of docs/DIFFERENCES.md the program's side of each table is run, too (tools/differences.py), and the flags and keys that
+docs/COMMANDS.md and the manual page name are tried (tools/command_options.py). What needs no program is tried
+first, and with --texts alone: docs/COMMANDS.md has the table of helpers/messages.json (tools/messages.py), docs/crates.svg the
+crates of crates.txt (tools/crate_graph.py), docs/PROOFS.md and README.md the numbers of lines that have to be believed
+(tools/reading.py), README.md the figures of docs/SPEED.md, and the manual pages pass the warnings of man where it is installed.
+The last line is 'N passed, M failed'.
 """
 import argparse
 import difflib
@@ -28,6 +29,8 @@ import sys
 import tempfile
 from dataclasses import dataclass, field
 
+import command_options
+import crate_graph
 import differences
 import messages
 
@@ -40,7 +43,7 @@ READING_ROW = re.compile(r"(`make reading(?: COMMAND=(?P<command>\S+))?` \| )(\d
 READING_SENTENCE = re.compile(r"(for a table of (?P<command>r\.\w+) )(\d+)( lines, )(\d+)( with comments)")
 SPEED_ROW = re.compile(r"^\| ([^|]+) \| ([^|]+ cells) \| (.*?) \|$", re.MULTILINE)
 LANGUAGES = {"console", "text", "python", "sh"}
-SECONDS = 60
+SECONDS = 600  # only what hangs takes longer, also on a machine with much other work
 END_OF_COMMAND = "==== a command of a document has ended ===="
 
 
@@ -135,7 +138,7 @@ def judge(block, room):
     if block.file:
         room.put(block)
         return None, block.text
-    missing = [program for program in block.needs if not shutil.which(program)]
+    missing = [name for name in block.needs if not shutil.which(name) and not os.path.isfile(name)]
     if missing:
         print(f"left out, since {', '.join(missing)} is not installed: the block at line {block.line}")
         return None, block.text
@@ -276,10 +279,12 @@ def main():
     words.add_argument("documents", nargs="*")
     settings = words.parse_args()
     program = os.path.abspath(settings.program)
-    texts = [("the messages", messages.check), ("the manual pages", check_pages),
+    texts = [("the messages", messages.check), ("the picture of the crates", crate_graph.check), ("the manual pages", check_pages),
              ("the numbers of lines", lambda: check_reading(settings.write)), ("the figures", lambda: check_speed(settings.write))]
     runs = [(name, lambda name=name: run_document(name, program, settings.write)) for name in settings.documents or DOCUMENTS]
-    runs += [] if settings.documents else [("the tables of differences", lambda: check_differences(program))]
+    if not settings.documents:
+        runs += [("the tables of differences", lambda: check_differences(program)),
+                 ("the flags, keys and functions", lambda: command_options.check(program))]
     checks = texts if settings.texts else runs if settings.documents else texts + runs
     passed = failed = 0
     for name, check in checks:

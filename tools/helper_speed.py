@@ -3,9 +3,9 @@
 
     helper_speed.py [--cells N] [--rounds N]
 
-rcell-aaigrid beside cat, to a file and through pipes; rcell-tif and rcell from a GeoTIFF to its table beside r.in.gdal and
-r.stats of GRASS, where these are installed (their time is taken within a session, without its start). Each table must be the
-same. The last line is 'N passed, M failed': passed is what keeps to its bound, five times cat and twice GRASS.
+rcell-aaigrid beside cat, to a file and through pipes, also on noise; rcell-tif and rcell from a GeoTIFF to its table beside
+r.in.gdal and r.stats of GRASS, where these are installed (their time is taken within a session, without its start). Each table
+must be the same. The last line is 'N passed, M failed': passed is what keeps to its bound, five times cat and twice GRASS.
 """
 import argparse
 import json
@@ -19,7 +19,8 @@ ROOT = os.path.dirname(os.path.dirname(os.path.abspath(__file__)))
 PYTHON = "/usr/bin/python3"
 COLUMNS = 5000
 TIMES_CAT, TIMES_GRASS = 5, 2
-# Patches of 12 classes of some 20 cells each way, 5 in 100 null: lc.tif and lc.asc.
+# Patches of 12 classes of some 20 cells each way, 5 in 100 null: lc.tif and lc.asc. Noise, in which all bytes of the words that
+# rcell-aaigrid looks for occur: noise.asc.
 MAKE = """
 import sys
 import numpy as np
@@ -36,6 +37,13 @@ made.GetRasterBand(1).SetNoDataValue(255)
 made.GetRasterBand(1).WriteArray(cells)
 made = None
 gdal.Translate("lc.asc", "lc.tif", format="AAIGrid")
+noise = chance.integers(0, 13, (rows, cols)).astype("int16")
+noise[chance.random((rows, cols)) < 0.05] = -9999
+made = gdal.GetDriverByName("MEM").Create("", cols, rows, 1, gdal.GDT_Int16)
+made.SetGeoTransform([500000, 25, 0, 5400000, 0, -25])
+made.GetRasterBand(1).SetNoDataValue(-9999)
+made.GetRasterBand(1).WriteArray(noise)
+gdal.GetDriverByName("AAIGrid").CreateCopy("noise.asc", made)
 """
 # Prints the processor time of each command by its name as JSON; each command is a text of sh.
 TIME = """
@@ -49,11 +57,13 @@ print(json.dumps({name: taken(command) for name, command in json.loads(sys.argv[
 """
 HELPERS = {
     "cat to a file": "exec cat lc.asc > copy", "rcell-aaigrid to a file": "exec {helpers}/rcell-aaigrid lc.asc lc.txt",
+    "cat of noise": "exec cat noise.asc > copy", "rcell-aaigrid of noise": "exec {helpers}/rcell-aaigrid noise.asc noise.txt",
     "cat to cat": "cat lc.asc | cat > copy", "cat to rcell-aaigrid": "cat lc.asc | {helpers}/rcell-aaigrid > copy",
     "rcell-tif and rcell": "{helpers}/rcell-tif lc.tif t.txt && {rcell} counts lc=t.txt > table",
 }
 GRASS = {"r.in.gdal and r.stats": "r.in.gdal -o input=lc.tif output=lc --overwrite --quiet && g.region raster=lc && r.stats -cn lc --quiet > table.grass"}
-BOUNDS = (("rcell-aaigrid to a file", "cat to a file", TIMES_CAT), ("cat to rcell-aaigrid", "cat to cat", TIMES_CAT),
+BOUNDS = (("rcell-aaigrid to a file", "cat to a file", TIMES_CAT), ("rcell-aaigrid of noise", "cat of noise", TIMES_CAT),
+          ("cat to rcell-aaigrid", "cat to cat", TIMES_CAT),
           ("rcell-tif and rcell", "r.in.gdal and r.stats", TIMES_GRASS))
 
 

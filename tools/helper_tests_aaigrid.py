@@ -167,6 +167,12 @@ def test_warnings(room, tally):
         tally.true(f"a clamped number beside {nodata}", b"gdal_translate -ot Int32 turns every greater number into it" in ran.stderr)
     ran = room.run("rcell-aaigrid", given=aaigrid("19999 2 3\n3 -99991 1-9999").encode())
     tally.same("parts of words are none", ran.stderr, b"")
+    for read in (1 << 16, (1 << 16) + (1 << 18)):  # bytes after which the helper reads on
+        text = aaigrid("", header=HEADER.replace("ncols 3", "ncols 65535"))[:-1]
+        text += "1 " * ((read - len(text)) // 2 - 2)
+        text += " " * (read - 3 - len(text)) + "-32768 1\n"
+        ran = room.run("rcell-aaigrid", given=text.encode())
+        tally.true(f"a forgotten value across byte {read}", ran.stderr.endswith((WARNED % ("-32768", "-32768")).encode()))
     ran = room.run("rcell-aaigrid", given=aaigrid("2147483647 2 3\n3 2 1", "2147483647").encode())
     tally.true("a clamped nodata value", b"every greater category is null now" in ran.stderr)
     room.put("m.asc", aaigrid("-9999 2 3\n3 -9999 -9999"))

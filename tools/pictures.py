@@ -75,7 +75,7 @@ def islands(output, program):
         atlas = [line.split("\t") for line in file]
     figure, (left, right) = plt.subplots(1, 2, figsize=(14, 5.1), dpi=100)
     draw_countries(left, country, {int(rule[0]): rule[3].strip() for rule in rules})
-    draw_islands(right, grid(rcell(program, "islands")), {int(number): name for number, name, _ in atlas})
+    draw_islands(right, grid(rcell(program, "islands")), {int(number): name for number, name, *_ in atlas})
     for axes in (left, right):
         axes.set_xticks([])
         axes.set_yticks([])

@@ -25,7 +25,7 @@ import documents
 SECTION = re.compile(r"^## Quick start\n.*?^## ", re.MULTILINE | re.DOTALL)
 HIDDEN = re.compile(r"python|pypy|pydoc|rt$|rt-|rattle|rcell")
 FOLDERS = ("/usr/bin", "/bin")
-SECONDS = 120
+SECONDS = 600  # only what hangs takes longer, also on a machine with much other work
 UNPACKED = "unpacked"
 
 

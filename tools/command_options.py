@@ -1,0 +1,174 @@
+#!/usr/bin/env python3
+"""Compares the flags, keys and functions that the documents name with those that the program takes.
+
+    command_options.py [--program PATH]
+
+Of each command docs/COMMANDS.md has a synopsis and a table of its flags and options, and docs/rcell.1 a synopsis; the three must
+name the same. Then the program is run with each letter and digit as a flag, and with each key that any command or GRASS has: it
+must take those that are named and no other, and must miss a key exactly where the table says that it is required. Of r.mapcalc
+the functions are compared and tried in this way. The last line is 'N passed, M failed'.
+"""
+import argparse
+import os
+import re
+import string
+import subprocess
+import sys
+import tempfile
+
+ROOT = os.path.dirname(os.path.dirname(os.path.abspath(__file__)))
+DOCUMENT, PAGE = "docs/COMMANDS.md", "docs/rcell.1"
+COMMANDS = ("r.reclass", "r.clump", "r.stats", "r.out.ascii")
+GRID = "north: 1\nsouth: 0\neast: 2\nwest: 0\nrows: 1\ncols: 2\n1 2\n"
+# A value of each key that any command has, and keys of GRASS that none has here.
+VALUES = {"input": "land", "output": "made", "separator": "comma", "null_value": "NA", "after": "1"}
+KEYS_OF_GRASS = ("rules", "title", "minsize", "threshold", "sort", "nsteps", "precision", "width", "region", "expression", "map")
+FLAGS = string.ascii_letters + string.digits
+# Functions that GRASS has and we do not, each with the number of arguments that it takes there.
+FUNCTIONS_OF_GRASS = {"round": 1, "int": 1, "float": 1, "double": 1, "sqrt": 1, "exp": 1, "log": 1, "median": 3, "nmedian": 3,
+                      "xor": 2, "not": 1, "rand": 2, "x": 0, "y": 0, "z": 0, "ewres": 0, "nsres": 0, "area": 0, "graph": 5, "pow": 2}
+FONT = re.compile(r"\\f.|^\.[A-Z]+ |\"", re.MULTILINE)
+
+
+class Named:
+    """What a text names of a command: the letters of its flags, and its keys."""
+
+    def __init__(self, flags, keys):
+        self.flags, self.keys = set(flags), set(keys)
+
+    @classmethod
+    def of_synopsis(cls, text):
+        return cls("".join(re.findall(r"\[-(\w+)\]", text)), re.findall(r"(\w+)=", text))
+
+    def __eq__(self, other):
+        return (self.flags, self.keys) == (other.flags, other.keys)
+
+    def __str__(self):
+        return f"flags {''.join(sorted(self.flags)) or 'none'}, keys {' '.join(sorted(self.keys))}"
+
+
+def read(name):
+    with open(f"{ROOT}/{name}", encoding="utf-8") as file:
+        return file.read()
+
+
+def section(command):
+    return re.search(rf"^## {re.escape(command)}\n(.*?)^## ", read(DOCUMENT), re.MULTILINE | re.DOTALL)[1]
+
+
+def synopsis(command):
+    return re.search(r"^### Synopsis\n+```text\n(.*?)```", section(command), re.MULTILINE | re.DOTALL)[1]
+
+
+def rows(command):
+    """The rows of a command's table of flags and options: a name, and what is said of it."""
+    table = re.search(r"^### (?:Flags and options|Options)\n(.*?)^### ", section(command), re.MULTILINE | re.DOTALL)[1]
+    return re.findall(r"^\| `([^`]+)` \| (.*) \|$", table, re.MULTILINE)
+
+
+def in_table(command):
+    names = [name for name, _ in rows(command)]
+    return Named([name[1:] for name in names if name.startswith("-")], [name for name in names if not name.startswith("-")])
+
+
+def required(command):
+    return {name for name, says in rows(command) if says.endswith("(required)")}
+
+
+def of_page(command):
+    """The synopsis of a command in the manual page, without its fonts."""
+    plain = FONT.sub("", read(PAGE).replace("\\-", "-"))
+    return next(line for line in plain.split("\n") if re.match(rf"{re.escape(command)} .*=", line)).replace("= ", "=")
+
+
+def functions_of_document():
+    """The functions of r.mapcalc, each with the number of arguments of an example; two where more may follow."""
+    table = re.search(r"^\| Function \|.*?\n\n", section("r.mapcalc"), re.MULTILINE | re.DOTALL)[0]
+    examples = [example for row in table.splitlines() for example in re.findall(r"`(\w+)\(([^)]*)\)`", row.split(" | ")[0])]
+    return {name: len([word for word in words.split(",") if word.strip(".")]) for name, words in examples}
+
+
+def functions_of_page():
+    listed = re.search(r"^Functions:\n(.*)$", read(PAGE), re.MULTILINE)[1]
+    return set(re.findall(r"\w+", FONT.sub("", listed)))
+
+
+class Tried:
+    """The program over scripts of one command, in a folder of its own."""
+
+    def __init__(self, program, folder):
+        self.program, self.folder = program, folder
+        with open(f"{folder}/land.txt", "w", encoding="ascii") as file:
+            file.write(GRID)
+
+    def refusal(self, line):
+        """What the program says of a script of one line (and a rule, if it is r.reclass), without `rcell: script:`."""
+        script = f"{line}\n1 = 1\nend\n" if line.startswith("r.reclass ") else f"{line}\n"
+        with open(f"{self.folder}/script", "w", encoding="ascii") as file:
+            file.write(script)
+        ran = subprocess.run([self.program, "script", "land=land.txt"], cwd=self.folder, capture_output=True, text=True)
+        return ran.stderr.strip().removeprefix("rcell: script:") if ran.returncode else ""
+
+    def options(self, command, flags, keys):
+        options = [f"-{flag}" for flag in flags] + [f"{key}={VALUES.get(key, '1')}" for key in keys]
+        return self.refusal(" ".join([command, *options]))
+
+
+def faults_of_flags(tried, command, named, needs):
+    """Each flag by itself: what is wrong, or ''."""
+    for flag in FLAGS:
+        wanted = "" if flag in named.flags else "1: bad option"
+        said = tried.options(command, flag, needs)
+        yield "" if said == wanted else f"{command} -{flag}: {said or 'taken'}, and not {wanted or 'taken'}"
+
+
+def faults_of_keys(tried, command, named, needs):
+    """Each key beside those that are required, and each of these left out: what is wrong, or ''."""
+    for key in (*VALUES, *KEYS_OF_GRASS):
+        wanted = "" if key in named.keys else "1: bad option"
+        said = tried.options(command, "", [*needs, *({key} - set(needs))])
+        yield "" if said == wanted else f"{command} {key}=: {said or 'taken'}, and not {wanted or 'taken'}"
+    for key in needs:
+        said = tried.options(command, "", [other for other in needs if other != key])
+        yield "" if said == "1: missing option" else f"{command} without {key}=: {said or 'taken'}"
+
+
+def faults_of_functions(tried):
+    named, listed = functions_of_document(), functions_of_page()
+    yield "" if set(named) == listed else f"{PAGE}: functions {sorted(listed)}, and not {sorted(named)} as {DOCUMENT}"
+    for name, count in {**FUNCTIONS_OF_GRASS, **named}.items():
+        said = tried.refusal(f"r.mapcalc made = {name}({', '.join(['land'] * count)})")
+        wanted = "" if name in named else "1: unknown function at column 18"
+        yield "" if said == wanted else f"r.mapcalc {name}(..): {said or 'taken'}, and not {wanted or 'taken'}"
+
+
+def faults(program):
+    """What is wrong with each thing that is compared, or ''."""
+    with tempfile.TemporaryDirectory(prefix="rcell-options-") as folder:
+        tried = Tried(os.path.abspath(program), folder)
+        for command in COMMANDS:
+            named, needs = in_table(command), sorted(required(command))
+            for where, other in ((f"{DOCUMENT}, synopsis", Named.of_synopsis(synopsis(command))),
+                                 (PAGE, Named.of_synopsis(of_page(command)))):
+                yield "" if other == named else f"{where}: {command} has {other}, but {named} in its table"
+            yield from faults_of_flags(tried, command, named, needs)
+            yield from faults_of_keys(tried, command, named, needs)
+        yield from faults_of_functions(tried)
+
+
+def check(program):
+    """How many comparisons agree, and what is wrong with the others."""
+    found = list(faults(program))
+    return found.count(""), [fault for fault in found if fault]
+
+
+def main():
+    words = argparse.ArgumentParser(description="Compares the flags and keys of the documents with those of the program.")
+    words.add_argument("--program", default=f"{ROOT}/bin/rcell")
+    passed, wrong = check(words.parse_args().program)
+    print("".join(f"{fault}\n" for fault in wrong) + f"{passed} passed, {len(wrong)} failed")
+    return 1 if wrong else 0
+
+
+if __name__ == "__main__":
+    sys.exit(main())
