@@ -1,0 +1,221 @@
+"""Rasters that are written: a file has its name only when all of it is there."""
+
+from __future__ import annotations
+
+import contextlib
+import csv
+import os
+from typing import Any, Iterator, Mapping
+
+import numpy as np
+from numpy.typing import NDArray
+from osgeo import gdal, ogr
+
+from .answers import Column, Table, Value
+from .errors import WriteFailed
+from .labels import put_labels
+from .rasters import BLOCK_CELLS, Raster, quiet
+
+_OPTIONS = {"GTiff": ["COMPRESS=DEFLATE", "TILED=YES", "BIGTIFF=IF_SAFER"]}
+# What GDAL leaves beside a raster.
+_BESIDE = ".aux.xml"
+
+
+def check_target(path: str) -> None:
+    """That a file can be made there, before any work is done.
+
+    Raises
+    ------
+    WriteFailed
+        Where the folder is missing or may not be written to.
+    """
+    folder = os.path.dirname(os.path.abspath(path))
+    if not os.path.isdir(folder):
+        raise WriteFailed(path, f"there is no folder {folder}")
+    if not os.access(folder, os.W_OK):
+        raise WriteFailed(path, f"the folder {folder} may not be written to")
+
+
+def write_raster(path: str, driver: str, cells: NDArray[np.int32], null: int, like: Raster, labels: Mapping[int, str]) -> None:
+    """Writes a map as a raster of whole numbers of 32 bits.
+
+    Parameters
+    ----------
+    path : str
+    driver : str
+        The name of GDAL's driver.
+    cells : array of int32, rows x cols
+    null : int
+        The value of cells that is null, which becomes nodata.
+    like : Raster
+        Whose place and reference system the raster gets.
+    labels : mapping of int to str
+
+    Raises
+    ------
+    WriteFailed
+        Nothing stands under the path then but what stood there before.
+    """
+    with partly(path, _BESIDE) as part, quiet():
+        gdal.ErrorReset()
+        try:
+            made = _write(part, driver, cells, null, like, labels)
+        except (RuntimeError, OSError) as error:
+            raise WriteFailed(path, str(error)) from None
+        if not made:
+            raise WriteFailed(path, gdal.GetLastErrorMsg() or "the disk may be full")
+
+
+# Tables
+
+_TYPES = {"whole": ("Integer64", ogr.OFTInteger64), "real": ("Real", ogr.OFTReal), "text": ("String", ogr.OFTString)}
+
+
+def is_file_of_table(path: str) -> bool:
+    """Whether `write_table` knows the format of a path."""
+    return os.path.splitext(path)[1].lower() in (".csv", ".gpkg")
+
+
+def write_table(path: str, table: Table) -> None:
+    """Writes a table as comma-separated values or as a GeoPackage, by the ending of the path.
+
+    Raises
+    ------
+    WriteFailed
+        Nothing stands under the path then but what stood there before.
+    """
+    stem, ending = os.path.splitext(path)
+    is_csv = ending.lower() == ".csv"
+    try:
+        with partly(path, ".csvt" if is_csv else "", stem) as part:
+            if is_csv:
+                _write_csv(part, table.columns())
+            else:
+                _write_geopackage(part, os.path.basename(stem), table.columns())
+    except WriteFailed:
+        raise
+    except (OSError, RuntimeError) as error:
+        raise WriteFailed(path, getattr(error, "strerror", None) or str(error)) from None
+
+
+def _write_csv(part: str, columns: list[Column]) -> None:
+    """With the types of the columns beside it, without which QGIS reads numbers as text."""
+    with open(part, "w", encoding="utf-8", newline="") as file:
+        writer = csv.writer(file, lineterminator="\n")
+        writer.writerow(column.title for column in columns)
+        writer.writerows(zip(*(column.values for column in columns)))
+    with open(part + ".csvt", "w", encoding="utf-8") as file:
+        file.write(",".join(f'"{_TYPES[column.kind][0]}"' for column in columns) + "\n")
+
+
+def _write_geopackage(part: str, name: str, columns: list[Column]) -> None:
+    rows = list(zip(*(column.values for column in columns)))
+    with quiet():
+        gdal.ErrorReset()
+        source = ogr.GetDriverByName("GPKG").CreateDataSource(part)
+        is_whole = source is not None and _put_rows(source, name, columns, rows)
+        text = gdal.GetLastErrorMsg()
+        del source
+        written = ogr.Open(part) if is_whole else None
+        count = written.GetLayer(0).GetFeatureCount() if written is not None else -1
+    if count != len(rows):
+        raise OSError(text or gdal.GetLastErrorMsg() or "the disk may be full")
+
+
+def _put_rows(source: Any, name: str, columns: list[Column], rows: list[tuple[Value, ...]]) -> bool:
+    """Whether all rows were taken, in one transaction."""
+    source.StartTransaction()
+    layer = source.CreateLayer(name, None, ogr.wkbNone, ["FID=rcell_fid"] if any(c.title.lower() == "fid" for c in columns) else [])
+    if layer is None:
+        return False
+    for column in columns:
+        layer.CreateField(ogr.FieldDefn(column.title, _TYPES[column.kind][1]))
+    put = {"whole": "SetFieldInteger64", "real": "SetField", "text": "SetField"}
+    for row in rows:
+        feature = ogr.Feature(layer.GetLayerDefn())
+        for place, (column, value) in enumerate(zip(columns, row)):
+            if value is None:
+                feature.SetFieldNull(place)
+            else:
+                getattr(feature, put[column.kind])(place, value)
+        if layer.CreateFeature(feature) != ogr.OGRERR_NONE:
+            return False
+    return source.CommitTransaction() == ogr.OGRERR_NONE
+
+
+@contextlib.contextmanager
+def partly(path: str, beside: str = "", stem: str = "") -> Iterator[str]:
+    """A name to write to, in the same folder; afterwards it gets the right one, or is removed where something went wrong.
+
+    Parameters
+    ----------
+    path : str
+    beside : str
+        The ending of a file that may come to stand beside the one that is written, by its whole name.
+    stem : str
+        What that ending comes after in the end, the whole path where it is empty.
+    """
+    folder, name = os.path.split(os.path.abspath(path))
+    base, extension = os.path.splitext(name)
+    part = os.path.join(folder, f".{base}.{os.getpid()}.part{extension}")
+    try:
+        yield part
+        _rename(part, path, beside, (stem or path) + beside)
+    finally:
+        for left in (part, part + beside):
+            with contextlib.suppress(OSError):
+                os.unlink(left)
+
+
+def _rename(part: str, path: str, beside: str, beside_path: str) -> None:
+    try:
+        if beside and os.path.exists(part + beside):
+            os.replace(part + beside, beside_path)
+        elif beside and os.path.exists(beside_path):
+            os.unlink(beside_path)
+        os.replace(part, path)
+    except OSError as error:
+        raise WriteFailed(path, error.strerror or str(error)) from None
+
+
+def _write(part: str, driver: str, cells: NDArray[np.int32], null: int, like: Raster, labels: Mapping[int, str]) -> bool:
+    """Whether all of it was written. Other formats than GeoTIFF are copies of one."""
+    if driver == "GTiff":
+        return _write_tiff(part, cells, null, like, labels)
+    between = part + ".tif"
+    try:
+        if not _write_tiff(between, cells, null, like, labels):
+            return False
+        source = gdal.Open(between)
+        copy = gdal.GetDriverByName(driver).CreateCopy(part, source)
+        return copy is not None and _flushed(copy)
+    finally:
+        for left in (between, between + _BESIDE):
+            with contextlib.suppress(OSError):
+                os.unlink(left)
+
+
+def _write_tiff(part: str, cells: NDArray[np.int32], null: int, like: Raster, labels: Mapping[int, str]) -> bool:
+    rows, cols = cells.shape
+    dataset = gdal.GetDriverByName("GTiff").Create(part, cols, rows, 1, gdal.GDT_Int32, _OPTIONS["GTiff"])
+    if dataset is None:
+        return False
+    dataset.SetGeoTransform(like.geotransform)
+    if like.crs:
+        dataset.SetProjection(like.crs)
+    band = dataset.GetRasterBand(1)
+    band.SetNoDataValue(null)
+    put_labels(band, labels)
+    step = max(1, BLOCK_CELLS // cols)
+    for row in range(0, rows, step):
+        if band.WriteArray(cells[row : row + step], 0, row) not in (None, gdal.CE_None):
+            return False
+    del band
+    return _flushed(dataset)
+
+
+def _flushed(dataset: Any) -> bool:
+    """Whether what was still in memory could be written too."""
+    gdal.ErrorReset()
+    dataset.FlushCache()
+    return gdal.GetLastErrorType() < gdal.CE_Failure
