@@ -27,9 +27,11 @@ def check_target(path: str) -> None:
     Raises
     ------
     WriteFailed
-        Where the folder is missing or may not be written to.
+        Where the folder is missing or may not be written to, or something else than a file stands there.
     """
     folder = os.path.dirname(os.path.abspath(path))
+    if os.path.lexists(path) and not os.path.isfile(path):
+        raise WriteFailed(path, "something stands there that is no file")
     if not os.path.isdir(folder):
         raise WriteFailed(path, f"there is no folder {folder}")
     if not os.access(folder, os.W_OK):
@@ -155,6 +157,7 @@ def partly(path: str, beside: str = "", stem: str = "") -> Iterator[str]:
     stem : str
         What that ending comes after in the end, the whole path where it is empty.
     """
+    check_target(path)
     folder, name = os.path.split(os.path.abspath(path))
     base, extension = os.path.splitext(name)
     part = os.path.join(folder, f".{base}.{os.getpid()}.part{extension}")
