@@ -6,6 +6,7 @@ import re
 from typing import Any, Sequence
 
 from qgis.core import QgsColorRampShader, QgsPalettedRasterRenderer, QgsRasterLayer, QgsRasterRange, QgsSingleBandPseudoColorRenderer
+from qgis.PyQt.QtGui import QColor
 
 from .core.errors import BadMap
 from .core.rasters import Raster
@@ -62,7 +63,8 @@ def colours_of(layer: QgsRasterLayer, band: int) -> dict[int, Any]:
     """The colours of a layer's classes, where its style has classes."""
     renderer = layer.renderer()
     if isinstance(renderer, QgsPalettedRasterRenderer) and renderer.band() == band:
-        return {int(entry.value): entry.color for entry in renderer.classes()}
+        # A copy: the colour of a class is a part of it, and gone with it.
+        return {int(entry.value): QColor(entry.color) for entry in renderer.classes()}
     return {}
 
 
