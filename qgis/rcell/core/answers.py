@@ -178,7 +178,8 @@ def run(program: str, script: str, maps: Mapping[str, Raster], wanted: Sequence[
     for name in wanted:
         if name not in known:
             raise Refused(f"no map {name}: there are {', '.join(known)}", status=2)
-    labels = {**labels_in(script), **{name: raster.labels for name, raster in maps.items()}}
+    labels: dict[str, Mapping[int, str]] = {**labels_in(script)}
+    labels.update({name: raster.labels for name, raster in maps.items()})
     outputs = [_answer(output, labels, maps) for output in execute(program, script, maps, wanted, watch)]
     tables = [output for output in outputs if isinstance(output, Table)]
     return Answers(tables, [output for output in outputs if isinstance(output, Grid)], outputs)

@@ -52,6 +52,10 @@ def _put_together(cells: Cells, width: int) -> NDArray[np.uint8]:
     return words.reshape(-1).view(np.uint8)
 
 
+def _bytes_of(words: NDArray[Any]) -> NDArray[np.uint8]:
+    return words.view(np.uint8)
+
+
 def _texts(least: int, greatest: int, width: int) -> NDArray[np.uint8]:
     """The words of all categories from one to another."""
     if width > 4:
@@ -149,7 +153,7 @@ class Words:
         if flat.dtype.itemsize == 1 and self.width <= 4 and self._spelled >= _PAIRS_FROM:
             return self._by_pairs(flat)
         if flat.dtype.itemsize <= 2 and self.width <= 8:
-            return np.take(self._by_bits(flat.dtype), flat.view(f"u{flat.dtype.itemsize}"), mode="clip").view(np.uint8)
+            return _bytes_of(np.take(self._by_bits(flat.dtype), flat.view(f"u{flat.dtype.itemsize}"), mode="clip"))
         if self.width <= 4 or (self.width == 8 and greatest - least < min(_TABLE_LIMIT, flat.size)):
             return self._by_offset(flat, least, greatest)
         return _put_together(flat if mask is None else np.where(mask, 0, flat), self.width)
@@ -196,4 +200,4 @@ class Words:
             if table.size:
                 least, greatest = min(least, first), max(greatest, first + table.size - 1)
             self._offset = first, table = least, self._table_of(least, greatest)
-        return np.take(table, np.subtract(flat, first, dtype=np.intp), mode="clip").view(np.uint8)
+        return _bytes_of(np.take(table, np.subtract(flat, first, dtype=np.intp), mode="clip"))

@@ -142,7 +142,7 @@ def _put_rows(source: Any, name: str, columns: list[Column], rows: list[tuple[Va
                 getattr(feature, put[column.kind])(place, value)
         if layer.CreateFeature(feature) != ogr.OGRERR_NONE:
             return False
-    return source.CommitTransaction() == ogr.OGRERR_NONE
+    return bool(source.CommitTransaction() == ogr.OGRERR_NONE)
 
 
 @contextlib.contextmanager
@@ -221,4 +221,4 @@ def _flushed(dataset: Any) -> bool:
     """Whether what was still in memory could be written too."""
     gdal.ErrorReset()
     dataset.FlushCache()
-    return gdal.GetLastErrorType() < gdal.CE_Failure
+    return bool(gdal.GetLastErrorType() < gdal.CE_Failure)

@@ -278,7 +278,7 @@ def _bad(cells: Cells) -> Mask | None:
     """Where cells are no whole number in range; None where all are."""
     if cells.dtype.kind == "f":
         with np.errstate(invalid="ignore"):
-            return ~((np.rint(cells) == cells) & (np.abs(cells) <= MAX_CATEGORY))
+            return np.asarray(~((np.rint(cells) == cells) & (np.abs(cells) <= MAX_CATEGORY)))
     if cells.size == 0 or (cells.min() >= -MAX_CATEGORY and cells.max() <= MAX_CATEGORY):
         return None
     return (cells > MAX_CATEGORY) | (cells < -MAX_CATEGORY)

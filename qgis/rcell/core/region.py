@@ -4,7 +4,7 @@ from __future__ import annotations
 
 from dataclasses import dataclass
 from fractions import Fraction
-from typing import Sequence
+from typing import Callable, Sequence
 
 from .errors import BadMap
 
@@ -82,7 +82,7 @@ class Region:
         told = []
         for edge in ("north", "south", "east", "west", "rows", "cols"):
             mine, its = getattr(self, edge), getattr(other, edge)
-            text = str if edge in ("rows", "cols") else _edge_text
+            text: Callable[[int], str] = str if edge in ("rows", "cols") else _edge_text
             if mine != its:
                 told.append(f"{edge} is {text(its)}, not {text(mine)} ({text(abs(its - mine))} {'more' if its > mine else 'less'})")
         return told
