@@ -88,6 +88,11 @@ class AnswersTest(unittest.TestCase):
         self.assertEqual(grid.labels, {1: "low", 7: "rest"})
         self.assertEqual(grid.counts()[1], int((wanted == 1).sum()))
 
+    def test_counts_of_a_map(self) -> None:
+        for cells in ([[1, NULL, -5, 1]], [[NULL, NULL]], [[-(2**31) + 1, 2**31 - 1, NULL]]):
+            grid = answers.Grid("x", np.array(cells, np.int32))
+            self.assertEqual(grid.counts(), {cell: cells[0].count(cell) for cell in cells[0] if cell != NULL})
+
     def test_a_rule_that_is_refused_is_told_by_its_own_line(self) -> None:
         with self.assertRaises(Refused) as caught:
             answers.reclass(self.program, self.raster("lc", [[1]]), "1 = 1\n2 = x two")

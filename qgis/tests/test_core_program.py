@@ -118,7 +118,7 @@ class ProgramTest(unittest.TestCase):
         copy = shutil.copy(ANSWERING, self.room)
         path = made.write(os.path.join(self.room, "large.tif"), made.noise(2, 1500, 1500))
         here = os.path.dirname(os.path.abspath(__file__))
-        code = (f"import sys; sys.path[:0] = [{os.path.dirname(here)!r}]\n"
+        code = (f"import signal, sys; sys.path[:0] = [{os.path.dirname(here)!r}]; signal.signal(signal.SIGINT, signal.default_int_handler)\n"
                 f"from rcell.core import answers; from rcell.core.rasters import Raster\n"
                 f"while True: answers.areas({copy!r}, Raster.open('lc', {path!r}), False)")
         for number in (signal.SIGTERM, signal.SIGKILL, signal.SIGINT):

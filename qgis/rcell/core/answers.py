@@ -15,6 +15,8 @@ from .rasters import Raster, check_regions
 from .script import labels_in, labels_of_rules, statements_of
 
 UNITS = {"m2": 1.0, "ha": 1e4, "km2": 1e6}
+# Of categories that lie within so many each is counted at its place, in place of being sorted.
+_FEW_CATEGORIES = 1 << 20
 Value = Union[int, float, str, None]
 
 
@@ -113,8 +115,15 @@ class Grid:
 
     def counts(self) -> dict[int, int]:
         """How many cells each category has, null aside."""
-        categories, counts = np.unique(self.cells, return_counts=True)
-        return {category: count for category, count in zip(categories.tolist(), counts.tolist()) if category != self.null}
+        kept = self.cells[self.cells != self.null]
+        if not kept.size:
+            return {}
+        least = int(kept.min())
+        if int(kept.max()) - least < _FEW_CATEGORIES:
+            counted = np.bincount(kept - np.int32(least))
+            return {least + place: int(counted[place]) for place in np.flatnonzero(counted).tolist()}
+        categories, counts = np.unique(kept, return_counts=True)
+        return dict(zip(categories.tolist(), counts.tolist()))
 
 
 def unique(titles: Sequence[str]) -> list[str]:

@@ -5,18 +5,20 @@ from __future__ import annotations
 import contextlib
 import csv
 import os
+import sqlite3
 from typing import Any, Iterator, Mapping
 
 import numpy as np
 from numpy.typing import NDArray
 from osgeo import gdal, ogr
 
-from .answers import Column, Table, Value
+from .answers import Column, Table
 from .errors import WriteFailed
 from .labels import put_labels
 from .rasters import BLOCK_CELLS, Raster, quiet
 
-_OPTIONS = {"GTiff": ["COMPRESS=DEFLATE", "TILED=YES", "BIGTIFF=IF_SAFER"]}
+# The first level of compression with differences of neighbours takes an eighth of the time of the sixth without, and as much room.
+_OPTIONS = ["COMPRESS=DEFLATE", "ZLEVEL=1", "PREDICTOR=2", "TILED=YES", "BIGTIFF=IF_SAFER"]
 # What GDAL leaves beside a raster.
 _BESIDE = ".aux.xml"
 
@@ -111,38 +113,48 @@ def _write_csv(part: str, columns: list[Column]) -> None:
 
 
 def _write_geopackage(part: str, name: str, columns: list[Column]) -> None:
-    rows = list(zip(*(column.values for column in columns)))
+    """GDAL makes the table, and its rows are put in by SQLite, which takes them ten times as fast as GDAL's Python does."""
+    count = len(columns[0].values)
     with quiet():
         gdal.ErrorReset()
-        source = ogr.GetDriverByName("GPKG").CreateDataSource(part)
-        is_whole = source is not None and _put_rows(source, name, columns, rows)
-        text = gdal.GetLastErrorMsg()
-        del source
-        written = ogr.Open(part) if is_whole else None
-        count = written.GetLayer(0).GetFeatureCount() if written is not None else -1
-    if count != len(rows):
-        raise OSError(text or gdal.GetLastErrorMsg() or "the disk may be full")
+        identifier = _make_geopackage(part, name, columns)
+        if not identifier:
+            raise OSError(gdal.GetLastErrorMsg() or "the disk may be full")
+        try:
+            with contextlib.closing(sqlite3.connect(part)) as connection, connection:
+                triggers = connection.execute("SELECT name, sql FROM sqlite_master WHERE type = 'trigger' AND tbl_name = ?", [name]).fetchall()
+                for trigger, _ in triggers:
+                    connection.execute(f"DROP TRIGGER {_quoted(trigger)}")
+                places = ",".join("?" * (1 + len(columns)))
+                rows = zip(range(1, count + 1), *(column.values for column in columns))
+                connection.executemany(f"INSERT INTO {_quoted(name)} ({identifier}) VALUES ({places})", rows)
+                # What the triggers would have counted row by row.
+                connection.execute("UPDATE gpkg_ogr_contents SET feature_count = ? WHERE table_name = ?", [count, name])
+                for _, text in triggers:
+                    connection.execute(text)
+        except sqlite3.Error as error:
+            raise OSError(str(error)) from None
+        written = ogr.Open(part)
+        if written is None or written.GetLayer(0).GetFeatureCount() != count:
+            raise OSError(gdal.GetLastErrorMsg() or "the disk may be full")
 
 
-def _put_rows(source: Any, name: str, columns: list[Column], rows: list[tuple[Value, ...]]) -> bool:
-    """Whether all rows were taken, in one transaction."""
-    source.StartTransaction()
-    layer = source.CreateLayer(name, None, ogr.wkbNone, ["FID=rcell_fid"] if any(c.title.lower() == "fid" for c in columns) else [])
+def _make_geopackage(part: str, name: str, columns: list[Column]) -> str:
+    """Makes an empty table, and answers the names of its columns, that of the numbers of rows first; nothing where it could not."""
+    source = ogr.GetDriverByName("GPKG").CreateDataSource(part)
+    options = ["FID=rcell_fid"] if any(column.title.lower() == "fid" for column in columns) else []
+    layer = None if source is None else source.CreateLayer(name, None, ogr.wkbNone, options)
     if layer is None:
-        return False
+        return ""
     for column in columns:
         layer.CreateField(ogr.FieldDefn(column.title, _TYPES[column.kind][1]))
-    put = {"whole": "SetFieldInteger64", "real": "SetField", "text": "SetField"}
-    for row in rows:
-        feature = ogr.Feature(layer.GetLayerDefn())
-        for place, (column, value) in enumerate(zip(columns, row)):
-            if value is None:
-                feature.SetFieldNull(place)
-            else:
-                getattr(feature, put[column.kind])(place, value)
-        if layer.CreateFeature(feature) != ogr.OGRERR_NONE:
-            return False
-    return bool(source.CommitTransaction() == ogr.OGRERR_NONE)
+    names = [layer.GetFIDColumn(), *(column.title for column in columns)]
+    return ", ".join(map(_quoted, names)) if _flushed(source) else ""
+
+
+def _quoted(name: str) -> str:
+    doubled = name.replace('"', '""')
+    return f'"{doubled}"'
 
 
 @contextlib.contextmanager
@@ -200,7 +212,7 @@ def _write(part: str, driver: str, cells: NDArray[np.int32], null: int, like: Ra
 
 def _write_tiff(part: str, cells: NDArray[np.int32], null: int, like: Raster, labels: Mapping[int, str]) -> bool:
     rows, cols = cells.shape
-    dataset = gdal.GetDriverByName("GTiff").Create(part, cols, rows, 1, gdal.GDT_Int32, _OPTIONS["GTiff"])
+    dataset = gdal.GetDriverByName("GTiff").Create(part, cols, rows, 1, gdal.GDT_Int32, _OPTIONS)
     if dataset is None:
         return False
     dataset.SetGeoTransform(like.geotransform)

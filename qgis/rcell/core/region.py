@@ -4,7 +4,7 @@ from __future__ import annotations
 
 from dataclasses import dataclass
 from fractions import Fraction
-from typing import Callable, Sequence
+from typing import Sequence
 
 from .errors import BadMap
 
@@ -27,6 +27,10 @@ def _edge_text(units: int) -> str:
     whole, part = divmod(abs(units), UNITS)
     sign = "-" if units < 0 else ""
     return f"{sign}{whole}.{part:0{DECIMALS}d}".rstrip("0").rstrip(".")
+
+
+def _size_text(size: int) -> str:
+    return str(size)
 
 
 @dataclass(frozen=True)
@@ -82,7 +86,7 @@ class Region:
         told = []
         for edge in ("north", "south", "east", "west", "rows", "cols"):
             mine, its = getattr(self, edge), getattr(other, edge)
-            text: Callable[[int], str] = str if edge in ("rows", "cols") else _edge_text
+            text = _size_text if edge in ("rows", "cols") else _edge_text
             if mine != its:
                 told.append(f"{edge} is {text(its)}, not {text(mine)} ({text(abs(its - mine))} {'more' if its > mine else 'less'})")
         return told
