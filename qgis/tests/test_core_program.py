@@ -12,6 +12,7 @@ import tempfile
 import threading
 import time
 import unittest
+from typing import Callable
 from unittest import mock
 
 import made
@@ -111,6 +112,12 @@ class ProgramTest(unittest.TestCase):
                 pass
         self.assertEqual(len(os.listdir("/proc/self/fd")), open_before)
 
+    def wait_for(self, done: Callable[[], bool], seconds: float) -> None:
+        """Waits until something is so, but not for ever."""
+        ends = time.monotonic() + seconds
+        while not done() and time.monotonic() < ends:
+            time.sleep(0.02)
+
     def test_the_program_ends_with_whoever_waits_for_it(self) -> None:
         with open(ANSWERING, "rb") as file:
             if file.read(2) == b"#!":
@@ -123,12 +130,10 @@ class ProgramTest(unittest.TestCase):
                 f"while True: answers.areas({copy!r}, Raster.open('lc', {path!r}), False)")
         for number in (signal.SIGTERM, signal.SIGKILL, signal.SIGINT):
             waiting = subprocess.Popen([sys.executable, "-c", code], stderr=subprocess.DEVNULL)
-            time.sleep(1.5)
+            self.wait_for(lambda: bool(running(copy)), 60)
             waiting.send_signal(number)
-            waiting.wait(10)
-            ends = time.monotonic() + 5
-            while running(copy) and time.monotonic() < ends:
-                time.sleep(0.05)
+            waiting.wait(60)
+            self.wait_for(lambda: not running(copy), 10)
             self.assertEqual(running(copy), [])
 
 
