@@ -13,7 +13,7 @@ from .core.rasters import Raster
 from .core.script import NAME
 
 # What the legends of this plugin add to a label.
-_COUNT = re.compile(r" \(\d+ cells(, [\d.]+ ha)?\)$")
+_COUNT = re.compile(r" \(\d+ cells(, [\d.e+]+ (ha|km2))?\)$")
 _LEAST, _GREATEST = float("-inf"), float("inf")
 
 

@@ -21,7 +21,7 @@ from qgis.core import (
 from qgis.PyQt.QtCore import QVariant
 from qgis.PyQt.QtGui import QColor
 
-from .core.answers import Grid, Table
+from .core.answers import UNITS, Grid, Table
 from .core.errors import WriteFailed
 from .core.files import partly, write_raster
 from .core.rasters import Raster
@@ -93,8 +93,9 @@ def _colour(place: int) -> QColor:
 
 
 def counted(label: str, cells: int, like: Raster) -> str:
-    """A label of a legend, with what it stands for."""
-    area = "" if like.is_geographic else f", {cells * like.cell_area / 1e4:.10g} ha"
+    """A label of a legend, with what it stands for: hectares, or square kilometres where a cell has one."""
+    unit = "km2" if like.cell_area >= UNITS["km2"] else "ha"
+    area = "" if like.is_geographic else f", {cells * like.cell_area / UNITS[unit]:.10g} {unit}"
     return f"{label} ({cells} cells{area})"
 
 
