@@ -42,5 +42,6 @@ try test_session.py
 try whole_answers.py
 try whole_process.py
 try whole_window.py
+try whole_document.py
 echo "$passed passed, $failed failed"
 [ "$failed" = 0 ]
