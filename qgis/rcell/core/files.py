@@ -19,6 +19,7 @@ from .rasters import BLOCK_CELLS, Raster, quiet
 
 # The first level of compression with differences of neighbours takes an eighth of the time of the sixth without, and as much room.
 _OPTIONS = ["COMPRESS=DEFLATE", "ZLEVEL=1", "PREDICTOR=2", "TILED=YES", "BIGTIFF=IF_SAFER"]
+_COPIED_BYTES = 1 << 22
 # What GDAL leaves beside a raster.
 _BESIDE = ".aux.xml"
 
@@ -194,25 +195,41 @@ def _rename(part: str, path: str, beside: str, beside_path: str) -> None:
 
 
 def _write(part: str, driver: str, cells: NDArray[np.int32], null: int, like: Raster, labels: Mapping[int, str]) -> bool:
-    """Whether all of it was written. Other formats than GeoTIFF are copies of one."""
-    if driver == "GTiff":
-        return _write_tiff(part, cells, null, like, labels)
-    between = part + ".tif"
+    """Whether all of it could be made. GDAL makes it in memory, since it does not tell of a full disk in each case; Python writes it."""
+    folder = f"/vsimem/rcell_{os.getpid()}_{id(cells)}"
+    tiff, copied = f"{folder}/map.tif", f"{folder}/copy{os.path.splitext(part)[1]}"
     try:
-        if not _write_tiff(between, cells, null, like, labels):
+        if not _write_tiff(tiff, cells, null, like, labels):
             return False
-        source = gdal.Open(between)
-        copy = gdal.GetDriverByName(driver).CreateCopy(part, source)
-        return copy is not None and _flushed(copy)
+        if driver == "GTiff":
+            copied = tiff
+        else:
+            copy = gdal.GetDriverByName(driver).CreateCopy(copied, gdal.Open(tiff))
+            if copy is None or not _flushed(copy):
+                return False
+            del copy
+        _copy_out(copied, part)
+        if gdal.VSIStatL(copied + _BESIDE) is not None:
+            _copy_out(copied + _BESIDE, part + _BESIDE)
+        return True
     finally:
-        for left in (between, between + _BESIDE):
-            with contextlib.suppress(OSError):
-                os.unlink(left)
+        gdal.RmdirRecursive(folder)
 
 
-def _write_tiff(part: str, cells: NDArray[np.int32], null: int, like: Raster, labels: Mapping[int, str]) -> bool:
+def _copy_out(source: str, target: str) -> None:
+    """Copies a file that GDAL has in memory to the disk."""
+    memory = gdal.VSIFOpenL(source, "rb")
+    try:
+        with open(target, "wb") as file:
+            while piece := gdal.VSIFReadL(1, _COPIED_BYTES, memory):
+                file.write(piece)
+    finally:
+        gdal.VSIFCloseL(memory)
+
+
+def _write_tiff(path: str, cells: NDArray[np.int32], null: int, like: Raster, labels: Mapping[int, str]) -> bool:
     rows, cols = cells.shape
-    dataset = gdal.GetDriverByName("GTiff").Create(part, cols, rows, 1, gdal.GDT_Int32, _OPTIONS)
+    dataset = gdal.GetDriverByName("GTiff").Create(path, cols, rows, 1, gdal.GDT_Int32, _OPTIONS)
     if dataset is None:
         return False
     dataset.SetGeoTransform(like.geotransform)
