@@ -14,7 +14,7 @@ from typing import Any
 
 from qgis.core import QgsApplication, QgsProcessingContext, QgsProcessingOutputLayerDefinition, QgsProject, QgsRasterLayer
 from qgis.PyQt.QtCore import QTimer
-from qgis.PyQt.QtWidgets import QApplication
+from qgis.PyQt.QtWidgets import QApplication, QTextEdit
 from qgis.utils import iface
 
 ZIP, ROOM, TOLD = (os.environ[name] for name in ("RCELL_QGIS_ZIP", "RCELL_QGIS_ROOM", "RCELL_QGIS_TOLD"))
@@ -65,6 +65,18 @@ def run_in_dialog() -> dict[str, Any]:
     return {"legend": legend}
 
 
+def marked_in_log() -> dict[str, Any]:
+    """A line of a script that is refused: what the log of the dialog shows."""
+    cover = QgsProject.instance().mapLayersByName("cover")[0]
+    dialog = dialog_of("rcell:script", {"INPUT": [cover.id()], "NAMES": "lc", "SCRIPT": "r.mapcalc x = lc + 1.5"})
+    dialog.runButton().click()
+    log = dialog.findChild(QTextEdit, "txtLog")
+    wait_for(lambda: "Execution failed" in log.toPlainText())
+    shown = log.toHtml()
+    dialog.close()
+    return {"log": log.toPlainText(), "has_letters_of_one_width": "Courier" in shown or "monospace" in shown}
+
+
 def refused_in_dialog() -> dict[str, Any]:
     """Two rasters that do not fit: the dialog stays open and says why."""
     shifted = QgsRasterLayer(os.path.join(ROOM, "shifted.tif"), "shifted")
@@ -104,7 +116,7 @@ def cancelled_in_dialog() -> dict[str, Any]:
 def main() -> None:
     told: dict[str, Any] = {}
     try:
-        for step in (installed, run_in_dialog, refused_in_dialog, cancelled_in_dialog):
+        for step in (installed, run_in_dialog, marked_in_log, refused_in_dialog, cancelled_in_dialog):
             told["step"] = step.__name__
             tell(told)
             told.update(step())

@@ -177,6 +177,7 @@ class MapsTest(InSession):
         titles, rows = session.rows(found["SIZES"])
         self.assertEqual((titles, rows[0]), (["area", "category", "label", "cells", "ha"], [1, 1, "wood, wet", 3, 0.12]))
         self.assertEqual((found["AREAS"], self.legend(found["OUTPUT"])[1]), (4, (2, "2: Wiese \u00fc (7 cells, 0.28 ha)")))
+        self.assertEqual(set(self.run_("areas", INPUT=self.cover, OUTPUT=self.path("alone.tif"))), {"AREAS", "OUTPUT"})
         dataset = gdal.Open(found["OUTPUT"])
         self.assertEqual((dataset.GetRasterBand(1).GetNoDataValue(), dataset.GetSpatialRef().GetAuthorityCode(None)), (0, "32632"))
         self.assertEqual(dataset.GetGeoTransform(), made.METRES)

@@ -50,6 +50,12 @@ class WindowTest(unittest.TestCase):
     def test_a_result_is_loaded_with_its_legend(self) -> None:
         self.assertEqual(self.told["legend"], ["green (2 cells, 0.08 ha)", "built up (3 cells, 0.12 ha)"])
 
+    def test_a_mark_stands_under_its_column(self) -> None:
+        log = self.told["log"].replace("\u2028", "\n").replace("\u00a0", " ")
+        self.assertIn("\n  r.mapcalc x = lc + 1.5\n                     ^", log)
+        self.assertIn("\nscript, line 1: number not whole at column 20\n", log)
+        self.assertTrue(self.told["has_letters_of_one_width"])
+
     def test_the_dialog_refuses(self) -> None:
         self.assertIn("shifted: not of the region of `cover`, and nothing is resampled: east is 500070, not 500060 (10 more)", self.told["refused"])
 

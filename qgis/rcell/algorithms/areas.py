@@ -47,7 +47,7 @@ class AreasAlgorithm(RcellAlgorithm):
         self.addParameter(QgsProcessingParameterNumber("LEAST", "Least number of cells", defaultValue=1, minValue=1))
         self.addParameter(QgsProcessingParameterString("CLASSES", "Classes, divided by commas (empty: all)", optional=True))
         self.addParameter(QgsProcessingParameterRasterDestination("OUTPUT", "Map of areas"))
-        self.addParameter(QgsProcessingParameterFeatureSink("SIZES", "Table of areas", QgsProcessing.TypeVector))
+        self.addParameter(QgsProcessingParameterFeatureSink("SIZES", "Table of areas", QgsProcessing.TypeVector, optional=True))
         self.addOutput(QgsProcessingOutputNumber("AREAS", "Number of areas"))
 
     def checkParameterValues(self, parameters: Parameters, context: QgsProcessingContext) -> tuple[bool, str]:
@@ -68,9 +68,10 @@ class AreasAlgorithm(RcellAlgorithm):
         found = answers.areas(program, raster, is_diagonal, least, classes, watch)
         watch.check()
         self.colours = {}
-        path = self.put_map(parameters, context, found.grid, _legend(found, raster), feedback)
-        sizes = self.put_table(parameters, context, "SIZES", found.table(raster))
-        return {"OUTPUT": path, "SIZES": sizes, "AREAS": len(found.numbers)}
+        results = {"AREAS": len(found.numbers), "OUTPUT": self.put_map(parameters, context, found.grid, _legend(found, raster), feedback)}
+        if parameters.get("SIZES"):
+            results["SIZES"] = self.put_table(parameters, context, "SIZES", found.table(raster))
+        return results
 
 
 def _classes(text: str) -> list[int] | None:

@@ -5,6 +5,7 @@ from __future__ import annotations
 import os
 from typing import Any, Mapping, Sequence
 
+import qgis.utils
 from processing.core.ProcessingConfig import ProcessingConfig
 from qgis.core import (
     QgsCoordinateReferenceSystem,
@@ -23,7 +24,7 @@ from qgis.core import (
 from qgis.PyQt.QtGui import QIcon
 
 from ..core.answers import Grid, Table
-from ..core.errors import RcellError, ReadFailed
+from ..core.errors import RcellError, ReadFailed, Refused
 from ..core.files import check_target, is_file_of_table, write_table
 from ..core.program import Watch, find_program
 from ..core.rasters import Raster, opened
@@ -34,6 +35,7 @@ UNITS = ("", "m2", "ha", "km2")
 UNIT_NAMES = ["none", "square metres (m2)", "hectares (ha)", "square kilometres (km2)"]
 # So many cells are looked at before a run: what is wrong among them is told in the dialog.
 _GLANCE_CELLS = 1 << 18
+_NO_BREAK = "\u00a0"
 _ICON = os.path.join(os.path.dirname(os.path.dirname(os.path.abspath(__file__))), "icon.svg")
 
 Parameters = Mapping[str, Any]
@@ -121,13 +123,13 @@ class RcellAlgorithm(QgsProcessingAlgorithm):
             is_cancelled=feedback.isCanceled,
             progress=lambda share: feedback.setProgress(100 * share),
             warn=feedback.pushWarning,
-            command=feedback.pushCommandInfo,
+            command=lambda text: feedback.pushCommandInfo(as_log(text)),
         )
         try:
             self.check_targets(parameters, context)
             return self.answer(find_program(program_setting()), parameters, context, feedback, watch)
         except RcellError as error:
-            raise QgsProcessingException(str(error)) from None
+            raise QgsProcessingException(told(error, feedback)) from None
 
     # What each algorithm says of itself
 
@@ -192,6 +194,24 @@ class RcellAlgorithm(QgsProcessingAlgorithm):
             raise QgsProcessingException(self.invalidSinkError(parameters, name))
         put_features(sink, table, target)
         return target
+
+
+def as_log(text: str) -> str:
+    """A text for the log: that of a window would drop blanks at the beginning of a line."""
+    if qgis.utils.iface is None:
+        return text
+    lines = (line.replace("\t", "    ") for line in text.split("\n"))
+    return "\n".join(_NO_BREAK * (len(line) - len(line.lstrip(" "))) + line.lstrip(" ") for line in lines)
+
+
+def told(error: RcellError, feedback: QgsProcessingFeedback) -> str:
+    """What is said of an error. Errors are shown in letters of several widths in a window: there a mark goes to the log before them."""
+    text = str(error)
+    if qgis.utils.iface is None or not isinstance(error, Refused) or error.content is None or error.column is None:
+        return as_log(text)
+    first, content, mark = text.rsplit("\n", 2)
+    feedback.pushConsoleInfo(as_log(f"{content}\n{mark}"))
+    return f"{first}\n{as_log(content)}"
 
 
 def program_setting() -> str:

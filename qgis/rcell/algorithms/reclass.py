@@ -21,7 +21,7 @@ class ReclassAlgorithm(RcellAlgorithm):
     TAGS = ("reclassify", "r.reclass", "rules", "recode", "group", "labels", "legend")
     HELP = (
         "<p>A rule is a line: classes, <code>=</code>, the new class, and its label where it has one.</p>"
-        "<pre>1 thru 3 = 1 forest\n4 7 9 = 2 open land\n12 = NULL\n* = 3 all else</pre>"
+        "<p><code>1 thru 3 = 1 forest<br>4 7 9 = 2 open land<br>12 = NULL<br>* = 3 all else</code></p>"
         "<p>Ranges have both their ends. A class that no rule names has no data in the result; <code>*</code> is all that is not "
         "named above, and <code>* = *</code> keeps it. Lines that begin with <code>#</code> are notes.</p>"
         "<p>The result has its labels as category names in the file and a legend that says how many cells and hectares each class "

@@ -45,7 +45,8 @@ class ScriptAlgorithm(RcellAlgorithm):
     HELP = (
         "<p>The script calls the rasters by the names that are given, in their order, or by the names of their layers with "
         "<code>_</code> for each letter that a name cannot have.</p>"
-        "<pre>r.mapcalc wet = if(cover == 4 &amp;&amp; slope &lt; 2, 1, null())\nr.clump -d input=wet output=ponds\nr.stats -c -n input=ponds,zone</pre>"
+        "<p><code>r.mapcalc wet = if(cover == 4 &amp;&amp; slope &lt; 2, 1, null())<br>r.clump -d input=wet output=ponds<br>"
+        "r.stats -c -n input=ponds,zone</code></p>"
         "<p>The map is the one that is named, or the only one that the script makes; the table is that of its only <code>r.stats</code>. "
         "The folder has all that the script writes: a table for each <code>r.stats</code>, called by its line, a GeoTIFF for each "
         "<code>r.out.ascii</code>.</p>"
