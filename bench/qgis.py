@@ -80,7 +80,7 @@ def maps(room: str, short: bool) -> list[Map]:
 COUNT = "counts of one map"
 ZONES = "class by zone, two maps"
 RULES = "a map by rules"
-AREAS = "connected areas, map and sizes"
+AREAS = "connected areas"
 MODE = "majority of 3 x 3"
 GRASS_TABLE = {"separator": "space", "null_value": "*", "nsteps": 255, "sort": 0, "-c": True, "-n": True, "-1": False}
 NATIVE_RULES = [0, 30, 1, 31, 60, 2, 61, 255, 3]
@@ -92,16 +92,17 @@ WAYS = [
     Way(COUNT, "grass7:r.stats", "grass7:r.stats", lambda it, to: {"input": [it.path], "html": f"{to}.html", **GRASS_TABLE}),
     Way(ZONES, "rcell:table", "rcell:table", lambda it, to: {"INPUT": [it.path, it.zones], "UNIT": 2, "OUTPUT": f"{to}.gpkg"}),
     Way(ZONES, "grass7:r.stats", "grass7:r.stats", lambda it, to: {"input": [it.path, it.zones], "html": f"{to}.html", **GRASS_TABLE}),
-    Way(ZONES, "native:rasterlayerzonalstats (sums, no table of classes)", "native:rasterlayerzonalstats",
+    Way(ZONES, "native:rasterlayerzonalstats, sums of codes", "native:rasterlayerzonalstats",
         lambda it, to: {"INPUT": it.path, "BAND": 1, "ZONES": it.zones, "ZONES_BAND": 1, "OUTPUT_TABLE": f"{to}.gpkg"}),
     Way(RULES, "native:reclassifybytable", "native:reclassifybytable",
         lambda it, to: {"INPUT_RASTER": it.path, "RASTER_BAND": 1, "TABLE": NATIVE_RULES, "RANGE_BOUNDARIES": 2, "NODATA_FOR_MISSING": True,
                         "OUTPUT": f"{to}.tif"}),
     Way(RULES, "rcell:reclass", "rcell:reclass",
         lambda it, to: {"INPUT": it.path, "RULES": "0 thru 30 = 1 low\n31 thru 60 = 2\n61 thru 255 = 3", "OUTPUT": f"{to}.tif"}),
-    Way(AREAS, "rcell:areas", "rcell:areas", lambda it, to: {"INPUT": it.path, "OUTPUT": f"{to}.tif", "SIZES": f"{to}.gpkg"}),
-    Way(AREAS, "grass7:r.clump (map alone)", "grass7:r.clump", lambda it, to: {"input": it.path, "title": "areas", "output": f"{to}.tif"}),
-    Way(AREAS, "gdal:polygonize (polygons)", "gdal:polygonize",
+    Way(AREAS, "rcell:areas, map and sizes", "rcell:areas", lambda it, to: {"INPUT": it.path, "OUTPUT": f"{to}.tif", "SIZES": f"{to}.gpkg"}),
+    Way(AREAS, "rcell:areas, map alone", "rcell:areas", lambda it, to: {"INPUT": it.path, "OUTPUT": f"{to}.tif"}),
+    Way(AREAS, "grass7:r.clump, map alone", "grass7:r.clump", lambda it, to: {"input": it.path, "title": "areas", "output": f"{to}.tif"}),
+    Way(AREAS, "gdal:polygonize, polygons", "gdal:polygonize",
         lambda it, to: {"INPUT": it.path, "BAND": 1, "FIELD": "class", "OUTPUT": f"{to}.gpkg"}, "patches"),
     Way(MODE, "rcell:mode", "rcell:mode", lambda it, to: {"INPUT": it.path, "SIZE": 0, "OUTPUT": f"{to}.tif"}),
     Way(MODE, "grass7:r.neighbors", "grass7:r.neighbors", lambda it, to: {"input": it.path, "method": 2, "size": 3, "output": f"{to}.tif"}),
