@@ -21,17 +21,11 @@ from qgis.core import (
     QgsLegendStyle,
     QgsMapLayerLegendUtils,
     QgsPrintLayout,
-    QgsProcessingModelAlgorithm,
-    QgsProcessingModelChildAlgorithm,
-    QgsProcessingModelChildParameterSource,
-    QgsProcessingModelOutput,
-    QgsProcessingModelParameter,
-    QgsProcessingParameterRasterLayer,
     QgsProject,
     QgsRasterLayer,
     QgsUnitTypes,
 )
-from qgis.PyQt.QtCore import QPointF, QTimer
+from qgis.PyQt.QtCore import QTimer
 from qgis.PyQt.QtGui import QFont
 from qgis.PyQt.QtWidgets import QApplication
 from qgis.utils import iface
@@ -114,50 +108,14 @@ def put(layout: QgsPrintLayout, item: Any, left: float, top: float, width: float
     item.attemptResize(QgsLayoutSize(width, height, QgsUnitTypes.LayoutMillimeters))
 
 
-def model_of_patches() -> QgsProcessingModelAlgorithm:
-    """A model that takes classes together, and lists the connected areas of what comes out."""
-    model = QgsProcessingModelAlgorithm("Areas of grouped classes", "rcell")
-    cover = QgsProcessingModelParameter("cover")
-    cover.setPosition(QPointF(120, 60))
-    model.addModelParameter(QgsProcessingParameterRasterLayer("cover", "Land cover"), cover)
-    source = QgsProcessingModelChildParameterSource
-    group = child("rcell:reclass", "group", "Reclassify by rules", QPointF(120, 190))
-    group.addParameterSources("INPUT", [source.fromModelParameter("cover")])
-    group.addParameterSources("RULES", [source.fromStaticValue("1 = 1 Indonesia\n2 thru 6 = 2 its neighbours")])
-    areas = child("rcell:areas", "areas", "Connected areas", QPointF(420, 190))
-    areas.addParameterSources("INPUT", [source.fromChildOutput("group", "OUTPUT")])
-    areas.addParameterSources("DIAGONAL", [source.fromStaticValue(True)])
-    areas.addParameterSources("LEAST", [source.fromStaticValue(100)])
-    areas.setModelOutputs({"Map of areas": output("areas", "OUTPUT", QPointF(700, 150)), "Table of areas": output("areas", "SIZES", QPointF(700, 230))})
-    model.addChildAlgorithm(group)
-    model.addChildAlgorithm(areas)
-    return model
-
-
-def child(algorithm: str, name: str, title: str, position: QPointF) -> QgsProcessingModelChildAlgorithm:
-    """An algorithm of a model."""
-    made = QgsProcessingModelChildAlgorithm(algorithm)
-    made.setChildId(name)
-    made.setDescription(title)
-    made.setPosition(position)
-    return made
-
-
-def output(name: str, title: str, position: QPointF) -> QgsProcessingModelOutput:
-    """A result of a model."""
-    made = QgsProcessingModelOutput(title, title)
-    made.setChildId(name)
-    made.setChildOutputName(title)
-    made.setPosition(position)
-    return made
-
-
 def draw_model(country: QgsRasterLayer) -> None:
     """The model in its designer, after a run of it."""
     import processing
     from processing.modeler.ModelerDialog import ModelerDialog
 
-    model = model_of_patches()
+    from tests.model import model_of_areas
+
+    model = model_of_areas()
     found = processing.run(model, {"cover": country, "areas:Map of areas": f"{ROOM}/model.tif", "areas:Table of areas": "TEMPORARY_OUTPUT"})
     if not os.path.isfile(f"{ROOM}/model.tif"):
         raise RuntimeError(f"the model made no map: {found}")

@@ -26,7 +26,8 @@ def raster_of(layer: QgsRasterLayer, name: str, band: int | None = None) -> Rast
         Where the layer is not a raster that GDAL opens, or is no map of categories.
     """
     if layer.providerType() != "gdal":
-        raise BadMap(name, f"its provider is {layer.providerType()}, and only rasters that GDAL opens are read: export it as a GeoTIFF first")
+        told = f"its provider is {layer.providerType()}, and only rasters that GDAL opens are read"
+        raise BadMap(name, f"{told}: export it as a GeoTIFF first")
     shown = band or 1
     return Raster.open(name, layer.source(), band, labels_of(layer, shown), null_ranges_of(layer, shown),
                        layer.dataProvider().useSourceNoDataValue(shown))

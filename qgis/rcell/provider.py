@@ -35,7 +35,8 @@ class RcellProvider(QgsProcessingProvider):
     def load(self) -> bool:
         """Adds the setting under Settings, Options, Processing, Providers."""
         ProcessingConfig.settingIcons["rcell"] = self.icon()
-        ProcessingConfig.addSetting(Setting("rcell", "RCELL_PROGRAM", "Program rcell (empty: the plugin's own)", "", valuetype=Setting.FILE))
+        title = "Program rcell (empty: the plugin's own)"
+        ProcessingConfig.addSetting(Setting("rcell", "RCELL_PROGRAM", title, "", valuetype=Setting.FILE))
         ProcessingConfig.readSettings()
         self.refreshAlgorithms()
         return True

@@ -58,7 +58,9 @@ def put_legend(path: str, classes: Sequence[tuple[int, str]], colours: Mapping[i
     # Its default style would have the statistics of the whole map reckoned, and left beside it.
     options = QgsRasterLayer.LayerOptions(loadDefaultStyle=False)
     layer = QgsRasterLayer(path, "legend", "gdal", options)
-    entries = [QgsPalettedRasterRenderer.Class(value, colours.get(value) or _colour(at), label) for at, (value, label) in enumerate(classes)]
+    entries = [
+        QgsPalettedRasterRenderer.Class(value, colours.get(value) or _colour(place), label) for place, (value, label) in enumerate(classes)
+    ]
     layer.setRenderer(QgsPalettedRasterRenderer(layer.dataProvider(), 1, entries))
     with partly(style) as part:
         if not layer.saveNamedStyle(part)[1]:
@@ -97,6 +99,12 @@ def counted(label: str, cells: int, like: Raster) -> str:
     unit = "km2" if like.cell_area >= UNITS["km2"] else "ha"
     area = "" if like.is_geographic else f", {cells * like.cell_area / UNITS[unit]:.10g} {unit}"
     return f"{label} ({cells} cells{area})"
+
+
+def counted_classes(grid: Grid, like: Raster) -> list[tuple[int, str]]:
+    """The classes of a map for its legend, each with what it stands for."""
+    counts = grid.counts().items()
+    return [(category, counted(grid.labels.get(category, str(category)), cells, like)) for category, cells in counts]
 
 
 # Tables

@@ -60,8 +60,8 @@ class Log(QgsProcessingFeedback):
         self.told.append(f"error: {text}")
 
 
-def run(algorithm: str, log: QgsProcessingFeedback | None = None, **parameters: Any) -> dict[str, Any]:
-    """Runs an algorithm, and answers its results."""
+def run(algorithm: Any, log: QgsProcessingFeedback | None = None, **parameters: Any) -> dict[str, Any]:
+    """Runs an algorithm, by its name or a model, and answers its results."""
     import processing
 
     found: dict[str, Any] = processing.run(algorithm, parameters, feedback=log or Log())

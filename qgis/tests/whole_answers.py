@@ -109,6 +109,17 @@ class AnswersTest(InSession):
                 theirs[theirs == dataset.GetRasterBand(1).GetNoDataValue()] = -(2**31)
                 self.assertTrue((mine == theirs).all())
 
+    def test_a_model_of_two_algorithms(self) -> None:
+        from model import LEAST, RULES, model_of_areas
+
+        path = self.maps()["country"]
+        names = {"areas:Map of areas": self.path("model.tif"), "areas:Table of areas": self.path("model.gpkg")}
+        session.run(model_of_areas(), cover=path, **names)
+        grouped = self.run_("reclass", INPUT=path, RULES=RULES, OUTPUT=self.path("r.tif"))["OUTPUT"]
+        found = self.run_("areas", INPUT=grouped, DIAGONAL=True, LEAST=LEAST, OUTPUT=self.path("a.tif"), SIZES="TEMPORARY_OUTPUT")
+        self.assertTrue((gdal.Open(found["OUTPUT"]).ReadAsArray() == gdal.Open(self.path("model.tif")).ReadAsArray()).all())
+        self.assertEqual([row[1:] for row in session.rows(self.path("model.gpkg"))[1]], session.rows(found["SIZES"])[1])
+
     def test_rules_of_native(self) -> None:
         path = self.maps()["noise"]
         table = [1, 3, 1, 4, 7, 2, 8, 12, 3]

@@ -148,8 +148,8 @@ class RcellAlgorithm(QgsProcessingAlgorithm):
     def add_raster(self) -> None:
         """The parameters of an algorithm over one raster."""
         self.addParameter(QgsProcessingParameterRasterLayer("INPUT", "Raster"))
-        band = QgsProcessingParameterBand("BAND", "Band (needed where the raster has several)", parentLayerParameterName="INPUT", optional=True)
-        self.addParameter(band)
+        title = "Band (needed where the raster has several)"
+        self.addParameter(QgsProcessingParameterBand("BAND", title, parentLayerParameterName="INPUT", optional=True))
 
     def has_rasters(self, parameters: Parameters) -> bool:
         """Whether anything is given, so that it can be looked at."""
@@ -189,7 +189,8 @@ class RcellAlgorithm(QgsProcessingAlgorithm):
             target: str = QgsProcessingParameters.parameterAsOutputLayer(self.parameterDefinition(name), parameters[name], context)
             write_table(target, table)
             return target
-        sink, target = self.parameterAsSink(parameters, name, context, fields_of(table), QgsWkbTypes.NoGeometry, QgsCoordinateReferenceSystem())
+        nowhere = QgsCoordinateReferenceSystem()
+        sink, target = self.parameterAsSink(parameters, name, context, fields_of(table), QgsWkbTypes.NoGeometry, nowhere)
         if sink is None:
             raise QgsProcessingException(self.invalidSinkError(parameters, name))
         put_features(sink, table, target)

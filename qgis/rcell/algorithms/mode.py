@@ -18,7 +18,7 @@ class ModeAlgorithm(RcellAlgorithm):
 
     NAME = "mode"
     TITLE = "Commonest class of a neighbourhood"
-    SHORT = "Gives each cell the commonest class of the square around it, which takes single cells and ragged edges out of a classification."
+    SHORT = "Gives each cell the commonest class of the square around it: single cells and ragged edges go out of a classification."
     TAGS = ("majority filter", "mode", "smooth", "focal", "r.neighbors", "modal", "neighbourhood", "sieve")
     HELP = (
         "<p>Cells without data, and what is off the map, do not count; a cell has no data only where the whole square has none. Where "

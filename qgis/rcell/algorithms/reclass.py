@@ -8,7 +8,7 @@ from qgis.core import QgsProcessingContext, QgsProcessingFeedback, QgsProcessing
 
 from ..core import answers
 from ..core.program import Watch
-from ..results import counted
+from ..results import counted_classes
 from .base import Parameters, RcellAlgorithm
 
 
@@ -17,7 +17,7 @@ class ReclassAlgorithm(RcellAlgorithm):
 
     NAME = "reclass"
     TITLE = "Reclassify by rules"
-    SHORT = "Gives the classes of a raster new numbers and labels by the rules of r.reclass, and the result a legend with cells and hectares."
+    SHORT = "Gives the classes of a raster new numbers and labels by the rules of r.reclass, and a legend with cells and areas."
     TAGS = ("reclassify", "r.reclass", "rules", "recode", "group", "labels", "legend")
     HELP = (
         "<p>A rule is a line: classes, <code>=</code>, the new class, and its label where it has one.</p>"
@@ -40,5 +40,5 @@ class ReclassAlgorithm(RcellAlgorithm):
         raster = self.rasters[0]
         made = answers.reclass(program, raster, self.parameterAsString(parameters, "RULES", context), watch)
         self.colours = {}
-        classes = [(category, counted(made.labels.get(category, str(category)), cells, raster)) for category, cells in made.counts().items()]
+        classes = counted_classes(made, raster)
         return {"OUTPUT": self.put_map(parameters, context, made, classes, feedback)}

@@ -19,14 +19,14 @@ from qgis.core import (
 )
 
 from ..core import answers
-from ..core.answers import Answers, Grid, Table
+from ..core.answers import Answers, Table
 from ..core.errors import RcellError, Refused, WriteFailed
 from ..core.files import write_raster, write_table
 from ..core.program import Watch
 from ..core.rasters import Raster, check_regions
 from ..core.script import statements_of
 from ..layers import names_of, raster_of
-from ..results import counted, put_legend
+from ..results import counted_classes, put_legend
 from .base import UNIT_NAMES, UNITS, Parameters, RcellAlgorithm
 from .table import raster_layers
 
@@ -39,7 +39,7 @@ class ScriptAlgorithm(RcellAlgorithm):
 
     NAME = "script"
     TITLE = "Script of map algebra"
-    SHORT = "Runs a script of r.mapcalc, r.reclass, r.clump, r.stats and r.out.ascii over rasters: one map of it, one table, or all outputs."
+    SHORT = "Runs a script of r.mapcalc, r.reclass, r.clump, r.stats and r.out.ascii over rasters: a map, a table, or all outputs."
     TAGS = ("map algebra", "raster calculator", "r.mapcalc", "r.reclass", "r.clump", "r.stats", "expression")
     IS_OF_ONE_RASTER = False
     HELP = (
@@ -62,8 +62,10 @@ class ScriptAlgorithm(RcellAlgorithm):
         self.addParameter(QgsProcessingParameterEnum("UNIT", "Areas of the table", UNIT_NAMES, defaultValue=0))
         self.addParameter(QgsProcessingParameterBoolean("PERCENT", "Percentages of the table", False))
         self.addParameter(QgsProcessingParameterRasterDestination("OUTPUT", "Map", optional=True, createByDefault=False))
-        self.addParameter(QgsProcessingParameterFeatureSink("TABLE", "Table", QgsProcessing.TypeVector, optional=True, createByDefault=False))
-        self.addParameter(QgsProcessingParameterFolderDestination("FOLDER", "Folder for all outputs", optional=True, createByDefault=False))
+        self.addParameter(
+            QgsProcessingParameterFeatureSink("TABLE", "Table", QgsProcessing.TypeVector, optional=True, createByDefault=False))
+        self.addParameter(
+            QgsProcessingParameterFolderDestination("FOLDER", "Folder for all outputs", optional=True, createByDefault=False))
 
     def checkParameterValues(self, parameters: Parameters, context: QgsProcessingContext) -> tuple[bool, str]:
         """Looks at what is wanted as well."""
@@ -92,7 +94,7 @@ class ScriptAlgorithm(RcellAlgorithm):
         results: dict[str, Any] = {}
         if wanted:
             made = found.grids[-1]
-            results["OUTPUT"] = self.put_map(parameters, context, made, _legend(made, self.rasters[0]), feedback)
+            results["OUTPUT"] = self.put_map(parameters, context, made, counted_classes(made, self.rasters[0]), feedback)
         if parameters.get("TABLE"):
             results["TABLE"] = self.put_table(parameters, context, "TABLE", found.tables[0])
         if parameters.get("FOLDER"):
@@ -148,12 +150,8 @@ class ScriptAlgorithm(RcellAlgorithm):
             else:
                 path = os.path.join(folder, f"{output.name}.tif")
                 write_raster(path, "GTiff", output.cells, output.null, self.rasters[0], output.labels)
-                put_legend(path, _legend(output, self.rasters[0]), {}, context)
+                put_legend(path, counted_classes(output, self.rasters[0]), {}, context)
         return folder
-
-
-def _legend(made: Grid, like: Raster) -> list[tuple[int, str]]:
-    return [(category, counted(made.labels.get(category, str(category)), cells, like)) for category, cells in made.counts().items()]
 
 
 def _shown(table: Table) -> str:
