@@ -134,6 +134,10 @@ class RefusalsTest(InSession):
         self.assertFalse(os.path.exists(self.path("t.gpkg")))
 
     def test_words(self) -> None:
+        self.refused("arguments: no raster is given", "table", INPUT=[], OUTPUT="TEMPORARY_OUTPUT")
+        self.refused("arguments: 17 rasters, and a table has at most 16", "table", INPUT=[self.cover] * 17, OUTPUT="TEMPORARY_OUTPUT")
+        self.refused("cover: has 1 band, and no band 5", "mode", INPUT=self.cover, BAND=5, SIZE=0, OUTPUT=self.path("m.tif"))
+        self.refused("no format has this ending", "mode", INPUT=self.cover, SIZE=0, OUTPUT=self.path("m.xyz9"))
         self.refused("arguments: classes are whole numbers, divided by commas, and not `1;2`", "areas", INPUT=self.cover, CLASSES="1;2",
                      OUTPUT=self.path("a.tif"), SIZES="TEMPORARY_OUTPUT")
         common = {"INPUT": [self.cover], "SCRIPT": "r.stats -c input=lc\nr.stats input=lc"}
@@ -225,6 +229,15 @@ class MapsTest(InSession):
                          ["big.qml", "big.tif", "table_2.csv", "table_2.csvt", "table_4.csv", "table_4.csvt"])
         self.assertEqual(gdal.Open(found["OUTPUT"]).ReadAsArray()[0].tolist(), [10**9, 10**9, 2 * 10**9, -(2**31), -(2**31)])
         self.assertTrue(any("r.stats in line 4:\nzone\n   7" in line for line in self.log.told), self.log.told)
+
+    def test_a_raster_may_be_written_over_itself(self) -> None:
+        self.run_("mode", INPUT=self.zones, SIZE=0, OUTPUT=self.zones)
+        found = gdal.Open(self.zones).ReadAsArray()
+        self.assertTrue((np.where(found == -(2**31), 0, found) == made.commonest(ZONES, 3)).all())
+
+    def test_other_tables_are_left_to_qgis(self) -> None:
+        for target in (self.path("t.ods"), f"ogr:dbname='{self.path('db.gpkg')}' table=\"t\""):
+            self.assertEqual(self.run_("table", INPUT=[self.cover], OUTPUT=target)["ROWS"], 3)
 
     def test_names_are_made_of_those_of_layers(self) -> None:
         layer = QgsRasterLayer(self.cover, "Gel\u00e4nde 2020 (neu)")

@@ -153,7 +153,7 @@ class RcellAlgorithm(QgsProcessingAlgorithm):
 
     def has_rasters(self, parameters: Parameters) -> bool:
         """Whether anything is given, so that it can be looked at."""
-        return bool(parameters.get("INPUT"))
+        return parameters.get("INPUT") is not None
 
     def raster_layer(self, parameters: Parameters, context: QgsProcessingContext) -> QgsRasterLayer:
         """The layer of `INPUT`."""

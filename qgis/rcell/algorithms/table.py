@@ -79,6 +79,8 @@ def raster_layers(algorithm: RcellAlgorithm, parameters: Parameters, context: Qg
         Where one cannot be read, or there are too many.
     """
     given = parameters["INPUT"] if isinstance(parameters["INPUT"], (list, tuple)) else [parameters["INPUT"]]
+    if not given:
+        raise Refused("no raster is given", status=2)
     layers = algorithm.parameterAsLayerList(parameters, "INPUT", context)
     if len(layers) < len(given):
         _raise_first_unreadable(algorithm, given, context, names)

@@ -129,7 +129,8 @@ class Raster:
             dataset = opened(name, path)
             layer = dataset.GetRasterBand(_only_band(name, dataset) if band is None else band)
             if layer is None:
-                raise BadMap(name, f"has {dataset.RasterCount} bands, and no band {band}")
+                count = dataset.RasterCount
+                raise BadMap(name, f"has {count} band{'' if count == 1 else 's'}, and no band {band}")
             _check_values(name, layer)
             geotransform, is_upside_down = _place(name, dataset)
             reference = dataset.GetSpatialRef()
