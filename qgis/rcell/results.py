@@ -23,7 +23,7 @@ from qgis.PyQt.QtGui import QColor
 
 from .core.answers import UNITS, Grid, Table
 from .core.errors import WriteFailed
-from .core.files import partly, write_raster
+from .core.files import Check, partly, write_raster
 from .core.rasters import Raster
 
 # A legend of more classes is none.
@@ -35,7 +35,7 @@ _GOLDEN = 0.618033988749895
 # Rasters
 
 
-def put_raster(path: str, grid: Grid, like: Raster) -> None:
+def put_raster(path: str, grid: Grid, like: Raster, check: Check) -> None:
     """Writes a map under a path, in the format of its ending.
 
     Raises
@@ -45,7 +45,7 @@ def put_raster(path: str, grid: Grid, like: Raster) -> None:
     driver = QgsRasterFileWriter.driverForExtension(os.path.splitext(path)[1])
     if not driver:
         raise WriteFailed(path, "no format has this ending")
-    write_raster(path, driver, grid.cells, grid.null, like, grid.labels)
+    write_raster(path, driver, grid.cells, grid.null, like, grid.labels, check)
 
 
 def put_legend(path: str, classes: Sequence[tuple[int, str]], colours: Mapping[int, Any], context: QgsProcessingContext) -> bool:

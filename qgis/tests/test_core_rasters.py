@@ -12,7 +12,7 @@ import made
 import numpy as np
 from osgeo import gdal
 from rcell.core import answers, files
-from rcell.core.errors import BadMap, OtherRegion, ReadFailed, Refused, WriteFailed
+from rcell.core.errors import BadMap, Cancelled, OtherRegion, ReadFailed, Refused, WriteFailed
 from rcell.core.program import find_program
 from rcell.core.rasters import Raster, check_regions
 
@@ -203,6 +203,23 @@ class WritingTest(InRoom):
         self.assertEqual((ran.stdout.splitlines(), ran.stderr), (["WriteFailed", "WriteFailed", "WriteFailed"], ""))
         for path in (raster, table, self.path("kept.csv")):
             with open(path, encoding="utf-8") as file:
+                self.assertEqual(file.read(), "stood there")
+        self.assertEqual(made.left_in(self.room), [])
+
+    def test_a_cancel_while_writing_leaves_what_stood_there(self) -> None:
+        def cancel() -> None:
+            raise Cancelled()
+
+        table = answers.table(self.program, [self.raster], True)
+        for name in ("c.tif", "c.gpkg", "c.csv"):
+            with open(self.path(name), "w", encoding="utf-8") as file:
+                file.write("stood there")
+            with self.assertRaises(Cancelled):
+                if name == "c.tif":
+                    files.write_raster(self.path(name), "GTiff", np.ones((3, 3), np.int32), 0, self.raster, {}, cancel)
+                else:
+                    files.write_table(self.path(name), table, cancel)
+            with open(self.path(name), encoding="utf-8") as file:
                 self.assertEqual(file.read(), "stood there")
         self.assertEqual(made.left_in(self.room), [])
 

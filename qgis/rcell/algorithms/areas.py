@@ -66,7 +66,6 @@ class AreasAlgorithm(RcellAlgorithm):
         least = self.parameterAsInt(parameters, "LEAST", context)
         classes = _classes(self.parameterAsString(parameters, "CLASSES", context))
         found = answers.areas(program, raster, is_diagonal, least, classes, watch)
-        watch.check()
         self.colours = {}
         results = {"AREAS": len(found.numbers), "OUTPUT": self.put_map(parameters, context, found.grid, _legend(found, raster), feedback)}
         if parameters.get("SIZES"):

@@ -55,6 +55,7 @@ class RcellAlgorithm(QgsProcessingAlgorithm):
         super().__init__()
         self.rasters: list[Raster] = []
         self.colours: dict[int, Any] = {}
+        self.watch = Watch()
 
     # What QGIS asks of each algorithm
 
@@ -119,7 +120,7 @@ class RcellAlgorithm(QgsProcessingAlgorithm):
 
     def processAlgorithm(self, parameters: Parameters, context: QgsProcessingContext, feedback: QgsProcessingFeedback) -> dict[str, Any]:
         """The run, in a thread of its own; what is refused is told in the words of the program."""
-        watch = Watch(
+        self.watch = Watch(
             is_cancelled=feedback.isCanceled,
             progress=lambda share: feedback.setProgress(100 * share),
             warn=feedback.pushWarning,
@@ -127,7 +128,7 @@ class RcellAlgorithm(QgsProcessingAlgorithm):
         )
         try:
             self.check_targets(parameters, context)
-            return self.answer(find_program(program_setting()), parameters, context, feedback, watch)
+            return self.answer(find_program(program_setting()), parameters, context, feedback, self.watch)
         except RcellError as error:
             raise QgsProcessingException(told(error, feedback)) from None
 
@@ -177,7 +178,7 @@ class RcellAlgorithm(QgsProcessingAlgorithm):
                 feedback: QgsProcessingFeedback) -> str:
         """Writes `OUTPUT` with its legend, and answers its path."""
         path: str = self.parameterAsOutputLayer(parameters, "OUTPUT", context)
-        put_raster(path, grid, self.rasters[0])
+        put_raster(path, grid, self.rasters[0], self.watch.check)
         if not put_legend(path, classes, self.colours, context):
             feedback.pushInfo(f"The map has {len(classes):,} classes: over {MOST_CLASSES:,} are no legend, and it is left grey.")
         return path
@@ -187,8 +188,9 @@ class RcellAlgorithm(QgsProcessingAlgorithm):
         path = plain_path(parameters.get(name))
         if path and is_file_of_table(path):
             target: str = QgsProcessingParameters.parameterAsOutputLayer(self.parameterDefinition(name), parameters[name], context)
-            write_table(target, table)
+            write_table(target, table, self.watch.check)
             return target
+        self.watch.check()
         nowhere = QgsCoordinateReferenceSystem()
         sink, target = self.parameterAsSink(parameters, name, context, fields_of(table), QgsWkbTypes.NoGeometry, nowhere)
         if sink is None:

@@ -146,10 +146,10 @@ class ScriptAlgorithm(RcellAlgorithm):
             raise WriteFailed(folder, error.strerror or str(error)) from None
         for output in found.outputs[: len(found.outputs) - bool(wanted)]:
             if isinstance(output, Table):
-                write_table(os.path.join(folder, f"table_{output.line}.csv"), output)
+                write_table(os.path.join(folder, f"table_{output.line}.csv"), output, self.watch.check)
             else:
                 path = os.path.join(folder, f"{output.name}.tif")
-                write_raster(path, "GTiff", output.cells, output.null, self.rasters[0], output.labels)
+                write_raster(path, "GTiff", output.cells, output.null, self.rasters[0], output.labels, self.watch.check)
                 put_legend(path, counted_classes(output, self.rasters[0]), {}, context)
         return folder
 

@@ -6,22 +6,30 @@ import contextlib
 import csv
 import os
 import sqlite3
-from typing import Any, Iterator, Mapping
+from typing import Any, Callable, Iterable, Iterator, Mapping
 
 import numpy as np
 from numpy.typing import NDArray
 from osgeo import gdal, ogr
 
 from .answers import Column, Table
-from .errors import WriteFailed
+from .errors import RcellError, WriteFailed
 from .labels import put_labels
 from .rasters import BLOCK_CELLS, Raster, quiet
 
 # The first level of compression with differences of neighbours takes an eighth of the time of the sixth without, and as much room.
 _OPTIONS = ["COMPRESS=DEFLATE", "ZLEVEL=1", "PREDICTOR=2", "TILED=YES", "BIGTIFF=IF_SAFER"]
 _COPIED_BYTES = 1 << 22
+_CHECKED_ROWS = 1 << 14
 # What GDAL leaves beside a raster.
 _BESIDE = ".aux.xml"
+
+
+Check = Callable[[], None]
+
+
+def _no_check() -> None:
+    pass
 
 
 def check_target(path: str) -> None:
@@ -41,7 +49,8 @@ def check_target(path: str) -> None:
         raise WriteFailed(path, f"the folder {folder} may not be written to")
 
 
-def write_raster(path: str, driver: str, cells: NDArray[np.int32], null: int, like: Raster, labels: Mapping[int, str]) -> None:
+def write_raster(path: str, driver: str, cells: NDArray[np.int32], null: int, like: Raster, labels: Mapping[int, str],
+                 check: Check = _no_check) -> None:
     """Writes a map as a raster of whole numbers of 32 bits.
 
     Parameters
@@ -55,6 +64,8 @@ def write_raster(path: str, driver: str, cells: NDArray[np.int32], null: int, li
     like : Raster
         Whose place and reference system the raster gets.
     labels : mapping of int to str
+    check : callable
+        Called now and then; what it raises ends the writing.
 
     Raises
     ------
@@ -64,7 +75,7 @@ def write_raster(path: str, driver: str, cells: NDArray[np.int32], null: int, li
     with partly(path, _BESIDE) as part, quiet():
         gdal.ErrorReset()
         try:
-            made = _write(part, driver, cells, null, like, labels)
+            made = _write(part, driver, lambda to: _write_tiff(to, cells, null, like, labels, check))
         except (RuntimeError, OSError) as error:
             raise WriteFailed(path, str(error)) from None
         if not made:
@@ -81,8 +92,10 @@ def is_file_of_table(path: str) -> bool:
     return os.path.splitext(path)[1].lower() in (".csv", ".gpkg")
 
 
-def write_table(path: str, table: Table) -> None:
+def write_table(path: str, table: Table, check: Check = _no_check) -> None:
     """Writes a table as comma-separated values or as a GeoPackage, by the ending of the path.
+
+    Now and then `check` is called; what it raises ends the writing.
 
     Raises
     ------
@@ -94,26 +107,34 @@ def write_table(path: str, table: Table) -> None:
     try:
         with partly(path, ".csvt" if is_csv else "", stem) as part:
             if is_csv:
-                _write_csv(part, table.columns())
+                _write_csv(part, table.columns(), check)
             else:
-                _write_geopackage(part, os.path.basename(stem), table.columns())
-    except WriteFailed:
+                _write_geopackage(part, os.path.basename(stem), table.columns(), check)
+    except RcellError:
         raise
     except (OSError, RuntimeError) as error:
         raise WriteFailed(path, getattr(error, "strerror", None) or str(error)) from None
 
 
-def _write_csv(part: str, columns: list[Column]) -> None:
+def _checked(rows: Iterable[Any], check: Check) -> Iterator[Any]:
+    """The same rows, with a check before each some thousand."""
+    for number, row in enumerate(rows):
+        if number % _CHECKED_ROWS == 0:
+            check()
+        yield row
+
+
+def _write_csv(part: str, columns: list[Column], check: Check) -> None:
     """With the types of the columns beside it, without which QGIS reads numbers as text."""
     with open(part, "w", encoding="utf-8", newline="") as file:
         writer = csv.writer(file, lineterminator="\n")
         writer.writerow(column.title for column in columns)
-        writer.writerows(zip(*(column.values for column in columns)))
+        writer.writerows(_checked(zip(*(column.values for column in columns)), check))
     with open(part + ".csvt", "w", encoding="utf-8") as file:
         file.write(",".join(f'"{_TYPES[column.kind][0]}"' for column in columns) + "\n")
 
 
-def _write_geopackage(part: str, name: str, columns: list[Column]) -> None:
+def _write_geopackage(part: str, name: str, columns: list[Column], check: Check) -> None:
     """GDAL makes the table, and its rows are put in by SQLite, which takes them ten times as fast as GDAL's Python does."""
     count = len(columns[0].values)
     with quiet():
@@ -127,7 +148,7 @@ def _write_geopackage(part: str, name: str, columns: list[Column]) -> None:
                 for trigger, _ in triggers:
                     connection.execute(f"DROP TRIGGER {_quoted(trigger)}")
                 places = ",".join("?" * (1 + len(columns)))
-                rows = zip(range(1, count + 1), *(column.values for column in columns))
+                rows = _checked(zip(range(1, count + 1), *(column.values for column in columns)), check)
                 connection.executemany(f"INSERT INTO {_quoted(name)} ({identifier}) VALUES ({places})", rows)
                 # What the triggers would have counted row by row.
                 connection.execute("UPDATE gpkg_ogr_contents SET feature_count = ? WHERE table_name = ?", [count, name])
@@ -194,12 +215,12 @@ def _rename(part: str, path: str, beside: str, beside_path: str) -> None:
         raise WriteFailed(path, error.strerror or str(error)) from None
 
 
-def _write(part: str, driver: str, cells: NDArray[np.int32], null: int, like: Raster, labels: Mapping[int, str]) -> bool:
+def _write(part: str, driver: str, write_tiff: Callable[[str], bool]) -> bool:
     """Whether all of it could be made. GDAL makes it in memory, since it does not tell of a full disk in each case; Python writes it."""
-    folder = f"/vsimem/rcell_{os.getpid()}_{id(cells)}"
+    folder = f"/vsimem/rcell_{os.getpid()}_{id(write_tiff)}"
     tiff, copied = f"{folder}/map.tif", f"{folder}/copy{os.path.splitext(part)[1]}"
     try:
-        if not _write_tiff(tiff, cells, null, like, labels):
+        if not write_tiff(tiff):
             return False
         if driver == "GTiff":
             copied = tiff
@@ -227,7 +248,7 @@ def _copy_out(source: str, target: str) -> None:
         gdal.VSIFCloseL(memory)
 
 
-def _write_tiff(path: str, cells: NDArray[np.int32], null: int, like: Raster, labels: Mapping[int, str]) -> bool:
+def _write_tiff(path: str, cells: NDArray[np.int32], null: int, like: Raster, labels: Mapping[int, str], check: Check) -> bool:
     rows, cols = cells.shape
     dataset = gdal.GetDriverByName("GTiff").Create(path, cols, rows, 1, gdal.GDT_Int32, _OPTIONS)
     if dataset is None:
@@ -240,6 +261,7 @@ def _write_tiff(path: str, cells: NDArray[np.int32], null: int, like: Raster, la
     put_labels(band, labels)
     step = max(1, BLOCK_CELLS // cols)
     for row in range(0, rows, step):
+        check()
         if band.WriteArray(cells[row : row + step], 0, row) not in (None, gdal.CE_None):
             return False
     del band
