@@ -17,7 +17,7 @@ from cases import Case, cases
 
 HERE = pathlib.Path(__file__).resolve().parent
 REPOSITORY = HERE.parent
-FRONTS = ("python", "r")
+FRONTS = ("python", "r", "qgis")
 
 
 def environment() -> dict[str, str]:
@@ -40,13 +40,23 @@ def missing_of_r() -> str:
     return f"packages of R are not installed: {missing}" if missing else ""
 
 
-def command(front: str) -> list[str]:
-    return [sys.executable, str(HERE / "front_python.py")] if front == "python" else ["Rscript", str(HERE / "front_r.R"), str(HERE)]
+def missing_of_qgis() -> str:
+    test = "import osgeo.gdal, numpy, qgis.core, sys; sys.path.append('/usr/share/qgis/python/plugins'); import processing"
+    ran = subprocess.run([sys.executable, "-c", test], capture_output=True, env={**os.environ, "QT_QPA_PLATFORM": "offscreen"})
+    return "QGIS is not installed (python3-qgis)" if ran.returncode else ""
+
+
+MISSING = {"python": missing_of_python, "r": missing_of_r, "qgis": missing_of_qgis}
+COMMANDS = {
+    "python": [sys.executable, str(HERE / "front_python.py")],
+    "r": ["Rscript", str(HERE / "front_r.R"), str(HERE)],
+    "qgis": [sys.executable, str(HERE / "front_qgis.py")],
+}
 
 
 def found_by(front: str) -> tuple[dict[str, list[str]], str]:
     """What a front answers for each case, and what it said besides."""
-    ran = subprocess.run(command(front), env=environment(), capture_output=True, encoding="utf-8", errors="replace")
+    ran = subprocess.run(COMMANDS[front], env=environment(), capture_output=True, encoding="utf-8", errors="replace")
     found: dict[str, list[str]] = {}
     name = ""
     for line in ran.stdout.splitlines():
@@ -70,7 +80,7 @@ def is_right(case: Case, lines: list[str]) -> bool:
 
 def run(front: str) -> tuple[int, int]:
     """How many cases passed on a front, and how many failed."""
-    missing = missing_of_python() if front == "python" else missing_of_r()
+    missing = MISSING[front]()
     if missing:
         print(f"fronts: {front} is left out: {missing}")
         return 0, 0

@@ -1,0 +1,12 @@
+"""rcell for QGIS: algorithms of the toolbox over the proved program."""
+
+from __future__ import annotations
+
+from typing import Any
+
+
+def classFactory(iface: Any) -> Any:
+    """What QGIS calls to have the plugin."""
+    from .plugin import RcellPlugin
+
+    return RcellPlugin()

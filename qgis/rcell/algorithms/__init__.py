@@ -1,0 +1,11 @@
+"""The algorithms of the toolbox."""
+
+from __future__ import annotations
+
+from .areas import AreasAlgorithm
+from .mode import ModeAlgorithm
+from .reclass import ReclassAlgorithm
+from .script import ScriptAlgorithm
+from .table import TableAlgorithm
+
+ALGORITHMS = (TableAlgorithm, AreasAlgorithm, ReclassAlgorithm, ModeAlgorithm, ScriptAlgorithm)

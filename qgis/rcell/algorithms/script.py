@@ -1,0 +1,166 @@
+"""rcell:script, a script of the program over rasters."""
+
+from __future__ import annotations
+
+import os
+from typing import Any
+
+from qgis.core import (
+    QgsProcessing,
+    QgsProcessingContext,
+    QgsProcessingFeedback,
+    QgsProcessingParameterBoolean,
+    QgsProcessingParameterEnum,
+    QgsProcessingParameterFeatureSink,
+    QgsProcessingParameterFolderDestination,
+    QgsProcessingParameterMultipleLayers,
+    QgsProcessingParameterRasterDestination,
+    QgsProcessingParameterString,
+)
+
+from ..core import answers
+from ..core.answers import Answers, Table
+from ..core.errors import RcellError, Refused, WriteFailed
+from ..core.files import write_raster, write_table
+from ..core.program import Watch
+from ..core.rasters import Raster, check_regions
+from ..core.script import statements_of
+from ..layers import names_of, raster_of
+from ..results import counted_classes, put_legend
+from .base import UNIT_NAMES, UNITS, Parameters, RcellAlgorithm
+from .table import raster_layers
+
+# Rows of a table that the log shows.
+_SHOWN_ROWS = 20
+
+
+class ScriptAlgorithm(RcellAlgorithm):
+    """Runs a script of map algebra over some rasters."""
+
+    NAME = "script"
+    TITLE = "Script of map algebra"
+    SHORT = "Runs a script of r.mapcalc, r.reclass, r.clump, r.stats and r.out.ascii over rasters: a map, a table, or all outputs."
+    TAGS = ("map algebra", "raster calculator", "r.mapcalc", "r.reclass", "r.clump", "r.stats", "expression")
+    IS_OF_ONE_RASTER = False
+    HELP = (
+        "<p>The script calls the rasters by the names that are given, in their order, or by the names of their layers with "
+        "<code>_</code> for each letter that a name cannot have.</p>"
+        "<p><code>r.mapcalc wet = if(cover == 4 &amp;&amp; slope &lt; 2, 1, null())<br>r.clump -d input=wet output=ponds<br>"
+        "r.stats -c -n input=ponds,zone</code></p>"
+        "<p>The map is the one that is named, or the only one that the script makes; the table is that of its only <code>r.stats</code>. "
+        "The folder has all that the script writes: a table for each <code>r.stats</code>, called by its line, a GeoTIFF for each "
+        "<code>r.out.ascii</code>.</p>"
+        "<p>Where a line is refused the log shows it with a mark under the place. Numbers are whole and never wrap or round.</p>"
+    )
+
+    def initAlgorithm(self, configuration: Any = None) -> None:
+        """Declares the parameters."""
+        self.addParameter(QgsProcessingParameterMultipleLayers("INPUT", "Rasters, 1 to 16", QgsProcessing.TypeRaster))
+        self.addParameter(QgsProcessingParameterString("NAMES", "Their names in the script, divided by commas", optional=True))
+        self.addParameter(QgsProcessingParameterString("SCRIPT", "Script", multiLine=True))
+        self.addParameter(QgsProcessingParameterString("MAP", "Map that is wanted (empty: the only one that is made)", optional=True))
+        self.addParameter(QgsProcessingParameterEnum("UNIT", "Areas of the table", UNIT_NAMES, defaultValue=0))
+        self.addParameter(QgsProcessingParameterBoolean("PERCENT", "Percentages of the table", False))
+        self.addParameter(QgsProcessingParameterRasterDestination("OUTPUT", "Map", optional=True, createByDefault=False))
+        self.addParameter(
+            QgsProcessingParameterFeatureSink("TABLE", "Table", QgsProcessing.TypeVector, optional=True, createByDefault=False))
+        self.addParameter(
+            QgsProcessingParameterFolderDestination("FOLDER", "Folder for all outputs", optional=True, createByDefault=False))
+
+    def checkParameterValues(self, parameters: Parameters, context: QgsProcessingContext) -> tuple[bool, str]:
+        """Looks at what is wanted as well."""
+        try:
+            self._wanted(parameters, context)
+            self._check_table(parameters, context)
+        except RcellError as error:
+            return False, str(error)
+        return super().checkParameterValues(parameters, context)
+
+    def checked_rasters(self, parameters: Parameters, context: QgsProcessingContext) -> list[Raster]:
+        """The rasters under the names of the script."""
+        given = self.parameterAsString(parameters, "NAMES", context)
+        layers = raster_layers(self, parameters, context, [name.strip() for name in given.split(",")])
+        rasters = [raster_of(layer, name) for name, layer in zip(names_of(layers, given), layers)]
+        check_regions(rasters)
+        return rasters
+
+    def answer(self, program: str, parameters: Parameters, context: QgsProcessingContext, feedback: QgsProcessingFeedback,
+               watch: Watch) -> dict[str, Any]:
+        """What is wanted of the script."""
+        script, wanted = self._script(parameters, context), self._wanted(parameters, context)
+        maps = {raster.name: raster for raster in self.rasters}
+        found = answers.run(program, script, maps, [wanted] if wanted else [], watch)
+        self._measure(found, parameters, context)
+        results: dict[str, Any] = {}
+        if wanted:
+            made = found.grids[-1]
+            results["OUTPUT"] = self.put_map(parameters, context, made, counted_classes(made, self.rasters[0]), feedback)
+        if parameters.get("TABLE"):
+            results["TABLE"] = self.put_table(parameters, context, "TABLE", found.tables[0])
+        if parameters.get("FOLDER"):
+            results["FOLDER"] = self._put_all(self.parameterAsString(parameters, "FOLDER", context), found, wanted, context)
+        for table in found.tables:
+            feedback.pushInfo(_shown(table))
+        return results
+
+    def _script(self, parameters: Parameters, context: QgsProcessingContext) -> str:
+        script: str = self.parameterAsString(parameters, "SCRIPT", context)
+        return script.rstrip("\n")
+
+    def _wanted(self, parameters: Parameters, context: QgsProcessingContext) -> str:
+        """The map that is wanted; empty where none is."""
+        name: str = self.parameterAsString(parameters, "MAP", context).strip()
+        if not parameters.get("OUTPUT"):
+            if name:
+                raise Refused(f"the map {name} is wanted, and no place for it is given", status=2)
+            return ""
+        statements = statements_of(self._script(parameters, context))
+        made = [statement.output for statement in statements if statement.output is not None]
+        if not name and len(made) != 1:
+            told = f"makes {', '.join(made)}" if made else "makes none"
+            raise Refused(f"the script {told}: name the map that is wanted", status=2)
+        return name or made[0]
+
+    def _check_table(self, parameters: Parameters, context: QgsProcessingContext) -> None:
+        """A table that is wanted is the only one."""
+        statements = statements_of(self._script(parameters, context))
+        tables = [statement for statement in statements if statement.command == "r.stats"]
+        if parameters.get("TABLE") and len(tables) != 1:
+            told = ", ".join(f"{statement.command} in line {statement.line}" for statement in tables) or "no r.stats"
+            raise Refused(f"one table is asked for, and the script has {told}: a folder has all outputs", "script")
+
+    def _measure(self, found: Answers, parameters: Parameters, context: QgsProcessingContext) -> None:
+        """Puts areas and percentages into the tables, where they are asked for."""
+        unit = UNITS[self.parameterAsEnum(parameters, "UNIT", context)]
+        percent = self.parameterAsBoolean(parameters, "PERCENT", context)
+        if unit or percent:
+            measured = {id(table): table.measured(unit, percent, self.rasters[0]) for table in found.tables}
+            found.tables = [measured[id(table)] for table in found.tables]
+            found.outputs = [measured.get(id(output), output) for output in found.outputs]
+
+    def _put_all(self, folder: str, found: Answers, wanted: str, context: QgsProcessingContext) -> str:
+        """A file for each output of the script."""
+        try:
+            os.makedirs(folder, exist_ok=True)
+        except OSError as error:
+            raise WriteFailed(folder, error.strerror or str(error)) from None
+        for output in found.outputs[: len(found.outputs) - bool(wanted)]:
+            if isinstance(output, Table):
+                write_table(os.path.join(folder, f"table_{output.line}.csv"), output, self.watch.check)
+            else:
+                path = os.path.join(folder, f"{output.name}.tif")
+                write_raster(path, "GTiff", output.cells, output.null, self.rasters[0], output.labels, self.watch.check)
+                put_legend(path, counted_classes(output, self.rasters[0]), {}, context)
+        return folder
+
+
+def _shown(table: Table) -> str:
+    """The first rows of a table, for the log."""
+    columns = table.columns()
+    rows = [["" if value is None else f"{value:.10g}" if isinstance(value, float) else str(value) for value in row]
+            for row in list(zip(*(column.values for column in columns)))[:_SHOWN_ROWS]]
+    lines = [[column.title for column in columns], *rows]
+    widths = [max(len(line[place]) for line in lines) for place in range(len(columns))]
+    text = "\n".join("  ".join(value.rjust(width) for value, width in zip(line, widths)) for line in lines)
+    rest = len(table.categories) - len(rows)
+    return f"r.stats in line {table.line}:\n{text}" + (f"\n({rest:,} more rows)" if rest > 0 else "")

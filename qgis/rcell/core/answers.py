@@ -1,0 +1,333 @@
+"""What the algorithms answer: tables, maps, areas."""
+
+from __future__ import annotations
+
+from dataclasses import dataclass, field, replace
+from typing import Any, Iterable, Mapping, Sequence, Union
+
+import numpy as np
+from numpy.typing import NDArray
+
+from .cells import NULL
+from .errors import Refused
+from .program import Output, Watch, execute
+from .rasters import Raster, check_regions
+from .script import labels_in, labels_of_rules, statements_of
+
+UNITS = {"m2": 1.0, "ha": 1e4, "km2": 1e6}
+# Of categories that lie within so many each is counted at its place, in place of being sorted.
+_FEW_CATEGORIES = 1 << 20
+Value = Union[int, float, str, None]
+
+
+@dataclass(frozen=True)
+class Column:
+    """A column of a table: its title, `whole`, `real` or `text`, and its values, None for null."""
+
+    title: str
+    kind: str
+    values: Sequence[Value]
+
+
+@dataclass(frozen=True)
+class Table:
+    """What an r.stats wrote.
+
+    Attributes
+    ----------
+    titles : tuple of str
+        The names of its maps.
+    categories : array of int64, entries x maps
+    cells : array of int64 or None
+        None where the script did not ask for it (`-c`).
+    labels : tuple of mapping or None
+        For each map its labels, None where it has no column of them.
+    line : int
+    unit : str
+        The unit of areas, empty where there are none.
+    cell_area : float
+        In square metres.
+    has_percent : bool
+    label_title : str
+    """
+
+    titles: tuple[str, ...]
+    categories: NDArray[np.int64]
+    cells: NDArray[np.int64] | None
+    labels: tuple[Mapping[int, str] | None, ...]
+    line: int = 0
+    unit: str = ""
+    cell_area: float = 1.0
+    has_percent: bool = False
+    label_title: str = "{}_label"
+
+    def columns(self) -> list[Column]:
+        """Each map, its labels, `cells`, areas, `percent`; a title that occurs already has `_2` after it, whatever its case."""
+        found: list[Column] = []
+        for place, title in enumerate(self.titles):
+            codes = self.categories[:, place].tolist()
+            found.append(Column(title, "whole", [None if code == NULL else code for code in codes]))
+            labels = self.labels[place]
+            if labels is not None:
+                found.append(Column(self.label_title.format(title), "text", [labels.get(code) for code in codes]))
+        if self.cells is not None:
+            found.append(Column("cells", "whole", self.cells.tolist()))
+            if self.unit:
+                found.append(Column(self.unit, "real", (self.cells * (self.cell_area / UNITS[self.unit])).tolist()))
+            if self.has_percent:
+                found.append(Column("percent", "real", (self.cells * 100.0 / max(int(self.cells.sum()), 1)).tolist()))
+        titles = unique([column.title for column in found])
+        return [replace(column, title=title) for column, title in zip(found, titles)]
+
+    def measured(self, unit: str, percent: bool, first: Raster) -> Table:
+        """The table with areas in a unit, where one is named, and with percentages.
+
+        Raises
+        ------
+        Refused
+            Where the table has no cells, or the map is in degrees.
+        """
+        for is_asked, asked in ((unit, "area="), (percent, "percent=")):
+            if is_asked and self.cells is None:
+                raise Refused(f"{asked} needs a table with cells: r.stats -c", "script", self.line)
+        if unit:
+            check_area(first)
+        return replace(self, unit=unit, cell_area=first.cell_area, has_percent=percent)
+
+
+@dataclass(frozen=True)
+class Grid:
+    """A map that was made.
+
+    Attributes
+    ----------
+    name : str
+    cells : array of int32, rows x cols
+    null : int
+        The value of cells that is null.
+    labels : mapping of int to str
+    """
+
+    name: str
+    cells: NDArray[np.int32]
+    null: int = NULL
+    labels: Mapping[int, str] = field(default_factory=dict)
+
+    def counts(self) -> dict[int, int]:
+        """How many cells each category has, null aside."""
+        kept = self.cells[self.cells != self.null]
+        if not kept.size:
+            return {}
+        least = int(kept.min())
+        if int(kept.max()) - least < _FEW_CATEGORIES:
+            counted = np.bincount(kept - np.int32(least))
+            return {least + place: int(counted[place]) for place in np.flatnonzero(counted).tolist()}
+        categories, counts = np.unique(kept, return_counts=True)
+        return dict(zip(categories.tolist(), counts.tolist()))
+
+
+def unique(titles: Sequence[str]) -> list[str]:
+    """The titles, each once, whatever the case of their letters."""
+    taken: set[str] = set()
+    found = []
+    for title in titles:
+        number, new = 2, title
+        while new.casefold() in taken:
+            number, new = number + 1, f"{title}_{number}"
+        taken.add(new.casefold())
+        found.append(new)
+    return found
+
+
+def check_area(first: Raster) -> None:
+    """That a cell has an area.
+
+    Raises
+    ------
+    Refused
+        Where the map is in degrees.
+    """
+    if first.is_geographic:
+        raise Refused("area= needs a map in metres or feet: in degrees the area of a cell differs from row to row")
+
+
+# Scripts
+
+
+@dataclass
+class Answers:
+    """The outputs of a script: tables and maps in their order, then the maps that were wanted besides."""
+
+    tables: list[Table]
+    grids: list[Grid]
+    outputs: list[Table | Grid]
+
+
+def run(program: str, script: str, maps: Mapping[str, Raster], wanted: Sequence[str] = (), watch: Watch | None = None) -> Answers:
+    """Runs a script over maps of one region.
+
+    Parameters
+    ----------
+    program : str
+    script : str
+    maps : mapping of str to Raster
+        By the names that the script has for them.
+    wanted : sequence of str
+        Maps that are answered after the outputs of the script.
+    watch : Watch, optional
+
+    Raises
+    ------
+    Refused, BadMap, OtherRegion, RcellError
+    """
+    if not maps:
+        raise Refused("no map is given", status=2)
+    check_regions(list(maps.values()))
+    known = [*maps, *(statement.output for statement in statements_of(script) if statement.output is not None)]
+    for name in wanted:
+        if name not in known:
+            raise Refused(f"no map {name}: there are {', '.join(known)}", status=2)
+    labels: dict[str, Mapping[int, str]] = {**labels_in(script)}
+    labels.update({name: raster.labels for name, raster in maps.items()})
+    outputs = [_answer(output, labels, maps) for output in execute(program, script, maps, wanted, watch)]
+    tables = [output for output in outputs if isinstance(output, Table)]
+    return Answers(tables, [output for output in outputs if isinstance(output, Grid)], outputs)
+
+
+def _answer(output: Output, labels: Mapping[str, Mapping[int, str]], maps: Mapping[str, Raster]) -> Table | Grid:
+    statement = output.statement
+    if statement.is_of_cells and (statement.command == "r.out.ascii" or statement.line == 0):
+        return Grid(statement.maps[0], output.values, labels=labels.get(statement.maps[0], {}))
+    values = output.values.reshape(-1, 1).astype(np.int64) if statement.is_of_cells else output.values
+    count = len(statement.maps)
+    return Table(
+        titles=tuple(maps[name].name if name in maps else name for name in statement.maps),
+        categories=values[:, :count],
+        cells=values[:, count] if "c" in statement.flags else None,
+        labels=tuple(labels.get(name, {}) if "l" in statement.flags else None for name in statement.maps),
+        line=statement.line,
+    )
+
+
+def table(program: str, rasters: Sequence[Raster], nulls: bool, watch: Watch | None = None) -> Table:
+    """How many cells each combination of categories has; columns of labels where a map has labels."""
+    maps = {f"map_{place}": raster for place, raster in enumerate(rasters, 1)}
+    script = f"r.stats -c{'' if nulls else 'n'} input={','.join(maps)}"
+    found = run(program, script, maps, watch=watch).tables[0]
+    return replace(found, labels=tuple(raster.labels or None for raster in rasters))
+
+
+def grid(program: str, script: str, name: str, raster: Raster, watch: Watch | None = None) -> Grid:
+    """A map that a script makes of one map, which it calls `map`."""
+    return run(program, script, {"map": raster}, [name], watch).grids[-1]
+
+
+def reclass(program: str, raster: Raster, rules: str, watch: Watch | None = None) -> Grid:
+    """A map by the rules of r.reclass.
+
+    Raises
+    ------
+    Refused
+        As the program refuses; the lines are those of the rules.
+    """
+    lines = rules.rstrip("\n").split("\n")
+    if [line for line in lines if line.strip(" \t\r") == "end"]:
+        lines = lines[: next(at for at, line in enumerate(lines) if line.strip(" \t\r") == "end")]
+    script = "\n".join(["r.reclass input=map output=classes", *lines, "end"])
+    try:
+        made = grid(program, script, "classes", raster, watch)
+    except Refused as refusal:
+        if refusal.source != "script" or not 2 <= refusal.line <= len(lines) + 1:
+            raise
+        raise type(refusal)(refusal.text, "rules", refusal.line - 1, refusal.status, refusal.content) from None
+    return replace(made, labels=labels_of_rules(lines))
+
+
+def mode(program: str, raster: Raster, size: int, watch: Watch | None = None) -> Grid:
+    """The commonest category of the square around each cell: nulls and what is off the map left out, the least where several are."""
+    reach = size // 2
+    around = (f"map[{row},{col}]" for row in range(-reach, reach + 1) for col in range(-reach, reach + 1))
+    made = grid(program, f"r.mapcalc commonest = nmode({','.join(around)})", "commonest", raster, watch)
+    return replace(made, labels=raster.labels)
+
+
+# Areas
+
+
+@dataclass(frozen=True)
+class Areas:
+    """The connected areas of a map.
+
+    Attributes
+    ----------
+    grid : Grid
+        Their numbers, 0 where there is none; those that were left out are 0 too, and the others keep their numbers.
+    numbers, categories, cells : array of int64
+        Of each area that was kept.
+    """
+
+    grid: Grid
+    numbers: NDArray[np.int64]
+    categories: NDArray[np.int64]
+    cells: NDArray[np.int64]
+
+    def table(self, raster: Raster) -> Table:
+        """`area`, `category`, `label` where the map has labels, `cells`, and `ha` where it is not in degrees."""
+        found = Table(
+            titles=("area", "category"),
+            categories=np.column_stack([self.numbers, self.categories]),
+            cells=self.cells,
+            labels=(None, raster.labels or None),
+            label_title="label",
+        )
+        return found if raster.is_geographic else found.measured("ha", False, raster)
+
+
+def areas(program: str, raster: Raster, diagonal: bool, least: int = 1, classes: Iterable[int] | None = None,
+          watch: Watch | None = None) -> Areas:
+    """The connected areas of a map, numbered in the order of their first cells.
+
+    Parameters
+    ----------
+    program, raster
+    diagonal : bool
+        Whether cells that touch at a corner are connected too.
+    least : int
+        Areas of fewer cells are left out.
+    classes : iterable of int, optional
+        Only areas of these categories.
+    watch : Watch, optional
+    """
+    script = f"r.clump{' -d' if diagonal else ''} input={'map' if classes is None else 'kept'} output=areas"
+    if classes is not None:
+        rules = "\n".join(f"{category} = {category}" for category in classes)
+        script = f"r.reclass input=map output=kept\n{rules}\nend\n{script}"
+    found = run(program, script, {"map": raster}, ["areas", "map"] if raster.is_text else ["areas"], watch).grids
+    numbers = found[0].cells
+    numbers[numbers == NULL] = 0
+    cells = np.bincount(numbers.reshape(-1))[1:].astype(np.int64)
+    blocks: Iterable[NDArray[Any]] = [found[1].cells] if raster.is_text else (block for block, _ in raster.blocks())
+    categories = _at(_first_cells(numbers), blocks)
+    is_kept = np.concatenate([[False], cells >= least])
+    kept = np.flatnonzero(is_kept)
+    if kept.size < cells.size:
+        numbers = np.where(is_kept[numbers], numbers, np.int32(0))
+    return Areas(Grid("areas", numbers, 0), kept, categories[kept - 1], cells[kept - 1])
+
+
+def _first_cells(numbers: NDArray[np.int32]) -> NDArray[np.intp]:
+    """The first cell of each area: where the greatest number so far rises, since numbers are in the order of first cells."""
+    greatest = np.maximum.accumulate(numbers.reshape(-1))
+    rises = np.flatnonzero(greatest[1:] != greatest[:-1]) + 1
+    return np.concatenate([np.zeros(int(greatest[0] > 0), np.intp), rises])
+
+
+def _at(places: NDArray[np.intp], blocks: Iterable[NDArray[Any]]) -> NDArray[np.int64]:
+    """The cells at ascending places of a map that comes in blocks of rows."""
+    found = np.empty(places.size, np.int64)
+    before = known = 0
+    for cells in blocks:
+        until = int(np.searchsorted(places, before + cells.size))
+        found[known:until] = cells.reshape(-1)[places[known:until] - before]
+        before, known = before + cells.size, until
+    return found

@@ -1,0 +1,124 @@
+"""What goes wrong, each with a name of its own: the words are those of the packages for Python and R."""
+
+from __future__ import annotations
+
+import re
+import signal
+from typing import Any
+
+_COLUMN = re.compile(r" at column (\d+)$")
+
+
+class RcellError(Exception):
+    """The parent of all errors."""
+
+
+class Refused(RcellError):
+    """A map, a script or a request was refused, and nothing was answered.
+
+    Attributes
+    ----------
+    text : str
+        What is wrong, in the words of the program where it refused.
+    source : str
+        The name of the map, or `script`, `output` or `arguments`.
+    line : int
+        The line of the source, from 1; 0 where the fault belongs to none.
+    status : int
+        The exit status of the program.
+    content : str or None
+        The line of the script itself.
+    column : int or None
+        The place in the line, in bytes from 1.
+    """
+
+    def __init__(self, text: str, source: str = "arguments", line: int = 0, status: int = 1, content: str | None = None) -> None:
+        super().__init__(text, source, line, status, content)
+        self.text = text
+        self.source = source
+        self.line = line
+        self.status = status
+        self.content = content
+        found = _COLUMN.search(text)
+        self.column = int(found[1]) if found else None
+
+    def __str__(self) -> str:
+        place = f"{self.source}, line {self.line}" if self.line else self.source
+        message = f"{place}: {self.text}"
+        if self.content is None:
+            return message
+        message += f"\n  {self.content}"
+        return message if self.column is None else f"{message}\n  {_mark_under(self.content, self.column)}"
+
+
+def _mark_under(content: str, column: int) -> str:
+    """Blanks up to the column, which counts bytes, and a mark beneath it; a tab stays a tab."""
+    before = content.encode("utf-8", "surrogateescape")[: column - 1].decode("utf-8", "replace")
+    return "".join("\t" if letter == "\t" else " " for letter in before) + "^"
+
+
+class OutOfMemory(Refused, MemoryError):
+    """The program ran out of memory; `source` and `line` tell where."""
+
+
+class BadMap(Refused, ValueError):
+    """A map that is no map of whole numbers, or has no grid of its own; `row` and `col` count from 1 at the top left."""
+
+    def __init__(self, name: str, text: str, row: int | None = None, col: int | None = None, value: Any = None) -> None:
+        super().__init__(text, name)
+        self.row = row
+        self.col = col
+        self.value = value
+        self.column = None
+
+
+class OtherRegion(BadMap):
+    """A map whose edges, rows or columns are not those of the first; nothing is resampled."""
+
+
+class ReadFailed(BadMap):
+    """A file that cannot be opened, or a part of it that cannot be read."""
+
+    def __init__(self, name: str, text: str) -> None:
+        super().__init__(name, text)
+        self.status = 4
+
+
+class MissingProgram(RcellError, FileNotFoundError):
+    """The program was not found, or cannot be executed."""
+
+
+class WrongProgram(RcellError):
+    """What was found is not `rcell`, or a version that is not known here."""
+
+
+class Killed(RcellError):
+    """The program was ended by a signal that was not sent from here."""
+
+    def __init__(self, number: int) -> None:
+        super().__init__(number)
+        self.signal = number
+
+    def __str__(self) -> str:
+        name = next((f" ({known.name})" for known in signal.Signals if known == self.signal), "")
+        cause = "too little memory, or someone ended it" if self.signal == 9 else "someone ended it"
+        return f"the program was killed by signal {self.signal}{name}: {cause}"
+
+
+class WriteFailed(RcellError, OSError):
+    """A file could not be written whole: a full disk, a folder that is missing. Nothing is left of it."""
+
+    def __init__(self, path: str, text: str) -> None:
+        super().__init__(path, text)
+        self.path = path
+        self.text = text
+
+    def __str__(self) -> str:
+        return f"{self.path} cannot be written: {self.text}"
+
+
+class Cancelled(RcellError):
+    """The user cancelled; the program has been ended."""
+
+    def __str__(self) -> str:
+        return "cancelled"

@@ -1,0 +1,275 @@
+"""Rasters that are written: a file has its name only when all of it is there."""
+
+from __future__ import annotations
+
+import contextlib
+import csv
+import os
+import sqlite3
+from typing import Any, Callable, Iterable, Iterator, Mapping
+
+import numpy as np
+from numpy.typing import NDArray
+from osgeo import gdal, ogr
+
+from .answers import Column, Table
+from .errors import RcellError, WriteFailed
+from .labels import put_labels
+from .rasters import BLOCK_CELLS, Raster, quiet
+
+# The first level of compression with differences of neighbours takes an eighth of the time of the sixth without, and as much room.
+_OPTIONS = ["COMPRESS=DEFLATE", "ZLEVEL=1", "PREDICTOR=2", "TILED=YES", "BIGTIFF=IF_SAFER"]
+_COPIED_BYTES = 1 << 22
+_CHECKED_ROWS = 1 << 14
+# What GDAL leaves beside a raster.
+_BESIDE = ".aux.xml"
+
+
+Check = Callable[[], None]
+
+
+def _no_check() -> None:
+    pass
+
+
+def check_target(path: str) -> None:
+    """That a file can be made there, before any work is done.
+
+    Raises
+    ------
+    WriteFailed
+        Where the folder is missing or may not be written to, or something else than a file stands there.
+    """
+    folder = os.path.dirname(os.path.abspath(path))
+    if os.path.lexists(path) and not os.path.isfile(path):
+        raise WriteFailed(path, "something stands there that is no file")
+    if not os.path.isdir(folder):
+        raise WriteFailed(path, f"there is no folder {folder}")
+    if not os.access(folder, os.W_OK):
+        raise WriteFailed(path, f"the folder {folder} may not be written to")
+
+
+def write_raster(path: str, driver: str, cells: NDArray[np.int32], null: int, like: Raster, labels: Mapping[int, str],
+                 check: Check = _no_check) -> None:
+    """Writes a map as a raster of whole numbers of 32 bits.
+
+    Parameters
+    ----------
+    path : str
+    driver : str
+        The name of GDAL's driver.
+    cells : array of int32, rows x cols
+    null : int
+        The value of cells that is null, which becomes nodata.
+    like : Raster
+        Whose place and reference system the raster gets.
+    labels : mapping of int to str
+    check : callable
+        Called now and then; what it raises ends the writing.
+
+    Raises
+    ------
+    WriteFailed
+        Nothing stands under the path then but what stood there before.
+    """
+    with partly(path, _BESIDE) as part, quiet():
+        gdal.ErrorReset()
+        try:
+            made = _write(part, driver, lambda to: _write_tiff(to, cells, null, like, labels, check))
+        except (RuntimeError, OSError) as error:
+            raise WriteFailed(path, str(error)) from None
+        if not made:
+            raise WriteFailed(path, gdal.GetLastErrorMsg() or "the disk may be full")
+
+
+# Tables
+
+_TYPES = {"whole": ("Integer64", ogr.OFTInteger64), "real": ("Real", ogr.OFTReal), "text": ("String", ogr.OFTString)}
+
+
+def is_file_of_table(path: str) -> bool:
+    """Whether `write_table` knows the format of a path."""
+    return os.path.splitext(path)[1].lower() in (".csv", ".gpkg")
+
+
+def write_table(path: str, table: Table, check: Check = _no_check) -> None:
+    """Writes a table as comma-separated values or as a GeoPackage, by the ending of the path.
+
+    Now and then `check` is called; what it raises ends the writing.
+
+    Raises
+    ------
+    WriteFailed
+        Nothing stands under the path then but what stood there before.
+    """
+    stem, ending = os.path.splitext(path)
+    is_csv = ending.lower() == ".csv"
+    try:
+        with partly(path, ".csvt" if is_csv else "", stem) as part:
+            if is_csv:
+                _write_csv(part, table.columns(), check)
+            else:
+                _write_geopackage(part, os.path.basename(stem), table.columns(), check)
+    except RcellError:
+        raise
+    except (OSError, RuntimeError) as error:
+        raise WriteFailed(path, getattr(error, "strerror", None) or str(error)) from None
+
+
+def _checked(rows: Iterable[Any], check: Check) -> Iterator[Any]:
+    """The same rows, with a check before each some thousand."""
+    for number, row in enumerate(rows):
+        if number % _CHECKED_ROWS == 0:
+            check()
+        yield row
+
+
+def _write_csv(part: str, columns: list[Column], check: Check) -> None:
+    """With the types of the columns beside it, without which QGIS reads numbers as text."""
+    with open(part, "w", encoding="utf-8", newline="") as file:
+        writer = csv.writer(file, lineterminator="\n")
+        writer.writerow(column.title for column in columns)
+        writer.writerows(_checked(zip(*(column.values for column in columns)), check))
+    with open(part + ".csvt", "w", encoding="utf-8") as file:
+        file.write(",".join(f'"{_TYPES[column.kind][0]}"' for column in columns) + "\n")
+
+
+def _write_geopackage(part: str, name: str, columns: list[Column], check: Check) -> None:
+    """GDAL makes the table, and its rows are put in by SQLite, which takes them ten times as fast as GDAL's Python does."""
+    count = len(columns[0].values)
+    with quiet():
+        gdal.ErrorReset()
+        identifier = _make_geopackage(part, name, columns)
+        if not identifier:
+            raise OSError(gdal.GetLastErrorMsg() or "the disk may be full")
+        try:
+            with contextlib.closing(sqlite3.connect(part)) as connection, connection:
+                triggers = connection.execute("SELECT name, sql FROM sqlite_master WHERE type = 'trigger' AND tbl_name = ?", [name]).fetchall()
+                for trigger, _ in triggers:
+                    connection.execute(f"DROP TRIGGER {_quoted(trigger)}")
+                places = ",".join("?" * (1 + len(columns)))
+                rows = _checked(zip(range(1, count + 1), *(column.values for column in columns)), check)
+                connection.executemany(f"INSERT INTO {_quoted(name)} ({identifier}) VALUES ({places})", rows)
+                # What the triggers would have counted row by row.
+                connection.execute("UPDATE gpkg_ogr_contents SET feature_count = ? WHERE table_name = ?", [count, name])
+                for _, text in triggers:
+                    connection.execute(text)
+        except sqlite3.Error as error:
+            raise OSError(str(error)) from None
+        written = ogr.Open(part)
+        if written is None or written.GetLayer(0).GetFeatureCount() != count:
+            raise OSError(gdal.GetLastErrorMsg() or "the disk may be full")
+
+
+def _make_geopackage(part: str, name: str, columns: list[Column]) -> str:
+    """Makes an empty table, and answers the names of its columns, that of the numbers of rows first; nothing where it could not."""
+    source = ogr.GetDriverByName("GPKG").CreateDataSource(part)
+    options = ["FID=rcell_fid"] if any(column.title.lower() == "fid" for column in columns) else []
+    layer = None if source is None else source.CreateLayer(name, None, ogr.wkbNone, options)
+    if layer is None:
+        return ""
+    for column in columns:
+        layer.CreateField(ogr.FieldDefn(column.title, _TYPES[column.kind][1]))
+    names = [layer.GetFIDColumn(), *(column.title for column in columns)]
+    return ", ".join(map(_quoted, names)) if _flushed(source) else ""
+
+
+def _quoted(name: str) -> str:
+    doubled = name.replace('"', '""')
+    return f'"{doubled}"'
+
+
+@contextlib.contextmanager
+def partly(path: str, beside: str = "", stem: str = "") -> Iterator[str]:
+    """A name to write to, in the same folder; afterwards it gets the right one, or is removed where something went wrong.
+
+    Parameters
+    ----------
+    path : str
+    beside : str
+        The ending of a file that may come to stand beside the one that is written, by its whole name.
+    stem : str
+        What that ending comes after in the end, the whole path where it is empty.
+    """
+    check_target(path)
+    folder, name = os.path.split(os.path.abspath(path))
+    base, extension = os.path.splitext(name)
+    part = os.path.join(folder, f".{base}.{os.getpid()}.part{extension}")
+    try:
+        yield part
+        _rename(part, path, beside, (stem or path) + beside)
+    finally:
+        for left in (part, part + beside):
+            with contextlib.suppress(OSError):
+                os.unlink(left)
+
+
+def _rename(part: str, path: str, beside: str, beside_path: str) -> None:
+    try:
+        if beside and os.path.exists(part + beside):
+            os.replace(part + beside, beside_path)
+        elif beside and os.path.exists(beside_path):
+            os.unlink(beside_path)
+        os.replace(part, path)
+    except OSError as error:
+        raise WriteFailed(path, error.strerror or str(error)) from None
+
+
+def _write(part: str, driver: str, write_tiff: Callable[[str], bool]) -> bool:
+    """Whether all of it could be made. GDAL makes it in memory, since it does not tell of a full disk in each case; Python writes it."""
+    folder = f"/vsimem/rcell_{os.getpid()}_{id(write_tiff)}"
+    tiff, copied = f"{folder}/map.tif", f"{folder}/copy{os.path.splitext(part)[1]}"
+    try:
+        if not write_tiff(tiff):
+            return False
+        if driver == "GTiff":
+            copied = tiff
+        else:
+            copy = gdal.GetDriverByName(driver).CreateCopy(copied, gdal.Open(tiff))
+            if copy is None or not _flushed(copy):
+                return False
+            del copy
+        _copy_out(copied, part)
+        if gdal.VSIStatL(copied + _BESIDE) is not None:
+            _copy_out(copied + _BESIDE, part + _BESIDE)
+        return True
+    finally:
+        gdal.RmdirRecursive(folder)
+
+
+def _copy_out(source: str, target: str) -> None:
+    """Copies a file that GDAL has in memory to the disk."""
+    memory = gdal.VSIFOpenL(source, "rb")
+    try:
+        with open(target, "wb") as file:
+            while piece := gdal.VSIFReadL(1, _COPIED_BYTES, memory):
+                file.write(piece)
+    finally:
+        gdal.VSIFCloseL(memory)
+
+
+def _write_tiff(path: str, cells: NDArray[np.int32], null: int, like: Raster, labels: Mapping[int, str], check: Check) -> bool:
+    rows, cols = cells.shape
+    dataset = gdal.GetDriverByName("GTiff").Create(path, cols, rows, 1, gdal.GDT_Int32, _OPTIONS)
+    if dataset is None:
+        return False
+    dataset.SetGeoTransform(like.geotransform)
+    if like.crs:
+        dataset.SetProjection(like.crs)
+    band = dataset.GetRasterBand(1)
+    band.SetNoDataValue(null)
+    put_labels(band, labels)
+    step = max(1, BLOCK_CELLS // cols)
+    for row in range(0, rows, step):
+        check()
+        if band.WriteArray(cells[row : row + step], 0, row) not in (None, gdal.CE_None):
+            return False
+    del band
+    return _flushed(dataset)
+
+
+def _flushed(dataset: Any) -> bool:
+    """Whether what was still in memory could be written too."""
+    gdal.ErrorReset()
+    dataset.FlushCache()
+    return bool(gdal.GetLastErrorType() < gdal.CE_Failure)

@@ -1,0 +1,332 @@
+"""Rasters that GDAL opens, as maps: read by blocks of rows, never whole."""
+
+from __future__ import annotations
+
+import contextlib
+import os
+import re
+from dataclasses import dataclass, field
+from typing import Any, Callable, Iterator, Mapping
+
+import numpy as np
+from osgeo import gdal
+
+from .cells import MAX_CATEGORY, Cells, Mask, NullRanges, range_of, within
+from .errors import BadMap, OtherRegion, ReadFailed
+from .labels import labels_of_band
+from .region import GeoTransform, Region
+
+# Cells of a block, about: large enough that a block costs more than its call, small enough for the cache of a processor.
+BLOCK_CELLS = 1 << 20
+# Beyond it a float of 32 bits does not have every whole number.
+_EXACT_FLOAT32 = 1 << 24
+_IDENTITY = (0.0, 1.0, 0.0, 0.0, 0.0, 1.0)
+# Blocks of the file that are looked at for a guess of the range of the cells.
+_SAMPLES = 12
+# The first line of a grid of the program's own form, which goes to it as it is: GDAL would take its null text for 0.
+_GRID = re.compile(rb"\s*(?:north|south|east|west|rows|cols|null|type|multiplier):")
+
+Warn = Callable[[str], None]
+
+
+@contextlib.contextmanager
+def quiet() -> Iterator[None]:
+    """GDAL without its messages on standard error, in this thread; its exceptions are left as other plugins have set them."""
+    gdal.PushErrorHandler("CPLQuietErrorHandler")
+    try:
+        yield
+    finally:
+        gdal.PopErrorHandler()
+
+
+def opened(name: str, path: str) -> Any:
+    """An open dataset.
+
+    Raises
+    ------
+    ReadFailed
+        Where it cannot be opened.
+    """
+    gdal.ErrorReset()
+    try:
+        with quiet():
+            dataset = gdal.Open(path)
+        text = gdal.GetLastErrorMsg()
+    except RuntimeError as error:
+        dataset, text = None, str(error)
+    if dataset is None:
+        raise ReadFailed(name, f"cannot open: {text or path}")
+    return dataset
+
+
+@dataclass(frozen=True)
+class Raster:
+    """A band of a raster as a map; made by `Raster.open`.
+
+    Attributes
+    ----------
+    name : str
+        As messages and columns call it.
+    path : str
+    band : int
+    region : Region
+    geotransform : tuple of six float
+        Of GDAL, with its rows from north to south; answers get it.
+    crs : str
+        Well-known text, empty where there is none.
+    is_geographic : bool
+    metres : float
+        The length of a unit of the reference system.
+    dtype : numpy type
+    null_ranges : tuple of pairs of float
+        Values that are null.
+    has_mask : bool
+        Whether null is told by a mask of its own, as well.
+    is_upside_down : bool
+        Whether its rows go from south to north.
+    block_shape : tuple of int
+    is_text : bool
+        Whether it is a grid of the program's own form.
+    labels : mapping of int to str
+    """
+
+    name: str
+    path: str
+    band: int
+    region: Region
+    geotransform: GeoTransform
+    crs: str
+    is_geographic: bool
+    metres: float
+    dtype: np.dtype[Any]
+    null_ranges: NullRanges
+    has_mask: bool
+    is_upside_down: bool
+    block_shape: tuple[int, int]
+    is_text: bool = False
+    labels: Mapping[int, str] = field(default_factory=dict)
+
+    @classmethod
+    def open(cls, name: str, path: str, band: int | None = None, labels: Mapping[int, str] | None = None,
+             null_ranges: NullRanges = (), use_nodata: bool = True) -> Raster:
+        """A band of a raster, the only one where none is named.
+
+        Parameters
+        ----------
+        name, path, band
+        labels : mapping, optional
+            Those that the user sees; the labels of the file where they are None or none.
+        null_ranges : sequence of pairs, optional
+            Further values that the user has declared null.
+        use_nodata : bool
+            Whether the nodata value of the file is null.
+
+        Raises
+        ------
+        ReadFailed, BadMap
+        """
+        with quiet():
+            dataset = opened(name, path)
+            layer = dataset.GetRasterBand(_only_band(name, dataset) if band is None else band)
+            if layer is None:
+                count = dataset.RasterCount
+                raise BadMap(name, f"has {count} band{'' if count == 1 else 's'}, and no band {band}")
+            _check_values(name, layer)
+            geotransform, is_upside_down = _place(name, dataset)
+            reference = dataset.GetSpatialRef()
+            height, width = layer.GetBlockSize()[::-1]
+            return cls(
+                name=name,
+                path=path,
+                band=layer.GetBand(),
+                region=Region.of_geotransform(name, geotransform, dataset.RasterYSize, dataset.RasterXSize),
+                geotransform=geotransform,
+                crs="" if reference is None else reference.ExportToWkt(),
+                is_geographic=reference is not None and bool(reference.IsGeographic()),
+                metres=1.0 if reference is None or reference.IsLocal() else float(reference.GetLinearUnits()),
+                dtype=_dtype_of(layer),
+                null_ranges=(*_nodata_of(layer, use_nodata), *null_ranges),
+                has_mask=bool(layer.GetMaskFlags() & gdal.GMF_PER_DATASET) and not layer.GetMaskFlags() & gdal.GMF_ALPHA,
+                is_upside_down=is_upside_down,
+                block_shape=(height, width),
+                is_text=is_grid(path),
+                labels=labels or labels_of_band(layer),
+            )
+
+    @property
+    def cell_area(self) -> float:
+        """The area of a cell in square metres."""
+        return abs(self.geotransform[1] * self.geotransform[5]) * self.metres**2
+
+    def blocks(self, warn: Warn | None = None, most_rows: int | None = None) -> Iterator[tuple[Cells, Mask | None]]:
+        """Its rows from north to south: cells of one, two or four bytes, and where they are null.
+
+        Cells of one or two bytes are null by `null_ranges` as well, which their masks do not tell.
+
+        Raises
+        ------
+        ReadFailed
+            Where a part of the file is broken.
+        BadMap
+            With the first cell that is neither null nor a whole number from -2147483647 to 2147483647.
+        """
+        rows = self.region.rows if most_rows is None else min(most_rows, self.region.rows)
+        step = max(1, BLOCK_CELLS // self.region.cols)
+        step = max(step - step % self.block_shape[0], min(step, self.block_shape[0]))
+        dataset = opened(self.name, self.path)
+        for row in range(0, rows, step):
+            yield self._block(dataset, row, 0, min(step, rows - row), self.region.cols, warn)
+
+    def range(self) -> tuple[int, int]:
+        """A guess of the least and greatest category, from some blocks of the file; 0 is among them."""
+        if self.dtype == np.uint8:
+            return self._range_of_bytes()
+        least, greatest = 0, 0
+        dataset = opened(self.name, self.path)
+        for row, col, rows, cols in self._samples():
+            cells, null = self._block(dataset, row, col, rows, cols, None)
+            ranges = within(cells, self.null_ranges) if cells.dtype.itemsize <= 2 else None
+            null = ranges if null is None else null if ranges is None else null | ranges
+            low, high = range_of(cells, null)
+            least, greatest = min(least, low), max(greatest, high)
+        return least, greatest
+
+    def _range_of_bytes(self) -> tuple[int, int]:
+        """Bytes are three digits, or one where the samples say so."""
+        dataset = opened(self.name, self.path)
+        samples = (self._block(dataset, *window, None)[0] for window in self._samples())
+        is_digit = np.ones(256, bool)
+        is_digit[10:] = False
+        is_digit |= _are_null(np.arange(256), self.null_ranges)
+        return (0, 9) if all(is_digit[cells].all() for cells in samples) else (0, 255)
+
+    def _samples(self) -> list[tuple[int, int, int, int]]:
+        """Windows of one block of the file each, spread over the map."""
+        rows, cols = self.region.rows, self.region.cols
+        height, width = min(self.block_shape[0], rows), min(self.block_shape[1], cols)
+        down, across = -(-rows // height), -(-cols // width)
+        places = sorted({at * (down * across - 1) // (_SAMPLES - 1) for at in range(_SAMPLES)})
+        windows = [(place // across * height, place % across * width) for place in places]
+        return [(row, col, min(height, rows - row), min(width, cols - col)) for row, col in windows]
+
+    def _block(self, dataset: Any, row: int, col: int, rows: int, cols: int, warn: Warn | None) -> tuple[Cells, Mask | None]:
+        band = dataset.GetRasterBand(self.band)
+        top = self.region.rows - row - rows if self.is_upside_down else row
+        try:
+            with quiet():
+                cells = band.ReadAsArray(col, top, cols, rows)
+                mask = band.GetMaskBand().ReadAsArray(col, top, cols, rows) if self.has_mask else None
+            text = gdal.GetLastErrorMsg()
+        except RuntimeError as error:
+            cells, text = None, str(error)
+        if cells is None or (self.has_mask and mask is None):
+            raise ReadFailed(self.name, f"rows {row + 1} to {row + rows} cannot be read: {text or self.path}")
+        null = None if mask is None else mask == 0
+        if self.is_upside_down:
+            cells, null = cells[::-1], None if null is None else null[::-1]
+        return self._checked(cells, null, row, col, warn)
+
+    def _checked(self, cells: Cells, null: Mask | None, first_row: int, first_col: int, warn: Warn | None) -> tuple[Cells, Mask | None]:
+        """Cells of any type of whole numbers as cells of at most four bytes."""
+        kind, size = cells.dtype.kind, cells.dtype.itemsize
+        if kind in "iu" and size <= 2:
+            return cells, null
+        masks = [mask for mask in (null, within(cells, self.null_ranges), np.isnan(cells) if kind == "f" else None) if mask is not None]
+        null = np.logical_or.reduce(masks) if masks else None
+        bad = _bad(cells)
+        if bad is not None:
+            bad = bad if null is None else bad & ~null
+            if bad.any():
+                row, col = (int(place) for place in np.unravel_index(int(bad.argmax()), bad.shape))
+                raise _bad_cell(self.name, first_row + row + 1, first_col + col + 1, cells[row, col].item())
+        if null is not None:
+            cells = np.where(null, cells.dtype.type(0), cells)
+        if warn is not None and cells.dtype == np.float32 and cells.size and np.abs(cells).max() > _EXACT_FLOAT32:
+            warn(f"{self.name}: floats of 32 bits are not exact beyond {_EXACT_FLOAT32}, and the map has greater cells")
+        return cells if cells.dtype == np.int32 else cells.astype(np.int32), null
+
+
+def is_grid(path: str) -> bool:
+    """Whether a path is that of a file that is a grid of the program's own form."""
+    if not os.path.isfile(path):
+        return False
+    with open(path, "rb") as file:
+        return _GRID.match(file.read(64)) is not None
+
+
+def check_regions(rasters: list[Raster]) -> None:
+    """All maps of a run have the region of the first.
+
+    Raises
+    ------
+    OtherRegion
+        Where one has not: which edges differ, and by how much, and both regions.
+    """
+    first = rasters[0]
+    for raster in rasters[1:]:
+        if raster.region != first.region:
+            told = "; ".join(first.region.differences(raster.region))
+            text = f"not of the region of `{first.name}`, and nothing is resampled: {told}"
+            raise OtherRegion(raster.name, f"{text}\n  {first.name}: {first.region}\n  {raster.name}: {raster.region}")
+
+
+def _are_null(values: Cells, ranges: NullRanges) -> Mask:
+    found = within(values, ranges)
+    return np.zeros(values.shape, bool) if found is None else found
+
+
+def _bad(cells: Cells) -> Mask | None:
+    """Where cells are no whole number in range; None where all are."""
+    if cells.dtype.kind == "f":
+        with np.errstate(invalid="ignore"):
+            return np.asarray(~((np.rint(cells) == cells) & (np.abs(cells) <= MAX_CATEGORY)))
+    if cells.size == 0 or (cells.min() >= -MAX_CATEGORY and cells.max() <= MAX_CATEGORY):
+        return None
+    return (cells > MAX_CATEGORY) | (cells < -MAX_CATEGORY)
+
+
+def _bad_cell(name: str, row: int, col: int, value: float) -> BadMap:
+    number = f"{value:.15g}" if isinstance(value, float) else str(value)
+    beyond = ", beyond 2147483647 either way" if value == value and abs(value) > MAX_CATEGORY else ""
+    return BadMap(name, f"not a map of whole numbers: the cell at row {row}, column {col} is {number}{beyond}", row, col, value)
+
+
+def _only_band(name: str, dataset: Any) -> int:
+    numbers = range(1, dataset.RasterCount + 1)
+    bands = [number for number in numbers if dataset.GetRasterBand(number).GetColorInterpretation() != gdal.GCI_AlphaBand]
+    if len(bands) != 1:
+        raise BadMap(name, f"has {len(bands)} bands: name one where a band can be named, or take one out first, as by Rearrange bands")
+    return bands[0]
+
+
+def _check_values(name: str, band: Any) -> None:
+    scale, offset = band.GetScale(), band.GetOffset()
+    if scale not in (None, 1.0) or offset not in (None, 0.0):
+        told = f"each cell times {1.0 if scale is None else scale:g}, plus {offset or 0.0:g}"
+        raise BadMap(name, f"its values are scaled: {told}; write them out as whole numbers first")
+    if gdal.DataTypeIsComplex(band.DataType):
+        raise BadMap(name, f"not a map of whole numbers: its cells are of the type {gdal.GetDataTypeName(band.DataType)}")
+
+
+def _dtype_of(band: Any) -> np.dtype[Any]:
+    from osgeo import gdal_array
+
+    return np.dtype(gdal_array.GDALTypeCodeToNumericTypeCode(band.DataType))
+
+
+def _nodata_of(band: Any, is_used: bool) -> list[tuple[float, float]]:
+    value = band.GetNoDataValue()
+    return [(value, value)] if is_used and value is not None and value == value else []
+
+
+def _place(name: str, dataset: Any) -> tuple[GeoTransform, bool]:
+    """The geotransform with rows from north to south, and whether the file has them the other way."""
+    transform: Any = tuple(dataset.GetGeoTransform())
+    if transform == _IDENTITY:
+        if dataset.GetGCPCount():
+            raise BadMap(name, "has ground control points and no transform: warp it first")
+        return (0.0, 1.0, 0.0, float(dataset.RasterYSize), 0.0, -1.0), False
+    west, width, b, north, d, height = transform
+    if height > 0 and not b and not d:
+        return (west, width, 0.0, north + height * dataset.RasterYSize, 0.0, -height), True
+    return transform, False

@@ -1,0 +1,96 @@
+"""The region of a map: its edges, as the program sees them, and its rows and columns."""
+
+from __future__ import annotations
+
+from dataclasses import dataclass
+from fractions import Fraction
+from typing import Sequence
+
+from .errors import BadMap
+
+DECIMALS = 8
+UNITS = 10**DECIMALS
+EDGE_LIMIT = 10**10 * UNITS
+SIDE_LIMIT = 65_535
+CELL_LIMIT = 2_147_483_647
+
+# GDAL's order: west edge, width of a cell, 0, north edge, 0, minus the height of a cell.
+GeoTransform = tuple[float, float, float, float, float, float]
+
+
+def _units(edge: float | Fraction) -> int:
+    """An edge in units of 10^-8, which is all that the program keeps of it."""
+    return int(round(Fraction(edge) * UNITS))
+
+
+def _edge_text(units: int) -> str:
+    whole, part = divmod(abs(units), UNITS)
+    sign = "-" if units < 0 else ""
+    return f"{sign}{whole}.{part:0{DECIMALS}d}".rstrip("0").rstrip(".")
+
+
+def _size_text(size: int) -> str:
+    return str(size)
+
+
+@dataclass(frozen=True)
+class Region:
+    """Edges in units of 10^-8, and a number of rows and columns. Made by `of_geotransform`."""
+
+    north: int
+    south: int
+    east: int
+    west: int
+    rows: int
+    cols: int
+
+    @classmethod
+    def of_geotransform(cls, name: str, transform: Sequence[float], rows: int, cols: int) -> Region:
+        """The region of a geotransform whose rows go from north to south.
+
+        Raises
+        ------
+        BadMap
+            Where it is rotated or turned over, or where the program has no such region.
+        """
+        west, width, b, north, d, height = (float(number) for number in transform)
+        if b or d:
+            raise BadMap(name, f"a rotated transform {(width, b, west, d, height, north)}: warp the map to rows from west to east first")
+        if width <= 0 or height >= 0:
+            turned = (width, b, west, d, height, north)
+            raise BadMap(name, f"a transform {turned} whose rows are not from north to south, west to east")
+        south, east = Fraction(north) + Fraction(height) * rows, Fraction(west) + Fraction(width) * cols
+        region = cls(_units(north), _units(south), _units(east), _units(west), rows, cols)
+        region._check(name)
+        return region
+
+    def _check(self, name: str) -> None:
+        for edge in ("north", "south", "east", "west"):
+            if abs(getattr(self, edge)) >= EDGE_LIMIT:
+                raise BadMap(name, f"an edge of more than ten digits: {edge} is {_edge_text(getattr(self, edge))}")
+        if not (self.rows <= SIDE_LIMIT and self.cols <= SIDE_LIMIT and self.rows * self.cols <= CELL_LIMIT):
+            size = f"{self.rows:,} rows and {self.cols:,} columns"
+            limits = f"1 to {SIDE_LIMIT:,} each, and {CELL_LIMIT:,} cells in all"
+            raise BadMap(name, f"{size}, where the program takes {limits}; for larger maps there is rcell.tiles of the Python package")
+        if self.north <= self.south or self.east <= self.west:
+            low, high = ("south", "north") if self.north <= self.south else ("west", "east")
+            raise BadMap(name, f"{high} is not above {low} once they are rounded to {DECIMALS} decimals: {self}")
+
+    def header(self) -> str:
+        """The six header lines of a grid of this region."""
+        edges = "".join(f"{edge}: {_edge_text(getattr(self, edge))}\n" for edge in ("north", "south", "east", "west"))
+        return f"{edges}rows: {self.rows}\ncols: {self.cols}\n"
+
+    def differences(self, other: Region) -> list[str]:
+        """In which edges and sizes another region differs from this one, and by how much; empty where they are equal."""
+        told = []
+        for edge in ("north", "south", "east", "west", "rows", "cols"):
+            mine, its = getattr(self, edge), getattr(other, edge)
+            text = _size_text if edge in ("rows", "cols") else _edge_text
+            if mine != its:
+                told.append(f"{edge} is {text(its)}, not {text(mine)} ({text(abs(its - mine))} {'more' if its > mine else 'less'})")
+        return told
+
+    def __str__(self) -> str:
+        edges = ", ".join(f"{edge} {_edge_text(getattr(self, edge))}" for edge in ("north", "south", "east", "west"))
+        return f"{edges}, {self.rows} rows, {self.cols} columns"

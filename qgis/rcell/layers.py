@@ -1,0 +1,117 @@
+"""Layers of QGIS as maps: what the user sees of a layer goes before what its file says."""
+
+from __future__ import annotations
+
+import re
+from typing import Any, Sequence
+
+from qgis.core import QgsColorRampShader, QgsPalettedRasterRenderer, QgsRasterLayer, QgsRasterRange, QgsSingleBandPseudoColorRenderer
+from qgis.PyQt.QtGui import QColor
+
+from .core.errors import BadMap
+from .core.rasters import Raster
+from .core.script import NAME
+
+# What the legends of this plugin add to a label.
+_COUNT = re.compile(r" \(\d+ cells(, [\d.e+]+ (ha|km2))?\)$")
+_LEAST, _GREATEST = float("-inf"), float("inf")
+
+
+def raster_of(layer: QgsRasterLayer, name: str, band: int | None = None) -> Raster:
+    """A band of a layer as a map, the only one where none is named.
+
+    Raises
+    ------
+    BadMap
+        Where the layer is not a raster that GDAL opens, or is no map of categories.
+    """
+    if layer.providerType() != "gdal":
+        told = f"its provider is {layer.providerType()}, and only rasters that GDAL opens are read"
+        raise BadMap(name, f"{told}: export it as a GeoTIFF first")
+    shown = band or 1
+    return Raster.open(name, layer.source(), band, labels_of(layer, shown), null_ranges_of(layer, shown),
+                       layer.dataProvider().useSourceNoDataValue(shown))
+
+
+def labels_of(layer: QgsRasterLayer, band: int) -> dict[int, str]:
+    """The labels of a layer's style, where it has one of classes and they are more than the numbers themselves."""
+    found = {}
+    for value, label in _classes_of(layer.renderer(), band):
+        text = _COUNT.sub("", label)
+        if float(value).is_integer() and text and not _is_number(text, value):
+            found[int(value)] = text
+    return found
+
+
+def _is_number(text: str, value: float) -> bool:
+    try:
+        return float(text) == value
+    except ValueError:
+        return False
+
+
+def _classes_of(renderer: Any, band: int) -> list[tuple[float, str]]:
+    if isinstance(renderer, QgsPalettedRasterRenderer) and renderer.band() == band:
+        return [(entry.value, entry.label) for entry in renderer.classes()]
+    if isinstance(renderer, QgsSingleBandPseudoColorRenderer) and renderer.band() == band and renderer.shader() is not None:
+        function = renderer.shader().rasterShaderFunction()
+        if isinstance(function, QgsColorRampShader) and function.colorRampType() == QgsColorRampShader.Exact:
+            return [(item.value, item.label) for item in function.colorRampItemList()]
+    return []
+
+
+def colours_of(layer: QgsRasterLayer, band: int) -> dict[int, Any]:
+    """The colours of a layer's classes, where its style has classes."""
+    renderer = layer.renderer()
+    if isinstance(renderer, QgsPalettedRasterRenderer) and renderer.band() == band:
+        # A copy: the colour of a class is a part of it, and gone with it.
+        return {int(entry.value): QColor(entry.color) for entry in renderer.classes()}
+    return {}
+
+
+def null_ranges_of(layer: QgsRasterLayer, band: int) -> list[tuple[float, float]]:
+    """What the layer's properties declare as nodata besides that of the file."""
+    return [_bounds(found) for found in layer.dataProvider().userNoDataValues(band)]
+
+
+def _bounds(found: QgsRasterRange) -> tuple[float, float]:
+    least, greatest = found.min(), found.max()
+    # Categories are whole numbers, so that the next one is a step away where an end does not belong to the range.
+    if found.bounds() in (QgsRasterRange.IncludeMax, QgsRasterRange.Exclusive):
+        least = float(int(least // 1) + 1)
+    if found.bounds() in (QgsRasterRange.IncludeMin, QgsRasterRange.Exclusive):
+        greatest = float(-int(-greatest // 1) - 1)
+    return (_LEAST if least != least else least), (_GREATEST if greatest != greatest else greatest)
+
+
+def names_of(layers: Sequence[QgsRasterLayer], given: str) -> list[str]:
+    """The names that a script has for layers: those given, or the layers' own with `_` for what a name cannot have.
+
+    Raises
+    ------
+    BadMap
+        Where there are not as many, one is no name, or one occurs twice.
+    """
+    if not given.strip():
+        return _made_names([layer.name() for layer in layers])
+    names = [name.strip() for name in given.split(",")]
+    if len(names) != len(layers):
+        raise BadMap("arguments", f"{len(names)} names are given, and {len(layers)} rasters")
+    for at, name in enumerate(names):
+        if not NAME.fullmatch(name):
+            raise BadMap("arguments", f"`{name}` is no name: a letter or _, then letters, digits, _ and . (64 at most)")
+        if name in names[:at]:
+            raise BadMap("arguments", f"the name `{name}` is given twice")
+    return names
+
+
+def _made_names(titles: Sequence[str]) -> list[str]:
+    names: list[str] = []
+    for title in titles:
+        plain = re.sub(r"[^A-Za-z0-9_.]", "_", title)[:60] or "_"
+        base = plain if NAME.fullmatch(plain) else f"_{plain}"
+        number, name = 2, base
+        while name in names:
+            number, name = number + 1, f"{base}_{number}"
+        names.append(name)
+    return names

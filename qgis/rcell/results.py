@@ -1,0 +1,136 @@
+"""What the algorithms leave: rasters with a legend, and tables."""
+
+from __future__ import annotations
+
+import colorsys
+import contextlib
+import os
+from typing import Any, Mapping, Sequence
+
+from qgis.core import (
+    QgsFeature,
+    QgsFeatureSink,
+    QgsField,
+    QgsFields,
+    QgsPalettedRasterRenderer,
+    QgsProcessingContext,
+    QgsProcessingLayerPostProcessorInterface,
+    QgsRasterFileWriter,
+    QgsRasterLayer,
+)
+from qgis.PyQt.QtCore import QVariant
+from qgis.PyQt.QtGui import QColor
+
+from .core.answers import UNITS, Grid, Table
+from .core.errors import WriteFailed
+from .core.files import Check, partly, write_raster
+from .core.rasters import Raster
+
+# A legend of more classes is none.
+MOST_CLASSES = 1000
+_TYPES = {"whole": QVariant.LongLong, "real": QVariant.Double, "text": QVariant.String}
+_GOLDEN = 0.618033988749895
+
+
+# Rasters
+
+
+def put_raster(path: str, grid: Grid, like: Raster, check: Check) -> None:
+    """Writes a map under a path, in the format of its ending.
+
+    Raises
+    ------
+    WriteFailed
+    """
+    driver = QgsRasterFileWriter.driverForExtension(os.path.splitext(path)[1])
+    if not driver:
+        raise WriteFailed(path, "no format has this ending")
+    write_raster(path, driver, grid.cells, grid.null, like, grid.labels, check)
+
+
+def put_legend(path: str, classes: Sequence[tuple[int, str]], colours: Mapping[int, Any], context: QgsProcessingContext) -> bool:
+    """Gives a raster a legend: the file .qml beside it, and the layer that QGIS loads of it. False where it has too many classes."""
+    style = os.path.splitext(path)[0] + ".qml"
+    if not 0 < len(classes) <= MOST_CLASSES:
+        with contextlib.suppress(OSError):
+            os.unlink(style)
+        return not classes
+    # Its default style would have the statistics of the whole map reckoned, and left beside it.
+    options = QgsRasterLayer.LayerOptions(loadDefaultStyle=False)
+    layer = QgsRasterLayer(path, "legend", "gdal", options)
+    entries = [
+        QgsPalettedRasterRenderer.Class(value, colours.get(value) or _colour(place), label) for place, (value, label) in enumerate(classes)
+    ]
+    layer.setRenderer(QgsPalettedRasterRenderer(layer.dataProvider(), 1, entries))
+    with partly(style) as part:
+        if not layer.saveNamedStyle(part)[1]:
+            raise WriteFailed(style, "the style could not be saved")
+    if context.willLoadLayerOnCompletion(path):
+        _styles.append(_Style(style))
+        context.layerToLoadOnCompletionDetails(path).setPostProcessor(_styles[-1])
+    return True
+
+
+class _Style(QgsProcessingLayerPostProcessorInterface):
+    """Gives a result its legend once it is loaded: QGIS does not look for the .qml of a result."""
+
+    def __init__(self, path: str) -> None:
+        super().__init__()
+        self._path = path
+
+    def postProcessLayer(self, layer: Any, context: Any, feedback: Any) -> None:
+        """Called in the thread of the window."""
+        layer.loadNamedStyle(self._path)
+        layer.triggerRepaint()
+
+
+# QGIS keeps no hold of them, and runs a copy of the algorithm, which is gone by then.
+_styles: list[_Style] = []
+
+
+def _colour(place: int) -> QColor:
+    """Colours that differ from those beside them, always the same."""
+    red, green, blue = colorsys.hsv_to_rgb((0.33 + place * _GOLDEN) % 1.0, 0.45 + 0.15 * (place % 3), 0.92 - 0.16 * (place // 3 % 3))
+    return QColor(round(red * 255), round(green * 255), round(blue * 255))
+
+
+def counted(label: str, cells: int, like: Raster) -> str:
+    """A label of a legend, with what it stands for: hectares, or square kilometres where a cell has one."""
+    unit = "km2" if like.cell_area >= UNITS["km2"] else "ha"
+    area = "" if like.is_geographic else f", {cells * like.cell_area / UNITS[unit]:.10g} {unit}"
+    return f"{label} ({cells} cells{area})"
+
+
+def counted_classes(grid: Grid, like: Raster) -> list[tuple[int, str]]:
+    """The classes of a map for its legend, each with what it stands for."""
+    counts = grid.counts().items()
+    return [(category, counted(grid.labels.get(category, str(category)), cells, like)) for category, cells in counts]
+
+
+# Tables
+
+
+def fields_of(table: Table) -> QgsFields:
+    """The fields of a table."""
+    fields = QgsFields()
+    for column in table.columns():
+        if not fields.append(QgsField(column.title, _TYPES[column.kind])):
+            raise WriteFailed("the table", f"there is a field {column.title} already")
+    return fields
+
+
+def put_features(sink: QgsFeatureSink, table: Table, path: str) -> None:
+    """Puts the rows of a table into a sink.
+
+    Raises
+    ------
+    WriteFailed
+    """
+    fields = fields_of(table)
+    features = []
+    for row in zip(*(column.values for column in table.columns())):
+        feature = QgsFeature(fields)
+        feature.setAttributes(list(row))
+        features.append(feature)
+    if not sink.addFeatures(features, QgsFeatureSink.FastInsert):
+        raise WriteFailed(path, sink.lastError() or "the disk may be full")

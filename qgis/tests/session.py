@@ -1,0 +1,77 @@
+"""A QGIS without a screen, with the plugin in it: one for all tests of a process."""
+
+from __future__ import annotations
+
+import os
+import sys
+from typing import Any
+
+os.environ.setdefault("QT_QPA_PLATFORM", "offscreen")
+sys.path[:0] = [os.path.dirname(os.path.dirname(os.path.abspath(__file__))), "/usr/share/qgis/python/plugins"]
+
+from qgis.core import QgsApplication, QgsProcessingFeedback, QgsSettings  # noqa: E402  (the path above has to be set first)
+
+_kept: list[Any] = []
+
+
+def start() -> None:
+    """Starts QGIS, once."""
+    if _kept:
+        return
+    application = QgsApplication([], False)
+    application.initQgis()
+    QgsSettings().setValue("Processing/Configuration/RCELL_PROGRAM", "")
+    import processing
+    from processing.core.Processing import Processing
+    from rcell.plugin import RcellPlugin
+
+    Processing.initialize()
+    plugin = RcellPlugin()
+    plugin.initProcessing()
+    _kept.extend([application, processing, plugin])
+
+
+def has(algorithm: str) -> bool:
+    """Whether QGIS has an algorithm."""
+    return QgsApplication.processingRegistry().algorithmById(algorithm) is not None
+
+
+class Log(QgsProcessingFeedback):
+    """What a run tells."""
+
+    def __init__(self) -> None:
+        super().__init__(False)
+        self.told: list[str] = []
+
+    def pushCommandInfo(self, text: str) -> None:
+        """What is run."""
+        self.told.append(f"command: {text}")
+
+    def pushInfo(self, text: str) -> None:
+        """What is said by the way."""
+        self.told.append(f"info: {text}")
+
+    def pushWarning(self, text: str) -> None:
+        """What is warned of."""
+        self.told.append(f"warning: {text}")
+
+    def reportError(self, text: str, fatalError: bool = False) -> None:
+        """What went wrong."""
+        self.told.append(f"error: {text}")
+
+
+def run(algorithm: Any, log: QgsProcessingFeedback | None = None, **parameters: Any) -> dict[str, Any]:
+    """Runs an algorithm, by its name or a model, and answers its results."""
+    import processing
+
+    found: dict[str, Any] = processing.run(algorithm, parameters, feedback=log or Log())
+    return found
+
+
+def rows(layer: Any) -> tuple[list[str], list[list[Any]]]:
+    """The titles and the rows of a table, None for null."""
+    from qgis.core import NULL, QgsVectorLayer
+
+    table = QgsVectorLayer(layer, "table", "ogr") if isinstance(layer, str) else layer
+    titles = [field.name() for field in table.fields()]
+    return titles, [[None if value == NULL else value for value in feature.attributes()] for feature in table.getFeatures()]

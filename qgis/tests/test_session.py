@@ -1,0 +1,267 @@
+"""A short session of QGIS: each algorithm once, what the dialog refuses, legends, labels, names of fields."""
+
+from __future__ import annotations
+
+import os
+import stat
+import tempfile
+import threading
+import time
+import unittest
+
+import made
+import numpy as np
+import session
+from osgeo import gdal
+from qgis.core import (
+    QgsApplication,
+    QgsPalettedRasterRenderer,
+    QgsProcessingContext,
+    QgsProcessingException,
+    QgsProject,
+    QgsRasterLayer,
+    QgsRasterRange,
+    QgsSettings,
+    QgsVectorLayer,
+)
+from qgis.PyQt.QtGui import QColor
+
+COVER = np.array([[1, 1, 2, 0, 3], [1, 2, 2, 2, 3], [3, 3, 1, 1, 2], [3, 1, 1, 2, 2]])
+ZONES = np.array([[7, 7, 8, 8, 8], [7, 7, 8, 8, 8], [0, 7, 8, 8, 8], [0, 7, 7, 8, 8]])
+NAMES = ["", "wood, wet", "Wiese \u00fc", "built up"]
+
+
+class InSession(unittest.TestCase):
+    def setUp(self) -> None:
+        session.start()
+        folder = tempfile.TemporaryDirectory(prefix="R\u00e4ume mit Leerzeichen ")
+        self.addCleanup(folder.cleanup)
+        self.room = folder.name
+        self.cover = made.write(self.path("cover.tif"), COVER, gdal.GDT_Byte, nodata=0, names=NAMES)
+        self.zones = made.write(self.path("zones.tif"), ZONES, gdal.GDT_Int16, nodata=0)
+        self.log = session.Log()
+
+    def path(self, name: str) -> str:
+        return os.path.join(self.room, name)
+
+    def run_(self, name: str, **parameters: object) -> dict:
+        return session.run(f"rcell:{name}", self.log, **parameters)
+
+    def refused(self, text: str, name: str, **parameters: object) -> str:
+        with self.assertRaises(QgsProcessingException) as caught:
+            self.run_(name, **parameters)
+        message = str(caught.exception)
+        self.assertIn(text, message)
+        self.assertEqual(made.left_in(self.room), [])
+        return message
+
+    def labelled(self, classes: list[tuple[int, str]]) -> QgsRasterLayer:
+        layer = QgsRasterLayer(self.cover, "cover", "gdal")
+        entries = [QgsPalettedRasterRenderer.Class(value, QColor(10 * value, 20, 30), label) for value, label in classes]
+        layer.setRenderer(QgsPalettedRasterRenderer(layer.dataProvider(), 1, entries))
+        return layer
+
+
+class TableTest(InSession):
+    def test_class_by_zone(self) -> None:
+        found = self.run_("table", INPUT=[self.cover, self.zones], UNIT=2, PERCENT=True, OUTPUT="TEMPORARY_OUTPUT")
+        titles, rows = session.rows(found["OUTPUT"])
+        self.assertEqual(titles, ["cover", "cover_label", "zones", "cells", "ha", "percent"])
+        self.assertEqual([row[:5] for row in rows[:2]], [[1, "wood, wet", 7, 5, 0.2], [1, "wood, wet", 8, 2, 0.08]])
+        self.assertEqual(found["ROWS"], 6)
+        self.assertIn("\n  r.stats -cn input=map_1,map_2", self.log.told[0])
+
+    def test_two_layers_of_one_name(self) -> None:
+        first, second = QgsRasterLayer(self.zones, "p02"), QgsRasterLayer(self.cover, "P02")
+        titles, rows = session.rows(self.run_("table", INPUT=[first, second], OUTPUT="TEMPORARY_OUTPUT")["OUTPUT"])
+        self.assertEqual((titles, rows[0]), (["p02", "P02_2", "P02_label", "cells"], [7, 1, "wood, wet", 5]))
+
+    def test_files_of_tables_have_numbers_as_numbers(self) -> None:
+        for ending in ("gpkg", "csv"):
+            path = self.run_("table", INPUT=[self.cover], NULLS=True, OUTPUT=self.path(f"t.{ending}"))["OUTPUT"]
+            layer = QgsVectorLayer(path, "t", "ogr")
+            kinds = {field.name(): field.typeName() for field in layer.fields()}
+            self.assertEqual((kinds["cover"], kinds["cells"], kinds["cover_label"]), ("Integer64", "Integer64", "String"))
+            self.assertEqual(session.rows(layer)[1][-1][-1], 1)
+        self.assertEqual(made.left_in(self.room), [])
+
+    def test_labels_are_those_that_the_user_sees(self) -> None:
+        layer = self.labelled([(1, "1"), (2, "meadow"), (3, "town (12 cells, 4.8 ha)")])
+        titles, rows = session.rows(self.run_("table", INPUT=[layer], OUTPUT="TEMPORARY_OUTPUT")["OUTPUT"])
+        self.assertEqual([row[1] for row in rows], [None, "meadow", "town"])
+        plain = self.labelled([(1, "1"), (2, "2"), (3, "3")])
+        self.assertEqual(session.rows(self.run_("table", INPUT=[plain], OUTPUT="TEMPORARY_OUTPUT")["OUTPUT"])[1][0][1], "wood, wet")
+
+    def test_nulls_are_those_that_the_user_has_declared(self) -> None:
+        layer = QgsRasterLayer(self.zones, "zones")
+        layer.dataProvider().setUserNoDataValue(1, [QgsRasterRange(8, 8)])
+        layer.dataProvider().setUseSourceNoDataValue(1, False)
+        rows = session.rows(self.run_("table", INPUT=[layer], NULLS=True, OUTPUT="TEMPORARY_OUTPUT")["OUTPUT"])[1]
+        self.assertEqual(rows, [[0, 2], [7, 7], [None, 11]])
+
+    def test_floats_beyond_their_exactness_are_warned_of(self) -> None:
+        path = made.write(self.path("far.tif"), [[2**24 + 2, 1]], gdal.GDT_Float32)
+        self.run_("table", INPUT=[path], OUTPUT="TEMPORARY_OUTPUT")
+        self.assertIn("warning: far: floats of 32 bits are not exact beyond 16777216, and the map has greater cells", self.log.told)
+
+
+class RefusalsTest(InSession):
+    """What the dialog refuses before the run; the same words come from qgis_process."""
+
+    def test_maps(self) -> None:
+        shifted = made.write(self.path("shifted.tif"), COVER, transform=(500010, 20, 0, 5400000, 0, -20))
+        message = self.refused("Unable to execute algorithm\nshifted: not of the region of `cover`, and nothing is resampled: east is 500110",
+                               "table", INPUT=[self.cover, shifted], OUTPUT=self.path("t.gpkg"))
+        self.assertIn("\n  shifted: north 5400000, south 5399920, east 500110, west 500010, 4 rows, 5 columns", message)
+        bands = made.write(self.path("bands.tif"), COVER, bands=3)
+        self.refused("Unable to execute algorithm\nbands: has 3 bands", "table", INPUT=[bands], OUTPUT=self.path("t.gpkg"))
+        turned = made.write(self.path("turned.tif"), COVER, transform=(0, 20, 3, 0, 3, -20))
+        self.refused("Unable to execute algorithm\nturned: a rotated transform", "areas", INPUT=turned, OUTPUT=self.path("a.tif"), SIZES=self.path("t.gpkg"))
+        halves = made.write(self.path("halves.tif"), COVER / 2, gdal.GDT_Float32)
+        self.refused("Unable to execute algorithm\nhalves: not a map of whole numbers: the cell at row 1, column 1 is 0.5", "mode", INPUT=halves,
+                     OUTPUT=self.path("m.tif"))
+        degrees = made.write(self.path("degrees.tif"), COVER, transform=made.DEGREES, epsg=4326)
+        self.refused("area= needs a map in metres or feet", "table", INPUT=[degrees], UNIT=2, OUTPUT=self.path("t.gpkg"))
+        self.refused("nowhere: cannot open: ", "table", INPUT=[self.path("nowhere.tif")], OUTPUT=self.path("t.gpkg"))
+        self.assertFalse(os.path.exists(self.path("t.gpkg")))
+
+    def test_a_fault_far_down_is_found_by_the_run(self) -> None:
+        cells = np.ones((3000, 300))
+        cells[2900, 17] = 0.5
+        path = made.write(self.path("late.tif"), cells, gdal.GDT_Float32)
+        message = self.refused("late: not a map of whole numbers: the cell at row 2901, column 18 is 0.5", "table", INPUT=[path], OUTPUT=self.path("t.gpkg"))
+        self.assertNotIn("Unable to execute", message)
+        self.assertFalse(os.path.exists(self.path("t.gpkg")))
+
+    def test_words(self) -> None:
+        self.refused("arguments: no raster is given", "table", INPUT=[], OUTPUT="TEMPORARY_OUTPUT")
+        self.refused("arguments: 17 rasters, and a table has at most 16", "table", INPUT=[self.cover] * 17, OUTPUT="TEMPORARY_OUTPUT")
+        self.refused("cover: has 1 band, and no band 5", "mode", INPUT=self.cover, BAND=5, SIZE=0, OUTPUT=self.path("m.tif"))
+        self.refused("no format has this ending", "mode", INPUT=self.cover, SIZE=0, OUTPUT=self.path("m.xyz9"))
+        self.refused("arguments: classes are whole numbers, divided by commas, and not `1;2`", "areas", INPUT=self.cover, CLASSES="1;2",
+                     OUTPUT=self.path("a.tif"), SIZES="TEMPORARY_OUTPUT")
+        common = {"INPUT": [self.cover], "SCRIPT": "r.stats -c input=lc\nr.stats input=lc"}
+        self.refused("2 names are given, and 1 rasters", "script", **common, NAMES="a,b")
+        self.refused("`1a` is no name", "script", **common, NAMES="1a")
+        self.refused("one table is asked for, and the script has r.stats in line 1, r.stats in line 2", "script", **common, TABLE="TEMPORARY_OUTPUT")
+        self.refused("the script makes none: name the map", "script", **common, NAMES="lc", OUTPUT=self.path("x.tif"))
+        self.refused("the map x is wanted, and no place for it is given", "script", **common, NAMES="lc", MAP="x")
+
+    def test_a_line_of_a_script_is_shown_with_a_mark(self) -> None:
+        message = self.refused("script, line 2", "script", INPUT=[self.cover], NAMES="lc", SCRIPT="# a note\nr.mapcalc x = lc + 1.5")
+        self.assertEqual(message, "script, line 2: number not whole at column 20\n  r.mapcalc x = lc + 1.5\n                     ^")
+
+    def test_a_folder_that_is_missing_is_told_before_the_run(self) -> None:
+        self.refused("cannot be written: there is no folder", "table", INPUT=[self.cover], OUTPUT=self.path("nowhere/t.gpkg"))
+        self.refused("cannot be written: there is no folder", "mode", INPUT=self.cover, OUTPUT=self.path("nowhere/m.tif"))
+        self.assertEqual([line for line in self.log.told if line.startswith("command")], [])
+
+    def test_a_program_that_is_missing(self) -> None:
+        QgsSettings().setValue("Processing/Configuration/RCELL_PROGRAM", "/nowhere/rcell")
+        try:
+            from processing.core.ProcessingConfig import ProcessingConfig
+
+            ProcessingConfig.readSettings()
+            algorithm = QgsApplication.processingRegistry().algorithmById("rcell:mode")
+            self.assertEqual(algorithm.canExecute(), (False, "the program /nowhere/rcell is not there, or may not be executed"))
+            self.refused("the program /nowhere/rcell is not there", "mode", INPUT=self.cover, OUTPUT=self.path("m.tif"))
+        finally:
+            QgsSettings().setValue("Processing/Configuration/RCELL_PROGRAM", "")
+            ProcessingConfig.readSettings()
+
+
+class MapsTest(InSession):
+    def legend(self, path: str) -> list[tuple[int, str]]:
+        layer = QgsRasterLayer(path, "map", "gdal")
+        self.assertEqual(layer.renderer().type(), "paletted")
+        return [(int(entry.value), entry.label) for entry in layer.renderer().classes()]
+
+    def test_areas(self) -> None:
+        found = self.run_("areas", INPUT=self.cover, DIAGONAL=True, LEAST=3, OUTPUT=self.path("areas.tif"), SIZES="TEMPORARY_OUTPUT")
+        titles, rows = session.rows(found["SIZES"])
+        self.assertEqual((titles, rows[0]), (["area", "category", "label", "cells", "ha"], [1, 1, "wood, wet", 3, 0.12]))
+        self.assertEqual((found["AREAS"], self.legend(found["OUTPUT"])[1]), (4, (2, "2: Wiese \u00fc (7 cells, 0.28 ha)")))
+        self.assertEqual(set(self.run_("areas", INPUT=self.cover, OUTPUT=self.path("alone.tif"))), {"AREAS", "OUTPUT"})
+        dataset = gdal.Open(found["OUTPUT"])
+        self.assertEqual((dataset.GetRasterBand(1).GetNoDataValue(), dataset.GetSpatialRef().GetAuthorityCode(None)), (0, "32632"))
+        self.assertEqual(dataset.GetGeoTransform(), made.METRES)
+
+    def test_reclass(self) -> None:
+        found = self.run_("reclass", INPUT=self.cover, RULES="1 2 = 1 green, all of it\n3 = 9", OUTPUT=self.path("r.tif"))
+        self.assertEqual(self.legend(found["OUTPUT"]), [(1, "green, all of it (14 cells, 0.56 ha)"), (9, "9 (5 cells, 0.2 ha)")])
+        dataset = gdal.Open(found["OUTPUT"])
+        band = dataset.GetRasterBand(1)
+        band.GetNoDataValue()
+        self.assertEqual(band.GetRasterCategoryNames()[1], "green, all of it")
+        # What it leaves goes on to the next algorithm: the label, and not the count of the legend.
+        rows = session.rows(self.run_("table", INPUT=[QgsRasterLayer(found["OUTPUT"], "r")], OUTPUT="TEMPORARY_OUTPUT")["OUTPUT"])[1]
+        self.assertEqual(rows[0], [1, "green, all of it", 14])
+
+    def test_mode_keeps_labels_and_colours(self) -> None:
+        layer = self.labelled([(1, "wet wood"), (2, "meadow"), (3, "town")])
+        found = self.run_("mode", INPUT=layer, SIZE=0, OUTPUT=self.path("m.tif"))
+        result = QgsRasterLayer(found["OUTPUT"], "map")
+        entries = result.renderer().classes()
+        self.assertEqual([(entry.label, entry.color.red()) for entry in entries], [("wet wood", 10), ("meadow", 20), ("town", 30)])
+        self.assertTrue((np.array(gdal.Open(found["OUTPUT"]).ReadAsArray()) == made.commonest(COVER, 3)).all())
+
+    def test_the_legend_of_a_result_that_is_loaded(self) -> None:
+        from processing.gui.AlgorithmExecutor import execute
+        from qgis.core import QgsProcessingOutputLayerDefinition
+
+        context = QgsProcessingContext()
+        project = QgsProject()
+        context.setProject(project)
+        target = QgsProcessingOutputLayerDefinition(self.path("loaded.tif"), project)
+        algorithm = QgsApplication.processingRegistry().createAlgorithmById("rcell:reclass")
+        ok, found = execute(algorithm, {"INPUT": self.cover, "RULES": "1 thru 3 = 1 all", "OUTPUT": target}, context, self.log)
+        self.assertTrue(ok, self.log.told)
+        details = context.layerToLoadOnCompletionDetails(found["OUTPUT"])
+        layer = QgsRasterLayer(found["OUTPUT"], "loaded", "gdal", QgsRasterLayer.LayerOptions(loadDefaultStyle=False))
+        details.postProcessor().postProcessLayer(layer, context, self.log)
+        self.assertEqual([entry.label for entry in layer.renderer().classes()], ["all (19 cells, 0.76 ha)"])
+
+    def test_a_script_and_all_that_it_writes(self) -> None:
+        script = "r.mapcalc big = lc * 1000000000\nr.stats -c -l input=lc,zone\nr.out.ascii input=big\nr.stats input=zone"
+        found = self.run_("script", INPUT=[self.cover, self.zones], NAMES="lc, zone", SCRIPT=script, OUTPUT=self.path("x.tif"), FOLDER=self.path("all"),
+                          UNIT=0)
+        self.assertEqual(sorted(name for name in os.listdir(found["FOLDER"]) if not name.endswith(".xml")),
+                         ["big.qml", "big.tif", "table_2.csv", "table_2.csvt", "table_4.csv", "table_4.csvt"])
+        self.assertEqual(gdal.Open(found["OUTPUT"]).ReadAsArray()[0].tolist(), [10**9, 10**9, 2 * 10**9, -(2**31), -(2**31)])
+        self.assertTrue(any("r.stats in line 4:\nzone\n   7" in line for line in self.log.told), self.log.told)
+
+    def test_a_raster_may_be_written_over_itself(self) -> None:
+        self.run_("mode", INPUT=self.zones, SIZE=0, OUTPUT=self.zones)
+        found = gdal.Open(self.zones).ReadAsArray()
+        self.assertTrue((np.where(found == -(2**31), 0, found) == made.commonest(ZONES, 3)).all())
+
+    def test_other_tables_are_left_to_qgis(self) -> None:
+        for target in (self.path("t.ods"), f"ogr:dbname='{self.path('db.gpkg')}' table=\"t\""):
+            self.assertEqual(self.run_("table", INPUT=[self.cover], OUTPUT=target)["ROWS"], 3)
+
+    def test_names_are_made_of_those_of_layers(self) -> None:
+        layer = QgsRasterLayer(self.cover, "Gel\u00e4nde 2020 (neu)")
+        found = self.run_("script", INPUT=[layer], SCRIPT="r.stats -c input=Gel_nde_2020__neu_", TABLE="TEMPORARY_OUTPUT")
+        self.assertEqual(session.rows(found["TABLE"])[0], ["Gel_nde_2020__neu_", "cells"])
+
+    def test_a_run_that_is_cancelled_leaves_no_file(self) -> None:
+        path = self.path("sleeping")
+        with open(path, "w", encoding="utf-8") as file:
+            file.write(f'#!/bin/sh\ntest -e "$0.known" && exec sleep 60\ntouch "$0.known"\nexec "{os.environ["RCELL"]}" "$@"\n')
+        os.chmod(path, stat.S_IRWXU)
+        from processing.core.ProcessingConfig import ProcessingConfig
+
+        ProcessingConfig.setSettingValue("RCELL_PROGRAM", path)
+        try:
+            self.assertEqual(QgsApplication.processingRegistry().algorithmById("rcell:mode").canExecute()[0], True)
+            started = time.monotonic()
+            threading.Timer(0.5, self.log.cancel).start()
+            self.refused("cancelled", "mode", INPUT=self.cover, OUTPUT=self.path("m.tif"))
+            self.assertLess(time.monotonic() - started, 1.0)
+            self.assertFalse(os.path.exists(self.path("m.tif")))
+        finally:
+            ProcessingConfig.setSettingValue("RCELL_PROGRAM", "")
+
+
+if __name__ == "__main__":
+    unittest.main()

@@ -1,0 +1,135 @@
+"""Answers equal to those of QGIS's own algorithms and of GRASS, on random, patchy and one real map."""
+
+from __future__ import annotations
+
+import html
+import os
+import re
+import shutil
+import unittest
+
+import made
+import numpy as np
+import session
+from numpy.typing import NDArray
+from osgeo import gdal
+from test_session import InSession
+
+ISLANDS = os.path.join(os.path.dirname(os.path.abspath(__file__)), "../../examples/rasters")
+
+
+class AnswersTest(InSession):
+    """Each map by three ways: the plugin, native:rasterlayeruniquevaluesreport, grass7:r.stats."""
+
+    def setUp(self) -> None:
+        super().setUp()
+        # QGIS leaves statistics beside a raster that it opens.
+        shutil.copytree(ISLANDS, self.path("islands"))
+
+    def maps(self) -> dict[str, str]:
+        return {
+            "noise": made.write(self.path("noise.tif"), made.noise(1, 300, 300), gdal.GDT_Byte, nodata=0),
+            "patchy": made.write(self.path("patchy.tif"), made.patchy(2, 300, 400), gdal.GDT_Int16, nodata=0),
+            "country": self.path("islands/country.tif"),
+        }
+
+    def counted(self, path: str) -> dict[tuple[int, ...], tuple[int, float]]:
+        """Cells and square metres of each category by the plugin."""
+        titles, rows = session.rows(self.run_("table", INPUT=[path], UNIT=1, OUTPUT="TEMPORARY_OUTPUT")["OUTPUT"])
+        at, area = titles.index("cells"), titles.index("m2")
+        return {(row[0],): (row[at], row[area]) for row in rows}
+
+    def test_tables_of_native(self) -> None:
+        for name, path in self.maps().items():
+            with self.subTest(map=name):
+                found = session.run("native:rasterlayeruniquevaluesreport", INPUT=path, BAND=1, OUTPUT_TABLE="TEMPORARY_OUTPUT")
+                rows = session.rows(found["OUTPUT_TABLE"])[1]
+                native = {(int(row[0]),): (int(row[1]), row[2]) for row in rows}
+                mine = self.counted(path)
+                self.assertEqual({key: cells for key, (cells, _) in mine.items()}, {key: cells for key, (cells, _) in native.items()})
+                for key, (_, area) in mine.items():
+                    self.assertAlmostEqual(area / native[key][1], 1.0, 9)
+
+    def grass(self, *paths: str) -> dict[tuple[int, ...], int]:
+        """Cells of each combination by r.stats."""
+        target = self.path("stats.html")
+        session.run("grass7:r.stats", input=list(paths), separator="space", null_value="*", nsteps=255, sort=0, html=target,
+                    **{"-c": True, "-n": True, "-1": False})
+        with open(target, encoding="utf-8") as file:
+            text = html.unescape(re.sub(r"<[^>]*>", "\n", file.read()))
+        lines = (line.split() for line in text.split("\n"))
+        numbers = [[int(word) for word in words] for words in lines if len(words) == len(paths) + 1 and all(word.lstrip("-").isdigit() for word in words)]
+        return {tuple(words[:-1]): words[-1] for words in numbers}
+
+    def test_tables_of_grass(self) -> None:
+        if not session.has("grass7:r.stats"):
+            self.skipTest("QGIS has no GRASS (the plugin grassprovider, grass-core)")
+        maps = self.maps()
+        for name, path in maps.items():
+            with self.subTest(map=name):
+                self.assertEqual({key: cells for key, (cells, _) in self.counted(path).items()}, self.grass(path))
+        pairs = [(made.write(self.path("a.tif"), made.noise(3, 200, 200), gdal.GDT_Byte, nodata=0),
+                  made.write(self.path("b.tif"), made.patchy(4, 200, 200), gdal.GDT_Byte, nodata=0)),
+                 (maps["country"], self.path("islands/hemisphere.tif"))]
+        for first, second in pairs:
+            titles, rows = session.rows(self.run_("table", INPUT=[first, second], OUTPUT="TEMPORARY_OUTPUT")["OUTPUT"])
+            places = [at for at, title in enumerate(titles) if not title.endswith("_label")]
+            found = {tuple(row[at] for at in places[:-1]): row[places[-1]] for row in rows}
+            self.assertEqual(found, self.grass(first, second))
+
+    def test_areas_of_grass(self) -> None:
+        if not session.has("grass7:r.clump"):
+            self.skipTest("QGIS has no GRASS (the plugin grassprovider, grass-core)")
+        for name, path in self.maps().items():
+            for diagonal in (False, True):
+                with self.subTest(map=name, diagonal=diagonal):
+                    session.run("grass7:r.clump", input=path, title="areas", output=self.path("clump.tif"), **{"-d": diagonal})
+                    found = self.run_("areas", INPUT=path, DIAGONAL=diagonal, OUTPUT=self.path("areas.tif"), SIZES="TEMPORARY_OUTPUT")
+                    mine = gdal.Open(found["OUTPUT"]).ReadAsArray()
+                    self.assert_one_to_one(mine, gdal.Open(self.path("clump.tif")), found["AREAS"])
+
+    def assert_one_to_one(self, mine: NDArray[np.int32], dataset: gdal.Dataset, count: int) -> None:
+        """The same areas under other numbers."""
+        theirs = dataset.ReadAsArray().astype(np.int64)
+        nodata = dataset.GetRasterBand(1).GetNoDataValue()
+        theirs[theirs == nodata] = 0
+        self.assertTrue(((mine == 0) == (theirs == 0)).all())
+        pairs = np.unique(mine[mine > 0].astype(np.int64) << 32 | theirs[mine > 0])
+        self.assertEqual((len(pairs), len(np.unique(pairs & (2**32 - 1)))), (count, count))
+
+    def test_majorities_of_grass(self) -> None:
+        if not session.has("grass7:r.neighbors"):
+            self.skipTest("QGIS has no GRASS (the plugin grassprovider, grass-core)")
+        for name, path in self.maps().items():
+            with self.subTest(map=name):
+                session.run("grass7:r.neighbors", input=path, method=2, size=3, output=self.path("mode.tif"))
+                found = self.run_("mode", INPUT=path, SIZE=0, OUTPUT=self.path("m.tif"))
+                mine, dataset = gdal.Open(found["OUTPUT"]).ReadAsArray(), gdal.Open(self.path("mode.tif"))
+                theirs = dataset.ReadAsArray().astype(np.int64)
+                theirs[theirs == dataset.GetRasterBand(1).GetNoDataValue()] = -(2**31)
+                self.assertTrue((mine == theirs).all())
+
+    def test_a_model_of_two_algorithms(self) -> None:
+        from model import LEAST, RULES, model_of_areas
+
+        path = self.maps()["country"]
+        names = {"areas:Map of areas": self.path("model.tif"), "areas:Table of areas": self.path("model.gpkg")}
+        session.run(model_of_areas(), cover=path, **names)
+        grouped = self.run_("reclass", INPUT=path, RULES=RULES, OUTPUT=self.path("r.tif"))["OUTPUT"]
+        found = self.run_("areas", INPUT=grouped, DIAGONAL=True, LEAST=LEAST, OUTPUT=self.path("a.tif"), SIZES="TEMPORARY_OUTPUT")
+        self.assertTrue((gdal.Open(found["OUTPUT"]).ReadAsArray() == gdal.Open(self.path("model.tif")).ReadAsArray()).all())
+        self.assertEqual([row[1:] for row in session.rows(self.path("model.gpkg"))[1]], session.rows(found["SIZES"])[1])
+
+    def test_rules_of_native(self) -> None:
+        path = self.maps()["noise"]
+        table = [1, 3, 1, 4, 7, 2, 8, 12, 3]
+        session.run("native:reclassifybytable", INPUT_RASTER=path, RASTER_BAND=1, TABLE=table, RANGE_BOUNDARIES=2, NODATA_FOR_MISSING=True, DATA_TYPE=5,
+                    NO_DATA=-9999, OUTPUT=self.path("native.tif"))
+        found = self.run_("reclass", INPUT=path, RULES="1 thru 3 = 1\n4 thru 7 = 2\n8 thru 12 = 3", OUTPUT=self.path("r.tif"))
+        theirs = gdal.Open(self.path("native.tif")).ReadAsArray().astype(np.int64)
+        mine = gdal.Open(found["OUTPUT"]).ReadAsArray()
+        self.assertTrue((np.where(theirs == -9999, -(2**31), theirs) == mine).all())
+
+
+if __name__ == "__main__":
+    unittest.main()
