@@ -44,13 +44,24 @@ raster_source <- function(name, raster) {
   if (any(scale != c(1, 0))) {
     bad_map(name, sprintf("its values are scaled: each cell times %g, plus %g; write them out as whole numbers first", scale[[1]], scale[[2]]))
   }
+  if (has_signed_bytes(raster)) {
+    bad_map(name, "its bytes are signed, and terra reads them as 0 to 255: write it as a map of 16 bits by another program first")
+  }
   list(name = name, raster = raster, template = template_of(raster), region = region_of(name, raster), labels = labels_of(raster))
+}
+
+# Until GDAL 3.7 signed bytes are a note beside the type, of which terra knows nothing: -5 is read as 251.
+has_signed_bytes <- function(raster) {
+  if (!("INT1U" %in% datatype(raster))) return(FALSE)
+  paths <- Filter(nzchar, sources(raster))
+  any(vapply(paths, function(path) any(grepl("PIXELTYPE=SIGNEDBYTE", with_path(path, describe(path)), fixed = TRUE)), NA))
 }
 
 # The geometry alone: no cells, labels or colours.
 template_of <- function(raster) rast(nrows = nrow(raster), ncols = ncol(raster), extent = ext(raster), crs = crs(raster))
 
 path_source <- function(name, path) {
+  path <- native_path(path)
   is_file <- file.exists(path)
   if (!is_file && !grepl("^/vsi|^[A-Za-z][A-Za-z0-9+.-]+:", path)) {
     read_failed(name, sprintf("cannot open: %s: No such file or directory", path))
@@ -117,9 +128,10 @@ labels_of <- function(raster) {
   if (!is.factor(raster)) return(NULL)
   table <- levels(raster)[[1]]
   if (!is.data.frame(table) || NCOL(table) < 2L) return(NULL)
-  labels <- enc2utf8(as.character(table[[2]]))
-  kept <- !is.na(labels)
-  list(codes = as.integer(table[[1]])[kept], labels = labels[kept])
+  labels <- utf8_of(as.character(table[[2]]))
+  codes <- suppressWarnings(as.integer(table[[1]]))
+  kept <- !is.na(labels) & !is.na(codes)
+  list(codes = codes[kept], labels = labels[kept])
 }
 
 # Writes the text of a map by blocks of rows. A map of the program's own form is linked.
@@ -132,7 +144,7 @@ send_map <- function(source, path) {
   raster <- source$raster
   is_exact <- is_exact_type(raster)
   is_float <- datatype(raster) %in% "FLT4S"
-  readStart(raster)
+  tryCatch(readStart(raster), error = function(e) read_failed(source$name, sprintf("cannot open: %s", told(e))))
   on.exit(readStop(raster))
   count <- max(1L, BLOCK_CELLS %/% source$region$cols)
   for (row in seq(1L, source$region$rows, by = count)) {
