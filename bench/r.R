@@ -35,9 +35,8 @@ by_turns <- function(ways, cells) {
   least
 }
 
-show <- function(title, least) {
-  cat(sprintf("| %s | %s |\n", title, paste(sprintf("%s %.0f", names(least), least), collapse = " | ")))
-}
+# A row of a table: what is measured, and the nanoseconds of each way.
+show <- function(title, least) cat(sprintf("| %s | %s |\n", title, paste(sprintf("%.0f", least), collapse = " | ")))
 
 # Patches as smooth as land cover, or noise; 3 cells of 100 are null.
 made <- function(side, is_patchy, classes = CLASSES) {
@@ -56,23 +55,55 @@ made <- function(side, is_patchy, classes = CLASSES) {
   path
 }
 
+# Cells of so many digits, as a vector, a raster in memory and a file.
+cells_of_digits <- function(digits) {
+  set.seed(digits)
+  cells <- sample.int(10L^digits - 1L, SIDE * SIDE, TRUE)
+  raster <- rast(nrows = SIDE, ncols = SIDE, xmin = 0, xmax = SIDE, ymin = 0, ymax = SIDE, crs = "")
+  values(raster) <- cells
+  path <- file.path(room, sprintf("digits%d.tif", digits))
+  writeRaster(raster, path, datatype = if (digits < 5L) "INT2S" else "INT4S", overwrite = TRUE)
+  list(cells = cells, words = as.character(seq_len(10L^digits)), raster = raster, path = path, digits = digits)
+}
+
+# What the package does, by its own functions.
+own <- asNamespace("rcell")
+sent <- function(given, file) own$send_map(own$source_of("x", given), file)
+received <- function(file) own$numbers_in(list(program = ""), file, 1L)[[1]]
+
+ways_out <- function(of) {
+  file <- file.path(room, "cells")
+  plain <- function(cells, ...) fwrite(cells, file, na = "*", col.names = FALSE, quote = FALSE, ...)
+  by_turns(list(
+    "**the package**, of a raster in memory: read, checked and written by blocks" = function() sent(of$raster, file),
+    "**the package**, of a GeoTIFF" = function() sent(of$path, file),
+    "`fwrite` of one column, `eol = \" \"`, which is its last step" = function() plain(list(of$cells), eol = " "),
+    "the same, `eol = \"\\n\"`" = function() plain(list(of$cells)),
+    "`fwrite` of the matrix by rows" = function() plain(as.data.table(matrix(of$cells, SIDE, byrow = TRUE)), sep = " "),
+    "`writeLines` of a table of words" = function() writeLines(of$words[of$cells], file),
+    "`write.table` of the matrix" = function() write.table(matrix(of$cells, SIDE, byrow = TRUE), file, col.names = FALSE, row.names = FALSE),
+    "`writeRaster` of terra as AAIGrid" = function() writeRaster(of$raster, paste0(file, ".asc"), datatype = "INT4S", overwrite = TRUE)), SIDE^2)
+}
+
+ways_back <- function(of) {
+  file <- file.path(room, "lines")
+  rows <- file.path(room, "rows")
+  fwrite(list(of$cells), file, col.names = FALSE)
+  fwrite(as.data.table(matrix(of$cells, SIDE, byrow = TRUE)), rows, sep = " ", col.names = FALSE)
+  stopifnot(identical(received(file), of$cells))
+  by_turns(list(
+    "**the package**: `fread` of a cell a line" = function() received(file),
+    "`fread` of rows, `as.matrix`, turned" = function() as.vector(t(as.matrix(fread(rows, header = FALSE)))),
+    "`scan`" = function() scan(file, 0L, quiet = TRUE)), SIDE^2)
+}
+
 # Cells out and back, without the program.
 texts <- function() {
-  cat("\n| Cells, digits | ns a cell | | |\n|---|---|---|---|\n")
-  for (digits in c(1L, 3L, 6L)) {
-    set.seed(digits)
-    cells <- sample.int(10L^digits - 1L, SIDE * SIDE, TRUE)
-    file <- file.path(room, "cells")
-    raster <- rast(nrows = SIDE, ncols = SIDE, xmin = 0, xmax = SIDE, ymin = 0, ymax = SIDE, crs = "")
-    values(raster) <- cells
-    show(sprintf("out, %d", digits), by_turns(list(
-      "fwrite of one column" = function() fwrite(list(cells), file, eol = " ", na = "*", col.names = FALSE, quote = FALSE),
-      "write.table" = function() write.table(matrix(cells, SIDE, byrow = TRUE), file, col.names = FALSE, row.names = FALSE),
-      "AAIGrid of terra" = function() writeRaster(raster, paste0(file, ".asc"), datatype = "INT4S", overwrite = TRUE)), SIDE^2))
-    fwrite(list(cells), file, col.names = FALSE)
-    show(sprintf("back, %d", digits), by_turns(list(
-      "fread" = function() fread(file = file, header = FALSE, sep = "\n", colClasses = "integer")[[1]],
-      "scan" = function() scan(file, 0L, quiet = TRUE)), SIDE^2))
+  all <- lapply(c(1L, 3L, 6L), cells_of_digits)
+  for (ways in list(out = ways_out, back = ways_back)) {
+    found <- lapply(all, ways)
+    cat("\n| Way | 1 digit | 3 digits | 6 digits |\n| --- | --- | --- | --- |\n")
+    for (way in names(found[[1]])) show(way, vapply(found, `[[`, 0, way))
   }
 }
 
@@ -118,7 +149,7 @@ patchy <- made(SIDE, TRUE)
 noise <- made(SIDE, FALSE)
 texts()
 for (kind in c("patchy", "noise")) {
-  cat(sprintf("\n| Call, %s | terra | rcell |\n|---|---|---|\n", kind))
+  cat(sprintf("\n| %s | terra | rcell |\n| --- | --- | --- |\n", if (kind == "patchy") "Patchy land cover" else "Noise"))
   path <- if (kind == "patchy") patchy else noise
   calls(path, if (kind == "patchy") noise else patchy)
   if (kind == "patchy") patchy_calls(path)

@@ -44,17 +44,22 @@ raster_source <- function(name, raster) {
   if (any(scale != c(1, 0))) {
     bad_map(name, sprintf("its values are scaled: each cell times %g, plus %g; write them out as whole numbers first", scale[[1]], scale[[2]]))
   }
-  if (has_signed_bytes(raster)) {
-    bad_map(name, "its bytes are signed, and terra reads them as 0 to 255: write it as a map of 16 bits by another program first")
-  }
+  check_files(name, raster)
   list(name = name, raster = raster, template = template_of(raster), region = region_of(name, raster), labels = labels_of(raster))
 }
 
-# Until GDAL 3.7 signed bytes are a note beside the type, of which terra knows nothing: -5 is read as 251.
-has_signed_bytes <- function(raster) {
-  if (!("INT1U" %in% datatype(raster))) return(FALSE)
-  paths <- Filter(nzchar, sources(raster))
-  any(vapply(paths, function(path) any(grepl("PIXELTYPE=SIGNEDBYTE", with_path(path, describe(path)), fixed = TRUE)), NA))
+# What GDAL knows of a file and terra does not: a mask beside the cells, and, until GDAL 3.7, that bytes are signed (-5 is read as
+# 251).
+check_files <- function(name, raster) {
+  for (path in Filter(nzchar, sources(raster))) {
+    told <- tryCatch(with_path(path, describe(path)), error = function(e) character(), warning = function(w) character())
+    if ("INT1U" %in% datatype(raster) && any(grepl("PIXELTYPE=SIGNEDBYTE", told, fixed = TRUE))) {
+      bad_map(name, "its bytes are signed, and terra reads them as 0 to 255: write it with 16 bits a cell by another program first")
+    }
+    if (any(grepl("Mask Flags: PER_DATASET *$", told))) {
+      bad_map(name, "has a mask of its own, and terra reads what lies beneath it: write it with a nodata value first")
+    }
+  }
 }
 
 # The geometry alone: no cells, labels or colours.
@@ -177,16 +182,14 @@ read_block <- function(source, row, count) {
 # The cells of a block as whole numbers, or the first that is none by its row and column.
 whole_cells <- function(source, cells, first_row) {
   whole <- suppressWarnings(as.integer(cells))
-  is_bad <- is.na(whole) != is.na(cells)
-  if (any(whole != cells, na.rm = TRUE) || any(is_bad)) {
-    place <- which(is_bad | (!is.na(whole) & whole != cells))[[1]]
-    cols <- source$region$cols
-    row <- first_row + (place - 1L) %/% cols
-    column <- (place - 1L) %% cols + 1L
-    value <- cells[[place]]
-    beyond <- if (abs(value) > CATEGORY_LIMIT) ", beyond 2147483647 either way" else ""
-    bad_map(source$name, sprintf("not a map of whole numbers: the cell at row %d, column %d is %s%s",
-      row, column, sprintf("%.15g", value), beyond), row, column, value)
-  }
-  whole
+  is_equal <- whole == cells
+  if (all(is_equal, na.rm = TRUE) && sum(is.na(is_equal)) == sum(is.na(cells))) return(whole)
+  place <- which(!is_equal | (is.na(is_equal) & !is.na(cells)))[[1]]
+  cols <- source$region$cols
+  row <- first_row + (place - 1L) %/% cols
+  column <- (place - 1L) %% cols + 1L
+  value <- cells[[place]]
+  beyond <- if (abs(value) > CATEGORY_LIMIT) ", beyond 2147483647 either way" else ""
+  bad_map(source$name, sprintf("not a map of whole numbers: the cell at row %d, column %d is %s%s",
+    row, column, sprintf("%.15g", value), beyond), row, column, value)
 }

@@ -5,6 +5,10 @@ maps <- list(
   noise = made_map(30, 40, 3, seed = 2), patchy = made_map(60, 50, 6, TRUE, seed = 3), one_class = made_map(20, 20, 1, seed = 5),
   row = made_map(1, 30, 2, seed = 6), cell = made_map(1, 1, 1, seed = 8), oblong = made_map(25, 20, 3, seed = 7, cell = c(20, 50)))
 
+# And a real one: the countries of South-East Asia, which the built package has, without their labels.
+real <- system.file("extdata", "country.tif", package = "rcell")
+if (nzchar(real)) maps$real <- setValues(rast(rast(real)), values(rast(real), mat = FALSE))
+
 # The areas of a map by a flood of its cells in plain R, numbered by their first cells.
 flooded <- function(map, directions) {
   cells <- as_rows(map)
@@ -98,19 +102,22 @@ all_cells <- rcell_crosstab(maps$noise, other, useNA = TRUE)
 expect_identical(sum(all_cells$cells), 1200L)
 codes <- table(values(maps$noise, mat = FALSE), values(other, mat = FALSE), useNA = "ifany")
 expect_equivalent(all_cells$cells, as.vector(t(codes))[as.vector(t(codes)) > 0])
+if (nzchar(real)) {
+  sides <- rast(file.path(dirname(real), "hemisphere.tif"))
+  theirs <- as.data.frame(crosstab(c(maps$real, setValues(rast(sides), values(sides, mat = FALSE))), long = TRUE))
+  theirs <- theirs[order(theirs[[1]], theirs[[2]]), ]
+  expect_equivalent(as.matrix(rcell_crosstab(maps$real, sides)[c("x", "y", "cells")]), as.matrix(theirs[theirs[[3]] > 0, ]))
+}
 frequencies <- freq(maps$noise)
 expect_equivalent(rcell_table("r.stats -cn input=x", x = maps$noise)$cells, as.integer(frequencies[, "count"]))
 expect_identical(rcell_table("r.stats -c input=x", x = maps$noise)$cells[[4]], as.integer(freq(maps$noise, value = NA)[, "count"]))
 
 # The majority of nine cells, nulls left out, the least of those that are equal: as a function of R has it.
 majority <- function(cells) {
-  cells <- cells[!is.na(cells)]
-  if (!length(cells)) return(NA)
-  counts <- table(cells)
-  as.numeric(names(counts)[which.max(counts)])
+  if (all(is.na(cells))) NA else which.max(tabulate(cells))
 }
 window <- "r.mapcalc m = nmode(x[-1,-1],x[-1,0],x[-1,1],x[0,-1],x,x[0,1],x[1,-1],x[1,0],x[1,1])"
-for (name in c("noise", "patchy")) {
+for (name in intersect(c("noise", "patchy", "real"), names(maps))) {
   expect_equal(as_rows(rcell_grid(window, "m", x = maps[[name]])), as_rows(focal(maps[[name]], 3, majority)), info = name)
 }
 
