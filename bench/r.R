@@ -1,7 +1,7 @@
 # Times the package for R beside terra, and beside other ways of writing and reading cells: nanoseconds of the processor (user and
 # system, children too) a cell, by turns in one run, the least of the rounds.
 #
-#     RCELL=bin/rcell Rscript bench/r.R [--short]        maps of 2000 x 2000 cells, or of 300 x 300
+#     RCELL=bin/rcell Rscript bench/r.R [--short] [--texts]      maps of 2000 x 2000 cells, or of 300 x 300; the texts alone
 #
 # The package rcell must be installed, and the reference for all ratios is what stands in the same line.
 
@@ -75,7 +75,7 @@ ways_out <- function(of) {
   file <- file.path(room, "cells")
   plain <- function(cells, ...) fwrite(cells, file, na = "*", col.names = FALSE, quote = FALSE, ...)
   by_turns(list(
-    "**the package**, of a raster in memory: read, checked and written by blocks" = function() sent(of$raster, file),
+    "**the package**, of a raster in memory" = function() sent(of$raster, file),
     "**the package**, of a GeoTIFF" = function() sent(of$path, file),
     "`fwrite` of one column, `eol = \" \"`, which is its last step" = function() plain(list(of$cells), eol = " "),
     "the same, `eol = \"\\n\"`" = function() plain(list(of$cells)),
@@ -121,38 +121,38 @@ calls <- function(path, other) {
   nine <- "r.mapcalc m = nmode(x[-1,-1],x[-1,0],x[-1,1],x[0,-1],x,x[0,1],x[1,-1],x[1,0],x[1,1])"
   rules <- c("r.reclass input=x output=k", sprintf("%d = %d", seq_len(CLASSES), seq_len(CLASSES) %/% 4L), "end")
   from_to <- cbind(seq_len(CLASSES), seq_len(CLASSES) %/% 4L)
-  show("counts (freq)", pair(function() freq(rast(path)), function() rcell_table("r.stats -c input=x", x = path), cells))
-  show("new classes (classify)", pair(function() classify(rast(path), from_to), function() rcell_grid(rules, "k", x = path), cells))
-  show("majority of nine (focal, modal)", pair(function() focal(rast(path), 3, "modal", na.rm = TRUE), function() rcell_grid(nine, "m", x = path), cells))
-  show("cross table (crosstab)", pair(function() crosstab(c(rast(path), rast(other)), long = TRUE), function() rcell_crosstab(path, other), cells))
-  show("adjacency (table of shifted matrices)", pair(function() adjacency_by_table(rast(path)), function() rcell_adjacency(path), cells))
+  show("counts (`freq`)", pair(function() freq(rast(path)), function() rcell_table("r.stats -c input=x", x = path), cells))
+  show("new classes (`classify`)", pair(function() classify(rast(path), from_to), function() rcell_grid(rules, "k", x = path), cells))
+  show("majority of nine (`focal`, modal)", pair(function() focal(rast(path), 3, "modal", na.rm = TRUE), function() rcell_grid(nine, "m", x = path), cells))
+  show("cross table (`crosstab`)", pair(function() crosstab(c(rast(path), rast(other)), long = TRUE), function() rcell_crosstab(path, other), cells))
+  show("adjacency (`table` of shifted matrices)", pair(function() adjacency_by_table(rast(path)), function() rcell_adjacency(path), cells))
 }
 
 patchy_calls <- function(path) {
   cells <- SIDE^2
-  show("areas of one class (patches)", pair(function() patches(rast(path) == 3, directions = 8, zeroAsNA = TRUE),
+  show("areas of one class (`patches`)", pair(function() patches(rast(path) == 3, directions = 8, zeroAsNA = TRUE),
     function() rcell_areas(path, 8, classes = 3), cells))
-  show("sizes of one class; of all classes with perimeters", pair(function() freq(patches(rast(path) == 3, directions = 8, zeroAsNA = TRUE)),
+  show("sizes of one class (`freq` of `patches`); of all, with perimeters", pair(function() freq(patches(rast(path) == 3, directions = 8, zeroAsNA = TRUE)),
     function() rcell_patches(path), cells))
 }
 
-small_calls <- function(path, kind) {
+small_calls <- function(path) {
   of_each <- function() lapply(seq_len(CLASSES), function(class) patches(rast(path) == class, directions = 4, zeroAsNA = TRUE))
   perimeters <- function() perim(as.polygons(rcell_areas(path, 4)))
-  show(sprintf("areas of each class, %s (patches of each)", kind), pair(of_each, function() rcell_patches(path, 4), SMALL^2))
-  show(sprintf("perimeters, %s (as.polygons, perim)", kind), pair(perimeters, function() rcell_patches(path, 4), SMALL^2))
+  show(sprintf("areas of each class, %d x %d (`patches` of each)", SMALL, SMALL), pair(of_each, function() rcell_patches(path, 4), SMALL^2))
+  show(sprintf("perimeters, %d x %d (`perim` of `as.polygons`)", SMALL, SMALL), pair(perimeters, function() rcell_patches(path, 4), SMALL^2))
 }
 
 cat(sprintf("R %s, terra %s, data.table %s; %d x %d cells; ns a cell of the processor\n", getRversion(), packageVersion("terra"),
   packageVersion("data.table"), SIDE, SIDE))
+texts()
 patchy <- made(SIDE, TRUE)
 noise <- made(SIDE, FALSE)
-texts()
-for (kind in c("patchy", "noise")) {
+for (kind in if ("--texts" %in% commandArgs(TRUE)) character() else c("patchy", "noise")) {
   cat(sprintf("\n| %s | terra | rcell |\n| --- | --- | --- |\n", if (kind == "patchy") "Patchy land cover" else "Noise"))
   path <- if (kind == "patchy") patchy else noise
   calls(path, if (kind == "patchy") noise else patchy)
   if (kind == "patchy") patchy_calls(path)
-  small_calls(made(SMALL, kind == "patchy"), kind)
+  small_calls(made(SMALL, kind == "patchy"))
 }
 unlink(room, recursive = TRUE)
