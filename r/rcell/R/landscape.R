@@ -80,13 +80,15 @@ perimeters <- function(patch, border, count, size) {
 }
 
 rcell_adjacency <- function(x, program = NULL) {
-  script <- c("r.mapcalc right = map[0,1]", "r.mapcalc below = map[1,0]", "r.stats -cn input=map,right", "r.stats -cn input=map,below")
+  script <- c("r.mapcalc right = map[0,1]", "r.mapcalc below = map[1,0]", "r.stats -cn input=map,right", "r.stats -cn input=map,below",
+    "r.stats -n input=map")
   run_script(script, sources_of(list(map = x), list()), adjacency_of, program = program)
 }
 
 adjacency_of <- function(answer) {
   pairs <- lapply(1:2, function(place) output_of(answer, place))
-  codes <- sort(unique(unlist(lapply(pairs, function(pair) c(pair[[1]], pair[[2]])))))
+  # A class whose cells touch no other cell has a row of zeros.
+  codes <- output_of(answer, 3L)[[1]]
   matrix <- matrix(0, length(codes), length(codes))
   for (pair in pairs) {
     one <- matrix(0, length(codes), length(codes))

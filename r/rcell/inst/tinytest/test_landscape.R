@@ -84,7 +84,10 @@ shifted <- function(map) {
 for (name in setdiff(names(maps), "cell")) {
   expect_equal(rcell_adjacency(maps[[name]]), shifted(maps[[name]]), check.attributes = FALSE, info = name)
 }
-expect_identical(dim(rcell_adjacency(maps$cell)), c(0L, 0L))
+# A class whose cells touch no other cell is there.
+expect_identical(rcell_adjacency(maps$cell), matrix(0, 1, 1, dimnames = list("1", "1")))
+expect_identical(rcell_adjacency(matrix(c(1, 1, NA, 7), 1))["7", ], c("1" = 0, "7" = 0))
+expect_identical(dim(rcell_adjacency(matrix(NA_real_, 1, 2))), c(0L, 0L))
 
 # The length of edges between classes is half of what the polygons have, less the outline.
 map <- classify(maps$patchy, cbind(NA, 9))
