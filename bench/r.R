@@ -1,7 +1,7 @@
 # Times the package for R beside terra, and beside other ways of writing and reading cells: nanoseconds of the processor (user and
 # system, children too) a cell, by turns in one run, the least of the rounds.
 #
-#     RCELL=bin/rcell Rscript bench/r.R [--short]        maps of 2000 x 2000 cells, or of 300 x 300
+#     RCELL=bin/rcell Rscript bench/r.R [--short] [--texts]      maps of 2000 x 2000 cells, or of 300 x 300; the texts alone
 #
 # The package rcell must be installed, and the reference for all ratios is what stands in the same line.
 
@@ -35,9 +35,8 @@ by_turns <- function(ways, cells) {
   least
 }
 
-show <- function(title, least) {
-  cat(sprintf("| %s | %s |\n", title, paste(sprintf("%s %.0f", names(least), least), collapse = " | ")))
-}
+# A row of a table: what is measured, and the nanoseconds of each way.
+show <- function(title, least) cat(sprintf("| %s | %s |\n", title, paste(sprintf("%.0f", least), collapse = " | ")))
 
 # Patches as smooth as land cover, or noise; 3 cells of 100 are null.
 made <- function(side, is_patchy, classes = CLASSES) {
@@ -56,23 +55,55 @@ made <- function(side, is_patchy, classes = CLASSES) {
   path
 }
 
+# Cells of so many digits, as a vector, a raster in memory and a file.
+cells_of_digits <- function(digits) {
+  set.seed(digits)
+  cells <- sample.int(10L^digits - 1L, SIDE * SIDE, TRUE)
+  raster <- rast(nrows = SIDE, ncols = SIDE, xmin = 0, xmax = SIDE, ymin = 0, ymax = SIDE, crs = "")
+  values(raster) <- cells
+  path <- file.path(room, sprintf("digits%d.tif", digits))
+  writeRaster(raster, path, datatype = if (digits < 5L) "INT2S" else "INT4S", overwrite = TRUE)
+  list(cells = cells, words = as.character(seq_len(10L^digits)), raster = raster, path = path, digits = digits)
+}
+
+# What the package does, by its own functions.
+own <- asNamespace("rcell")
+sent <- function(given, file) own$send_map(own$source_of("x", given), file)
+received <- function(file) own$numbers_in(list(program = ""), file, 1L)[[1]]
+
+ways_out <- function(of) {
+  file <- file.path(room, "cells")
+  plain <- function(cells, ...) fwrite(cells, file, na = "*", col.names = FALSE, quote = FALSE, ...)
+  by_turns(list(
+    "**the package**, of a raster in memory" = function() sent(of$raster, file),
+    "**the package**, of a GeoTIFF" = function() sent(of$path, file),
+    "`fwrite` of one column, `eol = \" \"`, which is its last step" = function() plain(list(of$cells), eol = " "),
+    "the same, `eol = \"\\n\"`" = function() plain(list(of$cells)),
+    "`fwrite` of the matrix by rows" = function() plain(as.data.table(matrix(of$cells, SIDE, byrow = TRUE)), sep = " "),
+    "`writeLines` of a table of words" = function() writeLines(of$words[of$cells], file),
+    "`write.table` of the matrix" = function() write.table(matrix(of$cells, SIDE, byrow = TRUE), file, col.names = FALSE, row.names = FALSE),
+    "`writeRaster` of terra as AAIGrid" = function() writeRaster(of$raster, paste0(file, ".asc"), datatype = "INT4S", overwrite = TRUE)), SIDE^2)
+}
+
+ways_back <- function(of) {
+  file <- file.path(room, "lines")
+  rows <- file.path(room, "rows")
+  fwrite(list(of$cells), file, col.names = FALSE)
+  fwrite(as.data.table(matrix(of$cells, SIDE, byrow = TRUE)), rows, sep = " ", col.names = FALSE)
+  stopifnot(identical(received(file), of$cells))
+  by_turns(list(
+    "**the package**: `fread` of a cell a line" = function() received(file),
+    "`fread` of rows, `as.matrix`, turned" = function() as.vector(t(as.matrix(fread(rows, header = FALSE)))),
+    "`scan`" = function() scan(file, 0L, quiet = TRUE)), SIDE^2)
+}
+
 # Cells out and back, without the program.
 texts <- function() {
-  cat("\n| Cells, digits | ns a cell | | |\n|---|---|---|---|\n")
-  for (digits in c(1L, 3L, 6L)) {
-    set.seed(digits)
-    cells <- sample.int(10L^digits - 1L, SIDE * SIDE, TRUE)
-    file <- file.path(room, "cells")
-    raster <- rast(nrows = SIDE, ncols = SIDE, xmin = 0, xmax = SIDE, ymin = 0, ymax = SIDE, crs = "")
-    values(raster) <- cells
-    show(sprintf("out, %d", digits), by_turns(list(
-      "fwrite of one column" = function() fwrite(list(cells), file, eol = " ", na = "*", col.names = FALSE, quote = FALSE),
-      "write.table" = function() write.table(matrix(cells, SIDE, byrow = TRUE), file, col.names = FALSE, row.names = FALSE),
-      "AAIGrid of terra" = function() writeRaster(raster, paste0(file, ".asc"), datatype = "INT4S", overwrite = TRUE)), SIDE^2))
-    fwrite(list(cells), file, col.names = FALSE)
-    show(sprintf("back, %d", digits), by_turns(list(
-      "fread" = function() fread(file = file, header = FALSE, sep = "\n", colClasses = "integer")[[1]],
-      "scan" = function() scan(file, 0L, quiet = TRUE)), SIDE^2))
+  all <- lapply(c(1L, 3L, 6L), cells_of_digits)
+  for (ways in list(out = ways_out, back = ways_back)) {
+    found <- lapply(all, ways)
+    cat("\n| Way | 1 digit | 3 digits | 6 digits |\n| --- | --- | --- | --- |\n")
+    for (way in names(found[[1]])) show(way, vapply(found, `[[`, 0, way))
   }
 }
 
@@ -90,38 +121,38 @@ calls <- function(path, other) {
   nine <- "r.mapcalc m = nmode(x[-1,-1],x[-1,0],x[-1,1],x[0,-1],x,x[0,1],x[1,-1],x[1,0],x[1,1])"
   rules <- c("r.reclass input=x output=k", sprintf("%d = %d", seq_len(CLASSES), seq_len(CLASSES) %/% 4L), "end")
   from_to <- cbind(seq_len(CLASSES), seq_len(CLASSES) %/% 4L)
-  show("counts (freq)", pair(function() freq(rast(path)), function() rcell_table("r.stats -c input=x", x = path), cells))
-  show("new classes (classify)", pair(function() classify(rast(path), from_to), function() rcell_grid(rules, "k", x = path), cells))
-  show("majority of nine (focal, modal)", pair(function() focal(rast(path), 3, "modal", na.rm = TRUE), function() rcell_grid(nine, "m", x = path), cells))
-  show("cross table (crosstab)", pair(function() crosstab(c(rast(path), rast(other)), long = TRUE), function() rcell_crosstab(path, other), cells))
-  show("adjacency (table of shifted matrices)", pair(function() adjacency_by_table(rast(path)), function() rcell_adjacency(path), cells))
+  show("counts (`freq`)", pair(function() freq(rast(path)), function() rcell_table("r.stats -c input=x", x = path), cells))
+  show("new classes (`classify`)", pair(function() classify(rast(path), from_to), function() rcell_grid(rules, "k", x = path), cells))
+  show("majority of nine (`focal`, modal)", pair(function() focal(rast(path), 3, "modal", na.rm = TRUE), function() rcell_grid(nine, "m", x = path), cells))
+  show("cross table (`crosstab`)", pair(function() crosstab(c(rast(path), rast(other)), long = TRUE), function() rcell_crosstab(path, other), cells))
+  show("adjacency (`table` of shifted matrices)", pair(function() adjacency_by_table(rast(path)), function() rcell_adjacency(path), cells))
 }
 
 patchy_calls <- function(path) {
   cells <- SIDE^2
-  show("areas of one class (patches)", pair(function() patches(rast(path) == 3, directions = 8, zeroAsNA = TRUE),
+  show("areas of one class (`patches`)", pair(function() patches(rast(path) == 3, directions = 8, zeroAsNA = TRUE),
     function() rcell_areas(path, 8, classes = 3), cells))
-  show("sizes of one class; of all classes with perimeters", pair(function() freq(patches(rast(path) == 3, directions = 8, zeroAsNA = TRUE)),
+  show("sizes of one class (`freq` of `patches`); of all, with perimeters", pair(function() freq(patches(rast(path) == 3, directions = 8, zeroAsNA = TRUE)),
     function() rcell_patches(path), cells))
 }
 
-small_calls <- function(path, kind) {
+small_calls <- function(path) {
   of_each <- function() lapply(seq_len(CLASSES), function(class) patches(rast(path) == class, directions = 4, zeroAsNA = TRUE))
   perimeters <- function() perim(as.polygons(rcell_areas(path, 4)))
-  show(sprintf("areas of each class, %s (patches of each)", kind), pair(of_each, function() rcell_patches(path, 4), SMALL^2))
-  show(sprintf("perimeters, %s (as.polygons, perim)", kind), pair(perimeters, function() rcell_patches(path, 4), SMALL^2))
+  show(sprintf("areas of each class, %d x %d (`patches` of each)", SMALL, SMALL), pair(of_each, function() rcell_patches(path, 4), SMALL^2))
+  show(sprintf("perimeters, %d x %d (`perim` of `as.polygons`)", SMALL, SMALL), pair(perimeters, function() rcell_patches(path, 4), SMALL^2))
 }
 
 cat(sprintf("R %s, terra %s, data.table %s; %d x %d cells; ns a cell of the processor\n", getRversion(), packageVersion("terra"),
   packageVersion("data.table"), SIDE, SIDE))
+texts()
 patchy <- made(SIDE, TRUE)
 noise <- made(SIDE, FALSE)
-texts()
-for (kind in c("patchy", "noise")) {
-  cat(sprintf("\n| Call, %s | terra | rcell |\n|---|---|---|\n", kind))
+for (kind in if ("--texts" %in% commandArgs(TRUE)) character() else c("patchy", "noise")) {
+  cat(sprintf("\n| %s | terra | rcell |\n| --- | --- | --- |\n", if (kind == "patchy") "Patchy land cover" else "Noise"))
   path <- if (kind == "patchy") patchy else noise
   calls(path, if (kind == "patchy") noise else patchy)
   if (kind == "patchy") patchy_calls(path)
-  small_calls(made(SMALL, kind == "patchy"), kind)
+  small_calls(made(SMALL, kind == "patchy"))
 }
 unlink(room, recursive = TRUE)

@@ -23,9 +23,11 @@ class Case:
     area : str
         The unit of areas that is asked for, or nothing.
     percent : bool
-    answer : list of str
-        The lines that must come out; of a refusal those that must.
-    is_refused : bool
+    expected : dict of str to (list of str, bool)
+        The lines that must come out, or of a refusal those that must be told, and whether it is one: under the name of a front where
+        its answer is another, and else under no name.
+    left_out : dict of str to str
+        Why a front does not run the case, by its name.
     """
 
     name: str
@@ -34,8 +36,12 @@ class Case:
     script: str = ""
     area: str = ""
     percent: bool = False
-    answer: list[str] = field(default_factory=list)
-    is_refused: bool = False
+    expected: dict[str, tuple[list[str], bool]] = field(default_factory=dict)
+    left_out: dict[str, str] = field(default_factory=dict)
+
+    def expected_of(self, front: str) -> tuple[list[str], bool]:
+        """What must come out on a front, and whether it is a refusal."""
+        return self.expected.get(front, self.expected.get("", ([], False)))
 
 
 def _blocks(text: str) -> dict[str, list[str]]:
@@ -55,7 +61,11 @@ def read(path: pathlib.Path) -> Case:
     """The case of a file."""
     blocks = _blocks(path.read_text(encoding="utf-8"))
     maps = dict(word.split("=", 1) for word in blocks["maps"][0].split())
-    refused = blocks.get("refused", [])
+    expected = {}
+    for key, lines in blocks.items():
+        kind, _, front = key.partition(" ")
+        if kind in ("answer", "refused"):
+            expected[front] = (lines, kind == "refused")
     return Case(
         name=path.stem,
         maps={name: str(HERE / "rasters" / file) for name, file in maps.items()},
@@ -63,8 +73,8 @@ def read(path: pathlib.Path) -> Case:
         script="\n".join(blocks.get("script", [])),
         area="".join(blocks.get("area", [])),
         percent="percent" in blocks,
-        answer=refused or blocks["answer"],
-        is_refused=bool(refused),
+        expected=expected,
+        left_out={key.split()[1]: " ".join(lines) for key, lines in blocks.items() if key.startswith("without ")},
     )
 
 

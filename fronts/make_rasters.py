@@ -6,6 +6,7 @@
 from __future__ import annotations
 
 import pathlib
+from xml.sax.saxutils import escape
 
 import numpy as np
 import rasterio
@@ -13,9 +14,13 @@ from rasterio.transform import Affine
 
 ROOM = pathlib.Path(__file__).resolve().parent / "rasters"
 NULL = -9999
+LEAST_FLOAT = float(np.finfo("float32").min)
 COVER = [[1, 1, 2, NULL, 3], [1, 2, 2, 2, 3], [3, 3, 1, 1, 2], [3, 1, 1, 2, 2]]
 ZONES = [[7, 7, 8, 8, 8], [7, 7, 8, 8, 8], [NULL, 7, 8, 8, 8], [NULL, 7, 7, 8, 8]]
 LABELS = ["", "wood, wet", "Wiese \u00fc", "built up"]
+# Labels that a table or a shell could stumble over, by categories that begin far from 0.
+ODD_LABELS = {-3: "NA", 7: "**", 12: "no data", 100000: 'a "b", #c', 100001: "null"}
+OWN_FORM = "north: 5400000\nsouth: 5399920\neast: 500100\nwest: 500000\nrows: 4\ncols: 5\n"
 METRES = Affine(20, 0, 500000, 0, -20, 5400000)
 
 
@@ -35,6 +40,34 @@ def write_labels(name: str) -> None:
     names = "".join(f"<Category>{label}</Category>" for label in LABELS)
     text = f'<PAMDataset><PAMRasterBand band="1"><CategoryNames>{names}</CategoryNames></PAMRasterBand></PAMDataset>\n'
     (ROOM / f"{name}.tif.aux.xml").write_text(text, encoding="utf-8")
+
+
+def write_table(name: str, labels: dict[int, str]) -> None:
+    """An attribute table beside the raster."""
+    rows = "".join(f'<Row index="{at}"><F>{value}</F><F>{escape(label)}</F></Row>' for at, (value, label) in enumerate(labels.items()))
+    fields = "".join(f'<FieldDefn index="{at}"><Name>{title}</Name><Type>{kind}</Type><Usage>{usage}</Usage></FieldDefn>'
+                     for at, (title, kind, usage) in enumerate([("Value", 0, 5), ("Class", 2, 2)]))
+    text = f'<PAMDataset><PAMRasterBand band="1"><GDALRasterAttributeTable tableType="thematic">{fields}{rows}</GDALRasterAttributeTable></PAMRasterBand></PAMDataset>\n'
+    (ROOM / f"{name}.tif.aux.xml").write_text(text, encoding="utf-8")
+
+
+def write_text(name: str, rows: list[str]) -> None:
+    """A grid of the program's own form."""
+    (ROOM / f"{name}.txt").write_text(OWN_FORM + "\n".join(rows) + "\n", encoding="utf-8")
+
+
+def write_masked(name: str, cells: object) -> None:
+    """With a mask of its own, in which the null cells are 0."""
+    with rasterio.Env(GDAL_TIFF_INTERNAL_MASK=True):
+        write(name, np.where(np.asarray(cells) == NULL, 1, cells), "uint8", nodata=None)
+        with rasterio.open(ROOM / f"{name}.tif", "r+") as file:
+            file.write_mask(np.asarray(cells) != NULL)
+
+
+def noise(rows: int, cols: int) -> object:
+    """Three classes and some nulls, without a pattern."""
+    cells = np.random.default_rng(7).choice([1, 2, 3, NULL], (rows, cols), p=[0.32, 0.32, 0.31, 0.05])
+    return cells
 
 
 def changed(row: int, col: int, value: float) -> object:
@@ -60,6 +93,28 @@ def main() -> None:
     write("degrees", COVER, transform=Affine(0.5, 0, 8, 0, -0.5, 48), crs="EPSG:4326")
     write("near", COVER, transform=Affine(0.5, 0, 8 + 3e-9, 0, -0.5, 48), crs="EPSG:4326")
     write("farther", COVER, transform=Affine(0.5, 0, 8 + 7e-8, 0, -0.5, 48), crs="EPSG:4326")
+    write("higher", COVER, transform=Affine(20, 0, 500000, 0, -20, 5400020))
+    write("finer", np.repeat(COVER, 2, axis=0), transform=Affine(20, 0, 500000, 0, -10, 5400000))
+    write("upside", COVER[::-1], transform=Affine(20, 0, 500000, 0, 20, 5399920))
+    write("oblong", COVER, transform=Affine(20, 0, 500000, 0, -50, 5400000))
+    write("feet", COVER, transform=Affine(100, 0, 900000, 0, -100, 200000), crs="EPSG:2263")
+    write("nothing", np.full((2, 3), NULL))
+    write("one", [[5]])
+    write("ends", [[2147483647, -2147483647, 0], [-2147483648, -1, 1]], "int32", nodata=-2147483648)
+    write("nan", np.where(np.asarray(COVER) == NULL, np.nan, COVER), "float32", nodata=None)
+    write("least_float", np.where(np.asarray(COVER) == NULL, LEAST_FLOAT, COVER), "float32", nodata=LEAST_FLOAT)
+    write("zero", np.where(np.asarray(COVER) == NULL, 0, COVER), "uint8", nodata=0)
+    write("undeclared", COVER, nodata=None)
+    write("signed", np.where(np.asarray(COVER) == 3, -5, np.where(np.asarray(COVER) == NULL, -128, COVER)), "int8", nodata=-128)
+    write("wide", COVER, "int64")
+    write("beyond_wide", changed(3, 1, 3e9), "int64")
+    write("odd", [[-3, 7, 12], [100000, 100001, NULL]], "int32")
+    write_table("odd", ODD_LABELS)
+    write("noise", noise(9, 12))
+    write_masked("masked", COVER)
+    write_text("own", ["1 1 2 * 3", "1 2 2 2 3", "3 3 1 1 2", "3 1 1 2 2"])
+    write_text("broken", ["1 1 2 * 3", "1 2 2.5 2 3", "3 3 1 1 2", "3 1 1 2 2"])
+    write_text("short", ["1 1 2 * 3", "1 2 2 2 3", "3 3 1 1 2"])
 
 
 if __name__ == "__main__":

@@ -15,6 +15,9 @@ cp -r r/rcell "$room/rcell"
 rm -rf "$room/rcell/inst/bin"
 mkdir -p "$room/rcell/inst/bin"
 install -m 755 "$program" "$room/rcell/inst/bin/rcell"
+# The maps that docs/R.md works with, and that the tests hold against terra.
+mkdir -p "$room/rcell/inst/extdata"
+cp examples/rasters/* "$room/rcell/inst/extdata/"
 sed -i "s/^Version: .*/Version: $version/" "$room/rcell/DESCRIPTION"
 # R warns of a program in a package unless it is declared.
 echo inst/bin/rcell > "$room/rcell/BinaryFiles"

@@ -76,33 +76,43 @@ wrong_answer <- function(path) wrong_program(sprintf("%s has written what this p
 
 # Parts the output at the marks into a file for each statement that writes; it is never held whole.
 part_outputs <- function(folder, count) {
-  if (count <= 1L) return(file.path(folder, rep("out", count)))
+  whole <- file.path(folder, "out")
+  if (count <= 1L) return(rep(whole, count))
   files <- file.path(folder, sprintf("out.%d", seq_len(count)))
-  from <- file(file.path(folder, "out"), "rb")
+  marks <- sprintf("%s%d\n", MARK, seq_len(count - 1L))
+  from <- file(whole, "rb")
   on.exit(close(from))
   held <- raw()
-  for (place in seq_len(count)) held <- part_one(from, held, files[[place]], if (place < count) place)
+  for (place in seq_len(count)) held <- part_one(from, held, files[[place]], if (place < count) charToRaw(marks[[place]]))
+  check_parts(files, file.size(whole) - sum(nchar(marks)))
   files
 }
 
+# The parts have all bytes of the whole, else the disk was full.
+check_parts <- function(files, size) {
+  last <- files[[length(files)]]
+  check_size(last, size - sum(file.size(files[-length(files)])))
+}
+
 # Writes what comes before the mark to a file, and answers what comes after it.
-part_one <- function(from, held, path, place) {
+part_one <- function(from, held, path, mark) {
   to <- file(path, "wb")
   on.exit(close(to))
-  mark <- if (!is.null(place)) charToRaw(sprintf("%s%d\n", MARK, place))
+  failed <- function(w) write_failed(path, conditionMessage(w))
+  write <- function(bytes) tryCatch(writeBin(bytes, to), warning = failed, error = failed)
   repeat {
     at <- if (is.null(mark)) integer() else grepRaw(mark, held, fixed = TRUE)
     if (length(at)) {
-      writeBin(held[seq_len(at - 1L)], to)
+      write(held[seq_len(at - 1L)])
       return(held[seq_along(held) > at + length(mark) - 1L])
     }
     known <- max(0L, length(held) - length(mark))
-    writeBin(held[seq_len(known)], to)
+    write(held[seq_len(known)])
     piece <- readBin(from, "raw", PIECE_BYTES)
     held <- c(held[seq_along(held) > known], piece)
     if (!length(piece)) break
   }
-  writeBin(held, to)
+  write(held)
   raw()
 }
 
@@ -115,10 +125,21 @@ output_of <- function(answer, place) {
 
 # All cells of a map, row by row, null as NA.
 cells_of <- function(answer, place) {
-  cells <- fread(file = answer$files[[place]], header = FALSE, sep = "\n", colClasses = "integer", na.strings = "NA",
-    blank.lines.skip = FALSE, showProgress = FALSE)[[1]]
-  if (length(cells) != answer$cells || !is.integer(cells)) wrong_answer(answer$program)
+  cells <- numbers_in(answer, answer$files[[place]], 1L)[[1]]
+  if (length(cells) != answer$cells) wrong_answer(answer$program)
   cells
+}
+
+# The columns of a file of integers. What fread warns of, as of a line that is cut, was not written by the program that is known.
+numbers_in <- function(answer, file, columns) {
+  if (file.size(file) == 0) return(rep(list(integer()), columns))
+  wrong <- function(e) wrong_answer(answer$program)
+  numbers <- tryCatch(
+    as.list(fread(file = file, header = FALSE, sep = if (columns > 1L) " " else "\n", colClasses = rep("integer", columns),
+      na.strings = "NA", fill = FALSE, blank.lines.skip = FALSE, showProgress = FALSE)),
+    warning = wrong, error = wrong)
+  if (length(numbers) != columns || !all(vapply(numbers, is.integer, NA))) wrong_answer(answer$program)
+  numbers
 }
 
 grid_of <- function(answer, place) raster_of(answer, answer$outputs[[place]]$maps, cells_of(answer, place))
@@ -140,10 +161,7 @@ raster_of <- function(answer, name, cells) {
 table_of <- function(answer, statement, file) {
   maps <- statement$maps
   columns <- length(maps) + ("c" %in% statement$flags)
-  numbers <- if (file.size(file) == 0) rep(list(integer()), columns) else
-    as.list(fread(file = file, header = FALSE, sep = if (columns > 1L) " " else "\n", colClasses = rep("integer", columns),
-      na.strings = "NA", fill = FALSE, showProgress = FALSE))
-  if (length(numbers) != columns || !all(vapply(numbers, is.integer, NA))) wrong_answer(answer$program)
+  numbers <- numbers_in(answer, file, columns)
   found <- list()
   titles <- character()
   for (at in seq_along(maps)) {

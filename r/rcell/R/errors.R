@@ -5,6 +5,12 @@ signal <- function(class, message, ...) {
   stop(structure(class = c(class, "rcell_error", "error", "condition"), list(message = message, call = NULL, ...)))
 }
 
+# The words of an error begin a line of their own, so that a mark stands beneath its column.
+print.rcell_error <- function(x, ...) {
+  cat(sprintf("<%s>\n%s\n", class(x)[[1]], conditionMessage(x)))
+  invisible(x)
+}
+
 # A map, a script or a request was refused, and nothing was answered. `content` is the line of the script itself.
 refuse <- function(text, source = "arguments", line = 0L, status = 1L, content = NULL, class = NULL) {
   column <- column_in(text)

@@ -1,12 +1,21 @@
 # Maps that are written: a file has its name only when all of it is there.
 
 check_filename <- function(filename, overwrite) {
+  if (!is.character(filename) || length(filename) != 1L || is.na(filename)) refuse("filename= is one path", status = 2L)
+  if (!isTRUE(overwrite) && !isFALSE(overwrite)) refuse("overwrite= is TRUE or FALSE", status = 2L)
   if (!nzchar(filename)) return(invisible())
+  filename <- native_path(filename)
   folder <- dirname(filename)
   if (!dir.exists(folder)) write_failed(filename, "No such file or directory")
   if (file.access(folder, 2L) != 0L) write_failed(filename, "Permission denied")
   if (dir.exists(filename)) write_failed(filename, "Is a directory")
   if (file.exists(filename) && !overwrite) write_failed(filename, "it exists, and overwrite is FALSE")
+}
+
+# A path as the system takes it. In the C locale R would not spell letters beyond ASCII, and so they stay the bytes that they are.
+native_path <- function(path) {
+  if (is_ascii_locale() && Encoding(path) == "UTF-8") Encoding(path) <- "unknown"
+  path.expand(path)
 }
 
 # In the C locale terra changes the letters of a path that are not ASCII, so the locale is another for the time of the call.
@@ -24,6 +33,7 @@ with_path <- function(path, call) {
 written <- function(raster, filename) {
   force(raster)
   if (!nzchar(filename)) return(raster)
+  filename <- native_path(filename)
   room <- tempfile(".rcell-", tmpdir = dirname(filename))
   if (!dir.create(room, showWarnings = FALSE)) write_failed(filename, "its folder takes no file")
   on.exit(unlink(room, recursive = TRUE))
@@ -55,6 +65,7 @@ check_whole <- function(raster, path, filename) {
     readStop(raster)
     readStop(again)
   })
+  if (is.factor(raster) && !is.factor(again)) write_failed(filename, "its labels are not there")
   count <- max(1L, BLOCK_CELLS %/% as.integer(ncol(raster)))
   for (row in seq(1L, as.integer(nrow(raster)), by = count)) {
     rows <- min(count, as.integer(nrow(raster)) - row + 1L)

@@ -7,8 +7,8 @@ clump_lines <- function(directions, classes = NULL) {
   if (length(directions) != 1L || !(directions %in% DIRECTIONS)) refuse("directions= is 4 or 8", status = 2L)
   flag <- if (directions == 8) " -d" else ""
   if (is.null(classes)) return(sprintf("r.clump%s input=map output=patch", flag))
-  if (!is.numeric(classes) || !length(classes) || anyNA(classes) || any(classes != trunc(classes))) {
-    refuse("classes= are whole numbers", status = 2L)
+  if (!is.numeric(classes) || !length(classes) || anyNA(classes) || any(classes != trunc(classes) | abs(classes) > CATEGORY_LIMIT)) {
+    refuse("classes= are whole numbers to 2147483647 either way", status = 2L)
   }
   c("r.reclass input=map output=kept", sprintf("%.0f = %.0f", classes, classes), "end",
     sprintf("r.clump%s input=kept output=patch", flag))
@@ -16,6 +16,7 @@ clump_lines <- function(directions, classes = NULL) {
 
 rcell_areas <- function(x, directions = 4, least = NULL, classes = NULL, filename = "", overwrite = FALSE, program = NULL) {
   check_filename(filename, overwrite)
+  if (!is.null(least) && !(is.numeric(least) && length(least) == 1L && !is.na(least))) refuse("least= is a number of cells", status = 2L)
   script <- clump_lines(directions, classes)
   read <- function(answer) raster_of(answer, "patch", kept_areas(cells_of(answer, 1L), least))
   written(run_script(script, sources_of(list(map = x), list()), read, wanted = "patch", program = program), filename)
@@ -79,13 +80,15 @@ perimeters <- function(patch, border, count, size) {
 }
 
 rcell_adjacency <- function(x, program = NULL) {
-  script <- c("r.mapcalc right = map[0,1]", "r.mapcalc below = map[1,0]", "r.stats -cn input=map,right", "r.stats -cn input=map,below")
+  script <- c("r.mapcalc right = map[0,1]", "r.mapcalc below = map[1,0]", "r.stats -cn input=map,right", "r.stats -cn input=map,below",
+    "r.stats -n input=map")
   run_script(script, sources_of(list(map = x), list()), adjacency_of, program = program)
 }
 
 adjacency_of <- function(answer) {
   pairs <- lapply(1:2, function(place) output_of(answer, place))
-  codes <- sort(unique(unlist(lapply(pairs, function(pair) c(pair[[1]], pair[[2]])))))
+  # A class whose cells touch no other cell has a row of zeros.
+  codes <- output_of(answer, 3L)[[1]]
   matrix <- matrix(0, length(codes), length(codes))
   for (pair in pairs) {
     one <- matrix(0, length(codes), length(codes))

@@ -44,13 +44,29 @@ raster_source <- function(name, raster) {
   if (any(scale != c(1, 0))) {
     bad_map(name, sprintf("its values are scaled: each cell times %g, plus %g; write them out as whole numbers first", scale[[1]], scale[[2]]))
   }
+  check_files(name, raster)
   list(name = name, raster = raster, template = template_of(raster), region = region_of(name, raster), labels = labels_of(raster))
+}
+
+# What GDAL knows of a file and terra does not: a mask beside the cells, and, until GDAL 3.7, that bytes are signed (-5 is read as
+# 251).
+check_files <- function(name, raster) {
+  for (path in Filter(nzchar, sources(raster))) {
+    told <- tryCatch(with_path(path, describe(path)), error = function(e) character(), warning = function(w) character())
+    if ("INT1U" %in% datatype(raster) && any(grepl("PIXELTYPE=SIGNEDBYTE", told, fixed = TRUE))) {
+      bad_map(name, "its bytes are signed, and terra reads them as 0 to 255: write it with 16 bits a cell by another program first")
+    }
+    if (any(grepl("Mask Flags: PER_DATASET *$", told))) {
+      bad_map(name, "has a mask of its own, and terra reads what lies beneath it: write it with a nodata value first")
+    }
+  }
 }
 
 # The geometry alone: no cells, labels or colours.
 template_of <- function(raster) rast(nrows = nrow(raster), ncols = ncol(raster), extent = ext(raster), crs = crs(raster))
 
 path_source <- function(name, path) {
+  path <- native_path(path)
   is_file <- file.exists(path)
   if (!is_file && !grepl("^/vsi|^[A-Za-z][A-Za-z0-9+.-]+:", path)) {
     read_failed(name, sprintf("cannot open: %s: No such file or directory", path))
@@ -117,9 +133,10 @@ labels_of <- function(raster) {
   if (!is.factor(raster)) return(NULL)
   table <- levels(raster)[[1]]
   if (!is.data.frame(table) || NCOL(table) < 2L) return(NULL)
-  labels <- enc2utf8(as.character(table[[2]]))
-  kept <- !is.na(labels)
-  list(codes = as.integer(table[[1]])[kept], labels = labels[kept])
+  labels <- utf8_of(as.character(table[[2]]))
+  codes <- suppressWarnings(as.integer(table[[1]]))
+  kept <- !is.na(labels) & !is.na(codes)
+  list(codes = codes[kept], labels = labels[kept])
 }
 
 # Writes the text of a map by blocks of rows. A map of the program's own form is linked.
@@ -132,7 +149,7 @@ send_map <- function(source, path) {
   raster <- source$raster
   is_exact <- is_exact_type(raster)
   is_float <- datatype(raster) %in% "FLT4S"
-  readStart(raster)
+  tryCatch(readStart(raster), error = function(e) read_failed(source$name, sprintf("cannot open: %s", told(e))))
   on.exit(readStop(raster))
   count <- max(1L, BLOCK_CELLS %/% source$region$cols)
   for (row in seq(1L, source$region$rows, by = count)) {
@@ -165,16 +182,14 @@ read_block <- function(source, row, count) {
 # The cells of a block as whole numbers, or the first that is none by its row and column.
 whole_cells <- function(source, cells, first_row) {
   whole <- suppressWarnings(as.integer(cells))
-  is_bad <- is.na(whole) != is.na(cells)
-  if (any(whole != cells, na.rm = TRUE) || any(is_bad)) {
-    place <- which(is_bad | (!is.na(whole) & whole != cells))[[1]]
-    cols <- source$region$cols
-    row <- first_row + (place - 1L) %/% cols
-    column <- (place - 1L) %% cols + 1L
-    value <- cells[[place]]
-    beyond <- if (abs(value) > CATEGORY_LIMIT) ", beyond 2147483647 either way" else ""
-    bad_map(source$name, sprintf("not a map of whole numbers: the cell at row %d, column %d is %s%s",
-      row, column, sprintf("%.15g", value), beyond), row, column, value)
-  }
-  whole
+  is_equal <- whole == cells
+  if (all(is_equal, na.rm = TRUE) && sum(is.na(is_equal)) == sum(is.na(cells))) return(whole)
+  place <- which(!is_equal | (is.na(is_equal) & !is.na(cells)))[[1]]
+  cols <- source$region$cols
+  row <- first_row + (place - 1L) %/% cols
+  column <- (place - 1L) %% cols + 1L
+  value <- cells[[place]]
+  beyond <- if (abs(value) > CATEGORY_LIMIT) ", beyond 2147483647 either way" else ""
+  bad_map(source$name, sprintf("not a map of whole numbers: the cell at row %d, column %d is %s%s",
+    row, column, sprintf("%.15g", value), beyond), row, column, value)
 }

@@ -7,7 +7,8 @@ PROBE_SCRIPT <- "r.clump -d input=g output=k\nr.stats -c input=g,k after=7,1\nr.
 PROBE_ANSWER <- c("12 2 1", "* * 1", "1", "NA", "2")
 
 rcell_program <- function(program = NULL) {
-  path <- if (is.null(program)) find_program() else as.character(program)
+  path <- if (is.null(program)) find_program() else program
+  if (!is.character(path) || length(path) != 1L || is.na(path)) refuse("program= is the path of a program", status = 2L)
   if (!nzchar(path)) {
     missing_program(paste(
       "the program rcell was not found: neither by the option rcell.program, nor in the environment variable RCELL,",
@@ -62,14 +63,50 @@ new_folder <- function() {
   folder
 }
 
-write_text <- function(text, path) writeBin(charToRaw(paste(text, collapse = "\n")), path)
+write_text <- function(text, path) {
+  bytes <- charToRaw(paste(text, collapse = "\n"))
+  failed <- function(e) write_failed(path, conditionMessage(e))
+  tryCatch(writeBin(bytes, path), error = failed, warning = failed)
+  check_size(path, length(bytes))
+}
+
+# A disk may be full only when a file is closed, and R tells no one: the size does.
+check_size <- function(path, size) {
+  there <- file.size(path)
+  if (!identical(as.numeric(there), as.numeric(size))) {
+    write_failed(path, sprintf("%.0f of its %.0f bytes are there, the disk may be full", if (is.na(there)) 0 else there, size))
+  }
+}
+
+# The words before a command that end it with R, also where R itself is killed; none where the system has no such command.
+guard_words <- function() {
+  if (is.null(known_programs[[" guard"]])) {
+    words <- c(Sys.which("setpriv")[["setpriv"]], "--pdeathsig", "KILL")
+    is_there <- nzchar(words[[1]]) &&
+      isTRUE(tryCatch(run(words[[1]], c(words[-1], "true"), error_on_status = FALSE)$status == 0L, error = function(e) FALSE))
+    assign(" guard", if (is_there) words else character(), envir = known_programs)
+  }
+  known_programs[[" guard"]]
+}
 
 # Runs the program in the folder, its output to the file `out` there. An interrupt ends it, and is passed on.
 execute <- function(path, folder, words) {
-  output <- file.path(folder, "out")
-  tryCatch(
-    processx::run(path, words, error_on_status = FALSE, stdout = output, stderr = "|", wd = folder, cleanup_tree = TRUE),
-    rlib_error = function(e) missing_program(sprintf("the program %s cannot be executed: %s", path, conditionMessage(e))))
+  command <- c(guard_words(), path, words)
+  failed <- function(text) missing_program(sprintf("the program %s cannot be executed: %s", path, trimws(text)))
+  child <- tryCatch(
+    process$new(command[[1]], command[-1], stdout = file.path(folder, "out"), stderr = "|", wd = folder, cleanup = TRUE),
+    rlib_error = function(e) failed(conditionMessage(e)))
+  on.exit(child$kill())
+  # (processx::run would keep what is said in a file, which a full disk does not take.)
+  told <- ""
+  while (child$is_incomplete_error()) {
+    child$poll_io(-1L)
+    told <- paste0(told, child$read_error())
+  }
+  child$wait()
+  status <- child$get_exit_status()
+  if (status != 0L && startsWith(told, "setpriv: ")) failed(sub("^setpriv: ", "", told))
+  list(status = status, stderr = told)
 }
 
 # The error of a run that ended in another status than 0, with the line of the caller's script.
@@ -89,5 +126,6 @@ fault <- function(ran, plan) {
   }
   if (!is.null(content)) Encoding(content) <- "UTF-8"
   is_memory <- ran$status == 3L || found[4] == "no memory"
-  refuse(found[4], found[2], line, ran$status, content, if (is_memory) "rcell_out_of_memory")
+  kind <- if (found[2] == "output") "rcell_write_failed" else if (is_memory) "rcell_out_of_memory"
+  refuse(found[4], found[2], line, ran$status, content, kind)
 }

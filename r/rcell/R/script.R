@@ -17,10 +17,18 @@ words_of <- function(line) strsplit(trimmed(line), "[ \t\r]+", useBytes = TRUE)[
 is_skipped <- function(line) grepl("^[ \t\r]*(#|$)", line, useBytes = TRUE)
 is_end <- function(lines) trimmed(lines) == "end"
 
+# Texts as UTF-8. In the C locale R takes no letter beyond ASCII for one, and would spell out the bytes.
+utf8_of <- function(text) {
+  if (is_ascii_locale()) Encoding(text)[Encoding(text) == "unknown" & validUTF8(text)] <- "UTF-8"
+  enc2utf8(text)
+}
+
+is_ascii_locale <- function() Sys.getlocale("LC_CTYPE") %in% c("C", "POSIX")
+
 # A script as lines. A vector of texts is taken as so many lines.
 lines_of <- function(script) {
   if (!is.character(script) || anyNA(script)) refuse("the script is no text", "script")
-  text <- paste(enc2utf8(script), collapse = "\n")
+  text <- paste(utf8_of(script), collapse = "\n")
   lines <- strsplit(text, "\n", fixed = TRUE, useBytes = TRUE)[[1]]
   if (!length(lines)) lines <- ""
   lines

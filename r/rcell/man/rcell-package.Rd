@@ -19,7 +19,8 @@ A map is given by its name. It is one of:
 \item a matrix of numbers: cells of side 1, the bottom left corner at 0, 0, no reference system.
 }
 Cells are whole numbers to 2147483647 either way; \code{NA} and \code{NaN} are null. Floats are taken where they are whole
-numbers. All maps of a call have the region of the first: the same four edges to 8 decimals, and the same rows and columns. Nothing
+numbers. Refused are files with a mask beside the cells and files of signed bytes, which terra reads otherwise than they are. All maps of
+a call have the region of the first: the same four edges to 8 decimals, and the same rows and columns. Nothing
 is resampled. Labels are those that \code{levels()} gives for a raster, or those of the r.reclass that made the map; they are joined
 by category.
 }
@@ -36,10 +37,12 @@ All errors are of the class \code{rcell_error}, and of one of these:
 \code{rcell_out_of_memory} \tab the program had no memory; also \code{rcell_refused} \cr
 \code{rcell_killed} \tab the program was ended by a signal (field \code{signal}) \cr
 \code{rcell_missing}, \code{rcell_wrong_program} \tab there is no program, or one that this package does not know \cr
-\code{rcell_write_failed} \tab a file could not be written (field \code{path}); nothing of it is left \cr
+\code{rcell_write_failed} \tab a file could not be written (field \code{path}); nothing of it is left. Where the program could not
+write its output, the disk of the temporary folder is full: also \code{rcell_refused}, source \code{"output"} \cr
 }
-An interrupt ends the program and is passed on. No call leaves a process or a temporary file behind, whatever happens; only where
-R itself is killed, its temporary folder stays, and the program runs to its end.
+An interrupt ends the program and is passed on. No call leaves a process or a temporary file behind, whatever happens. Where R itself
+is killed its temporary folder stays; the program ends with it where the system has \command{setpriv} (util-linux), and else runs to
+its end.
 }
 \seealso{
 \code{\link{rcell_table}}, \code{\link{rcell_run}}, \code{\link{rcell_grid}}, \code{\link{rcell_areas}}, \code{\link{rcell_patches}},

@@ -11,7 +11,7 @@ rcell_adjacency(x, program = NULL)
 }
 \value{
 A symmetric matrix of class by class with the labels, or else the categories, as its names. Each pair is counted both ways, so that
-the diagonal has each pair of equal cells twice. Pairs with a null are left out.
+the diagonal has each pair of equal cells twice. Pairs with a null are left out; a class whose cells touch no other cell has zeros.
 }
 \examples{
 rcell_adjacency(matrix(c(5, 7, 5, 5, 5, 7), 2, byrow = TRUE))

@@ -33,4 +33,19 @@ refusal <- function(call) tryCatch({
   NULL
 }, rcell_error = function(e) e)
 
+# R in a process of its own, with the libraries of this one: some lines, in an environment.
+run_apart <- function(room, lines, env = character(), command = character()) {
+  file <- file.path(room, "run.R")
+  libraries <- sprintf(".libPaths(%s)", paste(deparse(.libPaths()), collapse = ""))
+  writeLines(c(libraries, "suppressMessages({library(terra); library(rcell)})", lines), file)
+  words <- c(command, file.path(R.home("bin"), "Rscript"), file)
+  processx::process$new(words[[1]], words[-1], env = if (length(env)) c("current", env), stdout = "|", stderr = "2>&1")
+}
+
+# What it says until its end.
+said_by <- function(process) {
+  process$wait(600000)
+  process$read_all_output()
+}
+
 leftovers <- function() list.files(tempdir(), pattern = "^rcell-", all.files = TRUE)

@@ -5,6 +5,10 @@ maps <- list(
   noise = made_map(30, 40, 3, seed = 2), patchy = made_map(60, 50, 6, TRUE, seed = 3), one_class = made_map(20, 20, 1, seed = 5),
   row = made_map(1, 30, 2, seed = 6), cell = made_map(1, 1, 1, seed = 8), oblong = made_map(25, 20, 3, seed = 7, cell = c(20, 50)))
 
+# And a real one: the countries of South-East Asia, which the built package has, without their labels.
+real <- system.file("extdata", "country.tif", package = "rcell")
+if (nzchar(real)) maps$real <- setValues(rast(rast(real)), values(rast(real), mat = FALSE))
+
 # The areas of a map by a flood of its cells in plain R, numbered by their first cells.
 flooded <- function(map, directions) {
   cells <- as_rows(map)
@@ -80,7 +84,10 @@ shifted <- function(map) {
 for (name in setdiff(names(maps), "cell")) {
   expect_equal(rcell_adjacency(maps[[name]]), shifted(maps[[name]]), check.attributes = FALSE, info = name)
 }
-expect_identical(dim(rcell_adjacency(maps$cell)), c(0L, 0L))
+# A class whose cells touch no other cell is there.
+expect_identical(rcell_adjacency(maps$cell), matrix(0, 1, 1, dimnames = list("1", "1")))
+expect_identical(rcell_adjacency(matrix(c(1, 1, NA, 7), 1))["7", ], c("1" = 0, "7" = 0))
+expect_identical(dim(rcell_adjacency(matrix(NA_real_, 1, 2))), c(0L, 0L))
 
 # The length of edges between classes is half of what the polygons have, less the outline.
 map <- classify(maps$patchy, cbind(NA, 9))
@@ -98,19 +105,22 @@ all_cells <- rcell_crosstab(maps$noise, other, useNA = TRUE)
 expect_identical(sum(all_cells$cells), 1200L)
 codes <- table(values(maps$noise, mat = FALSE), values(other, mat = FALSE), useNA = "ifany")
 expect_equivalent(all_cells$cells, as.vector(t(codes))[as.vector(t(codes)) > 0])
+if (nzchar(real)) {
+  sides <- rast(file.path(dirname(real), "hemisphere.tif"))
+  theirs <- as.data.frame(crosstab(c(maps$real, setValues(rast(sides), values(sides, mat = FALSE))), long = TRUE))
+  theirs <- theirs[order(theirs[[1]], theirs[[2]]), ]
+  expect_equivalent(as.matrix(rcell_crosstab(maps$real, sides)[c("x", "y", "cells")]), as.matrix(theirs[theirs[[3]] > 0, ]))
+}
 frequencies <- freq(maps$noise)
 expect_equivalent(rcell_table("r.stats -cn input=x", x = maps$noise)$cells, as.integer(frequencies[, "count"]))
 expect_identical(rcell_table("r.stats -c input=x", x = maps$noise)$cells[[4]], as.integer(freq(maps$noise, value = NA)[, "count"]))
 
 # The majority of nine cells, nulls left out, the least of those that are equal: as a function of R has it.
 majority <- function(cells) {
-  cells <- cells[!is.na(cells)]
-  if (!length(cells)) return(NA)
-  counts <- table(cells)
-  as.numeric(names(counts)[which.max(counts)])
+  if (all(is.na(cells))) NA else which.max(tabulate(cells))
 }
 window <- "r.mapcalc m = nmode(x[-1,-1],x[-1,0],x[-1,1],x[0,-1],x,x[0,1],x[1,-1],x[1,0],x[1,1])"
-for (name in c("noise", "patchy")) {
+for (name in intersect(c("noise", "patchy", "real"), names(maps))) {
   expect_equal(as_rows(rcell_grid(window, "m", x = maps[[name]])), as_rows(focal(maps[[name]], 3, majority)), info = name)
 }
 

@@ -47,6 +47,23 @@ for (value in c(-2147483648, 4294967295, 1e300, Inf, 0.1)) expect_inherits(bad(v
 scaled <- first
 writeRaster(scaled, file("scaled.tif"), datatype = "INT2S", scale = 0.1)
 expect_true(grepl("^its values are scaled: each cell times 0.1, plus 0", refusal(counts(file("scaled.tif")))$text))
+# Whole numbers of 64 bits are taken, and refused beyond the range. terra reads signed bytes as 0 to 255, and what a mask covers.
+writeRaster(first, file("long.tif"), datatype = "INT8S")
+expect_identical(counts(file("long.tif")), counts(first))
+long <- first
+long[2, 3] <- 3e9
+writeRaster(long, file("long.tif"), datatype = "INT8S", overwrite = TRUE)
+expect_identical(refusal(counts(file("long.tif")))[c("row", "column", "value")], list(row = 2L, column = 3L, value = 3e9))
+writeBin(as.raw(c(251, 1, 2, 3)), file("bytes.raw"))
+raw_map <- function(name, kind) writeLines(c("<VRTDataset rasterXSize=\"2\" rasterYSize=\"2\"><GeoTransform>0, 1, 0, 2, 0, -1</GeoTransform>",
+  "<VRTRasterBand dataType=\"Byte\" band=\"1\" subClass=\"VRTRawRasterBand\">", kind,
+  "<SourceFilename relativeToVRT=\"1\">bytes.raw</SourceFilename></VRTRasterBand></VRTDataset>"), file(name))
+raw_map("unsigned.vrt", "")
+expect_identical(counts(file("unsigned.vrt"))$x, c(1L, 2L, 3L, 251L))
+raw_map("signed.vrt", "<Metadata domain=\"IMAGE_STRUCTURE\"><MDI key=\"PIXELTYPE\">SIGNEDBYTE</MDI></Metadata>")
+if (is.na(match("INT1S", datatype(rast(file("signed.vrt")))))) {
+  expect_true(grepl("^its bytes are signed", refusal(counts(file("signed.vrt")))$text))
+}
 writeRaster(first * 1e9 * 2, file("wide.tif"), datatype = "INT4U")
 expect_inherits(refusal(counts(file("wide.tif"))), "rcell_bad_map")
 writeRaster(classify(first, cbind(NA, -2147483648)), file("least.tif"), datatype = "INT4S", NAflag = 0)
@@ -62,6 +79,13 @@ writeRaster(first + 16777216, file("float.tif"), datatype = "FLT4S")
 expect_warning(counts(file("float.tif")), "not exact beyond 16777216")
 writeRaster(first, file("float.tif"), datatype = "FLT4S", overwrite = TRUE)
 expect_silent(counts(file("float.tif")))
+
+# Two layers of one name are two maps of a call, and a raster of two layers is refused.
+expect_identical(names(rcell_crosstab(first, first)), c("x", "y", "cells"))
+twice <- c(first, first)
+names(twice) <- c("lc", "lc")
+expect_identical(rcell_table("r.stats -c input=a,b", a = twice[[1]], b = twice[[2]])$cells, counts(first)$cells)
+expect_inherits(refusal(counts(twice)), "rcell_bad_map")
 
 # Layers, no values, a file that is none, a part of a file that is missing.
 expect_identical(refusal(counts(c(first, first)))$text, "has 2 layers: give one, as x[[1]]")

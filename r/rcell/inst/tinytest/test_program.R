@@ -33,41 +33,77 @@ death <- script("killed", c(good, "kill -9 $$"))
 dead <- refusal(rcell_run("r.stats input=lc", lc = lc, program = death))
 expect_inherits(dead, "rcell_killed")
 expect_identical(conditionMessage(dead), "the program was killed by signal 9 (SIGKILL): too little memory, or someone ended it")
+none <- script("none", good)
+writeBin(as.raw(1:100), none)
+expect_inherits(refusal(rcell_program(none)), "rcell_wrong_program")
+expect_inherits(refusal(rcell_program(c(mine, mine))), "rcell_refused")
 odd <- script("odd", c(good, "echo what >&2; exit 3"))
 expect_inherits(refusal(rcell_run("r.stats input=lc", lc = lc, program = odd)), "rcell_wrong_program")
 short <- script("short", c(good, "echo 1"))
 expect_inherits(refusal(rcell_grid("", "lc", lc = lc, program = short)), "rcell_wrong_program")
+cut <- script("cut", c(good, "printf '1 4\\n2'"))
+expect_inherits(refusal(rcell_table("r.stats -c input=lc", lc = lc, program = cut)), "rcell_wrong_program")
+full <- script("full", c(good, "echo 'rcell: output:0: write failed after 12 bytes' >&2; exit 4"))
+expect_inherits(refusal(rcell_table("r.stats -c input=lc", lc = lc, program = full)), "rcell_write_failed")
 memory <- script("memory", c(good, "echo 'rcell: script:1: no memory' >&2; exit 3"))
 expect_inherits(refusal(rcell_run("r.stats input=lc", lc = lc, program = memory)), "rcell_out_of_memory")
 
 # An interrupt of R alone ends the program, and leaves nothing.
-slow <- script("slow", c(good, sprintf("echo $$ > '%s'; exec sleep 60", file.path(room, "pid"))))
-run <- function(lines, env = character()) {
-  file <- file.path(room, "run.R")
-  writeLines(c(paste(".libPaths(", paste(deparse(.libPaths()), collapse = ""), ")"), lines), file)
-  processx::process$new(file.path(R.home("bin"), "Rscript"), file, env = c("current", env), stdout = "|", stderr = "2>&1")
+slow <- script("slow", c(good, sprintf("echo $$ > '%s'; exec sleep 600", file.path(room, "pid"))))
+at_work <- function() {
+  unlink(file.path(room, "pid"))
+  asked <- run_apart(room, c(
+    sprintf("answer <- tryCatch(rcell_grid('', 'x', x = matrix(1), filename = '%s', program = '%s'),", file.path(room, "x.tif"), slow),
+    "  interrupt = function(e) 'interrupted')", "cat(answer, length(list.files(tempdir(), '^rcell-')))"))
+  begun <- Sys.time()
+  while (!file.exists(file.path(room, "pid")) && asked$is_alive() && Sys.time() < begun + 300) Sys.sleep(0.1)
+  if (!asked$is_alive()) stop(asked$read_all_output())
+  Sys.sleep(0.5)
+  asked
 }
-asked <- run(c("suppressMessages(library(rcell))", sprintf("answer <- tryCatch(rcell_run('r.stats input=x', x = matrix(1), program = '%s'),", slow),
-  "  interrupt = function(e) 'interrupted')", "cat(answer, length(list.files(tempdir(), '^rcell-')))"))
-begun <- Sys.time()
-while (!file.exists(file.path(room, "pid")) && asked$is_alive() && Sys.time() < begun + 300) Sys.sleep(0.1)
-if (!asked$is_alive()) stop(asked$read_all_output())
-Sys.sleep(0.5)
+# One that has ended may be there until its new parent looks at it.
+is_running <- function() {
+  state <- tryCatch(readLines(file.path("/proc", readLines(file.path(room, "pid")), "stat")), error = function(e) "", warning = function(w) "")
+  nzchar(state) && !grepl(") Z ", state, fixed = TRUE)
+}
+files <- list.files(room, all.files = TRUE)
+asked <- at_work()
 asked$interrupt()
-asked$wait(60000)
-expect_identical(asked$read_all_output(), "interrupted 0")
-expect_false(file.exists(file.path("/proc", readLines(file.path(room, "pid")))))
+expect_identical(said_by(asked), "interrupted 0")
+expect_false(is_running())
 
-# In the C locale, with blanks and umlauts in the temporary folder and in a path.
+# Where R itself is ended, the program ends with it.
+if (nzchar(Sys.which("setpriv"))) {
+  asked <- at_work()
+  expect_true(is_running())
+  asked$signal(15L)
+  said_by(asked)
+  Sys.sleep(1)
+  expect_false(is_running())
+}
+expect_identical(setdiff(list.files(room, all.files = TRUE), files), c("pid", "run.R"))
+
+# In the C locale, with blanks and umlauts in the temporary folder, in paths and in labels, as the system gives them and as R spells
+# them.
 strange <- file.path(room, "a b \u00fc")
 dir.create(strange)
-writeRaster(lc, file.path(strange, "m \u00e4.tif"), datatype = "INT1U")
-asked <- run(c("suppressMessages(library(rcell))", "path <- list.files(Sys.getenv('TMPDIR'), 'tif$', full.names = TRUE)",
-  "found <- rcell_table('r.reclass input=lc output=k\\n1 thru 3 = 1 gr\\u00fcn\\nend\\nr.stats -cnl input=k', lc = path)",
+labelled <- lc
+levels(labelled) <- data.frame(value = 1:3, cover = c("gr\u00fcn", "b", "c"))
+writeRaster(labelled, file.path(strange, "m \u00e4.tif"), datatype = "INT2S")
+writeLines(c("north: 3", "south: 0", "east: 2", "west: 0", "rows: 1", "cols: 2", "1 *"), file.path(strange, "g \u00e4.txt"))
+asked <- run_apart(room, c("folder <- room <- Sys.getenv('TMPDIR')", "path <- list.files(room, 'tif$', full.names = TRUE)",
+  "green <- 'gr\\u00fcn'", "rules <- 'r.reclass input=lc output=k\\n1 thru 3 = 1 gr\\u00fcn\\nend\\nr.stats -cnl input=k'",
+  "found <- rcell_table(rules, lc = path)", "Encoding(rules) <- 'unknown'", "again <- rcell_table(rules, lc = path)",
+  "cat(found$cells, found$k_label == green, again$k_label == green, '')",
   "g <- rcell_grid('', 'lc', lc = path, filename = sub('m ', 'n ', path))",
-  "cat(found$cells, found$k_label == 'gr\\u00fcn', file.exists(sub('m ', 'n ', path)))"), c(LC_ALL = "C", TMPDIR = strange))
-asked$wait(300000)
-expect_identical(asked$read_all_output(), paste(sum(!is.na(values(lc))), "TRUE TRUE"))
+  "Encoding(room) <- 'UTF-8'", "spelled <- paste0(room, '/o \\u00e4.tif')",
+  "g <- rcell_grid('', 'lc', lc = path, filename = spelled)", "g <- rcell_areas(spelled, 8, filename = spelled, overwrite = TRUE)",
+  "cat(rcell_table('r.stats -cnl input=lc', lc = path)$lc_label[1] == green, '')",
+  "cat(rcell_table('r.stats -c input=g', g = sub('o ([^.]*).tif', 'g \\\\1.txt', spelled))$cells, '')",
+  "cat(length(list.files(folder, '[.]tif$')), length(list.files(folder, '^[.]rcell', all.files = TRUE)))"),
+  c(LC_ALL = "C", TMPDIR = strange))
+expect_identical(said_by(asked), paste(sum(!is.na(values(lc))), "TRUE TRUE TRUE 1 1 3 0"))
+expect_true(file.exists(file.path(strange, "o \u00e4.tif")))
 
 unlink(room, recursive = TRUE)
 expect_identical(leftovers(), character())

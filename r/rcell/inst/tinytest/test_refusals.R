@@ -9,6 +9,8 @@ expect_identical(found[c("source", "line", "column", "text", "status")],
   list(source = "script", line = 3L, column = 20L, text = "number not whole at column 20", status = 1L))
 expect_identical(conditionMessage(found),
   "script, line 3: number not whole at column 20\n  r.mapcalc x = lc + 1.5\n                     ^")
+expect_identical(capture.output(print(found)),
+  c("<rcell_refused>", "script, line 3: number not whole at column 20", "  r.mapcalc x = lc + 1.5", "                     ^"))
 expect_identical(refusal(rcell_run("r.stats -c input=lc\nr.stats -c input=lend\nr.stats input=lc", lc = lc))$line, 2L)
 expect_identical(refusal(rcell_run("r.stats -q input=lc", lc = lc))$text, "bad option")
 tabs <- refusal(rcell_run("r.mapcalc\tx = \u00fc", lc = lc))
@@ -30,6 +32,9 @@ expect_identical(refusal(rcell_run("r.stats input=lc", maps = list("land-use" = 
 expect_identical(refusal(rcell_run(NA, lc = lc))$text, "the script is no text")
 expect_true(grepl("^neither a path nor a SpatRaster", refusal(rcell_run("", lc = 1:3))$text))
 expect_identical(refusal(rcell_areas(lc, 6))$text, "directions= is 4 or 8")
+expect_identical(refusal(rcell_areas(lc, classes = 3e9))$text, "classes= are whole numbers to 2147483647 either way")
+expect_identical(refusal(rcell_areas(lc, least = NA))$text, "least= is a number of cells")
+expect_identical(refusal(rcell_areas(lc, filename = NA))$text, "filename= is one path")
 
 # Marks may not make a script too long without a word.
 long <- paste(c(rep("r.stats input=lc", 2), rep(paste0("#", strrep("x", 60000)), 17), "#", strrep("#", 28500)), collapse = "\n")

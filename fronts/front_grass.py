@@ -1,0 +1,128 @@
+"""Runs the table of cases on r.rcell, in a session of GRASS: prints `case NAME`, and below it what came out, each line after a blank.
+
+GRASS has one region for all maps, and maps of whole numbers or of decimals. The rasters are imported as r.in.gdal does it; a case is
+run in the region of its first map.
+"""
+
+from __future__ import annotations
+
+import os
+import pathlib
+import re
+import subprocess
+import sys
+import tempfile
+
+from cases import Case, cases
+
+HERE = pathlib.Path(__file__).resolve().parent
+REFUSED = re.compile(r"rcell: ([^:]*):(\d+): (.*)")
+NO_MAP = re.compile(r"Raster map <([^>]*)> (.*)")
+TABLE = re.compile(r"^\s*r\.stats\b", re.MULTILINE)
+
+
+def called(*words: str, text: str | None = None) -> subprocess.CompletedProcess[str]:
+    return subprocess.run(words, input=text, capture_output=True, encoding="utf-8", errors="replace")
+
+
+def raster_of(path: str) -> str:
+    """The name of a raster map in GRASS."""
+    return "m_" + pathlib.Path(path).stem
+
+
+def import_all() -> None:
+    """All rasters of the cases, whatever their reference system; those that r.in.gdal refuses are not there."""
+    for path in sorted({path for case in cases() for path in case.maps.values()}):
+        module = "r.in.ascii" if path.endswith(".txt") else "r.in.gdal"
+        words = ("null_value=*",) if path.endswith(".txt") else ("-o", "band=1")
+        called(module, *words, f"input={path}", f"output={raster_of(path)}", "--quiet", "--overwrite")
+
+
+def plain(row: list[str], titles: list[str]) -> list[str]:
+    """A row whose labels that there are not are `*`, as in the table of cases: GRASS calls null `no data`."""
+    found = row[:]
+    for at, title in enumerate(titles):
+        if title.endswith("_label") and (not row[at] or row[at - 1] == "*"):
+            found[at] = "*"
+    return found
+
+
+def titles_of(script: str) -> list[str]:
+    """The titles of the only r.stats of a script, which prints none."""
+    line = next((line for line in script.splitlines() if TABLE.match(line)), "r.stats input=")
+    flags = "".join(word[1:] for word in line.split() if word.startswith("-"))
+    titles: list[str] = []
+    for name in next(word[6:] for word in line.split() if word.startswith("input=")).split(","):
+        count = titles.count(name)
+        titles += [f"{name}_{count + 1}" if count else name] + [f"{name}_label"] * ("l" in flags)
+    return titles + ["cells"] * ("c" in flags)
+
+
+def of_table(case: Case, text: str) -> list[str]:
+    titles = titles_of(case.script)
+    return ["|".join(titles)] + ["|".join(plain(line.split("|"), titles)) for line in text.splitlines()]
+
+
+def of_grid(name: str) -> list[str]:
+    return called("r.out.ascii", "-hi", f"input={name}", "null_value=*", "--quiet").stdout.replace(" \n", "\n").splitlines()
+
+
+def asked(case: Case) -> tuple[str, list[str]]:
+    """The script, and the words after r.rcell."""
+    kind, *words = case.call.split()
+    if kind == "areas":
+        flag = " -d" if words[0] == "8" else ""
+        return f"r.clump{flag} input={next(iter(case.maps))} output=areas", ["output=areas=found"]
+    return TABLE.sub(lambda found: f"{found[0]} separator=pipe", case.script), [f"output={words[0]}=found"] if kind == "grid" else []
+
+
+def refusal(case: Case, told: str) -> list[str]:
+    """What r.rcell says, in the keys of the table of cases. (GRASS breaks a long line, and what follows is left.)"""
+    text = " ".join(line.removeprefix("ERROR: ").strip() for line in told.splitlines() if not line.startswith(("    ", "WARNING")))
+    found = REFUSED.search(text)
+    if found:
+        column = re.search(r" at column (\d+)$", found[3].strip())
+        lines = [("kind", "refused"), ("source", found[1]), ("line", int(found[2]) or None), ("column", column and column[1])]
+        return [f"{key}: {value}" for key, value in [*lines, ("text", found[3].strip())] if value is not None]
+    missing = NO_MAP.search(text)
+    names = {raster_of(path): name for name, path in case.maps.items()}
+    if missing:
+        kind = "read failed" if missing[2].startswith("not found") else "bad map"
+        return [f"kind: {kind}", f"source: {names.get(missing[1], missing[1])}", f"text: {missing[2]}"]
+    return ["kind: refused", f"text: {text}"]
+
+
+def answer(case: Case) -> list[str]:
+    first = raster_of(next(iter(case.maps.values())))
+    called("g.region", f"raster={first}", "--quiet")
+    script, words = asked(case)
+    maps = ",".join(f"{name}={raster_of(path)}" for name, path in case.maps.items())
+    ran = called("r.rcell", "script=-", f"maps={maps}", *words, "--quiet", "--overwrite", text=script)
+    if ran.returncode:
+        return refusal(case, ran.stderr)
+    return of_table(case, ran.stdout) if case.call == "table" else of_grid("found")
+
+
+def inside() -> None:
+    """The cases, within a session."""
+    import_all()
+    for case in cases():
+        if "grass" not in case.left_out:
+            print(f"case {case.name}", *(f" {line}" for line in answer(case)), sep="\n")
+
+
+def main() -> int:
+    """Makes a location without a projection, and runs the cases within it."""
+    with tempfile.TemporaryDirectory(prefix="rcell-grass-") as room:
+        os.mkdir(f"{room}/path")
+        os.symlink(os.environ["RCELL"], f"{room}/path/rcell")
+        os.symlink(HERE.parent / "grass/r.rcell/r.rcell.py", f"{room}/path/r.rcell")
+        environment = {**os.environ, "PATH": f"{room}/path:/usr/bin:/bin", "HOME": room}
+        subprocess.run(["grass", "-e", "-c", "XY", f"{room}/here"], env=environment, capture_output=True)
+        words = ["grass", f"{room}/here/PERMANENT", "--exec", sys.executable, str(HERE / "front_grass.py"), "inside"]
+        return subprocess.run(words, env=environment).returncode
+
+
+if __name__ == "__main__":
+    sys.stdout.reconfigure(encoding="utf-8")  # type: ignore[union-attr]
+    sys.exit(inside() if sys.argv[1:] else main())
