@@ -19,8 +19,10 @@ __all__ = ["NULL", "MAX_CATEGORY", "Words", "cells_to_text", "numbers_of", "rang
 
 MAX_CATEGORY = 2_147_483_647
 WIDTHS = (2, 4, 8, 10, 12)
-# A table of words has at most so many entries; beyond it words are put together from parts.
-TABLE_LIMIT = 1 << 18
+# A table of words has at most so many entries, of 8 bytes; beyond it words are put together from parts, which takes six times as
+# long a cell. An entry is made in a part of the time that a look-up takes, so that a table soon pays.
+TABLE_LIMIT = 1 << 21
+ENTRIES_PER_CELL = 16
 # From so many cells on a table of pairs of 8-bit cells pays for its making.
 PAIRS_FROM = 1 << 19
 # Cells that are spelled at a time: their words, and what is reckoned on the way, stay in the cache of a processor.
@@ -87,10 +89,17 @@ def _put_together(cells: Cells, width: int) -> NDArray[np.uint8]:
     return words.view(np.uint8)
 
 
+def _thousands(tops: NDArray[np.uint32]) -> NDArray[np.uint64]:
+    """The words of seven characters that begin with some of four, a thousand for each."""
+    low = _THREE_BLANK.astype(np.uint64) << np.uint64(32)
+    return np.bitwise_or.outer(tops.astype(np.uint64), low).reshape(-1)
+
+
 def _formatted(least: int, greatest: int, width: int) -> NDArray[np.uint8]:
-    """The words of all categories from one to another."""
-    if width > 4:
-        return _put_together(np.arange(least, greatest + 1), width)
+    """The words of all categories from one to another; least is not above 0, and greatest not below."""
+    if width == 8:
+        below = _thousands(_SIGNED_FOUR[10_000 : 10_001 + -least // 1_000])[1 : 1 - least][::-1]
+        return np.concatenate([below, _thousands(_FOUR[: greatest // 1_000 + 1])[: greatest + 1]]).view(np.uint8)
     texts = b"".join(b"%0*d " % (width - 1, category) for category in range(least, greatest + 1))
     return np.frombuffer(texts, np.uint8)
 
@@ -186,8 +195,8 @@ class Words:
         elif flat.dtype.itemsize <= 2 and by_look_up:
             places: Cells = flat.view(f"u{flat.dtype.itemsize}")
             words = np.take(self._by_bits(flat.dtype), places, mode="clip").view(np.uint8)
-        elif by_look_up and (self.width <= 4 or greatest - least < min(TABLE_LIMIT, flat.size)):
-            words = self._by_table(flat, least, greatest)
+        elif by_look_up and (self.width < 8 or greatest - least < min(TABLE_LIMIT, ENTRIES_PER_CELL * self._spelled_cells)):
+            return self._by_table(flat, least, greatest, mask)
         else:
             return self._by_parts(flat, mask)
         if mask is not None:
@@ -244,7 +253,7 @@ class Words:
     def _table_of(self, least: int, greatest: int) -> NDArray[Any]:
         return _formatted(least, greatest, self.width).view(f"u{self.width}")
 
-    def _by_table(self, flat: Cells, least: int, greatest: int) -> NDArray[np.uint8]:
+    def _by_table(self, flat: Cells, least: int, greatest: int, mask: Mask | None) -> NDArray[np.uint8]:
         """A look-up in the words of the range; the last entry is null's."""
         known, table = self._tables.get("range", (0, np.empty(0, f"u{self.width}")))
         if table.size == 0 or least < known or greatest > known + table.size - 2:
@@ -255,6 +264,8 @@ class Words:
         places = np.subtract(flat, known, dtype=np.intp)
         if self.nodata is not None:
             places[flat == self.nodata] = table.size - 1
+        if mask is not None:
+            np.putmask(places, mask, table.size - 1)
         words: NDArray[np.uint8] = np.take(table, places, mode="clip").view(np.uint8)
         return words
 

@@ -14,7 +14,7 @@ import numpy as np
 from .._errors import BadMap, OtherRegion, ReadFailed
 from .._libraries import need
 from .._maps import ArrayMap, checked
-from .._rasters import _IDENTITY, _only_band, _opened
+from .._rasters import _IDENTITY, _only_band, open_dataset
 from .._region import Region, Transform, _edge_text, _units
 from .joining import Rectangle
 
@@ -127,7 +127,7 @@ class MapFile:
         top = sheet.rows - place.top - place.rows if self.is_upside_down else place.top
         window = rasterio.windows.Window(place.left, top, place.cols, place.rows)
         try:
-            with rasterio.Env(GDAL_CACHEMAX=READ_CACHE), _opened(self.name, self.path) as dataset:
+            with rasterio.Env(GDAL_CACHEMAX=READ_CACHE), open_dataset(self.name, self.path) as dataset:
                 cells = dataset.read(self.band, window=window)
                 null = dataset.read_masks(self.band, window=window) == 0 if self.has_mask else None
         except (rasterio.errors.RasterioError, OSError) as fault:
@@ -167,7 +167,7 @@ def _described(name: str, path: Any) -> tuple[Sheet, MapFile]:
         raise BadMap(name, f"tiles are read from files: a path that rasterio opens is needed, not {type(path).__name__}")
     file = os.fspath(path) if GDAL_NAME.match(os.fspath(path)) else os.path.abspath(path)
     enums = need("rasterio.enums", "gis", PURPOSE)
-    with _opened(name, file) as dataset:
+    with open_dataset(name, file) as dataset:
         band = _only_band(name, dataset, enums)
         scale, offset = dataset.scales[band - 1], dataset.offsets[band - 1]
         if (scale, offset) != (1, 0):
