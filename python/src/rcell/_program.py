@@ -20,7 +20,7 @@ from typing import Any, Callable, Iterator, Mapping, Sequence
 import numpy as np
 from numpy.typing import NDArray
 
-from ._errors import Killed, MissingProgram, OutOfMemory, RcellError, Refused, WriteFailed, WrongProgram
+from ._errors import Killed, MissingProgram, OutOfMemory, RcellError, Refused, WrongProgram
 from ._maps import Source
 from ._region import Region
 from ._script import SCRIPT_LIMIT, Plan, Statement, plan_of
@@ -316,10 +316,8 @@ def _send(run: _Run, place: int, source: Source, progress: Progress | None) -> N
 def _check_length(script: str, plan: Plan) -> None:
     own = len(script.encode("utf-8", "surrogateescape"))
     if own <= SCRIPT_LIMIT < len(plan.text):
-        raise Refused(
-            f"the script has {own:,} bytes, and with the marks that part its outputs {len(plan.text):,}, over {SCRIPT_LIMIT:,}: make several runs",
-            "script",
-        )
+        marked = f"and with the marks that part its outputs {len(plan.text):,}, over {SCRIPT_LIMIT:,}"
+        raise Refused(f"the script has {own:,} bytes, {marked}: make several runs", "script")
 
 
 def _fault(status: int, message: str, plan: Plan, script: str) -> RcellError:

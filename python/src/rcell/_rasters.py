@@ -14,10 +14,10 @@ from ._errors import BadMap, ReadFailed
 from ._labels import read_labels
 from ._libraries import need
 from ._maps import BLOCK_CELLS, Block, checked, in_region, whole_nodata
-from ._region import Region, Transform
+from ._region import Region, Transform, check_upright
 from ._text import Mask, range_of
 
-__all__ = ["RasterMap", "open_dataset", "open_raster"]
+__all__ = ["RasterMap", "check_scale", "only_band", "open_dataset", "open_raster", "upright"]
 
 _PURPOSE = "to read a raster"
 _IDENTITY: Transform = (1.0, 0.0, 0.0, 0.0, 1.0, 0.0)
@@ -106,11 +106,10 @@ class RasterMap:
     def of_dataset(cls, name: str, dataset: Any, band: int | None) -> RasterMap:
         """A band of an open dataset; the only one where it is None."""
         enums = need("rasterio.enums", "gis", _PURPOSE)
-        band = _only_band(name, dataset, enums) if band is None else band
-        if dataset.scales[band - 1] != 1 or dataset.offsets[band - 1] != 0:
-            scale, offset = dataset.scales[band - 1], dataset.offsets[band - 1]
-            raise BadMap(name, f"its values are scaled: each cell times {scale:g}, plus {offset:g}; write them out as whole numbers first")
-        region, transform, is_upside_down = _place(name, dataset)
+        band = only_band(name, dataset, enums) if band is None else band
+        check_scale(name, dataset, band)
+        transform, is_upside_down = upright(name, dataset)
+        region = in_region(name, Region.from_transform, transform, dataset.height, dataset.width)
         flags = dataset.mask_flag_enums[band - 1]
         return cls(
             name=name,
@@ -188,24 +187,37 @@ class RasterMap:
         return [(row, col, min(height, rows - row), min(width, cols - col)) for row, col in windows]
 
 
-def _only_band(name: str, dataset: Any, enums: Any) -> int:
+def only_band(name: str, dataset: Any, enums: Any) -> int:
     bands = [band for band in dataset.indexes if dataset.colorinterp[band - 1] != enums.ColorInterp.alpha]
     if len(bands) != 1:
         raise BadMap(name, f"has {len(bands)} bands: give one, as rasterio.band(dataset, 1)")
     return int(bands[0])
 
 
-def _place(name: str, dataset: Any) -> tuple[Region, Transform, bool]:
-    """The region, its transform from north to south, and whether the file has its rows the other way."""
-    rows, cols = dataset.height, dataset.width
-    a, b, c, d, e, f = transform = tuple(dataset.transform)[:6]
+def check_scale(name: str, dataset: Any, band: int) -> None:
+    """Refuses a band whose cells stand for other values."""
+    scale, offset = dataset.scales[band - 1], dataset.offsets[band - 1]
+    if (scale, offset) != (1, 0):
+        told = f"each cell times {scale:g}, plus {offset:g}; write them out as whole numbers first"
+        raise BadMap(name, f"its values are scaled: {told}")
+
+
+def upright(name: str, dataset: Any) -> tuple[Transform, bool]:
+    """The transform of a dataset with its rows from north to south, and whether the file has them the other way.
+
+    Where there is none, it is that of cells of side 1 whose bottom left corner is at 0, 0.
+
+    Raises
+    ------
+    BadMap
+        Where it is rotated, or has its columns from east to west; control points in place of one.
+    """
+    a, b, c, d, e, f = transform = tuple(float(number) for number in tuple(dataset.transform)[:6])
     if transform == _IDENTITY:
         if dataset.gcps[0]:
             raise BadMap(name, "has ground control points and no transform: warp it first")
-        region = in_region(name, Region.of_cells, rows, cols)
-        return region, region.transform, False
+        return (1.0, 0.0, 0.0, 0.0, -1.0, float(dataset.height)), False
     is_upside_down = e > 0 and not b and not d
-    if is_upside_down:
-        e, f = -e, f + e * rows
-    turned = (a, b, c, d, e, f)
-    return in_region(name, Region.from_transform, turned, rows, cols), turned, is_upside_down
+    turned = (a, b, c, d, -e, f + e * dataset.height) if is_upside_down else (a, b, c, d, e, f)
+    check_upright(name, turned)
+    return turned, is_upside_down

@@ -99,7 +99,8 @@ def _formatted(least: int, greatest: int, width: int) -> NDArray[np.uint8]:
     """The words of all categories from one to another; least is not above 0, and greatest not below."""
     if width == 8:
         below = _thousands(_SIGNED_FOUR[10_000 : 10_001 + -least // 1_000])[1 : 1 - least][::-1]
-        return np.concatenate([below, _thousands(_FOUR[: greatest // 1_000 + 1])[: greatest + 1]]).view(np.uint8)
+        words: NDArray[np.uint64] = np.concatenate([below, _thousands(_FOUR[: greatest // 1_000 + 1])[: greatest + 1]])
+        return words.view(np.uint8)
     texts = b"".join(b"%0*d " % (width - 1, category) for category in range(least, greatest + 1))
     return np.frombuffer(texts, np.uint8)
 
@@ -214,7 +215,8 @@ class Words:
     def _by_sum(self, flat: Cells) -> NDArray[np.uint16] | None:
         """Digits and blanks by addition, which is faster than any look-up; None where a cell is no digit and not nodata."""
         characters = flat + np.uint8(ZERO)
-        if characters.size and (characters.max() > ZERO + 9 or characters.min() < min(ZERO, self.null[0] if self.nodata is not None else ZERO)):
+        least = ZERO if self.nodata is None else min(ZERO, self.null[0])
+        if characters.size and (characters.max() > ZERO + 9 or characters.min() < least):
             return None
         words = characters.astype(np.uint16)
         words |= np.uint16(ord(" ") << 8)

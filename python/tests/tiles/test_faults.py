@@ -74,7 +74,7 @@ def test_maps_are_refused(tif: MakeTif, tmp_path: Path, scheduler: str) -> None:
     assert refusal(lc=str(tmp_path / "nowhere.tif")).startswith("lc: cannot open")
     assert refusal(lc=CELLS) == "lc: tiles are read from files: a path that rasterio opens is needed, not ndarray"
     assert "rotated transform" in refusal(lc=tif("r", CELLS, transform=rasterio.Affine(1, 1, 0, 1, -1, 0)))
-    assert "not from west to east" in refusal(lc=tif("w", CELLS, transform=rasterio.Affine(-1, 0, 0, 0, -1, 0)))
+    assert "not from north to south, west to east" in refusal(lc=tif("w", CELLS, transform=rasterio.Affine(-1, 0, 0, 0, -1, 0)))
     assert "complex64" in refusal(lc=tif("c", CELLS.astype(np.complex64)))
     with rasterio.open(tmp_path / "b.tif", "w", driver="GTiff", count=2, width=2, height=2, dtype="uint8"):
         pass
