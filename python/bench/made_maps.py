@@ -58,7 +58,7 @@ def spiral(side: int) -> Cells:
     """A way from the corner to the middle, one cell wide, and the wall beside it."""
     row, col = np.indices((side, side), np.int32)
     ring = np.minimum(np.minimum(row, col), np.minimum(side - 1 - row, side - 1 - col))
-    cells = (ring % 2 + 1).astype(np.uint8)
+    cells: Cells = (ring % 2 + 1).astype(np.uint8)
     turns = np.arange(0, (side - 1) // 2 - 1, 2)
     # Each ring ends below its first cell, and goes on one ring further in.
     cells[turns + 1, turns] = 2
