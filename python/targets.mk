@@ -1,9 +1,10 @@
 # make wheel     makes dist/rcell-VERSION-py3-none-..x86_64.whl, the Python package with the static program in it
 # make python    installs the wheel into an empty environment, and runs its tests, types, notebook and document there
+# make python-debian12  the same in a root of Debian 12 that has nothing but its base (as root, with debootstrap)
 # make python-speed  times the Python package beside numpy and GDAL, and writes docs/SPEED.md
 # make python-tiles  times maps by tiles with 1, 2 and 4 workers, measures their memory, and writes docs/SPEED.md; SIDE=8192
 
-.PHONY: wheel python python-speed python-tiles
+.PHONY: wheel python python-debian12 python-speed python-tiles
 
 PYTHON_SOURCES = RCELL=bin/rcell PYTHONPATH=python/src PYTHONDONTWRITEBYTECODE=1 /usr/bin/python3
 
@@ -12,6 +13,9 @@ wheel: static
 
 python: wheel
 	@sh python/check.sh
+
+python-debian12: wheel
+	@sh python/debian12.sh dist
 
 python-speed: bin/rcell
 	@sh tools/debian.sh python3-rasterio python3-pandas gdal-bin

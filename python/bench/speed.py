@@ -206,7 +206,7 @@ def _texts(folder: str, cells: Any) -> dict[str, Task]:
     rows, cols = cells.shape
     with rasterio.open(path, "w", **profile_of(rows, cols, TRANSFORM, None, cells.dtype.name, nodata)) as dataset:
         dataset.write(cells, 1)
-    pathlib.Path(lines).write_bytes("\n".join(map(str, cells.reshape(-1).tolist())).encode())
+    pathlib.Path(lines).write_bytes("".join(f"{cell}\n" for cell in cells.reshape(-1).tolist()).encode())
 
     def out() -> None:
         words = Words(*range_of(cells))

@@ -41,6 +41,9 @@ from rcell.tiles.joining import Edges, Rectangle, join
 from watching import MILLION, Figures, measured
 
 MEMORY_SIDE = 4096
+KILLED_AFTER = 0.3
+"""Seconds from the start of some work until a worker is killed."""
+
 TABLE = "r.stats -c input=lc"
 
 
@@ -136,10 +139,14 @@ def _works(mosaic: rcell.tiles.Mosaic, out: Path) -> dict[str, Callable[[], Any]
 
 def _worked(mosaic: rcell.tiles.Mosaic, work: Callable[[], Any], is_killed: bool) -> tuple[str, Figures]:
     mosaic.table(TABLE)  # workers are there, and have imported what they need
+    workers = mosaic._engine.cluster.client.run(os.getpid)
+    killed = next(iter(workers.values()))
+    timer = threading.Timer(KILLED_AFTER, os.kill, (killed, signal.SIGKILL))
     if is_killed:
-        pid = next(iter(mosaic._engine.cluster.client.run(os.getpid).values()))
-        threading.Timer(0.5, os.kill, (pid, signal.SIGKILL)).start()
+        timer.start()
     answer, figures = measured(mosaic, work)
+    if is_killed and timer.is_alive():
+        raise SystemExit(f"the work took less than {KILLED_AFTER} s, and no worker was killed on the way: give a greater --side")
     return answer.to_csv() if hasattr(answer, "to_csv") else str(answer), figures
 
 

@@ -19,10 +19,9 @@ __all__ = ["NULL", "MAX_CATEGORY", "Words", "cells_to_text", "numbers_of", "rang
 
 MAX_CATEGORY = 2_147_483_647
 WIDTHS = (2, 4, 8, 10, 12)
-# A table of words has at most so many entries, of 8 bytes; beyond it words are put together from parts, which takes six times as
-# long a cell. An entry is made in a part of the time that a look-up takes, so that a table soon pays.
+# A table of words has at most so many entries, of 8 bytes. Until as many cells have been spelled, words are put together from
+# parts, which takes six times as long a cell: so a table is made where it pays, and never costs more than was spent already.
 TABLE_LIMIT = 1 << 21
-ENTRIES_PER_CELL = 16
 # From so many cells on a table of pairs of 8-bit cells pays for its making.
 PAIRS_FROM = 1 << 19
 # Cells that are spelled at a time: their words, and what is reckoned on the way, stay in the cache of a processor.
@@ -130,6 +129,7 @@ class Words:
     """
 
     def __init__(self, least: int, greatest: int, nodata: int | None = None) -> None:
+        self._told_range = min(least, 0), max(greatest, 0)
         longest = max(len(str(least)), len(str(greatest))) + 1
         self.width = next(width for width in WIDTHS if width >= longest)
         self.nodata = nodata
@@ -196,7 +196,7 @@ class Words:
         elif flat.dtype.itemsize <= 2 and by_look_up:
             places: Cells = flat.view(f"u{flat.dtype.itemsize}")
             words = np.take(self._by_bits(flat.dtype), places, mode="clip").view(np.uint8)
-        elif by_look_up and (self.width < 8 or greatest - least < min(TABLE_LIMIT, ENTRIES_PER_CELL * self._spelled_cells)):
+        elif by_look_up and (self.width < 8 or greatest - least < min(TABLE_LIMIT, self._spelled_cells)):
             return self._by_table(flat, least, greatest, mask)
         else:
             return self._by_parts(flat, mask)
@@ -256,11 +256,12 @@ class Words:
         return _formatted(least, greatest, self.width).view(f"u{self.width}")
 
     def _by_table(self, flat: Cells, least: int, greatest: int, mask: Mask | None) -> NDArray[np.uint8]:
-        """A look-up in the words of the range; the last entry is null's."""
+        """A look-up in the words of a range, that which was told where it is not too wide; the last entry is null's."""
         known, table = self._tables.get("range", (0, np.empty(0, f"u{self.width}")))
         if table.size == 0 or least < known or greatest > known + table.size - 2:
-            if table.size:
-                least, greatest = min(least, known), max(greatest, known + table.size - 2)
+            low, high = (known, known + table.size - 2) if table.size else self._told_range
+            if max(greatest, high) - min(least, low) < TABLE_LIMIT:
+                least, greatest = min(least, low), max(greatest, high)
             table = np.concatenate([self._table_of(least, greatest), self._null_word.view(f"u{self.width}")])
             self._tables["range"] = known, table = least, table
         places = np.subtract(flat, known, dtype=np.intp)
