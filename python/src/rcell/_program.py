@@ -189,10 +189,12 @@ class _Run:
             self.is_reading = False
 
     def write_script(self, script: bytes) -> None:
+        """Writes the script to its pipe, which then ends."""
         self.write(-1, script)
         self.close_grid(len(self._writers) - 1)
 
     def close_grid(self, place: int) -> None:
+        """Ends the pipe of a grid."""
         if self._writers[place] >= 0:
             os.close(self._writers[place])
             self._writers[place] = -1
@@ -353,6 +355,7 @@ class _Reader:
         return bool(piece)
 
     def output(self, statement: Statement, mark: bytes | None, region: Region) -> Output:
+        """The output of a statement, up to its mark."""
         if not statement.is_known:
             raise _Short
         if statement.is_of_cells:
@@ -417,6 +420,7 @@ class _Reader:
         return b"".join(pieces)
 
     def rest(self) -> bytes:
+        """All that is left of the output."""
         text = b"".join([self._held, *self._pieces])
         self._held = b""
         return text

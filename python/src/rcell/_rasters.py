@@ -188,6 +188,7 @@ class RasterMap:
 
 
 def only_band(name: str, dataset: Any, enums: Any) -> int:
+    """The band that has the cells: there must be one, an alpha band aside."""
     bands = [band for band in dataset.indexes if dataset.colorinterp[band - 1] != enums.ColorInterp.alpha]
     if len(bands) != 1:
         raise BadMap(name, f"has {len(bands)} bands: give one, as rasterio.band(dataset, 1)")

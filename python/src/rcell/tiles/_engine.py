@@ -41,6 +41,7 @@ class WorkerLost(RcellError):
 
 
 def same(value: Any) -> Any:
+    """The value itself: a task that holds it for others."""
     return value
 
 
@@ -54,11 +55,13 @@ class Engine:
 
     @property
     def cluster(self) -> Cluster:
+        """The cluster, which is started when it is first asked for."""
         if self._cluster is None:
             self._cluster = Cluster(self._scheduler)
         return self._cluster
 
     def close(self) -> None:
+        """Ends the processes of this machine, where they were started."""
         if self._cluster is not None:
             self._cluster.close()
             self._cluster = None
@@ -128,6 +131,7 @@ class _Guard(threading.Thread):
                 return
 
     def end(self) -> None:
+        """Looks no longer."""
         self._done.set()
         self.join()
 
@@ -141,11 +145,13 @@ class Tasks:
         self._open: set[Any] = set()
 
     def ask(self, function: Callable[..., Any], *arguments: Any, memory: int = 0) -> Any:
+        """A task that takes so much memory while it runs, and ends with the others."""
         future = self._engine.ask(function, *arguments, memory=memory)
         self._open.add(future)
         return future
 
     def shared(self, value: Any) -> Any:
+        """A value that many tasks take, and that is let go with them."""
         future = self._engine.shared(value)
         self._open.add(future)
         return future
@@ -201,6 +207,7 @@ class Tasks:
             more()
 
     def cancel(self) -> None:
+        """Ends what was asked for and is not yet answered."""
         client = self._engine.cluster.client
         if self._open and client is not None:
             client.cancel(list(self._open), force=True)

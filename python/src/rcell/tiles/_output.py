@@ -45,6 +45,7 @@ class TileWriter:
         self._sums: dict[Rectangle, int] = {}
 
     def write(self, place: Rectangle, cells: npt.NDArray[Any]) -> None:
+        """Takes the cells of a tile."""
         cells = np.ascontiguousarray(cells, dtype=self._dataset.dtypes[0])
         self._sums[place] = zlib.crc32(cells.data)
         with _told(self._path):
