@@ -70,7 +70,7 @@ def leftovers(temporary: Path) -> list[Any]:
 
 def _is_of(process: psutil.Process, temporary: Path) -> bool:
     try:
-        return process.pid != os.getpid() and process.environ().get(MARK) == str(temporary)
+        return bool(process.pid != os.getpid() and process.environ().get(MARK) == str(temporary))
     except psutil.Error:
         return False
 
