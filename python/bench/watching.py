@@ -80,14 +80,15 @@ def processor() -> float:
 
 
 def _of_workers(client: Any) -> dict[str, float]:
-    """The same of each worker: by a function that is sent whole, since workers have no module of this name."""
+    """The same of each worker: by a function that is sent whole, since workers have no module of this
+    name; one that was just killed tells nothing."""
 
     def seconds() -> float:
         from resource import RUSAGE_CHILDREN, RUSAGE_SELF, getrusage
 
         return sum(part.ru_utime + part.ru_stime for part in (getrusage(RUSAGE_SELF), getrusage(RUSAGE_CHILDREN)))
 
-    found: dict[str, float] = client.run(seconds)
+    found: dict[str, float] = client.run(seconds, on_error="ignore")
     return found
 
 
