@@ -4,7 +4,7 @@
 cd "$(dirname "$0")/.." || exit 1
 sh tools/debian.sh python3-pip python3-venv python3-numpy python3-pytest python3-pytest-cov python3-hypothesis python3-rasterio python3-gdal \
     gdal-bin python3-pandas python3-xarray python3-dask python3-distributed python3-scipy python3-psutil python3-matplotlib python3-tqdm \
-    python3-mypy python3-nbconvert python3-ipykernel || { echo '0 passed, 1 failed'; exit 1; }
+    python3-mypy python3-pyflakes python3-nbconvert python3-ipykernel || { echo '0 passed, 1 failed'; exit 1; }
 
 room=$(mktemp -d) || exit 1
 trap 'rm -rf "$room"' EXIT
@@ -43,8 +43,14 @@ print(int(suite.get("tests")) - failed - left_out, "passed,", failed or int(sys.
 COUNT
 add "$room/count"
 check python3 -m mypy --config-file python/pyproject.toml --cache-dir "$room/mypy" python/src/rcell python/tools
+check env MYPYPATH=python/bench python3 -m mypy --config-file python/pyproject.toml --cache-dir "$room/mypy" python/bench/*.py
 (cd "$room" && check python3 -m mypy --config-file pyproject.toml --cache-dir "$room/mypy" tests)
-if command -v ruff > /dev/null; then check ruff check python; else echo 'python: ruff is not installed, and is left out'; fi
+if command -v ruff > /dev/null; then
+    check ruff check python
+else
+    echo 'python: ruff is not installed (Debian 12 has none), and pyflakes is run in its place'
+    check python3 -m pyflakes python
+fi
 python3 python/tools/documents.py > "$room/documents" 2>&1
 cat "$room/documents"
 add "$room/documents"

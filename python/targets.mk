@@ -1,8 +1,12 @@
 # make wheel     makes dist/rcell-VERSION-py3-none-..x86_64.whl, the Python package with the static program in it
 # make python    installs the wheel into an empty environment, and runs its tests, types, notebook and document there
-# make python-speed  times the Python package beside numpy and GDAL, and writes python/SPEED.md
+# make python-debian12  the same in a root of Debian 12 that has nothing but its base (as root, with debootstrap)
+# make python-speed  times the Python package beside numpy and GDAL, and writes docs/SPEED.md
+# make python-tiles  times maps by tiles with 1, 2 and 4 workers, measures their memory, and writes docs/SPEED.md; SIDE=8192
 
-.PHONY: wheel python python-speed
+.PHONY: wheel python python-debian12 python-speed python-tiles
+
+PYTHON_SOURCES = RCELL=bin/rcell PYTHONPATH=python/src PYTHONDONTWRITEBYTECODE=1 /usr/bin/python3
 
 wheel: static
 	@sh python/wheel.sh dist
@@ -10,6 +14,14 @@ wheel: static
 python: wheel
 	@sh python/check.sh
 
+python-debian12: wheel
+	@sh python/debian12.sh dist
+
 python-speed: bin/rcell
 	@sh tools/debian.sh python3-rasterio python3-pandas gdal-bin
-	RCELL=bin/rcell PYTHONPATH=python/src /usr/bin/python3 python/tools/speed.py
+	$(PYTHON_SOURCES) python/bench/speed.py
+
+SIDE = 8192
+python-tiles: bin/rcell
+	@sh tools/debian.sh python3-rasterio python3-pandas python3-distributed python3-scipy python3-psutil python3-tqdm
+	$(PYTHON_SOURCES) python/bench/tiles.py --side $(SIDE) --write workers memory joining

@@ -156,7 +156,7 @@ def test_no_half_written_geotiff(tmp_path: pathlib.Path, monkeypatch: pytest.Mon
     with pytest.raises(rcell.Refused, match="written as .tif, .tiff or .txt"):
         grid.write(tmp_path / "lc.jpg")
     (tmp_path / "old.tif").write_text("old")
-    monkeypatch.setattr("rcell._geotiff._copy", lambda *_: (_ for _ in ()).throw(OSError(28, "No space left on device")))
+    monkeypatch.setattr("rcell._geotiff.write_through", lambda *_: (_ for _ in ()).throw(OSError(28, "No space left on device")))
     with pytest.raises(rcell.WriteFailed, match="No space left"):
         grid.write(tmp_path / "old.tif")
     assert os.listdir(tmp_path) == ["old.tif"] and (tmp_path / "old.tif").read_text() == "old"

@@ -11,7 +11,7 @@ from typing import Any, Callable, Iterator, Sequence
 from ._answers import grids_of, run_of, table_of
 from ._crs import UNITS_OF_AREA
 from ._errors import Killed, RcellError, Refused, WriteFailed
-from ._files import replacing, write_beside
+from ._files import replacing, told_of, write_beside
 from ._grid import Grid
 from ._libraries import has, need
 from ._program import Progress
@@ -112,7 +112,7 @@ def _draw(grid: Grid, path: str) -> None:
     """A map with its legend as a picture, of the form that the name of the file says."""
     need("matplotlib", "plot", "to draw a map").use("Agg")
     axes = grid.plot()
-    with replacing(path) as beside:
+    with replacing(path) as beside, told_of(path):
         try:
             axes.figure.savefig(beside, bbox_inches="tight", dpi=150)
         except ValueError as error:

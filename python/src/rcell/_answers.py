@@ -99,6 +99,7 @@ class _Run:
         self._made = labels_in(script)
 
     def outputs(self, wanted: Sequence[str] = ()) -> list[Table | Grid]:
+        """Runs the script, and answers its outputs; after them the cells of the maps that are wanted."""
         ran = execute(self.script, self.sources, wanted=wanted, progress=self._progress)
         return [self._answer(output) for output in ran]
 

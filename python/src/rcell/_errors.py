@@ -256,5 +256,5 @@ class MissingLibrary(RcellError, ImportError):
 
 
 # Their names are those of the package, in messages as well.
-for _error in (RcellError, Refused, OutOfMemory, BadMap, OtherRegion, ReadFailed, MissingProgram, WrongProgram, Killed, WriteFailed, MissingLibrary):
-    _error.__module__ = "rcell"
+for _name in __all__:
+    globals()[_name].__module__ = "rcell"

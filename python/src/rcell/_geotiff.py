@@ -2,12 +2,9 @@
 
 from __future__ import annotations
 
-import os
 from typing import TYPE_CHECKING, Any
 
-
-from ._errors import WriteFailed
-from ._files import replacing
+from ._files import replacing, told_of, write_through
 from ._labels import write_labels
 from ._libraries import need
 from ._masked import compressed, filled
@@ -78,19 +75,9 @@ def write_geotiff(grid: Grid, path: str) -> None:
     dtype, nodata = smallest_type(int(kept.min()), int(kept.max())) if kept.size else smallest_type(0, 0)
     cells = filled(grid.array, nodata).astype(dtype)
     profile = profile_of(*grid.region.shape, grid.transform, grid.crs, dtype, nodata)
-    with replacing(path) as beside:
-        try:
-            with need("rasterio.io", "gis", "to write a GeoTIFF").MemoryFile() as memory:
-                with memory.open(**profile) as dataset:
-                    dataset.write(cells, 1)
-                _copy(memory, beside)
-        except (rasterio.errors.RasterioError, rasterio.errors.RasterioIOError) as error:
-            raise WriteFailed(f"{path} cannot be written: {error}") from None
+    with replacing(path) as beside, told_of(path, rasterio.errors.RasterioError):
+        with need("rasterio.io", "gis", "to write a GeoTIFF").MemoryFile() as memory:
+            with memory.open(**profile) as dataset:
+                dataset.write(cells, 1)
+            write_through(beside, memory.getbuffer())
         write_labels(beside, grid.labels)
-
-
-def _copy(memory: Any, path: str) -> None:
-    with open(path, "wb") as file:
-        file.write(memory.getbuffer())
-        file.flush()
-        os.fsync(file.fileno())

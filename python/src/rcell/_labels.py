@@ -47,6 +47,11 @@ def write_labels(path: str, labels: Mapping[int, str]) -> str | None:
     -------
     str or None
         The file beside the raster that now has them.
+
+    Raises
+    ------
+    OSError
+        Where they could not be written whole.
     """
     if not labels:
         return None
@@ -55,7 +60,13 @@ def write_labels(path: str, labels: Mapping[int, str]) -> str | None:
     else:
         _write_beside(path, labels)
     beside = path + ".aux.xml"
-    return beside if os.path.exists(beside) else None
+    if not os.path.exists(beside):
+        return None
+    try:
+        ElementTree.parse(beside)
+    except ElementTree.ParseError as error:
+        raise OSError(f"the labels are not as they were written: {error}") from None
+    return beside
 
 
 def _fit_names(labels: Mapping[int, str]) -> bool:

@@ -13,7 +13,7 @@ from numpy.typing import ArrayLike
 from ._errors import BadMap
 from ._masked import data_of, is_masked_array, mask_of
 from ._region import Region, Transform
-from ._text import MAX_CATEGORY, NULL, Cells, Mask, range_of
+from ._text import MAX_CATEGORY, Cells, Mask, range_of
 
 __all__ = ["ArrayMap", "Block", "Map", "Source", "checked", "whole_nodata"]
 

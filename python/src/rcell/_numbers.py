@@ -17,7 +17,7 @@ NULL = -2_147_483_648
 """What stands for null among numbers that came back: no category has this value."""
 
 # A piece of text whose numbers, and what is reckoned on the way, stay in the cache of a processor.
-PIECE_BYTES = 1 << 17
+PIECE_BYTES = 1 << 18
 # So many bytes tell of most texts that their numbers are not all of one width.
 GLANCE_BYTES = 256
 _STAR, _MINUS, _ZERO = b"*-0"

@@ -20,7 +20,7 @@ from typing import Any, Callable, Iterator, Mapping, Sequence
 import numpy as np
 from numpy.typing import NDArray
 
-from ._errors import Killed, MissingProgram, OutOfMemory, RcellError, Refused, WriteFailed, WrongProgram
+from ._errors import Killed, MissingProgram, OutOfMemory, RcellError, Refused, WrongProgram
 from ._maps import Source
 from ._region import Region
 from ._script import SCRIPT_LIMIT, Plan, Statement, plan_of
@@ -189,10 +189,12 @@ class _Run:
             self.is_reading = False
 
     def write_script(self, script: bytes) -> None:
+        """Writes the script to its pipe, which then ends."""
         self.write(-1, script)
         self.close_grid(len(self._writers) - 1)
 
     def close_grid(self, place: int) -> None:
+        """Ends the pipe of a grid."""
         if self._writers[place] >= 0:
             os.close(self._writers[place])
             self._writers[place] = -1
@@ -316,10 +318,8 @@ def _send(run: _Run, place: int, source: Source, progress: Progress | None) -> N
 def _check_length(script: str, plan: Plan) -> None:
     own = len(script.encode("utf-8", "surrogateescape"))
     if own <= SCRIPT_LIMIT < len(plan.text):
-        raise Refused(
-            f"the script has {own:,} bytes, and with the marks that part its outputs {len(plan.text):,}, over {SCRIPT_LIMIT:,}: make several runs",
-            "script",
-        )
+        marked = f"and with the marks that part its outputs {len(plan.text):,}, over {SCRIPT_LIMIT:,}"
+        raise Refused(f"the script has {own:,} bytes, {marked}: make several runs", "script")
 
 
 def _fault(status: int, message: str, plan: Plan, script: str) -> RcellError:
@@ -355,6 +355,7 @@ class _Reader:
         return bool(piece)
 
     def output(self, statement: Statement, mark: bytes | None, region: Region) -> Output:
+        """The output of a statement, up to its mark."""
         if not statement.is_known:
             raise _Short
         if statement.is_of_cells:
@@ -419,6 +420,7 @@ class _Reader:
         return b"".join(pieces)
 
     def rest(self) -> bytes:
+        """All that is left of the output."""
         text = b"".join([self._held, *self._pieces])
         self._held = b""
         return text

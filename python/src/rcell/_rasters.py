@@ -2,7 +2,6 @@
 
 from __future__ import annotations
 
-import contextlib
 import functools
 import os
 import warnings
@@ -15,15 +14,17 @@ from ._errors import BadMap, ReadFailed
 from ._labels import read_labels
 from ._libraries import need
 from ._maps import BLOCK_CELLS, Block, checked, in_region, whole_nodata
-from ._region import Region, Transform
+from ._region import Region, Transform, check_upright
 from ._text import Mask, range_of
 
-__all__ = ["RasterMap", "open_raster"]
+__all__ = ["RasterMap", "check_scale", "only_band", "open_dataset", "open_raster", "upright"]
 
 _PURPOSE = "to read a raster"
 _IDENTITY: Transform = (1.0, 0.0, 0.0, 0.0, 1.0, 0.0)
 # Windows that are looked at for a guess of the range of the cells.
 _SAMPLES = 12
+# Cells of a block at most, where a file keeps very many rows together.
+MOST_BLOCK_CELLS = 1 << 23
 
 
 def open_raster(name: str, given: Any) -> RasterMap:
@@ -45,24 +46,25 @@ def open_raster(name: str, given: Any) -> RasterMap:
     rasterio = need("rasterio", "gis", _PURPOSE)
     if isinstance(given, rasterio.Band):
         return RasterMap.of_dataset(name, given.ds, int(given.bidx))
-    if isinstance(given, (str, os.PathLike)):
-        with _opened(name, os.fspath(given)) as dataset:
-            return RasterMap.of_dataset(name, dataset, None, os.fspath(given))
-    return RasterMap.of_dataset(name, given, None)
+    dataset = open_dataset(name, os.fspath(given)) if isinstance(given, (str, os.PathLike)) else given
+    return RasterMap.of_dataset(name, dataset, None)
 
 
-@contextlib.contextmanager
-def _opened(name: str, path: str) -> Iterator[Any]:
-    """An open dataset; without a warning where it has no georeference."""
+def open_dataset(name: str, path: str) -> Any:
+    """An open dataset of rasterio; without a warning where it has no georeference.
+
+    Raises
+    ------
+    ReadFailed
+        Where it cannot be opened.
+    """
     rasterio = need("rasterio", "gis", _PURPOSE)
     with warnings.catch_warnings():
         warnings.simplefilter("ignore", rasterio.errors.NotGeoreferencedWarning)
         try:
-            dataset = rasterio.open(path)
+            return rasterio.open(path)
         except rasterio.errors.RasterioIOError as error:
             raise ReadFailed(name, f"cannot open: {error}") from None
-    with dataset:
-        yield dataset
 
 
 @dataclass(frozen=True)
@@ -72,9 +74,9 @@ class RasterMap:
     Attributes
     ----------
     name : str
-    path : str or None
-        What is opened for each reading; None where the caller's own dataset is read.
-    dataset : rasterio.DatasetReader or None
+    dataset : rasterio.DatasetReader
+        The caller's own, or one that is open as long as this map is there: opening costs milliseconds, and blocks that were
+        looked at for the range need not be unpacked again.
     band : int
     region : Region
     transform : tuple of six float
@@ -88,7 +90,6 @@ class RasterMap:
     """
 
     name: str
-    path: str | None
     dataset: Any
     band: int
     region: Region
@@ -102,19 +103,17 @@ class RasterMap:
     labels_path: str
 
     @classmethod
-    def of_dataset(cls, name: str, dataset: Any, band: int | None, path: str | None = None) -> RasterMap:
+    def of_dataset(cls, name: str, dataset: Any, band: int | None) -> RasterMap:
         """A band of an open dataset; the only one where it is None."""
         enums = need("rasterio.enums", "gis", _PURPOSE)
-        band = _only_band(name, dataset, enums) if band is None else band
-        if dataset.scales[band - 1] != 1 or dataset.offsets[band - 1] != 0:
-            scale, offset = dataset.scales[band - 1], dataset.offsets[band - 1]
-            raise BadMap(name, f"its values are scaled: each cell times {scale:g}, plus {offset:g}; write them out as whole numbers first")
-        region, transform, is_upside_down = _place(name, dataset)
+        band = only_band(name, dataset, enums) if band is None else band
+        check_scale(name, dataset, band)
+        transform, is_upside_down = upright(name, dataset)
+        region = in_region(name, Region.from_transform, transform, dataset.height, dataset.width)
         flags = dataset.mask_flag_enums[band - 1]
         return cls(
             name=name,
-            path=path,
-            dataset=None if path is not None else dataset,
+            dataset=dataset,
             band=band,
             region=region,
             transform=transform,
@@ -140,22 +139,21 @@ class RasterMap:
     def range(self) -> tuple[int, int]:
         """A guess, from some windows."""
         least, greatest = 0, 0
-        with self._reading() as dataset:
-            for window in self._sample_windows():
-                block = self._block(dataset, *window)
-                cells = block.cells if block.null is None else np.where(block.null, block.cells.dtype.type(0), block.cells)
-                low, high = range_of(cells, self.nodata)
-                least, greatest = min(least, low), max(greatest, high)
+        for window in self._sample_windows():
+            block = self.window(*window)
+            cells = block.cells if block.null is None else np.where(block.null, block.cells.dtype.type(0), block.cells)
+            low, high = range_of(cells, self.nodata)
+            least, greatest = min(least, low), max(greatest, high)
         return least, greatest
 
     def blocks(self) -> Iterator[Block]:
-        """Its rows from north to south."""
+        """Its rows from north to south, so many at a time as the file keeps together, or a multiple or a part of them."""
         rows, cols = self.region.shape
-        step = max(1, BLOCK_CELLS // cols)
-        step = max(step - step % self.block_shape[0], min(step, self.block_shape[0]))
-        with self._reading() as dataset:
-            for row in range(0, rows, step):
-                yield self._block(dataset, row, 0, min(step, rows - row), cols)
+        height = self.block_shape[0]
+        step = max(1, round(BLOCK_CELLS / cols / height)) * height
+        step = min(step, max(1, MOST_BLOCK_CELLS // cols))
+        for row in range(0, rows, step):
+            yield self.window(row, 0, min(step, rows - row), cols)
 
     def window(self, row: int, col: int, rows: int, cols: int) -> Block:
         """Some of its cells, counted from the north-west corner.
@@ -167,24 +165,12 @@ class RasterMap:
         BadMap
             Where a cell is no whole number in range.
         """
-        with self._reading() as dataset:
-            return self._block(dataset, row, col, rows, cols)
-
-    @contextlib.contextmanager
-    def _reading(self) -> Iterator[Any]:
-        if self.path is None:
-            yield self.dataset
-        else:
-            with _opened(self.name, self.path) as dataset:
-                yield dataset
-
-    def _block(self, dataset: Any, row: int, col: int, rows: int, cols: int) -> Block:
         rasterio = need("rasterio", "gis", _PURPOSE)
         top = self.region.rows - row - rows if self.is_upside_down else row
         window = rasterio.windows.Window(col, top, cols, rows)
         try:
-            cells = dataset.read(self.band, window=window)
-            null: Mask | None = dataset.read_masks(self.band, window=window) == 0 if self.has_mask else None
+            cells = self.dataset.read(self.band, window=window)
+            null: Mask | None = self.dataset.read_masks(self.band, window=window) == 0 if self.has_mask else None
         except (rasterio.errors.RasterioError, OSError) as error:
             raise ReadFailed(self.name, f"rows {row + 1} to {row + rows} cannot be read: {error}") from None
         if self.is_upside_down:
@@ -201,24 +187,38 @@ class RasterMap:
         return [(row, col, min(height, rows - row), min(width, cols - col)) for row, col in windows]
 
 
-def _only_band(name: str, dataset: Any, enums: Any) -> int:
+def only_band(name: str, dataset: Any, enums: Any) -> int:
+    """The band that has the cells: there must be one, an alpha band aside."""
     bands = [band for band in dataset.indexes if dataset.colorinterp[band - 1] != enums.ColorInterp.alpha]
     if len(bands) != 1:
         raise BadMap(name, f"has {len(bands)} bands: give one, as rasterio.band(dataset, 1)")
     return int(bands[0])
 
 
-def _place(name: str, dataset: Any) -> tuple[Region, Transform, bool]:
-    """The region, its transform from north to south, and whether the file has its rows the other way."""
-    rows, cols = dataset.height, dataset.width
-    a, b, c, d, e, f = transform = tuple(dataset.transform)[:6]
+def check_scale(name: str, dataset: Any, band: int) -> None:
+    """Refuses a band whose cells stand for other values."""
+    scale, offset = dataset.scales[band - 1], dataset.offsets[band - 1]
+    if (scale, offset) != (1, 0):
+        told = f"each cell times {scale:g}, plus {offset:g}; write them out as whole numbers first"
+        raise BadMap(name, f"its values are scaled: {told}")
+
+
+def upright(name: str, dataset: Any) -> tuple[Transform, bool]:
+    """The transform of a dataset with its rows from north to south, and whether the file has them the other way.
+
+    Where there is none, it is that of cells of side 1 whose bottom left corner is at 0, 0.
+
+    Raises
+    ------
+    BadMap
+        Where it is rotated, or has its columns from east to west; control points in place of one.
+    """
+    a, b, c, d, e, f = transform = tuple(float(number) for number in tuple(dataset.transform)[:6])
     if transform == _IDENTITY:
         if dataset.gcps[0]:
             raise BadMap(name, "has ground control points and no transform: warp it first")
-        region = in_region(name, Region.of_cells, rows, cols)
-        return region, region.transform, False
+        return (1.0, 0.0, 0.0, 0.0, -1.0, float(dataset.height)), False
     is_upside_down = e > 0 and not b and not d
-    if is_upside_down:
-        e, f = -e, f + e * rows
-    turned = (a, b, c, d, e, f)
-    return in_region(name, Region.from_transform, turned, rows, cols), turned, is_upside_down
+    turned = (a, b, c, d, -e, f + e * dataset.height) if is_upside_down else (a, b, c, d, e, f)
+    check_upright(name, turned)
+    return turned, is_upside_down

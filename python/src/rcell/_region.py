@@ -4,14 +4,16 @@ from __future__ import annotations
 
 from dataclasses import dataclass
 from fractions import Fraction
-from typing import Sequence
+from typing import Callable, Sequence
 
 from ._errors import BadMap
 
-__all__ = ["Region", "Transform"]
+__all__ = ["Region", "Transform", "check_upright", "differences_of", "edges_of_transform", "units_of"]
 
 # a, b, c, d, e, f of x = a * column + b * row + c and y = d * column + e * row + f, as rasterio's Affine has them.
 Transform = tuple[float, float, float, float, float, float]
+# North, south, east and west in units of 10^-8.
+Units = tuple[int, int, int, int]
 
 DECIMALS = 8
 UNITS = 10**DECIMALS
@@ -20,7 +22,7 @@ SIDE_LIMIT = 65_535
 CELL_LIMIT = 2_147_483_647
 
 
-def _units(edge: float | Fraction) -> int:
+def units_of(edge: float | Fraction) -> int:
     """An edge in units of 10^-8, which is all that the program keeps of it."""
     return int(round(Fraction(edge) * UNITS))
 
@@ -29,6 +31,35 @@ def _edge_text(units: int) -> str:
     whole, part = divmod(abs(units), UNITS)
     sign = "-" if units < 0 else ""
     return f"{sign}{whole}.{part:0{DECIMALS}d}".rstrip("0").rstrip(".")
+
+
+def check_upright(name: str, transform: Transform) -> None:
+    """Refuses, as the map of a name, a transform whose rows are not from north to south, or whose columns from west to east."""
+    a, b, _, d, e, _ = transform
+    if b or d:
+        raise BadMap(name, f"a rotated transform {transform}: warp the map to rows from west to east first")
+    if a <= 0 or e >= 0:
+        raise BadMap(name, f"a transform {transform} whose rows are not from north to south, west to east")
+
+
+def edges_of_transform(transform: Transform, rows: int, cols: int) -> tuple[Fraction, Fraction, Fraction, Fraction]:
+    """North, south, east and west of an upright map, exactly."""
+    width, _, west, _, height, north = map(Fraction, transform)
+    return north, north + height * rows, west + width * cols, west
+
+
+def differences_of(mine: tuple[Units, tuple[int, int]], its: tuple[Units, tuple[int, int]]) -> list[str]:
+    """In which edges and sizes the second of two maps differs from the first, and by how much.
+
+    Examples
+    --------
+    >>> differences_of(((3 * UNITS, 0, UNITS, 0), (3, 1)), ((4 * UNITS, 0, UNITS, 0), (4, 1)))
+    ['north is 4, not 3 (1 more)', 'rows is 4, not 3 (1 more)']
+    """
+    texts: list[Callable[[int], str]] = [_edge_text] * 4 + [str] * 2
+    names = ("north", "south", "east", "west", "rows", "cols")
+    return [f"{name} is {text(other)}, not {text(one)} ({text(abs(other - one))} {'more' if other > one else 'less'})"
+            for name, text, one, other in zip(names, texts, mine[0] + mine[1], its[0] + its[1]) if one != other]
 
 
 @dataclass(frozen=True, eq=False)
@@ -70,7 +101,7 @@ class Region:
     def __post_init__(self) -> None:
         for name in ("north", "south", "east", "west"):
             edge = float(getattr(self, name))
-            if edge - edge != 0 or abs(_units(edge)) >= EDGE_LIMIT:
+            if edge - edge != 0 or abs(units_of(edge)) >= EDGE_LIMIT:
                 raise BadMap("region", f"an edge of more than ten digits: {name} is {edge:g}")
         self._check_sizes()
         north, south, east, west = self.units
@@ -111,11 +142,8 @@ class Region:
         Region(north=284450.0, south=284100.0, east=512850.0, west=512300.0, rows=14, cols=22)
         """
         a, b, c, d, e, f = (float(number) for number in tuple(transform)[:6])
-        if b or d:
-            raise BadMap("region", f"a rotated transform {(a, b, c, d, e, f)}: warp the map to rows from west to east first")
-        if a <= 0 or e >= 0:
-            raise BadMap("region", f"a transform {(a, b, c, d, e, f)} whose rows are not from north to south, west to east")
-        south, east = Fraction(f) + Fraction(e) * rows, Fraction(c) + Fraction(a) * cols
+        check_upright("region", (a, b, c, d, e, f))
+        _, south, east, _ = edges_of_transform((a, b, c, d, e, f), rows, cols)
         return cls(f, float(south), float(east), c, rows, cols)
 
     @classmethod
@@ -131,7 +159,7 @@ class Region:
         return cls(rows, 0, cols, 0, rows, cols)
 
     @property
-    def units(self) -> tuple[int, int, int, int]:
+    def units(self) -> Units:
         """North, south, east and west in units of 10^-8, as the program compares them.
 
         Examples
@@ -140,7 +168,7 @@ class Region:
         >>> rcell.Region(1, 0, 2, 0, 1, 2).units
         (100000000, 0, 200000000, 0)
         """
-        return _units(self.north), _units(self.south), _units(self.east), _units(self.west)
+        return units_of(self.north), units_of(self.south), units_of(self.east), units_of(self.west)
 
     @property
     def shape(self) -> tuple[int, int]:
@@ -238,15 +266,7 @@ class Region:
         >>> rcell.Region.of_cells(2, 3).differences(rcell.Region(2, 0, 3.5, 0, 2, 3))
         ['east is 3.5, not 3 (0.5 more)']
         """
-        told = []
-        for name, mine, its in zip(("north", "south", "east", "west"), self.units, other.units):
-            if mine != its:
-                more = "more" if its > mine else "less"
-                told.append(f"{name} is {_edge_text(its)}, not {_edge_text(mine)} ({_edge_text(abs(its - mine))} {more})")
-        for name, mine, its in (("rows", self.rows, other.rows), ("cols", self.cols, other.cols)):
-            if mine != its:
-                told.append(f"{name} is {its}, not {mine} ({abs(its - mine)} {'more' if its > mine else 'less'})")
-        return told
+        return differences_of((self.units, self.shape), (other.units, other.shape))
 
     def __eq__(self, other: object) -> bool:
         return isinstance(other, Region) and self.units == other.units and self.shape == other.shape

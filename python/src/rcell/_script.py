@@ -185,7 +185,8 @@ def _ends_within_rules(script: str) -> bool:
 def _unused_name(script: str, names: Iterable[str]) -> str:
     """A name of a map that neither the script nor the command line has."""
     taken = set(names)
-    return next(name for name in (f"nothing_{number}" for number in range(len(script) + len(taken) + 1)) if name not in script and name not in taken)
+    tried = (f"nothing_{number}" for number in range(len(script) + len(taken) + 1))
+    return next(name for name in tried if name not in script and name not in taken)
 
 
 def plan_of(script: str, names: Iterable[str], wanted: Iterable[str] = ()) -> Plan:

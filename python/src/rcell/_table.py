@@ -309,8 +309,8 @@ class Table:
         if has("pandas"):
             return str(self.frame()._repr_html_())
         head = "".join(f"<th>{html.escape(name)}</th>" for name in self.columns)
-        rows = "".join("<tr>" + "".join(f"<td>{html.escape(_plain(value))}</td>" for value in row) + "</tr>" for row in self.rows[:SHOWN_ROWS])
-        return f"<table><tr>{head}</tr>{rows}</table>"
+        shown = ["".join(f"<td>{html.escape(_plain(value))}</td>" for value in row) for row in self.rows[:SHOWN_ROWS]]
+        return f"<table><tr>{head}</tr>{''.join(f'<tr>{row}</tr>' for row in shown)}</table>"
 
 
 def matrix_csv(table: Table) -> str:

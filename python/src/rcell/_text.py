@@ -19,8 +19,9 @@ __all__ = ["NULL", "MAX_CATEGORY", "Words", "cells_to_text", "numbers_of", "rang
 
 MAX_CATEGORY = 2_147_483_647
 WIDTHS = (2, 4, 8, 10, 12)
-# A table of words has at most so many entries; beyond it words are put together from parts.
-TABLE_LIMIT = 1 << 18
+# A table of words has at most so many entries, of 8 bytes. Until as many cells have been spelled, words are put together from
+# parts, which takes six times as long a cell: so a table is made where it pays, and never costs more than was spent already.
+TABLE_LIMIT = 1 << 21
 # From so many cells on a table of pairs of 8-bit cells pays for its making.
 PAIRS_FROM = 1 << 19
 # Cells that are spelled at a time: their words, and what is reckoned on the way, stay in the cache of a processor.
@@ -87,10 +88,18 @@ def _put_together(cells: Cells, width: int) -> NDArray[np.uint8]:
     return words.view(np.uint8)
 
 
+def _thousands(tops: NDArray[np.uint32]) -> NDArray[np.uint64]:
+    """The words of seven characters that begin with some of four, a thousand for each."""
+    low = _THREE_BLANK.astype(np.uint64) << np.uint64(32)
+    return np.bitwise_or.outer(tops.astype(np.uint64), low).reshape(-1)
+
+
 def _formatted(least: int, greatest: int, width: int) -> NDArray[np.uint8]:
-    """The words of all categories from one to another."""
-    if width > 4:
-        return _put_together(np.arange(least, greatest + 1), width)
+    """The words of all categories from one to another; least is not above 0, and greatest not below."""
+    if width == 8:
+        below = _thousands(_SIGNED_FOUR[10_000 : 10_001 + -least // 1_000])[1 : 1 - least][::-1]
+        words: NDArray[np.uint64] = np.concatenate([below, _thousands(_FOUR[: greatest // 1_000 + 1])[: greatest + 1]])
+        return words.view(np.uint8)
     texts = b"".join(b"%0*d " % (width - 1, category) for category in range(least, greatest + 1))
     return np.frombuffer(texts, np.uint8)
 
@@ -120,6 +129,7 @@ class Words:
     """
 
     def __init__(self, least: int, greatest: int, nodata: int | None = None) -> None:
+        self._told_range = min(least, 0), max(greatest, 0)
         longest = max(len(str(least)), len(str(greatest))) + 1
         self.width = next(width for width in WIDTHS if width >= longest)
         self.nodata = nodata
@@ -186,8 +196,8 @@ class Words:
         elif flat.dtype.itemsize <= 2 and by_look_up:
             places: Cells = flat.view(f"u{flat.dtype.itemsize}")
             words = np.take(self._by_bits(flat.dtype), places, mode="clip").view(np.uint8)
-        elif by_look_up and (self.width <= 4 or greatest - least < min(TABLE_LIMIT, flat.size)):
-            words = self._by_table(flat, least, greatest)
+        elif by_look_up and (self.width < 8 or greatest - least < min(TABLE_LIMIT, self._spelled_cells)):
+            return self._by_table(flat, least, greatest, mask)
         else:
             return self._by_parts(flat, mask)
         if mask is not None:
@@ -205,7 +215,8 @@ class Words:
     def _by_sum(self, flat: Cells) -> NDArray[np.uint16] | None:
         """Digits and blanks by addition, which is faster than any look-up; None where a cell is no digit and not nodata."""
         characters = flat + np.uint8(ZERO)
-        if characters.size and (characters.max() > ZERO + 9 or characters.min() < min(ZERO, self.null[0] if self.nodata is not None else ZERO)):
+        least = ZERO if self.nodata is None else min(ZERO, self.null[0])
+        if characters.size and (characters.max() > ZERO + 9 or characters.min() < least):
             return None
         words = characters.astype(np.uint16)
         words |= np.uint16(ord(" ") << 8)
@@ -244,17 +255,20 @@ class Words:
     def _table_of(self, least: int, greatest: int) -> NDArray[Any]:
         return _formatted(least, greatest, self.width).view(f"u{self.width}")
 
-    def _by_table(self, flat: Cells, least: int, greatest: int) -> NDArray[np.uint8]:
-        """A look-up in the words of the range; the last entry is null's."""
+    def _by_table(self, flat: Cells, least: int, greatest: int, mask: Mask | None) -> NDArray[np.uint8]:
+        """A look-up in the words of a range, that which was told where it is not too wide; the last entry is null's."""
         known, table = self._tables.get("range", (0, np.empty(0, f"u{self.width}")))
         if table.size == 0 or least < known or greatest > known + table.size - 2:
-            if table.size:
-                least, greatest = min(least, known), max(greatest, known + table.size - 2)
+            low, high = (known, known + table.size - 2) if table.size else self._told_range
+            if max(greatest, high) - min(least, low) < TABLE_LIMIT:
+                least, greatest = min(least, low), max(greatest, high)
             table = np.concatenate([self._table_of(least, greatest), self._null_word.view(f"u{self.width}")])
             self._tables["range"] = known, table = least, table
         places = np.subtract(flat, known, dtype=np.intp)
         if self.nodata is not None:
             places[flat == self.nodata] = table.size - 1
+        if mask is not None:
+            np.putmask(places, mask, table.size - 1)
         words: NDArray[np.uint8] = np.take(table, places, mode="clip").view(np.uint8)
         return words
 

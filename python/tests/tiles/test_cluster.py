@@ -7,7 +7,6 @@ import shutil
 import signal
 import subprocess
 import sys
-import tempfile
 import threading
 import time
 from pathlib import Path
@@ -19,7 +18,7 @@ import pytest
 
 import rcell
 import rcell.tiles
-from rcell.tiles import _cluster
+from rcell.tiles import _cluster, _engine
 from tests.tiles import whole
 from tests.tiles.conftest import MakeTif, read_tif, write_tif
 
@@ -46,24 +45,38 @@ def wrapped(folder: Path, monkeypatch: pytest.MonkeyPatch, before: str) -> Path:
     return wrapper
 
 
-def leftovers(word: str) -> list[psutil.Process]:
-    """Processes whose command line has a word, this one left aside; a moment is given to those that are ending."""
-    for _ in range(100):
-        found = [process for process in psutil.process_iter(["cmdline"])
-                 if process.pid != os.getpid() and any(word in part for part in process.info["cmdline"] or [])]
+MARK = "RCELL_TEST_OF_CLUSTERS"
+
+
+@pytest.fixture(autouse=True)
+def temporary(tmp_path_factory: pytest.TempPathFactory, monkeypatch: pytest.MonkeyPatch) -> Path:
+    """A folder for temporary files of all processes of a test, whose name in their environment tells them from others."""
+    folder = tmp_path_factory.mktemp("temporary")
+    monkeypatch.setenv("TMPDIR", str(folder))
+    monkeypatch.setenv(MARK, str(folder))
+    return folder
+
+
+def leftovers(temporary: Path) -> list[Any]:
+    """Processes of a test that are still there, and what is left in its folder; a moment is given to those that are ending."""
+    found: list[Any] = []
+    for _ in range(150):
+        found = [*(process for process in psutil.process_iter() if _is_of(process, temporary)), *os.listdir(temporary)]
         if not found:
-            return []
+            break
         time.sleep(0.2)
     return found
 
 
-def folders() -> set[str]:
-    return {name for name in os.listdir(tempfile.gettempdir()) if name.startswith("rcell-tiles-")}
+def _is_of(process: psutil.Process, temporary: Path) -> bool:
+    try:
+        return bool(process.pid != os.getpid() and process.environ().get(MARK) == str(temporary))
+    except psutil.Error:
+        return False
 
 
-def test_a_worker_that_is_killed_changes_no_number(tif: MakeTif, tmp_path: Path, slow: Path) -> None:
+def test_a_worker_that_is_killed_changes_no_number(tif: MakeTif, tmp_path: Path, slow: Path, temporary: Path) -> None:
     cells = whole.spiral(24)
-    before = folders()
     with rcell.tiles.open(size=(6, 12), scheduler=2, lc=tif("lc", cells, whole.NULL_CELL)) as mosaic:
         client = mosaic._engine.cluster.client
         workers = list(client.run(os.getpid).values())
@@ -82,8 +95,7 @@ def test_a_worker_that_is_killed_changes_no_number(tif: MakeTif, tmp_path: Path,
     assert count == expected.max()
     assert np.array_equal(read_tif(tmp_path / "p.tif").filled(0), expected)
     assert sizes == np.bincount(expected.ravel())[1:].tolist()
-    assert leftovers("rcell.tiles._cluster") == leftovers(str(slow)) == []
-    assert folders() == before
+    assert leftovers(temporary) == []
 
 
 def test_workers_that_die_each_time_are_told(tif: MakeTif, tmp_path: Path, monkeypatch: pytest.MonkeyPatch) -> None:
@@ -93,7 +105,7 @@ def test_workers_that_die_each_time_are_told(tif: MakeTif, tmp_path: Path, monke
     wrapper.chmod(0o755)
     monkeypatch.setenv("RCELL", str(wrapper))  # workers have it; this process starts no program for clump
     with rcell.tiles.open(size=4, scheduler=1, lc=path) as mosaic:
-        with pytest.raises(rcell.tiles.WorkerLost, match="areas: KilledWorker"):
+        with pytest.raises(rcell.tiles.WorkerLost, match="areas: (KilledWorker|no worker for)"):
             mosaic.clump("lc", tmp_path / "p.tif")
     assert not (tmp_path / "p.tif").exists()
     assert list(tmp_path.glob(".*")) == []
@@ -111,16 +123,14 @@ mosaic.clump("lc", {out!r})
 """
 
 
-def test_a_client_that_is_killed_leaves_no_process(tmp_path: Path, slow: Path) -> None:
+def test_a_client_that_is_killed_leaves_no_process(tmp_path: Path, slow: Path, temporary: Path) -> None:
     path = write_tif(tmp_path / "lc.tif", np.ones((20, 20), np.uint8))
-    before = folders()
     code = CLIENT.format(sources=SOURCES, path=path, out=str(tmp_path / "p.tif"))
     with subprocess.Popen([sys.executable, "-c", code], stdout=subprocess.PIPE, text=True) as client:
         assert client.stdout is not None and client.stdout.readline() == "ready\n"
         time.sleep(1)
         client.kill()
-    assert leftovers("rcell.tiles._cluster") == leftovers(str(slow)) == []
-    assert folders() == before
+    assert leftovers(temporary) == []
     assert not (tmp_path / "p.tif").exists()
 
 
@@ -135,11 +145,11 @@ def test_a_script_needs_no_guard(tmp_path: Path) -> None:
     assert (done.returncode, done.stdout, done.stderr) == (0, "lc,cells\n1,16\n\n", "")
 
 
-def test_a_mosaic_that_is_forgotten_ends_its_processes(tif: MakeTif) -> None:
+def test_a_mosaic_that_is_forgotten_ends_its_processes(tif: MakeTif, temporary: Path) -> None:
     mosaic = rcell.tiles.open(size=4, scheduler=1, lc=tif("lc", np.ones((4, 4), np.uint8)))
     mosaic.table("r.stats -c input=lc")
     del mosaic
-    assert leftovers("rcell.tiles._cluster") == []
+    assert leftovers(temporary) == []
 
 
 def test_a_scheduler_that_is_not_there_is_told(tif: MakeTif, monkeypatch: pytest.MonkeyPatch) -> None:
@@ -163,6 +173,23 @@ def test_workers_without_room_for_a_tile_are_told(tif: MakeTif) -> None:
         with rcell.tiles.open(size=40, scheduler=cluster.scheduler_address, lc=path) as mosaic:
             with pytest.raises(rcell.tiles.TooLittleMemory, match="a tile of 40 x 40 cells may take"):
                 mosaic.table("r.stats -c input=lc")
+
+
+def test_a_cluster_whose_workers_are_gone_is_told(tif: MakeTif, tmp_path: Path, slow: Path, monkeypatch: pytest.MonkeyPatch) -> None:
+    monkeypatch.setattr(_engine, "LONE_SECONDS", 1.0)
+    path = tif("lc", np.ones((40, 40), np.uint8))
+    with distributed.LocalCluster(n_workers=1, threads_per_worker=1, processes=False, dashboard_address=None) as cluster:
+        with rcell.tiles.open(size=10, scheduler=cluster.scheduler_address, lc=path) as mosaic:
+            works = [lambda: mosaic.grid("x = lc", tmp_path / "out.tif"), lambda: mosaic.clump("lc", tmp_path / "out.tif")]
+            for work in works:
+                cluster.scale(1)
+                mosaic._engine.cluster.client.wait_for_workers(1)
+                timer = threading.Timer(2.5, cluster.scale, (0,))
+                timer.start()
+                with pytest.raises(rcell.tiles.WorkerLost, match="no worker for 1 seconds"):
+                    work()
+                timer.join()
+    assert not (tmp_path / "out.tif").exists()
 
 
 def test_a_scheduler_without_workers_is_told(tif: MakeTif) -> None:

@@ -11,7 +11,9 @@ from pathlib import Path
 from typing import Any
 
 import numpy as np
+import psutil
 import pytest
+import rasterio
 
 import rcell
 import rcell.tiles
@@ -62,8 +64,6 @@ def test_scripts_of_grids_are_refused(tif: MakeTif, tmp_path: Path, scheduler: s
 
 
 def test_maps_are_refused(tif: MakeTif, tmp_path: Path, scheduler: str) -> None:
-    import rasterio
-
     def refusal(**maps: Any) -> str:
         with pytest.raises(rcell.BadMap) as fault:
             mosaic_of(scheduler, **maps)
@@ -74,7 +74,7 @@ def test_maps_are_refused(tif: MakeTif, tmp_path: Path, scheduler: str) -> None:
     assert refusal(lc=str(tmp_path / "nowhere.tif")).startswith("lc: cannot open")
     assert refusal(lc=CELLS) == "lc: tiles are read from files: a path that rasterio opens is needed, not ndarray"
     assert "rotated transform" in refusal(lc=tif("r", CELLS, transform=rasterio.Affine(1, 1, 0, 1, -1, 0)))
-    assert "not from west to east" in refusal(lc=tif("w", CELLS, transform=rasterio.Affine(-1, 0, 0, 0, -1, 0)))
+    assert "not from north to south, west to east" in refusal(lc=tif("w", CELLS, transform=rasterio.Affine(-1, 0, 0, 0, -1, 0)))
     assert "complex64" in refusal(lc=tif("c", CELLS.astype(np.complex64)))
     with rasterio.open(tmp_path / "b.tif", "w", driver="GTiff", count=2, width=2, height=2, dtype="uint8"):
         pass
@@ -85,8 +85,6 @@ def test_maps_are_refused(tif: MakeTif, tmp_path: Path, scheduler: str) -> None:
 
 
 def test_maps_of_other_grids_are_refused(tif: MakeTif, scheduler: str) -> None:
-    import rasterio
-
     lc = tif("lc", CELLS)
     other = tif("ws", CELLS[:, :-1], transform=rasterio.Affine(25, 0, 1000.5, 0, -25, 5000))
     with pytest.raises(rcell.OtherRegion) as refusal:
@@ -127,8 +125,10 @@ def test_a_cell_that_is_none_is_told_with_its_place_in_the_whole(tif: MakeTif, t
 def test_a_broken_tile_is_told(tmp_path: Path, scheduler: str) -> None:
     path = write_tif(tmp_path / "lc.tif", np.random.default_rng(1).integers(0, 255, (64, 64)).astype(np.uint8), tiled=True,
                      blockxsize=16, blockysize=16, compress="deflate")
+    with rasterio.open(path) as dataset:
+        begin = int(dataset.get_tag_item("BLOCK_OFFSET_1_1", "TIFF", bidx=1))
     text = bytearray(Path(path).read_bytes())
-    text[2000:2100] = bytes(100)
+    text[begin:begin + 100] = bytes(100)
     Path(path).write_bytes(text)
     with mosaic_of(scheduler, lc=path) as mosaic:
         works: list[Callable[[], Any]] = [
@@ -140,11 +140,36 @@ def test_a_broken_tile_is_told(tmp_path: Path, scheduler: str) -> None:
         assert os.listdir(tmp_path) == ["lc.tif"]
 
 
-def test_a_missing_program_is_told(tif: MakeTif, scheduler: str, monkeypatch: pytest.MonkeyPatch) -> None:
-    with mosaic_of(scheduler, lc=tif("lc", CELLS)) as mosaic:
-        monkeypatch.setenv("RCELL", "/nowhere/rcell")
-        with pytest.raises(rcell.MissingProgram):
-            mosaic.clump("lc", "never.tif")
+REAL = rcell.program()
+# What looks at a program whether it is rcell gives it a grid of the name g.
+DIES = f'case "$*" in *" g="*) exec {REAL} "$@";; esac\n'
+
+
+@pytest.mark.parametrize("body, kind", [
+    (None, rcell.MissingProgram),
+    ("echo rcell 0.0.1", rcell.WrongProgram),
+    (DIES + "kill -9 $$", rcell.Killed),
+    (DIES + "echo 'rcell: script:1: no memory' >&2\nexit 3", rcell.OutOfMemory),
+])
+def test_a_program_that_fails_is_told(tif: MakeTif, tmp_path: Path, scheduler: str, monkeypatch: pytest.MonkeyPatch, body: str | None,
+                                      kind: type[rcell.RcellError]) -> None:
+    lc = tif("lc", CELLS)
+    (tmp_path / "out").mkdir()
+    with mosaic_of(scheduler, lc=lc) as mosaic:
+        mosaic.table("r.stats -c input=lc")
+        program = tmp_path / "program"
+        monkeypatch.setenv("RCELL", str(program))
+        if body is not None:
+            program.write_text(f"#!/bin/sh\n{body}\n")
+            program.chmod(0o755)
+        works: list[Callable[[], Any]] = [
+            lambda: mosaic.table("r.stats -c input=lc"), lambda: mosaic.grid("x = lc", tmp_path / "out" / "x.tif"),
+            lambda: mosaic.clump("lc", tmp_path / "out" / "x.tif"), lambda: mosaic.patches("lc")]
+        for work in works:
+            with pytest.raises(kind):
+                work()
+    assert os.listdir(tmp_path / "out") == []
+    assert [child.name() for child in psutil.Process().children() if child.status() == psutil.STATUS_ZOMBIE] == []
 
 
 @contextmanager
@@ -176,7 +201,7 @@ def test_a_full_disk_leaves_nothing(tif: MakeTif, tmp_path: Path, scheduler: str
 
 
 def test_a_missing_folder_is_told(tif: MakeTif, tmp_path: Path, scheduler: str) -> None:
-    with mosaic_of(scheduler, lc=tif("lc", CELLS)) as mosaic, pytest.raises(rcell.WriteFailed, match="could not be written"):
+    with mosaic_of(scheduler, lc=tif("lc", CELLS)) as mosaic, pytest.raises(rcell.WriteFailed, match="cannot be written: No such file"):
         mosaic.grid("x = lc", tmp_path / "nowhere" / "x.tif")
 
 

@@ -8,6 +8,7 @@ its standard input, and then closes the cluster.
 
 from __future__ import annotations
 
+import contextlib
 import os
 import subprocess
 import sys
@@ -24,6 +25,7 @@ RESOURCE = "memory"
 """The resource, in bytes, that workers have and tasks take."""
 
 CONNECT_SECONDS = 30
+CLOSE_SECONDS = 10
 STOP_SECONDS = 60
 SHARE = 0.8
 """How much of the memory that is free is given to tasks."""
@@ -111,6 +113,13 @@ class Cluster:
         share = min(memory / worker["nthreads"] for memory, worker in zip(whole, workers))
         return Room(threads, int(share), int(min(whole)), told)
 
+    def has_workers(self) -> bool:
+        """Whether there is a worker now; of a scheduler that does not answer nothing is known, and the client tells of it."""
+        try:
+            return bool(self.client.scheduler_info()["workers"])
+        except Exception:
+            return True
+
     def close(self) -> None:
         """End the processes of this machine; a cluster that was there stays."""
         if self.client is not None:
@@ -131,15 +140,27 @@ class Cluster:
 def main(workers: int, memory: int) -> None:
     """Hold a cluster of so many workers, each of so many bytes, until standard input ends."""
     distributed = need("distributed", "tiles", "for maps by tiles")
-    with tempfile.TemporaryDirectory(prefix="rcell-tiles-") as folder:
+    with tempfile.TemporaryDirectory(prefix="rcell-tiles-", ignore_cleanup_errors=True) as folder:
         cluster = distributed.LocalCluster(n_workers=workers, threads_per_worker=1, processes=True, dashboard_address=None,
                                            memory_limit=0, resources={RESOURCE: memory}, local_directory=folder)
         try:
             print(cluster.scheduler_address, flush=True)
             sys.stdin.read()
         finally:
-            cluster.close()
+            _close(cluster)
+
+
+def _close(cluster: Any) -> None:
+    """Ends the workers. Dask waits for one that is just being started, minutes where the machine has much to do: not so long."""
+    import psutil
+
+    with contextlib.suppress(Exception):
+        cluster.close(timeout=CLOSE_SECONDS)
+    for child in psutil.Process().children(recursive=True):
+        with contextlib.suppress(psutil.Error):
+            child.kill()
 
 
 if __name__ == "__main__":
     main(int(sys.argv[1]), int(sys.argv[2]))
+    os._exit(0)  # Dask would close its clusters again, and wait

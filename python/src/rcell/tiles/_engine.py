@@ -3,6 +3,8 @@
 from __future__ import annotations
 
 import sys
+import threading
+import time
 from collections.abc import Callable, Iterable, Iterator, Sequence
 from contextlib import contextmanager
 from typing import Any
@@ -20,8 +22,15 @@ AHEAD = 2
 """Tasks under way, or done and not yet taken, for each that a cluster runs: so many answers wait in memory at most."""
 
 
+LONE_SECONDS = 90.0
+"""So long a cluster may have no worker at all; one that dies is started anew within seconds, where its machine is not overworked."""
+
+LOOK_SECONDS = 5.0
+"""How often that is looked at."""
+
+
 class WorkerLost(RcellError):
-    """Workers died again and again over one tile, or the cluster is gone. Nothing was written.
+    """Workers died again and again over one tile, or none is left, or the cluster is gone. Nothing was written.
 
     Examples
     --------
@@ -32,6 +41,7 @@ class WorkerLost(RcellError):
 
 
 def same(value: Any) -> Any:
+    """The value itself: a task that holds it for others."""
     return value
 
 
@@ -41,20 +51,29 @@ class Engine:
     def __init__(self, scheduler: None | int | str) -> None:
         self._scheduler = scheduler
         self._cluster: Cluster | None = None
+        self._room: Room | None = None
 
     @property
     def cluster(self) -> Cluster:
+        """The cluster, which is started when it is first asked for."""
         if self._cluster is None:
             self._cluster = Cluster(self._scheduler)
         return self._cluster
 
     def close(self) -> None:
+        """Ends the processes of this machine, where they were started."""
         if self._cluster is not None:
             self._cluster.close()
             self._cluster = None
 
     def room(self) -> Room:
-        return self.cluster.room()
+        """What the workers have that are there now; there must be one."""
+        self._room = self.cluster.room()
+        return self._room
+
+    def known_room(self) -> Room:
+        """What they had when they were last asked: in the middle of the work the only one may be gone, and come again."""
+        return self._room or self.room()
 
     def shared(self, value: Any) -> Any:
         """A value that many tasks take: sent once, and made again where a worker that had it is lost."""
@@ -66,7 +85,7 @@ class Engine:
 
     def ask(self, function: Callable[..., Any], *arguments: Any, memory: int = 0) -> Any:
         """A task that takes so much memory while it runs."""
-        resources = {RESOURCE: memory} if memory and self.room().told else None
+        resources = {RESOURCE: memory} if memory and self.known_room().told else None
         return self.cluster.client.submit(function, *arguments, pure=False, resources=resources)
 
     @contextmanager
@@ -77,12 +96,44 @@ class Engine:
         tqdm = need("tqdm", "tiles", "for maps by tiles").tqdm
         with tqdm(total=total, desc=title, unit="tile", disable=None, file=sys.stderr) as bar:
             tasks = Tasks(self, bar.update)
+            guard = _Guard(self.cluster, tasks)
+            guard.start()
             try:
                 yield tasks
             except lost as fault:
-                raise WorkerLost(f"{title}: {type(fault).__name__}: {fault}") from fault
+                told = f"no worker for {LONE_SECONDS:g} seconds" if guard.has_ended_tasks else f"{type(fault).__name__}: {fault}"
+                raise WorkerLost(f"{title}: {told}") from fault
             finally:
+                guard.end()
                 tasks.cancel()
+
+
+class _Guard(threading.Thread):
+    """Ends tasks that would wait for ever: Dask waits for workers, also where none is left and none comes."""
+
+    def __init__(self, cluster: Cluster, tasks: Tasks) -> None:
+        super().__init__(daemon=True)
+        self.has_ended_tasks = False
+        self._cluster = cluster
+        self._tasks = tasks
+        self._done = threading.Event()
+
+    def run(self) -> None:
+        lone_since = None
+        while not self._done.wait(min(LOOK_SECONDS, LONE_SECONDS)):
+            if self._cluster.has_workers():
+                lone_since = None
+            elif lone_since is None:
+                lone_since = time.monotonic()
+            elif time.monotonic() - lone_since >= LONE_SECONDS:
+                self.has_ended_tasks = True
+                self._tasks.cancel()
+                return
+
+    def end(self) -> None:
+        """Looks no longer."""
+        self._done.set()
+        self.join()
 
 
 class Tasks:
@@ -94,11 +145,13 @@ class Tasks:
         self._open: set[Any] = set()
 
     def ask(self, function: Callable[..., Any], *arguments: Any, memory: int = 0) -> Any:
+        """A task that takes so much memory while it runs, and ends with the others."""
         future = self._engine.ask(function, *arguments, memory=memory)
         self._open.add(future)
         return future
 
     def shared(self, value: Any) -> Any:
+        """A value that many tasks take, and that is let go with them."""
         future = self._engine.shared(value)
         self._open.add(future)
         return future
@@ -119,7 +172,7 @@ class Tasks:
     def watch(self, futures: Sequence[Any]) -> None:
         """Wait for tasks whose answers others take; raises where one fails."""
         for future in self._engine.completed(futures):
-            if future.status == "error":
+            if future.status != "finished":
                 future.result()
             self._open.discard(future)
             self._progress(1)
@@ -145,7 +198,7 @@ class Tasks:
                 places[future] = place
                 done.add(future)
 
-        for _ in range(AHEAD * self._engine.room().tasks):
+        for _ in range(AHEAD * self._engine.known_room().tasks):
             more()
         for future in done:
             place = places.pop(future)
@@ -154,6 +207,7 @@ class Tasks:
             more()
 
     def cancel(self) -> None:
+        """Ends what was asked for and is not yet answered."""
         client = self._engine.cluster.client
         if self._open and client is not None:
             client.cancel(list(self._open), force=True)

@@ -6,14 +6,13 @@ import os
 import warnings
 import zlib
 from collections.abc import Iterator, Mapping
-from contextlib import contextmanager, suppress
-from pathlib import Path
+from contextlib import AbstractContextManager, contextmanager
 from typing import TYPE_CHECKING, Any
 
 import numpy as np
 import numpy.typing as npt
 
-from .._errors import WriteFailed
+from .._files import replacing, told_of
 from .._geotiff import TILE, profile_of
 from .._labels import write_labels
 from .._libraries import need
@@ -40,18 +39,19 @@ class TileWriter:
     a broken file without a word. Each tile's checksum is kept therefore, and the file is read back.
     """
 
-    def __init__(self, dataset: Any, path: Path) -> None:
+    def __init__(self, dataset: Any, path: str) -> None:
         self._dataset = dataset
         self._path = path
         self._sums: dict[Rectangle, int] = {}
 
     def write(self, place: Rectangle, cells: npt.NDArray[Any]) -> None:
+        """Takes the cells of a tile."""
         cells = np.ascontiguousarray(cells, dtype=self._dataset.dtypes[0])
         self._sums[place] = zlib.crc32(cells.data)
         with _told(self._path):
             self._dataset.write(cells, 1, window=_window(place))
 
-    def check(self, path: Path) -> None:
+    def check(self, path: str) -> None:
         """Raises OSError where the file does not have the tiles that were written."""
         with need("rasterio", "gis", PURPOSE).open(path) as dataset:
             for place, expected in self._sums.items():
@@ -61,6 +61,11 @@ class TileWriter:
 
 def _window(place: Rectangle) -> Any:
     return need("rasterio.windows", "gis", PURPOSE).Window(place.left, place.top, place.cols, place.rows)
+
+
+def _told(path: str) -> AbstractContextManager[None]:
+    """Faults of rasterio and of the system as `WriteFailed`."""
+    return told_of(path, need("rasterio.errors", "gis", PURPOSE).RasterioError)
 
 
 @contextmanager
@@ -76,51 +81,21 @@ def tile_writer(path: str | os.PathLike[str], sheet: Sheet, dtype: str, nodata: 
         The disk is full, the folder is missing, or what was read back is not what was written.
     """
     rasterio = need("rasterio", "gis", PURPOSE)
-    final = Path(path)
-    beside = final.with_name(f".{final.stem}.{os.getpid()}.part{final.suffix}")
+    final = os.fspath(path)
     profile = profile_of(sheet.rows, sheet.cols, sheet.transform, sheet.crs, dtype, nodata) | {"zlevel": 1}
-    try:
-        with rasterio.Env(GDAL_CACHEMAX=CACHE), _warnings_off():
+    with replacing(final) as beside, rasterio.Env(GDAL_CACHEMAX=CACHE), _warnings_off():
+        with _told(final):
+            dataset = rasterio.open(beside, "w", **profile)
+        writer = TileWriter(dataset, final)
+        try:
+            yield writer
+        finally:
             with _told(final):
-                dataset = rasterio.open(beside, "w", **profile)
-            writer = TileWriter(dataset, final)
-            try:
-                yield writer
-            finally:
-                with _told(final):
-                    dataset.close()
-            with _told(final):
-                _sync(beside)
-                writer.check(beside)
-                write_labels(str(beside), labels or {})
-                _rename(beside, final)
-    finally:
-        for name in (beside, _labels_beside(beside)):
-            with suppress(OSError):
-                name.unlink()
-
-
-def _labels_beside(path: Path) -> Path:
-    """Where GDAL keeps the labels of a GeoTIFF."""
-    return path.with_name(path.name + ".aux.xml")
-
-
-def _rename(beside: Path, final: Path) -> None:
-    """The labels first, so that a map never stands beside those of another."""
-    with suppress(FileNotFoundError):
-        _labels_beside(final).unlink()
-    os.replace(beside, final)
-    with suppress(FileNotFoundError):
-        os.replace(_labels_beside(beside), _labels_beside(final))
-
-
-@contextmanager
-def _told(path: Path) -> Iterator[None]:
-    """Faults of rasterio and of the system as `WriteFailed`."""
-    try:
-        yield
-    except (need("rasterio.errors", "gis", PURPOSE).RasterioError, OSError) as fault:
-        raise WriteFailed(f"{path} could not be written: {fault}") from fault
+                dataset.close()
+        with _told(final):
+            _sync(beside)
+            writer.check(beside)
+            write_labels(beside, labels or {})
 
 
 @contextmanager
@@ -131,7 +106,7 @@ def _warnings_off() -> Iterator[None]:
         yield
 
 
-def _sync(path: Path) -> None:
+def _sync(path: str) -> None:
     handle = os.open(path, os.O_RDONLY)
     try:
         os.fsync(handle)

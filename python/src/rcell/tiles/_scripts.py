@@ -65,9 +65,11 @@ class Assignment:
             yield token, int(down), int(right)
 
     def calls(self, function: str) -> bool:
+        """Whether the expression has a call of a function."""
         return any(token == function and after == "(" for token, after in zip(self.tokens, self.tokens[1:]))
 
     def text(self) -> str:
+        """Its lines of a script."""
         # At most 1000 tokens of 64 bytes, with a blank before each: within the 65,535 bytes of a line.
         return f"r.mapcalc {self.output} = {' '.join(self.tokens)}"
 
@@ -82,9 +84,11 @@ class Reclass:
     rules: tuple[str, ...]
 
     def reads(self) -> Iterator[tuple[str, int, int]]:
+        """Each map that is read, at no offset."""
         yield self.input, 0, 0
 
     def text(self) -> str:
+        """Its lines of a script."""
         return "\n".join([f"r.reclass input={self.input} output={self.output}", *self.rules, "end"])
 
 
@@ -98,9 +102,11 @@ class Clump:
     diagonal: bool
 
     def reads(self) -> Iterator[tuple[str, int, int]]:
+        """Each map that is read, at no offset."""
         yield self.input, 0, 0
 
     def text(self) -> str:
+        """Its lines of a script."""
         return f"r.clump {'-d ' if self.diagonal else ''}input={self.input} output={self.output}"
 
 
@@ -114,10 +120,12 @@ class Stats:
     after: tuple[str, ...] | None
 
     def reads(self) -> Iterator[tuple[str, int, int]]:
+        """Each map that is read, at no offset."""
         for name in self.inputs:
             yield name, 0, 0
 
     def text(self) -> str:
+        """Its lines of a script."""
         flags = "".join(f" -{flag}" for flag in sorted(self.flags))
         after = "" if self.after is None else f" after={','.join(self.after)}"
         return f"r.stats{flags} input={','.join(self.inputs)}{after}"
@@ -131,9 +139,11 @@ class Write:
     input: str
 
     def reads(self) -> Iterator[tuple[str, int, int]]:
+        """Each map that is read, at no offset."""
         yield self.input, 0, 0
 
     def text(self) -> str:
+        """Its lines of a script."""
         return f"r.out.ascii input={self.input}"
 
 

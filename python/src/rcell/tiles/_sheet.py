@@ -6,7 +6,6 @@ import os
 import re
 from collections.abc import Mapping
 from dataclasses import dataclass
-from fractions import Fraction
 from typing import Any
 
 import numpy as np
@@ -14,8 +13,8 @@ import numpy as np
 from .._errors import BadMap, OtherRegion, ReadFailed
 from .._libraries import need
 from .._maps import ArrayMap, checked
-from .._rasters import _IDENTITY, _only_band, _opened
-from .._region import Region, Transform, _edge_text, _units
+from .._rasters import check_scale, only_band, open_dataset, upright
+from .._region import Region, Transform, differences_of, edges_of_transform, units_of
 from .joining import Rectangle
 
 __all__ = ["MapFile", "Sheet", "open_maps"]
@@ -56,25 +55,14 @@ class Sheet:
         """The height and width of a cell."""
         return -self.transform[4], self.transform[0]
 
-    def units(self) -> dict[str, int]:
-        """The edges in units of 10^-8, as the program would keep them."""
-        width, _, west, _, height, north = self.transform
-        south = Fraction(north) + Fraction(height) * self.rows
-        east = Fraction(west) + Fraction(width) * self.cols
-        return {"north": _units(north), "south": _units(south), "east": _units(east), "west": _units(west)}
-
     def differences(self, other: Sheet) -> list[str]:
-        """In which edges and sizes another sheet differs, and by how much."""
-        told = []
-        for name, mine in self.units().items():
-            its = other.units()[name]
-            if mine != its:
-                more = "more" if its > mine else "less"
-                told.append(f"{name} is {_edge_text(its)}, not {_edge_text(mine)} ({_edge_text(abs(its - mine))} {more})")
-        for name, mine, its in (("rows", self.rows, other.rows), ("cols", self.cols, other.cols)):
-            if mine != its:
-                told.append(f"{name} is {its}, not {mine} ({abs(its - mine)} {'more' if its > mine else 'less'})")
-        return told
+        """In which edges and sizes another sheet differs, and by how much, as the program would see them."""
+        return differences_of((self._units, (self.rows, self.cols)), (other._units, (other.rows, other.cols)))
+
+    @property
+    def _units(self) -> tuple[int, int, int, int]:
+        north, south, east, west = map(units_of, edges_of_transform(self.transform, self.rows, self.cols))
+        return north, south, east, west
 
 
 @dataclass(frozen=True)
@@ -127,7 +115,7 @@ class MapFile:
         top = sheet.rows - place.top - place.rows if self.is_upside_down else place.top
         window = rasterio.windows.Window(place.left, top, place.cols, place.rows)
         try:
-            with rasterio.Env(GDAL_CACHEMAX=READ_CACHE), _opened(self.name, self.path) as dataset:
+            with rasterio.Env(GDAL_CACHEMAX=READ_CACHE), open_dataset(self.name, self.path) as dataset:
                 cells = dataset.read(self.band, window=window)
                 null = dataset.read_masks(self.band, window=window) == 0 if self.has_mask else None
         except (rasterio.errors.RasterioError, OSError) as fault:
@@ -167,33 +155,14 @@ def _described(name: str, path: Any) -> tuple[Sheet, MapFile]:
         raise BadMap(name, f"tiles are read from files: a path that rasterio opens is needed, not {type(path).__name__}")
     file = os.fspath(path) if GDAL_NAME.match(os.fspath(path)) else os.path.abspath(path)
     enums = need("rasterio.enums", "gis", PURPOSE)
-    with _opened(name, file) as dataset:
-        band = _only_band(name, dataset, enums)
-        scale, offset = dataset.scales[band - 1], dataset.offsets[band - 1]
-        if (scale, offset) != (1, 0):
-            raise BadMap(name, f"its values are scaled: each cell times {scale:g}, plus {offset:g}; write them out as whole numbers first")
+    with open_dataset(name, file) as dataset:
+        band = only_band(name, dataset, enums)
+        check_scale(name, dataset, band)
         dtype = dataset.dtypes[band - 1]
         if np.dtype(dtype).kind not in "iuf":
             raise BadMap(name, f"not a map of whole numbers: its cells are of the type {dtype}")
-        transform, is_upside_down = _transform(name, dataset)
+        transform, is_upside_down = upright(name, dataset)
         rows, cols = dataset.block_shapes[band - 1]
         sheet = Sheet(dataset.height, dataset.width, transform, dataset.crs.to_wkt() if dataset.crs else None, (rows, cols))
         has_mask = enums.MaskFlags.per_dataset in dataset.mask_flag_enums[band - 1]
         return sheet, MapFile(name, file, band, dtype, dataset.nodatavals[band - 1], has_mask, is_upside_down)
-
-
-def _transform(name: str, dataset: Any) -> tuple[Transform, bool]:
-    """The transform from north to south, and whether the file has its rows the other way.
-
-    Where there is none, it is that of cells of side 1 whose bottom left corner is at 0, 0.
-    """
-    a, b, c, d, e, f = (float(number) for number in tuple(dataset.transform)[:6])
-    if (a, b, c, d, e, f) == _IDENTITY:
-        if dataset.gcps[0]:
-            raise BadMap(name, "has ground control points and no transform: warp it first")
-        return (1.0, 0.0, 0.0, 0.0, -1.0, float(dataset.height)), False
-    if b or d:
-        raise BadMap(name, f"a rotated transform {(a, b, c, d, e, f)}: warp the map to rows from west to east first")
-    if a <= 0 or e == 0:
-        raise BadMap(name, f"a transform {(a, b, c, d, e, f)} whose columns are not from west to east")
-    return ((a, b, c, d, -e, f + e * dataset.height), True) if e > 0 else ((a, b, c, d, e, f), False)

@@ -51,6 +51,7 @@ class TileRun:
         return len(self.files) + self.script.made + has_halo
 
     def maps(self, outer: Rectangle) -> dict[str, Source]:
+        """The files' cells in a rectangle."""
         found: dict[str, Source] = {file.name: file.read(outer, self.sheet) for file in self.files}
         if not found:  # a script of row() and the like reads no map, but its region has to come from one
             found[self.inside] = ArrayMap(self.inside, np.broadcast_to(np.uint8(0), outer[2:]), Region.of_cells(*outer[2:]))
@@ -58,6 +59,7 @@ class TileRun:
 
 
 def run(text: str, maps: dict[str, Source], wanted: tuple[str, ...] = ()) -> list[Output]:
+    """The outputs of a script over the maps of a tile; being out of memory is told with the size of the tile."""
     try:
         return execute(text, maps, wanted=wanted)
     except OutOfMemory as fault:
@@ -87,6 +89,7 @@ def table_counts(task: TileRun, place: Rectangle) -> Counts:
 
 
 def mask_of(place: Rectangle, outer: Rectangle) -> npt.NDArray[np.uint8]:
+    """1 in a tile and 0 in its halo."""
     mask = np.zeros(outer[2:], dtype=np.uint8)
     inner(mask, place, outer)[:] = 1
     return mask
@@ -99,6 +102,7 @@ def inner(cells: Integers, place: Rectangle, outer: Rectangle) -> Integers:
 
 
 def as_counts(values: Integers) -> Counts:
+    """A table as the program wrote it, the cells in its last column."""
     return Counts(values[:, :-1], values[:, -1])
 
 
