@@ -112,6 +112,11 @@ class AnswersTest(unittest.TestCase):
         self.assertEqual(found.tables[1].categories.tolist(), [[1, 1_000_000_000], [2, 2_000_000_000]])
         self.assertEqual(found.grids[1].cells.tolist(), [[1_000_000_000, 1_000_000_000, 2_000_000_000]])
 
+    def test_a_refusal_after_a_mark_names_the_line_of_the_script(self) -> None:
+        with self.assertRaises(Refused) as caught:
+            answers.run(self.program, "r.stats input=lc\nr.stats -c input=lc\n\nr.stats input=other", {"lc": self.raster("lc", [[1]])})
+        self.assertEqual(str(caught.exception), "script, line 4: unknown map\n  r.stats input=other")
+
     def test_a_map_that_is_not_there(self) -> None:
         with self.assertRaisesRegex(Refused, "no map y: there are lc, x"):
             answers.run(self.program, "r.mapcalc x = lc", {"lc": self.raster("lc", [[1]])}, ["y"])

@@ -84,7 +84,7 @@ class ProgramTest(unittest.TestCase):
         with self.assertRaisesRegex(WrongProgram, "has written what this plugin does not understand"):
             answers.table(self.script("cat \"$1\" > /dev/null; echo 1 2 3"), [self.raster], False)
 
-    def cancelled(self, path: str, after: float) -> float:
+    def cancelled(self, path: str, after: float, raster: Raster | None = None) -> float:
         """How long a run goes on after it was cancelled."""
         cancel = threading.Event()
         at: list[float] = []
@@ -92,7 +92,7 @@ class ProgramTest(unittest.TestCase):
         timer.start()
         self.addCleanup(timer.cancel)
         with self.assertRaises(Cancelled):
-            answers.table(path, [self.raster], False, program.Watch(is_cancelled=cancel.is_set))
+            answers.table(path, [raster or self.raster], False, program.Watch(is_cancelled=cancel.is_set))
         return time.monotonic() - at[0]
 
     def test_a_cancel_ends_the_program_within_half_a_second(self) -> None:
@@ -101,6 +101,9 @@ class ProgramTest(unittest.TestCase):
         for text in ("exec sleep 60", "cat /dev/fd/* > /dev/null 2>&1; exec sleep 60", "exec yes 1 2"):
             with self.subTest(text=text):
                 self.assertLess(self.cancelled(self.script(text), 0.3), 0.5)
+        # And one that reads nothing of a map that is larger than a pipe.
+        large = Raster.open("lc", made.write(os.path.join(self.room, "large.tif"), made.noise(2, 1500, 1500)))
+        self.assertLess(self.cancelled(self.script("exec sleep 60"), 0.3, large), 0.5)
         self.assertEqual(children(), before)
 
     def test_no_pipe_is_left_open(self) -> None:

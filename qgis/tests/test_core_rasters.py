@@ -206,6 +206,18 @@ class WritingTest(InRoom):
                 self.assertEqual(file.read(), "stood there")
         self.assertEqual(made.left_in(self.room), [])
 
+    def test_what_stood_there_is_replaced_by_what_is_whole(self) -> None:
+        table = answers.table(self.program, [self.raster], True)
+        for name in ("r.tif", "r.csv", "r.gpkg"):
+            with open(self.path(name), "w", encoding="utf-8") as file:
+                file.write("stood there")
+        files.write_raster(self.path("r.tif"), "GTiff", np.array([[5, 6]], np.int32), 0, self.raster, {})
+        self.assertEqual(gdal.Open(self.path("r.tif")).ReadAsArray().tolist(), [[5, 6]])
+        for name in ("r.csv", "r.gpkg"):
+            files.write_table(self.path(name), table)
+            with open(self.path(name), "rb") as file:
+                self.assertNotIn(b"stood there", file.read())
+
     def test_a_cancel_while_writing_leaves_what_stood_there(self) -> None:
         def cancel() -> None:
             raise Cancelled()
