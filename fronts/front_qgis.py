@@ -93,7 +93,7 @@ def main() -> None:
     with tempfile.TemporaryDirectory(prefix="R\u00e4ume von QGIS ") as room:
         # QGIS leaves statistics beside a raster that it opens.
         shutil.copytree(HERE / "rasters", f"{room}/rasters")
-        for case in cases():
+        for case in (it for it in cases() if "qgis" not in it.left_out):
             case.maps = {name: f"{room}/rasters/{os.path.basename(path)}" for name, path in case.maps.items()}
             try:
                 lines = answer(case, room)

@@ -30,7 +30,7 @@ def raster_of(layer: QgsRasterLayer, name: str, band: int | None = None) -> Rast
         raise BadMap(name, f"{told}: export it as a GeoTIFF first")
     shown = band or 1
     return Raster.open(name, layer.source(), band, labels_of(layer, shown), null_ranges_of(layer, shown),
-                       layer.dataProvider().useSourceNoDataValue(shown))
+                       _uses_nodata(layer.dataProvider(), shown))
 
 
 def labels_of(layer: QgsRasterLayer, band: int) -> dict[int, str]:
@@ -67,6 +67,12 @@ def colours_of(layer: QgsRasterLayer, band: int) -> dict[int, Any]:
         # A copy: the colour of a class is a part of it, and gone with it.
         return {int(entry.value): QColor(entry.color) for entry in renderer.classes()}
     return {}
+
+
+def _uses_nodata(provider: Any, band: int) -> bool:
+    """Whether the nodata of the file is null: unless it was switched off. QGIS knows none that its type of cells cannot hold, as -128
+    of bytes with a sign, and that one is null all the same."""
+    return bool(provider.useSourceNoDataValue(band)) or not provider.sourceHasNoDataValue(band)
 
 
 def null_ranges_of(layer: QgsRasterLayer, band: int) -> list[tuple[float, float]]:

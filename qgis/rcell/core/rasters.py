@@ -311,6 +311,9 @@ def _check_values(name: str, band: Any) -> None:
 def _dtype_of(band: Any) -> np.dtype[Any]:
     from osgeo import gdal_array
 
+    # Before its version 3.7, GDAL has no type for bytes with a sign, and marks them; their cells come with the sign.
+    if band.GetMetadataItem("PIXELTYPE", "IMAGE_STRUCTURE") == "SIGNEDBYTE":
+        return np.dtype(np.int8)
     return np.dtype(gdal_array.GDALTypeCodeToNumericTypeCode(band.DataType))
 
 
