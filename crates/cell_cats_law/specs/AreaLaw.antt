@@ -73,7 +73,7 @@ OtherAreasKeepTheirSize = (j : Joining) (m numbers : Grid) → IsClumping j m nu
     → (p : Position) (was now : ℤ) → was ≢ number → cell_at_spot numbers p ≡ Some was
     → cell_at_spot renumbered p ≡ Some now → (rows cols : ℕ)
     → count_of (Some now ∷ []) (cells_of renumbered rows cols)
-      ≡ count_of (Some was ∷ []) (cells_of numbers rows cols)
+    ≡ count_of (Some was ∷ []) (cells_of numbers rows cols)
 
 -- and the numbers close up: those before that of the area stay, and those after it are one less
 abbrev pub NumbersCloseUp : Type 0

@@ -16,7 +16,7 @@ abbrev pub UnnamedIsNull : Type 0
 UnnamedIsNull = (rules : List RuleValue)
     → (new_category rules None ≡ None)
     × ((x : ℤ) → All (λ rule. lists x rule ≡ false) rules → All (λ rule. is_star_rule rule ≡ false) rules
-      → new_category rules (Some x) ≡ None)
+    → new_category rules (Some x) ≡ None)
 
 -- where the rules send a combination whose first cell they reclass
 abbrev pub sent : List RuleValue → Combination → Combination
@@ -40,7 +40,7 @@ ReclassKeepsCells = (rules : List RuleValue) (maps : List Grid) (old new : ℕ) 
     → IsTable skip (all_combinations maps (old ∷ others) rows cols) table → (to : Combination)
     → is_left_out skip to ≡ false
     → count_of to (all_combinations maps (new ∷ others) rows cols)
-      ≡ sum_by (λ pair. pair.1) (sent_to rules to table)
+    ≡ sum_by (λ pair. pair.1) (sent_to rules to table)
 
 -- no two entries are sent to one combination
 abbrev pub AreSentApart : List RuleValue → Pairs → Type 0
