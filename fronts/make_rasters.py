@@ -10,6 +10,7 @@ from xml.sax.saxutils import escape
 
 import numpy as np
 import rasterio
+from osgeo import gdal
 from rasterio.transform import Affine
 
 ROOM = pathlib.Path(__file__).resolve().parent / "rasters"
@@ -33,6 +34,16 @@ def write(name: str, cells: object, dtype: str = "int16", *, transform: Affine =
             file.write(array, band)
         if scale is not None:
             file.scales = [scale]
+
+
+def write_wide(name: str, cells: object) -> None:
+    """Whole numbers of 64 bits, by GDAL itself: rasterio 1.3 takes signed ones for unsigned."""
+    array = np.asarray(cells, "int64")
+    file = gdal.GetDriverByName("GTiff").Create(str(ROOM / f"{name}.tif"), array.shape[1], array.shape[0], 1, gdal.GDT_Int64, ["COMPRESS=DEFLATE"])
+    file.SetGeoTransform(METRES.to_gdal())
+    file.SetProjection(rasterio.crs.CRS.from_epsg(32632).to_wkt())
+    file.GetRasterBand(1).WriteArray(array)
+    file.GetRasterBand(1).SetNoDataValue(NULL)
 
 
 def write_labels(name: str) -> None:
@@ -106,8 +117,8 @@ def main() -> None:
     write("zero", np.where(np.asarray(COVER) == NULL, 0, COVER), "uint8", nodata=0)
     write("undeclared", COVER, nodata=None)
     write("signed", np.where(np.asarray(COVER) == 3, -5, np.where(np.asarray(COVER) == NULL, -128, COVER)), "int8", nodata=-128)
-    write("wide", COVER, "int64")
-    write("beyond_wide", changed(3, 1, 3e9), "int64")
+    write_wide("wide", COVER)
+    write_wide("beyond_wide", changed(3, 1, 3e9))
     write("odd", [[-3, 7, 12], [100000, 100001, NULL]], "int32")
     write_table("odd", ODD_LABELS)
     write("noise", noise(9, 12))
