@@ -11,9 +11,10 @@ tools/turned/NAME.edit is one turned definition. Its lines are
     falls: LAW..                  the laws that it makes false
 
 In a copy of the sources the turned module is put into the crate of laws, and with it each module of its own crate that stands
-between it and the lemmas of the laws; the crates below stay as they are, so nothing but the laws is proved again. Each law that
-is to fall has to be refused there, and each of them has to prove where the same modules are copied and nothing is turned. That
-the others are still proved is not asked: a proof may fail of a law that still holds. The last line is 'N passed, M failed'.
+between it and the lemmas of the laws; where the definition is the laws' own, it is turned where it stands. The crates below stay
+as they are, so nothing but the laws is proved again. Each law that is to fall has to be refused there, and each of them has to
+prove where the same modules are copied and nothing is turned. That the others are still proved is not asked: a proof may fail of
+a law that still holds. The last line is 'N passed, M failed'.
 """
 import functools
 import pathlib
@@ -108,6 +109,13 @@ def between(turned):
     return sorted(found)
 
 
+def copied(turned, module):
+    """Where a module lies in the crate of laws: no folder has a name that the crate has, in capitals or not."""
+    if turned.crate == turned.law:
+        return module
+    return re.sub(r"^(specs|proofs)\.(?=\w+\.)", r"\1.turned_", module)
+
+
 def lay_out(law, room):
     """Makes room a copy of the sources in which nothing is turned, with the libraries that checks built."""
     names = all_below(law)
@@ -128,7 +136,7 @@ def put_into_law(turned, room, pairs):
 
     def own(text):
         for module in modules:
-            text = text.replace(f"Rattle.{turned.crate}.{module}.{{", f"Rattle.{turned.law}.{module}.{{")
+            text = text.replace(f"Rattle.{turned.crate}.{module}.{{", f"Rattle.{turned.law}.{copied(turned, module)}.{{")
         return text
 
     folder = room / "crates" / turned.law
@@ -140,13 +148,15 @@ def put_into_law(turned, room, pairs):
             if text.count(old) != 1:
                 raise SystemExit(f"{turned.name}: stands {text.count(old)} times in {module}: {old}")
             text = text.replace(old, new)
-        path = folder / (module.replace(".", "/") + ".antt")
-        path.parent.mkdir(exist_ok=True)
+        path = folder / (copied(turned, module).replace(".", "/") + ".antt")
+        path.parent.mkdir(parents=True, exist_ok=True)
         path.write_text(text, encoding="utf-8")
+        if turned.crate == turned.law:
+            continue
         listing = path.parent / "Lib.antt" if path.parent.parent == folder else path.parent.with_suffix(".antt")
         if path.parent.parent != folder and not listing.exists():
-            with open(folder / "specs" / "Lib.antt", "a", encoding="utf-8") as file:
-                file.write("pub mod parts\n")
+            with open(path.parent.parent / "Lib.antt", "a", encoding="utf-8") as file:
+                file.write(f"pub mod {path.parent.name}\n")
         with open(listing, "a", encoding="utf-8") as file:
             file.write(f"pub mod {path.stem}\n")
 
