@@ -1,10 +1,11 @@
 -- Blanks of a line (profile).
-use Rattle.std.specs.Prelude.{ℕ, Bool, ◌||◌, ◌==◌, List, [], ◌∷◌, if◌then◌else◌}
+use Rattle.std.specs.Prelude.{ℕ, Bool, ◌||◌, ◌==◌, List, [], ◌∷◌, if◌then◌else◌, codes}
 use Rattle.std.specs.List.{list_all}
+use Rattle.cell_core_values.specs.Letters.{byte}
 
 -- a space, a tab or a carriage return
 abbrev pub is_blank : ℕ → Bool
-is_blank b = (b == 32 || b == 9) || b == 13
+is_blank b = (b == byte (codes " ") || b == byte (codes "\t")) || b == byte (codes "\r")
 
 -- without the blanks at its start
 abbrev pub after_blanks : List ℕ → List ℕ

@@ -4,3 +4,4 @@ pub mod Digits
 pub mod WholeNumbers
 pub mod Capped
 pub mod Words
+pub mod Answers

@@ -1,6 +1,7 @@
 -- Whole numbers, and those in the range of categories (GRASS: CELL values; leading zeros and a plus sign are the profile's).
-use Rattle.std.specs.Prelude.{ℕ, ℤ, pos, neg_ℤ, int_le, Bool, ◌&&◌, ◌==◌, List, [], ◌∷◌, Option, Some, None, Result, Ok, Err, if◌then◌else◌}
+use Rattle.std.specs.Prelude.{ℕ, ℤ, pos, neg_ℤ, int_le, Bool, ◌&&◌, ◌==◌, List, [], ◌∷◌, Option, Some, None, Result, Ok, Err, if◌then◌else◌, codes}
 use Rattle.std.specs.Option.{option_map}
+use Rattle.cell_core_values.specs.Letters.{byte}
 use Rattle.cell_core_text.specs.Digits.{digits_of}
 use Rattle.cell_core_text.specs.declared.whole_numbers.TheConstants.{LEAST, GREATEST}
 use Rattle.cell_core_text.specs.declared.whole_numbers.WholeFault.{WholeFault}
@@ -10,8 +11,8 @@ use Rattle.cell_core_text.specs.declared.whole_numbers.WholeFault.TheVariants.{N
 abbrev pub signed_number : (List ℕ → Option ℕ) → List ℕ → Option ℤ
 signed_number unsigned [] = None
 signed_number unsigned (b ∷ bs) =
-    if b == 45 then option_map (λ n. neg_ℤ (pos n)) (unsigned bs)
-    else (if b == 43 then option_map pos (unsigned bs) else option_map pos (unsigned (b ∷ bs)))
+    if b == byte (codes "-") then option_map (λ n. neg_ℤ (pos n)) (unsigned bs)
+    else (if b == byte (codes "+") then option_map pos (unsigned bs) else option_map pos (unsigned (b ∷ bs)))
 
 -- an optional sign and one or more digits
 abbrev pub whole_number : List ℕ → Option ℤ

@@ -4,3 +4,4 @@ pub mod Name
 pub mod Region
 pub mod SameRegion
 pub mod parts
+pub mod Letters

@@ -1,6 +1,7 @@
 -- The texts that may name a map (profile), and lists of names.
-use Rattle.std.specs.Prelude.{ℕ, Bool, false, ◌&&◌, ◌||◌, ◌==◌, ◌≢◌, nat_le, List, [], ◌∷◌, length, Option, AllPairs, bytes_eq}
+use Rattle.std.specs.Prelude.{ℕ, Bool, false, ◌&&◌, ◌||◌, ◌==◌, ◌≢◌, nat_le, List, [], ◌∷◌, length, Option, AllPairs, bytes_eq, codes}
 use Rattle.std.specs.List.{list_all, position_from}
+use Rattle.cell_core_values.specs.Letters.{byte}
 
 -- the greatest number of bytes of a name (profile)
 abbrev pub most_bytes : ℕ
@@ -12,11 +13,11 @@ is_from_to low high b = nat_le low b && nat_le b high
 
 -- an ASCII letter or an underscore
 abbrev pub is_name_start : ℕ → Bool
-is_name_start b = (is_from_to 65 90 b || is_from_to 97 122 b) || b == 95
+is_name_start b = (is_from_to (byte (codes "A")) (byte (codes "Z")) b || is_from_to (byte (codes "a")) (byte (codes "z")) b) || b == byte (codes "_")
 
 -- an ASCII letter, a digit, an underscore or a point
 abbrev pub is_name_byte : ℕ → Bool
-is_name_byte b = (is_name_start b || is_from_to 48 57 b) || b == 46
+is_name_byte b = (is_name_start b || is_from_to (byte (codes "0")) (byte (codes "9")) b) || b == byte (codes ".")
 
 -- a first byte that may begin a name
 abbrev pub starts_name : List ℕ → Bool

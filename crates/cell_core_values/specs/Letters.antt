@@ -1,0 +1,12 @@
+-- Letters of texts, written as letters: `byte (codes ",")`, `is_one_of (codes "clnN1")`.
+use Rattle.std.specs.Prelude.{ℕ, Bool, ◌==◌, List, [], ◌∷◌}
+use Rattle.std.specs.List.{list_any}
+
+-- the byte of a text of one byte
+abbrev pub byte : List ℕ → ℕ
+byte [] = 0
+byte (b ∷ bs) = b
+
+-- a byte is one of a text's
+abbrev pub is_one_of : List ℕ → ℕ → Bool
+is_one_of letters b = list_any (λ letter. letter == b) letters
