@@ -7,9 +7,9 @@ use Rattle.std.proofs.lemmas.Simd.{trailing_mask_l, ones-mask_l, mask_l-mod}
 use Rattle.std.proofs.lemmas.Nat.{and_block, and_mask, one_shl, mod-pow-add, field_of, shl-shr}
 use Rattle.std.proofs.lemmas.List.{length-map, take-map, take-take, drop-take, get_or-take}
 use Rattle.std.specs.Int.Bits.{bit_and, bit_or, and_self}
-use Rattle.cell_ascii_meaning.specs.GridTokens.{is_space, is_grid_word, newlines}
+use Rattle.cell_ascii_meaning.specs.GridTokens.{is_line_feed, is_space, is_grid_word, newlines}
 use Rattle.cell_ascii_held.proofs.ByteLemmas.{digits-mod, digits-number}
-use Rattle.cell_ascii_held.specs.TableWords.{blanks, feeds, is_feed, cleared, kept_bytes}
+use Rattle.cell_ascii_held.specs.TableWords.{blanks, feeds, cleared, kept_bytes}
 use lib.Count.{count_trailing_zeros}
 use lib.Lanes.{mask_l, number_l, digits_l, top, zip2}
 
@@ -220,8 +220,8 @@ below bits n within = ap (λ (k : ℕ). count_ones (bit_and bits (k - 1))) (one_
 -- so many line feeds stand before a place
 pub feeds_before : (n : ℕ) (bs : List ℕ) → n ≤ 64 → count_ones (mask_l (feeds bs) % 2 ^ n) ≡ newlines (take n bs)
 feeds_before n bs few =
-    ap count_ones (mask-take n (feeds bs) ∙ ap mask_l (take-map is_feed n (take 64 bs) ∙ ap (map is_feed) (take-take n 64 bs few)))
-    ∙ ones-mask_l is_feed (take n bs)
+    ap count_ones (mask-take n (feeds bs) ∙ ap mask_l (take-map is_line_feed n (take 64 bs) ∙ ap (map is_line_feed) (take-take n 64 bs few)))
+    ∙ ones-mask_l is_line_feed (take n bs)
 
 -- a number kept at the upper end
 pub kept : (bytes : List ℕ) (size : ℕ) → 0 < size → size ≤ 8 → 8 ≤ length bytes → ((k : ℕ) → get_or bytes k 0 < 256)

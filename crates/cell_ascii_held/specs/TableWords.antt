@@ -4,7 +4,7 @@ use Rattle.std.specs.Simd.Lanes.{digits_l}
 use Rattle.cell_core_devices.specs.Device.{Coming}
 use Rattle.cell_core.specs.Grid.{CellValue}
 use Rattle.cell_ascii_scanner.specs.Ahead.{before_coming}
-use Rattle.cell_ascii_meaning.specs.GridTokens.{is_space}
+use Rattle.cell_ascii_meaning.specs.GridTokens.{is_line_feed, is_space}
 use Rattle.cell_ascii_meaning.specs.Header.{Header}
 use Rattle.cell_ascii_meaning.specs.CellTexts.{cell_from, cell_of_word, at_of, many}
 use Rattle.cell_ascii_held.specs.declared.word_table.Entry.{Entry}
@@ -27,13 +27,9 @@ pub record IsCellPut (h : Header) (word : List ℕ) (i : ℕ) (old new : List Ce
 abbrev pub blanks : List ℕ → List Bool
 blanks bs = map is_space (take 64 bs)
 
--- a line feed
-abbrev pub is_feed : ℕ → Bool
-is_feed b = b == 10
-
 -- which of them are line feeds
 abbrev pub feeds : List ℕ → List Bool
-feeds bs = map is_feed (take 64 bs)
+feeds bs = map is_line_feed (take 64 bs)
 
 -- the first n are false
 abbrev pub cleared : ℕ → List Bool → List Bool

@@ -7,7 +7,7 @@ use Rattle.std.specs.List.{list_all, prefix_len, before_first, after_first}
 use Rattle.std.proofs.lemmas.Bool.{and_parts, leb-true, eqb-true}
 use Rattle.std.proofs.lemmas.Bool.Decides.{nat_tests}
 use Rattle.std.proofs.lemmas.Fmt.{length-decimal-le}
-use Rattle.cell_ascii_meaning.specs.EdgeNumbers.{is_digit, value_of_digits, digits_of, signed_number, whole_number, is_in_range, in_units, unsigned_coordinate, coordinate, side}
+use Rattle.cell_ascii_meaning.specs.EdgeNumbers.{is_point, is_digit, value_of_digits, digits_of, signed_number, whole_number, is_in_range, in_units, unsigned_coordinate, coordinate, side}
 use Rattle.cell_ascii_meaning.specs.Writing.{without_zeros, fraction_text, units_text, coordinate_text}
 use Rattle.cell_ascii_law_written.proofs.WritingDigitLemmas.{IsNumeralOf, numeral, eight, IsFraction, fraction}
 
@@ -54,9 +54,6 @@ pub side_back : (n : ℕ) → n ≤ 65535 → side (decimal n) ≡ Some n
 side_back n low = side_of (decimal n) n (whole_back (pos n) (omega arith)) (grind (arith, nat_tests))
 
 -- Coordinates.
-abbrev is_point : ℕ → Bool
-is_point b = b == 46
-
 place : (ds tail : List ℕ) → list_all is_digit ds ≡ true → prefix_len (λ b. not (is_point b)) tail ≡ 0 → prefix_len (λ b. not (is_point b)) (ds ++ tail) ≡ length ds
 place [] tail digits first = first
 place (d ∷ ds) tail digits first =

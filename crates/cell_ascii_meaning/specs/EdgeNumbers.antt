@@ -1,7 +1,8 @@
 -- Whole numbers and coordinates in decimal (r.in.ascii manual; the numbers of digits are the profile's).
-use Rattle.std.specs.Prelude.{ℕ, ℤ, pos, negsuc, ◌+◌, ◌-◌, ◌*◌, ◌^◌, nat_le, ◌&&◌, ◌==◌, List, length, Option, Some, None, if◌then◌else◌}
+use Rattle.std.specs.Prelude.{ℕ, ℤ, Bool, pos, negsuc, ◌+◌, ◌-◌, ◌*◌, ◌^◌, nat_le, ◌&&◌, ◌==◌, List, length, Option, Some, None, if◌then◌else◌, codes}
 use Rattle.std.specs.List.{list_all, before_first, after_first}
 use Rattle.std.specs.Option.{option_map}
+use Rattle.cell_core_values.specs.Letters.{byte}
 pub use Rattle.cell_core_text.specs.Digits.{is_digit, value_of_digits, digits_of}
 pub use Rattle.cell_core_text.specs.WholeNumbers.{signed_number, whole_number, is_in_range, whole_in_range}
 
@@ -11,9 +12,13 @@ in_units whole part =
     if (list_all is_digit whole && list_all is_digit part) && ((nat_le (length whole) 10 && nat_le (length part) 8) && nat_le 1 (length whole + length part))
     then Some (value_of_digits whole * 100000000 + value_of_digits part * 10 ^ (8 - length part)) else None
 
+-- a point
+abbrev pub is_point : ℕ → Bool
+is_point b = b == byte (codes ".")
+
 -- digits, and optionally a point with further digits, in units of 10^-8
 abbrev pub unsigned_coordinate : List ℕ → Option ℕ
-unsigned_coordinate bs = in_units (before_first (λ b. b == 46) bs) (after_first (λ b. b == 46) bs)
+unsigned_coordinate bs = in_units (before_first is_point bs) (after_first is_point bs)
 
 -- an optional sign, digits, and optionally a point with further digits
 abbrev pub coordinate : List ℕ → Option ℤ

@@ -3,6 +3,7 @@ use Rattle.std.specs.Prelude.{ℕ, ◌+◌, ◌*◌, Bool, true, false, ◌&&◌
 use Rattle.std.specs.List.{slice_split, suffix_len, list_any}
 use Rattle.std.specs.Option.{option_map, option_and_then}
 use Rattle.cell_core_devices.specs.Device.{Coming}
+use Rattle.cell_ascii_meaning.specs.GridWords.{is_line_feed}
 use Rattle.cell_ascii_meaning.specs.GridTokens.{is_space, is_grid_word, newlines, grid_fault}
 use Rattle.cell_ascii_meaning.specs.EdgeNumbers.{coordinate, side, whole_in_range}
 use Rattle.cell_ascii_meaning.specs.KeyNames.{header_key_of}
@@ -29,7 +30,7 @@ ends_token Fails = false
 
 -- a line feed, or the end
 abbrev pub ends_line : FaultPlace → Bool
-ends_line (Byte b) = b == 10
+ends_line (Byte b) = is_line_feed b
 ends_line End = true
 ends_line Fails = false
 

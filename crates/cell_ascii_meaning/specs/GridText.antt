@@ -7,11 +7,11 @@ use Rattle.cell_core_values.specs.Region.{region_fault}
 use Rattle.cell_core.specs.Grid.{Grid, IsFilled, cell_at, no_labels}
 use Rattle.cell_ascii_meaning.specs.EdgeNumbers.{coordinate, side, whole_in_range}
 use Rattle.cell_ascii_meaning.specs.KeyNames.{header_key_of}
-use Rattle.cell_ascii_meaning.specs.GridWords.{Header, is_space, is_colon, has_colon, is_int, usual_null, usual_multiplier, cell_of_word}
+use Rattle.cell_ascii_meaning.specs.GridWords.{is_line_feed, Header, is_space, is_colon, has_colon, is_int, usual_null, usual_multiplier, cell_of_word}
 
 -- the lines of a text, parted by line feeds
 abbrev pub lines_of : List ℕ → List (List ℕ)
-lines_of text = slice_split (λ b. b == 10) text
+lines_of text = slice_split is_line_feed text
 
 -- a word has one byte or more
 abbrev pub is_token : List ℕ → Bool

@@ -1,5 +1,5 @@
 -- Words of a grid text: what stands before the next word, and the word (profile: blanks, line feeds and their limits).
-pub use Rattle.cell_ascii_meaning.specs.GridWords.{is_space}
+pub use Rattle.cell_ascii_meaning.specs.GridWords.{is_line_feed, is_space}
 use Rattle.std.specs.Prelude.{ℕ, ◌+◌, ◌-◌, Bool, true, false, ◌==◌, not, nat_lt, List, [], ◌∷◌, ◌++◌, length, take, drop, count_by, Result, Ok, Err, if◌then◌else◌}
 use Rattle.std.specs.List.{prefix_len}
 use Rattle.cell_core_devices.specs.Device.{Coming}
@@ -13,7 +13,7 @@ is_grid_word b = not (is_space b)
 
 -- the number of line feeds
 abbrev pub newlines : List ℕ → ℕ
-newlines bs = count_by (λ b. b == 10) bs
+newlines bs = count_by is_line_feed bs
 
 -- a fault at a line
 abbrev pub grid_fault : GridKind → ℕ → GridFault

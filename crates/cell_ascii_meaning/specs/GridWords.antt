@@ -1,19 +1,24 @@
 -- The small words of a grid text: blanks, colons, the header that a text has, the cell of a word (r.in.ascii manual).
 use Rattle.std.specs.Prelude.{ℕ, ℤ, pos, ◌*ℤ◌, Bool, ◌||◌, ◌==◌, List, Option, Some, None, Result, Ok, Err, if◌then◌else◌, bytes_eq, codes}
 use Rattle.std.specs.List.{list_any}
+use Rattle.cell_core_values.specs.Letters.{byte}
 use Rattle.cell_core.specs.Grid.{CellValue}
 use Rattle.cell_core_values.specs.Region.{RegionValue}
 use Rattle.cell_ascii_meaning.specs.EdgeNumbers.{whole_number, is_in_range}
 use Rattle.cell_ascii_meaning.specs.declared.grid_fault.GridKind.{GridKind}
 use Rattle.cell_ascii_meaning.specs.declared.grid_fault.GridKind.TheVariants.{BadCell, CellRange}
 
+-- a line feed
+abbrev pub is_line_feed : ℕ → Bool
+is_line_feed b = b == byte (codes "\n")
+
 -- a space, a tab, a carriage return or a line feed
 abbrev pub is_space : ℕ → Bool
-is_space b = (b == 32 || b == 9) || (b == 13 || b == 10)
+is_space b = (b == byte (codes " ") || b == byte (codes "\t")) || (b == byte (codes "\r") || is_line_feed b)
 
 -- a colon
 abbrev pub is_colon : ℕ → Bool
-is_colon b = b == 58
+is_colon b = b == byte (codes ":")
 
 -- a null text has no colon
 abbrev pub has_colon : List ℕ → Bool

@@ -1,5 +1,6 @@
 -- The header of a grid text, from the bytes to come: key lines, up to the end of the first word of the data (r.in.ascii manual; the limits are the profile's).
-pub use Rattle.cell_ascii_meaning.specs.GridWords.{Header, is_colon, has_colon, is_int, usual_null, usual_multiplier}
+pub use Rattle.cell_core_text.specs.Answers.{◌>>=◌}
+pub use Rattle.cell_ascii_meaning.specs.GridWords.{is_line_feed, Header, is_colon, has_colon, is_int, usual_null, usual_multiplier}
 use Rattle.std.specs.Prelude.{ℕ, ℤ, zero, suc, ◌+◌, Bool, true, false, ◌&&◌, ◌==◌, not, nat_lt, List, [], ◌∷◌, drop, Option, Some, None, Result, Ok, Err, if◌then◌else◌, unwrap_or}
 use Rattle.std.specs.List.{prefix_len, before_first, after_first}
 use Rattle.cell_core_devices.specs.Device.{Coming}
@@ -13,12 +14,6 @@ use Rattle.cell_ascii_meaning.specs.declared.header_key.Key.TheVariants.{North, 
 use Rattle.cell_ascii_meaning.specs.declared.grid_fault.GridKind.{GridKind}
 use Rattle.cell_ascii_meaning.specs.declared.grid_fault.GridKind.TheVariants.{BadHeader, TwiceKey, MissingKey, BadNumber, BadType, Region, Read, ReaderStuck}
 use Rattle.cell_ascii_meaning.specs.declared.grid_fault.GridFault.{GridFault}
-
-infixl 10 ◌>>=◌
--- what comes next, unless there was a fault
-abbrev pub ◌>>=◌ : {A B : Type 0} → Result A GridFault → (A → Result B GridFault) → Result B GridFault
-(Ok x) >>= f = f x
-(Err e) >>= f = Err e
 
 -- the keys that stood so far, each with its value; of the type only that it stood
 pub record Keys : Type 0 where
@@ -70,7 +65,7 @@ header_of keys = all keys.north keys.south keys.east keys.west keys.rows keys.co
 
 -- a space that ends no line
 abbrev pub is_grid_blank : ℕ → Bool
-is_grid_blank b = is_space b && not (b == 10)
+is_grid_blank b = is_space b && not (is_line_feed b)
 
 -- what ends the blanks within a line: a word, a line feed with the run that it ends, the end of the text, or a fault
 pub data Gap : Type 0 where
@@ -84,7 +79,7 @@ abbrev pub gap_at : ℕ → ℕ → List ℕ → Bool → Gap
 gap_at line run [] true = Fault (grid_fault Read line)
 gap_at line run [] false = Last
 gap_at line run (b ∷ bs) fails =
-    if b == 10 then (if nat_lt run 1048576 then Feed (run + 1) (record { bytes = bs; fails = fails }) else Fault (grid_fault ReaderStuck line))
+    if is_line_feed b then (if nat_lt run 1048576 then Feed (run + 1) (record { bytes = bs; fails = fails }) else Fault (grid_fault ReaderStuck line))
     else Word (record { bytes = b ∷ bs; fails = fails })
 
 -- what comes after the blanks of a line, where a run of blanks has gone on for `run` bytes

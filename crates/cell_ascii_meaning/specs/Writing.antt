@@ -1,6 +1,7 @@
 -- The grid text of a map (r.out.ascii manual: header lines, then the cells row by row; how numbers are printed, the line of a null text and rows without a space at the end are the profile's).
 use Rattle.std.specs.Prelude.{ℕ, ℤ, pos, negsuc, suc, ◌≡◌, ◌+◌, ◌-◌, ◌/◌, ◌%◌, ◌≤◌, false, ◌==◌, List, [], ◌∷◌, ◌++◌, length, map, flat_map, drop, take, reverse, IsTrue, bytes_eq, codes, decimal, if◌then◌else◌}
 use Rattle.std.specs.List.{list_all, join_with_byte, prefix_len}
+use Rattle.cell_core_values.specs.Letters.{byte}
 use Rattle.cell_core_values.specs.Region.{RegionValue}
 use Rattle.cell_core.specs.Grid.{CellValue, Grid}
 use Rattle.cell_core.specs.Text.{cell_text}
@@ -9,11 +10,11 @@ use Rattle.cell_ascii_meaning.specs.Header.{has_colon, usual_null}
 
 -- digits without the zeros at their end
 abbrev pub without_zeros : List ℕ → List ℕ
-without_zeros digits = take (length digits - prefix_len (λ b. b == 48) (reverse digits)) digits
+without_zeros digits = take (length digits - prefix_len (λ b. b == byte (codes "0")) (reverse digits)) digits
 
 -- a part of 10^8 as a point and its eight digits, without the zeros at their end; nothing where it is 0
 abbrev pub fraction_text : ℕ → List ℕ
-fraction_text part = if part == 0 then [] else 46 ∷ without_zeros (drop 1 (decimal (100000000 + part)))
+fraction_text part = if part == 0 then [] else byte (codes ".") ∷ without_zeros (drop 1 (decimal (100000000 + part)))
 
 -- a number of units of 10^-8 that is not negative
 abbrev pub units_text : ℕ → List ℕ
@@ -22,11 +23,11 @@ units_text n = decimal (n / 100000000) ++ fraction_text (n % 100000000)
 -- a coordinate: its sign where it is negative, its whole part, and its fraction where that is not 0
 abbrev pub coordinate_text : ℤ → List ℕ
 coordinate_text (pos n) = units_text n
-coordinate_text (negsuc n) = 45 ∷ units_text (suc n)
+coordinate_text (negsuc n) = byte (codes "-") ∷ units_text (suc n)
 
 -- a header line
 abbrev pub line_of_key : List ℕ → List ℕ → List ℕ
-line_of_key key value = key ++ codes ": " ++ value ++ 10 ∷ []
+line_of_key key value = key ++ codes ": " ++ value ++ codes "\n"
 
 -- the six lines of a region
 abbrev pub region_text : RegionValue → List ℕ
@@ -44,7 +45,7 @@ null_line null_text = if bytes_eq null_text usual_null then [] else line_of_key 
 
 -- the cells of a row, joined by one space
 abbrev pub row_text : List ℕ → List CellValue → List ℕ
-row_text null_text row = join_with_byte 32 (map (cell_text null_text) row) ++ 10 ∷ []
+row_text null_text row = join_with_byte (byte (codes " ")) (map (cell_text null_text) row) ++ codes "\n"
 
 -- the grid text of a map
 abbrev pub grid_text : List ℕ → Grid → List ℕ

@@ -1,6 +1,7 @@
 -- Texts of cells that were made before; and text that is appended but for its last bytes.
-use Rattle.std.specs.Prelude.{ℕ, ◌≡◌, ◌<◌, ◌≤◌, List, ◌∷◌, ◌++◌, Option}
+use Rattle.std.specs.Prelude.{ℕ, ◌≡◌, ◌<◌, ◌≤◌, List, ◌∷◌, ◌++◌, Option, codes}
 use Rattle.std.specs.Simd.Lanes.{digits_l}
+use Rattle.cell_core_values.specs.Letters.{byte}
 use Rattle.cell_core_devices.specs.Device.{Faults}
 use Rattle.cell_core_devices.specs.Blocks.{BlockValue, Appends}
 use Rattle.cell_core.specs.Grid.{CellValue}
@@ -14,7 +15,7 @@ low_bytes bytes size = digits_l 256 size bytes
 -- so many bytes of a number are a space and the text of a cell
 pub record IsFieldOf (null_text : List ℕ) (cell : CellValue) (bytes size : ℕ) : Type 0 where
   pub few : size ≤ 8
-  pub text : low_bytes bytes size ≡ 32 ∷ cell_text null_text cell
+  pub text : low_bytes bytes size ≡ byte (codes " ") ∷ cell_text null_text cell
 
 -- an entry is free, or it holds those of its cell
 abbrev pub IsField : List ℕ → Field → Type 0

@@ -1,6 +1,7 @@
 -- The cells of a row as they are written, run by run.
-use Rattle.std.specs.Prelude.{ℕ, List, ◌∷◌, map, flat_map, replicate}
+use Rattle.std.specs.Prelude.{ℕ, List, ◌∷◌, map, flat_map, replicate, codes}
 use Rattle.std.specs.List.{join_with_byte}
+use Rattle.cell_core_values.specs.Letters.{byte}
 use Rattle.cell_core.specs.Grid.{CellValue}
 use Rattle.cell_core.specs.Text.{cell_text}
 
@@ -10,8 +11,8 @@ times n text = flat_map (λ t. t) (replicate n text)
 
 -- a space and a cell, for each cell
 abbrev pub spaced_cells : List ℕ → List CellValue → List ℕ
-spaced_cells null_text cells = flat_map (λ cell. 32 ∷ cell_text null_text cell) cells
+spaced_cells null_text cells = flat_map (λ cell. byte (codes " ") ∷ cell_text null_text cell) cells
 
 -- the cells, with a space between each two
 abbrev pub joined_cells : List ℕ → List CellValue → List ℕ
-joined_cells null_text cells = join_with_byte 32 (map (cell_text null_text) cells)
+joined_cells null_text cells = join_with_byte (byte (codes " ")) (map (cell_text null_text) cells)

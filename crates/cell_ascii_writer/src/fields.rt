@@ -1,6 +1,6 @@
 //! Fields of a grid text that were written before: each is made once, and then copied as eight bytes.
 
-ghost use Rattle.std.specs.Prelude.{◌≡◌, ◌+◌, ◌<◌, ◌≤◌, ◌∷◌, ◌++◌, ℕ, length, take, IfSome};
+ghost use Rattle.std.specs.Prelude.{◌≡◌, ◌+◌, ◌<◌, ◌≤◌, ◌∷◌, ◌++◌, ℕ, codes, length, take, IfSome};
 ghost use Rattle.std.specs.List.{All};
 ghost use Rattle.cell_core.specs.Text.{cell_text};
 ghost use Rattle.cell_ascii_writer.specs.Fields.{IsField, IsFieldOf, low_bytes};
@@ -56,7 +56,7 @@ fn place_of(cell: Cell) -> usize
 fn field_with(text: &[u8]) -> (u64, u32)
     requires { length text.now ≤ 7 }
     ensures size { result.1 ≡ length text.now + 1 }
-    ensures text { low_bytes result.0 result.1 ≡ 32 ∷ text.now }
+    ensures text { low_bytes result.0 result.1 ≡ codes " " ++ text.now }
 {
     let field = spaced(text);
     let [bytes] = u64x1::from_le_bytes(u8x8::from_slice(&field)).to_array();

@@ -2,6 +2,7 @@
 
 ghost use Rattle.std.specs.Prelude.{◌≡◌, ◌+◌, ◌<◌, ◌≤◌, ◌==◌, [], ◌∷◌, ◌++◌, codes, decimal, drop, flat_map, length, replicate, reverse, take, OnOk, IfOk, IfErr, is_err};
 ghost use Rattle.std.specs.List.{All, prefix_len};
+ghost use Rattle.cell_core_values.specs.Letters.{byte};
 ghost use Rattle.cell_core_devices.specs.Blocks.{Appends};
 ghost use Rattle.cell_core_devices.specs.Device.{append_known, after_put};
 ghost use Rattle.cell_core.specs.Grid.{row_at};
@@ -34,7 +35,7 @@ const MOST_FIELD: usize = 8;
 
 // How many zeros stand at the end.
 fn zeros_at_end(digits: &[u8]) -> usize
-    ensures count { result ≡ prefix_len (λ b. b == 48) (reverse digits.now) }
+    ensures count { result ≡ prefix_len (λ b. b == byte (codes "0")) (reverse digits.now) }
     ensures within { result ≤ length digits.now }
 {
     digits.iter().rev().take_while(|b| **b == b'0').count()
@@ -147,7 +148,7 @@ fn write_null_line<W: Sink>(out: &mut W, block: &mut Block, null_text: &[u8])
 // A space and a text, with spaces after them.
 pub(crate) fn spaced(text: &[u8]) -> [u8; FIELD]
     requires { length text.now ≤ 64 }
-    ensures { take (length text.now + 1) result ≡ 32 ∷ text.now }
+    ensures { take (length text.now + 1) result ≡ codes " " ++ text.now }
 {
     let mut field = [b' '; FIELD];
     field[1..=text.len()].copy_from_slice(text);
@@ -167,7 +168,7 @@ fn write_copies<W: Sink>(out: &mut W, block: &mut Block, field: &[u8], count: u3
 // Writes a space and a text, so many times.
 fn write_times<W: Sink>(out: &mut W, block: &mut Block, text: &[u8], count: u32)
     requires { length text.now ≤ 64 }
-    ensures { Appends W.taken W.faults out.old block.old (times count (32 ∷ text.now)) out.new block.new }
+    ensures { Appends W.taken W.faults out.old block.old (times count (codes " " ++ text.now)) out.new block.new }
 {
     let bytes = spaced(text);
     write_copies(out, block, &bytes[..text.len() + 1], count);

@@ -2,6 +2,7 @@
 use Rattle.std.specs.Prelude.{◌≡◌, ◌⊎◌, ℕ, zero, suc, ◌+◌, ◌-◌, Bool, ◌++◌, ◌||◌, ◌==◌, nat_le, nat_lt, List, [], ◌∷◌, length, take, map, find, codes, bytes_eq, nat_eq, Option, Result, Ok, Err, if◌then◌else◌}
 use Rattle.std.specs.List.{prefix_len, list_all, list_any, starts_with}
 use Rattle.std.specs.Option.{option_map, option_map_or, ok_or}
+use Rattle.cell_core_values.specs.Letters.{byte}
 use Rattle.cell_core_values.specs.Name.{is_name_byte, starts_name}
 use Rattle.cell_core_text.specs.Blanks.{is_blank}
 use Rattle.cell_core_text.specs.Digits.{is_digit, value_of_digits}
@@ -54,7 +55,7 @@ sign_of bytes = option_map (λ s. s.1) (find (λ s. bytes_eq s.0 bytes) signs)
 
 -- a point or an exponent, as numbers that are not whole have it
 abbrev pub is_float_byte : ℕ → Bool
-is_float_byte b = (b == 46 || b == 101) || b == 69
+is_float_byte b = (b == byte (codes ".") || b == byte (codes "e")) || b == byte (codes "E")
 
 -- what is wrong with a number that has other bytes than digits
 abbrev pub not_whole : List ℕ → CalcKind

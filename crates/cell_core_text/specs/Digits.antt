@@ -1,14 +1,15 @@
 -- Decimal digits and their value.
-use Rattle.std.specs.Prelude.{ℕ, ◌+◌, ◌-◌, ◌*◌, Bool, nat_le, ◌&&◌, List, [], ◌∷◌, fold, Option, Some, None, if◌then◌else◌}
+use Rattle.std.specs.Prelude.{ℕ, ◌+◌, ◌-◌, ◌*◌, Bool, nat_le, ◌&&◌, List, [], ◌∷◌, fold, Option, Some, None, if◌then◌else◌, codes}
 use Rattle.std.specs.List.{list_all}
+use Rattle.cell_core_values.specs.Letters.{byte}
 
 -- a decimal digit
 abbrev pub is_digit : ℕ → Bool
-is_digit b = nat_le 48 b && nat_le b 57
+is_digit b = nat_le (byte (codes "0")) b && nat_le b (byte (codes "9"))
 
 -- the value of decimal digits
 abbrev pub value_of_digits : List ℕ → ℕ
-value_of_digits bs = fold (λ n b. n * 10 + (b - 48)) 0 bs
+value_of_digits bs = fold (λ n b. n * 10 + (b - byte (codes "0"))) 0 bs
 
 -- the value of one or more digits
 abbrev pub digits_of : List ℕ → Option ℕ

@@ -40,7 +40,7 @@ count_fields format n = if format.counts then decimal n ∷ [] else []
 
 -- the fields joined by the separator, then a line feed
 abbrev pub line_text : FormatValue → List (List ℕ) → List ℕ
-line_text format fields = join_with_byte format.separator fields ++ 10 ∷ []
+line_text format fields = join_with_byte format.separator fields ++ codes "\n"
 
 -- the line of a pair: its combination, then its count
 abbrev pub pair_line : FormatValue → List Grid → List ℕ → Combination × ℕ → List ℕ

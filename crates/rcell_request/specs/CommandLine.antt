@@ -1,6 +1,7 @@
 -- What the words of a command line ask for: rcell SCRIPT NAME=PATH... (profile).
-use Rattle.std.specs.Prelude.{ℕ, Bool, false, List, [], ◌∷◌, ◌++◌, ◌==◌, ◌+◌, ◌&&◌, ◌||◌, drop, if◌then◌else◌, length, nat_lt, None, Option, Some, option_map}
+use Rattle.std.specs.Prelude.{ℕ, Bool, false, List, [], ◌∷◌, ◌++◌, ◌==◌, ◌+◌, ◌&&◌, ◌||◌, drop, if◌then◌else◌, length, nat_lt, None, Option, Some, option_map, codes}
 use Rattle.std.specs.List.{after_first, before_first, list_any}
+use Rattle.cell_core_values.specs.Letters.{byte}
 use Rattle.cell_core_values.specs.Name.{is_name}
 use Rattle.rcell_request.specs.declared.refusal.Refusal.{Refusal}
 use Rattle.rcell_request.specs.declared.refusal.Refusal.TheVariants.{GridWord, Usage}
@@ -8,16 +9,16 @@ use Rattle.rcell_request.specs.declared.refusal.Refusal.TheVariants.{GridWord, U
 -- a word that begins with a hyphen
 abbrev pub begins_with_hyphen : List ℕ → Bool
 begins_with_hyphen [] = false
-begins_with_hyphen (byte ∷ rest) = byte == 45
+begins_with_hyphen (b ∷ rest) = b == byte (codes "-")
 
 -- each name and the path of its grid, with an equals sign between them
 abbrev pub grid_words : List (List ℕ) → List (List ℕ) → List (List ℕ)
-grid_words (name ∷ names) (path ∷ paths) = (name ++ 61 ∷ path) ∷ grid_words names paths
+grid_words (name ∷ names) (path ∷ paths) = (name ++ codes "=" ++ path) ∷ grid_words names paths
 grid_words _ _ = []
 
 -- NAME=PATH: a name stands before the first equals sign, and something after it
 abbrev pub is_grid_word : List ℕ → Bool
-is_grid_word word = is_name (before_first (λ byte. byte == 61) word) && nat_lt 0 (length (after_first (λ byte. byte == 61) word))
+is_grid_word word = is_name (before_first (λ b. b == byte (codes "=")) word) && nat_lt 0 (length (after_first (λ b. b == byte (codes "=")) word))
 
 -- the place of the first of these words that is not NAME=PATH, if there is one, where they are counted from this place
 abbrev pub first_bad : ℕ → List (List ℕ) → Option ℕ
