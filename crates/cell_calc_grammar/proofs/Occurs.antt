@@ -38,12 +38,14 @@ tokens (Onward o) = left o
 -- the tokens are read as an operand, and where that stops, so does the outcome
 abbrev pub Found : List Placed → Outcome → Type 0
 Found us o =
-    (q : Outcome) × GrammarReads (Operand us) q × ((kind : CalcKind) (rest : List Placed) → q ≡ Stops kind rest → o ≡ Stops kind rest)
+    (q : Outcome) × GrammarReads (Operand us) q
+    × ((kind : CalcKind) (rest : List Placed) → q ≡ Stops kind rest → o ≡ Stops kind rest)
 
 -- so it is with each name before what is left
 abbrev FindsNames : (before rest : List Placed) → Outcome → Type 0
 FindsNames before rest o =
-    (b mid : List Placed) (name : List ℕ) (c : ℕ) → before ≡ b ++ name_at name c ∷ mid → Found (name_at name c ∷ (mid ++ rest)) o
+    (b mid : List Placed) (name : List ℕ) (c : ℕ) → before ≡ b ++ name_at name c ∷ mid
+    → Found (name_at name c ∷ (mid ++ rest)) o
 
 pub record Finds (ts rest : List Placed) (o : Outcome) : Type 0 where
   pub before : List Placed
@@ -59,9 +61,11 @@ IsNoStop (Stops kind rest) = ⊥
 IsNoStop _ = Unit {0}
 
 finds_nothing : {ts : List Placed} {o : Outcome} → Finds ts ts o
-finds_nothing = record { before = []; all = refl; finds = λ b mid name c e. absurd (not_nothing b (name_at name c) mid e) }
+finds_nothing =
+    record { before = []; all = refl; finds = λ b mid name c e. absurd (not_nothing b (name_at name c) mid e) }
 
-finds_after : (s : Placed) (l rest : List Placed) (o : Outcome) → IsNoName s.token → FindsNames l rest o → FindsNames (s ∷ l) rest o
+finds_after : (s : Placed) (l rest : List Placed) (o : Outcome) → IsNoName s.token → FindsNames l rest o
+    → FindsNames (s ∷ l) rest o
 finds_after s l rest o n f [] mid name c e =
     let same : s ≡ name_at name c = cc in
     absurd (subst (λ (x : Placed). IsNoName x.token) same n)
@@ -69,7 +73,8 @@ finds_after s l rest o n f (x ∷ b) mid name c e =
     let same : l ≡ b ++ name_at name c ∷ mid = cc in
     f b mid name c same
 
-finds_next : (s : Placed) {ts rest : List Placed} {o : Outcome} → IsNoName s.token → Finds ts rest o → Finds (s ∷ ts) rest o
+finds_next : (s : Placed) {ts rest : List Placed} {o : Outcome} → IsNoName s.token → Finds ts rest o
+    → Finds (s ∷ ts) rest o
 finds_next s {rest = rest} {o = o} n w =
     record { before = s ∷ w.before; all = ap (λ l. s ∷ l) w.all; finds = finds_after s w.before rest o n w.finds }
 
@@ -93,12 +98,15 @@ finds_then {rest = rest} {o = o} f g = record {
     go : (b mid : List Placed) (name : List ℕ) (c : ℕ) → Stays f.before g.before b (name_at name c) mid
         → Found (name_at name c ∷ (mid ++ rest)) o
     go b mid name c (in_first m e h) =
-        subst (λ l. Found (name_at name c ∷ l) o) (both_parts m g.before rest refl g.all ∙ ap (λ l. l ++ rest) (sym h)) (f.finds b m name c e)
+        subst (λ l. Found (name_at name c ∷ l) o) (both_parts m g.before rest refl g.all ∙ ap (λ l. l ++ rest) (sym h))
+        (f.finds b m name c e)
     go b mid name c (in_second m e h) = g.finds m mid name c e
 
 -- the first of the tokens is a name, which the outcome is read of
-finds_self : (s : Placed) {ts rest : List Placed} {o : Outcome} → GrammarReads (Operand (s ∷ ts)) o → Finds ts rest o → Finds (s ∷ ts) rest o
-finds_self s {ts = ts} {rest = rest} {o = o} r w = record { before = s ∷ w.before; all = ap (λ l. s ∷ l) w.all; finds = go }
+finds_self : (s : Placed) {ts rest : List Placed} {o : Outcome} → GrammarReads (Operand (s ∷ ts)) o → Finds ts rest o
+    → Finds (s ∷ ts) rest o
+finds_self s {ts = ts} {rest = rest} {o = o} r w =
+    record { before = s ∷ w.before; all = ap (λ l. s ∷ l) w.all; finds = go }
   where
     go : FindsNames (s ∷ w.before) rest o
     go [] mid name c e =
@@ -119,7 +127,8 @@ no_names_append : (ts us : List Placed) → AreNoNames ts → AreNoNames us → 
 no_names_append [] us h g = g
 no_names_append (s ∷ ts) us h g = (h.0, no_names_append ts us h.1 g)
 
-finds_no_names : (front : List Placed) {ts rest : List Placed} {o : Outcome} → ts ≡ front ++ rest → AreNoNames front → Finds ts rest o
+finds_no_names : (front : List Placed) {ts rest : List Placed} {o : Outcome} → ts ≡ front ++ rest → AreNoNames front
+    → Finds ts rest o
 finds_no_names front {rest = rest} {o = o} e h = record { before = front; all = e; finds = go front h }
   where
     go : (l : List Placed) → AreNoNames l → FindsNames l rest o
@@ -139,7 +148,8 @@ signed_names plus = (tt, tt)
 stop_names : {kind : CalcKind} {front rest : List Placed} → NoOffsets kind front rest → AreNoNames front
 stop_names (first h) = signed_names h.1
 stop_names (no_comma o n) = offset_names o
-stop_names (second {front = front} {mid = mid} c o h) = no_names_append front (sign_at Comma c ∷ mid) (offset_names o) (tt, signed_names h.1)
+stop_names (second {front = front} {mid = mid} c o h) =
+    no_names_append front (sign_at Comma c ∷ mid) (offset_names o) (tt, signed_names h.1)
 stop_names (no_bracket {front = front} {mid = mid} c o i n) =
     no_names_append front (sign_at Comma c ∷ mid) (offset_names o) (tt, offset_names i)
 
@@ -152,12 +162,16 @@ abbrev pub FindsOf : List Placed → Outcome → Type 0
 FindsOf ts o = Finds ts (left o) o
 
 finds_moved : (name : List ℕ) (c d : ℕ) (ts : List Placed) (p : PartOfExpression (ℤ × ℤ))
-    → GrammarReads (Operand (name_at name c ∷ sign_at OpenBracket d ∷ ts)) (move name c p) → IsPart AreBoth NoOffsets ts p
+    → GrammarReads (Operand (name_at name c ∷ sign_at OpenBracket d ∷ ts)) (move name c p)
+    → IsPart AreBoth NoOffsets ts p
     → FindsOf (name_at name c ∷ sign_at OpenBracket d ∷ ts) (move name c p)
-finds_moved name c d ts (Ok x) r h = finds_self (name_at name c) r (finds_next (sign_at OpenBracket d) tt (finds_no_names h.0 h.1 (offsets_names h.2)))
-finds_moved name c d ts (Err e) r h = finds_self (name_at name c) r (finds_next (sign_at OpenBracket d) tt (finds_no_names h.0 h.1 (stop_names h.2)))
+finds_moved name c d ts (Ok x) r h =
+    finds_self (name_at name c) r (finds_next (sign_at OpenBracket d) tt (finds_no_names h.0 h.1 (offsets_names h.2)))
+finds_moved name c d ts (Err e) r h =
+    finds_self (name_at name c) r (finds_next (sign_at OpenBracket d) tt (finds_no_names h.0 h.1 (stop_names h.2)))
 
-finds_closed : (c : ℕ) (ts : List Placed) (a : Term) (rest : List Placed) (t : Option Token) → head rest ≡ t → FindsOf ts (Got a rest)
+finds_closed : (c : ℕ) (ts : List Placed) (a : Term) (rest : List Placed) (t : Option Token) → head rest ≡ t
+    → FindsOf ts (Got a rest)
     → FindsOf (sign_at OpenParenthesis c ∷ ts) (after_bracket t a rest)
 finds_closed c ts a rest (Some (token.Sign CloseParenthesis)) e w =
     let f = front_is rest (token.Sign CloseParenthesis) e in
@@ -172,7 +186,8 @@ no_name _ op e = tt
 pub find : {s : State} {o : Outcome} → GrammarReads s o → FindsOf (tokens s) o
 find (reading.number {n = n} {c = c}) = finds_next (token_number_at n c) tt finds_nothing
 find (reading.map {name = name} {c = c} f) = finds_self (name_at name c) (reading.map f) finds_nothing
-find (reading.moved {name = name} {c = c} {d = d} {ts = ts}) = finds_moved name c d ts (reading.offsets ts) reading.moved (offsets_part ts)
+find (reading.moved {name = name} {c = c} {d = d} {ts = ts}) =
+    finds_moved name c d ts (reading.offsets ts) reading.moved (offsets_part ts)
 find (reading.called {o = Got a rest} f e r) = absurd (sound r)
 find (reading.called {name = name} {c = c} {d = d} {o = Stops kind rest} f e r) =
     finds_self (name_at name c) (reading.called f e r) (finds_next (sign_at OpenParenthesis d) tt (find r))
@@ -182,14 +197,17 @@ find (reading.called {name = name} {c = c} {d = d} {ts = ts} {o = GotAll xs rest
     opens : List Placed
     opens = name_at name c ∷ sign_at OpenParenthesis d ∷ []
 
-    go : (b : Bool) → GrammarReads (Operand (opens ++ ts)) (call_judged b f xs (opens ++ ts) rest) → FindsOf ts (GotAll xs rest)
+    go : (b : Bool) → GrammarReads (Operand (opens ++ ts)) (call_judged b f xs (opens ++ ts) rest)
+        → FindsOf ts (GotAll xs rest)
         → FindsOf (opens ++ ts) (call_judged b f xs (opens ++ ts) rest)
-    go true q w = finds_self (name_at name c) q (finds_next (sign_at OpenParenthesis d) tt (finds_any (GotAll xs rest) tt w))
+    go true q w =
+        finds_self (name_at name c) q (finds_next (sign_at OpenParenthesis d) tt (finds_any (GotAll xs rest) tt w))
     go false q w = finds_nothing
 find (reading.negated {c = c} {o = Got a rest} r) = finds_next (sign_at Minus c) tt (finds_any (Got a rest) tt (find r))
 find (reading.negated {o = GotAll xs rest} r) = absurd (sound r)
 find (reading.negated {c = c} {o = Stops kind rest} r) = finds_next (sign_at Minus c) tt (find r)
-find (reading.not {c = c} {o = Got a rest} r) = finds_next (sign_at Exclamation c) tt (finds_any (Got a rest) tt (find r))
+find (reading.not {c = c} {o = Got a rest} r) =
+    finds_next (sign_at Exclamation c) tt (finds_any (Got a rest) tt (find r))
 find (reading.not {o = GotAll xs rest} r) = absurd (sound r)
 find (reading.not {c = c} {o = Stops kind rest} r) = finds_next (sign_at Exclamation c) tt (find r)
 find (reading.inside {c = c} {ts = ts} {o = Got a rest} r) = finds_closed c ts a rest (head rest) refl (find r)
@@ -199,13 +217,16 @@ find (whole {o = Got a us} r m) = finds_then (finds_any (Got a us) tt (find r)) 
 find (whole {o = GotAll xs us} r m) = absurd (sound r)
 find (whole r stopped) = find r
 find (more {k = k} {s = s} {o = Got b us} op e r m) =
-    finds_next s (no_name s.token op (below_some k (operator_of s.token) op e).0) (finds_then (finds_any (Got b us) tt (find r)) (find m))
+    finds_next s (no_name s.token op (below_some k (operator_of s.token) op e).0)
+    (finds_then (finds_any (Got b us) tt (find r)) (find m))
 find (more {o = GotAll xs us} op e r m) = absurd (sound r)
-find (more {k = k} {s = s} op e r stopped) = finds_next s (no_name s.token op (below_some k (operator_of s.token) op e).0) (find r)
+find (more {k = k} {s = s} op e r stopped) =
+    finds_next s (no_name s.token op (below_some k (operator_of s.token) op e).0) (find r)
 find (expression {o = Got a us} r m) = finds_then (finds_any (Got a us) tt (find r)) (find m)
 find (expression {o = GotAll xs us} r m) = absurd (sound r)
 find (expression r unread) = find r
-find (asked {c = c} {o = Got a us} r m) = finds_next (sign_at Question c) tt (finds_then (finds_any (Got a us) tt (find r)) (find m))
+find (asked {c = c} {o = Got a us} r m) =
+    finds_next (sign_at Question c) tt (finds_then (finds_any (Got a us) tt (find r)) (find m))
 find (asked {o = GotAll xs us} r m) = absurd (sound r)
 find (asked {c = c} r unasked) = finds_next (sign_at Question c) tt (find r)
 find (otherwise {c = c} {o = Got a rest} r) = finds_next (sign_at Colon c) tt (finds_any (Got a rest) tt (find r))
@@ -218,6 +239,7 @@ find (arguments {o = GotAll xs us} r m) = absurd (sound r)
 find (arguments r halted) = find r
 find (reading.last {c = c}) = finds_next (sign_at CloseParenthesis c) tt finds_nothing
 find (reading.another {o = Got b rest} r) = absurd (sound r)
-find (reading.another {c = c} {o = GotAll xs rest} r) = finds_next (sign_at Comma c) tt (finds_any (GotAll xs rest) tt (find r))
+find (reading.another {c = c} {o = GotAll xs rest} r) =
+    finds_next (sign_at Comma c) tt (finds_any (GotAll xs rest) tt (find r))
 find (reading.another {c = c} {o = Stops kind rest} r) = finds_next (sign_at Comma c) tt (find r)
 find _ = finds_nothing

@@ -63,17 +63,20 @@ walks_weaken : {Q R : Option Place → Type 0} {p : Option Place} {ts rest : Lis
     → ((q : Option Place) → Q q → R q) → Walks Q p ts rest → Walks R p ts rest
 walks_weaken {p = p} f w = record { before = w.before; all = w.all; ends = f (walk p (shape w.before)) w.ends }
 
-walks_from : {Q : Option Place → Type 0} {p q : Option Place} {ts rest : List Placed} → p ≡ q → Walks Q q ts rest → Walks Q p ts rest
+walks_from : {Q : Option Place → Type 0} {p q : Option Place} {ts rest : List Placed} → p ≡ q → Walks Q q ts rest
+    → Walks Q p ts rest
 walks_from {Q = Q} {ts = ts} {rest = rest} e w = subst (λ x. Walks Q x ts rest) (sym e) w
 
-number_refused : (signed number : Place) → ((t : Token) → step signed t ≡ number_step number t) → (t : Option Token) → IsNoNumber t
+number_refused : (signed number : Place) → ((t : Token) → step signed t ≡ number_step number t) → (t : Option Token)
+    → IsNoNumber t
     → Refuses t (Some signed)
 number_refused signed number e None n = tt
 number_refused signed number e (Some (token.Number k)) n = absurd n
 number_refused signed number e (Some (token.Name k)) n = e (token.Name [])
 number_refused signed number e (Some (token.Sign s)) n = e (token.Sign s)
 
-start_refused : (begin signed number : Place) → ((t : Token) → step begin t ≡ offset_step signed number t) → (t : Option Token)
+start_refused : (begin signed number : Place) → ((t : Token) → step begin t ≡ offset_step signed number t)
+    → (t : Option Token)
     → IsNoNumber t → IsNot Minus t × IsNot Plus t → Refuses t (Some begin)
 start_refused begin signed number e None n q = tt
 start_refused begin signed number e (Some (token.Number k)) n q = absurd n
@@ -85,7 +88,8 @@ start_refused begin signed number e (Some (token.Sign s)) n q = e (token.Sign s)
 offset_refused : (begin signed number : Place) → ((t : Token) → step begin t ≡ offset_step signed number t)
     → ((t : Token) → step signed t ≡ number_step number t) → {front rest : List Placed} → NoOffset Expected front rest
     → Refuses (head rest) (walk (Some begin) (shape front))
-offset_refused begin signed number e g {rest = rest} (f, unsigned, q, none n) = start_refused begin signed number e (head rest) n (q refl)
+offset_refused begin signed number e g {rest = rest} (f, unsigned, q, none n) =
+    start_refused begin signed number e (head rest) n (q refl)
 offset_refused begin signed number e g {rest = rest} (f, minus, q, none n) =
     subst (Refuses (head rest)) (sym (e (token.Sign Minus))) (number_refused signed number g (head rest) n)
 offset_refused begin signed number e g {rest = rest} (f, plus, q, none n) =
@@ -105,9 +109,11 @@ bracket_refused st (Some _) n = refl
 offsets_refused : (st : List Frame) {front rest : List Placed} → NoOffsets Expected front rest
     → Refuses (head rest) (walk (Some (First st)) (shape front))
 offsets_refused st (first h) = offset_refused (First st) (FirstNumber st) (Between st) (λ t. refl) (λ t. refl) h
-offsets_refused st {rest = rest} (no_comma o n) = subst (Refuses (head rest)) (sym (first_makes st o)) (comma_refused st (head rest) n)
+offsets_refused st {rest = rest} (no_comma o n) =
+    subst (Refuses (head rest)) (sym (first_makes st o)) (comma_refused st (head rest) n)
 offsets_refused st {rest = rest} (second {front = front} {mid = mid} c o h) =
-    subst (Refuses (head rest)) (sym (comma_makes st c mid o)) (offset_refused (Second st) (SecondNumber st) (Last st) (λ t. refl) (λ t. refl) h)
+    subst (Refuses (head rest)) (sym (comma_makes st c mid o))
+    (offset_refused (Second st) (SecondNumber st) (Last st) (λ t. refl) (λ t. refl) h)
 offsets_refused st {rest = rest} (no_bracket {front = front} {mid = mid} c o i n) =
     subst (Refuses (head rest)) (sym (comma_makes st c mid o ∙ second_makes st i)) (bracket_refused st (head rest) n)
 
@@ -134,13 +140,16 @@ IsWalked (Whole k ts) o = (st : List Frame) → Walks (Ends st o) (Some (place.O
 IsWalked (More k o) p = (st : List Frame) (q : Option Place) → Ends st o q → Walks (Ends st p) q (left o) (left p)
 IsWalked (Expression ts) o = EndsQuiet o × ((st : List Frame) → Walks (Ends st o) (Some (place.Operand st)) ts (left o))
 IsWalked (Choice o) p =
-    EndsWhole o → EndsQuiet p × ((st : List Frame) (q : Option Place) → Ends st o q → Walks (Ends st p) q (left o) (left p))
+    EndsWhole o → EndsQuiet p
+    × ((st : List Frame) (q : Option Place) → Ends st o q → Walks (Ends st p) q (left o) (left p))
 IsWalked (AfterQuestion x o) p =
-    EndsQuiet o → EndsQuiet p × ((st : List Frame) (q : Option Place) → Ends (Choosing ∷ st) o q → Walks (Ends st p) q (left o) (left p))
+    EndsQuiet o → EndsQuiet p
+    × ((st : List Frame) (q : Option Place) → Ends (Choosing ∷ st) o q → Walks (Ends st p) q (left o) (left p))
 IsWalked (Called ts) o = (st : List Frame) → Walks (Ends st o) (Some (Opened st)) ts (left o)
 IsWalked (Arguments ts) o = (st : List Frame) → Walks (Ends st o) (Some (place.Operand (Argument ∷ st))) ts (left o)
 IsWalked (Onward o) p =
-    EndsQuiet o → (st : List Frame) (q : Option Place) → Ends (Argument ∷ st) o q → Walks (Ends st p) q (left o) (left p)
+    EndsQuiet o → (st : List Frame) (q : Option Place) → Ends (Argument ∷ st) o q
+    → Walks (Ends st p) q (left o) (left p)
 
 after_goes : (st : List Frame) (t : Option Token) → GoesAs st t (Some (After st))
 after_goes st None = tt
@@ -196,7 +205,8 @@ argument_refused st t n m _ e = refl
 pub top_refused : (s : Token) → ends_step [] (shape_of s) ≡ None
 top_refused s = refl
 
-walked_moved : (name : List ℕ) (c d : ℕ) (ts : List Placed) (p : PartOfExpression (ℤ × ℤ)) → IsPart AreBoth NoOffsets ts p
+walked_moved : (name : List ℕ) (c d : ℕ) (ts : List Placed) (p : PartOfExpression (ℤ × ℤ))
+    → IsPart AreBoth NoOffsets ts p
     → IsWalked (Operand (name_at name c ∷ sign_at OpenBracket d ∷ ts)) (move name c p)
 walked_moved name c d ts (Ok x) (front, e, h) = λ st.
     let goes = subst (GoesAs st (head x.1)) (sym (offsets_make st h)) (after_goes st (head x.1)) in
@@ -204,13 +214,16 @@ walked_moved name c d ts (Ok x) (front, e, h) = λ st.
 walked_moved name c d ts (Err (kind, rest)) (front, e, h) = λ st.
     let refused : Ends st (Stops kind rest) (walk (Some (First st)) (shape front)) = λ k.
     offsets_refused st (subst (λ x. NoOffsets x front rest) k h) in
-    walks_next (name_at name c) (walks_next (sign_at OpenBracket d) (record { before = front; all = e; ends = refused }))
+    walks_next (name_at name c)
+    (walks_next (sign_at OpenBracket d) (record { before = front; all = e; ends = refused }))
 
 walked_closed : (c : ℕ) (ts : List Placed) (a : Term) (rest : List Placed) (t : Option Token) → head rest ≡ t
-    → IsWalked (Expression ts) (Got a rest) → IsWalked (Operand (sign_at OpenParenthesis c ∷ ts)) (after_bracket t a rest)
+    → IsWalked (Expression ts) (Got a rest)
+    → IsWalked (Operand (sign_at OpenParenthesis c ∷ ts)) (after_bracket t a rest)
 walked_closed c ts a rest (Some (token.Sign CloseParenthesis)) e h = λ st.
     let f = front_is rest (token.Sign CloseParenthesis) e in
-    let closed : (q : Option Place) → GoesAs (Parenthesis ∷ st) (head rest) q → Walks (GoesAs st (head (tail rest))) q rest (tail rest) = λ q g.
+    let closed : (q : Option Place) → GoesAs (Parenthesis ∷ st) (head rest) q
+    → Walks (GoesAs st (head (tail rest))) q rest (tail rest) = λ q g.
     let goes = walks_here (after_goes st (head (tail rest))) in
     subst (λ l. Walks (GoesAs st (head (tail rest))) q l (tail rest)) (sym f.1)
     (walks_next (sign_at CloseParenthesis f.0) (walks_from (subst (λ t. GoesAs (Parenthesis ∷ st) t q) e g) goes)) in
@@ -219,7 +232,8 @@ walked_closed c ts a rest t e h = not_closed (subst (IsNot CloseParenthesis) (sy
   where
     not_closed : IsNot CloseParenthesis (head rest) → IsWalked (Operand (sign_at OpenParenthesis c ∷ ts)) (Stops Expected rest)
     not_closed n = λ st.
-        let refused : (q : Option Place) → GoesAs (Parenthesis ∷ st) (head rest) q → Expected ≡ Expected → Refuses (head rest) q = λ q g _.
+        let refused : (q : Option Place) → GoesAs (Parenthesis ∷ st) (head rest) q → Ends st
+        (Stops Expected rest) q = λ q g _.
         quiet_refused (Parenthesis ∷ st) (head rest) q h.0 g (parenthesis_refused st (head rest) n) in
         walks_next (sign_at OpenParenthesis c) (walks_weaken refused (h.1 (Parenthesis ∷ st)))
 
@@ -248,36 +262,47 @@ opened_as st (token.Sign CloseParenthesis) n = absurd (n refl)
 opened_as st _ n = refl
 
 opened_refused : (st : List Frame) (kind : CalcKind) (ts rest : List Placed) → IsNot CloseParenthesis (head ts)
-    → Walks (Ends st (Stops kind rest)) (Some (place.Operand (Argument ∷ st))) ts rest → Walks (Ends st (Stops kind rest)) (Some (Opened st)) ts rest
+    → Walks (Ends st (Stops kind rest)) (Some (place.Operand (Argument ∷ st))) ts rest
+    → Walks (Ends st (Stops kind rest)) (Some (Opened st)) ts rest
 opened_refused st kind ts rest n w = go w.before w.all w.ends
   where
-    here : (us : List Placed) → IsNot CloseParenthesis (head us) → Refuses (head us) (Some (place.Operand (Argument ∷ st)))
+    here : (us : List Placed) → IsNot CloseParenthesis (head us)
+        → Refuses (head us) (Some (place.Operand (Argument ∷ st)))
         → Refuses (head us) (Some (Opened st))
     here [] m r = tt
     here (s ∷ us) m r = opened_as st s.token m ∙ r
 
-    go : (before : List Placed) → ts ≡ before ++ rest → Ends st (Stops kind rest) (walk (Some (place.Operand (Argument ∷ st))) (shape before))
+    go : (before : List Placed) → ts ≡ before ++ rest
+        → Ends st (Stops kind rest) (walk (Some (place.Operand (Argument ∷ st))) (shape before))
         → Walks (Ends st (Stops kind rest)) (Some (Opened st)) ts rest
-    go [] e r = record { before = []; all = e; ends = λ k. here rest (subst (λ l. IsNot CloseParenthesis (head l)) e n) (r k) }
+    go [] e r =
+        record { before = []; all = e; ends = λ k. here rest (subst (λ l. IsNot CloseParenthesis (head l)) e n) (r k) }
     go (s ∷ before) e r =
         let same = opened_as st s.token (subst (λ l. IsNot CloseParenthesis (head l)) e n) in
         record { before = s ∷ before; all = e; ends = subst (λ q. Ends st (Stops kind rest) (walk q (shape before))) (sym same) r }
 
 pub walked : {s : State} {o : Outcome} → GrammarReads s o → IsWalked s o
-walked (reading.number {n = n} {c = c} {ts = ts}) = λ st. walks_next (token_number_at n c) (walks_here (after_goes st (head ts)))
-walked (reading.map {name = name} {c = c} {ts = ts} f) = λ st. walks_next (name_at name c) (walks_here (named_goes st (head ts) f))
-walked (reading.moved {name = name} {c = c} {d = d} {ts = ts}) = walked_moved name c d ts (reading.offsets ts) (offsets_part ts)
+walked (reading.number {n = n} {c = c} {ts = ts}) = λ st.
+    walks_next (token_number_at n c) (walks_here (after_goes st (head ts)))
+walked (reading.map {name = name} {c = c} {ts = ts} f) = λ st.
+    walks_next (name_at name c) (walks_here (named_goes st (head ts) f))
+walked (reading.moved {name = name} {c = c} {d = d} {ts = ts}) =
+    walked_moved name c d ts (reading.offsets ts) (offsets_part ts)
 walked (reading.unknown e) = λ st. walks_here (λ k. absurd (let n : ⊥ = cc in n))
 walked (reading.called {o = Got a rest} f e r) = absurd (sound r)
 walked (reading.called {name = name} {c = c} {d = d} {o = Stops kind rest} f e r) = λ st.
     walks_next (name_at name c) (walks_next (sign_at OpenParenthesis d) (walked r st))
-walked (reading.called {name = name} {c = c} {d = d} {ts = ts} {o = GotAll xs rest} f e r) = go (accepts f (count xs)) (walked r)
+walked (reading.called {name = name} {c = c} {d = d} {ts = ts} {o = GotAll xs rest} f e r) =
+    go (accepts f (count xs)) (walked r)
   where
     opens : List Placed
     opens = name_at name c ∷ sign_at OpenParenthesis d ∷ []
 
-    go : (b : Bool) → IsWalked (Called ts) (GotAll xs rest) → IsWalked (Operand (opens ++ ts)) (call_judged b f xs (opens ++ ts) rest)
-    go true w = λ st. walks_next (name_at name c) (walks_next (sign_at OpenParenthesis d) (walks_weaken (is_after st (head rest)) (w st)))
+    go : (b : Bool) → IsWalked (Called ts) (GotAll xs rest)
+        → IsWalked (Operand (opens ++ ts)) (call_judged b f xs (opens ++ ts) rest)
+    go true w = λ st.
+        walks_next (name_at name c)
+        (walks_next (sign_at OpenParenthesis d) (walks_weaken (is_after st (head rest)) (w st)))
     go false w = λ st. walks_here (λ k. absurd (let n : ⊥ = cc in n))
 walked (reading.negated {c = c} {o = Got a rest} r) = λ st. walks_next (sign_at Minus c) (walked r st)
 walked (reading.negated {o = GotAll xs rest} r) = absurd (sound r)
@@ -332,7 +357,9 @@ walked (arguments r m) =
 walked halted = λ i st q g. walks_here g
 walked (reading.last {c = c}) = λ i st q g. walks_next (sign_at CloseParenthesis c) (walks_from g (walks_here refl))
 walked (reading.another {o = Got b rest} r) = absurd (sound r)
-walked (reading.another {c = c} {o = GotAll xs rest} r) = λ i st q g. walks_next (sign_at Comma c) (walks_from g (walked r st))
-walked (reading.another {c = c} {o = Stops kind rest} r) = λ i st q g. walks_next (sign_at Comma c) (walks_from g (walked r st))
+walked (reading.another {c = c} {o = GotAll xs rest} r) = λ i st q g.
+    walks_next (sign_at Comma c) (walks_from g (walked r st))
+walked (reading.another {c = c} {o = Stops kind rest} r) = λ i st q g.
+    walks_next (sign_at Comma c) (walks_from g (walked r st))
 walked (unended {ts = ts} n m) = λ i st q g.
     walks_here (λ k. quiet_refused (Argument ∷ st) (head ts) q i g (argument_refused st (head ts) n m))

@@ -47,6 +47,11 @@ front_is (s ∷ ts) t e =
     let same : s.token ≡ t = cc in
     (s.column, ap (λ u. let x : List Placed = record { token = u; column = s.column } ∷ ts in x) same)
 
+-- two parts one after the other
+pub both_parts : {ts us : List Placed} (front mid rest : List Placed) → ts ≡ front ++ us → us ≡ mid ++ rest
+    → ts ≡ (front ++ mid) ++ rest
+both_parts front mid rest e f = e ∙ ap (λ l. front ++ l) f ∙ sym (append_assoc front mid rest)
+
 -- the sign before the number of an offset, or none, and what it makes of the number
 pub data Signed : (ℕ → ℤ) → List Placed → Type 0 where
   unsigned : Signed pos []
@@ -72,7 +77,8 @@ pub data NoOffsets : CalcKind → List Placed → List Placed → Type 0 where
   first : {kind : CalcKind} {front rest : List Placed} → NoOffset kind front rest → NoOffsets kind front rest
   no_comma : {front rest : List Placed} {down : ℤ} → IsOffset front down → IsNot Comma (head rest)
       → NoOffsets Expected front rest
-  second : {kind : CalcKind} {front mid rest : List Placed} {down : ℤ} (c : ℕ) → IsOffset front down → NoOffset kind mid rest
+  second : {kind : CalcKind} {front mid rest : List Placed} {down : ℤ} (c : ℕ) → IsOffset front down
+      → NoOffset kind mid rest
       → NoOffsets kind (front ++ sign_at Comma c ∷ mid) rest
   no_bracket : {front mid rest : List Placed} {down right : ℤ} (c : ℕ) → IsOffset front down → IsOffset mid right
       → IsNot CloseBracket (head rest) → NoOffsets Expected (front ++ sign_at Comma c ∷ mid) rest
@@ -109,7 +115,7 @@ signed_part {f = f} {front = front} s ts us e q = go (head us) refl
         by true le =
             let small : n ≤ 255 = grind (arith, nat_tests) in
             let number = token_number_at n g.0 in
-            (front ++ number ∷ [], e ∙ ap (λ l. front ++ l) g.1 ∙ sym (append_assoc front (number ∷ []) (tail us)), offset_of s n g.0 small)
+            (front ++ number ∷ [], both_parts front (number ∷ []) (tail us) e g.1, offset_of s n g.0 small)
         by false le =
             let large : 255 < n = grind (arith, nat_tests) in
             (front, e, (f, s, λ k. (λ m. cc, λ m. cc), subst (NoNumber BadOffset) (sym g.1) (far large)))
@@ -121,31 +127,41 @@ offset_part : (ts : List Placed) → IsPart IsOffset NoOffset ts (offset ts)
 offset_part ts = go (head ts) refl
   where
     go : (t : Option Token) → head ts ≡ t → IsPart IsOffset NoOffset ts (offset_at t ts)
-    go (Some (token.Sign Minus)) e = signed_part minus ts (tail ts) (front_is ts (token.Sign Minus) e).1 (λ _ k. absurd (let h : ⊥ = cc in h))
-    go (Some (token.Sign Plus)) e = signed_part plus ts (tail ts) (front_is ts (token.Sign Plus) e).1 (λ _ k. absurd (let h : ⊥ = cc in h))
-    go _ e = signed_part unsigned ts ts refl (λ n _. (subst (IsNot Minus) (sym e) (λ k. cc), subst (IsNot Plus) (sym e) (λ k. cc)))
+    go (Some (token.Sign Minus)) e =
+        signed_part minus ts (tail ts) (front_is ts (token.Sign Minus) e).1 (λ _ k. absurd (let h : ⊥ = cc in h))
+    go (Some (token.Sign Plus)) e =
+        signed_part plus ts (tail ts) (front_is ts (token.Sign Plus) e).1 (λ _ k. absurd (let h : ⊥ = cc in h))
+    go _ e =
+        signed_part unsigned ts ts refl
+        (λ n _. (subst (IsNot Minus) (sym e) (λ k. cc), subst (IsNot Plus) (sym e) (λ k. cc)))
 
 -- one part and then another
-part_then : {A B : Type 0} (P : List Placed → A → Type 0) (Q : List Placed → B → Type 0) (E F : CalcKind → List Placed → List Placed → Type 0)
+part_then : {A B : Type 0} (P : List Placed → A → Type 0) (Q : List Placed → B → Type 0)
+    (E F : CalcKind → List Placed → List Placed → Type 0)
     (ts : List Placed) (f : A → List Placed → PartOfExpression B)
     → ((kind : CalcKind) (front rest : List Placed) → E kind front rest → F kind front rest)
-    → ((x : A) (front us : List Placed) → P front x → IsPart (λ mid. Q (front ++ mid)) (λ kind mid. F kind (front ++ mid)) us (f x us))
+    → ((x : A) (front us : List Placed) → P front x → IsPart (λ mid. Q (front ++ mid))
+    (λ kind mid. F kind (front ++ mid)) us (f x us))
     → (p : PartOfExpression A) → IsPart P E ts p → IsPart Q F ts (read_then p f)
 part_then P Q E F ts f w g (Err e) h = (h.0, h.1, w e.0 h.0 e.1 h.2)
 part_then {B = B} P Q E F ts f w g (Ok x) h = go (f x.0 x.1) (g x.0 h.0 x.1 h.2)
   where
-    go : (q : PartOfExpression B) → IsPart (λ mid. Q (h.0 ++ mid)) (λ kind mid. F kind (h.0 ++ mid)) x.1 q → IsPart Q F ts q
-    go (Ok y) n = (h.0 ++ n.0, h.1 ∙ ap (λ l. h.0 ++ l) n.1 ∙ sym (append_assoc h.0 n.0 y.1), n.2)
-    go (Err y) n = (h.0 ++ n.0, h.1 ∙ ap (λ l. h.0 ++ l) n.1 ∙ sym (append_assoc h.0 n.0 y.1), n.2)
+    go : (q : PartOfExpression B) → IsPart (λ mid. Q (h.0 ++ mid)) (λ kind mid. F kind (h.0 ++ mid)) x.1 q
+        → IsPart Q F ts q
+    go (Ok y) n = (h.0 ++ n.0, both_parts h.0 n.0 y.1 h.1 n.1, n.2)
+    go (Err y) n = (h.0 ++ n.0, both_parts h.0 n.0 y.1 h.1 n.1, n.2)
 
 pub offsets_part : (ts : List Placed) → IsPart AreBoth NoOffsets ts (reading.offsets ts)
 offsets_part ts =
-    part_then IsOffset AreBoth NoOffset NoOffsets ts (λ down us. read_then (comma_at (head us) us) (λ _ vs. to_bracket down vs))
-    (λ kind front rest h. first h) (λ down front us o. comma down front us o (head us) refl) (offset ts) (offset_part ts)
+    part_then IsOffset AreBoth NoOffset NoOffsets ts
+    (λ down us. read_then (comma_at (head us) us) (λ _ vs. to_bracket down vs))
+    (λ kind front rest h. first h) (λ down front us o. comma down front us o (head us) refl) (offset ts)
+    (offset_part ts)
   where
     bracket : (down right : ℤ) (c : ℕ) (front mid us : List Placed) → IsOffset front down → IsOffset mid right
         → (t : Option Token) → head us ≡ t
-        → IsPart (λ l. AreBoth (front ++ sign_at Comma c ∷ (mid ++ l))) (λ kind l. NoOffsets kind (front ++ sign_at Comma c ∷ (mid ++ l)))
+        → IsPart (λ l. AreBoth (front ++ sign_at Comma c ∷ (mid ++ l)))
+        (λ kind l. NoOffsets kind (front ++ sign_at Comma c ∷ (mid ++ l)))
         us (read_then (bracket_at t us) (λ _ vs. Ok ((down, right), vs)))
     bracket down right c front mid us o i (Some (token.Sign CloseBracket)) e =
         let f = front_is us (token.Sign CloseBracket) e in
@@ -155,21 +171,27 @@ offsets_part ts =
         ([], refl, subst (λ l. NoOffsets Expected (front ++ sign_at Comma c ∷ l) us) (sym (append-nil mid)) stop)
 
     after : (down : ℤ) (c : ℕ) (front us : List Placed) → IsOffset front down
-        → IsPart (λ l. AreBoth (front ++ sign_at Comma c ∷ l)) (λ kind l. NoOffsets kind (front ++ sign_at Comma c ∷ l)) us (to_bracket down us)
+        → IsPart (λ l. AreBoth (front ++ sign_at Comma c ∷ l))
+        (λ kind l. NoOffsets kind (front ++ sign_at Comma c ∷ l)) us (to_bracket down us)
     after down c front us o =
-        part_then IsOffset (λ l. AreBoth (front ++ sign_at Comma c ∷ l)) NoOffset (λ kind l. NoOffsets kind (front ++ sign_at Comma c ∷ l)) us
-        (λ right vs. read_then (bracket_at (head vs) vs) (λ _ ws. Ok ((down, right), ws))) (λ kind l rest h. second c o h)
+        part_then IsOffset (λ l. AreBoth (front ++ sign_at Comma c ∷ l)) NoOffset
+        (λ kind l. NoOffsets kind (front ++ sign_at Comma c ∷ l)) us
+        (λ right vs. read_then (bracket_at (head vs) vs) (λ _ ws. Ok ((down, right), ws)))
+        (λ kind l rest h. second c o h)
         (λ right mid vs i. bracket down right c front mid vs o i (head vs) refl) (offset us) (offset_part us)
 
     comma : (down : ℤ) (front us : List Placed) → IsOffset front down → (t : Option Token) → head us ≡ t
-        → IsPart (λ l. AreBoth (front ++ l)) (λ kind l. NoOffsets kind (front ++ l)) us (read_then (comma_at t us) (λ _ vs. to_bracket down vs))
-    comma down front us o (Some (token.Sign Comma)) e = go (to_bracket down (tail us)) (after down f.0 front (tail us) o)
+        → IsPart (λ l. AreBoth (front ++ l)) (λ kind l. NoOffsets kind (front ++ l)) us
+        (read_then (comma_at t us) (λ _ vs. to_bracket down vs))
+    comma down front us o (Some (token.Sign Comma)) e =
+        go (to_bracket down (tail us)) (after down f.0 front (tail us) o)
       where
         f : (c : ℕ) × (us ≡ sign_at Comma c ∷ tail us)
         f = front_is us (token.Sign Comma) e
 
         go : (q : PartOfExpression (ℤ × ℤ))
-            → IsPart (λ l. AreBoth (front ++ sign_at Comma f.0 ∷ l)) (λ kind l. NoOffsets kind (front ++ sign_at Comma f.0 ∷ l)) (tail us) q
+            → IsPart (λ l. AreBoth (front ++ sign_at Comma f.0 ∷ l))
+            (λ kind l. NoOffsets kind (front ++ sign_at Comma f.0 ∷ l)) (tail us) q
             → IsPart (λ l. AreBoth (front ++ l)) (λ kind l. NoOffsets kind (front ++ l)) us q
         go (Ok y) n = (sign_at Comma f.0 ∷ n.0, f.1 ∙ ap (λ l. sign_at Comma f.0 ∷ l) n.1, n.2)
         go (Err y) n = (sign_at Comma f.0 ∷ n.0, f.1 ∙ ap (λ l. sign_at Comma f.0 ∷ l) n.1, n.2)
@@ -203,7 +225,8 @@ IsSound (Onward (Got a ts)) (GotAll xs rest) = (front : List Placed) → IsExpre
 IsSound s o = ⊥
 
 -- an operand that an operator goes on with, and what follows it
-pub goes_joined : (j k : ℕ) (s : Placed) (ts : List Placed) (op : Operator) {front us : List Placed} {a b : Term} → next k (s ∷ ts) ≡ Some op
+pub goes_joined : (j k : ℕ) (s : Placed) (ts : List Placed) (op : Operator) {front us : List Placed} {a b : Term}
+    → next k (s ∷ ts) ≡ Some op
     → next (pred j) (s ∷ ts) ≡ None → Stands j front a → Stands (level_of op) us b
     → Stands (suc (level_of op)) (front ++ s ∷ us) (Binary op a b) × (suc (level_of op) ≤ k)
 goes_joined j k s ts op {front = front} {a = a} e stop st su =
@@ -212,11 +235,8 @@ goes_joined j k s ts op {front = front} {a = a} e stop st su =
     let here_level = here.1 in
     (joined s op here.0 refl (raise j (suc (level_of op)) front a (omega arith) st) su, omega arith)
 
--- two parts one after the other
-pub both_parts : {ts us : List Placed} (front mid rest : List Placed) → ts ≡ front ++ us → us ≡ mid ++ rest → ts ≡ (front ++ mid) ++ rest
-both_parts front mid rest e f = e ∙ ap (λ l. front ++ l) f ∙ sym (append_assoc front mid rest)
-
-sound_moved : (name : List ℕ) (c d : ℕ) (ts : List Placed) (p : PartOfExpression (ℤ × ℤ)) → IsPart AreBoth NoOffsets ts p
+sound_moved : (name : List ℕ) (c d : ℕ) (ts : List Placed) (p : PartOfExpression (ℤ × ℤ))
+    → IsPart AreBoth NoOffsets ts p
     → IsSound (Operand (name_at name c ∷ sign_at OpenBracket d ∷ ts)) (move name c p)
 sound_moved name c d ts (Err e) h = tt
 sound_moved name c d ts (Ok x) h =
@@ -234,8 +254,10 @@ sound_closed c ts a rest _ e h = tt
 pub sound : {s : State} {o : Outcome} → GrammarReads s o → IsSound s o
 sound (reading.number {n = n} {c = c} {ts = ts}) = (token_number_at n c ∷ [], refl, grammar.number, next_zero ts)
 sound (reading.map {name = name} {c = c} {ts = ts} f) = (name_at name c ∷ [], refl, grammar.map, next_zero ts)
-sound (reading.moved {name = name} {c = c} {d = d} {ts = ts}) = sound_moved name c d ts (reading.offsets ts) (offsets_part ts)
-sound (reading.called {name = name} {c = c} {d = d} {ts = ts} {o = GotAll xs rest} f e r) = go (sound r) (accepts f (count xs)) refl
+sound (reading.moved {name = name} {c = c} {d = d} {ts = ts}) =
+    sound_moved name c d ts (reading.offsets ts) (offsets_part ts)
+sound (reading.called {name = name} {c = c} {d = d} {ts = ts} {o = GotAll xs rest} f e r) =
+    go (sound r) (accepts f (count xs)) refl
   where
     opens : List Placed
     opens = name_at name c ∷ sign_at OpenParenthesis d ∷ []
@@ -263,7 +285,8 @@ sound (more {k = k} {s = s} {ts = ts} {o = Got b us} {p = Got c rest} op e r m) 
     let h = sound r in
     let both = goes_joined j k s ts op e stop st h.2 in
     let n = sound m (suc (level_of op)) (front ++ s ∷ h.0) both.1 h.3 both.0 in
-    (s ∷ (h.0 ++ n.0), ap (λ l. s ∷ l) (both_parts h.0 n.0 rest h.1 n.1), subst (λ l. Stands k l c) (append_assoc front (s ∷ h.0) n.0) n.2, n.3)
+    let all = subst (λ l. Stands k l c) (append_assoc front (s ∷ h.0) n.0) n.2 in
+    (s ∷ (h.0 ++ n.0), ap (λ l. s ∷ l) (both_parts h.0 n.0 rest h.1 n.1), all, n.3)
 sound (more {p = Stops kind rest} op e r m) = tt
 sound (more op e r m) = absurd (sound m)
 sound (expression {o = Got a us} {p = Got b rest} r m) =

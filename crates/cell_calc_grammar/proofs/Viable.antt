@@ -53,14 +53,16 @@ pub record Viable (P : List Placed → Type 0) (ts : List Placed) (kind : CalcKi
   pub same : shape us ≡ shape (before ++ seg)
   pub goes : P (us ++ after)
 
-segment_after : (kind : CalcKind) (f before seg : List Placed) → IsSegment kind before seg → IsSegment kind (f ++ before) seg
+segment_after : (kind : CalcKind) (f before seg : List Placed) → IsSegment kind before seg
+    → IsSegment kind (f ++ before) seg
 segment_after BadOffset f before seg (n, c, e, over, (front, inner, rest, name, d, d', all, stop)) =
     let opens : List Placed = name_at name d ∷ sign_at OpenBracket d' ∷ inner in
     (n, c, e, over, (f ++ front, inner, rest, name, d, d', ap (λ l. f ++ l) all ∙ sym (append_assoc f front opens), stop))
 segment_after _ f before seg t = t
 
 -- after other tokens
-viable_after : (P Q : List Placed → Type 0) (f g : List Placed) {ts : List Placed} {kind : CalcKind} {rest : List Placed}
+viable_after : (P Q : List Placed → Type 0) (f g : List Placed) {ts : List Placed} {kind : CalcKind}
+    {rest : List Placed}
     → shape g ≡ shape f → ((l : List Placed) → P l → Q (g ++ l)) → Viable P ts kind rest → Viable Q (f ++ ts) kind rest
 viable_after P Q f g {kind = kind} {rest = rest} e w v = record {
   before = f ++ v.before;
@@ -124,17 +126,21 @@ zero_offset : IsOffset (token_number_at 0 0 ∷ []) (pos 0)
 zero_offset = IsOffset.plain (omega arith)
 
 zero_expression : IsExpression (token_number_at 0 0 ∷ []) (Term.Number 0)
-zero_expression = grammar.IsExpression.plain (raise zero top (token_number_at 0 0 ∷ []) (Term.Number 0) (omega arith) grammar.number)
+zero_expression =
+    grammar.IsExpression.plain (raise zero top (token_number_at 0 0 ∷ []) (Term.Number 0) (omega arith) grammar.number)
 
 -- a number makes what is read go on
-viable_number : (P : List Placed → Type 0) (front l : List Placed) {ts : List Placed} {kind : CalcKind} {rest : List Placed}
-    → NoNumber kind rest → (kind ≡ BadOffset → IsOpen front) → ts ≡ front ++ rest → P ((front ++ token_number_at 0 0 ∷ []) ++ l)
+viable_number : (P : List Placed → Type 0) (front l : List Placed) {ts : List Placed} {kind : CalcKind}
+    {rest : List Placed}
+    → NoNumber kind rest → (kind ≡ BadOffset → IsOpen front) → ts ≡ front ++ rest
+    → P ((front ++ token_number_at 0 0 ∷ []) ++ l)
     → Viable P ts kind rest
 viable_number P front l (none n) at e h =
     viable_front P front (token_number_at 0 0 ∷ l) e (subst P (append_assoc front (token_number_at 0 0 ∷ []) l) h)
 viable_number P front l (far {n = n} {c = c} {ts = us} g) at e h =
     let same = shape_append front (token_number_at 0 0 ∷ []) ∙ sym (shape_append front (token_number_at n c ∷ [])) in
-    viable_made P front (token_number_at n c ∷ []) us (front ++ token_number_at 0 0 ∷ []) l e (n, c, refl, g, at refl) same h
+    viable_made P front (token_number_at n c ∷ []) us (front ++ token_number_at 0 0 ∷ []) l e
+    (n, c, refl, g, at refl) same h
 
 abbrev SomeOf : ℕ → List Placed → Type 0
 SomeOf k l = (a : Term) × Stands k l a
@@ -176,7 +182,8 @@ offsets_go_on (second {front = front} {mid = mid} {down = down} c o (f, s, q, n)
     let number : List Placed = token_number_at 0 0 ∷ [] in
     let ends : List Placed = sign_at CloseBracket 0 ∷ [] in
     let both = grammar.offsets c 0 o (offset_of s 0 0 (omega arith)) in
-    let same = ap (λ l. l ++ ends) (append_assoc front (sign_at Comma c ∷ mid) number) ∙ append_assoc front (sign_at Comma c ∷ (mid ++ number)) ends in
+    let same = ap (λ l. l ++ ends) (append_assoc front (sign_at Comma c ∷ mid) number)
+    ∙ append_assoc front (sign_at Comma c ∷ (mid ++ number)) ends in
     inl (ends, (down, f 0, subst (λ l. AreOffsets l down (f 0)) (sym same) both), n)
 offsets_go_on (no_comma o n) =
     inr (refl, sign_at Comma 0 ∷ token_number_at 0 0 ∷ sign_at CloseBracket 0 ∷ [], (_, _, grammar.offsets 0 0 o zero_offset))
@@ -184,7 +191,8 @@ offsets_go_on (no_bracket {front = front} {mid = mid} {down = down} {right = rig
     let same = append_assoc front (sign_at Comma c ∷ mid) (sign_at CloseBracket 0 ∷ []) in
     inr (refl, sign_at CloseBracket 0 ∷ [], (down, right, subst (λ l. AreOffsets l down right) (sym same) (grammar.offsets c 0 o i)))
 
-viable_moved : (name : List ℕ) (c d : ℕ) (ts : List Placed) (p : PartOfExpression (ℤ × ℤ)) → IsPart AreBoth NoOffsets ts p
+viable_moved : (name : List ℕ) (c d : ℕ) (ts : List Placed) (p : PartOfExpression (ℤ × ℤ))
+    → IsPart AreBoth NoOffsets ts p
     → IsViable (Operand (name_at name c ∷ sign_at OpenBracket d ∷ ts)) (move name c p)
 viable_moved name c d ts (Ok x) h = tt
 viable_moved name c d ts (Err (kind, rest)) (front, e, stop) = go (offsets_go_on stop)
@@ -196,12 +204,15 @@ viable_moved name c d ts (Err (kind, rest)) (front, e, stop) = go (offsets_go_on
     made l h = (Term.Map name h.0 h.1 c, grammar.moved h.2)
 
     go : ((l : List Placed) × SomeOffsets ((front ++ token_number_at 0 0 ∷ []) ++ l) × NoNumber kind rest)
-        ⊎ ((kind ≡ Expected) × (l : List Placed) × SomeOffsets (front ++ l)) → Viable (SomeOf zero) (opens ++ ts) kind rest
+        ⊎ ((kind ≡ Expected) × (l : List Placed) × SomeOffsets (front ++ l))
+        → Viable (SomeOf zero) (opens ++ ts) kind rest
     go (inl (l, h, n)) =
-        let at : kind ≡ BadOffset → IsOpen (opens ++ front) = λ k. ([], front, rest, name, c, d, refl, subst (λ x. NoOffsets x front rest) k stop) in
+        let at : kind ≡ BadOffset → IsOpen (opens ++ front) = λ k.
+        ([], front, rest, name, c, d, refl, subst (λ x. NoOffsets x front rest) k stop) in
         viable_number (SomeOf zero) (opens ++ front) l n at (ap (λ l. opens ++ l) e) (made _ h)
     go (inr (k, l, h)) =
-        subst (λ x. Viable (SomeOf zero) (opens ++ ts) x rest) (sym k) (viable_front (SomeOf zero) (opens ++ front) l (ap (λ l. opens ++ l) e) (made _ h))
+        subst (λ x. Viable (SomeOf zero) (opens ++ ts) x rest) (sym k)
+        (viable_front (SomeOf zero) (opens ++ front) l (ap (λ l. opens ++ l) e) (made _ h))
 
 eval_takes : {ts : List Placed} {xs : Terms} → AreArguments ts xs → accepts Eval (count xs) ≡ true
 eval_takes (grammar.last c s) = refl
@@ -224,24 +235,30 @@ closing : (c d : ℕ) (l : List Placed) → SomeExpression l
     → SomeOf zero (sign_at OpenParenthesis c ∷ (l ++ sign_at CloseParenthesis d ∷ []))
 closing c d l h = (h.0, grammar.inside d h.1)
 
-viable_closed : (c : ℕ) (ts : List Placed) (a : Term) (rest : List Placed) (t : Option Token) → IsSound (Expression ts) (Got a rest)
+viable_closed : (c : ℕ) (ts : List Placed) (a : Term) (rest : List Placed) (t : Option Token)
+    → IsSound (Expression ts) (Got a rest)
     → IsViable (Operand (sign_at OpenParenthesis c ∷ ts)) (after_bracket t a rest)
 viable_closed c ts a rest (Some (token.Sign CloseParenthesis)) h = tt
 viable_closed c ts a rest _ h =
     let opens : List Placed = sign_at OpenParenthesis c ∷ h.0 in
-    viable_front (SomeOf zero) opens (sign_at CloseParenthesis 0 ∷ []) (ap (λ l. sign_at OpenParenthesis c ∷ l) h.1) (closing c 0 h.0 (a, h.2))
+    viable_front (SomeOf zero) opens (sign_at CloseParenthesis 0 ∷ []) (ap (λ l. sign_at OpenParenthesis c ∷ l) h.1)
+    (closing c 0 h.0 (a, h.2))
 
 pub viable : {s : State} {o : Outcome} → GrammarReads s o → IsViable s o
-viable (reading.moved {name = name} {c = c} {d = d} {ts = ts}) = viable_moved name c d ts (reading.offsets ts) (offsets_part ts)
+viable (reading.moved {name = name} {c = c} {d = d} {ts = ts}) =
+    viable_moved name c d ts (reading.offsets ts) (offsets_part ts)
 viable (reading.unknown {name = name} {c = c} {d = d} {ts = ts} e) =
     let call : List Placed = name_at (codes "null") c ∷ sign_at OpenParenthesis d ∷ [] in
-    viable_made (SomeOf zero) [] (name_at name c ∷ sign_at OpenParenthesis d ∷ []) ts call (sign_at CloseParenthesis 0 ∷ []) refl
+    viable_made (SomeOf zero) [] (name_at name c ∷ sign_at OpenParenthesis d ∷ []) ts call
+    (sign_at CloseParenthesis 0 ∷ []) refl
     (name, c, d, refl, e) refl (Term.Call Null NoTerms, grammar.called Null refl refl grammar.none)
 viable (reading.called {o = Got a rest} f e r) = absurd (sound r)
 viable (reading.called {name = name} {c = c} {d = d} {o = Stops kind rest} f e r) =
-    viable_after SomeArguments (SomeOf zero) (name_at name c ∷ sign_at OpenParenthesis d ∷ []) (name_at (codes "eval") c ∷ sign_at OpenParenthesis d ∷ [])
+    viable_after SomeArguments (SomeOf zero) (name_at name c ∷ sign_at OpenParenthesis d ∷ [])
+    (name_at (codes "eval") c ∷ sign_at OpenParenthesis d ∷ [])
     refl (call_of c d) (viable r)
-viable (reading.called {name = name} {c = c} {d = d} {ts = ts} {o = GotAll xs rest} f e r) = go (sound r) (accepts f (count xs)) refl
+viable (reading.called {name = name} {c = c} {d = d} {ts = ts} {o = GotAll xs rest} f e r) =
+    go (sound r) (accepts f (count xs)) refl
   where
     opens : List Placed
     opens = name_at name c ∷ sign_at OpenParenthesis d ∷ []
@@ -253,14 +270,17 @@ viable (reading.called {name = name} {c = c} {d = d} {ts = ts} {o = GotAll xs re
         let other = renamed c d h.0 xs h.2 in
         let call : List Placed = name_at other.0 c ∷ sign_at OpenParenthesis d ∷ h.0 in
         subst (λ l. Viable (SomeOf zero) (opens ++ ts) BadArguments (opens ++ l)) (sym h.1)
-        (viable_made (SomeOf zero) [] (opens ++ h.0) rest call [] (ap (λ l. opens ++ l) h.1) (name, f, xs, c, d, h.0, refl, e, h.2, a) refl
+        (viable_made (SomeOf zero) [] (opens ++ h.0) rest call [] (ap (λ l. opens ++ l) h.1)
+        (name, f, xs, c, d, h.0, refl, e, h.2, a) refl
         (subst (SomeOf zero) (sym (append-nil call)) other.1))
 viable (reading.negated {o = GotAll xs rest} r) = absurd (sound r)
 viable (reading.negated {c = c} {o = Stops kind rest} r) =
-    viable_after (SomeOf zero) (SomeOf zero) (sign_at Minus c ∷ []) (sign_at Minus c ∷ []) refl (λ l x. (Negated x.0, grammar.negated x.1)) (viable r)
+    viable_after (SomeOf zero) (SomeOf zero) (sign_at Minus c ∷ []) (sign_at Minus c ∷ []) refl
+    (λ l x. (Negated x.0, grammar.negated x.1)) (viable r)
 viable (reading.not {o = GotAll xs rest} r) = absurd (sound r)
 viable (reading.not {c = c} {o = Stops kind rest} r) =
-    viable_after (SomeOf zero) (SomeOf zero) (sign_at Exclamation c ∷ []) (sign_at Exclamation c ∷ []) refl (λ l x. (Not x.0, grammar.not x.1)) (viable r)
+    viable_after (SomeOf zero) (SomeOf zero) (sign_at Exclamation c ∷ []) (sign_at Exclamation c ∷ []) refl
+    (λ l x. (Not x.0, grammar.not x.1)) (viable r)
 viable (reading.inside {c = c} {ts = ts} {o = Got a rest} r) = viable_closed c ts a rest (head rest) (sound r)
 viable (reading.inside {o = GotAll xs rest} r) = absurd (sound r)
 viable (reading.inside {c = c} {o = Stops kind rest} r) =
@@ -280,11 +300,13 @@ viable (more {k = k} {s = s} {ts = ts} {o = Got b us} {p = Stops kind rest} op e
     let n = viable m (suc (level_of op)) (front ++ s ∷ h.0) both.1 h.3 both.0 in
     let P : List Placed → Type 0 = λ l. SomeOf k ((front ++ s ∷ h.0) ++ l) in
     viable_past (λ l. SomeOf k (front ++ l)) (s ∷ h.0) (ap (λ l. s ∷ l) h.1)
-    (viable_after P (λ l. SomeOf k (front ++ s ∷ (h.0 ++ l))) [] [] refl (λ l x. subst (SomeOf k) (append_assoc front (s ∷ h.0) l) x) n)
+    (viable_after P (λ l. SomeOf k (front ++ s ∷ (h.0 ++ l))) [] [] refl
+    (λ l x. subst (SomeOf k) (append_assoc front (s ∷ h.0) l) x) n)
 viable (more {o = GotAll xs us} op e r m) = absurd (sound r)
 viable (more {k = k} {s = s} {ts = ts} {p = Stops kind rest} op e r stopped) = λ j front le stop st.
     viable_after (SomeOf (level_of op)) (λ l. SomeOf k (front ++ l)) (s ∷ []) (s ∷ []) refl
-    (λ l x. let both = goes_joined j k s ts op e stop st x.1 in (_, raise (suc (level_of op)) k (front ++ s ∷ l) _ both.1 both.0)) (viable r)
+    (λ l x. let both = goes_joined j k s ts op e stop st x.1 in
+    (_, raise (suc (level_of op)) k (front ++ s ∷ l) _ both.1 both.0)) (viable r)
 viable (expression {o = Got a us} {p = Stops kind rest} r m) =
     let h = sound r in
     viable_past SomeExpression h.0 h.1 (viable m h.0 h.2)
@@ -293,19 +315,22 @@ viable (expression {p = Stops kind rest} r unread) =
     viable_after (SomeOf top) SomeExpression [] [] refl (λ l x. (x.0, grammar.IsExpression.plain x.1)) (viable r)
 viable (asked {c = c} {o = Got a us} {p = Stops kind rest} r m) = λ front st.
     let h = sound r in
-    viable_past (λ l. SomeExpression (front ++ l)) (sign_at Question c ∷ h.0) (ap (λ l. sign_at Question c ∷ l) h.1) (viable m front h.0 c st h.2)
+    viable_past (λ l. SomeExpression (front ++ l)) (sign_at Question c ∷ h.0) (ap (λ l. sign_at Question c ∷ l) h.1)
+    (viable m front h.0 c st h.2)
 viable (asked {o = GotAll xs us} r m) = absurd (sound r)
 viable (asked {c = c} {p = Stops kind rest} r unasked) = λ front st.
     let P : List Placed → Type 0 = λ l. SomeExpression (front ++ sign_at Question c ∷ l) in
     viable_past (λ l. SomeExpression (front ++ l)) (sign_at Question c ∷ []) refl
-    (viable_to SomeExpression P (sign_at Colon 0 ∷ token_number_at 0 0 ∷ []) (λ l y. (_, choice c 0 st y.1 zero_expression)) (viable r))
+    (viable_to SomeExpression P (sign_at Colon 0 ∷ token_number_at 0 0 ∷ [])
+    (λ l y. (_, choice c 0 st y.1 zero_expression)) (viable r))
 viable (no_colon {ts = ts} n) = λ front us c st ex.
     let P : List Placed → Type 0 = λ l. SomeExpression (front ++ sign_at Question c ∷ (us ++ l)) in
     viable_front P [] (sign_at Colon 0 ∷ token_number_at 0 0 ∷ []) refl (_, choice c 0 st ex zero_expression)
 viable (otherwise {o = GotAll xs us} r) = absurd (sound r)
 viable (otherwise {c = d} {o = Stops kind rest} r) = λ front us c st ex.
     let P : List Placed → Type 0 = λ l. SomeExpression (front ++ sign_at Question c ∷ (us ++ l)) in
-    viable_after SomeExpression P (sign_at Colon d ∷ []) (sign_at Colon d ∷ []) refl (λ l y. (_, choice c d st ex y.1)) (viable r)
+    viable_after SomeExpression P (sign_at Colon d ∷ []) (sign_at Colon d ∷ []) refl (λ l y. (_, choice c d st ex y.1))
+    (viable r)
 viable (reading.some {o = Stops kind rest} e r) = viable r
 viable (arguments {o = Got a us} {p = Stops kind rest} r m) =
     let h = sound r in

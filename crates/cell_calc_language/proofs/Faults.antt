@@ -152,17 +152,20 @@ stops_expected end name c d ts rest r can none = go rest refl
         let w = (walked r).1 [] in
         let one = one_before ts w.before (find r).before rest w.all (find r).all in
         let refused : step_on (walk (Some (place.Operand [])) (shape (find r).before)) (shape_of next.token) ≡ None =
-        subst (λ l. step_on (walk (Some (place.Operand [])) (shape l)) (shape_of next.token) ≡ None) one (subst (λ t. Refuses t (walk (Some (place.Operand [])) (shape w.before))) (ap head e) (w.ends refl)) in
+        subst (λ l. step_on (walk (Some (place.Operand [])) (shape l)) (shape_of next.token) ≡ None) one
+        (subst (λ t. Refuses t (walk (Some (place.Operand [])) (shape w.before))) (ap head e) (w.ends refl)) in
         subst (λ l. IsGrammarFault end l (token_fault Expected next.column)) (sym same)
         (unexpected end before more next can free (refused_after name c d (find r).before next refused) (subst IsNone same none))
 
 -- the fault is told later, at the last token of a segment
 stops_later : (end : ℕ) (name : List ℕ) (c d : ℕ) (ts : List Placed) (kind : CalcKind) (rest : List Placed)
     (r : GrammarReads (Expression ts) (Stops kind rest)) (extra more : List Placed) (next : Placed)
-    → rest ≡ (extra ++ next ∷ []) ++ more → ((q : List Placed) → Stops kind rest ≡ Stops BadOffset q → extra ≡ []) → HasNoBad extra
+    → rest ≡ (extra ++ next ∷ []) ++ more → ((q : List Placed) → Stops kind rest ≡ Stops BadOffset q → extra ≡ [])
+    → HasNoBad extra
     → CanGoOn (name_at name c ∷ sign_at Assign d ∷ ((find r).before ++ (extra ++ next ∷ [])))
     → (CanGoOn ((name_at name c ∷ sign_at Assign d ∷ ((find r).before ++ extra)) ++ next ∷ [])
-    → Tells kind (column_of end ((extra ++ next ∷ []) ++ more)) (name_at name c ∷ sign_at Assign d ∷ ((find r).before ++ extra)) next)
+    → Tells kind (column_of end ((extra ++ next ∷ []) ++ more))
+    (name_at name c ∷ sign_at Assign d ∷ ((find r).before ++ extra)) next)
     → IsNone (name_at name c ∷ sign_at Assign d ∷ ts) → IsFaultAt end (name_at name c ∷ sign_at Assign d ∷ ts) kind rest
 stops_later end name c d ts kind rest r extra more next e far free can told none =
     let opens : List Placed = name_at name c ∷ sign_at Assign d ∷ [] in
@@ -170,7 +173,8 @@ stops_later end name c d ts kind rest r extra more next e far free can told none
     let can' = subst CanGoOn (ap (λ l. opens ++ l) (sym (append_assoc (find r).before extra (next ∷ [])))) can in
     let at : rest ≡ extra ++ next ∷ more = e ∙ append_assoc extra (next ∷ []) more in
     let all : opens ++ ts ≡ before ++ next ∷ more =
-    ap (λ l. opens ++ l) ((find r).all ∙ ap (λ l. (find r).before ++ l) at ∙ sym (append_assoc (find r).before extra (next ∷ more))) in
+    ap (λ l. opens ++ l)
+    ((find r).all ∙ ap (λ l. (find r).before ++ l) at ∙ sym (append_assoc (find r).before extra (next ∷ more))) in
     let free' = none_in_assignment name c d r extra (next ∷ more) at far free in
     subst (λ k. IsGrammarFault end (opens ++ ts) (token_fault kind k)) (sym (ap (column_of end) e))
     (inl (before, more, next, all, told can', tells_none before (can_before before (next ∷ []) can') free'), none)
@@ -187,7 +191,8 @@ before_number : {front rest : List Placed} → NoOffsets BadOffset front rest �
 before_number (first h) = grammar_fault.first (offset_sign h.1)
 before_number (second c o h) = grammar_fault.second c o (offset_sign h.1)
 
-not_far : {A : Type 0} {kind : CalcKind} {rest q : List Placed} → (kind ≡ BadOffset → ⊥) → Stops kind rest ≡ Stops BadOffset q → A
+not_far : {A : Type 0} {kind : CalcKind} {rest q : List Placed} → (kind ≡ BadOffset → ⊥)
+    → Stops kind rest ≡ Stops BadOffset q → A
 not_far n e = absurd (n cc)
 
 -- by the segment that tells the fault
@@ -197,12 +202,15 @@ stops_as : (end : ℕ) (name : List ℕ) (c d : ℕ) (ts : List Placed) (kind : 
     → IsNone (name_at name c ∷ sign_at Assign d ∷ ts) → IsFaultAt end (name_at name c ∷ sign_at Assign d ∷ ts) kind rest
 stops_as end name c d ts Expected rest r seg more e told can none =
     let opens : List Placed = name_at name c ∷ sign_at Assign d ∷ [] in
-    stops_expected end name c d ts rest r (subst (λ l. CanGoOn (opens ++ l)) (ap (λ l. (find r).before ++ l) told ∙ append-nil (find r).before) can) none
+    stops_expected end name c d ts rest r
+    (subst (λ l. CanGoOn (opens ++ l)) (ap (λ l. (find r).before ++ l) told ∙ append-nil (find r).before) can) none
 stops_as end name c d ts UnknownFunction rest r seg more e (f, c', d', s, u) can none =
     let front : List Placed = name_at name c ∷ sign_at Assign d ∷ (find r).before in
     let same = append_assoc front (name_at f c' ∷ []) (sign_at OpenParenthesis d' ∷ []) in
-    stops_later end name c d ts UnknownFunction rest r (name_at f c' ∷ []) more (sign_at OpenParenthesis d') (e ∙ ap (λ l. l ++ more) s)
-    (λ q. not_far (λ k. cc)) (none_in_one (name_at f c')) (subst (λ l. CanGoOn (front ++ l)) s can) (λ can'. ((front, f, d', same, u), can')) none
+    stops_later end name c d ts UnknownFunction rest r (name_at f c' ∷ []) more (sign_at OpenParenthesis d')
+    (e ∙ ap (λ l. l ++ more) s)
+    (λ q. not_far (λ k. cc)) (none_in_one (name_at f c')) (subst (λ l. CanGoOn (front ++ l)) s can)
+    (λ can'. ((front, f, d', same, u), can')) none
 stops_as end name c d ts BadArguments rest r seg more e (f, g, xs, c', d', inside, s, u, h, a) can none =
     let z = called_end h in
     let front : List Placed = name_at name c ∷ sign_at Assign d ∷ (find r).before in
@@ -211,14 +219,19 @@ stops_as end name c d ts BadArguments rest r seg more e (f, g, xs, c', d', insid
     let seg' : seg ≡ (opens ++ z.0) ++ last ∷ [] = s ∙ ap (λ l. opens ++ l) z.2 in
     let call : (front ++ (opens ++ z.0)) ++ last ∷ [] ≡ front ++ (opens ++ inside) =
     append_assoc front (opens ++ z.0) (last ∷ []) ∙ ap (λ l. front ++ (opens ++ l)) (sym z.2) in
-    stops_later end name c d ts BadArguments rest r (opens ++ z.0) more last (e ∙ ap (λ l. l ++ more) seg') (λ q. not_far (λ k. cc))
-    (none_in_call f c' d' z.0 last g xs u (subst (λ l. grammar.AreCalled l xs) z.2 h) a) (subst (λ l. CanGoOn (front ++ l)) seg' can)
+    stops_later end name c d ts BadArguments rest r (opens ++ z.0) more last (e ∙ ap (λ l. l ++ more) seg')
+    (λ q. not_far (λ k. cc))
+    (none_in_call f c' d' z.0 last g xs u (subst (λ l. grammar.AreCalled l xs) z.2 h) a)
+    (subst (λ l. CanGoOn (front ++ l)) seg' can)
     (λ can'. ((front, inside, f, d', g, xs, call, u, h, a), can')) none
-stops_as end name c d ts BadOffset rest r seg more e (n, c', s, over, (open', inner, rest', f, d', d'', all, stop)) can none =
+stops_as end name c d ts BadOffset rest r seg more e
+    (n, c', s, over, (open', inner, rest', f, d', d'', all, stop)) can none =
     let opens : List Placed = name_at name c ∷ sign_at Assign d ∷ [] in
     let same = append-nil (opens ++ (find r).before) in
-    let inside : IsInBrackets (opens ++ (find r).before) = (opens ++ open', inner, f, d', d'', ap (λ l. opens ++ l) all, before_number stop) in
-    stops_later end name c d ts BadOffset rest r [] more (token_number_at n c') (e ∙ ap (λ l. l ++ more) s) (λ q k. refl) none_in_nothing
+    let inside : IsInBrackets (opens ++ (find r).before) =
+    (opens ++ open', inner, f, d', d'', ap (λ l. opens ++ l) all, before_number stop) in
+    stops_later end name c d ts BadOffset rest r [] more (token_number_at n c') (e ∙ ap (λ l. l ++ more) s)
+    (λ q k. refl) none_in_nothing
     (subst (λ l. CanGoOn (opens ++ ((find r).before ++ l))) s can)
     (λ can'. ((opens ++ ((find r).before ++ []), n, refl, over, subst IsInBrackets (sym same) inside), can')) none
 stops_as end name c d ts _ rest r seg more e told can none = absurd told

@@ -37,7 +37,8 @@ Total s = (o : Outcome) × GrammarReads s o
 abbrev Totals : ℕ → Type 0
 Totals n = (s : State) → Starts s → length (tokens s) < n → Total s
 
-is_term : {s : State} {o : Outcome} → ((xs : Terms) (rest : List Placed) → IsSound s (GotAll xs rest) → ⊥) → GrammarReads s o → IsTerm o
+is_term : {s : State} {o : Outcome} → ((xs : Terms) (rest : List Placed) → IsSound s (GotAll xs rest) → ⊥)
+    → GrammarReads s o → IsTerm o
 is_term {o = Got a rest} n r = tt
 is_term {o = GotAll xs rest} n r = n xs rest (sound r)
 is_term {o = Stops kind rest} n r = tt
@@ -58,7 +59,8 @@ rest_less : (s : Placed) (us : List Placed) (m : ℕ) → length (s ∷ us) < su
 rest_less s us m h = grind arith
 
 module _ (n : ℕ) (t : Totals n) where
-  called_at : (name : List ℕ) (c d : ℕ) (us : List Placed) → length us < n → (x : Option Function) → function_of name ≡ x
+  called_at : (name : List ℕ) (c d : ℕ) (us : List Placed) → length us < n → (x : Option Function)
+      → function_of name ≡ x
       → Total (Operand (name_at name c ∷ sign_at OpenParenthesis d ∷ us))
   called_at name c d us h None e = (_, reading.unknown e)
   called_at name c d us h (Some f) e =
@@ -75,7 +77,8 @@ module _ (n : ℕ) (t : Totals n) where
   named_total name c [] h = (_, reading.map (λ k. cc, λ k. cc))
   named_total name c (s ∷ us) h = named_at name c s.token s.column us (rest_less s us n (omega arith))
 
-  operand_at : (u : Token) (c : ℕ) (us : List Placed) → length us < n → Total (Operand (record { token = u; column = c } ∷ us))
+  operand_at : (u : Token) (c : ℕ) (us : List Placed) → length us < n
+      → Total (Operand (record { token = u; column = c } ∷ us))
   operand_at (token.Number m) c us h = (_, reading.number)
   operand_at (token.Name name) c us h = named_total name c us h
   operand_at (token.Sign Minus) c us h = let x = t (Operand us) tt h in (_, reading.negated x.1)
@@ -87,7 +90,8 @@ module _ (n : ℕ) (t : Totals n) where
   operand_total [] h = (_, nothing tt)
   operand_total (s ∷ us) h = operand_at s.token s.column us (rest_less s us n h)
 
-  joined_total : (k : ℕ) (a : Term) (s : Placed) (us : List Placed) → length us < n → (x : Option Operator) → next k (s ∷ us) ≡ x
+  joined_total : (k : ℕ) (a : Term) (s : Placed) (us : List Placed) → length us < n → (x : Option Operator)
+      → next k (s ∷ us) ≡ x
       → Total (More k (Got a (s ∷ us)))
   joined_total k a s us h None e = (_, done e)
   joined_total k a s us h (Some op) e =
