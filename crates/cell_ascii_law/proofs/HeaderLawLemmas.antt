@@ -34,14 +34,20 @@ with_values keys key (value ∷ other ∷ more) = Err BadHeader
 abbrev pub with_line : Keys → List (List ℕ) → Result Keys GridKind
 with_line keys line = with_values keys (header_key_of (key_text line)) (line_values line)
 
-abbrev pub after_key : Result Keys GridKind → (Keys → Option Grid) → Option Grid
+abbrev pub after_key : {Y : Type 0} → Result Keys GridKind → (Keys → Option Y) → Option Y
 after_key (Ok keys) rest = rest keys
 after_key (Err kind) rest = None
 
+-- the header lines, and then what is taken of the words of the data
+abbrev pub take_by : {Y : Type 0} → (Keys → List (List ℕ) → Option Y) → Keys → Lines → Option Y
+take_by take keys [] = take keys []
+take_by take keys ([] ∷ ls) = take_by take keys ls
+take_by take keys ((w ∷ ws) ∷ ls) =
+    if has_colon w then after_key (with_line keys (w ∷ ws)) (λ k. take_by take k ls) else take keys
+    (w ∷ (ws ++ all_words ls))
+
 abbrev pub take_text : Keys → Lines → Option Grid
-take_text keys [] = take_data keys []
-take_text keys ([] ∷ ls) = take_text keys ls
-take_text keys ((w ∷ ws) ∷ ls) = if has_colon w then after_key (with_line keys (w ∷ ws)) (λ k. take_text k ls) else take_data keys (w ∷ (ws ++ all_words ls))
+take_text = take_by take_data
 
 -- the data of an opened text
 abbrev pub read_opened : Opened → Result Grid GridFault
@@ -67,6 +73,22 @@ module _ (keys : Keys) (line : ℕ) where
       by : (r : Result Header GridKind) → header_of keys ≡ r → opened_by None header_ended r ≡ at_header r []
       by (Ok h) e = let good = sides h.region (header_given keys h e).good in grid_none h good.0 good.1 line
       by (Err kind) e = refl
+
+-- what ends the blanks behind a colon with no value behind it
+abbrev pub value_at : ℕ → Gap → Result (List ℕ × Coming) GridFault
+value_at line (Word d) = word_from line [] d
+value_at line (Feed run d) = Err (record { kind = BadHeader; line = line })
+value_at line Last = Err (record { kind = BadHeader; line = line })
+value_at line (Fault f) = Err f
+
+pub value_is : (line : ℕ) (c : Coming) → value_from line [] c ≡ value_at line (gap_of line 0 c)
+value_is line c = by (gap_of line 0 c) refl
+  where
+    by : (g : Gap) → gap_of line 0 c ≡ g → value_from line [] c ≡ value_at line g
+    by (Word d) e = rw e
+    by (Feed run d) e = rw e
+    by Last e = rw e
+    by (Fault f) e = rw e
 
 -- A header line behind its first word, where `rest` reads the lines behind it.
 module _ (rest : Keys → ℕ → ℕ → Coming → Result Opened GridFault) (line : ℕ) (keys : Keys) (key : Option Key)
@@ -103,25 +125,11 @@ module _ (rest : Keys → ℕ → ℕ → Coming → Result Opened GridFault) (l
   abbrev from_value : Result (List ℕ × Coming) GridFault → Option Grid
   from_value r = accepted (((r >>= (λ value. line_end line (gap_of line 0 value.1) >>= (λ end. at_line line (with_header_key keys key value.0) >>= (λ more. Ok (more, end))))) >>= after_line rest line) >>= read_opened)
 
-  abbrev value_at : Gap → Result (List ℕ × Coming) GridFault
-  value_at (Word d) = word_from line [] d
-  value_at (Feed run d) = Err (record { kind = BadHeader; line = line })
-  value_at Last = Err (record { kind = BadHeader; line = line })
-  value_at (Fault f) = Err f
-
-  pub value_is : (c : Coming) → value_from line [] c ≡ value_at (gap_of line 0 c)
-  value_is c = by (gap_of line 0 c) refl
-    where
-      by : (g : Gap) → gap_of line 0 c ≡ g → value_from line [] c ≡ value_at g
-      by (Word d) e = rw e
-      by (Feed run d) e = rw e
-      by Last e = rw e
-      by (Fault f) e = rw e
-
   line_is : (a : List ℕ) (bs : List ℕ) (f : Bool) → from_value (value_from line a (coming bs f)) ≡ option_and_then (λ ls. taken (filter is_token (a ∷ first_line ls)) ls) (lex 0 [] bs f)
   line_is (x ∷ xs) bs f = value_end (x ∷ xs) bs f
-  line_is [] bs f = ap from_value (value_is (coming bs f))
-      ∙ before_gap goes line (λ gap. from_value (value_at gap)) (λ e. refl) refl (λ b cs g word. next_word goes line from_value (λ e. refl) (λ x xs ds h. value_end (x ∷ xs) ds h) b cs g word)
+  line_is [] bs f = ap from_value (value_is line (coming bs f))
+      ∙ before_gap goes line (λ gap. from_value (value_at line gap)) (λ e. refl) refl
+      (λ b cs g word. next_word goes line from_value (λ e. refl) (λ x xs ds h. value_end (x ∷ xs) ds h) b cs g word)
       (λ run cs g low. sym (then_none (lex run [] cs g))) bs f 0 (omega arith)
     where
       goes : Lines → Option Grid

@@ -6,3 +6,4 @@ pub mod LimitLawLemmas
 pub mod GridCellLemmas
 pub mod TextLawLemmas
 pub mod GridLawLemmas
+pub mod HeaderReadLemmas

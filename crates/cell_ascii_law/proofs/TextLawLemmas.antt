@@ -16,7 +16,7 @@ use Rattle.cell_ascii_meaning.specs.declared.header_key.Key.TheVariants.{North, 
 use Rattle.cell_ascii_meaning.specs.declared.grid_fault.GridKind.{GridKind}
 use Rattle.cell_ascii_law.proofs.LexemeLemmas.{Lines}
 use Rattle.cell_ascii_law.proofs.DataLawLemmas.{all_words, whole_grid}
-use Rattle.cell_ascii_law.proofs.HeaderLawLemmas.{take_text, take_data, at_header, with_line, with_values, after_key}
+use Rattle.cell_ascii_law.proofs.HeaderLawLemmas.{take_by, take_text, take_data, at_header, with_line, with_values, after_key}
 use Rattle.cell_ascii_law.proofs.KeyLawLemmas.{Value, Number, Count, Text, held, number_of, IsGiven, key_given, key_known, key_taken, IsHeaderOf, header_given, header_kept}
 use Rattle.cell_ascii_law.proofs.GridCellLemmas.{cells_read, cells_taken}
 
@@ -35,23 +35,32 @@ no_data l = not (is_data_line l)
 one_more : (n : ℕ) → 1 + n ≡ suc n
 one_more n = omega arith
 
-text_parts : (ls : Lines) (keys : Keys) → take_text keys ls ≡ after_key (with_lines keys (header_lines ls)) (λ k. take_data k (data_words ls))
-text_parts [] keys = refl
-text_parts ([] ∷ ls) keys = text_parts ls keys ∙ ap (λ (n : ℕ). after_key (with_lines keys (filter is_header_line (take n ([] ∷ ls)))) (λ k. take_data k (flat_map (λ l. l) (drop n ([] ∷ ls))))) (sym (one_more (prefix_len no_data ls)))
-text_parts ((w ∷ ws) ∷ ls) keys = by (has_colon w) refl (text_parts ls)
+pub text_parts : {Y : Type 0} (take_words : Keys → List (List ℕ) → Option Y) (ls : Lines) (keys : Keys)
+    → take_by take_words keys ls ≡ after_key (with_lines keys (header_lines ls)) (λ k. take_words k (data_words ls))
+text_parts take_words [] keys = refl
+text_parts take_words ([] ∷ ls) keys =
+    text_parts take_words ls keys
+    ∙ ap (λ (n : ℕ). after_key (with_lines keys (filter is_header_line (take n ([] ∷ ls)))) (λ k. take_words k (flat_map (λ l. l) (drop n ([] ∷ ls))))) (sym (one_more (prefix_len no_data ls)))
+text_parts take_words ((w ∷ ws) ∷ ls) keys = by (has_colon w) refl (text_parts take_words ls)
   where
-    keyed : (r : Result Keys GridKind) → ((k : Keys) → take_text k ls ≡ after_key (with_lines k (header_lines ls)) (λ k. take_data k (data_words ls)))
-        → after_key r (λ k. take_text k ls) ≡ after_key (then_keys r (λ k. with_lines k (header_lines ls))) (λ k. take_data k (data_words ls))
+    keyed : (r : Result Keys GridKind)
+        → ((k : Keys) → take_by take_words k ls ≡ after_key (with_lines k (header_lines ls))
+        (λ k. take_words k (data_words ls)))
+        → after_key r (λ k. take_by take_words k ls) ≡ after_key (then_keys r (λ k. with_lines k (header_lines ls)))
+        (λ k. take_words k (data_words ls))
     keyed (Ok k) on = on k
     keyed (Err kind) on = refl
 
-    by : (t : Bool) → has_colon w ≡ t → ((k : Keys) → take_text k ls ≡ after_key (with_lines k (header_lines ls)) (λ k. take_data k (data_words ls)))
-        → (if t then after_key (with_line keys (w ∷ ws)) (λ k. take_text k ls) else take_data keys (w ∷ (ws ++ all_words ls)))
-        ≡ after_key (with_lines keys (filter is_header_line (take (cond (not (not t)) (1 + prefix_len no_data ls) 0) ((w ∷ ws) ∷ ls)))) (λ k. take_data k (flat_map (λ l. l) (drop (cond (not (not t)) (1 + prefix_len no_data ls) 0) ((w ∷ ws) ∷ ls))))
+    by : (t : Bool) → has_colon w ≡ t
+        → ((k : Keys) → take_by take_words k ls ≡ after_key (with_lines k (header_lines ls))
+        (λ k. take_words k (data_words ls)))
+        → (if t then after_key (with_line keys (w ∷ ws)) (λ k. take_by take_words k ls) else take_words keys
+        (w ∷ (ws ++ all_words ls)))
+        ≡ after_key (with_lines keys (filter is_header_line (take (cond (not (not t)) (1 + prefix_len no_data ls) 0) ((w ∷ ws) ∷ ls)))) (λ k. take_words k (flat_map (λ l. l) (drop (cond (not (not t)) (1 + prefix_len no_data ls) 0) ((w ∷ ws) ∷ ls))))
     by false e on = refl
     by true e on = keyed (with_line keys (w ∷ ws)) on
-        ∙ ap (λ (t : Bool). after_key (with_lines keys (cond t ((w ∷ ws) ∷ header_lines ls) (header_lines ls))) (λ k. take_data k (data_words ls))) (sym e)
-        ∙ ap (λ (n : ℕ). after_key (with_lines keys (filter is_header_line (take n ((w ∷ ws) ∷ ls)))) (λ k. take_data k (flat_map (λ l. l) (drop n ((w ∷ ws) ∷ ls))))) (sym (one_more (prefix_len no_data ls)))
+        ∙ ap (λ (t : Bool). after_key (with_lines keys (cond t ((w ∷ ws) ∷ header_lines ls) (header_lines ls))) (λ k. take_words k (data_words ls))) (sym e)
+        ∙ ap (λ (n : ℕ). after_key (with_lines keys (filter is_header_line (take n ((w ∷ ws) ∷ ls)))) (λ k. take_words k (flat_map (λ l. l) (drop n ((w ∷ ws) ∷ ls))))) (sym (one_more (prefix_len no_data ls)))
 
 -- The keys by their names.
 abbrev pub name_of : Key → List ℕ
@@ -339,7 +348,7 @@ module _ {X : Type 0} (wrap : X → Value) (same : (x y : X) → wrap x ≡ wrap
       by (Some y) s e = ap Some e
 
 -- header lines whose keys are those of a header are that header
-header_read : (ls : Lines) (k : Keys) (h : Header) → with_lines no_keys ls ≡ Ok k → IsHeaderOf k h → IsHeader ls h
+pub header_read : (ls : Lines) (k : Keys) (h : Header) → with_lines no_keys ls ≡ Ok k → IsHeaderOf k h → IsHeader ls h
 header_read ls k h e is = record {
   one_value = are.one_value;
   known = are.known;
@@ -417,7 +426,7 @@ header_taken ls h is = (
 
 -- What the words of the lines denote is a map with that header and those cells.
 pub text_read : (ls : Lines) (m : Grid) → take_text no_keys ls ≡ Some m → (h : Header) × IsHeader (header_lines ls) h × DenoteCells h (data_words ls) m × (m ≡ whole_grid h m.rows)
-text_read ls m e = by (with_lines no_keys (header_lines ls)) refl (sym (text_parts ls no_keys) ∙ e)
+text_read ls m e = by (with_lines no_keys (header_lines ls)) refl (sym (text_parts take_data ls no_keys) ∙ e)
   where
     last : (k : Keys) → with_lines no_keys (header_lines ls) ≡ Ok k → (r : Result Header GridKind) → header_of k ≡ r → at_header r (data_words ls) ≡ Some m
         → (h : Header) × IsHeader (header_lines ls) h × DenoteCells h (data_words ls) m × (m ≡ whole_grid h m.rows)
@@ -432,6 +441,7 @@ text_read ls m e = by (with_lines no_keys (header_lines ls)) refl (sym (text_par
 pub text_taken : (ls : Lines) (h : Header) (m : Grid) → IsHeader (header_lines ls) h → DenoteCells h (data_words ls) m → m.region ≡ h.region → m.labels ≡ no_labels → take_text no_keys ls ≡ Some m
 text_taken ls h m header cells region labels =
     let k = header_taken (header_lines ls) h header in
-    text_parts ls no_keys ∙ ap (λ (r : Result Keys GridKind). after_key r (λ k. take_data k (data_words ls))) k.1
+    text_parts take_data ls no_keys
+    ∙ ap (λ (r : Result Keys GridKind). after_key r (λ k. take_data k (data_words ls))) k.1
     ∙ ap (λ (r : Result Header GridKind). at_header r (data_words ls)) (header_kept k.0 h k.2)
     ∙ cells_taken h (data_words ls) m cells ∙ (λ i. Some (record { region = sym region i; rows = m.rows; labels = sym labels i }))

@@ -1,10 +1,17 @@
--- What the reading of a grid text answers: the map that the text denotes.
+-- What the reading of a grid text answers: the map that the text denotes, and the header that it has.
 use Rattle.std.specs.Prelude.{◌≡◌, ◌↔◌, Ok}
 use Rattle.cell_core_devices.specs.Device.{Coming}
 use Rattle.cell_core.specs.Grid.{Grid}
 use Rattle.cell_ascii_meaning.specs.CellTexts.{grid_of}
-use Rattle.cell_ascii_meaning.specs.GridText.{Denotes}
+use Rattle.cell_ascii_meaning.specs.GridText.{Denotes, IsHeader, header_lines, line_words}
+use Rattle.cell_ascii_meaning.specs.Header.{Opened, header_of_text}
 
 -- what is read of a text is a map exactly where the text denotes that map
 abbrev pub ReadingAgrees : Type 0
 ReadingAgrees = (c : Coming) (m : Grid) → (grid_of c ≡ Ok m) ↔ Denotes c m
+
+-- the header that is read of a text is the one that its header lines say, whatever the data are
+abbrev pub HeadersAgree : Type 0
+HeadersAgree =
+    (c : Coming) (o : Opened) → header_of_text c ≡ Ok o
+    → IsHeader (header_lines (line_words c.bytes)) o.header

@@ -1,9 +1,15 @@
 //! What the reading of a grid text means.
 
-ghost use Rattle.cell_ascii_law.specs.GridLaw.{ReadingAgrees};
+ghost use Rattle.cell_ascii_law.specs.GridLaw.{HeadersAgree, ReadingAgrees};
 
 /// The reading of a text gives a map exactly where the text denotes that map
 /// (r.in.ascii manual: header lines, then the cells row by row).
 pub fn reading_denotes()
     ensures { ReadingAgrees }
+{}
+
+/// The header that is read of a text is the one that its header lines say, also where the data are
+/// bad (r.in.ascii manual).
+pub fn opening_denotes()
+    ensures { HeadersAgree }
 {}

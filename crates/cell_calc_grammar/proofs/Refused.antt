@@ -1,26 +1,25 @@
 -- Where more is expected, the walk of the tokens by their shape ends too.
-use Rattle.std.proofs.Common.{◌≡◌, ℕ, ℤ, pos, neg_ℤ, List, [], ◌∷◌, ◌++◌, Option, Some, None, Ok, Err, Bool, true, false, refl, sym, ap, ◌∙◌, subst, append_assoc}
-use Rattle.std.specs.Prelude.{nat_le, nat_lt, if◌then◌else◌}
-use Rattle.cell_calc_tokens.specs.declared.calc_fault.CalcKind.TheVariants.{Expected, BadOffset}
-use Rattle.cell_calc_tokens.specs.declared.function.Function.{Function}
+use Rattle.std.proofs.Common.{◌≡◌, ℕ, ℤ, List, [], ◌∷◌, ◌++◌, Option, Some, None, Ok, Err, Bool, true, false, refl, sym, ap, ◌∙◌, subst}
+use Rattle.std.specs.Prelude.{nat_lt, if◌then◌else◌}
+use Rattle.cell_calc_tokens.specs.declared.calc_fault.CalcKind.{CalcKind}
+use Rattle.cell_calc_tokens.specs.declared.calc_fault.CalcKind.TheVariants.{Expected}
 use Rattle.cell_calc_tokens.specs.declared.operator.Operator.{Operator}
 use Rattle.cell_calc_tokens.specs.declared.operator.Operator.TheVariants.{Times}
 use Rattle.cell_calc_tokens.specs.declared.token.Placed.{Placed}
-use Rattle.cell_calc_tokens.specs.declared.token.Sign.{Sign}
 use Rattle.cell_calc_tokens.specs.declared.token.Sign.TheVariants.{Plus, Minus, Exclamation, Question, Colon, OpenParenthesis, CloseParenthesis, OpenBracket, CloseBracket, Comma}
 use Rattle.cell_calc_tokens.specs.declared.token.Token.{Token}
 use Rattle.cell_calc_tokens.specs.declared.token.Token.TheVariants as token
 use Rattle.cell_calc_tokens.specs.Function.{accepts}
 use Rattle.cell_calc_tokens.specs.Operator.{operator_of, level_of, top}
-use Rattle.cell_calc_grammar.specs.Grammar.{IsOffset}
 use Rattle.cell_calc_grammar.specs.TokensRead as reading
 use Rattle.cell_calc_grammar.specs.TokensRead.{PartOfExpression, tail, read_then, distance_at, distance, offset_signed, offset_at, offset, comma_at, bracket_at, to_bracket, Outcome, Got, GotAll, Stops, State, Operand, Whole, More, Expression, Choice, AfterQuestion, Called, Arguments, Onward, below_level, next, IsNot, IsAlone, BeginsNone, after_bracket, close, join, choose, move, call_judged, call, add, GrammarReads, nothing, whole, stopped, done, more, expression, unread, unchosen, asked, unasked, no_colon, otherwise, arguments, halted, unended}
 use Rattle.cell_calc_grammar.specs.Shape.{shape_of, shape}
-use Rattle.cell_calc_grammar.specs.Term.{Term, Negated, Not, count}
+use Rattle.cell_calc_grammar.specs.Term.{Term, count}
 use Rattle.cell_calc_tokens.specs.Token.{token_number_at, name_at, sign_at, head}
-use Rattle.cell_calc_grammar.proofs.Sound.{below_some, front_is, IsPartOf, sound_offset, sound_offsets, AreBoth, IsSign, sound_comma, mapped, IsSound, sound}
+use Rattle.cell_calc_grammar.proofs.Occurs.{left}
+use Rattle.cell_calc_grammar.proofs.Sound.{below_some, front_is, unsigned, minus, plus, IsNoNumber, none, NoOffset, NoOffsets, first, no_comma, second, no_bracket, IsPart, AreBoth, offsets_part, both_parts, IsSound, sound}
 use Rattle.cell_calc_grammar.proofs.Walk as place
-use Rattle.cell_calc_grammar.proofs.Walk.{Frame, Parenthesis, Argument, Choosing, Place, First, FirstNumber, Between, Second, SecondNumber, Last, Opened, Named, After, operand_step, ends_step, asks_step, joins_step, after_step, named_step, opened_step, offset_step, number_step, step, step_on, walk, walk_both, operator_shape, operator_after, named_alone, opened_walk, first_makes, second_makes, offsets_make}
+use Rattle.cell_calc_grammar.proofs.Walk.{Frame, Parenthesis, Argument, Choosing, Place, First, FirstNumber, Between, Second, SecondNumber, Last, Opened, Named, After, operand_step, ends_step, asks_step, joins_step, after_step, named_step, opened_step, offset_step, number_step, step, step_on, walk, walk_both, operator_shape, operator_after, named_alone, opened_walk, first_makes, comma_makes, second_makes, offsets_make}
 
 -- the place is one after an operand, for this next token
 abbrev pub GoesAs : List Frame → Option Token → Option Place → Type 0
@@ -43,170 +42,114 @@ pub record Walks (Q : Option Place → Type 0) (p : Option Place) (ts rest : Lis
   pub all : ts ≡ before ++ rest
   pub ends : Q (walk p (shape before))
 
-walks_here : (Q : Option Place → Type 0) (p : Option Place) (ts : List Placed) → Q p → Walks Q p ts ts
-walks_here Q p ts h = record { before = []; all = refl; ends = h }
+walks_here : {Q : Option Place → Type 0} {p : Option Place} {ts : List Placed} → Q p → Walks Q p ts ts
+walks_here h = record { before = []; all = refl; ends = h }
 
-walks_next : (Q : Option Place → Type 0) (p : Option Place) (s : Placed) (ts rest : List Placed) → Walks Q (step_on p (shape_of s.token)) ts rest → Walks Q p (s ∷ ts) rest
-walks_next Q p s ts rest w = record { before = s ∷ w.before; all = ap (λ l. s ∷ l) w.all; ends = w.ends }
+walks_next : {Q : Option Place → Type 0} {p : Option Place} (s : Placed) {ts rest : List Placed}
+    → Walks Q (step_on p (shape_of s.token)) ts rest → Walks Q p (s ∷ ts) rest
+walks_next s w = record { before = s ∷ w.before; all = ap (λ l. s ∷ l) w.all; ends = w.ends }
 
-walks_then : (Q R : Option Place → Type 0) (p : Option Place) (ts us rest : List Placed) → Walks Q p ts us → ((q : Option Place) → Q q → Walks R q us rest) → Walks R p ts rest
-walks_then Q R p ts us rest w f =
+walks_then : {Q R : Option Place → Type 0} {p : Option Place} {ts us rest : List Placed}
+    → Walks Q p ts us → ((q : Option Place) → Q q → Walks R q us rest) → Walks R p ts rest
+walks_then {R = R} {p = p} {rest = rest} w f =
     let v = f (walk p (shape w.before)) w.ends in
     record {
       before = w.before ++ v.before;
-      all = w.all ∙ ap (λ l. w.before ++ l) v.all ∙ sym (append_assoc w.before v.before rest);
+      all = both_parts w.before v.before rest w.all v.all;
       ends = subst R (sym (walk_both p w.before v.before)) v.ends;
     }
 
-walks_front : (Q : Option Place → Type 0) (p q : Option Place) (ts front us rest : List Placed) → ts ≡ front ++ us → walk p (shape front) ≡ q → Walks Q q us rest → Walks Q p ts rest
-walks_front Q p q ts front us rest e f w = record {
-  before = front ++ w.before;
-  all = e ∙ ap (λ l. front ++ l) w.all ∙ sym (append_assoc front w.before rest);
-  ends = subst Q (sym (walk_both p front w.before ∙ ap (λ x. walk x (shape w.before)) f)) w.ends;
-}
+walks_weaken : {Q R : Option Place → Type 0} {p : Option Place} {ts rest : List Placed}
+    → ((q : Option Place) → Q q → R q) → Walks Q p ts rest → Walks R p ts rest
+walks_weaken {p = p} f w = record { before = w.before; all = w.all; ends = f (walk p (shape w.before)) w.ends }
 
-walks_weaken : (Q R : Option Place → Type 0) (p : Option Place) (ts rest : List Placed) → ((q : Option Place) → Q q → R q) → Walks Q p ts rest → Walks R p ts rest
-walks_weaken Q R p ts rest f w = record { before = w.before; all = w.all; ends = f (walk p (shape w.before)) w.ends }
+walks_from : {Q : Option Place → Type 0} {p q : Option Place} {ts rest : List Placed} → p ≡ q → Walks Q q ts rest
+    → Walks Q p ts rest
+walks_from {Q = Q} {ts = ts} {rest = rest} e w = subst (λ x. Walks Q x ts rest) (sym e) w
 
-walks_from : (Q : Option Place → Type 0) (p q : Option Place) (ts rest : List Placed) → p ≡ q → Walks Q q ts rest → Walks Q p ts rest
-walks_from Q p q ts rest e w = subst (λ x. Walks Q x ts rest) (sym e) w
+number_refused : (signed number : Place) → ((t : Token) → step signed t ≡ number_step number t) → (t : Option Token)
+    → IsNoNumber t
+    → Refuses t (Some signed)
+number_refused signed number e None n = tt
+number_refused signed number e (Some (token.Number k)) n = absurd n
+number_refused signed number e (Some (token.Name k)) n = e (token.Name [])
+number_refused signed number e (Some (token.Sign s)) n = e (token.Sign s)
 
--- a part that is refused
-abbrev WalksPart : {A : Type 0} → Option Place → List Placed → PartOfExpression A → Type 0
-WalksPart p ts (Ok x) = Unit {0}
-WalksPart p ts (Err e) = e.0 ≡ Expected → Walks (Refuses (head e.1)) p ts e.1
+start_refused : (begin signed number : Place) → ((t : Token) → step begin t ≡ offset_step signed number t)
+    → (t : Option Token)
+    → IsNoNumber t → IsNot Minus t × IsNot Plus t → Refuses t (Some begin)
+start_refused begin signed number e None n q = tt
+start_refused begin signed number e (Some (token.Number k)) n q = absurd n
+start_refused begin signed number e (Some (token.Name k)) n q = e (token.Name [])
+start_refused begin signed number e (Some (token.Sign Minus)) n q = absurd (q.0 refl)
+start_refused begin signed number e (Some (token.Sign Plus)) n q = absurd (q.1 refl)
+start_refused begin signed number e (Some (token.Sign s)) n q = e (token.Sign s)
 
-not_far : {A : Type 0} → BadOffset ≡ Expected → A
-not_far e = let h : ⊥ = cc in absurd h
+offset_refused : (begin signed number : Place) → ((t : Token) → step begin t ≡ offset_step signed number t)
+    → ((t : Token) → step signed t ≡ number_step number t) → {front rest : List Placed} → NoOffset Expected front rest
+    → Refuses (head rest) (walk (Some begin) (shape front))
+offset_refused begin signed number e g {rest = rest} (f, unsigned, q, none n) =
+    start_refused begin signed number e (head rest) n (q refl)
+offset_refused begin signed number e g {rest = rest} (f, minus, q, none n) =
+    subst (Refuses (head rest)) (sym (e (token.Sign Minus))) (number_refused signed number g (head rest) n)
+offset_refused begin signed number e g {rest = rest} (f, plus, q, none n) =
+    subst (Refuses (head rest)) (sym (e (token.Sign Plus))) (number_refused signed number g (head rest) n)
 
-distance_refused : (p : Place) (number : Place) → ((t : Token) → step p t ≡ number_step number t) → (ts : List Placed) → WalksPart (Some p) ts (distance ts)
-distance_refused p number e ts = go (head ts) refl
-  where
-    here : (t : Option Token) → head ts ≡ t → Refuses t (Some p) → WalksPart {A = ℕ} (Some p) ts (Err (Expected, ts))
-    here t f h = λ k. walks_here (Refuses (head ts)) (Some p) ts (subst (λ x. Refuses x (Some p)) (sym f) h)
+comma_refused : (st : List Frame) (t : Option Token) → IsNot Comma t → Refuses t (Some (Between st))
+comma_refused st None n = tt
+comma_refused st (Some (token.Sign Comma)) n = absurd (n refl)
+comma_refused st (Some _) n = refl
 
-    go : (t : Option Token) → head ts ≡ t → WalksPart (Some p) ts (distance_at t ts)
-    go None f = here None f tt
-    go (Some (token.Number n)) f = far (nat_le n 255)
-      where
-        far : (b : Bool) → WalksPart {A = ℕ} (Some p) ts (if b then Ok (n, tail ts) else Err (BadOffset, ts))
-        far true = tt
-        far false = λ k. not_far k
-    go (Some (token.Name n)) f = here (Some (token.Name n)) f (e (token.Name []))
-    go (Some (token.Sign s)) f = here (Some (token.Sign s)) f (e (token.Sign s))
+bracket_refused : (st : List Frame) (t : Option Token) → IsNot CloseBracket t → Refuses t (Some (Last st))
+bracket_refused st None n = tt
+bracket_refused st (Some (token.Sign CloseBracket)) n = absurd (n refl)
+bracket_refused st (Some _) n = refl
 
-signed_refused : (f : ℕ → ℤ) (p : Option Place) (ts : List Placed) (q : PartOfExpression ℕ) → WalksPart p ts q → WalksPart p ts (offset_signed f q)
-signed_refused f p ts (Ok x) h = tt
-signed_refused f p ts (Err e) h = h
+-- where offsets stop the next token cannot come
+offsets_refused : (st : List Frame) {front rest : List Placed} → NoOffsets Expected front rest
+    → Refuses (head rest) (walk (Some (First st)) (shape front))
+offsets_refused st (first h) = offset_refused (First st) (FirstNumber st) (Between st) (λ t. refl) (λ t. refl) h
+offsets_refused st {rest = rest} (no_comma o n) =
+    subst (Refuses (head rest)) (sym (first_makes st o)) (comma_refused st (head rest) n)
+offsets_refused st {rest = rest} (second {front = front} {mid = mid} c o h) =
+    subst (Refuses (head rest)) (sym (comma_makes st c mid o))
+    (offset_refused (Second st) (SecondNumber st) (Last st) (λ t. refl) (λ t. refl) h)
+offsets_refused st {rest = rest} (no_bracket {front = front} {mid = mid} c o i n) =
+    subst (Refuses (head rest)) (sym (comma_makes st c mid o ∙ second_makes st i)) (bracket_refused st (head rest) n)
 
-offset_refused : (p signed' number : Place) → ((t : Token) → step p t ≡ offset_step signed' number t) → ((t : Token) → step signed' t ≡ number_step number t) → (ts : List Placed) → WalksPart (Some p) ts (offset ts)
-offset_refused p signed' number e f ts = go (head ts) refl
-  where
-    after : (s : Sign) → step p (token.Sign s) ≡ Some signed' → head ts ≡ Some (token.Sign s) → (g : ℕ → ℤ) → WalksPart (Some p) ts (offset_signed g (distance (tail ts)))
-    after s k h g = signed_refused g (Some p) ts (distance (tail ts)) (from (distance (tail ts)) (distance_refused signed' number f (tail ts)))
-      where
-        from : (q : PartOfExpression ℕ) → WalksPart (Some signed') (tail ts) q → WalksPart (Some p) ts q
-        from (Ok x) w = tt
-        from (Err x) w = λ m.
-            let at = front_is ts (token.Sign s) h in
-            walks_front (Refuses (head x.1)) (Some p) (Some signed') ts (sign_at s at.0 ∷ []) (tail ts) x.1 at.1 k (w m)
+-- what holds of the place that the tokens are walked to, by the outcome
+abbrev pub Ends : List Frame → Outcome → Option Place → Type 0
+Ends st (Got a rest) p = GoesAs st (head rest) p
+Ends st (GotAll xs rest) p = p ≡ Some (After st)
+Ends st (Stops kind rest) p = kind ≡ Expected → Refuses (head rest) p
 
-    here : (t : Option Token) → head ts ≡ t → Refuses t (Some p) → WalksPart {A = ℤ} (Some p) ts (Err (Expected, ts))
-    here t h r = λ k. walks_here (Refuses (head ts)) (Some p) ts (subst (λ x. Refuses x (Some p)) (sym h) r)
+-- the next token after an expression neither joins nor asks
+abbrev pub EndsQuiet : Outcome → Type 0
+EndsQuiet (Got a rest) = IsQuiet (head rest)
+EndsQuiet _ = Unit {0}
 
-    number_here : (n : ℕ) (b : Bool) → WalksPart {A = ℤ} (Some p) ts (offset_signed pos (if b then Ok (n, tail ts) else Err (BadOffset, ts)))
-    number_here n true = tt
-    number_here n false = λ k. not_far k
-
-    at_none : WalksPart (Some p) ts (offset_signed pos (distance_at None ts)) → head ts ≡ None → WalksPart (Some p) ts (offset_signed pos (distance ts))
-    at_none w h = subst (λ t. WalksPart (Some p) ts (offset_signed pos (distance_at t ts))) (sym h) w
-
-    at_some : (t : Token) → head ts ≡ Some t → WalksPart (Some p) ts (offset_signed pos (distance_at (Some t) ts)) → WalksPart (Some p) ts (offset_signed pos (distance ts))
-    at_some t h w = subst (λ t. WalksPart (Some p) ts (offset_signed pos (distance_at t ts))) (sym h) w
-
-    go : (t : Option Token) → head ts ≡ t → WalksPart (Some p) ts (offset_at t ts)
-    go None h = at_none (here None h tt) h
-    go (Some (token.Number n)) h = at_some (token.Number n) h (number_here n (nat_le n 255))
-    go (Some (token.Name n)) h = at_some (token.Name n) h (here (Some (token.Name n)) h (e (token.Name [])))
-    go (Some (token.Sign Minus)) h = after Minus (e (token.Sign Minus)) h (λ n. neg_ℤ (pos n))
-    go (Some (token.Sign Plus)) h = after Plus (e (token.Sign Plus)) h pos
-    go (Some (token.Sign s)) h = at_some (token.Sign s) h (here (Some (token.Sign s)) h (e (token.Sign s)))
-
-comma_refused : (st : List Frame) (ts : List Placed) → WalksPart (Some (Between st)) ts (comma_at (head ts) ts)
-comma_refused st ts = go (head ts) refl
-  where
-    here : (t : Option Token) → head ts ≡ t → Refuses t (Some (Between st)) → WalksPart {A = Unit {0}} (Some (Between st)) ts (Err (Expected, ts))
-    here t f h = λ k. walks_here (Refuses (head ts)) (Some (Between st)) ts (subst (λ x. Refuses x (Some (Between st))) (sym f) h)
-
-    go : (t : Option Token) → head ts ≡ t → WalksPart (Some (Between st)) ts (comma_at t ts)
-    go None f = here None f tt
-    go (Some (token.Sign Comma)) f = tt
-    go (Some t) f = here (Some t) f refl
-
-bracket_refused : (st : List Frame) (ts : List Placed) → WalksPart (Some (Last st)) ts (bracket_at (head ts) ts)
-bracket_refused st ts = go (head ts) refl
-  where
-    here : (t : Option Token) → head ts ≡ t → Refuses t (Some (Last st)) → WalksPart {A = Unit {0}} (Some (Last st)) ts (Err (Expected, ts))
-    here t f h = λ k. walks_here (Refuses (head ts)) (Some (Last st)) ts (subst (λ x. Refuses x (Some (Last st))) (sym f) h)
-
-    go : (t : Option Token) → head ts ≡ t → WalksPart (Some (Last st)) ts (bracket_at t ts)
-    go None f = here None f tt
-    go (Some (token.Sign CloseBracket)) f = tt
-    go (Some t) f = here (Some t) f refl
-
--- one part and then another
-then_refused : {A B : Type 0} (P : List Placed → A → Type 0) (p q : Option Place) (ts : List Placed) (f : A → List Placed → PartOfExpression B) → ((x : A) (front : List Placed) → P front x → walk p (shape front) ≡ q)
-    → ((x : A) (us : List Placed) → WalksPart q us (f x us)) → (r : PartOfExpression A) → IsPartOf P ts r → WalksPart p ts r → WalksPart p ts (read_then r f)
-then_refused P p q ts f w g (Err e) s h = h
-then_refused {A = A} {B = B} P p q ts f w g (Ok x) s h = go (f x.0 x.1) (g x.0 x.1)
-  where
-    go : (r : PartOfExpression B) → WalksPart q x.1 r → WalksPart p ts r
-    go (Ok y) n = tt
-    go (Err e) n = λ k. walks_front (Refuses (head e.1)) p q ts s.0 x.1 e.1 s.1 (w x.0 s.0 s.2) (n k)
-
-to_bracket_refused : (st : List Frame) (down : ℤ) (ts : List Placed) → WalksPart (Some (Second st)) ts (to_bracket down ts)
-to_bracket_refused st down ts =
-    then_refused IsOffset (Some (Second st)) (Some (Last st)) ts (λ right us. read_then (bracket_at (head us) us) (λ _ vs. Ok ((down, right), vs))) (λ x front h. second_makes st h) last (offset ts) (sound_offset ts)
-    (offset_refused (Second st) (SecondNumber st) (Last st) (λ t. refl) (λ t. refl) ts)
-  where
-    last : (right : ℤ) (us : List Placed) → WalksPart {A = ℤ × ℤ} (Some (Last st)) us (read_then (bracket_at (head us) us) (λ _ vs. Ok ((down, right), vs)))
-    last right us = go (bracket_at (head us) us) (bracket_refused st us)
-      where
-        go : (r : PartOfExpression (Unit {0})) → WalksPart (Some (Last st)) us r → WalksPart {A = ℤ × ℤ} (Some (Last st)) us (read_then r (λ _ vs. Ok ((down, right), vs)))
-        go (Ok x) n = tt
-        go (Err e) n = n
-
-from_comma_refused : (st : List Frame) (down : ℤ) (us : List Placed) → WalksPart (Some (Between st)) us (read_then (comma_at (head us) us) (λ _ vs. to_bracket down vs))
-from_comma_refused st down us =
-    then_refused (IsSign Comma) (Some (Between st)) (Some (Second st)) us (λ _ vs. to_bracket down vs) (λ x front h. ap (λ l. walk (Some (Between st)) (shape l)) h.1) (λ x vs. to_bracket_refused st down vs) (comma_at (head us) us) (sound_comma (head us) us refl)
-    (comma_refused st us)
-
-offsets_refused : (st : List Frame) (ts : List Placed) → WalksPart (Some (First st)) ts (reading.offsets ts)
-offsets_refused st ts =
-    then_refused IsOffset (Some (First st)) (Some (Between st)) ts (λ down us. read_then (comma_at (head us) us) (λ _ vs. to_bracket down vs)) (λ x front h. first_makes st h) (from_comma_refused st) (offset ts) (sound_offset ts)
-    (offset_refused (First st) (FirstNumber st) (Between st) (λ t. refl) (λ t. refl) ts)
+-- it does not join
+abbrev EndsWhole : Outcome → Type 0
+EndsWhole (Got a rest) = next top rest ≡ None
+EndsWhole _ = Unit {0}
 
 -- the tokens that are read are walked, and where more is expected the next one cannot come
 abbrev pub IsWalked : State → Outcome → Type 0
-IsWalked (Operand ts) (Got a rest) = (st : List Frame) → Walks (GoesAs st (head rest)) (Some (place.Operand st)) ts rest
-IsWalked (Operand ts) (Stops kind rest) = kind ≡ Expected → (st : List Frame) → Walks (Refuses (head rest)) (Some (place.Operand st)) ts rest
-IsWalked (Whole k ts) (Got a rest) = (st : List Frame) → Walks (GoesAs st (head rest)) (Some (place.Operand st)) ts rest
-IsWalked (Whole k ts) (Stops kind rest) = kind ≡ Expected → (st : List Frame) → Walks (Refuses (head rest)) (Some (place.Operand st)) ts rest
-IsWalked (More k (Got a ts)) (Got b rest) = (st : List Frame) (p : Option Place) → GoesAs st (head ts) p → Walks (GoesAs st (head rest)) p ts rest
-IsWalked (More k (Got a ts)) (Stops kind rest) = kind ≡ Expected → (st : List Frame) (p : Option Place) → GoesAs st (head ts) p → Walks (Refuses (head rest)) p ts rest
-IsWalked (Expression ts) (Got a rest) = IsQuiet (head rest) × ((st : List Frame) → Walks (GoesAs st (head rest)) (Some (place.Operand st)) ts rest)
-IsWalked (Expression ts) (Stops kind rest) = kind ≡ Expected → (st : List Frame) → Walks (Refuses (head rest)) (Some (place.Operand st)) ts rest
-IsWalked (Choice (Got a ts)) (Got b rest) = next top ts ≡ None → IsQuiet (head rest) × ((st : List Frame) (p : Option Place) → GoesAs st (head ts) p → Walks (GoesAs st (head rest)) p ts rest)
-IsWalked (Choice (Got a ts)) (Stops kind rest) = kind ≡ Expected → (st : List Frame) (p : Option Place) → GoesAs st (head ts) p → Walks (Refuses (head rest)) p ts rest
-IsWalked (AfterQuestion x (Got a ts)) (Got b rest) = IsQuiet (head rest) × ((st : List Frame) (p : Option Place) → GoesAs (Choosing ∷ st) (head ts) p → Walks (GoesAs st (head rest)) p ts rest)
-IsWalked (AfterQuestion x (Got a ts)) (Stops kind rest) = kind ≡ Expected → IsQuiet (head ts) → (st : List Frame) (p : Option Place) → GoesAs (Choosing ∷ st) (head ts) p → Walks (Refuses (head rest)) p ts rest
-IsWalked (Called ts) (GotAll xs rest) = (st : List Frame) → Walks (λ q. q ≡ Some (After st)) (Some (Opened st)) ts rest
-IsWalked (Called ts) (Stops kind rest) = kind ≡ Expected → (st : List Frame) → Walks (Refuses (head rest)) (Some (Opened st)) ts rest
-IsWalked (Arguments ts) (GotAll xs rest) = (st : List Frame) → Walks (λ q. q ≡ Some (After st)) (Some (place.Operand (Argument ∷ st))) ts rest
-IsWalked (Arguments ts) (Stops kind rest) = kind ≡ Expected → (st : List Frame) → Walks (Refuses (head rest)) (Some (place.Operand (Argument ∷ st))) ts rest
-IsWalked (Onward (Got a ts)) (GotAll xs rest) = (st : List Frame) (p : Option Place) → GoesAs (Argument ∷ st) (head ts) p → Walks (λ q. q ≡ Some (After st)) p ts rest
-IsWalked (Onward (Got a ts)) (Stops kind rest) = kind ≡ Expected → IsQuiet (head ts) → (st : List Frame) (p : Option Place) → GoesAs (Argument ∷ st) (head ts) p → Walks (Refuses (head rest)) p ts rest
-IsWalked s o = Unit {0}
+IsWalked (Operand ts) o = (st : List Frame) → Walks (Ends st o) (Some (place.Operand st)) ts (left o)
+IsWalked (Whole k ts) o = (st : List Frame) → Walks (Ends st o) (Some (place.Operand st)) ts (left o)
+IsWalked (More k o) p = (st : List Frame) (q : Option Place) → Ends st o q → Walks (Ends st p) q (left o) (left p)
+IsWalked (Expression ts) o = EndsQuiet o × ((st : List Frame) → Walks (Ends st o) (Some (place.Operand st)) ts (left o))
+IsWalked (Choice o) p =
+    EndsWhole o → EndsQuiet p
+    × ((st : List Frame) (q : Option Place) → Ends st o q → Walks (Ends st p) q (left o) (left p))
+IsWalked (AfterQuestion x o) p =
+    EndsQuiet o → EndsQuiet p
+    × ((st : List Frame) (q : Option Place) → Ends (Choosing ∷ st) o q → Walks (Ends st p) q (left o) (left p))
+IsWalked (Called ts) o = (st : List Frame) → Walks (Ends st o) (Some (Opened st)) ts (left o)
+IsWalked (Arguments ts) o = (st : List Frame) → Walks (Ends st o) (Some (place.Operand (Argument ∷ st))) ts (left o)
+IsWalked (Onward o) p =
+    EndsQuiet o → (st : List Frame) (q : Option Place) → Ends (Argument ∷ st) o q
+    → Walks (Ends st p) q (left o) (left p)
 
 after_goes : (st : List Frame) (t : Option Token) → GoesAs st t (Some (After st))
 after_goes st None = tt
@@ -262,80 +205,37 @@ argument_refused st t n m _ e = refl
 pub top_refused : (s : Token) → ends_step [] (shape_of s) ≡ None
 top_refused s = refl
 
-walked_unary : (f : Term → Term) (s : Placed) (ts : List Placed) → ((st : List Frame) → operand_step st (shape_of s.token) ≡ Some (place.Operand st)) → (o : Outcome) → IsSound (Operand ts) o → IsWalked (Operand ts) o → IsWalked (Operand (s ∷ ts)) (mapped f o)
-walked_unary f s ts e (Got a rest) i h = λ st. walks_next (GoesAs st (head rest)) (Some (place.Operand st)) s ts rest (walks_from (GoesAs st (head rest)) (operand_step st (shape_of s.token)) (Some (place.Operand st)) ts rest (e st) (h st))
-walked_unary f s ts e (Stops kind rest) i h = λ k st. walks_next (Refuses (head rest)) (Some (place.Operand st)) s ts rest (walks_from (Refuses (head rest)) (operand_step st (shape_of s.token)) (Some (place.Operand st)) ts rest (e st) (h k st))
-walked_unary f s ts e (GotAll xs rest) i h = absurd i
+walked_moved : (name : List ℕ) (c d : ℕ) (ts : List Placed) (p : PartOfExpression (ℤ × ℤ))
+    → IsPart AreBoth NoOffsets ts p
+    → IsWalked (Operand (name_at name c ∷ sign_at OpenBracket d ∷ ts)) (move name c p)
+walked_moved name c d ts (Ok x) (front, e, h) = λ st.
+    let goes = subst (GoesAs st (head x.1)) (sym (offsets_make st h)) (after_goes st (head x.1)) in
+    walks_next (name_at name c) (walks_next (sign_at OpenBracket d) (record { before = front; all = e; ends = goes }))
+walked_moved name c d ts (Err (kind, rest)) (front, e, h) = λ st.
+    let refused : Ends st (Stops kind rest) (walk (Some (First st)) (shape front)) = λ k.
+    offsets_refused st (subst (λ x. NoOffsets x front rest) k h) in
+    walks_next (name_at name c)
+    (walks_next (sign_at OpenBracket d) (record { before = front; all = e; ends = refused }))
 
-walked_moved : (name : List ℕ) (c d : ℕ) (ts : List Placed) (p : PartOfExpression (ℤ × ℤ)) → IsPartOf AreBoth ts p → ((st : List Frame) → WalksPart (Some (First st)) ts p) → IsWalked (Operand (name_at name c ∷ sign_at OpenBracket d ∷ ts)) (move name c p)
-walked_moved name c d ts (Ok x) s h = λ st.
-    walks_front (GoesAs st (head x.1)) (Some (place.Operand st)) (Some (After st)) (name_at name c ∷ sign_at OpenBracket d ∷ ts) (name_at name c ∷ sign_at OpenBracket d ∷ s.0) x.1 x.1 (ap (λ l. name_at name c ∷ sign_at OpenBracket d ∷ l) s.1) (offsets_make st s.2)
-    (walks_here (GoesAs st (head x.1)) (Some (After st)) x.1 (after_goes st (head x.1)))
-walked_moved name c d ts (Err e) s h = λ k st.
-    walks_front (Refuses (head e.1)) (Some (place.Operand st)) (Some (First st)) (name_at name c ∷ sign_at OpenBracket d ∷ ts) (name_at name c ∷ sign_at OpenBracket d ∷ []) ts e.1 refl refl (h st k)
-
-walked_called : (name : List ℕ) (c d : ℕ) (ts : List Placed) (f : Function) (o : Outcome) → IsSound (Called ts) o → IsWalked (Called ts) o → IsWalked (Operand (name_at name c ∷ sign_at OpenParenthesis d ∷ ts)) (call f (name_at name c ∷ sign_at OpenParenthesis d ∷ ts) o)
-walked_called name c d ts f (Got a rest) s h = absurd s
-walked_called name c d ts f (Stops kind rest) s h = λ k st.
-    walks_front (Refuses (head rest)) (Some (place.Operand st)) (Some (Opened st)) (name_at name c ∷ sign_at OpenParenthesis d ∷ ts) (name_at name c ∷ sign_at OpenParenthesis d ∷ []) ts rest refl refl (h k st)
-walked_called name c d ts f (GotAll xs rest) s h = go (accepts f (count xs))
-  where
-    go : (b : Bool) → IsWalked (Operand (name_at name c ∷ sign_at OpenParenthesis d ∷ ts)) (call_judged b f xs (name_at name c ∷ sign_at OpenParenthesis d ∷ ts) rest)
-    go true = λ st.
-        walks_front (GoesAs st (head rest)) (Some (place.Operand st)) (Some (Opened st)) (name_at name c ∷ sign_at OpenParenthesis d ∷ ts) (name_at name c ∷ sign_at OpenParenthesis d ∷ []) ts rest refl refl
-        (walks_weaken (λ q. q ≡ Some (After st)) (GoesAs st (head rest)) (Some (Opened st)) ts rest (is_after st (head rest)) (h st))
-    go false = λ k. absurd (let n : ⊥ = cc in n)
-
-closed_by : (c : ℕ) (ts : List Placed) (a : Term) (rest : List Placed) (t : Option Token) → head rest ≡ t → IsWalked (Expression ts) (Got a rest) → IsWalked (Operand (sign_at OpenParenthesis c ∷ ts)) (after_bracket t a rest)
-closed_by c ts a rest (Some (token.Sign CloseParenthesis)) e h = λ st.
+walked_closed : (c : ℕ) (ts : List Placed) (a : Term) (rest : List Placed) (t : Option Token) → head rest ≡ t
+    → IsWalked (Expression ts) (Got a rest)
+    → IsWalked (Operand (sign_at OpenParenthesis c ∷ ts)) (after_bracket t a rest)
+walked_closed c ts a rest (Some (token.Sign CloseParenthesis)) e h = λ st.
     let f = front_is rest (token.Sign CloseParenthesis) e in
-    walks_next (GoesAs st (head (tail rest))) (Some (place.Operand st)) (sign_at OpenParenthesis c) ts (tail rest)
-    (walks_then (GoesAs (Parenthesis ∷ st) (head rest)) (GoesAs st (head (tail rest))) (Some (place.Operand (Parenthesis ∷ st))) ts rest (tail rest) (h.1 (Parenthesis ∷ st))
-    (λ q g.
-    let g' : GoesAs (Parenthesis ∷ st) (Some (token.Sign CloseParenthesis)) q = subst (λ t. GoesAs (Parenthesis ∷ st) t q) e g in
-    walks_front (GoesAs st (head (tail rest))) q (Some (After st)) rest (sign_at CloseParenthesis f.0 ∷ []) (tail rest) (tail rest) f.1 g' (walks_here (GoesAs st (head (tail rest))) (Some (After st)) (tail rest) (after_goes st (head (tail rest))))))
-closed_by c ts a rest t e h = not_closed (subst (IsNot CloseParenthesis) (sym e) (λ k. cc))
+    let closed : (q : Option Place) → GoesAs (Parenthesis ∷ st) (head rest) q
+    → Walks (GoesAs st (head (tail rest))) q rest (tail rest) = λ q g.
+    let goes = walks_here (after_goes st (head (tail rest))) in
+    subst (λ l. Walks (GoesAs st (head (tail rest))) q l (tail rest)) (sym f.1)
+    (walks_next (sign_at CloseParenthesis f.0) (walks_from (subst (λ t. GoesAs (Parenthesis ∷ st) t q) e g) goes)) in
+    walks_next (sign_at OpenParenthesis c) (walks_then (h.1 (Parenthesis ∷ st)) closed)
+walked_closed c ts a rest t e h = not_closed (subst (IsNot CloseParenthesis) (sym e) (λ k. cc))
   where
     not_closed : IsNot CloseParenthesis (head rest) → IsWalked (Operand (sign_at OpenParenthesis c ∷ ts)) (Stops Expected rest)
-    not_closed n = λ k st.
-        walks_next (Refuses (head rest)) (Some (place.Operand st)) (sign_at OpenParenthesis c) ts rest
-        (walks_weaken (GoesAs (Parenthesis ∷ st) (head rest)) (Refuses (head rest)) (Some (place.Operand (Parenthesis ∷ st))) ts rest (λ q g. quiet_refused (Parenthesis ∷ st) (head rest) q h.0 g (parenthesis_refused st (head rest) n)) (h.1 (Parenthesis ∷ st)))
-
-walked_inside : (c : ℕ) (ts : List Placed) (o : Outcome) → IsSound (Expression ts) o → IsWalked (Expression ts) o → IsWalked (Operand (sign_at OpenParenthesis c ∷ ts)) (close o)
-walked_inside c ts (Got a rest) i h = closed_by c ts a rest (head rest) refl h
-walked_inside c ts (GotAll xs rest) i h = absurd i
-walked_inside c ts (Stops kind rest) i h = λ k st. walks_next (Refuses (head rest)) (Some (place.Operand st)) (sign_at OpenParenthesis c) ts rest (h k (Parenthesis ∷ st))
-
-walked_whole : (k : ℕ) (ts : List Placed) (o p : Outcome) → IsSound (Operand ts) o → IsWalked (Operand ts) o → IsSound (More k o) p → GrammarReads (More k o) p → IsWalked (More k o) p → IsWalked (Whole k ts) p
-walked_whole k ts (Got a us) (Got b rest) i h j r m = λ st. walks_then (GoesAs st (head us)) (GoesAs st (head rest)) (Some (place.Operand st)) ts us rest (h st) (λ q g. m st q g)
-walked_whole k ts (Got a us) (Stops kind rest) i h j r m = λ e st. walks_then (GoesAs st (head us)) (Refuses (head rest)) (Some (place.Operand st)) ts us rest (h st) (λ q g. m e st q g)
-walked_whole k ts (GotAll xs us) p i h j r m = absurd i
-walked_whole k ts (Stops kind us) p i h j stopped m = h
-walked_whole k ts o (GotAll xs us) i h j r m = tt
-
-walked_more : (k : ℕ) (s : Placed) (ts : List Placed) (a : Term) (o p : Outcome) (op : Operator) → next k (s ∷ ts) ≡ Some op → IsSound (Whole (level_of op) ts) o → IsWalked (Whole (level_of op) ts) o
-    → GrammarReads (More k (join op a o)) p → IsWalked (More k (join op a o)) p → IsWalked (More k (Got a (s ∷ ts))) p
-walked_more k s ts a (Got b us) (Got c rest) op e i h r m = λ st p g.
-    walks_next (GoesAs st (head rest)) p s ts rest
-    (walks_from (GoesAs st (head rest)) (step_on p (shape_of s.token)) (Some (place.Operand st)) ts rest (g ∙ operator_after st s.token op (below_some k (operator_of s.token) op e).0)
-    (walks_then (GoesAs st (head us)) (GoesAs st (head rest)) (Some (place.Operand st)) ts us rest (h st) (λ q f. m st q f)))
-walked_more k s ts a (Got b us) (Stops kind rest) op e i h r m = λ x st p g.
-    walks_next (Refuses (head rest)) p s ts rest
-    (walks_from (Refuses (head rest)) (step_on p (shape_of s.token)) (Some (place.Operand st)) ts rest (g ∙ operator_after st s.token op (below_some k (operator_of s.token) op e).0)
-    (walks_then (GoesAs st (head us)) (Refuses (head rest)) (Some (place.Operand st)) ts us rest (h st) (λ q f. m x st q f)))
-walked_more k s ts a (Stops kind us) p op e i h stopped m = λ x st p g.
-    walks_next (Refuses (head us)) p s ts us (walks_from (Refuses (head us)) (step_on p (shape_of s.token)) (Some (place.Operand st)) ts us (g ∙ operator_after st s.token op (below_some k (operator_of s.token) op e).0) (h x st))
-walked_more k s ts a (GotAll xs us) p op e i h r m = absurd i
-walked_more k s ts a o (GotAll xs us) op e i h r m = tt
-
-walked_expression : (ts : List Placed) (o p : Outcome) → IsSound (Whole top ts) o → IsWalked (Whole top ts) o → GrammarReads (Choice o) p → IsWalked (Choice o) p → IsWalked (Expression ts) p
-walked_expression ts (Got a us) (Got b rest) i h r m =
-    let n = m i.3 in
-    (n.0, λ st. walks_then (GoesAs st (head us)) (GoesAs st (head rest)) (Some (place.Operand st)) ts us rest (h st) (λ q g. n.1 st q g))
-walked_expression ts (Got a us) (Stops kind rest) i h r m = λ e st. walks_then (GoesAs st (head us)) (Refuses (head rest)) (Some (place.Operand st)) ts us rest (h st) (λ q g. m e st q g)
-walked_expression ts (Stops kind us) p i h unread m = h
-walked_expression ts (GotAll xs us) p i h r m = absurd i
-walked_expression ts o (GotAll xs us) i h r m = tt
+    not_closed n = λ st.
+        let refused : (q : Option Place) → GoesAs (Parenthesis ∷ st) (head rest) q → Ends st
+        (Stops Expected rest) q = λ q g _.
+        quiet_refused (Parenthesis ∷ st) (head rest) q h.0 g (parenthesis_refused st (head rest) n) in
+        walks_next (sign_at OpenParenthesis c) (walks_weaken refused (h.1 (Parenthesis ∷ st)))
 
 lower : (op : Operator) → nat_lt (level_of op) top ≡ true
 lower Times = refl
@@ -352,96 +252,114 @@ quiet : (ts : List Placed) → next top ts ≡ None → IsNot Question (head ts)
 quiet [] e n = tt
 quiet (s ∷ ts) e n = (none_joins (operator_of s.token) e, n)
 
-walked_asked : (c : ℕ) (x : Term) (ts : List Placed) (o p : Outcome) → IsSound (Expression ts) o → IsWalked (Expression ts) o → GrammarReads (AfterQuestion x o) p → IsWalked (AfterQuestion x o) p → IsWalked (Choice (Got x (sign_at Question c ∷ ts))) p
-walked_asked c x ts (Got a us) (Got b rest) i h r m = λ e. (
-  m.0,
-  λ st p g. walks_front (GoesAs st (head rest)) p (Some (place.Operand (Choosing ∷ st))) (sign_at Question c ∷ ts) (sign_at Question c ∷ []) ts rest refl g
-      (walks_then (GoesAs (Choosing ∷ st) (head us)) (GoesAs st (head rest)) (Some (place.Operand (Choosing ∷ st))) ts us rest (h.1 (Choosing ∷ st)) (λ q f. m.1 st q f)),
-)
-walked_asked c x ts (Got a us) (Stops kind rest) i h r m = λ e st p g.
-    walks_front (Refuses (head rest)) p (Some (place.Operand (Choosing ∷ st))) (sign_at Question c ∷ ts) (sign_at Question c ∷ []) ts rest refl g
-    (walks_then (GoesAs (Choosing ∷ st) (head us)) (Refuses (head rest)) (Some (place.Operand (Choosing ∷ st))) ts us rest (h.1 (Choosing ∷ st)) (λ q f. m e h.0 st q f))
-walked_asked c x ts (Stops kind us) p i h unasked m = λ e st p g.
-    walks_front (Refuses (head us)) p (Some (place.Operand (Choosing ∷ st))) (sign_at Question c ∷ ts) (sign_at Question c ∷ []) ts us refl g (h e (Choosing ∷ st))
-walked_asked c x ts (GotAll xs us) p i h r m = absurd i
-walked_asked c x ts o (GotAll xs us) i h r m = tt
-
-walked_otherwise : (d : ℕ) (x a : Term) (ts : List Placed) (o : Outcome) → IsSound (Expression ts) o → IsWalked (Expression ts) o → IsWalked (AfterQuestion x (Got a (sign_at Colon d ∷ ts))) (choose x a o)
-walked_otherwise d x a ts (Got b rest) i h =
-    (h.0, λ st p g. walks_front (GoesAs st (head rest)) p (Some (place.Operand st)) (sign_at Colon d ∷ ts) (sign_at Colon d ∷ []) ts rest refl g (h.1 st))
-walked_otherwise d x a ts (GotAll xs rest) i h = absurd i
-walked_otherwise d x a ts (Stops kind rest) i h = λ e n st p g. walks_front (Refuses (head rest)) p (Some (place.Operand st)) (sign_at Colon d ∷ ts) (sign_at Colon d ∷ []) ts rest refl g (h e st)
+ends_whole : (ts : List Placed) (o : Outcome) → IsSound (Whole top ts) o → EndsWhole o
+ends_whole ts (Got a rest) h = h.3
+ends_whole ts (GotAll xs rest) h = tt
+ends_whole ts (Stops kind rest) h = tt
 
 opened_as : (st : List Frame) (t : Token) → IsNot CloseParenthesis (Some t) → opened_step st (shape_of t) ≡ operand_step (Argument ∷ st) (shape_of t)
 opened_as st (token.Sign CloseParenthesis) n = absurd (n refl)
 opened_as st _ n = refl
 
-opened_refused : (st : List Frame) (ts rest : List Placed) → IsNot CloseParenthesis (head ts) → Walks (Refuses (head rest)) (Some (place.Operand (Argument ∷ st))) ts rest → Walks (Refuses (head rest)) (Some (Opened st)) ts rest
-opened_refused st ts rest n w = go w.before w.all w.ends
+opened_refused : (st : List Frame) (kind : CalcKind) (ts rest : List Placed) → IsNot CloseParenthesis (head ts)
+    → Walks (Ends st (Stops kind rest)) (Some (place.Operand (Argument ∷ st))) ts rest
+    → Walks (Ends st (Stops kind rest)) (Some (Opened st)) ts rest
+opened_refused st kind ts rest n w = go w.before w.all w.ends
   where
-    here : (us : List Placed) → IsNot CloseParenthesis (head us) → Refuses (head us) (Some (place.Operand (Argument ∷ st))) → Refuses (head us) (Some (Opened st))
+    here : (us : List Placed) → IsNot CloseParenthesis (head us)
+        → Refuses (head us) (Some (place.Operand (Argument ∷ st)))
+        → Refuses (head us) (Some (Opened st))
     here [] m r = tt
     here (s ∷ us) m r = opened_as st s.token m ∙ r
 
-    go : (before : List Placed) → ts ≡ before ++ rest → Refuses (head rest) (walk (Some (place.Operand (Argument ∷ st))) (shape before)) → Walks (Refuses (head rest)) (Some (Opened st)) ts rest
-    go [] e r = record { before = []; all = e; ends = here rest (subst (λ l. IsNot CloseParenthesis (head l)) e n) r }
-    go (s ∷ before) e r = record {
-      before = s ∷ before;
-      all = e;
-      ends = subst (λ q. Refuses (head rest) (walk q (shape before))) (sym (opened_as st s.token (subst (λ l. IsNot CloseParenthesis (head l)) e n))) r;
-    }
-
-walked_some : (ts : List Placed) (o : Outcome) → IsNot CloseParenthesis (head ts) → IsSound (Arguments ts) o → IsWalked (Arguments ts) o → IsWalked (Called ts) o
-walked_some ts (Got a rest) n i h = absurd i
-walked_some ts (GotAll xs rest) n i h = λ st.
-    let w = h st in
-    record { before = w.before; all = w.all; ends = opened_walk st (shape w.before) w.ends }
-walked_some ts (Stops kind rest) n i h = λ e st. opened_refused st ts rest n (h e st)
-
-walked_arguments : (ts : List Placed) (o p : Outcome) → IsSound (Expression ts) o → IsWalked (Expression ts) o → IsSound (Onward o) p → GrammarReads (Onward o) p → IsWalked (Onward o) p → IsWalked (Arguments ts) p
-walked_arguments ts (Got a us) (GotAll xs rest) i h j r m = λ st.
-    walks_then (GoesAs (Argument ∷ st) (head us)) (λ q. q ≡ Some (After st)) (Some (place.Operand (Argument ∷ st))) ts us rest (h.1 (Argument ∷ st)) (λ q g. m st q g)
-walked_arguments ts (Got a us) (Stops kind rest) i h j r m = λ e st.
-    walks_then (GoesAs (Argument ∷ st) (head us)) (Refuses (head rest)) (Some (place.Operand (Argument ∷ st))) ts us rest (h.1 (Argument ∷ st)) (λ q g. m e h.0 st q g)
-walked_arguments ts (Stops kind us) p i h j halted m = λ e st. h e (Argument ∷ st)
-walked_arguments ts (GotAll xs us) p i h j r m = absurd i
-walked_arguments ts o (Got a us) i h j r m = tt
-
-walked_another : (c : ℕ) (a : Term) (ts : List Placed) (o : Outcome) → IsSound (Arguments ts) o → IsWalked (Arguments ts) o → IsWalked (Onward (Got a (sign_at Comma c ∷ ts))) (add a o)
-walked_another c a ts (Got b rest) i h = absurd i
-walked_another c a ts (GotAll xs rest) i h = λ st p g.
-    walks_front (λ q. q ≡ Some (After st)) p (Some (place.Operand (Argument ∷ st))) (sign_at Comma c ∷ ts) (sign_at Comma c ∷ []) ts rest refl g (h st)
-walked_another c a ts (Stops kind rest) i h = λ e n st p g. walks_front (Refuses (head rest)) p (Some (place.Operand (Argument ∷ st))) (sign_at Comma c ∷ ts) (sign_at Comma c ∷ []) ts rest refl g (h e st)
+    go : (before : List Placed) → ts ≡ before ++ rest
+        → Ends st (Stops kind rest) (walk (Some (place.Operand (Argument ∷ st))) (shape before))
+        → Walks (Ends st (Stops kind rest)) (Some (Opened st)) ts rest
+    go [] e r =
+        record { before = []; all = e; ends = λ k. here rest (subst (λ l. IsNot CloseParenthesis (head l)) e n) (r k) }
+    go (s ∷ before) e r =
+        let same = opened_as st s.token (subst (λ l. IsNot CloseParenthesis (head l)) e n) in
+        record { before = s ∷ before; all = e; ends = subst (λ q. Ends st (Stops kind rest) (walk q (shape before))) (sym same) r }
 
 pub walked : {s : State} {o : Outcome} → GrammarReads s o → IsWalked s o
 walked (reading.number {n = n} {c = c} {ts = ts}) = λ st.
-    walks_next (GoesAs st (head ts)) (Some (place.Operand st)) (token_number_at n c) ts ts (walks_here (GoesAs st (head ts)) (Some (After st)) ts (after_goes st (head ts)))
+    walks_next (token_number_at n c) (walks_here (after_goes st (head ts)))
 walked (reading.map {name = name} {c = c} {ts = ts} f) = λ st.
-    walks_next (GoesAs st (head ts)) (Some (place.Operand st)) (name_at name c) ts ts (walks_here (GoesAs st (head ts)) (Some (Named st)) ts (named_goes st (head ts) f))
-walked (reading.moved {name = name} {c = c} {d = d} {ts = ts}) = walked_moved name c d ts (reading.offsets ts) (sound_offsets ts) (λ st. offsets_refused st ts)
-walked (reading.unknown {name = name} {c = c} {d = d} {ts = ts} e) = λ k. absurd (let n : ⊥ = cc in n)
-walked (reading.called {name = name} {c = c} {d = d} {ts = ts} {o = o} f e r) = walked_called name c d ts f o (sound r) (walked r)
-walked (reading.negated {c = c} {ts = ts} {o = o} r) = walked_unary Negated (sign_at Minus c) ts (λ st. refl) o (sound r) (walked r)
-walked (reading.not {c = c} {ts = ts} {o = o} r) = walked_unary Not (sign_at Exclamation c) ts (λ st. refl) o (sound r) (walked r)
-walked (reading.inside {c = c} {ts = ts} {o = o} r) = walked_inside c ts o (sound r) (walked r)
-walked (nothing {ts = ts} b) = λ k st. walks_here (Refuses (head ts)) (Some (place.Operand st)) ts (begins_refused st (head ts) b)
-walked (whole {k = k} {ts = ts} {o = o} {p = p} r m) = walked_whole k ts o p (sound r) (walked r) (sound m) m (walked m)
-walked stopped = tt
-walked (done {k = k} {ts = ts} {a = a} e) = λ st p g. walks_here (GoesAs st (head ts)) p ts g
-walked (more {k = k} {s = s} {ts = ts} {a = a} {o = o} {p = p} op e r m) = walked_more k s ts a o p op e (sound r) (walked r) m (walked m)
-walked (expression {ts = ts} {o = o} {p = p} r m) = walked_expression ts o p (sound r) (walked r) m (walked m)
-walked unread = tt
-walked (unchosen {a = a} {ts = ts} n) = λ e. (quiet ts e n, λ st p g. walks_here (GoesAs st (head ts)) p ts g)
-walked (asked {c = c} {x = x} {ts = ts} {o = o} {p = p} r m) = walked_asked c x ts o p (sound r) (walked r) m (walked m)
-walked unasked = tt
-walked (no_colon {x = x} {a = a} {ts = ts} n) = λ e i st p g. walks_here (Refuses (head ts)) p ts (quiet_refused (Choosing ∷ st) (head ts) p i g (choosing_refused st (head ts) n))
-walked (otherwise {c = c} {x = x} {a = a} {ts = ts} {o = o} r) = walked_otherwise c x a ts o (sound r) (walked r)
-walked (reading.none {c = c} {ts = ts}) = λ st.
-    walks_next (λ q. q ≡ Some (After st)) (Some (Opened st)) (sign_at CloseParenthesis c) ts ts (walks_here (λ q. q ≡ Some (After st)) (Some (After st)) ts refl)
-walked (reading.some {ts = ts} {o = o} n r) = walked_some ts o n (sound r) (walked r)
-walked (arguments {ts = ts} {o = o} {p = p} r m) = walked_arguments ts o p (sound r) (walked r) (sound m) m (walked m)
-walked halted = tt
-walked (reading.last {c = c} {a = a} {ts = ts}) = λ st p g.
-    walks_front (λ q. q ≡ Some (After st)) p (Some (After st)) (sign_at CloseParenthesis c ∷ ts) (sign_at CloseParenthesis c ∷ []) ts ts refl g (walks_here (λ q. q ≡ Some (After st)) (Some (After st)) ts refl)
-walked (reading.another {c = c} {a = a} {ts = ts} {o = o} r) = walked_another c a ts o (sound r) (walked r)
-walked (unended {a = a} {ts = ts} n m) = λ e i st p g. walks_here (Refuses (head ts)) p ts (quiet_refused (Argument ∷ st) (head ts) p i g (argument_refused st (head ts) n m))
+    walks_next (name_at name c) (walks_here (named_goes st (head ts) f))
+walked (reading.moved {name = name} {c = c} {d = d} {ts = ts}) =
+    walked_moved name c d ts (reading.offsets ts) (offsets_part ts)
+walked (reading.unknown e) = λ st. walks_here (λ k. absurd (let n : ⊥ = cc in n))
+walked (reading.called {o = Got a rest} f e r) = absurd (sound r)
+walked (reading.called {name = name} {c = c} {d = d} {o = Stops kind rest} f e r) = λ st.
+    walks_next (name_at name c) (walks_next (sign_at OpenParenthesis d) (walked r st))
+walked (reading.called {name = name} {c = c} {d = d} {ts = ts} {o = GotAll xs rest} f e r) =
+    go (accepts f (count xs)) (walked r)
+  where
+    opens : List Placed
+    opens = name_at name c ∷ sign_at OpenParenthesis d ∷ []
+
+    go : (b : Bool) → IsWalked (Called ts) (GotAll xs rest)
+        → IsWalked (Operand (opens ++ ts)) (call_judged b f xs (opens ++ ts) rest)
+    go true w = λ st.
+        walks_next (name_at name c)
+        (walks_next (sign_at OpenParenthesis d) (walks_weaken (is_after st (head rest)) (w st)))
+    go false w = λ st. walks_here (λ k. absurd (let n : ⊥ = cc in n))
+walked (reading.negated {c = c} {o = Got a rest} r) = λ st. walks_next (sign_at Minus c) (walked r st)
+walked (reading.negated {o = GotAll xs rest} r) = absurd (sound r)
+walked (reading.negated {c = c} {o = Stops kind rest} r) = λ st. walks_next (sign_at Minus c) (walked r st)
+walked (reading.not {c = c} {o = Got a rest} r) = λ st. walks_next (sign_at Exclamation c) (walked r st)
+walked (reading.not {o = GotAll xs rest} r) = absurd (sound r)
+walked (reading.not {c = c} {o = Stops kind rest} r) = λ st. walks_next (sign_at Exclamation c) (walked r st)
+walked (reading.inside {c = c} {ts = ts} {o = Got a rest} r) = walked_closed c ts a rest (head rest) refl (walked r)
+walked (reading.inside {o = GotAll xs rest} r) = absurd (sound r)
+walked (reading.inside {c = c} {o = Stops kind rest} r) =
+    let h = walked r in
+    λ st. walks_next (sign_at OpenParenthesis c) (h.1 (Parenthesis ∷ st))
+walked (nothing {ts = ts} b) = λ st. walks_here (λ k. begins_refused st (head ts) b)
+walked (whole r m) = λ st. walks_then (walked r st) (walked m st)
+walked stopped = λ st q g. walks_here g
+walked (done e) = λ st q g. walks_here g
+walked (more {k = k} {s = s} {o = Got b us} op e r m) = λ st q g.
+    let on = g ∙ operator_after st s.token op (below_some k (operator_of s.token) op e).0 in
+    walks_next s (walks_from on (walks_then (walked r st) (walked m st)))
+walked (more {o = GotAll xs us} op e r m) = absurd (sound r)
+walked (more {k = k} {s = s} op e r stopped) = λ st q g.
+    walks_next s (walks_from (g ∙ operator_after st s.token op (below_some k (operator_of s.token) op e).0) (walked r st))
+walked (expression {ts = ts} {o = o} r m) =
+    let n = walked m (ends_whole ts o (sound r)) in
+    (n.0, λ st. walks_then (walked r st) (n.1 st))
+walked unread = λ e. (tt, λ st q g. walks_here g)
+walked (unchosen {ts = ts} n) = λ e. (quiet ts e n, λ st q g. walks_here g)
+walked (asked {c = c} r m) =
+    let h = walked r in
+    let n = walked m h.0 in
+    λ e. (n.0, λ st q g. walks_next (sign_at Question c) (walks_from g (walks_then (h.1 (Choosing ∷ st)) (n.1 st))))
+walked unasked = λ i. (tt, λ st q g. walks_here g)
+walked (no_colon {ts = ts} n) = λ i.
+    (tt, λ st q g. walks_here (λ k. quiet_refused (Choosing ∷ st) (head ts) q i g (choosing_refused st (head ts) n)))
+walked (otherwise {c = c} {o = Got b rest} r) =
+    let h = walked r in
+    λ i. (h.0, λ st q g. walks_next (sign_at Colon c) (walks_from g (h.1 st)))
+walked (otherwise {o = GotAll xs rest} r) = absurd (sound r)
+walked (otherwise {c = c} {o = Stops kind rest} r) =
+    let h = walked r in
+    λ i. (tt, λ st q g. walks_next (sign_at Colon c) (walks_from g (h.1 st)))
+walked (reading.none {c = c}) = λ st. walks_next (sign_at CloseParenthesis c) (walks_here refl)
+walked (reading.some {o = Got a rest} n r) = absurd (sound r)
+walked (reading.some {o = GotAll xs rest} n r) = λ st.
+    let w = walked r st in
+    record { before = w.before; all = w.all; ends = opened_walk st (shape w.before) w.ends }
+walked (reading.some {ts = ts} {o = Stops kind rest} n r) = λ st. opened_refused st kind ts rest n (walked r st)
+walked (arguments r m) =
+    let h = walked r in
+    let n = walked m h.0 in
+    λ st. walks_then (h.1 (Argument ∷ st)) (n st)
+walked halted = λ i st q g. walks_here g
+walked (reading.last {c = c}) = λ i st q g. walks_next (sign_at CloseParenthesis c) (walks_from g (walks_here refl))
+walked (reading.another {o = Got b rest} r) = absurd (sound r)
+walked (reading.another {c = c} {o = GotAll xs rest} r) = λ i st q g.
+    walks_next (sign_at Comma c) (walks_from g (walked r st))
+walked (reading.another {c = c} {o = Stops kind rest} r) = λ i st q g.
+    walks_next (sign_at Comma c) (walks_from g (walked r st))
+walked (unended {ts = ts} n m) = λ i st q g.
+    walks_here (λ k. quiet_refused (Argument ∷ st) (head ts) q i g (argument_refused st (head ts) n m))

@@ -2,21 +2,20 @@
 use Rattle.std.proofs.Common.{◌≡◌, ℕ, zero, suc, pred, ◌<◌, ◌≤◌, ℤ, pos, neg_ℤ, List, [], ◌∷◌, ◌++◌, Option, Some, None, Ok, Err, Bool, true, false, refl, sym, ap, ◌∙◌, subst, arith, append_assoc, append-nil, ◌⊎◌, inl, inr}
 use Rattle.std.specs.Prelude.{nat_le, if◌then◌else◌}
 use Rattle.std.proofs.lemmas.Bool.Decides.{nat_tests}
+use Rattle.cell_calc_tokens.specs.declared.calc_fault.CalcKind.{CalcKind}
 use Rattle.cell_calc_tokens.specs.declared.calc_fault.CalcKind.TheVariants.{Expected, BadOffset}
-use Rattle.cell_calc_tokens.specs.declared.function.Function.{Function}
 use Rattle.cell_calc_tokens.specs.declared.operator.Operator.{Operator}
 use Rattle.cell_calc_tokens.specs.declared.token.Placed.{Placed}
-use Rattle.cell_calc_tokens.specs.declared.token.Sign.{Sign}
 use Rattle.cell_calc_tokens.specs.declared.token.Sign.TheVariants.{Plus, Minus, Exclamation, Question, Colon, OpenParenthesis, CloseParenthesis, OpenBracket, CloseBracket, Comma}
 use Rattle.cell_calc_tokens.specs.declared.token.Token.{Token}
 use Rattle.cell_calc_tokens.specs.declared.token.Token.TheVariants as token
-use Rattle.cell_calc_tokens.specs.Function.{function_of, accepts}
+use Rattle.cell_calc_tokens.specs.Function.{accepts}
 use Rattle.cell_calc_grammar.specs.Grammar as grammar
 use Rattle.cell_calc_grammar.specs.Grammar.{IsOffset, AreOffsets, Stands, IsExpression, AreCalled, AreArguments, below, joined, choice}
 use Rattle.cell_calc_tokens.specs.Operator.{operator_of, level_of, top}
 use Rattle.cell_calc_grammar.specs.TokensRead as reading
 use Rattle.cell_calc_grammar.specs.TokensRead.{PartOfExpression, tail, read_then, distance_at, distance, offset_signed, offset_at, offset, comma_at, bracket_at, to_bracket, Outcome, Got, GotAll, Stops, State, Operand, Whole, More, Expression, Choice, AfterQuestion, Called, Arguments, Onward, below_level, next, IsNot, IsAlone, BeginsNone, negate, invert, after_bracket, close, join, choose, move, call_judged, call, add, GrammarReads, nothing, whole, stopped, done, more, expression, unread, unchosen, asked, unasked, no_colon, otherwise, arguments, halted, unended}
-use Rattle.cell_calc_grammar.specs.Term.{Term, Negated, Not, count}
+use Rattle.cell_calc_grammar.specs.Term.{Term, Binary, count}
 use Rattle.cell_calc_tokens.specs.Token.{token_number_at, name_at, sign_at, head}
 
 -- one of a level is one of each level above
@@ -48,125 +47,157 @@ front_is (s ∷ ts) t e =
     let same : s.token ≡ t = cc in
     (s.column, ap (λ u. let x : List Placed = record { token = u; column = s.column } ∷ ts in x) same)
 
--- a part that is read: the tokens before the rest have the property
-abbrev pub IsPartOf : {A : Type 0} → (List Placed → A → Type 0) → List Placed → PartOfExpression A → Type 0
-IsPartOf P ts (Ok x) = (front : List Placed) × (ts ≡ front ++ x.1) × P front x.0
-IsPartOf P ts (Err e) = Unit {0}
+-- two parts one after the other
+pub both_parts : {ts us : List Placed} (front mid rest : List Placed) → ts ≡ front ++ us → us ≡ mid ++ rest
+    → ts ≡ (front ++ mid) ++ rest
+both_parts front mid rest e f = e ∙ ap (λ l. front ++ l) f ∙ sym (append_assoc front mid rest)
 
--- a number of at most 255
-abbrev IsDistance : List Placed → ℕ → Type 0
-IsDistance ts n = (c : ℕ) × (ts ≡ token_number_at n c ∷ []) × (n ≤ 255)
+-- the sign before the number of an offset, or none, and what it makes of the number
+pub data Signed : (ℕ → ℤ) → List Placed → Type 0 where
+  unsigned : Signed pos []
+  minus : {c : ℕ} → Signed (λ n. neg_ℤ (pos n)) (sign_at Minus c ∷ [])
+  plus : {c : ℕ} → Signed pos (sign_at Plus c ∷ [])
 
-sound_distance_at : (t : Option Token) (ts : List Placed) → head ts ≡ t → IsPartOf IsDistance ts (distance_at t ts)
-sound_distance_at (Some (token.Number n)) ts e = go (nat_le n 255) refl
-  where
-    go : (b : Bool) → nat_le n 255 ≡ b → IsPartOf IsDistance ts (if b then Ok (n, tail ts) else Err (BadOffset, ts))
-    go true le =
-        let f = front_is ts (token.Number n) e in
-        let small : n ≤ 255 = grind (arith, nat_tests) in
-        (token_number_at n f.0 ∷ [], f.1, (f.0, refl, small))
-    go false le = tt
-sound_distance_at _ ts e = tt
+abbrev pub IsNoNumber : Option Token → Type 0
+IsNoNumber (Some (token.Number n)) = ⊥
+IsNoNumber _ = Unit {0}
 
-sound_distance : (ts : List Placed) → IsPartOf IsDistance ts (distance ts)
-sound_distance ts = sound_distance_at (head ts) ts refl
+-- what stands in the place of a number: none, or one that is too far
+pub data NoNumber : CalcKind → List Placed → Type 0 where
+  none : {ts : List Placed} → IsNoNumber (head ts) → NoNumber Expected ts
+  far : {n c : ℕ} {ts : List Placed} → 255 < n → NoNumber BadOffset (token_number_at n c ∷ ts)
 
--- a distance after a sign, or with none
-sound_signed : (f : ℕ → ℤ) (before ts us : List Placed) → ts ≡ before ++ us → ((n c : ℕ) → n ≤ 255 → IsOffset (before ++ token_number_at n c ∷ []) (f n))
-    → (p : PartOfExpression ℕ) → IsPartOf IsDistance us p → IsPartOf IsOffset ts (offset_signed f p)
-sound_signed f before ts us e g (Err x) h = tt
-sound_signed f before ts us e g (Ok x) h =
-    (before ++ h.0, e ∙ ap (λ l. before ++ l) h.1 ∙ sym (append_assoc before h.0 x.1), subst (λ l. IsOffset (before ++ l) (f x.0)) (sym h.2.1) (g x.0 h.2.0 h.2.2))
+-- an offset stops after its sign, or before one
+abbrev pub NoOffset : CalcKind → List Placed → List Placed → Type 0
+NoOffset kind front rest =
+    (f : ℕ → ℤ) × Signed f front × (front ≡ [] → IsNot Minus (head rest) × IsNot Plus (head rest)) × NoNumber kind rest
 
-sound_plain : (ts : List Placed) → IsPartOf IsOffset ts (offset_signed pos (distance ts))
-sound_plain ts = sound_signed pos [] ts ts refl (λ n c le. IsOffset.plain le) (distance ts) (sound_distance ts)
+-- offsets stop: what was read of them, and the rest
+pub data NoOffsets : CalcKind → List Placed → List Placed → Type 0 where
+  first : {kind : CalcKind} {front rest : List Placed} → NoOffset kind front rest → NoOffsets kind front rest
+  no_comma : {front rest : List Placed} {down : ℤ} → IsOffset front down → IsNot Comma (head rest)
+      → NoOffsets Expected front rest
+  second : {kind : CalcKind} {front mid rest : List Placed} {down : ℤ} (c : ℕ) → IsOffset front down
+      → NoOffset kind mid rest
+      → NoOffsets kind (front ++ sign_at Comma c ∷ mid) rest
+  no_bracket : {front mid rest : List Placed} {down right : ℤ} (c : ℕ) → IsOffset front down → IsOffset mid right
+      → IsNot CloseBracket (head rest) → NoOffsets Expected (front ++ sign_at Comma c ∷ mid) rest
 
-sound_offset_at : (t : Option Token) (ts : List Placed) → head ts ≡ t → IsPartOf IsOffset ts (offset_at t ts)
-sound_offset_at (Some (token.Sign Minus)) ts e =
-    let f = front_is ts (token.Sign Minus) e in
-    sound_signed (λ n. neg_ℤ (pos n)) (sign_at Minus f.0 ∷ []) ts (tail ts) f.1 (λ n c le. grammar.minus le) (distance (tail ts)) (sound_distance (tail ts))
-sound_offset_at (Some (token.Sign Plus)) ts e =
-    let f = front_is ts (token.Sign Plus) e in
-    sound_signed pos (sign_at Plus f.0 ∷ []) ts (tail ts) f.1 (λ n c le. grammar.plus le) (distance (tail ts)) (sound_distance (tail ts))
-sound_offset_at _ ts e = sound_plain ts
-
-pub sound_offset : (ts : List Placed) → IsPartOf IsOffset ts (offset ts)
-sound_offset ts = sound_offset_at (head ts) ts refl
-
-abbrev pub IsSign : Sign → List Placed → Unit {0} → Type 0
-IsSign s ts u = (c : ℕ) × (ts ≡ sign_at s c ∷ [])
-
-pub sound_comma : (t : Option Token) (ts : List Placed) → head ts ≡ t → IsPartOf (IsSign Comma) ts (comma_at t ts)
-sound_comma (Some (token.Sign Comma)) ts e =
-    let f = front_is ts (token.Sign Comma) e in
-    (sign_at Comma f.0 ∷ [], f.1, (f.0, refl))
-sound_comma _ ts e = tt
-
-pub sound_bracket : (t : Option Token) (ts : List Placed) → head ts ≡ t → IsPartOf (IsSign CloseBracket) ts (bracket_at t ts)
-sound_bracket (Some (token.Sign CloseBracket)) ts e =
-    let f = front_is ts (token.Sign CloseBracket) e in
-    (sign_at CloseBracket f.0 ∷ [], f.1, (f.0, refl))
-sound_bracket _ ts e = tt
-
--- one part and then another
-sound_then : {A B : Type 0} (P : List Placed → A → Type 0) (Q : A → List Placed → B → Type 0) (R : List Placed → B → Type 0) (ts : List Placed) (f : A → List Placed → PartOfExpression B)
-    → ((x : A) (us : List Placed) → IsPartOf (Q x) us (f x us)) → ((x : A) (y : B) (front mid : List Placed) → P front x → Q x mid y → R (front ++ mid) y)
-    → (p : PartOfExpression A) → IsPartOf P ts p → IsPartOf R ts (read_then p f)
-sound_then P Q R ts f g j (Err e) h = tt
-sound_then {A = A} {B = B} P Q R ts f g j (Ok x) h = go (f x.0 x.1) (g x.0 x.1)
-  where
-    go : (q : PartOfExpression B) → IsPartOf (Q x.0) x.1 q → IsPartOf R ts q
-    go (Err e) n = tt
-    go (Ok y) n = (h.0 ++ n.0, h.1 ∙ ap (λ l. h.0 ++ l) n.1 ∙ sym (append_assoc h.0 n.0 y.1), j x.0 y.0 h.0 n.0 h.2 n.2)
-
--- off "]" after the first offset
-abbrev IsToBracket : ℤ → List Placed → ℤ × ℤ → Type 0
-IsToBracket down ts x = (us : List Placed) × (d : ℕ) × (ts ≡ us ++ sign_at CloseBracket d ∷ []) × IsOffset us x.1 × (x.0 ≡ down)
-
-abbrev IsNone : ℤ → ℤ → List Placed → ℤ × ℤ → Type 0
-IsNone down right ts x = (ts ≡ []) × (x ≡ (down, right))
-
-abbrev IsEnd : ℤ → ℤ → List Placed → ℤ × ℤ → Type 0
-IsEnd down right ts x = (d : ℕ) × (ts ≡ sign_at CloseBracket d ∷ []) × (x ≡ (down, right))
+-- of a part that is read the tokens before the rest have the property, or it stops after them so
+abbrev pub IsPart : {A : Type 0} → (List Placed → A → Type 0) → (CalcKind → List Placed → List Placed → Type 0)
+    → List Placed → PartOfExpression A → Type 0
+IsPart P E ts (Ok x) = (front : List Placed) × (ts ≡ front ++ x.1) × P front x.0
+IsPart P E ts (Err e) = (front : List Placed) × (ts ≡ front ++ e.1) × E e.0 front e.1
 
 abbrev pub AreBoth : List Placed → ℤ × ℤ → Type 0
 AreBoth ts x = AreOffsets ts x.0 x.1
 
-abbrev IsAfterComma : ℤ → List Placed → ℤ × ℤ → Type 0
-IsAfterComma down ts x = (c : ℕ) × (us : List Placed) × (ts ≡ sign_at Comma c ∷ us) × IsToBracket down us x
+pub offset_of : {f : ℕ → ℤ} {front : List Placed} → Signed f front → (n c : ℕ) → n ≤ 255
+    → IsOffset (front ++ token_number_at n c ∷ []) (f n)
+offset_of unsigned n c le = IsOffset.plain le
+offset_of minus n c le = grammar.minus le
+offset_of plus n c le = grammar.plus le
 
-sound_to_bracket : (down : ℤ) (ts : List Placed) → IsPartOf (IsToBracket down) ts (to_bracket down ts)
-sound_to_bracket down ts =
-    sound_then IsOffset (IsEnd down) (IsToBracket down) ts (λ right us. read_then (bracket_at (head us) us) (λ _ vs. Ok ((down, right), vs))) last both (offset ts) (sound_offset ts)
+-- a number after its sign
+signed_part : {f : ℕ → ℤ} {front : List Placed} → Signed f front → (ts us : List Placed) → ts ≡ front ++ us
+    → (IsNoNumber (head us) → front ≡ [] → IsNot Minus (head us) × IsNot Plus (head us))
+    → IsPart IsOffset NoOffset ts (offset_signed f (distance us))
+signed_part {f = f} {front = front} s ts us e q = go (head us) refl
   where
-    pair : (right : ℤ) (u : Unit {0}) (vs : List Placed) → IsPartOf {A = ℤ × ℤ} (IsNone down right) vs (Ok ((down, right), vs))
-    pair right u vs = ([], refl, (refl, refl))
+    go : (t : Option Token) → head us ≡ t → IsPart IsOffset NoOffset ts (offset_signed f (distance_at t us))
+    go (Some (token.Number n)) h = by (nat_le n 255) refl
+      where
+        g : (c : ℕ) × (us ≡ token_number_at n c ∷ tail us)
+        g = front_is us (token.Number n) h
 
-    ends : (right : ℤ) (u : Unit {0}) (y : ℤ × ℤ) (front mid : List Placed) → IsSign CloseBracket front u → IsNone down right mid y → IsEnd down right (front ++ mid) y
-    ends right u y front mid h g = (h.0, ap (λ l. front ++ l) g.0 ∙ append-nil front ∙ h.1, g.1)
+        by : (b : Bool) → nat_le n 255 ≡ b
+            → IsPart IsOffset NoOffset ts (offset_signed f (if b then Ok (n, tail us) else Err (BadOffset, us)))
+        by true le =
+            let small : n ≤ 255 = grind (arith, nat_tests) in
+            let number = token_number_at n g.0 in
+            (front ++ number ∷ [], both_parts front (number ∷ []) (tail us) e g.1, offset_of s n g.0 small)
+        by false le =
+            let large : 255 < n = grind (arith, nat_tests) in
+            (front, e, (f, s, λ k. (λ m. cc, λ m. cc), subst (NoNumber BadOffset) (sym g.1) (far large)))
+    go t h =
+        let no = subst IsNoNumber (sym h) tt in
+        (front, e, (f, s, q no, none no))
 
-    last : (right : ℤ) (us : List Placed) → IsPartOf (IsEnd down right) us (read_then (bracket_at (head us) us) (λ _ vs. Ok ((down, right), vs)))
-    last right us =
-        sound_then (IsSign CloseBracket) (λ _. IsNone down right) (IsEnd down right) us (λ _ vs. Ok ((down, right), vs)) (pair right) (ends right) (bracket_at (head us) us) (sound_bracket (head us) us refl)
-
-    both : (right : ℤ) (y : ℤ × ℤ) (front mid : List Placed) → IsOffset front right → IsEnd down right mid y → IsToBracket down (front ++ mid) y
-    both right y front mid h g = (front, g.0, ap (λ l. front ++ l) g.1, subst (IsOffset front) (ap (λ p. p.1) (sym g.2)) h, ap (λ p. p.0) g.2)
-
-pub sound_offsets : (ts : List Placed) → IsPartOf AreBoth ts (reading.offsets ts)
-sound_offsets ts =
-    sound_then IsOffset IsAfterComma AreBoth ts (λ down us. read_then (comma_at (head us) us) (λ _ vs. to_bracket down vs)) rest both (offset ts) (sound_offset ts)
+offset_part : (ts : List Placed) → IsPart IsOffset NoOffset ts (offset ts)
+offset_part ts = go (head ts) refl
   where
-    comma : (down : ℤ) (u : Unit {0}) (y : ℤ × ℤ) (front mid : List Placed) → IsSign Comma front u → IsToBracket down mid y → IsAfterComma down (front ++ mid) y
-    comma down u y front mid h g = (h.0, mid, ap (λ l. l ++ mid) h.1, g)
+    go : (t : Option Token) → head ts ≡ t → IsPart IsOffset NoOffset ts (offset_at t ts)
+    go (Some (token.Sign Minus)) e =
+        signed_part minus ts (tail ts) (front_is ts (token.Sign Minus) e).1 (λ _ k. absurd (let h : ⊥ = cc in h))
+    go (Some (token.Sign Plus)) e =
+        signed_part plus ts (tail ts) (front_is ts (token.Sign Plus) e).1 (λ _ k. absurd (let h : ⊥ = cc in h))
+    go _ e =
+        signed_part unsigned ts ts refl
+        (λ n _. (subst (IsNot Minus) (sym e) (λ k. cc), subst (IsNot Plus) (sym e) (λ k. cc)))
 
-    rest : (down : ℤ) (us : List Placed) → IsPartOf (IsAfterComma down) us (read_then (comma_at (head us) us) (λ _ vs. to_bracket down vs))
-    rest down us =
-        sound_then (IsSign Comma) (λ _. IsToBracket down) (IsAfterComma down) us (λ _ vs. to_bracket down vs) (λ _ vs. sound_to_bracket down vs) (comma down) (comma_at (head us) us) (sound_comma (head us) us refl)
+-- one part and then another
+part_then : {A B : Type 0} (P : List Placed → A → Type 0) (Q : List Placed → B → Type 0)
+    (E F : CalcKind → List Placed → List Placed → Type 0)
+    (ts : List Placed) (f : A → List Placed → PartOfExpression B)
+    → ((kind : CalcKind) (front rest : List Placed) → E kind front rest → F kind front rest)
+    → ((x : A) (front us : List Placed) → P front x → IsPart (λ mid. Q (front ++ mid))
+    (λ kind mid. F kind (front ++ mid)) us (f x us))
+    → (p : PartOfExpression A) → IsPart P E ts p → IsPart Q F ts (read_then p f)
+part_then P Q E F ts f w g (Err e) h = (h.0, h.1, w e.0 h.0 e.1 h.2)
+part_then {B = B} P Q E F ts f w g (Ok x) h = go (f x.0 x.1) (g x.0 h.0 x.1 h.2)
+  where
+    go : (q : PartOfExpression B) → IsPart (λ mid. Q (h.0 ++ mid)) (λ kind mid. F kind (h.0 ++ mid)) x.1 q
+        → IsPart Q F ts q
+    go (Ok y) n = (h.0 ++ n.0, both_parts h.0 n.0 y.1 h.1 n.1, n.2)
+    go (Err y) n = (h.0 ++ n.0, both_parts h.0 n.0 y.1 h.1 n.1, n.2)
 
-    both : (down : ℤ) (y : ℤ × ℤ) (front mid : List Placed) → IsOffset front down → IsAfterComma down mid y → AreBoth (front ++ mid) y
-    both down y front mid h g =
-        subst (λ l. AreBoth (front ++ l) y) (sym (g.2 ∙ ap (λ l. sign_at Comma g.0 ∷ l) g.3.2))
-        (grammar.offsets g.0 g.3.1 (subst (IsOffset front) (sym g.3.4) h) g.3.3)
+pub offsets_part : (ts : List Placed) → IsPart AreBoth NoOffsets ts (reading.offsets ts)
+offsets_part ts =
+    part_then IsOffset AreBoth NoOffset NoOffsets ts
+    (λ down us. read_then (comma_at (head us) us) (λ _ vs. to_bracket down vs))
+    (λ kind front rest h. first h) (λ down front us o. comma down front us o (head us) refl) (offset ts)
+    (offset_part ts)
+  where
+    bracket : (down right : ℤ) (c : ℕ) (front mid us : List Placed) → IsOffset front down → IsOffset mid right
+        → (t : Option Token) → head us ≡ t
+        → IsPart (λ l. AreBoth (front ++ sign_at Comma c ∷ (mid ++ l)))
+        (λ kind l. NoOffsets kind (front ++ sign_at Comma c ∷ (mid ++ l)))
+        us (read_then (bracket_at t us) (λ _ vs. Ok ((down, right), vs)))
+    bracket down right c front mid us o i (Some (token.Sign CloseBracket)) e =
+        let f = front_is us (token.Sign CloseBracket) e in
+        (sign_at CloseBracket f.0 ∷ [], f.1, grammar.offsets c f.0 o i)
+    bracket down right c front mid us o i t e =
+        let stop = no_bracket c o i (subst (IsNot CloseBracket) (sym e) (λ k. cc)) in
+        ([], refl, subst (λ l. NoOffsets Expected (front ++ sign_at Comma c ∷ l) us) (sym (append-nil mid)) stop)
+
+    after : (down : ℤ) (c : ℕ) (front us : List Placed) → IsOffset front down
+        → IsPart (λ l. AreBoth (front ++ sign_at Comma c ∷ l))
+        (λ kind l. NoOffsets kind (front ++ sign_at Comma c ∷ l)) us (to_bracket down us)
+    after down c front us o =
+        part_then IsOffset (λ l. AreBoth (front ++ sign_at Comma c ∷ l)) NoOffset
+        (λ kind l. NoOffsets kind (front ++ sign_at Comma c ∷ l)) us
+        (λ right vs. read_then (bracket_at (head vs) vs) (λ _ ws. Ok ((down, right), ws)))
+        (λ kind l rest h. second c o h)
+        (λ right mid vs i. bracket down right c front mid vs o i (head vs) refl) (offset us) (offset_part us)
+
+    comma : (down : ℤ) (front us : List Placed) → IsOffset front down → (t : Option Token) → head us ≡ t
+        → IsPart (λ l. AreBoth (front ++ l)) (λ kind l. NoOffsets kind (front ++ l)) us
+        (read_then (comma_at t us) (λ _ vs. to_bracket down vs))
+    comma down front us o (Some (token.Sign Comma)) e =
+        go (to_bracket down (tail us)) (after down f.0 front (tail us) o)
+      where
+        f : (c : ℕ) × (us ≡ sign_at Comma c ∷ tail us)
+        f = front_is us (token.Sign Comma) e
+
+        go : (q : PartOfExpression (ℤ × ℤ))
+            → IsPart (λ l. AreBoth (front ++ sign_at Comma f.0 ∷ l))
+            (λ kind l. NoOffsets kind (front ++ sign_at Comma f.0 ∷ l)) (tail us) q
+            → IsPart (λ l. AreBoth (front ++ l)) (λ kind l. NoOffsets kind (front ++ l)) us q
+        go (Ok y) n = (sign_at Comma f.0 ∷ n.0, f.1 ∙ ap (λ l. sign_at Comma f.0 ∷ l) n.1, n.2)
+        go (Err y) n = (sign_at Comma f.0 ∷ n.0, f.1 ∙ ap (λ l. sign_at Comma f.0 ∷ l) n.1, n.2)
+    comma down front us o t e =
+        let stop = no_comma o (subst (IsNot Comma) (sym e) (λ k. cc)) in
+        ([], refl, subst (λ l. NoOffsets Expected l us) (sym (append-nil front)) stop)
 
 -- after what was read: a fault goes on
 abbrev pub mapped : (Term → Term) → Outcome → Outcome
@@ -193,115 +224,101 @@ IsSound (Arguments ts) (GotAll xs rest) = (front : List Placed) × (ts ≡ front
 IsSound (Onward (Got a ts)) (GotAll xs rest) = (front : List Placed) → IsExpression front a → (mid : List Placed) × (ts ≡ mid ++ rest) × AreArguments (front ++ mid) xs
 IsSound s o = ⊥
 
-sound_unary : (f : Term → Term) (s : Placed) (ts : List Placed) → ((us : List Placed) (a : Term) → Stands zero us a → Stands zero (s ∷ us) (f a)) → (o : Outcome) → IsSound (Operand ts) o → IsSound (Operand (s ∷ ts)) (mapped f o)
-sound_unary f s ts rule (Got a rest) h = (s ∷ h.0, ap (λ l. s ∷ l) h.1, rule h.0 a h.2, h.3)
-sound_unary f s ts rule _ h = tt
-
-sound_called : (name : List ℕ) (c d : ℕ) (ts : List Placed) (f : Function) → function_of name ≡ Some f → (o : Outcome) → IsSound (Called ts) o
-    → IsSound (Operand (name_at name c ∷ sign_at OpenParenthesis d ∷ ts)) (call f (name_at name c ∷ sign_at OpenParenthesis d ∷ ts) o)
-sound_called name c d ts f e (GotAll xs rest) h = go (accepts f (count xs)) refl
-  where
-    go : (b : Bool) → accepts f (count xs) ≡ b → IsSound (Operand (name_at name c ∷ sign_at OpenParenthesis d ∷ ts)) (call_judged b f xs (name_at name c ∷ sign_at OpenParenthesis d ∷ ts) rest)
-    go true a =
-        (name_at name c ∷ sign_at OpenParenthesis d ∷ h.0, ap (λ l. name_at name c ∷ sign_at OpenParenthesis d ∷ l) h.1, grammar.called f e a h.2, next_zero rest)
-    go false a = tt
-sound_called name c d ts f e _ h = tt
-
-sound_moved : (name : List ℕ) (c d : ℕ) (ts : List Placed) (p : PartOfExpression (ℤ × ℤ)) → IsPartOf AreBoth ts p → IsSound (Operand (name_at name c ∷ sign_at OpenBracket d ∷ ts)) (move name c p)
-sound_moved name c d ts (Err e) h = tt
-sound_moved name c d ts (Ok x) h =
-    (name_at name c ∷ sign_at OpenBracket d ∷ h.0, ap (λ l. name_at name c ∷ sign_at OpenBracket d ∷ l) h.1, grammar.moved h.2, next_zero x.1)
-
-sound_closed : (c : ℕ) (ts : List Placed) (a : Term) (rest : List Placed) (t : Option Token) → head rest ≡ t → IsSound (Expression ts) (Got a rest) → IsSound (Operand (sign_at OpenParenthesis c ∷ ts)) (after_bracket t a rest)
-sound_closed c ts a rest (Some (token.Sign CloseParenthesis)) e h =
-    let f = front_is rest (token.Sign CloseParenthesis) e in
-    let d = f.0 in (
-      sign_at OpenParenthesis c ∷ (h.0 ++ sign_at CloseParenthesis d ∷ []),
-      ap (λ l. sign_at OpenParenthesis c ∷ l) (h.1 ∙ ap (λ l. h.0 ++ l) f.1 ∙ sym (append_assoc h.0 (sign_at CloseParenthesis d ∷ []) (tail rest))),
-      grammar.inside d h.2,
-      next_zero (tail rest),
-    )
-sound_closed c ts a rest _ e h = tt
-
-sound_inside : (c : ℕ) (ts : List Placed) (o : Outcome) → IsSound (Expression ts) o → IsSound (Operand (sign_at OpenParenthesis c ∷ ts)) (close o)
-sound_inside c ts (Got a rest) h = sound_closed c ts a rest (head rest) refl h
-sound_inside c ts _ h = tt
-
-sound_whole : (k : ℕ) (ts : List Placed) (o p : Outcome) → IsSound (Operand ts) o → IsSound (More k o) p → IsSound (Whole k ts) p
-sound_whole k ts o (Stops kind rest) h m = tt
-sound_whole k ts (Got a rest') (Got b rest) h m =
-    let n = m zero h.0 (omega arith) (next_zero rest') h.2 in
-    (h.0 ++ n.0, h.1 ∙ ap (λ l. h.0 ++ l) n.1 ∙ sym (append_assoc h.0 n.0 rest), n.2, n.3)
-sound_whole k ts _ _ h m = absurd m
-
-sound_more : (k : ℕ) (s : Placed) (ts : List Placed) (a : Term) (o p : Outcome) (op : Operator) → next k (s ∷ ts) ≡ Some op → IsSound (Whole (level_of op) ts) o → IsSound (More k (join op a o)) p → IsSound (More k (Got a (s ∷ ts))) p
-sound_more k s ts a o (Stops kind rest) op e h m = tt
-sound_more k s ts a (Got b rest') (Got c rest) op e h m = λ j front le stop st.
+-- an operand that an operator goes on with, and what follows it
+pub goes_joined : (j k : ℕ) (s : Placed) (ts : List Placed) (op : Operator) {front us : List Placed} {a b : Term}
+    → next k (s ∷ ts) ≡ Some op
+    → next (pred j) (s ∷ ts) ≡ None → Stands j front a → Stands (level_of op) us b
+    → Stands (suc (level_of op)) (front ++ s ∷ us) (Binary op a b) × (suc (level_of op) ≤ k)
+goes_joined j k s ts op {front = front} {a = a} e stop st su =
     let here = below_some k (operator_of s.token) op e in
     let high = above_none (pred j) op (sym (ap (below_level (pred j)) here.0) ∙ stop) in
     let here_level = here.1 in
-    let left = raise j (suc (level_of op)) front a (omega arith) st in
-    let both = joined s op here.0 refl left h.2 in
-    let n = m (suc (level_of op)) (front ++ s ∷ h.0) (omega arith) h.3 both in
-    (s ∷ (h.0 ++ n.0), ap (λ l. s ∷ l) (h.1 ∙ ap (λ l. h.0 ++ l) n.1 ∙ sym (append_assoc h.0 n.0 rest)), subst (λ l. Stands k l c) (append_assoc front (s ∷ h.0) n.0) n.2, n.3)
-sound_more k s ts a _ _ op e h m = absurd m
+    (joined s op here.0 refl (raise j (suc (level_of op)) front a (omega arith) st) su, omega arith)
 
-sound_expression : (ts : List Placed) (o p : Outcome) → IsSound (Whole top ts) o → IsSound (Choice o) p → IsSound (Expression ts) p
-sound_expression ts o (Stops kind rest) h m = tt
-sound_expression ts (Got a rest') (Got b rest) h m =
-    let n = m h.0 h.2 in
-    (h.0 ++ n.0, h.1 ∙ ap (λ l. h.0 ++ l) n.1 ∙ sym (append_assoc h.0 n.0 rest), n.2)
-sound_expression ts _ _ h m = absurd m
+sound_moved : (name : List ℕ) (c d : ℕ) (ts : List Placed) (p : PartOfExpression (ℤ × ℤ))
+    → IsPart AreBoth NoOffsets ts p
+    → IsSound (Operand (name_at name c ∷ sign_at OpenBracket d ∷ ts)) (move name c p)
+sound_moved name c d ts (Err e) h = tt
+sound_moved name c d ts (Ok x) h =
+    let opens : List Placed = name_at name c ∷ sign_at OpenBracket d ∷ [] in
+    (opens ++ h.0, ap (λ l. opens ++ l) h.1, grammar.moved h.2, next_zero x.1)
 
-sound_asked : (c : ℕ) (x : Term) (ts : List Placed) (o p : Outcome) → IsSound (Expression ts) o → IsSound (AfterQuestion x o) p → IsSound (Choice (Got x (sign_at Question c ∷ ts))) p
-sound_asked c x ts o (Stops kind rest) h m = tt
-sound_asked c x ts (Got a rest') (Got b rest) h m = λ front st.
-    let n = m front h.0 c st h.2 in
-    (sign_at Question c ∷ (h.0 ++ n.0), ap (λ l. sign_at Question c ∷ l) (h.1 ∙ ap (λ l. h.0 ++ l) n.1 ∙ sym (append_assoc h.0 n.0 rest)), n.2)
-sound_asked c x ts _ _ h m = absurd m
-
-sound_otherwise : (d : ℕ) (x a : Term) (ts : List Placed) (o : Outcome) → IsSound (Expression ts) o → IsSound (AfterQuestion x (Got a (sign_at Colon d ∷ ts))) (choose x a o)
-sound_otherwise d x a ts (Got b rest) h = λ front us c st ex.
-    (sign_at Colon d ∷ h.0, ap (λ l. sign_at Colon d ∷ l) h.1, choice c d st ex h.2)
-sound_otherwise d x a ts _ h = tt
-
-sound_some : (ts : List Placed) (o : Outcome) → IsSound (Arguments ts) o → IsSound (Called ts) o
-sound_some ts (Got a rest) h = absurd h
-sound_some ts (GotAll xs rest) h = (h.0, h.1, grammar.some h.2)
-sound_some ts (Stops kind rest) h = tt
-
-sound_arguments : (ts : List Placed) (o p : Outcome) → IsSound (Expression ts) o → IsSound (Onward o) p → IsSound (Arguments ts) p
-sound_arguments ts o (Stops kind rest) h m = tt
-sound_arguments ts (Got a rest') (GotAll xs rest) h m =
-    let n = m h.0 h.2 in
-    (h.0 ++ n.0, h.1 ∙ ap (λ l. h.0 ++ l) n.1 ∙ sym (append_assoc h.0 n.0 rest), n.2)
-sound_arguments ts _ _ h m = absurd m
-
-sound_another : (c : ℕ) (a : Term) (ts : List Placed) (o : Outcome) → IsSound (Arguments ts) o → IsSound (Onward (Got a (sign_at Comma c ∷ ts))) (add a o)
-sound_another c a ts (GotAll xs rest) h = λ front st. (sign_at Comma c ∷ h.0, ap (λ l. sign_at Comma c ∷ l) h.1, grammar.another c st h.2)
-sound_another c a ts _ h = tt
+sound_closed : (c : ℕ) (ts : List Placed) (a : Term) (rest : List Placed) (t : Option Token) → head rest ≡ t
+    → IsSound (Expression ts) (Got a rest) → IsSound (Operand (sign_at OpenParenthesis c ∷ ts)) (after_bracket t a rest)
+sound_closed c ts a rest (Some (token.Sign CloseParenthesis)) e h =
+    let f = front_is rest (token.Sign CloseParenthesis) e in
+    let all = both_parts h.0 (sign_at CloseParenthesis f.0 ∷ []) (tail rest) h.1 f.1 in
+    (_, ap (λ l. sign_at OpenParenthesis c ∷ l) all, grammar.inside f.0 h.2, next_zero (tail rest))
+sound_closed c ts a rest _ e h = tt
 
 pub sound : {s : State} {o : Outcome} → GrammarReads s o → IsSound s o
 sound (reading.number {n = n} {c = c} {ts = ts}) = (token_number_at n c ∷ [], refl, grammar.number, next_zero ts)
 sound (reading.map {name = name} {c = c} {ts = ts} f) = (name_at name c ∷ [], refl, grammar.map, next_zero ts)
-sound (reading.moved {name = name} {c = c} {d = d} {ts = ts}) = sound_moved name c d ts (reading.offsets ts) (sound_offsets ts)
-sound (reading.called {name = name} {c = c} {d = d} {ts = ts} {o = o} f e r) = sound_called name c d ts f e o (sound r)
-sound (reading.negated {c = c} {ts = ts} {o = o} r) = sound_unary Negated (sign_at Minus c) ts (λ us a st. grammar.negated st) o (sound r)
-sound (reading.not {c = c} {ts = ts} {o = o} r) = sound_unary Not (sign_at Exclamation c) ts (λ us a st. grammar.not st) o (sound r)
-sound (reading.inside {c = c} {ts = ts} {o = o} r) = sound_inside c ts o (sound r)
-sound (whole {k = k} {ts = ts} {o = o} {p = p} r m) = sound_whole k ts o p (sound r) (sound m)
-sound (done {k = k} {ts = ts} {a = a} e) = λ j front le stop st.
+sound (reading.moved {name = name} {c = c} {d = d} {ts = ts}) =
+    sound_moved name c d ts (reading.offsets ts) (offsets_part ts)
+sound (reading.called {name = name} {c = c} {d = d} {ts = ts} {o = GotAll xs rest} f e r) =
+    go (sound r) (accepts f (count xs)) refl
+  where
+    opens : List Placed
+    opens = name_at name c ∷ sign_at OpenParenthesis d ∷ []
+
+    go : IsSound (Called ts) (GotAll xs rest) → (b : Bool) → accepts f (count xs) ≡ b
+        → IsSound (Operand (opens ++ ts)) (call_judged b f xs (opens ++ ts) rest)
+    go h true a = (opens ++ h.0, ap (λ l. opens ++ l) h.1, grammar.called f e a h.2, next_zero rest)
+    go h false a = tt
+sound (reading.negated {c = c} {o = Got a rest} r) =
+    let h = sound r in
+    (sign_at Minus c ∷ h.0, ap (λ l. sign_at Minus c ∷ l) h.1, grammar.negated h.2, h.3)
+sound (reading.not {c = c} {o = Got a rest} r) =
+    let h = sound r in
+    (sign_at Exclamation c ∷ h.0, ap (λ l. sign_at Exclamation c ∷ l) h.1, grammar.not h.2, h.3)
+sound (reading.inside {c = c} {ts = ts} {o = Got a rest} r) = sound_closed c ts a rest (head rest) refl (sound r)
+sound (whole {o = Got a us} {p = Got b rest} r m) =
+    let h = sound r in
+    let n = sound m zero h.0 (omega arith) (next_zero us) h.2 in
+    (h.0 ++ n.0, both_parts h.0 n.0 rest h.1 n.1, n.2, n.3)
+sound (whole {p = Stops kind rest} r m) = tt
+sound (whole r m) = absurd (sound m)
+sound (done {k = k} {a = a} e) = λ j front le stop st.
     ([], refl, subst (λ l. Stands k l a) (sym (append-nil front)) (raise j k front a le st), e)
-sound (more {k = k} {s = s} {ts = ts} {a = a} {o = o} {p = p} op e r m) = sound_more k s ts a o p op e (sound r) (sound m)
-sound (expression {ts = ts} {o = o} {p = p} r m) = sound_expression ts o p (sound r) (sound m)
-sound (unchosen {a = a} {ts = ts} e) = λ front st. ([], refl, subst (λ l. IsExpression l a) (sym (append-nil front)) (grammar.IsExpression.plain st))
-sound (asked {c = c} {x = x} {ts = ts} {o = o} {p = p} r m) = sound_asked c x ts o p (sound r) (sound m)
-sound (otherwise {c = c} {x = x} {a = a} {ts = ts} {o = o} r) = sound_otherwise c x a ts o (sound r)
-sound (reading.none {c = c} {ts = ts}) = (sign_at CloseParenthesis c ∷ [], refl, grammar.none)
-sound (reading.some {ts = ts} {o = o} e r) = sound_some ts o (sound r)
-sound (arguments {ts = ts} {o = o} {p = p} r m) = sound_arguments ts o p (sound r) (sound m)
-sound (reading.last {c = c} {a = a} {ts = ts}) = λ front st. (sign_at CloseParenthesis c ∷ [], refl, grammar.last c st)
-sound (reading.another {c = c} {a = a} {ts = ts} {o = o} r) = sound_another c a ts o (sound r)
+sound (more {k = k} {s = s} {ts = ts} {o = Got b us} {p = Got c rest} op e r m) = λ j front le stop st.
+    let h = sound r in
+    let both = goes_joined j k s ts op e stop st h.2 in
+    let n = sound m (suc (level_of op)) (front ++ s ∷ h.0) both.1 h.3 both.0 in
+    let all = subst (λ l. Stands k l c) (append_assoc front (s ∷ h.0) n.0) n.2 in
+    (s ∷ (h.0 ++ n.0), ap (λ l. s ∷ l) (both_parts h.0 n.0 rest h.1 n.1), all, n.3)
+sound (more {p = Stops kind rest} op e r m) = tt
+sound (more op e r m) = absurd (sound m)
+sound (expression {o = Got a us} {p = Got b rest} r m) =
+    let h = sound r in
+    let n = sound m h.0 h.2 in
+    (h.0 ++ n.0, both_parts h.0 n.0 rest h.1 n.1, n.2)
+sound (expression {p = Stops kind rest} r m) = tt
+sound (expression r m) = absurd (sound m)
+sound (unchosen {a = a} e) = λ front st.
+    ([], refl, subst (λ l. IsExpression l a) (sym (append-nil front)) (grammar.IsExpression.plain st))
+sound (asked {c = c} {o = Got a us} {p = Got b rest} r m) = λ front st.
+    let h = sound r in
+    let n = sound m front h.0 c st h.2 in
+    (sign_at Question c ∷ (h.0 ++ n.0), ap (λ l. sign_at Question c ∷ l) (both_parts h.0 n.0 rest h.1 n.1), n.2)
+sound (asked {p = Stops kind rest} r m) = tt
+sound (asked r m) = absurd (sound m)
+sound (otherwise {c = d} {o = Got b rest} r) = λ front us c st ex.
+    let h = sound r in
+    (sign_at Colon d ∷ h.0, ap (λ l. sign_at Colon d ∷ l) h.1, choice c d st ex h.2)
+sound (reading.none {c = c}) = (sign_at CloseParenthesis c ∷ [], refl, grammar.none)
+sound (reading.some {o = GotAll xs rest} e r) = let h = sound r in (h.0, h.1, grammar.some h.2)
+sound (reading.some {o = Got a rest} e r) = absurd (sound r)
+sound (arguments {o = Got a us} {p = GotAll xs rest} r m) =
+    let h = sound r in
+    let n = sound m h.0 h.2 in
+    (h.0 ++ n.0, both_parts h.0 n.0 rest h.1 n.1, n.2)
+sound (arguments {p = Stops kind rest} r m) = tt
+sound (arguments r m) = absurd (sound m)
+sound (reading.last {c = c}) = λ front st. (sign_at CloseParenthesis c ∷ [], refl, grammar.last c st)
+sound (reading.another {c = c} {o = GotAll xs rest} r) = λ front st.
+    let h = sound r in
+    (sign_at Comma c ∷ h.0, ap (λ l. sign_at Comma c ∷ l) h.1, grammar.another c st h.2)
 sound _ = tt
 
 -- what is read to the end stands for its expression

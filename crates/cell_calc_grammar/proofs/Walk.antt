@@ -170,10 +170,17 @@ first_makes st h = offset_makes (First st) h (FirstNumber st) (Between st) (λ t
 pub second_makes : {ts : List Placed} {z : ℤ} (st : List Frame) → IsOffset ts z → walk (Some (Second st)) (shape ts) ≡ Some (Last st)
 second_makes st h = offset_makes (Second st) h (SecondNumber st) (Last st) (λ t. refl) (λ t. refl)
 
-pub offsets_make : {ts : List Placed} {down right : ℤ} (st : List Frame) → AreOffsets ts down right → walk (Some (First st)) (shape ts) ≡ Some (After st)
+-- the first offset and the comma
+pub comma_makes : {ts : List Placed} {z : ℤ} (st : List Frame) (c : ℕ) (us : List Placed) → IsOffset ts z
+    → walk (Some (First st)) (shape (ts ++ sign_at Comma c ∷ us)) ≡ walk (Some (Second st)) (shape us)
+comma_makes {ts = ts} st c us h =
+    walk_both (Some (First st)) ts (sign_at Comma c ∷ us)
+    ∙ ap (λ p. walk p (shape (sign_at Comma c ∷ us))) (first_makes st h)
+
+pub offsets_make : {ts : List Placed} {down right : ℤ} (st : List Frame) → AreOffsets ts down right
+    → walk (Some (First st)) (shape ts) ≡ Some (After st)
 offsets_make st (grammar.offsets {ts = ts} {us = us} c d h g) =
-    walk_both (Some (First st)) ts (sign_at Comma c ∷ (us ++ sign_at CloseBracket d ∷ []))
-    ∙ ap (λ p. walk p (shape (sign_at Comma c ∷ (us ++ sign_at CloseBracket d ∷ [])))) (first_makes st h)
+    comma_makes st c (us ++ sign_at CloseBracket d ∷ []) h
     ∙ walk_both (Some (Second st)) us (sign_at CloseBracket d ∷ [])
     ∙ ap (λ p. walk p (shape (sign_at CloseBracket d ∷ []))) (second_makes st g)
 

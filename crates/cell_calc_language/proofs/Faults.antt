@@ -1,5 +1,5 @@
 -- Where reading ends too early, that is the first fault that the tokens tell.
-use Rattle.std.proofs.Common.{◌≡◌, ℕ, List, [], ◌∷◌, ◌++◌, Option, Some, None, refl, sym, ap, ◌∙◌, subst, append_assoc, append-nil, inl, inr, arith}
+use Rattle.std.proofs.Common.{◌≡◌, ℕ, ℤ, List, [], ◌∷◌, ◌++◌, Option, Some, None, refl, sym, ap, ◌∙◌, subst, append_assoc, append-nil, inl, inr, arith}
 use Rattle.std.specs.Prelude.{◌+◌, length, Result, Ok, Err, IfErr, MatchResult}
 use Rattle.std.proofs.lemmas.List.{append_cancel_right}
 use Rattle.cell_calc_language.specs.declared.assignment.Assignment.{Assignment}
@@ -15,7 +15,8 @@ use Rattle.cell_calc_tokens.specs.declared.token.Token.TheVariants as token
 use Rattle.cell_calc_language.specs.Assignment.{IsAssignment}
 use Rattle.cell_calc_grammar.specs.Grammar as grammar
 use Rattle.cell_calc_grammar.specs.Grammar.{IsExpression}
-use Rattle.cell_calc_language.specs.GrammarFault.{IsInBrackets, CanGoOn, Tells, column_of, IsNone, IsGrammarFault, IsFaultOf, IsTextFault}
+use Rattle.cell_calc_language.specs.GrammarFault as grammar_fault
+use Rattle.cell_calc_language.specs.GrammarFault.{IsOffsetSign, IsBeforeNumber, IsInBrackets, CanGoOn, Tells, column_of, IsNone, IsGrammarFault, IsFaultOf, IsTextFault}
 use Rattle.cell_calc_grammar.specs.TokensRead.{Outcome, Got, Stops, Expression, IsNot, GrammarReads, tail}
 use Rattle.cell_calc_grammar.specs.Shape.{shape_of, shape}
 use Rattle.cell_calc_language.specs.Stopping.{ParserStopsAt, FollowsSign, fault_of_stop}
@@ -27,9 +28,8 @@ use Rattle.cell_calc_grammar.proofs.Complete.{one_outcome, read_all}
 use Rattle.cell_calc_language.proofs.Law.{one}
 use Rattle.cell_calc_grammar.proofs.Occurs.{find}
 use Rattle.cell_calc_grammar.proofs.Refused.{Refuses, quiet_step, walked}
-use Rattle.cell_calc_grammar.proofs.Sound.{raise, sound, sound_all, front_is}
+use Rattle.cell_calc_grammar.proofs.Sound.{raise, sound, sound_all, front_is, Signed, unsigned, minus, plus, NoOffsets, first, second}
 use Rattle.cell_calc_language.proofs.Steps.{after_is}
-use Rattle.cell_calc_language.proofs.Told.{far_in_brackets}
 use Rattle.cell_calc_grammar.proofs.Viable.{IsSegment, SomeExpression, viable}
 use Rattle.cell_calc_grammar.proofs.Walk as place
 use Rattle.cell_calc_grammar.proofs.Walk.{Place, Start, Lands, step_on, walk, walk_none, walk_both, expression_makes}
@@ -149,76 +149,103 @@ stops_expected end name c d ts rest r can none = go rest refl
         expected_at_end end (name_at name c ∷ sign_at Assign d ∷ ts) (subst CanGoOn same can) (subst HasNoBad same free) none
     go (next ∷ more) e =
         let same : name_at name c ∷ sign_at Assign d ∷ ts ≡ before ++ next ∷ more = all ∙ ap (λ l. before ++ l) e in
-        let w = walked r refl [] in
+        let w = (walked r).1 [] in
         let one = one_before ts w.before (find r).before rest w.all (find r).all in
         let refused : step_on (walk (Some (place.Operand [])) (shape (find r).before)) (shape_of next.token) ≡ None =
-        subst (λ l. step_on (walk (Some (place.Operand [])) (shape l)) (shape_of next.token) ≡ None) one (subst (λ t. Refuses t (walk (Some (place.Operand [])) (shape w.before))) (ap head e) w.ends) in
+        subst (λ l. step_on (walk (Some (place.Operand [])) (shape l)) (shape_of next.token) ≡ None) one
+        (subst (λ t. Refuses t (walk (Some (place.Operand [])) (shape w.before))) (ap head e) (w.ends refl)) in
         subst (λ l. IsGrammarFault end l (token_fault Expected next.column)) (sym same)
         (unexpected end before more next can free (refused_after name c d (find r).before next refused) (subst IsNone same none))
 
 -- the fault is told later, at the last token of a segment
-stops_later : (end : ℕ) (name : List ℕ) (c d : ℕ) (ts : List Placed) (kind : CalcKind) (rest : List Placed) (r : GrammarReads (Expression ts) (Stops kind rest)) (extra more : List Placed) (next : Placed) → rest ≡ extra ++ next ∷ more
-    → ((q : List Placed) → Stops kind rest ≡ Stops BadOffset q → extra ≡ []) → HasNoBad extra → (column : ℕ)
-    → CanGoOn ((name_at name c ∷ sign_at Assign d ∷ ((find r).before ++ extra)) ++ next ∷ [])
-    → Tells kind column (name_at name c ∷ sign_at Assign d ∷ ((find r).before ++ extra)) next
-    → IsNone (name_at name c ∷ sign_at Assign d ∷ ts) → IsGrammarFault end (name_at name c ∷ sign_at Assign d ∷ ts) (token_fault kind column)
-stops_later end name c d ts kind rest r extra more next e far free column can told none =
-    let before : List Placed = name_at name c ∷ sign_at Assign d ∷ ((find r).before ++ extra) in
-    let all : name_at name c ∷ sign_at Assign d ∷ ts ≡ before ++ next ∷ more =
-    ap (λ l. name_at name c ∷ sign_at Assign d ∷ l) ((find r).all ∙ ap (λ l. (find r).before ++ l) e ∙ sym (append_assoc (find r).before extra (next ∷ more))) in
-    (inl (before, more, next, all, told, tells_none before (can_before before (next ∷ []) can) (none_in_assignment name c d r extra (next ∷ more) e far free)), none)
+stops_later : (end : ℕ) (name : List ℕ) (c d : ℕ) (ts : List Placed) (kind : CalcKind) (rest : List Placed)
+    (r : GrammarReads (Expression ts) (Stops kind rest)) (extra more : List Placed) (next : Placed)
+    → rest ≡ (extra ++ next ∷ []) ++ more → ((q : List Placed) → Stops kind rest ≡ Stops BadOffset q → extra ≡ [])
+    → HasNoBad extra
+    → CanGoOn (name_at name c ∷ sign_at Assign d ∷ ((find r).before ++ (extra ++ next ∷ [])))
+    → (CanGoOn ((name_at name c ∷ sign_at Assign d ∷ ((find r).before ++ extra)) ++ next ∷ [])
+    → Tells kind (column_of end ((extra ++ next ∷ []) ++ more))
+    (name_at name c ∷ sign_at Assign d ∷ ((find r).before ++ extra)) next)
+    → IsNone (name_at name c ∷ sign_at Assign d ∷ ts) → IsFaultAt end (name_at name c ∷ sign_at Assign d ∷ ts) kind rest
+stops_later end name c d ts kind rest r extra more next e far free can told none =
+    let opens : List Placed = name_at name c ∷ sign_at Assign d ∷ [] in
+    let before : List Placed = opens ++ ((find r).before ++ extra) in
+    let can' = subst CanGoOn (ap (λ l. opens ++ l) (sym (append_assoc (find r).before extra (next ∷ [])))) can in
+    let at : rest ≡ extra ++ next ∷ more = e ∙ append_assoc extra (next ∷ []) more in
+    let all : opens ++ ts ≡ before ++ next ∷ more =
+    ap (λ l. opens ++ l)
+    ((find r).all ∙ ap (λ l. (find r).before ++ l) at ∙ sym (append_assoc (find r).before extra (next ∷ more))) in
+    let free' = none_in_assignment name c d r extra (next ∷ more) at far free in
+    subst (λ k. IsGrammarFault end (opens ++ ts) (token_fault kind k)) (sym (ap (column_of end) e))
+    (inl (before, more, next, all, told can', tells_none before (can_before before (next ∷ []) can') free'), none)
 
 stops_no_end : (kind : CalcKind) (rest : List Placed) → IsNoEnd (Stops kind rest)
 stops_no_end kind rest a e = cc
 
-pub stops : (end : ℕ) (name : List ℕ) (c d : ℕ) (ts : List Placed) (kind : CalcKind) (rest : List Placed) → GrammarReads (Expression ts) (Stops kind rest) → IsFaultAt end (name_at name c ∷ sign_at Assign d ∷ ts) kind rest
+offset_sign : {f : ℕ → ℤ} {ts : List Placed} → Signed f ts → IsOffsetSign ts
+offset_sign unsigned = grammar_fault.unsigned
+offset_sign minus = grammar_fault.minus _
+offset_sign plus = grammar_fault.plus _
+
+before_number : {front rest : List Placed} → NoOffsets BadOffset front rest → IsBeforeNumber front
+before_number (first h) = grammar_fault.first (offset_sign h.1)
+before_number (second c o h) = grammar_fault.second c o (offset_sign h.1)
+
+not_far : {A : Type 0} {kind : CalcKind} {rest q : List Placed} → (kind ≡ BadOffset → ⊥)
+    → Stops kind rest ≡ Stops BadOffset q → A
+not_far n e = absurd (n cc)
+
+-- by the segment that tells the fault
+stops_as : (end : ℕ) (name : List ℕ) (c d : ℕ) (ts : List Placed) (kind : CalcKind) (rest : List Placed)
+    (r : GrammarReads (Expression ts) (Stops kind rest)) (seg more : List Placed) → rest ≡ seg ++ more
+    → IsSegment kind (find r).before seg → CanGoOn (name_at name c ∷ sign_at Assign d ∷ ((find r).before ++ seg))
+    → IsNone (name_at name c ∷ sign_at Assign d ∷ ts) → IsFaultAt end (name_at name c ∷ sign_at Assign d ∷ ts) kind rest
+stops_as end name c d ts Expected rest r seg more e told can none =
+    let opens : List Placed = name_at name c ∷ sign_at Assign d ∷ [] in
+    stops_expected end name c d ts rest r
+    (subst (λ l. CanGoOn (opens ++ l)) (ap (λ l. (find r).before ++ l) told ∙ append-nil (find r).before) can) none
+stops_as end name c d ts UnknownFunction rest r seg more e (f, c', d', s, u) can none =
+    let front : List Placed = name_at name c ∷ sign_at Assign d ∷ (find r).before in
+    let same = append_assoc front (name_at f c' ∷ []) (sign_at OpenParenthesis d' ∷ []) in
+    stops_later end name c d ts UnknownFunction rest r (name_at f c' ∷ []) more (sign_at OpenParenthesis d')
+    (e ∙ ap (λ l. l ++ more) s)
+    (λ q. not_far (λ k. cc)) (none_in_one (name_at f c')) (subst (λ l. CanGoOn (front ++ l)) s can)
+    (λ can'. ((front, f, d', same, u), can')) none
+stops_as end name c d ts BadArguments rest r seg more e (f, g, xs, c', d', inside, s, u, h, a) can none =
+    let z = called_end h in
+    let front : List Placed = name_at name c ∷ sign_at Assign d ∷ (find r).before in
+    let opens : List Placed = name_at f c' ∷ sign_at OpenParenthesis d' ∷ [] in
+    let last : Placed = sign_at CloseParenthesis z.1 in
+    let seg' : seg ≡ (opens ++ z.0) ++ last ∷ [] = s ∙ ap (λ l. opens ++ l) z.2 in
+    let call : (front ++ (opens ++ z.0)) ++ last ∷ [] ≡ front ++ (opens ++ inside) =
+    append_assoc front (opens ++ z.0) (last ∷ []) ∙ ap (λ l. front ++ (opens ++ l)) (sym z.2) in
+    stops_later end name c d ts BadArguments rest r (opens ++ z.0) more last (e ∙ ap (λ l. l ++ more) seg')
+    (λ q. not_far (λ k. cc))
+    (none_in_call f c' d' z.0 last g xs u (subst (λ l. grammar.AreCalled l xs) z.2 h) a)
+    (subst (λ l. CanGoOn (front ++ l)) seg' can)
+    (λ can'. ((front, inside, f, d', g, xs, call, u, h, a), can')) none
+stops_as end name c d ts BadOffset rest r seg more e
+    (n, c', s, over, (open', inner, rest', f, d', d'', all, stop)) can none =
+    let opens : List Placed = name_at name c ∷ sign_at Assign d ∷ [] in
+    let same = append-nil (opens ++ (find r).before) in
+    let inside : IsInBrackets (opens ++ (find r).before) =
+    (opens ++ open', inner, f, d', d'', ap (λ l. opens ++ l) all, before_number stop) in
+    stops_later end name c d ts BadOffset rest r [] more (token_number_at n c') (e ∙ ap (λ l. l ++ more) s)
+    (λ q k. refl) none_in_nothing
+    (subst (λ l. CanGoOn (opens ++ ((find r).before ++ l))) s can)
+    (λ can'. ((opens ++ ((find r).before ++ []), n, refl, over, subst IsInBrackets (sym same) inside), can')) none
+stops_as end name c d ts _ rest r seg more e told can none = absurd told
+
+pub stops : (end : ℕ) (name : List ℕ) (c d : ℕ) (ts : List Placed) (kind : CalcKind) (rest : List Placed)
+    → GrammarReads (Expression ts) (Stops kind rest) → IsFaultAt end (name_at name c ∷ sign_at Assign d ∷ ts) kind rest
 stops end name c d ts kind rest r =
     let v = viable r in
     let w = find r in
     let one = one_before ts v.before w.before rest v.all w.all in
-    let can : CanGoOn (name_at name c ∷ sign_at Assign d ∷ (w.before ++ v.seg)) = expression_goes_on name c d (w.before ++ v.seg) v.us v.after (v.same ∙ ap (λ l. shape (l ++ v.seg)) one) v.goes in
+    let shape_is = v.same ∙ ap (λ l. shape (l ++ v.seg)) one in
+    let can = expression_goes_on name c d (w.before ++ v.seg) v.us v.after shape_is v.goes in
     let none = none_of_expression (name_at name c) (sign_at Assign d) ts (no_expression ts (Stops kind rest) r (stops_no_end kind rest)) in
-    go kind r v.seg v.more v.front v.told can none
-  where
-    whole : List Placed
-    whole = name_at name c ∷ sign_at Assign d ∷ ts
-
-    go : (kind : CalcKind) (r : GrammarReads (Expression ts) (Stops kind rest)) (seg more : List Placed) → rest ≡ seg ++ more → IsSegment kind seg → CanGoOn (name_at name c ∷ sign_at Assign d ∷ ((find r).before ++ seg)) → IsNone whole → IsFaultAt end whole kind rest
-    go Expected r seg more e told can none =
-        stops_expected end name c d ts rest r (subst CanGoOn (ap (λ l. name_at name c ∷ sign_at Assign d ∷ ((find r).before ++ l)) told ∙ ap (λ l. name_at name c ∷ sign_at Assign d ∷ l) (append-nil (find r).before)) can) none
-    go UnknownFunction r seg more e (f, c', d', s, u) can none =
-        let b = (find r).before in
-        let front : List Placed = name_at name c ∷ sign_at Assign d ∷ b in
-        let at : rest ≡ name_at f c' ∷ sign_at OpenParenthesis d' ∷ more = e ∙ ap (λ l. l ++ more) s in
-        let same : front ++ seg ≡ (front ++ name_at f c' ∷ []) ++ sign_at OpenParenthesis d' ∷ [] = ap (λ l. front ++ l) s ∙ sym (append_assoc front (name_at f c' ∷ []) (sign_at OpenParenthesis d' ∷ [])) in
-        let can' = subst CanGoOn same can in
-        subst (λ k. IsGrammarFault end whole (token_fault UnknownFunction k)) (sym (ap (column_of end) at))
-        (stops_later end name c d ts UnknownFunction rest r (name_at f c' ∷ []) more (sign_at OpenParenthesis d') at (λ q k. absurd (let n : ⊥ = cc in n)) (none_in_one (name_at f c')) c' can'
-        ((front, f, d', append_assoc front (name_at f c' ∷ []) (sign_at OpenParenthesis d' ∷ []), u), can') none)
-    go BadArguments r seg more e (f, g, xs, c', d', inside, s, u, h, a) can none =
-        let z = called_end h in
-        let front : List Placed = name_at name c ∷ sign_at Assign d ∷ (find r).before in
-        let extra : List Placed = name_at f c' ∷ sign_at OpenParenthesis d' ∷ z.0 in
-        let last : Placed = sign_at CloseParenthesis z.1 in
-        let seg' : seg ≡ extra ++ last ∷ [] = s ∙ ap (λ l. name_at f c' ∷ sign_at OpenParenthesis d' ∷ l) z.2 in
-        let at : rest ≡ extra ++ last ∷ more = e ∙ ap (λ l. l ++ more) seg' ∙ append_assoc extra (last ∷ []) more in
-        let same : front ++ seg ≡ (front ++ extra) ++ last ∷ [] = ap (λ l. front ++ l) seg' ∙ sym (append_assoc front extra (last ∷ [])) in
-        let can' = subst CanGoOn same can in
-        let whole_call : (front ++ extra) ++ last ∷ [] ≡ front ++ name_at f c' ∷ sign_at OpenParenthesis d' ∷ inside =
-        append_assoc front extra (last ∷ []) ∙ ap (λ l. front ++ name_at f c' ∷ sign_at OpenParenthesis d' ∷ l) (sym z.2) in
-        subst (λ k. IsGrammarFault end whole (token_fault BadArguments k)) (sym (ap (column_of end) at))
-        (stops_later end name c d ts BadArguments rest r extra more last at (λ q k. absurd (let n : ⊥ = cc in n)) (none_in_call f c' d' z.0 last g xs u (subst (λ l. grammar.AreCalled l xs) z.2 h) a) c' can'
-        ((front, inside, f, d', g, xs, whole_call, u, h, a), can') none)
-    go BadOffset r seg more e (n, c', s, far) can none =
-        let front : List Placed = name_at name c ∷ sign_at Assign d ∷ (find r).before in
-        let at : rest ≡ token_number_at n c' ∷ more = e ∙ ap (λ l. l ++ more) s in
-        let same : front ++ seg ≡ (front ++ []) ++ token_number_at n c' ∷ [] = ap (λ l. front ++ l) s ∙ ap (λ l. l ++ token_number_at n c' ∷ []) (sym (append-nil front)) in
-        let can' = subst CanGoOn same can in
-        let inside = far_in_brackets (name_at name c) (sign_at Assign d) ts (find r).before BadOffset rest r (find r).all refl in
-        subst (λ k. IsGrammarFault end whole (token_fault BadOffset k)) (sym (ap (column_of end) at))
-        (stops_later end name c d ts BadOffset rest r [] more (token_number_at n c') at (λ q k. refl) none_in_nothing c' can'
-        ((front ++ [], n, refl, far, subst IsInBrackets (sym (append-nil front)) inside), can') none)
-    go _ r seg more e told can none = absurd told
+    stops_as end name c d ts kind rest r v.seg v.more v.front (subst (λ b. IsSegment kind b v.seg) one v.told) can none
 
 got_no_end : (a : Term) (s : Placed) (rest : List Placed) → IsNoEnd (Got a (s ∷ rest))
 got_no_end a s rest b e = cc

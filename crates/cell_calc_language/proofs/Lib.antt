@@ -1,5 +1,4 @@
 pub mod Law
-pub mod Told
 pub mod Steps
 pub mod Bad
 pub mod Faults
