@@ -5,7 +5,8 @@
 
 The theorem is the clause `headline` of rcell::run. From it the definitions and the declarations of Rust types are followed
 that it cites, each printed after those that it stands on, with its comment and under the name of its file. COMMAND (r.mapcalc,
-r.reclass, r.clump, r.stats, r.out.ascii) leaves out what the other commands alone stand on. The last line is
+r.reclass, r.clump, r.stats, r.out.ascii) leaves out what the other commands alone stand on, with the equations and constructors
+that are theirs, and r.stats what its lines of single cells (-1) alone do: it is the table that is read. The last line is
 'N lines of definitions, M with comments, T of Rust types'; with --count it is the only one. What the standard library and
 the language define is not printed.
 """
@@ -25,6 +26,8 @@ BEGINNINGS = {
     "r.stats": ["SpellsStats", "stats_text"],
     "r.out.ascii": ["SpellsOutAscii", "out_ascii_text"],
 }
+# What a command's other output alone stands on, where its main one is read.
+BESIDES = {"r.stats": ["cell_lines"]}
 
 
 class Reading:
@@ -76,10 +79,19 @@ class Reading:
         places = [(crate, ".".join(parts[:end - 1]), parts[end - 1]) for end in range(len(parts), 1, -1)]
         return next((it for it in [*places, (crate, ".".join(parts), target[1])] if it in self.types), None)
 
-    def cited_by(self, key):
+    def lines_without(self, key, stops):
+        """The lines of a definition, without equations and constructors that cite what is named in stops, where others are left."""
+        it = self.definitions[key]
+        begins = re.compile(r"  \S+ : " if it.kind == "data" else re.escape(it.name) + r" (?!: )")
+        starts = [place for place, line in enumerate(it.lines) if begins.match(line)]
+        parts = [it.lines[start:end] for start, end in zip(starts, [*starts[1:], len(it.lines)])]
+        kept = [part for part in parts if not {*sources.words_of(sources.without_comment("\n".join(part)))} & stops]
+        return [*it.lines[:starts[0]], *(line for part in kept for line in part)] if kept else it.lines
+
+    def cited_by(self, key, stops):
         """What a definition cites, in the order of its words."""
         it, found = self.definitions[key], {}
-        for word in sources.words_of(sources.without_comment("\n".join(it.lines))):
+        for word in sources.words_of(sources.without_comment("\n".join(self.lines_without(key, stops)))):
             head = word.strip(".:").split(".")[0]
             targets = it.imports.targets(word)
             if head in self.own[it.module] or (it.module, head) in self.constructors:
@@ -105,7 +117,7 @@ class Reading:
             if key in seen or key[-1] in stops:
                 return
             seen.add(key)
-            for it in self.cited_by(key) if key in self.definitions else []:
+            for it in self.cited_by(key, stops) if key in self.definitions else []:
                 visit(it)
             order.append(key)
 
@@ -118,7 +130,7 @@ def lines_of_code(text):
     return [line for line in text.split("\n") if line.strip() and not line.strip().startswith("//")]
 
 
-def print_reading(reading, headline, order):
+def print_reading(reading, headline, order, stops):
     """Prints what was found, under the names of files."""
     print(f"-- {RUN_FILE}: the theorem\n{headline.text}")
     last = None
@@ -128,7 +140,7 @@ def print_reading(reading, headline, order):
             print(f"\n-- {path}")
             last = path
         it = reading.definitions.get(key)
-        print("\n" + (text if it is None else "\n".join([*it.comments, *it.lines])))
+        print("\n" + (text if it is None else "\n".join([*it.comments, *reading.lines_without(key, stops)])))
 
 
 def main():
@@ -140,14 +152,15 @@ def main():
     words = parser.parse_args()
     reading = Reading()
     stops = {name for command, names in BEGINNINGS.items() if words.command and command != words.command for name in names}
+    stops.update(BESIDES.get(words.command, []) if words.command else [])
     headline, starts = reading.starts()
     order = reading.walk(starts, stops)
     if not words.count:
-        print_reading(reading, headline, order)
-    found = [reading.definitions[key] for key in order if key in reading.definitions]
-    lines = sum(it.size for it in found)
+        print_reading(reading, headline, order, stops)
+    found = [key for key in order if key in reading.definitions]
+    lines = sum(1 for key in found for line in reading.lines_without(key, stops) if line.strip())
     types = sum(len(lines_of_code(reading.types[key][1])) for key in order if key in reading.types)
-    print(f"{lines} lines of definitions, {lines + sum(len(it.comments) for it in found)} with comments, {types} of Rust types")
+    print(f"{lines} lines of definitions, {lines + sum(len(reading.definitions[key].comments) for key in found)} with comments, {types} of Rust types")
 
 
 if __name__ == "__main__":

@@ -1,14 +1,15 @@
 //! A combination read from a text.
 
-ghost use Rattle.std.specs.Prelude.{◌≡◌, ◌≢◌, ◌≤◌, Ok, IfOk, IfErr, Err};
-ghost use Rattle.cell_stats_combinations.specs.ComboText.{cell_of_part, combo_of};
-ghost use Rattle.cell_stats_combinations.specs.declared.combination_text.ComboFault.TheVariants.{Memory};
+ghost use Rattle.std.specs.Prelude.{◌≡◌, ◌≤◌};
+ghost use Rattle.cell_core_text.specs.Answers.{Answers};
+ghost use Rattle.cell_stats_combinations.specs.ComboReading.{cell_of_part, combo_of};
 
 use crate::combination::Combo;
 use cell_core::cell::Cell;
+use cell_core::memory::Memory;
 use cell_core_text::whole_numbers::whole_in_range;
 use cell_core_text::words::parts_of;
-use std::alloc::Global;
+use std::alloc::{AllocFailed, Global};
 
 /// Why a text is no combination: the first reason in this order (profile).
 #[derive(Clone, Copy, Debug, PartialEq, Eq)]
@@ -19,6 +20,28 @@ pub enum ComboFault {
     BadWidth,
     /// Memory was refused.
     Memory,
+}
+
+impl From<Memory> for ComboFault {
+    ghost use Rattle.std.specs.Prelude.{◌≡◌};
+    ghost use Rattle.cell_stats_combinations.specs.declared.combination_text.ComboFault.TheVariants.{Memory};
+
+    ghost from_gives = { λ _ fault. fault ≡ Memory };
+
+    fn from(_e: Memory) -> ComboFault {
+        ComboFault::Memory
+    }
+}
+
+impl<T: Drop> From<AllocFailed<T>> for ComboFault {
+    ghost use Rattle.std.specs.Prelude.{◌≡◌};
+    ghost use Rattle.cell_stats_combinations.specs.declared.combination_text.ComboFault.TheVariants.{Memory};
+
+    ghost from_gives = { λ _ fault. fault ≡ Memory };
+
+    fn from(_e: AllocFailed<T>) -> ComboFault {
+        ComboFault::Memory
+    }
 }
 
 // The cell of a part.
@@ -43,22 +66,15 @@ impl Combo {
     /// The first [`ComboFault`] in the order that its variants have.
     pub fn read(alloc: Global, text: &[u8], width: usize) -> Result<Combo, ComboFault>
         requires { (1 ≤ width) × (width ≤ 16) }
-        ensures ok { IfOk result (λ combo. combo_of width text.now ≡ Ok combo) }
-        ensures err { IfErr result (λ fault. fault ≢ Memory → combo_of width text.now ≡ Err fault) }
+        ensures { Answers ComboFault.Memory (λ combo. combo) result (combo_of width text.now) }
     {
-        let parts = match parts_of(alloc, text) {
-            Ok(parts) => parts,
-            Err(_) => return Err(ComboFault::Memory),
-        };
+        let parts = parts_of(alloc, text)?;
         let mut cells = Vec::new(alloc);
         for part in &parts {
-            match cell_of_part(part) {
-                Some(cell) => match cells.push(cell) {
-                    Ok(()) => {}
-                    Err(_) => return Err(ComboFault::Memory),
-                },
-                None => return Err(ComboFault::BadCombo),
-            }
+            let Some(cell) = cell_of_part(part) else {
+                return Err(ComboFault::BadCombo);
+            };
+            cells.push(cell)?;
         }
         if cells.len() != width {
             return Err(ComboFault::BadWidth);

@@ -3,4 +3,5 @@
 
 pub mod combination;
 pub mod combination_text;
+pub mod law;
 pub mod skip;

@@ -15,7 +15,8 @@ use Rattle.rcell_script_commands.specs.CommandSpelling.{SpellsCommand}
 use Rattle.rcell_script.specs.Lines.{Line, script_lines, numbered}
 use Rattle.rcell_script.specs.Scripts.{Group, none, skipped, command, reclass, IsScript}
 use Rattle.rcell_script.specs.declared.statement.Statement.{Statement}
-use Rattle.rcell.specs.runs.Accepted.{AllDenote, AreGrids}
+use Rattle.rcell.specs.runs.Accepted.{AreGrids}
+use Rattle.rcell.proofs.runs.AcceptedLemmas.{AllDenote}
 use Rattle.rcell_law.specs.OutputExists.{AcceptedHaveOutput}
 use Rattle.rcell_law.proofs.ExistLemmas.{HasMaps, CanMake, CanMakeAll, executes_somehow}
 

@@ -14,7 +14,8 @@ use Rattle.cell_ascii_law_written.specs.WrittenLaw.{without_labels, IsWritable}
 use Rattle.rcell_loading.specs.Sources.{Named}
 use Rattle.rcell_script.specs.declared.statement.Statement.{Statement}
 use Rattle.rcell.specs.Output.{Executes, IsOutput}
-use Rattle.rcell.specs.runs.Accepted.{AllDenote, AreGrids}
+use Rattle.rcell.specs.runs.Accepted.{AreGrids}
+use Rattle.rcell.proofs.runs.AcceptedLemmas.{AllDenote}
 use Rattle.rcell.proofs.OutputLemmas.{one_output, Executes-append, parts_join}
 use Rattle.rcell_law.specs.ReadAgain.{bare, written_from, written_grids}
 use Rattle.rcell_law.specs.CutScript.{second_grids, CutInTwo}

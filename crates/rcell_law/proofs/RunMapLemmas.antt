@@ -63,7 +63,7 @@ use Rattle.rcell_script.specs.declared.statement.Statement.{Statement}
 use Rattle.rcell_making.specs.Making.{AreValues, AreNumbers, IsOfMap, with_map}
 use Rattle.rcell.specs.After.{IsShelfAfter}
 use Rattle.rcell.specs.Output.{Executes}
-use Rattle.rcell.specs.runs.Accepted.{AllDenote}
+use Rattle.rcell.proofs.runs.AcceptedLemmas.{AllDenote}
 use Rattle.rcell_law.specs.RunMaps.{RunMapsAreWritable}
 use Rattle.rcell_law.proofs.ExistLemmas.{classes_filled}
 use Rattle.rcell_script.specs.ReclassRules.{AreRules}

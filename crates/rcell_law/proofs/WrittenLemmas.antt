@@ -11,7 +11,7 @@ use Rattle.cell_ascii_meaning.specs.Writing.{IsNullText, grid_text}
 use Rattle.cell_ascii_law_written.specs.WrittenLaw.{without_labels, IsWritable}
 use Rattle.cell_ascii_law_written.proofs.WritingLawLemmas.{writing_is_read}
 use Rattle.rcell.specs.Output.{out_ascii_text}
-use Rattle.rcell.specs.runs.Accepted.{AllDenote}
+use Rattle.rcell.proofs.runs.AcceptedLemmas.{AllDenote}
 use Rattle.rcell_law.specs.ReadAgain.{written_from, WrittenMapsAreGrids, WrittenIsReadAgain}
 use Rattle.rcell_law.proofs.AlikeLemmas.{labels_change_no_other_text}
 

@@ -1,6 +1,7 @@
 -- One grid more on the shelf.
 use Rattle.std.proofs.Common.{◌≡◌, ◌≢◌, ℕ, zero, suc, ◌+◌, ◌<◌, Bool, true, false, cond, List, [], ◌∷◌, ◌++◌, length, take, Option, Some, None, Result, Ok, Err, IsSome, IfOk, IfErr, slice_get, refl, ap, sym, ◌∙◌, arith, add-one}
 use Rattle.std.specs.List.{position_from}
+use Rattle.std.specs.Prelude.{IfSome}
 use Rattle.cell_core_devices.specs.Device.{Coming}
 use Rattle.cell_core.specs.Grid.{Grid}
 use Rattle.cell_core_values.specs.Name.{place_of}
@@ -11,7 +12,7 @@ use Rattle.cell_core.specs.ShelfRefused.{IsMapRefused}
 use Rattle.cell_core.specs.declared.shelf.ShelfFault.{ShelfFault}
 use Rattle.cell_core.specs.declared.shelf.ShelfFault.TheVariants.{Exists, OtherRegion, Memory}
 use Rattle.cell_ascii_meaning.specs.CellTexts.{grid_of}
-use Rattle.rcell_loading.specs.Sources.{AllKnown, known_of, coming_of}
+use Rattle.rcell_loading.specs.Sources.{Named, Tell}
 use Rattle.rcell_loading.specs.RunFaults.{IsOfInput, IsOfGrid, IsBeforeExecution, NamesItsGrid}
 use Rattle.rcell_loading.specs.parts.Refused.{of_shelf}
 use Rattle.rcell_loading.specs.Loading.{added, shelf_placed, with_grid, shelf_from, then_grids}
@@ -85,26 +86,52 @@ first_fault (Err f) grid region shelf name map is same h = λ input.
     let taken = added-first grid region name map (sym same) in
     cc
 
-module _ {R : Type 0} (coming : R → Option Coming) (grid : ℕ) (shelf : Option ShelfValue) (g : List ℕ × R) (rest : List (List ℕ × R)) where
-  more : (next : ShelfValue) → AllKnown coming (g ∷ rest) → (IsSome (coming g.1) → with_grid grid shelf g.0 (grid_of (coming_of coming g.1)) ≡ Ok next)
-      → AllKnown coming rest × (shelf_from grid shelf (known_of coming (g ∷ rest)) ≡ shelf_from (grid + 1) (Some next) (known_of coming rest))
-  unfolding shelf_from
-  more next known one = (known.1, ap (then_grids (λ s. shelf_from (grid + 1) (Some s) (known_of coming rest))) (one known.0))
+-- what is wrong with a map that was read is wrong with its grid
+pub grid_refused : (given : Option Coming) (placed : Result ShelfValue RunFault) (grid : ℕ) (shelf : Option ShelfValue) (name : List ℕ) (map : Grid)
+    → IfSome given (λ c. grid_of c ≡ Ok map) → IfErr placed (λ f. IsOfInput f → shelf_placed grid shelf name map ≡ Err f)
+    → IfErr placed (λ f. IsOfInput f → IfSome given (λ c. with_grid grid shelf name (grid_of c) ≡ Err f))
+grid_refused None (Ok s) grid shelf name map read fault = tt
+grid_refused None (Err f) grid shelf name map read fault = λ input. tt
+grid_refused (Some c) (Ok s) grid shelf name map read fault = tt
+grid_refused (Some c) (Err f) grid shelf name map read fault = λ input. ap (with_grid grid shelf name) read ∙ fault input
 
-  fails : (f : RunFault) → AllKnown coming (g ∷ rest) → (IsSome (coming g.1) → with_grid grid shelf g.0 (grid_of (coming_of coming g.1)) ≡ Err f)
-      → shelf_from grid shelf (known_of coming (g ∷ rest)) ≡ Err f
+module _ {R : Type 0} (coming : R → Option Coming) (grid : ℕ) (shelf : Option ShelfValue) (g : List ℕ × R) (rest : List (List ℕ × R)) where
+  -- what the first grid gives is known
+  one_known : (n : Named) (P : Coming → Type 0) → coming g.1 ≡ Some n.1 → IfSome (coming g.1) P → P n.1
+  one_known n P same one = rw same at one
+
+  more : (next : ShelfValue) (named : List Named) → Tell coming (g ∷ rest) named
+      → IfSome (coming g.1) (λ c. with_grid grid shelf g.0 (grid_of c) ≡ Ok next)
+      → (others : List Named) × (Tell coming rest others × (shelf_from grid shelf named ≡ shelf_from (grid + 1) (Some next) others))
   unfolding shelf_from
-  fails f known one = ap (then_grids (λ s. shelf_from (grid + 1) (Some s) (known_of coming rest))) (one known.0)
+  more next [] tell one = absurd tell
+  more next (n ∷ named) tell one =
+      let first : with_grid grid shelf g.0 (grid_of n.1) ≡ Ok next = one_known n (λ c. with_grid grid shelf g.0 (grid_of c) ≡ Ok next) tell.0.1 one in
+      (named, (tell.1, ap (then_grids (λ s. shelf_from (grid + 1) (Some s) named)) (ap (λ name. with_grid grid shelf name (grid_of n.1)) (sym tell.0.0) ∙ first)))
+
+  fails : (f : RunFault) (named : List Named) → Tell coming (g ∷ rest) named
+      → IfSome (coming g.1) (λ c. with_grid grid shelf g.0 (grid_of c) ≡ Err f) → shelf_from grid shelf named ≡ Err f
+  unfolding shelf_from
+  fails f [] tell one = absurd tell
+  fails f (n ∷ named) tell one =
+      let first : with_grid grid shelf g.0 (grid_of n.1) ≡ Err f = one_known n (λ c. with_grid grid shelf g.0 (grid_of c) ≡ Err f) tell.0.1 one in
+      ap (then_grids (λ s. shelf_from (grid + 1) (Some s) named)) (ap (λ name. with_grid grid shelf name (grid_of n.1)) (sym tell.0.0) ∙ first)
 
   -- a grid more
-  pub shelf_more : (gs : List (List ℕ × R)) (next : ShelfValue) → gs ≡ g ∷ rest → AllKnown coming gs → (IsSome (coming g.1) → with_grid grid shelf g.0 (grid_of (coming_of coming g.1)) ≡ Ok next)
-      → AllKnown coming rest × (shelf_from grid shelf (known_of coming gs) ≡ shelf_from (grid + 1) (Some next) (known_of coming rest))
-  shelf_more gs next is known one = rw is (more next (rw is at known) one)
+  pub shelf_more : (gs : List (List ℕ × R)) (next : ShelfValue) (named : List Named) → gs ≡ g ∷ rest → Tell coming gs named
+      → IfSome (coming g.1) (λ c. with_grid grid shelf g.0 (grid_of c) ≡ Ok next)
+      → (others : List Named) × (Tell coming rest others × (shelf_from grid shelf named ≡ shelf_from (grid + 1) (Some next) others))
+  shelf_more gs next named is tell one = more next named (rw is at tell) one
 
   -- a grid that is refused
-  pub shelf_fails : (gs : List (List ℕ × R)) (f : RunFault) → gs ≡ g ∷ rest → AllKnown coming gs → (IsSome (coming g.1) → with_grid grid shelf g.0 (grid_of (coming_of coming g.1)) ≡ Err f)
-      → shelf_from grid shelf (known_of coming gs) ≡ Err f
-  shelf_fails gs f is known one = rw is (fails f (rw is at known) one)
+  pub shelf_fails : (gs : List (List ℕ × R)) (f : RunFault) (named : List Named) → gs ≡ g ∷ rest → Tell coming gs named
+      → IfSome (coming g.1) (λ c. with_grid grid shelf g.0 (grid_of c) ≡ Err f) → shelf_from grid shelf named ≡ Err f
+  shelf_fails gs f named is tell one = fails f named (rw is at tell) one
+
+-- no grid is left
+pub none_left : {R : Type 0} (coming : R → Option Coming) (gs : List (List ℕ × R)) (named : List Named) → gs ≡ [] → Tell coming gs named → named ≡ []
+none_left coming gs [] none tell = refl
+none_left coming gs (n ∷ named) none tell = absurd (let t : Tell coming [] (n ∷ named) = rw none at tell in t)
 
 pub shelf_all : (grid : ℕ) (shelf : Option ShelfValue) → shelf_from grid shelf [] ≡ Ok shelf
 unfolding shelf_from

@@ -27,17 +27,6 @@ IsOfGrid grid (Script fault) = ⊤
 IsOfGrid grid (Memory line) = ⊤
 IsOfGrid grid Write = ⊤
 
--- being out of memory
-abbrev pub IsOfMemory : RunFault → Type 0
-IsOfMemory (GridTwice grid) = ⊥
-IsOfMemory (GridRegion grid) = ⊥
-IsOfMemory (Grid grid fault) = fault.kind ≡ grid_kinds.Memory
-IsOfMemory ScriptRead = ⊥
-IsOfMemory ScriptSize = ⊥
-IsOfMemory (Script fault) = fault.kind ≡ script_kinds.Memory
-IsOfMemory (Memory line) = ⊤
-IsOfMemory Write = ⊥
-
 -- a fault that is told before the script was accepted
 abbrev pub IsBeforeExecution : RunFault → Type 0
 IsBeforeExecution (GridTwice grid) = ⊤

@@ -1,11 +1,11 @@
 //! The shelf of the grids.
 
-ghost use Rattle.std.specs.Prelude.{ℕ, ◌≡◌, ◌+◌, ◌<◌, IsSome, IfOk, IfErr, Ok, Err, Some, length, vec_len};
+ghost use Rattle.std.specs.Prelude.{ℕ, ◌≡◌, ◌+◌, ◌<◌, List, IfOk, IfErr, IfSome, Ok, Err, Some, length, vec_len};
 ghost use Rattle.cell_core_values.specs.Name.{place_of};
 ghost use Rattle.cell_ascii_meaning.specs.CellTexts.{grid_of};
 ghost use Rattle.rcell_loading.specs.RunFaults.{IsOfInput, IsOfGrid, IsBeforeExecution, NamesItsGrid};
 ghost use Rattle.rcell_loading.specs.Loading.{added, shelf_placed, with_grid, shelf_of};
-ghost use Rattle.rcell_loading.specs.Sources.{AllKnown, known_of, coming_of};
+ghost use Rattle.rcell_loading.specs.Sources.{Named, Tell};
 ghost use Rattle.rcell_loading.specs.parts.Refused.{of_shelf};
 
 use crate::run_fault::RunFault;
@@ -73,8 +73,8 @@ fn with_grid<R: Source + Drop>(
     name: Name,
     source: R,
 ) -> Result<Shelf, RunFault>
-    ensures ok { IsSome (R.coming source) → IfOk result (λ s. with_grid grid shelf name (grid_of (coming_of R.coming source)) ≡ Ok s) }
-    ensures fault { IsSome (R.coming source) → IfErr result (λ f. IsOfInput f → with_grid grid shelf name (grid_of (coming_of R.coming source)) ≡ Err f) }
+    ensures ok { IfOk result (λ s. IfSome (R.coming source) (λ c. with_grid grid shelf name (grid_of c) ≡ Ok s)) }
+    ensures fault { IfErr result (λ f. IsOfInput f → IfSome (R.coming source) (λ c. with_grid grid shelf name (grid_of c) ≡ Err f)) }
     ensures early { IfErr result IsBeforeExecution }
     ensures told { (count : ℕ) → grid < count → IfErr result (NamesItsGrid count) }
     ensures whose { IfErr result (IsOfGrid grid) }
@@ -95,8 +95,8 @@ fn with_grid<R: Source + Drop>(
 /// refused, [`RunFault::Grid`] of kind `Memory`, or [`RunFault::Memory`], both with line 0.
 pub fn load<R: Source + Drop>(alloc: Global, grids: Vec<(Name, R)>) -> Result<Shelf, RunFault>
     requires { 0 < vec_len grids }
-    ensures ok { AllKnown R.coming grids.items → IfOk result (λ s. shelf_of (known_of R.coming grids.items) ≡ Ok (Some s)) }
-    ensures fault { AllKnown R.coming grids.items → IfErr result (λ f. IsOfInput f → shelf_of (known_of R.coming grids.items) ≡ Err f) }
+    ensures ok { IfOk result (λ s. (named : List Named) → Tell R.coming grids.items named → shelf_of named ≡ Ok (Some s)) }
+    ensures fault { IfErr result (λ f. IsOfInput f → (named : List Named) → Tell R.coming grids.items named → shelf_of named ≡ Err f) }
     ensures early { IfErr result IsBeforeExecution }
     ensures told { IfErr result (NamesItsGrid (length grids.items)) }
 {

@@ -10,7 +10,8 @@ use Rattle.cell_calc_language.specs.Assignment.{IsAssignmentText}
 use Rattle.cell_calc_language.specs.Unknown.{first_unknown}
 use Rattle.cell_calc_language.specs.declared.assignment.Assignment.{Assignment}
 use Rattle.cell_stats_combinations.specs.Combinations.{Combination}
-use Rattle.cell_stats_combinations.specs.ComboText.{combo_of}
+use Rattle.cell_stats_combinations.specs.ComboReading.{combo_of}
+use Rattle.cell_stats_combinations.proofs.ReadingLemmas.{combinations-are-read}
 use Rattle.cell_stats_combinations.specs.declared.combination_text.ComboFault.{ComboFault}
 use Rattle.cell_core_text.specs.Words.{words_of}
 use Rattle.rcell_script_commands.specs.Commands.{as_whole, as_opened, head_named, head_of_words, is_mapcalc, IsShortHead, IsHeadOf, IsHead, clump_of, clump_with, mapcalc_of, IsMapcalc, out_ascii_of, out_ascii_with, reclass_of, after_of, stats_at, stats_with, stats_of}
@@ -122,13 +123,13 @@ after-sound width (Some text) after e = by (combo_of width text) refl after e
     by (Ok combination) r (Some other) e =
         let f : Ok (Some combination) ≡ Ok (Some other) = rw r at e in
         let same : combination ≡ other = cc in
-        r ∙ ap Ok same
+        (combinations-are-read width text other).0 (r ∙ ap Ok same)
 
 after-complete : (width : ℕ) (text : Option (List ℕ)) (after : Option Combination) → SpellsAfter width text after → after_of width text ≡ Ok after
 after-complete width None None s = refl
 after-complete width None (Some combination) s = absurd s
 after-complete width (Some text) None s = absurd s
-after-complete width (Some text) (Some combination) s = rw s refl
+after-complete width (Some text) (Some combination) s = rw ((combinations-are-read width text combination).1 s) refl
 
 -- the inputs whose places are these
 record Placed (known : List (List ℕ)) (given : Given) (places : List ℕ) : Type 0 where

@@ -7,7 +7,7 @@ use Rattle.cell_calc_language.specs.Assignment.{IsAssignmentText}
 use Rattle.cell_calc_language.specs.GrammarFault.{IsTextFault}
 use Rattle.cell_calc_language.specs.Unknown.{first_unknown}
 use Rattle.cell_stats_combinations.specs.Combinations.{Combination}
-use Rattle.cell_stats_combinations.specs.ComboText.{combo_of}
+use Rattle.cell_stats_combinations.specs.ComboReading.{combo_of}
 use Rattle.cell_core_text.specs.Words.{words_of}
 use Rattle.cell_calc_language.specs.declared.assignment.Assignment.{Assignment}
 use Rattle.cell_calc_tokens.specs.declared.calc_fault.CalcFault.{CalcFault}

@@ -1,8 +1,8 @@
 -- r.stats: the table that its options ask for (r.stats manual; `after` is the profile's).
-use Rattle.std.specs.Prelude.{ℕ, List, ◌∷◌, Option, Some, if◌then◌else◌, unwrap_or, ◌≡◌, ⊤, false, length, None, Ok, codes}
+use Rattle.std.specs.Prelude.{ℕ, List, ◌∷◌, Option, Some, if◌then◌else◌, unwrap_or, ◌≡◌, ⊤, false, length, None, codes}
 use Rattle.cell_ascii_meaning.specs.GridWords.{usual_null}
 use Rattle.cell_stats_combinations.specs.Combinations.{Combination}
-use Rattle.cell_stats_combinations.specs.ComboText.{combo_of}
+use Rattle.cell_stats_combinations.specs.ComboText.{SpellsCombination}
 use Rattle.cell_core_text.specs.Words.{words_of}
 use Rattle.cell_stats_combinations.specs.declared.skip.Skip.{Skip}
 use Rattle.cell_stats_combinations.specs.declared.skip.Skip.TheVariants.{Nothing, AnyNull, AllNull}
@@ -34,7 +34,7 @@ abbrev pub SpellsAfter : ℕ → Option (List ℕ) → Option Combination → Ty
 SpellsAfter width None None = ⊤
 SpellsAfter width None (Some combination) = ⊥
 SpellsAfter width (Some text) None = ⊥
-SpellsAfter width (Some text) (Some combination) = combo_of width text ≡ Ok combination
+SpellsAfter width (Some text) (Some combination) = (length combination ≡ width) × SpellsCombination text combination
 
 -- r.stats: `inputs` are known maps, `after` is a combination of as many cells, and flags go together
 pub record SpellsStats (known : List (List ℕ)) (line : List ℕ) (places : List ℕ) (options : StatsOptions) : Type 0 where

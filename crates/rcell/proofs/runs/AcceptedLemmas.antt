@@ -1,7 +1,7 @@
 -- An accepted script over grids of one region has an output.
 use Rattle.std.proofs.Common.{◌≡◌, ◌≢◌, ℕ, suc, ◌+◌, ◌<◌, Bool, true, false, List, [], ◌∷◌, ◌++◌, length, map, get_or, All, Option, Some, None, Ok, refl, ap, sym, ◌∙◌, arith, append_assoc, append-nil, length-append}
 use Rattle.std.specs.Prelude.{bytes_eq, nat_lt}
-use Rattle.std.specs.List.{position_from}
+use Rattle.std.specs.List.{AllZip, position_from}
 use Rattle.std.proofs.lemmas.Bool.Decides.{nat_tests}
 use Rattle.std.proofs.lemmas.Slice.Eq.{bytes_eq-Decides}
 use Rattle.cell_core_devices.specs.Device.{Coming}
@@ -12,7 +12,7 @@ use Rattle.cell_ascii_meaning.specs.CellTexts.{grid_of}
 use Rattle.cell_ascii_meaning.specs.GridText.{Denotes}
 use Rattle.cell_ascii_law.proofs.GridLawLemmas.{reading_agrees}
 use Rattle.rcell_loading.proofs.LoadingLemmas.{added-same}
-use Rattle.rcell.specs.runs.Accepted.{AllDenote, AreGrids, IsAccepted}
+use Rattle.rcell.specs.runs.Accepted.{AreGrids, IsAccepted}
 use Rattle.rcell_making.specs.Making.{with_map}
 use Rattle.rcell_loading.specs.Loading.{with_grid, shelf_of_one, shelf_from, then_grids}
 use Rattle.rcell_loading.specs.ScriptText.{script_text}
@@ -40,6 +40,10 @@ free_from start (x ∷ xs) name back distinct =
 -- among distinct names, one does not stand before its place
 free : (front : List (List ℕ)) (name : List ℕ) (back : List (List ℕ)) → AreDistinct (front ++ name ∷ back) → place_of name front ≡ None
 free front name back distinct = free_from 0 front name back distinct
+
+-- each grid's text denotes the map in its place
+abbrev pub AllDenote : List Named → List Grid → Type 0
+AllDenote grids maps = AllZip (λ g m. Denotes g.1 m) grids maps
 
 abbrev pub names_of : List Named → List (List ℕ)
 names_of gs = map (λ g. g.0) gs

@@ -1,12 +1,12 @@
 -- What is read is written, where memory lasts and the sink takes everything.
-use Rattle.std.proofs.Common.{◌≡◌, ℕ, Bool, true, List, Option, Some, None, Result, Ok, Err, refl, ap, sym, ◌∙◌, subst}
+use Rattle.std.proofs.Common.{◌≡◌, ◌≢◌, ℕ, Bool, true, List, Option, Some, None, Result, Ok, Err, refl, ap, sym, ◌∙◌, subst}
 use Rattle.std.specs.Prelude.{IsNone, IfSome}
 use Rattle.std.proofs.lemmas.Bool.{true≢false}
 use Rattle.cell_core_devices.specs.Device.{Coming}
 use Rattle.cell_core.specs.Shelf.{ShelfValue}
 use Rattle.rcell_script.specs.declared.statement.Statement.{Statement}
-use Rattle.rcell_loading.specs.RunFaults.{IsOfInput, IsOfMemory, IsBeforeExecution, IsInExecution}
-use Rattle.rcell.specs.runs.Statuses.{status_after}
+use Rattle.rcell_loading.specs.RunFaults.{IsOfInput, IsBeforeExecution, IsInExecution}
+use Rattle.rcell.specs.runs.Statuses.{grid_status, script_status, fault_status, status_after}
 use Rattle.rcell_loading.specs.Loading.{shelf_of}
 use Rattle.rcell.specs.runs.Endings.{ReadsScript, IsReadScript}
 use Rattle.rcell.specs.runs.Outcomes.{IsDone, Writes}
@@ -15,15 +15,15 @@ use Rattle.rcell.specs.declared.runs.outcome.Outcome.{Outcome}
 use Rattle.rcell_loading.specs.declared.run_fault.RunFault.{RunFault}
 use Rattle.rcell_loading.specs.declared.run_fault.RunFault.TheVariants.{GridTwice, GridRegion, Grid, ScriptRead, ScriptSize, Script, Memory, Write}
 
--- a fault before execution that is not of memory is of the input
-input_unless_memory : (f : RunFault) → IsBeforeExecution f → (IsOfMemory f → ⊥) → IsOfInput f
+-- a fault before execution whose status is not that of memory is of the input
+pub input_unless_memory : (f : RunFault) → IsBeforeExecution f → fault_status f ≢ 3 → IsOfInput f
 input_unless_memory (GridTwice grid) early bad = tt
 input_unless_memory (GridRegion grid) early bad = tt
-input_unless_memory (Grid grid fault) early bad = bad
+input_unless_memory (Grid grid fault) early bad = λ e. bad (ap grid_status e)
 input_unless_memory ScriptRead early bad = tt
 input_unless_memory ScriptSize early bad = tt
-input_unless_memory (Script fault) early bad = bad
-input_unless_memory (Memory line) early bad = absurd (bad tt)
+input_unless_memory (Script fault) early bad = λ e. bad (ap script_status e)
+input_unless_memory (Memory line) early bad = absurd (bad refl)
 input_unless_memory Write early bad = absurd early
 
 -- what was written in execution, where memory lasted and the sink took everything
@@ -34,7 +34,7 @@ written shelf statements before now failed outcome done late status write = by o
   where
     by : (f : Option RunFault) → outcome.fault ≡ f → Writes shelf statements before now failed outcome
     by None e = λ memory good. (rw e at status, (e, done (rw e refl)))
-    by (Some (Memory line)) e = λ memory good. absurd (let bad : IfSome (Some (Memory line)) (λ f. IsOfMemory f → ⊥) = rw e at memory in bad tt)
+    by (Some (Memory line)) e = λ memory good. absurd (memory (rw e at status))
     by (Some Write) e = λ memory good. absurd (true≢false (sym (write e) ∙ good))
     by (Some (GridTwice grid)) e = absurd (let bad : IfSome (Some (GridTwice grid)) IsInExecution = rw e at late in bad)
     by (Some (GridRegion grid)) e = absurd (let bad : IfSome (Some (GridRegion grid)) IsInExecution = rw e at late in bad)
@@ -64,6 +64,6 @@ module _ (grids : List Named) (script : Coming) (loaded : ShelfValue) (is_loaded
       (subst (λ (ss : List Statement). Writes loaded ss before now failed outcome) (only statements reads) (written loaded found before now failed outcome done late status write))
 
   -- what can be read is refused only when out of memory
-  pub read_refused : (f : RunFault) → outcome.fault ≡ Some f → IsBeforeExecution f → ((ss : List Statement) → ReadsScript loaded.names script ss → IsOfInput f → ⊥) → Writes shelf statements before now failed outcome
-  read_refused f is early none = λ memory good.
-      absurd (none statements reads (input_unless_memory f early (let bad : IfSome (Some f) (λ f. IsOfMemory f → ⊥) = rw is at memory in bad)))
+  pub read_refused : (f : RunFault) → outcome.fault ≡ Some f → outcome.status ≡ fault_status f → IsBeforeExecution f → ((ss : List Statement) → ReadsScript loaded.names script ss → IsOfInput f → ⊥) → Writes shelf statements before now failed outcome
+  read_refused f is status early none = λ memory good.
+      absurd (none statements reads (input_unless_memory f early (λ three. memory (status ∙ three))))

@@ -1,7 +1,7 @@
 -- An accepted script over grids of one region (r.in.ascii manual, r.stats manual, r.out.ascii manual; names, the one region and the form of a script are the profile's).
-use Rattle.std.specs.Prelude.{◌≡◌, ◌<◌, ◌≤◌, ⊤, false, List, [], ◌∷◌, length, map, All}
+use Rattle.std.specs.Prelude.{◌≡◌, ◌<◌, ◌≤◌, false, List, length, map, All}
+use Rattle.std.specs.List.{AllZip}
 use Rattle.cell_core_devices.specs.Device.{Coming}
-use Rattle.cell_core.specs.Grid.{Grid}
 use Rattle.cell_core_values.specs.Name.{AreDistinct}
 use Rattle.cell_core.specs.Shelf.{ShelfValue}
 use Rattle.cell_ascii_meaning.specs.GridText.{Denotes}
@@ -9,17 +9,10 @@ use Rattle.rcell_loading.specs.Sources.{Named}
 use Rattle.rcell_script.specs.Scripts.{IsScript}
 use Rattle.rcell_script.specs.declared.statement.Statement.{Statement}
 
--- each grid's text denotes the map in its place
-abbrev pub AllDenote : List Named → List Grid → Type 0
-AllDenote [] [] = ⊤
-AllDenote [] (m ∷ ms) = ⊥
-AllDenote (g ∷ gs) [] = ⊥
-AllDenote (g ∷ gs) (m ∷ ms) = Denotes g.1 m × AllDenote gs ms
-
--- the maps that the grids' texts denote, under distinct names and of one region
+-- the maps that the grids' texts denote, each in its place, under distinct names and of one region
 pub record AreGrids (grids : List Named) (shelf : ShelfValue) : Type 0 where
   pub some : 0 < length grids
-  pub denote : AllDenote grids shelf.maps
+  pub denote : AllZip (λ g m. Denotes g.1 m) grids shelf.maps
   pub names : shelf.names ≡ map (λ g. g.0) grids
   pub distinct : AreDistinct shelf.names
   pub one_region : All (λ m. m.region ≡ shelf.region) shelf.maps

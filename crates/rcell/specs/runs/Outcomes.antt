@@ -1,11 +1,10 @@
 -- What a run of an accepted script answers: the whole output.
-use Rattle.std.specs.Prelude.{ℕ, ◌≡◌, Bool, true, false, List, length, Option, Some, None, IfSome, if◌then◌else◌}
+use Rattle.std.specs.Prelude.{ℕ, ◌≡◌, ◌≢◌, Bool, true, false, List, length, Option, Some, None, if◌then◌else◌}
 use Rattle.cell_core_devices.specs.Blocks.{capped_count}
 use Rattle.cell_core_devices.specs.Device.{Faults, after_put, after_flush, append_known}
 use Rattle.cell_core.specs.Shelf.{ShelfValue}
 use Rattle.rcell_script.specs.declared.statement.Statement.{Statement}
 use Rattle.rcell.specs.Output.{IsOutput}
-use Rattle.rcell_loading.specs.RunFaults.{IsOfMemory}
 use Rattle.rcell_loading.specs.declared.run_fault.RunFault.{RunFault}
 use Rattle.rcell_loading.specs.declared.run_fault.RunFault.TheVariants.{Write}
 use Rattle.rcell.specs.declared.runs.outcome.Outcome.{Outcome}
@@ -17,10 +16,10 @@ pub record IsDone (shelf : ShelfValue) (statements : List Statement) (before now
   pub taken : now ≡ append_known before text
   pub count : written ≡ capped_count (length text)
 
--- where memory lasts and the sink takes everything: status 0, no fault, and exactly the output of the statements is written
+-- where memory lasts, as any status but 3 says, and the sink takes everything: status 0, no fault, and exactly the output of the statements is written
 abbrev pub Writes : ShelfValue → List Statement → Option (List ℕ) → Option (List ℕ) → Bool → Outcome → Type 0
 Writes shelf statements before now failed outcome =
-    IfSome outcome.fault (λ f. IsOfMemory f → ⊥) → failed ≡ false
+    outcome.status ≢ 3 → failed ≡ false
     → (outcome.status ≡ 0) × ((outcome.fault ≡ None) × IsDone shelf statements before now outcome.written)
 
 -- which calls of the sink failed, by the fault: none where there is no fault; for Write either a put, after which the sink

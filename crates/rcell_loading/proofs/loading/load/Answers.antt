@@ -1,8 +1,7 @@
 use Rattle.std.proofs.Common.{◌≡◌, [], length, Ok, ap, ◌∙◌, sym, arith, rules}
 use Rattle.std.specs.Vec.Iter.{into_iter_items}
-use Rattle.rcell_loading.specs.Sources.{known_of}
 use Rattle.rcell_loading.specs.Loading.{shelf_from}
-use Rattle.rcell_loading.proofs.LoadingLemmas.{shelf_more, shelf_fails, shelf_all, no_more}
+use Rattle.rcell_loading.proofs.LoadingLemmas.{shelf_more, shelf_fails, shelf_all, no_more, none_left}
 use Rattle.rcell_loading.proofs.loading.load.Goals as goal
 
 pub returns-in-Err-clause-fault : goal.returns-in-Err-clause-fault
@@ -10,9 +9,10 @@ returns-in-Err-clause-fault g c =
     let coming = g.R.Source.coming in
     let at = c.loop-name in
     let is = c.in-Some.ensures.steps.0 in
-    λ known input.
-    let so = at.invariant.loads known in
-    so.1 ∙ shelf_fails coming at.grid at.shelf (c.in-Some.name, c.in-Some.source) (into_iter_items c.next.new.self) (into_iter_items at.name-iterator) c.in-Err.fault is so.0 (λ k. c.in-Err.ensures.fault k input)
+    λ input named tell.
+    let so = at.invariant.loads named tell in
+    so.1.1 ∙ shelf_fails coming at.grid at.shelf (c.in-Some.name, c.in-Some.source) (into_iter_items c.next.new.self)
+    (into_iter_items at.name-iterator) c.in-Err.fault so.0 is so.1.0 (c.in-Err.ensures.fault input)
 
 pub loop-name-preserved : goal.loop-name-preserved
 loop-name-preserved g c =
@@ -20,10 +20,10 @@ loop-name-preserved g c =
     let at = c.loop-name in
     let is = c.in-Some.ensures.steps.0 in
     record {
-      loads = λ known.
-          let so = at.invariant.loads known in
-          let n = shelf_more coming at.grid at.shelf (c.in-Some.name, c.in-Some.source) (into_iter_items c.next.new.self) (into_iter_items at.name-iterator) c.in-Ok.more is so.0 c.in-Ok.ensures.ok in
-          (n.0, so.1 ∙ n.1);
+      loads = λ named tell.
+          let so = at.invariant.loads named tell in
+          let n = shelf_more coming at.grid at.shelf (c.in-Some.name, c.in-Some.source) (into_iter_items c.next.new.self) (into_iter_items at.name-iterator) c.in-Ok.more so.0 is so.1.0 c.in-Ok.ensures.ok in
+          (n.0, (n.1.0, so.1.1 ∙ n.1.1));
       count = search rules;
       len = let was = at.invariant.len in
           let gone = c.in-Some.ensures.steps.1 in
@@ -37,4 +37,7 @@ returns-clause-ok g c =
     let coming = g.R.Source.coming in
     let at = c.loop-name in
     let none : into_iter_items at.name-iterator ≡ [] = no_more (into_iter_items at.name-iterator) (sym at.invariant.len ∙ c.in-None.ensures.steps.0) in
-    λ known. (at.invariant.loads known).1 ∙ ap (λ l. shelf_from at.grid at.shelf (known_of coming l)) none ∙ shelf_all at.grid at.shelf ∙ ap Ok c.in-Some-shelf.is
+    λ named tell.
+    let so = at.invariant.loads named tell in
+    so.1.1 ∙ ap (shelf_from at.grid at.shelf) (none_left coming (into_iter_items at.name-iterator) so.0 none so.1.0)
+    ∙ shelf_all at.grid at.shelf ∙ ap Ok c.in-Some-shelf.is

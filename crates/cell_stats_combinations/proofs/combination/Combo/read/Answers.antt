@@ -6,7 +6,7 @@ use borrow.Author.Count.{falls}
 use Rattle.cell_core.specs.Grid.{CellValue}
 use Rattle.cell_stats_combinations.specs.declared.combination_text.ComboFault.TheVariants.{BadWidth}
 use Rattle.cell_stats_combinations.specs.Combinations.{Combination}
-use Rattle.cell_stats_combinations.specs.ComboText.{cell_of_part, cells_of_parts, as_wide}
+use Rattle.cell_stats_combinations.specs.ComboReading.{cell_of_part, cells_of_parts, as_wide}
 use Rattle.cell_stats_combinations.proofs.combination.Combo.read.Goals as goal
 
 -- what stands behind the last part
@@ -58,36 +58,21 @@ narrow width k same other = grind arith
 wide : (width : ℕ) (k : Combination) {n : ℕ} → n ≡ length k → n ≡ width → as_wide width (Some k) ≡ Ok k
 wide width k same is = grind arith
 
-pub returns-in-Err-clause-ok : goal.returns-in-Err-clause-ok
-returns-in-Err-clause-ok c = tt
-
-pub returns-in-Err-clause-err : goal.returns-in-Err-clause-err
-returns-in-Err-clause-err c = λ other. absurd (other refl)
-
-pub returns-in-Err-push-clause-ok : goal.returns-in-Err-push-clause-ok
-returns-in-Err-push-clause-ok c = tt
-
-pub returns-in-Err-push-clause-err : goal.returns-in-Err-push-clause-err
-returns-in-Err-push-clause-err c = λ other. absurd (other refl)
-
 pub loop-part-init : goal.loop-part-init
 loop-part-init c =
     start _ c.new-cells.ensures.items
-    (ap (map (λ (w : Bor (List ℕ)). w.now)) c.deref-part-items.ensures.value ∙ c.in-Ok.ensures)
+    (ap (map (λ (w : Bor (List ℕ)). w.now)) c.deref-part-items.ensures.value ∙ c.in_ok-parts.ensures)
 
 pub loop-part-smaller : goal.loop-part-smaller
 loop-part-smaller c = falls _ _ c.loop-part-test.true
 
-pub returns-in-None-clause-ok : goal.returns-in-None-clause-ok
-returns-in-None-clause-ok c = tt
-
-pub returns-in-None-clause-err : goal.returns-in-None-clause-err
-returns-in-None-clause-err c = λ _.
+pub returns-in_default : goal.returns-in_default
+returns-in_default c = λ _.
     let items = c.deref-part-items.result.now in
     let i = c.loop-part.part-index in
     let first = rest_first items i behind c.loop-part-test.true in
     ap (as_wide c.args.width) (cut c.loop-part.cells.items c.loop-part.invariant (get_or items i behind).now
-    (map (λ (w : Bor (List ℕ)). w.now) (drop (i + 1) items)) first (sym c.in-None.ensures))
+    (map (λ (w : Bor (List ℕ)). w.now) (drop (i + 1) items)) first (sym c.in_default.ensures))
 
 pub loop-part-preserved : goal.loop-part-preserved
 loop-part-preserved c =
@@ -97,25 +82,19 @@ loop-part-preserved c =
     let first = rest_first items i behind c.loop-part-test.true in
     more c.loop-part.cells.items c.loop-part.invariant (get_or items i behind).now rest first c.in-Some.cell
     (sym c.in-Some.ensures)
-    ∙ ap (λ (l : Combination). option_map (λ cells. l ++ cells) (cells_of_parts rest)) (sym c.in-Ok-push.ensures.items)
+    ∙ ap (λ (l : Combination). option_map (λ cells. l ++ cells) (cells_of_parts rest)) (sym c.in_ok-push.ensures.items)
 
-pub returns-then-len-width-clause-ok : goal.returns-then-len-width-clause-ok
-returns-then-len-width-clause-ok c = tt
-
-pub returns-then-len-width-clause-err : goal.returns-then-len-width-clause-err
-returns-then-len-width-clause-err c = λ _.
+pub returns-then-len-width : goal.returns-then-len-width
+returns-then-len-width c = λ _.
     let none = drop_all c.loop-part.part-index c.deref-part-items.result.now c.loop-part-test.false in
     let read = all_read c.loop-part.cells.items c.loop-part.invariant (ap (map (λ (w : Bor (List ℕ)). w.now)) none) in
     ap (as_wide c.args.width) read
     ∙ narrow c.args.width c.loop-part.cells.items (c.len.ensures ∙ c.loop-part.cells.ok.0) c.if-len-width.true
 
-pub returns-clause-ok : goal.returns-clause-ok
-returns-clause-ok c =
+pub returns : goal.returns
+returns c =
     let none = drop_all c.loop-part.part-index c.deref-part-items.result.now c.loop-part-test.false in
     let read = all_read c.loop-part.cells.items c.loop-part.invariant (ap (map (λ (w : Bor (List ℕ)). w.now)) none) in
     ap (as_wide c.args.width) read
     ∙ wide c.args.width c.loop-part.cells.items (c.len.ensures ∙ c.loop-part.cells.ok.0) c.if-len-width.false
     ∙ ap Ok (sym c.of.ensures)
-
-pub returns-clause-err : goal.returns-clause-err
-returns-clause-err c = tt

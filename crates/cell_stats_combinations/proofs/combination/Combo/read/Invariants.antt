@@ -1,7 +1,7 @@
 use Rattle.std.proofs.Common.{◌≡◌, ◌++◌, map, drop}
 use Rattle.std.specs.Option.{option_map}
 use Rattle.cell_core_text.specs.Words.{parts_of}
-use Rattle.cell_stats_combinations.specs.ComboText.{cells_of_parts}
+use Rattle.cell_stats_combinations.specs.ComboReading.{cells_of_parts}
 use Rattle.cell_stats_combinations.proofs.combination.Combo.read.Given as goal
 
 abbrev pub invariant-loop-part : goal.invariant-loop-part

@@ -1,10 +1,9 @@
-use Rattle.std.proofs.Common.{◌≡◌, ◌∙◌, ◌+◌, List, [], append-nil, take, length, refl, ap, sym}
-use Rattle.std.proofs.lemmas.List.{take_all}
+use Rattle.std.proofs.Common.{◌∙◌, ◌+◌, [], append-nil, refl, ap, sym}
 use Rattle.rcell_script.specs.KnownMaps.{known_after}
 use Rattle.cell_core_devices.specs.Blocks.{BlockValue}
 use Rattle.cell_core_devices.proofs.BlockLemmas.{appends_then}
 use Rattle.rcell.specs.Output.{command_text}
-use Rattle.rcell.proofs.runs.ExecutionLemmas.{executed_all, executed_more, executed_within, before_at, fits_more}
+use Rattle.rcell.proofs.runs.ExecutionLemmas.{executed_more, executed_within, before_at, fits_more}
 use Rattle.rcell.proofs.runs.execution.execute.Goals as goal
 
 pub loop-statement-init : goal.loop-statement-init

@@ -1,14 +1,13 @@
 use Rattle.std.proofs.Common.{◌≡◌, ◌<◌, ℕ, Option, Some, None, Result, Ok, Err, true, false, length, refl, sym, ◌∙◌, arith}
 use Rattle.std.specs.Prelude.{IfSome, IsNone}
-use Rattle.rcell_loading.specs.RunFaults.{IsBeforeExecution, IsInExecution, IsOfInput, IsOfMemory, NamesItsGrid}
+use Rattle.rcell_loading.specs.RunFaults.{IsBeforeExecution, IsInExecution, IsOfInput, NamesItsGrid}
 use Rattle.rcell_loading.specs.declared.run_fault.RunFault.{RunFault}
 use Rattle.rcell_loading.specs.declared.run_fault.RunFault.TheVariants.{GridTwice, GridRegion, Grid, ScriptRead, ScriptSize, Script, Memory, Write}
 use Rattle.rcell.specs.runs.Statuses.{fault_status, status_after}
-use Rattle.rcell_loading.specs.Sources.{known_of, coming_of}
 use Rattle.cell_core_devices.specs.Device.{has_failed}
 use Rattle.rcell.proofs.runs.EndLemmas.{failing_none, sound, write}
 use Rattle.rcell.proofs.runs.AcceptedLemmas.{when_accepted}
-use Rattle.rcell.proofs.runs.WrittenLemmas.{read_written, read_refused}
+use Rattle.rcell.proofs.runs.WrittenLemmas.{input_unless_memory, read_written, read_refused}
 use Rattle.rcell.proofs.runs.running.run.Goals as goal
 
 not_none : {X : Type 0} → true ≡ false → X
@@ -75,17 +74,6 @@ when_zero : {status : ℕ} {P : Type 0} (fault : Option RunFault) → status ≡
 when_zero None is late sound zero = sound refl
 when_zero (Some fault) is late sound zero = not_zero fault late (sym is ∙ zero)
 
--- what is neither in execution nor out of memory is of the input
-of_input : (fault : RunFault) → IsBeforeExecution fault → (IsOfMemory fault → ⊥) → IsOfInput fault
-of_input (GridTwice grid) early lasts = tt
-of_input (GridRegion grid) early lasts = tt
-of_input (Grid grid fault) early lasts = lasts
-of_input ScriptRead early lasts = tt
-of_input ScriptSize early lasts = tt
-of_input (Script fault) early lasts = lasts
-of_input (Memory line) early lasts = absurd (lasts tt)
-of_input Write early lasts = absurd early
-
 -- First, since a run that touches its sink before execution meets none of the clauses below either.
 pub returns-in-Err-clause-untouched : goal.returns-in-Err-clause-untouched
 returns-in-Err-clause-untouched g c = rw c.refused.ensures (λ early. refl)
@@ -98,16 +86,16 @@ returns-in-Ok-read_statements-clause-untouched g c =
     weaker c.put_out.result.fault _ _ (λ fault late early. not_both fault early late) c.put_out.ensures.late
 
 pub returns-in-Err-clause-done : goal.returns-in-Err-clause-done
-returns-in-Err-clause-done g c = rw c.refused.ensures (λ known tells none. not_none none)
+returns-in-Err-clause-done g c = rw c.refused.ensures (λ named text known tells none. not_none none)
 
 pub returns-in-Err-clause-refused : goal.returns-in-Err-clause-refused
-returns-in-Err-clause-refused g c = λ known tells. rw c.refused.ensures (λ input. rw (c.in-Err.ensures.fault known input) refl)
+returns-in-Err-clause-refused g c = λ named text known tells. rw c.refused.ensures (λ input. rw (c.in-Err.ensures.fault input named known) refl)
 
 pub returns-in-Err-clause-nothing : goal.returns-in-Err-clause-nothing
 returns-in-Err-clause-nothing g c = rw c.refused.ensures (λ early. (refl, (refl, refl)))
 
 pub returns-in-Err-clause-stopped : goal.returns-in-Err-clause-stopped
-returns-in-Err-clause-stopped g c = λ known tells. rw c.refused.ensures (λ late. not_both c.in-Err.fault c.in-Err.ensures.early late)
+returns-in-Err-clause-stopped g c = λ named text known tells. rw c.refused.ensures (λ late. not_both c.in-Err.fault c.in-Err.ensures.early late)
 
 pub returns-in-Err-clause-status : goal.returns-in-Err-clause-status
 returns-in-Err-clause-status g c = rw c.refused.ensures refl
@@ -123,59 +111,55 @@ returns-in-Err-clause-write g c = rw c.refused.ensures (λ write. not_write c.in
 
 pub returns-in-Err-clause-complete : goal.returns-in-Err-clause-complete
 returns-in-Err-clause-complete g c =
-    λ shelf statements known tells read.
-    rw c.refused.ensures (λ lasts whole. apart (c.in-Err.ensures.fault known (of_input c.in-Err.fault c.in-Err.ensures.early lasts)) read.loaded)
+    λ named text shelf statements known tells read.
+    rw c.refused.ensures (λ lasts whole. apart (c.in-Err.ensures.fault (input_unless_memory c.in-Err.fault c.in-Err.ensures.early lasts) named known) read.loaded)
 
 pub returns-in-Err-clause-headline : goal.returns-in-Err-clause-headline
 returns-in-Err-clause-headline g c =
-    let coming = g.R.Source.coming in
-    λ shelf statements known tells ok.
-    when_accepted (known_of coming c.args.grids.items) (coming_of coming c.args.script) shelf statements (g.W.Sink.taken c.args.out.now) (g.W.Sink.taken c.args.out.now) (has_failed (g.W.Sink.faults c.args.out.now)) c.refused.result
-    (λ read. returns-in-Err-clause-complete g c shelf statements known tells read) ok
+    λ named text shelf statements known tells ok.
+    when_accepted named text shelf statements (g.W.Sink.taken c.args.out.now) (g.W.Sink.taken c.args.out.now) (has_failed (g.W.Sink.faults c.args.out.now)) c.refused.result
+    (λ read. returns-in-Err-clause-complete g c named text shelf statements known tells read) ok
 
 pub returns-in-Ok-read_statements-clause-complete : goal.returns-in-Ok-read_statements-clause-complete
 returns-in-Ok-read_statements-clause-complete g c =
-    let coming = g.R.Source.coming in
-    λ shelf statements known tells read.
-    read_written (known_of coming c.args.grids.items) (coming_of coming c.args.script) c.in-Ok.shelf (c.in-Ok.ensures.ok known) shelf statements read
+    λ named text shelf statements known tells read.
+    read_written named text c.in-Ok.shelf (c.in-Ok.ensures.ok named known) shelf statements read
     (g.W.Sink.taken c.args.out.now) (g.W.Sink.taken c.put_out.new.out) (has_failed (g.W.Sink.faults c.put_out.new.out)) c.put_out.result
-    c.in-Ok-read_statements.statements (c.in-Ok-read_statements.ensures.only tells) c.put_out.ensures.done c.put_out.ensures.late c.put_out.ensures.status (write c.put_out.result.fault _ _ c.put_out.ensures.first)
+    c.in-Ok-read_statements.statements (c.in-Ok-read_statements.ensures.only text tells) c.put_out.ensures.done c.put_out.ensures.late c.put_out.ensures.status (write c.put_out.result.fault _ _ c.put_out.ensures.first)
 
 pub returns-in-Ok-read_statements-clause-headline : goal.returns-in-Ok-read_statements-clause-headline
 returns-in-Ok-read_statements-clause-headline g c =
-    let coming = g.R.Source.coming in
-    λ shelf statements known tells ok.
-    when_accepted (known_of coming c.args.grids.items) (coming_of coming c.args.script) shelf statements (g.W.Sink.taken c.args.out.now) (g.W.Sink.taken c.put_out.new.out) (has_failed (g.W.Sink.faults c.put_out.new.out)) c.put_out.result
-    (λ read. returns-in-Ok-read_statements-clause-complete g c shelf statements known tells read) ok
+    λ named text shelf statements known tells ok.
+    when_accepted named text shelf statements (g.W.Sink.taken c.args.out.now) (g.W.Sink.taken c.put_out.new.out) (has_failed (g.W.Sink.faults c.put_out.new.out)) c.put_out.result
+    (λ read. returns-in-Ok-read_statements-clause-complete g c named text shelf statements known tells read) ok
 
 pub returns-in-Err-read_statements-clause-told : goal.returns-in-Err-read_statements-clause-told
 returns-in-Err-read_statements-clause-told g c = rw c.refused-in-Err-read_statements.ensures (c.in-Err-read_statements.ensures.told (length c.args.grids.items))
 
 pub returns-in-Err-read_statements-clause-complete : goal.returns-in-Err-read_statements-clause-complete
 returns-in-Err-read_statements-clause-complete g c =
-    let coming = g.R.Source.coming in
-    λ shelf statements known tells read.
-    read_refused (known_of coming c.args.grids.items) (coming_of coming c.args.script) c.in-Ok.shelf (c.in-Ok.ensures.ok known) shelf statements read
+    λ named text shelf statements known tells read.
+    read_refused named text c.in-Ok.shelf (c.in-Ok.ensures.ok named known) shelf statements read
     (g.W.Sink.taken c.args.out.now) (g.W.Sink.taken c.args.out.now) (has_failed (g.W.Sink.faults c.args.out.now)) c.refused-in-Err-read_statements.result
-    c.in-Err-read_statements.fault (rw c.refused-in-Err-read_statements.ensures refl) c.in-Err-read_statements.ensures.early (c.in-Err-read_statements.ensures.none tells)
+    c.in-Err-read_statements.fault (rw c.refused-in-Err-read_statements.ensures refl)
+    (rw c.refused-in-Err-read_statements.ensures refl) c.in-Err-read_statements.ensures.early (c.in-Err-read_statements.ensures.none text tells)
 
 pub returns-in-Err-read_statements-clause-headline : goal.returns-in-Err-read_statements-clause-headline
 returns-in-Err-read_statements-clause-headline g c =
-    let coming = g.R.Source.coming in
-    λ shelf statements known tells ok.
-    when_accepted (known_of coming c.args.grids.items) (coming_of coming c.args.script) shelf statements (g.W.Sink.taken c.args.out.now) (g.W.Sink.taken c.args.out.now) (has_failed (g.W.Sink.faults c.args.out.now)) c.refused-in-Err-read_statements.result
-    (λ read. returns-in-Err-read_statements-clause-complete g c shelf statements known tells read) ok
+    λ named text shelf statements known tells ok.
+    when_accepted named text shelf statements (g.W.Sink.taken c.args.out.now) (g.W.Sink.taken c.args.out.now) (has_failed (g.W.Sink.faults c.args.out.now)) c.refused-in-Err-read_statements.result
+    (λ read. returns-in-Err-read_statements-clause-complete g c named text shelf statements known tells read) ok
 
 pub returns-in-Ok-read_statements-clause-done : goal.returns-in-Ok-read_statements-clause-done
-returns-in-Ok-read_statements-clause-done g c = λ known tells none. record {
+returns-in-Ok-read_statements-clause-done g c = λ named text known tells none. record {
   shelf = c.in-Ok.shelf;
   statements = c.in-Ok-read_statements.statements;
-  read = record { loaded = c.in-Ok.ensures.ok known; reads = c.in-Ok-read_statements.ensures.ok tells };
+  read = record { loaded = c.in-Ok.ensures.ok named known; reads = c.in-Ok-read_statements.ensures.ok text tells };
   done = c.put_out.ensures.done none;
 }
 
 pub returns-in-Ok-read_statements-clause-refused : goal.returns-in-Ok-read_statements-clause-refused
-returns-in-Ok-read_statements-clause-refused g c = λ known tells.
+returns-in-Ok-read_statements-clause-refused g c = λ named text known tells.
     weaker c.put_out.result.fault _ _ (λ fault late input. not_input fault late input) c.put_out.ensures.late
 
 pub returns-in-Ok-read_statements-clause-nothing : goal.returns-in-Ok-read_statements-clause-nothing
@@ -183,11 +167,11 @@ returns-in-Ok-read_statements-clause-nothing g c =
     weaker c.put_out.result.fault _ _ (λ fault late early. not_both fault early late) c.put_out.ensures.late
 
 pub returns-in-Ok-read_statements-clause-stopped : goal.returns-in-Ok-read_statements-clause-stopped
-returns-in-Ok-read_statements-clause-stopped g c = λ known tells.
+returns-in-Ok-read_statements-clause-stopped g c = λ named text known tells.
     weaker c.put_out.result.fault _ _ (λ fault stops late. record {
       shelf = c.in-Ok.shelf;
       statements = c.in-Ok-read_statements.statements;
-      read = record { loaded = c.in-Ok.ensures.ok known; reads = c.in-Ok-read_statements.ensures.ok tells };
+      read = record { loaded = c.in-Ok.ensures.ok named known; reads = c.in-Ok-read_statements.ensures.ok text tells };
       stops = stops;
     }) c.put_out.ensures.stops
 
@@ -205,18 +189,18 @@ pub returns-in-Ok-read_statements-clause-write : goal.returns-in-Ok-read_stateme
 returns-in-Ok-read_statements-clause-write g c = write c.put_out.result.fault _ _ c.put_out.ensures.first
 
 pub returns-in-Err-read_statements-clause-done : goal.returns-in-Err-read_statements-clause-done
-returns-in-Err-read_statements-clause-done g c = rw c.refused-in-Err-read_statements.ensures (λ known tells none. not_none none)
+returns-in-Err-read_statements-clause-done g c = rw c.refused-in-Err-read_statements.ensures (λ named text known tells none. not_none none)
 
 pub returns-in-Err-read_statements-clause-refused : goal.returns-in-Err-read_statements-clause-refused
-returns-in-Err-read_statements-clause-refused g c = λ known tells.
+returns-in-Err-read_statements-clause-refused g c = λ named text known tells.
     rw c.refused-in-Err-read_statements.ensures
-    (λ input. rw (c.in-Ok.ensures.ok known) (c.in-Err-read_statements.ensures.fault tells input))
+    (λ input. rw (c.in-Ok.ensures.ok named known) (c.in-Err-read_statements.ensures.fault text tells input))
 
 pub returns-in-Err-read_statements-clause-nothing : goal.returns-in-Err-read_statements-clause-nothing
 returns-in-Err-read_statements-clause-nothing g c = rw c.refused-in-Err-read_statements.ensures (λ early. (refl, (refl, refl)))
 
 pub returns-in-Err-read_statements-clause-stopped : goal.returns-in-Err-read_statements-clause-stopped
-returns-in-Err-read_statements-clause-stopped g c = λ known tells.
+returns-in-Err-read_statements-clause-stopped g c = λ named text known tells.
     rw c.refused-in-Err-read_statements.ensures
     (λ late. not_both c.in-Err-read_statements.fault c.in-Err-read_statements.ensures.early late)
 
@@ -231,16 +215,16 @@ returns-in-Err-read_statements-clause-write g c =
     rw c.refused-in-Err-read_statements.ensures (λ write. not_write c.in-Err-read_statements.fault c.in-Err-read_statements.ensures.early write)
 
 pub returns-in-Err-clause-whole : goal.returns-in-Err-clause-whole
-returns-in-Err-clause-whole g c = λ known tells. rw c.refused.ensures (λ write clean. not_write c.in-Err.fault c.in-Err.ensures.early write)
+returns-in-Err-clause-whole g c = λ named text known tells. rw c.refused.ensures (λ write clean. not_write c.in-Err.fault c.in-Err.ensures.early write)
 
 pub returns-in-Err-clause-first : goal.returns-in-Err-clause-first
 returns-in-Err-clause-first g c = rw c.refused.ensures (failing_none c.in-Err.fault (g.W.Sink.faults c.args.out.now) c.in-Err.ensures.early)
 
 pub returns-in-Ok-read_statements-clause-whole : goal.returns-in-Ok-read_statements-clause-whole
-returns-in-Ok-read_statements-clause-whole g c = λ known tells write clean. record {
+returns-in-Ok-read_statements-clause-whole g c = λ named text known tells write clean. record {
   shelf = c.in-Ok.shelf;
   statements = c.in-Ok-read_statements.statements;
-  read = record { loaded = c.in-Ok.ensures.ok known; reads = c.in-Ok-read_statements.ensures.ok tells };
+  read = record { loaded = c.in-Ok.ensures.ok named known; reads = c.in-Ok-read_statements.ensures.ok text tells };
   done = c.put_out.ensures.whole write clean;
 }
 
@@ -248,7 +232,7 @@ pub returns-in-Ok-read_statements-clause-first : goal.returns-in-Ok-read_stateme
 returns-in-Ok-read_statements-clause-first g c = c.put_out.ensures.first
 
 pub returns-in-Err-read_statements-clause-whole : goal.returns-in-Err-read_statements-clause-whole
-returns-in-Err-read_statements-clause-whole g c = λ known tells.
+returns-in-Err-read_statements-clause-whole g c = λ named text known tells.
     rw c.refused-in-Err-read_statements.ensures
     (λ write clean. not_write c.in-Err-read_statements.fault c.in-Err-read_statements.ensures.early write)
 
