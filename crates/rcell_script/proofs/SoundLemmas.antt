@@ -8,6 +8,7 @@ use Rattle.rcell_script.specs.KnownMaps.{known_after}
 use Rattle.rcell_script.specs.ScriptsRead.{start, with_statement, after_head, after_rule}
 use Rattle.rcell_script_commands.specs.FittingCommands.{FitsCommand, FitsHead}
 use Rattle.rcell_script.specs.FittingScripts.{Fits}
+use Rattle.rcell_script_commands.specs.ScriptFaults.{ReadsLine}
 use Rattle.rcell_script_commands.specs.declared.script_fault.ScriptFault.{ScriptFault}
 use Rattle.rcell_script_commands.specs.declared.script_fault.ScriptKind.{ScriptKind}
 use Rattle.rcell_script_commands.specs.declared.heads.Head.{Head}
@@ -77,7 +78,7 @@ IsSound-rule first read more line block (Ok (line_kind.Rule, rules)) fits e soun
 
 -- a line among rules keeps what was kept
 pub IsSound-rules : (read : Progress) (line : ℕ) (block : Block) (x : Result (LineKind × List RuleValue) ScriptKind) (r : Result Progress ScriptFault) → read.pending ≡ Some block
-    → IfOk r (λ more. after_rule line (record read { pending = None }) block x ≡ Ok more) → IfOk r (λ more. (first : List (List ℕ)) → IsSound first read → IsSound first more)
+    → ReadsLine (λ next. after_rule line (record read { pending = None }) block x ≡ next) r → IfOk r (λ more. (first : List (List ℕ)) → IsSound first read → IsSound first more)
 IsSound-rules read line block x (Err fault) pending e = record {}
 IsSound-rules read line block x (Ok more) pending e =
     λ first sound. IsSound-rule first (record read { pending = None }) more line block x (subst (FitsBlock read.known) pending sound.pending) e (IsSound-closed first read sound)

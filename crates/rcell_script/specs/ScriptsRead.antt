@@ -9,7 +9,8 @@ use Rattle.rcell_script_commands.specs.Commands.{IsHead}
 use Rattle.rcell_script.specs.KnownMaps.{known_after}
 use Rattle.rcell_script_commands.specs.declared.script_fault.ScriptFault.{ScriptFault}
 use Rattle.rcell_script_commands.specs.declared.script_fault.ScriptKind.{ScriptKind}
-use Rattle.rcell_script_commands.specs.declared.script_fault.ScriptKind.TheVariants.{LongLine, MissingEnd, Rule}
+use Rattle.rcell_script_commands.specs.declared.script_fault.ScriptKind.TheVariants.{LongLine, MissingEnd}
+use Rattle.rcell_script_commands.specs.ScriptFaults.{of_rule}
 use Rattle.rcell_script_commands.specs.declared.heads.Head.{Head}
 use Rattle.rcell_script_commands.specs.declared.heads.Head.TheVariants.{Skipped, Whole, Opened}
 use Rattle.rcell_script.specs.declared.line_reading.Block.{Block}
@@ -38,10 +39,10 @@ after_head line read (Ok Skipped) = Ok read
 after_head line read (Ok (Whole command)) = Ok (with_statement line command read)
 after_head line read (Ok (Opened place target)) = Ok (record read { pending = Some (record { line = line; place = place; target = target; rules = [] }) })
 
--- the fault of a rule
+-- a rule, or its fault
 abbrev pub as_rule : Result (LineKind × List RuleValue) RuleFault → Result (LineKind × List RuleValue) ScriptKind
 as_rule (Ok x) = Ok x
-as_rule (Err fault) = Err (Rule fault)
+as_rule (Err fault) = Err (of_rule fault)
 
 -- a line among rules: what kind it is, and the rules with it
 abbrev pub rule_line : List RuleValue → List ℕ → Result (LineKind × List RuleValue) ScriptKind

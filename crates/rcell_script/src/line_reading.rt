@@ -1,14 +1,16 @@
 //! The reading of a script line by line.
 
-ghost use Rattle.std.specs.Prelude.{◌≡◌, ◌≢◌, ◌<◌, ℕ, List, IfOk, IfErr, OnOk, Ok, Err, Some};
+ghost use Rattle.std.specs.Prelude.{◌≡◌, ◌≢◌, ◌<◌, ℕ, List, IfOk, IfErr, OnOk, Ok, Some};
 ghost use Rattle.std.specs.Option.{option_map};
+ghost use Rattle.cell_core_text.specs.Answers.{Answers};
 ghost use Rattle.rcell_script.specs.KnownMaps.{known_after, made_by};
 ghost use Rattle.rcell_script.specs.ScriptsRead.{start, with_statement, after_head, after_rule, rule_line, IsNext, at_end};
 ghost use Rattle.rcell_script_commands.specs.FittingCommands.{FitsCommand, FitsHead};
+ghost use Rattle.rcell_script_commands.specs.ScriptFaults.{ReadsLine};
 ghost use Rattle.rcell_script.specs.parts.Sound.{IsSound, FitsBlock};
 
 use crate::statement::{Script, Statement};
-use cell_cats::rules::{LineKind, RuleFault, Rules};
+use cell_cats::rules::{LineKind, Rules};
 use cell_core::memory::Memory;
 use cell_core::name::{Name, Names};
 use rcell_script_commands::command::Command;
@@ -88,17 +90,12 @@ fn add_made(alloc: Global, known: &mut Names, command: &Command) -> Result<(), M
 
 // A line among rules, and the rules with it.
 fn add_rule(rules: &mut Rules, line: &[u8]) -> Result<LineKind, ScriptKind>
-    ensures ok { IfOk result (λ kind. rule_line rules.old line.now ≡ Ok (kind, rules.new)) }
-    ensures err { IfErr result (λ kind. kind ≢ ScriptKind.Memory → rule_line rules.old line.now ≡ Err kind) }
+    ensures { Answers ScriptKind.Memory (λ kind. (kind, rules.new)) result (rule_line rules.old line.now) }
 {
     if line.len() > MOST_LINE {
         return Err(ScriptKind::LongLine);
     }
-    match rules.add_line(line) {
-        Ok(kind) => Ok(kind),
-        Err(RuleFault::Memory) => Err(ScriptKind::Memory),
-        Err(fault) => Err(ScriptKind::Rule(fault)),
-    }
+    Ok(rules.add_line(line)?)
 }
 
 impl Progress {
@@ -163,8 +160,7 @@ impl Progress {
         text: &[u8],
     ) -> Result<Progress, ScriptFault>
         requires { FitsBlock self.known (Some block) }
-        ensures ok { IfOk result (λ read. after_rule line self block (rule_line block.rules text.now) ≡ Ok read) }
-        ensures err { IfErr result (λ fault. fault.kind ≢ ScriptKind.Memory → after_rule line self block (rule_line block.rules text.now) ≡ Err fault) }
+        ensures next { ReadsLine (λ next. after_rule line self block (rule_line block.rules text.now) ≡ next) result }
         ensures memory { IfErr result (λ fault. fault.kind ≡ ScriptKind.Memory → fault.line ≡ 0) }
     {
         match add_rule(&mut block.rules, text) {
@@ -202,9 +198,8 @@ impl Progress {
     ) -> Result<Progress, ScriptFault>
         requires line { 0 < line }
         requires fits { FitsBlock self.known self.pending }
-        ensures ok { IfOk result (λ read. IsNext line self text.now (Ok read)) }
+        ensures next { ReadsLine (IsNext line self text.now) result }
         ensures sound { IfOk result (λ read. (first : List (List ℕ)) → IsSound first self → IsSound first read) }
-        ensures err { IfErr result (λ fault. fault.kind ≢ ScriptKind.Memory → IsNext line self text.now (Err fault)) }
         ensures memory { IfErr result (λ fault. fault.kind ≡ ScriptKind.Memory → fault.line ≡ 0) }
     {
         let Progress {

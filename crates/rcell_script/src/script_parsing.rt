@@ -34,10 +34,7 @@ pub fn parse_script(alloc: Global, text: &[u8], known: &Names) -> Result<Script,
     };
     let mut read = start;
     for (i, line) in lines.iter().enumerate() {
-        match read.with_line(alloc, i as u64 + 1, *line) {
-            Ok(more) => read = more,
-            Err(fault) => return Err(fault),
-        }
+        read = read.with_line(alloc, i as u64 + 1, *line)?;
     }
     read.into_script()
 }

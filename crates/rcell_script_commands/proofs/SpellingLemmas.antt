@@ -2,6 +2,7 @@
 use Rattle.std.proofs.Common.{◌≡◌, ℕ, ◌≤◌, Bool, true, false, cond, List, [], ◌∷◌, length, Option, Some, None, Result, Ok, Err, inl, inr, codes, refl, ap, sym, ◌∙◌, subst}
 use Rattle.std.specs.Prelude.{◌⊎◌, nat_lt, bytes_eq, unwrap_or}
 use Rattle.std.specs.Cmp.Lexicographic.{bytes_decides}
+use Rattle.std.specs.Option.{ok_or}
 use Rattle.std.proofs.lemmas.Bool.{ltb-false, le-ltb}
 use Rattle.cell_ascii_meaning.specs.Header.{usual_null}
 use Rattle.cell_calc_binding.specs.Binding.{with_places}
@@ -13,14 +14,15 @@ use Rattle.cell_stats_combinations.specs.Combinations.{Combination}
 use Rattle.cell_stats_combinations.specs.ComboReading.{combo_of}
 use Rattle.cell_stats_combinations.proofs.ReadingLemmas.{combinations-are-read}
 use Rattle.cell_stats_combinations.specs.declared.combination_text.ComboFault.{ComboFault}
+use Rattle.cell_core_text.specs.Answers.{◌>>=◌}
 use Rattle.cell_core_text.specs.Words.{words_of}
-use Rattle.rcell_script_commands.specs.Commands.{as_whole, as_opened, head_named, head_of_words, is_mapcalc, IsShortHead, IsHeadOf, IsHead, clump_of, clump_with, mapcalc_of, IsMapcalc, out_ascii_of, out_ascii_with, reclass_of, after_of, stats_at, stats_with, stats_of}
+use Rattle.rcell_script_commands.specs.Commands.{as_whole, as_opened, head_named, head_of_words, is_mapcalc, IsShortHead, IsHeadOf, IsHead, clump_of, mapcalc_of, IsMapcalc, out_ascii_of, reclass_of, after_of, stats_of}
 use Rattle.rcell_script_commands.specs.ScriptFaults.{in_script}
 use Rattle.rcell_script_commands.specs.Skipped.{is_comment, IsSkipped}
 use Rattle.rcell_script_options.specs.Options.{Given, is_torn}
-use Rattle.rcell_script_options.specs.Maps.{needed, known_place, known_places, from_to, input_place, input_places}
+use Rattle.rcell_script_options.specs.Maps.{from_to, input_place, input_places}
 use Rattle.rcell_script_options.specs.InputPlaces.{places_of}
-use Rattle.rcell_script_options.specs.OptionReading.{options_then, options_of}
+use Rattle.rcell_script_options.specs.OptionReading.{options_of}
 use Rattle.rcell_script_commands.specs.RClump.{joining_of, SpellsClump}
 use Rattle.rcell_script_commands.specs.RMapcalc.{assignment_text}
 use Rattle.rcell_script_commands.specs.RStats.{printed_with, SpellsAfter, SpellsStats}
@@ -32,7 +34,7 @@ use Rattle.rcell_script_commands.specs.declared.script_fault.ScriptKind.TheVaria
 use Rattle.rcell_script_commands.specs.declared.heads.Head.{Head}
 use Rattle.rcell_script_commands.specs.declared.heads.Head.TheVariants.{Skipped, Whole, Opened}
 use Rattle.rcell_script_options.specs.declared.option_fault.OptionFault.{OptionFault}
-use Rattle.rcell_script_options.specs.declared.option_fault.OptionFault.TheVariants.{BadOption}
+use Rattle.rcell_script_options.specs.declared.option_fault.OptionFault.TheVariants.{BadOption, MissingOption, UnknownMap}
 use Rattle.rcell_script_options.specs.declared.options.Form.TheVariants as form
 use Rattle.rcell_script_commands.specs.declared.command.Command.{Command}
 use Rattle.rcell_script_commands.specs.declared.command.Command.TheVariants.{Mapcalc, Reclass, Clump, Stats, OutAscii}
@@ -76,7 +78,7 @@ record Went {A B E : Type 0} (next : A → Result B E) (first : Result A E) (las
   is : first ≡ Ok value
   goes : next value ≡ Ok last
 
-went : {A B E : Type 0} (next : A → Result B E) (first : Result A E) (last : B) → options_then next first ≡ Ok last → Went next first last
+went : {A B E : Type 0} (next : A → Result B E) (first : Result A E) (last : B) → (first >>= next) ≡ Ok last → Went next first last
 went next (Ok value) last e = record { value = value; is = refl; goes = e }
 went next (Err kind) last e = cc
 
@@ -101,7 +103,7 @@ reclass-complete known line place target s = rw (options-complete form.Reclass s
 clump-sound : (known : List (List ℕ)) (line : List ℕ) (words : List (List ℕ)) (command : Command) → words_of line ≡ codes "r.clump" ∷ words
     → clump_of known words ≡ Ok command → SpellsCommand known line command
 clump-sound known line words command is e =
-    let w = went (clump_with known) (options_of form.Clump words) command e in
+    let w = went (λ given. from_to known given >>= (λ maps. Ok (Clump maps.0 maps.1 (joining_of given)))) (options_of form.Clump words) command e in
     let v = went (λ maps. Ok (Clump maps.0 maps.1 (joining_of w.value))) (from_to known w.value) command w.goes in
     let same : Clump v.value.0 v.value.1 (joining_of w.value) ≡ command = let f = v.goes in cc in
     subst (λ c. SpellsCommand known line c) same (record { words = words; named = is; given = w.value; options = options-sound form.Clump words w.value w.is; maps = from_to-sound known w.value v.value v.is; joining_is = refl })
@@ -142,18 +144,28 @@ input_places-sound : (known : List (List ℕ)) (given : Given) (places : List �
 input_places-sound known given places e = by given.inputs refl e
   where
     found : (inputs : List (List ℕ)) (torn : Bool) (place : Option (List ℕ)) → given.inputs ≡ Some inputs → is_torn given ≡ torn → places_of known inputs ≡ place
-        → cond torn (Err BadOption) (known_places place) ≡ Ok places → Placed known given places
+        → cond torn (Err BadOption) (ok_or place UnknownMap) ≡ Ok places → Placed known given places
     found inputs true place i t p f = cc
     found inputs false None i t p f = cc
     found inputs false (Some other) i t p f = let same : other ≡ places = cc in record { inputs = inputs; inputs_are = i; read = p ∙ ap Some same; together = t }
 
-    by : (inputs : Option (List (List ℕ))) → given.inputs ≡ inputs → needed inputs (λ names. cond (is_torn given) (Err BadOption) (known_places (places_of known names))) ≡ Ok places → Placed known given places
+    by : (inputs : Option (List (List ℕ))) → given.inputs ≡ inputs → (ok_or inputs MissingOption >>= (λ names. cond (is_torn given) (Err BadOption) (ok_or (places_of known names) UnknownMap))) ≡ Ok places → Placed known given places
     by None i f = cc
     by (Some inputs) i f = found inputs (is_torn given) (places_of known inputs) i refl refl f
 
 input_places-complete : (known : List (List ℕ)) (given : Given) (inputs : List (List ℕ)) (places : List ℕ) → given.inputs ≡ Some inputs → is_torn given ≡ false → places_of known inputs ≡ Some places
     → input_places known given ≡ Ok places
 input_places-complete known given inputs places i t p = rw (i, t, p) refl
+
+abbrev stats_at : Given → List ℕ → Result Command ScriptKind
+stats_at given places = do
+  after ← after_of (length places) given.after
+  Ok (Stats places (printed_with given after))
+
+abbrev stats_with : List (List ℕ) → Given → Result Command ScriptKind
+stats_with known given = do
+  places ← in_script (input_places known given)
+  stats_at given places
 
 stats-sound : (known : List (List ℕ)) (line : List ℕ) (words : List (List ℕ)) (command : Command) → words_of line ≡ codes "r.stats" ∷ words
     → stats_of known words ≡ Ok command → SpellsCommand known line command
@@ -191,11 +203,11 @@ record Found (known : List (List ℕ)) (given : Given) (place : ℕ) : Type 0 wh
 input_place-sound : (known : List (List ℕ)) (given : Given) (place : ℕ) → input_place known given ≡ Ok place → Found known given place
 input_place-sound known given place e = by given.input refl e
   where
-    found : (input : List ℕ) (at : Option ℕ) → given.input ≡ Some input → place_of input known ≡ at → known_place at Ok ≡ Ok place → Found known given place
+    found : (input : List ℕ) (at : Option ℕ) → given.input ≡ Some input → place_of input known ≡ at → ok_or at UnknownMap ≡ Ok place → Found known given place
     found input None i p f = cc
     found input (Some other) i p f = let same : other ≡ place = cc in record { input = input; input_is = i; read = p ∙ ap Some same }
 
-    by : (input : Option (List ℕ)) → given.input ≡ input → needed input (λ input. known_place (place_of input known) Ok) ≡ Ok place → Found known given place
+    by : (input : Option (List ℕ)) → given.input ≡ input → (ok_or input MissingOption >>= (λ input. ok_or (place_of input known) UnknownMap)) ≡ Ok place → Found known given place
     by None i f = cc
     by (Some input) i f = found input (place_of input known) i refl f
 
@@ -205,7 +217,7 @@ input_place-complete known given input place i p = rw (i, p) refl
 out_ascii-sound : (known : List (List ℕ)) (line : List ℕ) (words : List (List ℕ)) (command : Command) → words_of line ≡ codes "r.out.ascii" ∷ words
     → out_ascii_of known words ≡ Ok command → SpellsCommand known line command
 out_ascii-sound known line words command is e =
-    let w = went (out_ascii_with known) (options_of form.OutAscii words) command e in
+    let w = went (λ given. input_place known given >>= (λ place. Ok (OutAscii place (unwrap_or given.null_text usual_null)))) (options_of form.OutAscii words) command e in
     let v = went (λ place. Ok (OutAscii place (unwrap_or w.value.null_text usual_null))) (input_place known w.value) command w.goes in
     let found = input_place-sound known w.value v.value v.is in
     let same : OutAscii v.value (unwrap_or w.value.null_text usual_null) ≡ command = let g = v.goes in cc in

@@ -8,21 +8,21 @@ use Rattle.cell_calc_language.specs.GrammarFault.{IsTextFault}
 use Rattle.cell_calc_language.specs.Unknown.{first_unknown}
 use Rattle.cell_stats_combinations.specs.Combinations.{Combination}
 use Rattle.cell_stats_combinations.specs.ComboReading.{combo_of}
+use Rattle.cell_core_text.specs.Answers.{◌>>=◌}
 use Rattle.cell_core_text.specs.Words.{words_of}
 use Rattle.cell_calc_language.specs.declared.assignment.Assignment.{Assignment}
 use Rattle.cell_calc_tokens.specs.declared.calc_fault.CalcFault.{CalcFault}
 use Rattle.cell_calc_tokens.specs.declared.calc_fault.CalcKind.TheVariants as calc
 use Rattle.cell_stats_combinations.specs.declared.combination_text.ComboFault.{ComboFault}
-use Rattle.rcell_script_commands.specs.ScriptFaults.{in_script}
+use Rattle.rcell_script_commands.specs.ScriptFaults.{in_script, of_combo}
 use Rattle.rcell_script_commands.specs.Skipped.{is_comment}
 use Rattle.rcell_script_options.specs.Maps.{new_target, from_to, input_place, input_places}
-use Rattle.rcell_script_options.specs.OptionReading.{options_then, options_of}
-use Rattle.rcell_script_options.specs.Options.{Given}
+use Rattle.rcell_script_options.specs.OptionReading.{options_of}
 use Rattle.rcell_script_commands.specs.RClump.{joining_of}
 use Rattle.rcell_script_commands.specs.RMapcalc.{assignment_text}
 use Rattle.rcell_script_commands.specs.RStats.{printed_with}
 use Rattle.rcell_script_commands.specs.declared.script_fault.ScriptKind.{ScriptKind}
-use Rattle.rcell_script_commands.specs.declared.script_fault.ScriptKind.TheVariants.{Calc, Combo, UnknownCommand, LongLine}
+use Rattle.rcell_script_commands.specs.declared.script_fault.ScriptKind.TheVariants.{Calc, UnknownCommand, LongLine}
 use Rattle.rcell_script_commands.specs.declared.heads.Head.{Head}
 use Rattle.rcell_script_commands.specs.declared.heads.Head.TheVariants.{Whole, Skipped, Opened}
 use Rattle.rcell_script_options.specs.declared.option_fault.OptionFault.{OptionFault}
@@ -52,15 +52,14 @@ IsMapcalc known line head = IsAssigned known (assignment_text line) head ⊎ IsU
 
 -- the place of the map that is read, and the name of the one that is made
 abbrev pub reclass_of : List (List ℕ) → List (List ℕ) → Result (ℕ × List ℕ) OptionFault
-reclass_of known words = options_then (from_to known) (options_of form.Reclass words)
-
--- a map that is known, and one that is new
-abbrev pub clump_with : List (List ℕ) → Given → Result Command OptionFault
-clump_with known given = options_then (λ maps. Ok (Clump maps.0 maps.1 (joining_of given))) (from_to known given)
+reclass_of known words = options_of form.Reclass words >>= from_to known
 
 -- the areas that words ask for
 abbrev pub clump_of : List (List ℕ) → List (List ℕ) → Result Command OptionFault
-clump_of known words = options_then (clump_with known) (options_of form.Clump words)
+clump_of known words = do
+  given ← options_of form.Clump words
+  maps ← from_to known given
+  Ok (Clump maps.0 maps.1 (joining_of given))
 
 -- the combination after which a table goes on, where one is given
 abbrev pub after_of : ℕ → Option (List ℕ) → Result (Option Combination) ScriptKind
@@ -69,27 +68,22 @@ after_of width (Some text) = combined (combo_of width text)
   where
     combined : Result Combination ComboFault → Result (Option Combination) ScriptKind
     combined (Ok combo) = Ok (Some combo)
-    combined (Err fault) = Err (Combo fault)
+    combined (Err fault) = Err (of_combo fault)
 
--- the table of the maps at these places
-abbrev pub stats_at : Given → List ℕ → Result Command ScriptKind
-stats_at given places = options_then (λ after. Ok (Stats places (printed_with given after))) (after_of (length places) given.after)
-
--- inputs, then flags that go together, then known maps, then a combination of their number
-abbrev pub stats_with : List (List ℕ) → Given → Result Command ScriptKind
-stats_with known given = options_then (stats_at given) (in_script (input_places known given))
-
--- the table that words ask for
+-- the table that words ask for: inputs, then flags that go together, then known maps, then a combination of their number
 abbrev pub stats_of : List (List ℕ) → List (List ℕ) → Result Command ScriptKind
-stats_of known words = options_then (stats_with known) (in_script (options_of form.Stats words))
+stats_of known words = do
+  given ← in_script (options_of form.Stats words)
+  places ← in_script (input_places known given)
+  after ← after_of (length places) given.after
+  Ok (Stats places (printed_with given after))
 
--- an input that is known; null is an asterisk where no text is given
-abbrev pub out_ascii_with : List (List ℕ) → Given → Result Command OptionFault
-out_ascii_with known given = options_then (λ place. Ok (OutAscii place (unwrap_or given.null_text usual_null))) (input_place known given)
-
--- the grid text that words ask for
+-- the grid text that words ask for, of an input that is known; null is an asterisk where no text is given
 abbrev pub out_ascii_of : List (List ℕ) → List (List ℕ) → Result Command OptionFault
-out_ascii_of known words = options_then (out_ascii_with known) (options_of form.OutAscii words)
+out_ascii_of known words = do
+  given ← options_of form.OutAscii words
+  place ← input_place known given
+  Ok (OutAscii place (unwrap_or given.null_text usual_null))
 
 -- a command that is whole with its line
 abbrev pub as_whole : Result Command ScriptKind → Result Head ScriptKind

@@ -1,9 +1,16 @@
--- The faults of options, as those of a script.
-use Rattle.std.specs.Prelude.{Result, Ok, Err}
+-- The faults of options, expressions, rules and combinations, as those of a script, and how a reading of a script tells them.
+use Rattle.std.specs.Prelude.{◌≡◌, ◌≢◌, ◌⊎◌, Result, Ok, Err}
+use Rattle.cell_calc_tokens.specs.declared.calc_fault.CalcFault.{CalcFault}
+use Rattle.cell_calc_tokens.specs.declared.calc_fault.CalcKind.TheVariants as calc
+use Rattle.cell_cats.specs.declared.rules.RuleFault.{RuleFault}
+use Rattle.cell_cats.specs.declared.rules.RuleFault.TheVariants as rule
+use Rattle.cell_stats_combinations.specs.declared.combination_text.ComboFault.{ComboFault}
+use Rattle.cell_stats_combinations.specs.declared.combination_text.ComboFault.TheVariants as combo
 use Rattle.rcell_script_options.specs.declared.option_fault.OptionFault.{OptionFault}
 use Rattle.rcell_script_options.specs.declared.option_fault.OptionFault.TheVariants as option
 use Rattle.rcell_script_commands.specs.declared.script_fault.ScriptKind.{ScriptKind}
-use Rattle.rcell_script_commands.specs.declared.script_fault.ScriptKind.TheVariants.{BadOption, MissingOption, UnknownMap, MapExists, BadName, Memory}
+use Rattle.rcell_script_commands.specs.declared.script_fault.ScriptKind.TheVariants.{BadOption, MissingOption, UnknownMap, MapExists, BadName, Calc, Rule, Combo, Memory}
+use Rattle.rcell_script_commands.specs.declared.script_fault.ScriptFault.{ScriptFault}
 
 -- each fault of options is one of a script
 abbrev pub kind_of : OptionFault → ScriptKind
@@ -18,3 +25,27 @@ kind_of option.Memory = Memory
 abbrev pub in_script : {A : Type 0} → Result A OptionFault → Result A ScriptKind
 in_script (Ok x) = Ok x
 in_script (Err fault) = Err (kind_of fault)
+
+-- a fault of an expression
+abbrev pub IsOfCalc : CalcFault → ScriptKind → Type 0
+IsOfCalc fault kind = ((fault.kind ≡ calc.Memory) × (kind ≡ Memory)) ⊎ ((fault.kind ≢ calc.Memory) × (kind ≡ Calc fault))
+
+-- a fault of a combination
+abbrev pub of_combo : ComboFault → ScriptKind
+of_combo combo.Memory = Memory
+of_combo fault = Combo fault
+
+-- a fault of a rule
+abbrev pub of_rule : RuleFault → ScriptKind
+of_rule rule.Memory = Memory
+of_rule fault = Rule fault
+
+-- what is answered is a reading, and so is a fault of another kind than that memory was refused
+abbrev pub Reads : {A : Type 0} → (Result A ScriptKind → Type 0) → Result A ScriptKind → Type 0
+Reads IsReading (Ok x) = IsReading (Ok x)
+Reads IsReading (Err kind) = kind ≢ Memory → IsReading (Err kind)
+
+-- the same of a fault at a line
+abbrev pub ReadsLine : {A : Type 0} → (Result A ScriptFault → Type 0) → Result A ScriptFault → Type 0
+ReadsLine IsReading (Ok x) = IsReading (Ok x)
+ReadsLine IsReading (Err fault) = fault.kind ≢ Memory → IsReading (Err fault)

@@ -1,8 +1,11 @@
 //! The command of a line.
 
-ghost use Rattle.std.specs.Prelude.{◌≡◌, ◌≢◌, IfOk, IfErr, Ok, Err, map};
+ghost use Rattle.std.specs.Prelude.{◌≡◌, IfOk};
+ghost use Rattle.cell_core_text.specs.Answers.{Answers};
+ghost use Rattle.rcell_script_options.specs.OptionReading.{texts};
 ghost use Rattle.rcell_script_commands.specs.Commands.{head_named, head_of_words, is_mapcalc, IsHead};
 ghost use Rattle.rcell_script_commands.specs.FittingCommands.{FitsHead};
+ghost use Rattle.rcell_script_commands.specs.ScriptFaults.{Reads};
 ghost use Rattle.rcell_script_commands.specs.Skipped.{is_comment};
 
 use crate::command::Command;
@@ -48,9 +51,8 @@ fn head_named(
     name: &[u8],
     words: &[&[u8]],
 ) -> Result<Head, ScriptKind>
-    ensures ok { IfOk result (λ head. head_named known.now name.now (map (λ w. w.now) words.now) ≡ Ok head) }
+    ensures head { Answers ScriptKind.Memory (λ head. head) result (head_named known.now name.now (texts words.now)) }
     ensures fits { IfOk result (FitsHead known.now) }
-    ensures err { IfErr result (λ kind. kind ≢ ScriptKind.Memory → head_named known.now name.now (map (λ w. w.now) words.now) ≡ Err kind) }
 {
     if name == b"r.stats".as_slice() {
         Ok(Head::Whole(stats_of(alloc, known, words)?))
@@ -68,9 +70,8 @@ fn head_named(
 
 // What words are.
 fn head_of_words(alloc: Global, known: &Names, words: &[&[u8]]) -> Result<Head, ScriptKind>
-    ensures ok { IfOk result (λ head. head_of_words known.now (map (λ w. w.now) words.now) ≡ Ok head) }
+    ensures head { Answers ScriptKind.Memory (λ head. head) result (head_of_words known.now (texts words.now)) }
     ensures fits { IfOk result (FitsHead known.now) }
-    ensures err { IfErr result (λ kind. kind ≢ ScriptKind.Memory → head_of_words known.now (map (λ w. w.now) words.now) ≡ Err kind) }
 {
     let Some((name, others)) = words.split_first() else {
         return Ok(Head::Skipped);
@@ -83,7 +84,7 @@ fn head_of_words(alloc: Global, known: &Names, words: &[&[u8]]) -> Result<Head, 
 
 // Whether the first word is that of an r.mapcalc.
 fn is_mapcalc(words: &[&[u8]]) -> bool
-    ensures { result ≡ is_mapcalc (map (λ w. w.now) words.now) }
+    ensures { result ≡ is_mapcalc (texts words.now) }
 {
     match words {
         [] => false,
@@ -98,16 +99,13 @@ fn is_mapcalc(words: &[&[u8]]) -> bool
 /// [`ScriptKind::LongLine`], then [`ScriptKind::UnknownCommand`], then the fault of the command;
 /// [`ScriptKind::Memory`] where memory was refused.
 pub fn head_of(alloc: Global, known: &Names, line: &[u8]) -> Result<Head, ScriptKind>
-    ensures ok { IfOk result (λ head. IsHead known.now line.now (Ok head)) }
+    ensures head { Reads (IsHead known.now line.now) result }
     ensures fits { IfOk result (FitsHead known.now) }
-    ensures err { IfErr result (λ kind. kind ≢ ScriptKind.Memory → IsHead known.now line.now (Err kind)) }
 {
     if line.len() > MOST_LINE {
         return Err(ScriptKind::LongLine);
     }
-    let Ok(words) = words_of(alloc, line) else {
-        return Err(ScriptKind::Memory);
-    };
+    let words = words_of(alloc, line)?;
     if is_mapcalc(&words) {
         return mapcalc_of(alloc, known, line);
     }

@@ -1,6 +1,8 @@
 //! The words of r.clump.
 
-ghost use Rattle.std.specs.Prelude.{◌≡◌, ◌≢◌, IfOk, IfErr, Ok, Err, map};
+ghost use Rattle.std.specs.Prelude.{◌≡◌, IfOk};
+ghost use Rattle.cell_core_text.specs.Answers.{Answers};
+ghost use Rattle.rcell_script_options.specs.OptionReading.{texts};
 ghost use Rattle.rcell_script_commands.specs.RClump.{joining_of};
 ghost use Rattle.rcell_script_commands.specs.Commands.{clump_of};
 ghost use Rattle.rcell_script_commands.specs.FittingCommands.{FitsCommand};
@@ -34,9 +36,8 @@ pub(crate) fn clump_of(
     known: &Names,
     words: &[&[u8]],
 ) -> Result<Command, OptionFault>
-    ensures ok { IfOk result (λ command. clump_of known.now (map (λ w. w.now) words.now) ≡ Ok command) }
+    ensures command { Answers OptionFault.Memory (λ command. command) result (clump_of known.now (texts words.now)) }
     ensures fits { IfOk result (FitsCommand known.now) }
-    ensures err { IfErr result (λ fault. fault ≢ OptionFault.Memory → clump_of known.now (map (λ w. w.now) words.now) ≡ Err fault) }
 {
     let options = options_of(alloc, Form::Clump, words)?;
     let joining = joining_of(&options);

@@ -1,16 +1,17 @@
 //! The line of an r.mapcalc.
 
-ghost use Rattle.std.specs.Prelude.{◌≡◌, ◌≢◌, ◌≤◌, IfOk, IfErr, Ok, Err, length};
+ghost use Rattle.std.specs.Prelude.{◌≡◌, ◌≤◌, IfOk, length};
+ghost use Rattle.cell_core_text.specs.Answers.{Answers};
 ghost use Rattle.rcell_script_commands.specs.RMapcalc.{text_after_command, after_command, assignment_text};
 ghost use Rattle.rcell_script_commands.specs.Commands.{mapcalc_of, IsMapcalc};
 ghost use Rattle.rcell_script_commands.specs.FittingCommands.{FitsHead};
+ghost use Rattle.rcell_script_commands.specs.ScriptFaults.{Reads};
 
 use crate::command::Command;
 use crate::heads::Head;
 use crate::script_fault::ScriptKind;
 use cell_calc_binding::binding::resolve;
 use cell_calc_language::assignment::{Assignment, parse};
-use cell_calc_language::calc_fault::CalcKind;
 use cell_core::memory::Memory;
 use cell_core::name::Names;
 use cell_core_text::blanks::{after_blanks, is_blank};
@@ -52,20 +53,11 @@ fn assignment_text(alloc: Global, line: &[u8]) -> Result<Vec<u8>, Memory>
 // The map that an assignment makes.
 #[tactic(auto, using(crate::proofs::MapcalcLemmas::unbound, crate::proofs::MapcalcLemmas::fits_known))]
 fn mapcalc_with(alloc: Global, known: &Names, a: Assignment) -> Result<Head, ScriptKind>
-    ensures ok { IfOk result (λ head. mapcalc_of known.now a ≡ Ok head) }
+    ensures head { Answers ScriptKind.Memory (λ head. head) result (mapcalc_of known.now a) }
     ensures fits { IfOk result (FitsHead known.now) }
-    ensures err { IfErr result (λ kind. kind ≢ ScriptKind.Memory → mapcalc_of known.now a ≡ Err kind) }
 {
     let Assignment { target, expr } = a;
-    let bound = match resolve(alloc, &expr, known) {
-        Ok(bound) => bound,
-        Err(fault) => {
-            return match fault.kind {
-                CalcKind::Memory => Err(ScriptKind::Memory),
-                _ => Err(ScriptKind::Calc(fault)),
-            };
-        }
-    };
+    let bound = resolve(alloc, &expr, known)?;
     match known.find(target.bytes()) {
         Some(_) => Err(ScriptKind::MapExists),
         None => Ok(Head::Whole(Command::Mapcalc { target, bound })),
@@ -81,18 +73,10 @@ fn mapcalc_with(alloc: Global, known: &Names, a: Assignment) -> Result<Head, Scr
 #[tactic(auto, using(crate::proofs::MapcalcLemmas::assigned, crate::proofs::MapcalcLemmas::unassigned))]
 pub(crate) fn mapcalc_of(alloc: Global, known: &Names, line: &[u8]) -> Result<Head, ScriptKind>
     requires { length line.now ≤ 65535 }
-    ensures ok { IfOk result (λ head. IsMapcalc known.now line.now (Ok head)) }
+    ensures head { Reads (IsMapcalc known.now line.now) result }
     ensures fits { IfOk result (FitsHead known.now) }
-    ensures err { IfErr result (λ kind. kind ≢ ScriptKind.Memory → IsMapcalc known.now line.now (Err kind)) }
 {
-    let Ok(text) = assignment_text(alloc, line) else {
-        return Err(ScriptKind::Memory);
-    };
-    match parse(alloc, &text) {
-        Ok(a) => mapcalc_with(alloc, known, a),
-        Err(fault) => match fault.kind {
-            CalcKind::Memory => Err(ScriptKind::Memory),
-            _ => Err(ScriptKind::Calc(fault)),
-        },
-    }
+    let text = assignment_text(alloc, line)?;
+    let a = parse(alloc, &text)?;
+    mapcalc_with(alloc, known, a)
 }

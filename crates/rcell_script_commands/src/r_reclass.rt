@@ -1,8 +1,10 @@
 //! The words of r.reclass.
 
-ghost use Rattle.std.specs.Prelude.{◌≡◌, ◌≢◌, ◌<◌, IfOk, IfErr, Ok, Err, None, length, map};
+ghost use Rattle.std.specs.Prelude.{◌≡◌, ◌<◌, IfOk, None, length};
+ghost use Rattle.cell_core_text.specs.Answers.{Answers};
 ghost use Rattle.cell_core_values.specs.Name.{place_of};
 ghost use Rattle.rcell_script_commands.specs.Commands.{reclass_of};
+ghost use Rattle.rcell_script_options.specs.OptionReading.{texts};
 
 use cell_core::name::{Name, Names};
 use rcell_script_options::maps::from_to;
@@ -21,10 +23,9 @@ pub(crate) fn reclass_of(
     known: &Names,
     words: &[&[u8]],
 ) -> Result<(usize, Name), OptionFault>
-    ensures ok { IfOk result (λ maps. reclass_of known.now (map (λ w. w.now) words.now) ≡ Ok maps) }
+    ensures maps { Answers OptionFault.Memory (λ maps. maps) result (reclass_of known.now (texts words.now)) }
     ensures within { IfOk result (λ maps. maps.0 < length known.now) }
     ensures new { IfOk result (λ maps. place_of maps.1 known.now ≡ None) }
-    ensures err { IfErr result (λ fault. fault ≢ OptionFault.Memory → reclass_of known.now (map (λ w. w.now) words.now) ≡ Err fault) }
 {
     let options = options_of(alloc, Form::Reclass, words)?;
     from_to(known, options)

@@ -1,7 +1,9 @@
 //! The words of r.stats.
 
-ghost use Rattle.std.specs.Prelude.{◌≡◌, ◌≢◌, ◌≤◌, IfOk, IfErr, IfSome, Ok, Err, length, map};
+ghost use Rattle.std.specs.Prelude.{◌≡◌, ◌≤◌, IfOk, IfSome, length};
 ghost use Rattle.std.specs.Option.{option_map};
+ghost use Rattle.cell_core_text.specs.Answers.{Answers};
+ghost use Rattle.rcell_script_options.specs.OptionReading.{texts};
 ghost use Rattle.rcell_script_commands.specs.RStats.{skip_of, printed_with};
 ghost use Rattle.rcell_script_commands.specs.Commands.{after_of, stats_of};
 ghost use Rattle.rcell_script_commands.specs.FittingCommands.{FitsCommand};
@@ -11,7 +13,6 @@ use crate::script_fault::ScriptKind;
 use cell_core::memory::Memory;
 use cell_core::name::Names;
 use cell_stats_combinations::combination::Combo;
-use cell_stats_combinations::combination_text::ComboFault;
 use cell_stats_combinations::skip::Skip;
 use rcell_script_options::maps::input_places;
 use rcell_script_options::options::{Form, Options, options_of};
@@ -32,17 +33,12 @@ fn skip_of(options: &Options) -> Skip
 // The combination after which a table goes on, where one is given.
 fn after_of(alloc: Global, width: usize, given: Option<&[u8]>) -> Result<Option<Combo>, ScriptKind>
     requires { (1 ≤ width) × (width ≤ 16) }
-    ensures ok { IfOk result (λ after. after_of width (option_map (λ text. text.now) given.entry) ≡ Ok after) }
+    ensures after { Answers ScriptKind.Memory (λ after. after) result (after_of width (option_map (λ text. text.now) given.entry)) }
     ensures width { IfOk result (λ after. IfSome after (λ combo. length combo ≡ width)) }
-    ensures err { IfErr result (λ kind. kind ≢ ScriptKind.Memory → after_of width (option_map (λ text. text.now) given.entry) ≡ Err kind) }
 {
-    let Some(text) = given else {
-        return Ok(None);
-    };
-    match Combo::read(alloc, text, width) {
-        Ok(combo) => Ok(Some(combo)),
-        Err(ComboFault::Memory) => Err(ScriptKind::Memory),
-        Err(fault) => Err(ScriptKind::Combo(fault)),
+    match given {
+        None => Ok(None),
+        Some(text) => Ok(Some(Combo::read(alloc, text, width)?)),
     }
 }
 
@@ -79,9 +75,8 @@ fn printed_with(
 /// not go together, [`ScriptKind::UnknownMap`] and [`ScriptKind::Combo`]; [`ScriptKind::Memory`] where memory was refused.
 #[tactic(auto, using(crate::proofs::FaultLemmas::told))]
 pub(crate) fn stats_of(alloc: Global, known: &Names, words: &[&[u8]]) -> Result<Command, ScriptKind>
-    ensures ok { IfOk result (λ command. stats_of known.now (map (λ w. w.now) words.now) ≡ Ok command) }
+    ensures command { Answers ScriptKind.Memory (λ command. command) result (stats_of known.now (texts words.now)) }
     ensures fits { IfOk result (FitsCommand known.now) }
-    ensures err { IfErr result (λ kind. kind ≢ ScriptKind.Memory → stats_of known.now (map (λ w. w.now) words.now) ≡ Err kind) }
 {
     let options = options_of(alloc, Form::Stats, words)?;
     let places = input_places(alloc, known, &options)?;

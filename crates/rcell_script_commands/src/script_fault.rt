@@ -1,6 +1,6 @@
 //! Why a text is no script.
 
-use cell_calc_language::calc_fault::CalcFault;
+use cell_calc_language::calc_fault::{CalcFault, CalcKind};
 use cell_cats::rules::RuleFault;
 use cell_core::memory::Memory;
 use cell_stats_combinations::combination_text::ComboFault;
@@ -63,6 +63,47 @@ impl From<OptionFault> for ScriptKind {
             OptionFault::MapExists => ScriptKind::MapExists,
             OptionFault::BadName => ScriptKind::BadName,
             OptionFault::Memory => ScriptKind::Memory,
+        }
+    }
+}
+
+impl From<CalcFault> for ScriptKind {
+    ghost use Rattle.rcell_script_commands.specs.ScriptFaults.{IsOfCalc};
+
+    ghost from_gives = { IsOfCalc };
+
+    fn from(fault: CalcFault) -> ScriptKind {
+        match fault.kind {
+            CalcKind::Memory => ScriptKind::Memory,
+            _ => ScriptKind::Calc(fault),
+        }
+    }
+}
+
+impl From<ComboFault> for ScriptKind {
+    ghost use Rattle.std.specs.Prelude.{◌≡◌};
+    ghost use Rattle.rcell_script_commands.specs.ScriptFaults.{of_combo};
+
+    ghost from_gives = { λ fault kind. kind ≡ of_combo fault };
+
+    fn from(fault: ComboFault) -> ScriptKind {
+        match fault {
+            ComboFault::Memory => ScriptKind::Memory,
+            _ => ScriptKind::Combo(fault),
+        }
+    }
+}
+
+impl From<RuleFault> for ScriptKind {
+    ghost use Rattle.std.specs.Prelude.{◌≡◌};
+    ghost use Rattle.rcell_script_commands.specs.ScriptFaults.{of_rule};
+
+    ghost from_gives = { λ fault kind. kind ≡ of_rule fault };
+
+    fn from(fault: RuleFault) -> ScriptKind {
+        match fault {
+            RuleFault::Memory => ScriptKind::Memory,
+            _ => ScriptKind::Rule(fault),
         }
     }
 }

@@ -2,14 +2,15 @@
 use Rattle.std.proofs.Common.{◌≡◌, ℕ, suc, Bool, true, false, cond, List, [], ◌∷◌, ◌++◌, All, Option, Some, None, Result, Ok, Err, inl, inr, refl, ap, sym, ◌∙◌, subst, append_assoc, arith}
 use Rattle.std.specs.Prelude.{◌⊎◌, ◌==◌, IsSome}
 use Rattle.std.specs.List.{flat_map, cons_option}
-use Rattle.std.specs.Option.{option_map, option_and_then}
+use Rattle.std.specs.Option.{option_map, option_and_then, ok_or}
 use Rattle.std.proofs.lemmas.List.{append-nil}
 use Rattle.std.proofs.lemmas.List.Elements.{All-nil, All-cons}
+use Rattle.cell_core_text.specs.Answers.{◌>>=◌}
 use Rattle.cell_core_text.specs.Words.{parts_of, pair_of}
 use Rattle.rcell_script_options.specs.NullText.{null_text_of, table_null_text_of}
 use Rattle.rcell_script_options.specs.OptionWords.{letters_in, setting_in, IsOption, value_for, values_of, IsOnce, AreOptions}
-use Rattle.rcell_script_options.specs.Options.{Given, are_flags, option_key_of, option_name, names_of, separator_in, or_bad_option}
-use Rattle.rcell_script_options.specs.OptionReading.{options_then, no_options, with_flags, given_once, with_value, with_option, with_pair, with_word, with_words, options_of}
+use Rattle.rcell_script_options.specs.Options.{Given, are_flags, option_key_of, option_name, names_of, separator_in}
+use Rattle.rcell_script_options.specs.OptionReading.{no_options, with_flags, given_once, with_value, with_option, with_pair, with_word, with_words, options_of}
 use Rattle.rcell_script_options.specs.declared.option_fault.OptionFault.{OptionFault}
 use Rattle.rcell_script_options.specs.declared.option_fault.OptionFault.TheVariants.{BadOption}
 use Rattle.rcell_script_options.specs.declared.options.Form.{Form}
@@ -20,7 +21,7 @@ abbrev listed : List ℕ → Result (List (List ℕ)) OptionFault
 listed value = names_of (parts_of value)
 
 abbrev separated : List ℕ → Result ℕ OptionFault
-separated value = or_bad_option (separator_in value)
+separated value = ok_or (separator_in value) BadOption
 
 abbrev kept : List ℕ → Result (List ℕ) OptionFault
 kept value = Ok value
@@ -87,16 +88,16 @@ record Taken {X : Type 0} (read : List ℕ → Result X OptionFault) (value : Li
   mid_is : with given ≡ mid
 
 taken : {X : Type 0} (read : List ℕ → Result X OptionFault) (value : List ℕ) (old : Option X) (with : X → Given) (mid : Given)
-    → given_once old (options_then (λ x. Ok (with x)) (read value)) ≡ Ok mid → Taken read value old with mid
+    → given_once old (read value >>= (λ x. Ok (with x))) ≡ Ok mid → Taken read value old with mid
 taken read value (Some x) with mid e = cc
 taken read value None with mid e = by (read value) refl e
   where
-    by : (r : _) → read value ≡ r → options_then (λ x. Ok (with x)) r ≡ Ok mid → Taken read value None with mid
+    by : (r : _) → read value ≡ r → (r >>= (λ x. Ok (with x))) ≡ Ok mid → Taken read value None with mid
     by (Err kind) is f = cc
     by (Ok x) is f = let same : with x ≡ mid = cc in record { given = x; none = refl; is = is; mid_is = same }
 
 take-value : {X : Type 0} (read : List ℕ → Result X OptionFault) (value : List ℕ) (old : Option X) (with : X → Given) (x : X) → old ≡ None → read value ≡ Ok x
-    → given_once old (options_then (λ x. Ok (with x)) (read value)) ≡ Ok (with x)
+    → given_once old (read value >>= (λ x. Ok (with x))) ≡ Ok (with x)
 take-value read value old with x none is = rw (none, is) refl
 
 -- ---- one word
@@ -277,7 +278,7 @@ words-sound form [] old new e =
 words-sound form (word ∷ words) old new e = by (λ mid f. words-sound form words mid new f) (with_word form old word) refl e
   where
     by : ((mid : Given) → with_words form mid words ≡ Ok new → All (IsOption form) words × More form words mid new)
-        → (read : Result Given OptionFault) → with_word form old word ≡ read → options_then (λ more. with_words form more words) read ≡ Ok new → All (IsOption form) (word ∷ words) × More form (word ∷ words) old new
+        → (read : Result Given OptionFault) → with_word form old word ≡ read → (read >>= (λ more. with_words form more words)) ≡ Ok new → All (IsOption form) (word ∷ words) × More form (word ∷ words) old new
     by others (Err kind) r f = cc
     by others (Ok mid) r f =
         let is = word-sound form old mid word r in
@@ -391,7 +392,7 @@ words-complete form (word ∷ words) old new each more =
     let first_is : IsOption form word = each 0 word (omega arith) in
     let m = word-complete form (flat_map letters_in words) (λ key. values_of form key words) old new word first_is more in
     let rest = words-complete form words m.0 new (λ i d within. each (suc i) d (omega (arith, within))) m.2 in
-    ap (options_then (λ mid. with_words form mid words)) m.1 ∙ rest
+    ap (λ r. r >>= (λ mid. with_words form mid words)) m.1 ∙ rest
 
 -- the options that words give, read one after another, are those that they spell together
 pub options-sound : (form : Form) (words : List (List ℕ)) (given : Given) → options_of form words ≡ Ok given → AreOptions form words given

@@ -1,11 +1,12 @@
 -- Which options the words after a command spell, in any order (GRASS manual: r.reclass, r.clump, r.stats, r.out.ascii).
 use Rattle.std.specs.Prelude.{ℕ, ◌≡◌, ◌⊎◌, ⊤, Bool, true, false, ◌==◌, List, [], ◌∷◌, All, Option, Some, None, IsSome, Result, Ok, if◌then◌else◌}
 use Rattle.std.specs.List.{flat_map, filter_map}
-use Rattle.std.specs.Option.{option_map, option_and_then}
+use Rattle.std.specs.Option.{option_map, option_and_then, ok_or}
 use Rattle.cell_core_text.specs.Words.{parts_of, pair_of}
 use Rattle.rcell_script_options.specs.NullText.{null_text_of, table_null_text_of}
-use Rattle.rcell_script_options.specs.Options.{Given, are_flags, option_key_of, option_name, names_of, separator_in, or_bad_option}
+use Rattle.rcell_script_options.specs.Options.{Given, are_flags, option_key_of, option_name, names_of, separator_in}
 use Rattle.rcell_script_options.specs.declared.option_fault.OptionFault.{OptionFault}
+use Rattle.rcell_script_options.specs.declared.option_fault.OptionFault.TheVariants.{BadOption}
 use Rattle.rcell_script_options.specs.declared.options.Form.{Form}
 use Rattle.rcell_script_options.specs.declared.options.Key.{Key}
 use Rattle.rcell_script_options.specs.declared.options.Key.TheVariants.{Input, Inputs, Output, Separator, NullText, TableNullText, After}
@@ -59,7 +60,7 @@ pub record AreOptions (form : Form) (words : List (List ℕ)) (given : Given) : 
   pub input : IsOnce option_name (values_of form Input words) given.input
   pub inputs : IsOnce (λ value. names_of (parts_of value)) (values_of form Inputs words) given.inputs
   pub output : IsOnce option_name (values_of form Output words) given.output
-  pub separator : IsOnce (λ value. or_bad_option (separator_in value)) (values_of form Separator words) given.separator
+  pub separator : IsOnce (λ value. ok_or (separator_in value) BadOption) (values_of form Separator words) given.separator
   pub null_text : IsOnce null_text_of (values_of form NullText words) given.null_text
   pub table_null_text : IsOnce table_null_text_of (values_of form TableNullText words) given.table_null_text
   pub after : IsOnce Ok (values_of form After words) given.after

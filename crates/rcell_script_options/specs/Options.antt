@@ -86,8 +86,3 @@ separator_in value =
     else (if bytes_eq value (codes "comma") then Some 44
     else (if bytes_eq value (codes "space") then Some 32
     else (if bytes_eq value (codes "tab") then Some 9 else printed_byte value)))
-
--- what is there, or a bad option
-abbrev pub or_bad_option : {A : Type 0} → Option A → Result A OptionFault
-or_bad_option None = Err BadOption
-or_bad_option (Some x) = Ok x

@@ -1,6 +1,8 @@
 //! The maps that options name, over known ones.
 
-ghost use Rattle.std.specs.Prelude.{◌≡◌, ◌≢◌, ◌<◌, ◌≤◌, IfOk, IfErr, Ok, Err, Some, None, All, length};
+ghost use Rattle.std.specs.Prelude.{◌≡◌, ◌<◌, ◌≤◌, IfOk, None, All, length};
+ghost use Rattle.std.specs.Option.{ok_or};
+ghost use Rattle.cell_core_text.specs.Answers.{Answers};
 ghost use Rattle.cell_core_values.specs.Name.{place_of};
 ghost use Rattle.rcell_script_options.specs.Options.{is_torn};
 ghost use Rattle.rcell_script_options.specs.Maps.{from_to, input_place, input_places};
@@ -48,10 +50,9 @@ impl Places {
 ///
 /// [`OptionFault::MissingOption`], then [`OptionFault::UnknownMap`], then [`OptionFault::MapExists`].
 pub fn from_to(known: &Names, options: Options) -> Result<(usize, Name), OptionFault>
-    ensures ok { IfOk result (λ maps. from_to known.now options ≡ Ok maps) }
+    ensures value { result ≡ from_to known.now options }
     ensures within { IfOk result (λ maps. maps.0 < length known.now) }
     ensures new { IfOk result (λ maps. place_of maps.1 known.now ≡ None) }
-    ensures err { IfErr result (λ fault. from_to known.now options ≡ Err fault) }
 {
     let (input, output) = options.into_names();
     let (Some(input), Some(output)) = (input, output) else {
@@ -86,10 +87,9 @@ pub fn input_place(known: &Names, options: &Options) -> Result<usize, OptionFaul
 
 // The places of names among the known ones.
 fn places_of(alloc: Global, known: &Names, names: &[Name]) -> Result<Places, OptionFault>
-    ensures ok { IfOk result (λ places. places_of known.now names.now ≡ Some places) }
+    ensures places { Answers OptionFault.Memory (λ places. places) result (ok_or (places_of known.now names.now) OptionFault.UnknownMap) }
     ensures within { IfOk result (λ places. All (λ place. place < length known.now) places) }
     ensures count { IfOk result (λ places. length places ≡ length names.now) }
-    ensures err { IfErr result (λ fault. fault ≢ OptionFault.Memory → (fault ≡ OptionFault.UnknownMap) × (places_of known.now names.now ≡ None)) }
 {
     let mut places = Vec::new(alloc);
     for name in names {
@@ -115,11 +115,10 @@ fn is_torn(options: &Options) -> bool
 /// [`OptionFault::MissingOption`], then [`OptionFault::BadOption`] where flags do not go together, then
 /// [`OptionFault::UnknownMap`]; [`OptionFault::Memory`] where memory was refused.
 pub fn input_places(alloc: Global, known: &Names, options: &Options) -> Result<Places, OptionFault>
-    ensures ok { IfOk result (λ places. input_places known.now options.now ≡ Ok places) }
+    ensures places { Answers OptionFault.Memory (λ places. places) result (input_places known.now options.now) }
     ensures within { IfOk result (λ places. All (λ place. place < length known.now) places) }
     ensures some { IfOk result (λ places. 1 ≤ length places) }
     ensures most { IfOk result (λ places. length places ≤ 16) }
-    ensures err { IfErr result (λ fault. fault ≢ OptionFault.Memory → input_places known.now options.now ≡ Err fault) }
 {
     let Some(inputs) = &options.inputs else {
         return Err(OptionFault::MissingOption);

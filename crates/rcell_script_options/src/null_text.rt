@@ -1,9 +1,10 @@
 //! The texts that stand for null.
 
-ghost use Rattle.std.specs.Prelude.{◌≡◌, ◌≢◌, IfOk, IfErr, Ok, Err, true};
+ghost use Rattle.std.specs.Prelude.{◌≡◌, IfOk, true};
 ghost use Rattle.std.specs.List.{list_all};
 ghost use Rattle.cell_ascii_meaning.specs.Header.{usual_null};
 ghost use Rattle.cell_ascii_meaning.specs.Writing.{IsNullText};
+ghost use Rattle.cell_core_text.specs.Answers.{Answers};
 ghost use Rattle.rcell_script_options.specs.NullText.{is_printed, is_null_byte, is_null_text, is_table_null_text, null_text_of, table_null_text_of};
 
 use crate::option_fault::OptionFault;
@@ -92,8 +93,7 @@ impl NullText {
     /// [`OptionFault::BadOption`] exactly where it spells none, else [`OptionFault::Memory`] where
     /// memory for a copy was refused.
     pub(crate) fn read(alloc: Global, value: &[u8]) -> Result<NullText, OptionFault>
-        ensures ok { IfOk result (λ text. null_text_of value.now ≡ Ok text) }
-        ensures err { IfErr result (λ fault. fault ≢ OptionFault.Memory → null_text_of value.now ≡ Err fault) }
+        ensures { Answers OptionFault.Memory (λ text. text) result (null_text_of value.now) }
     {
         if !is_null_text(value) {
             return Err(OptionFault::BadOption);
@@ -131,8 +131,7 @@ impl TableNullText {
     /// [`OptionFault::BadOption`] exactly where it spells none, else [`OptionFault::Memory`] where
     /// memory for a copy was refused.
     pub(crate) fn read(alloc: Global, value: &[u8]) -> Result<TableNullText, OptionFault>
-        ensures ok { IfOk result (λ text. table_null_text_of value.now ≡ Ok text) }
-        ensures err { IfErr result (λ fault. fault ≢ OptionFault.Memory → table_null_text_of value.now ≡ Err fault) }
+        ensures { Answers OptionFault.Memory (λ text. text) result (table_null_text_of value.now) }
     {
         if !is_table_null_text(value) {
             return Err(OptionFault::BadOption);

@@ -1,6 +1,7 @@
 //! Why words give no options.
 
 use cell_core::memory::Memory;
+use cell_core::name::NameFault;
 use std::alloc::{AllocError, AllocFailed};
 
 /// What is wrong with the options of a command, or with the maps that they name.
@@ -19,6 +20,20 @@ pub enum OptionFault {
     BadName,
     /// Memory was refused.
     Memory,
+}
+
+impl From<NameFault> for OptionFault {
+    ghost use Rattle.std.specs.Prelude.{◌≡◌};
+    ghost use Rattle.rcell_script_options.specs.OptionReading.{of_name};
+
+    ghost from_gives = { λ fault option. option ≡ of_name fault };
+
+    fn from(fault: NameFault) -> OptionFault {
+        match fault {
+            NameFault::BadName => OptionFault::BadName,
+            NameFault::Memory => OptionFault::Memory,
+        }
+    }
 }
 
 impl From<Memory> for OptionFault {

@@ -1,18 +1,19 @@
 //! The words after a command: flags, and keys with their values.
 
-ghost use Rattle.std.specs.Prelude.{◌≡◌, ◌≢◌, ◌≤◌, OnOk, IfOk, IfErr, Ok, Err, length, map, unwrap_or};
+ghost use Rattle.std.specs.Prelude.{◌≡◌, ◌≤◌, IfOk, length, unwrap_or};
 ghost use Rattle.std.specs.List.{list_all};
 ghost use Rattle.std.specs.Option.{option_map};
 ghost use Rattle.cell_ascii_meaning.specs.Header.{usual_null};
+ghost use Rattle.cell_core_text.specs.Answers.{Answers};
 ghost use Rattle.cell_core_text.specs.Words.{parts_of};
-ghost use Rattle.rcell_script_options.specs.OptionReading.{no_options, with_flags, with_value, with_pair, with_word, with_words, options_of};
+ghost use Rattle.rcell_script_options.specs.OptionReading.{texts, no_options, with_flags, with_value, with_pair, with_word, with_words, options_of};
 ghost use Rattle.rcell_script_options.specs.parts.Keys.{is_given};
 ghost use Rattle.rcell_script_options.specs.Options.{is_flag, are_flags, has_flag, maker_key, stats_key, out_ascii_key, option_key_of, option_name, names_from, names_of, printed_byte, separator_in};
 
 use crate::null_text::{NullText, TableNullText};
 use crate::option_fault::OptionFault;
 use cell_core::memory::Memory;
-use cell_core::name::{Name, NameFault};
+use cell_core::name::Name;
 use cell_core_text::words::{pair_of, parts_of};
 use std::alloc::Global;
 use std::marker::Model;
@@ -182,44 +183,29 @@ fn key_of(form: Form, text: &[u8]) -> Option<Key>
 
 // The name of one map.
 fn name_of(alloc: Global, value: &[u8]) -> Result<Name, OptionFault>
-    ensures ok { IfOk result (λ name. option_name value.now ≡ Ok name) }
-    ensures err { IfErr result (λ fault. fault ≢ OptionFault.Memory → option_name value.now ≡ Err fault) }
+    ensures { Answers OptionFault.Memory (λ name. name) result (option_name value.now) }
 {
-    match Name::read(alloc, value) {
-        Ok(name) => Ok(name),
-        Err(NameFault::BadName) => Err(OptionFault::BadName),
-        Err(NameFault::Memory) => Err(OptionFault::Memory),
-    }
+    let name = Name::read(alloc, value)?;
+    Ok(name)
 }
 
 // The names that texts spell.
-fn names_from(alloc: Global, texts: &[&[u8]]) -> Result<Vec<Name>, OptionFault>
-    ensures ok { IfOk result (λ names. names_from (map (λ text. text.now) texts.now) ≡ Ok names.items) }
-    ensures count { IfOk result (λ names. length names.items ≡ length texts.now) }
-    ensures err { IfErr result (λ fault. fault ≢ OptionFault.Memory → names_from (map (λ text. text.now) texts.now) ≡ Err fault) }
+fn names_from(alloc: Global, parts: &[&[u8]]) -> Result<Vec<Name>, OptionFault>
+    ensures names { Answers OptionFault.Memory (λ names. names.items) result (names_from (texts parts.now)) }
+    ensures count { IfOk result (λ names. length names.items ≡ length parts.now) }
 {
     let mut names = Vec::new(alloc);
-    for text in texts {
-        match Name::read(alloc, *text) {
-            Ok(name) => match names.push(name) {
-                Ok(()) => {}
-                Err(_) => return Err(OptionFault::Memory),
-            },
-            Err(NameFault::BadName) => return Err(OptionFault::BadName),
-            Err(NameFault::Memory) => return Err(OptionFault::Memory),
-        }
+    for part in parts {
+        names.push(name_of(alloc, *part)?)?;
     }
     Ok(names)
 }
 
 // The names of maps between commas.
 fn names_of(alloc: Global, value: &[u8]) -> Result<Inputs, OptionFault>
-    ensures ok { IfOk result (λ names. names_of (parts_of value.now) ≡ Ok names) }
-    ensures err { IfErr result (λ fault. fault ≢ OptionFault.Memory → names_of (parts_of value.now) ≡ Err fault) }
+    ensures { Answers OptionFault.Memory (λ names. names) result (names_of (parts_of value.now)) }
 {
-    let Ok(parts) = parts_of(alloc, value) else {
-        return Err(OptionFault::Memory);
-    };
+    let parts = parts_of(alloc, value)?;
     if parts.len() > MOST_INPUTS {
         return Err(OptionFault::BadOption);
     }
@@ -350,8 +336,7 @@ impl Options {
 
     // Adds flags.
     fn add_flags(&mut self, form: Form, letters: &[u8]) -> Result<(), OptionFault>
-        ensures ok { OnOk result (with_flags form self.old letters.now ≡ Ok self.new) }
-        ensures err { IfErr result (λ fault. fault ≢ OptionFault.Memory → with_flags form self.old letters.now ≡ Err fault) }
+        ensures { Answers OptionFault.Memory (λ _. self.new) result (with_flags form self.old letters.now) }
     {
         if !are_flags(form, letters) {
             return Err(OptionFault::BadOption);
@@ -362,8 +347,7 @@ impl Options {
 
     // Sets the value of a key, which may be given once.
     fn set_value(&mut self, alloc: Global, key: Key, value: &[u8]) -> Result<(), OptionFault>
-        ensures ok { OnOk result (with_value self.old key value.now ≡ Ok self.new) }
-        ensures err { IfErr result (λ fault. fault ≢ OptionFault.Memory → with_value self.old key value.now ≡ Err fault) }
+        ensures { Answers OptionFault.Memory (λ _. self.new) result (with_value self.old key value.now) }
     {
         if self.is_given(key) {
             return Err(OptionFault::BadOption);
@@ -384,8 +368,7 @@ impl Options {
 
     // Adds the options of one more word.
     fn add_word(&mut self, alloc: Global, form: Form, word: &[u8]) -> Result<(), OptionFault>
-        ensures ok { OnOk result (with_word form self.old word.now ≡ Ok self.new) }
-        ensures err { IfErr result (λ fault. fault ≢ OptionFault.Memory → with_word form self.old word.now ≡ Err fault) }
+        ensures { Answers OptionFault.Memory (λ _. self.new) result (with_word form self.old word.now) }
     {
         let Some((first, letters)) = word.split_first() else {
             return Err(OptionFault::BadOption);
@@ -409,8 +392,7 @@ impl Options {
 ///
 /// The fault of the first word that has one, [`OptionFault::Memory`] where memory was refused.
 pub fn options_of(alloc: Global, form: Form, words: &[&[u8]]) -> Result<Options, OptionFault>
-    ensures ok { IfOk result (λ options. options_of form (map (λ w. w.now) words.now) ≡ Ok options) }
-    ensures err { IfErr result (λ fault. fault ≢ OptionFault.Memory → options_of form (map (λ w. w.now) words.now) ≡ Err fault) }
+    ensures { Answers OptionFault.Memory (λ options. options) result (options_of form (texts words.now)) }
 {
     let mut options = Options::new(alloc);
     for word in words {

@@ -8,4 +8,4 @@ of-requires c =
     let count = c.in_ok-names.ensures.count ∙ ap length c.deref.ensures.value in
     let most = c.if-len-gt-MOST_INPUTS.false in
     let long = c.len.ensures in
-    (parts-some c.in-Ok.parts.items c.args.value.now _ c.in-Ok.ensures count, grind (arith, nat_tests))
+    (parts-some c.in_ok-parts.parts.items c.args.value.now _ c.in_ok-parts.ensures count, grind (arith, nat_tests))
