@@ -3,7 +3,7 @@
 ghost use Rattle.std.specs.Prelude.{◌≡◌, ◌≤◌, ◌<◌, ◌-◌, ℕ, [], ◌∷◌, length, take, drop, map, All, IfOk, OnOk};
 ghost use Rattle.cell_calc_operators.specs.Applied.{call_result};
 ghost use Rattle.cell_calc.specs.parts.Operands.{IsStrip, IsReadyStep, IsOperandReady, operand_at, cells_at, seen, spot_at};
-ghost use Rattle.cell_calc_binding.specs.FormulaPostfix.{arity, values_after, AreEnough};
+ghost use Rattle.cell_calc_steps.specs.Postfix.{arity, values_after, AreEnough};
 ghost use Rattle.cell_calc_rows.specs.RowValues.{at, column};
 
 use crate::operand::{chosen, joined, popped, row_of, taken};
@@ -11,7 +11,7 @@ use crate::strip::{Operand, Spare, Strip};
 use crate::window::RowWindow;
 use cell_calc_rows::calls::call;
 use cell_calc_rows::rows;
-use cell_calc_steps::bound::Step;
+use cell_calc_steps::step::Step;
 use cell_calc_tokens::function::Function;
 use cell_core::cell::Cell;
 use cell_core::memory::Memory;
@@ -20,7 +20,7 @@ use std::alloc::Global;
 /// The values of an expression along a strip, from windows that stand at its row.
 pub(crate) fn along(
     alloc: Global,
-    steps: &[Step],
+    steps: &[Step<usize>],
     strip: &Strip,
     windows: &[RowWindow],
     operands: &mut Vec<Operand>,
@@ -45,7 +45,7 @@ pub(crate) fn along(
 // What a step makes of the last operands.
 fn made(
     alloc: Global,
-    step: Step,
+    step: Step<usize>,
     operands: &mut Vec<Operand>,
     strip: &Strip,
     windows: &[RowWindow],
@@ -62,7 +62,11 @@ fn made(
 {
     match step {
         Step::Number(n) => Ok(Operand::Number(n)),
-        Step::Map { place, down, right } => Ok(Operand::Map { place, down, right }),
+        Step::Map { leaf, down, right } => Ok(Operand::Map {
+            place: leaf,
+            down,
+            right,
+        }),
         Step::Negated => {
             let mut row = row_of(alloc, popped(operands), strip, windows, &mut spare.free)?;
             rows::negate(row.as_mut_slice());

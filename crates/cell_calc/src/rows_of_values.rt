@@ -4,7 +4,7 @@ ghost use Rattle.std.specs.Prelude.{◌≡◌, ◌<◌, ◌≤◌, ℕ, List, []
 ghost use Rattle.cell_core.specs.Grid.{Grid};
 ghost use Rattle.cell_calc_operators.specs.Applied.{spot};
 ghost use Rattle.cell_calc_rows.specs.RowValues.{at};
-ghost use Rattle.cell_calc_binding.specs.FormulaPostfix.{values_after, AreEnough};
+ghost use Rattle.cell_calc_steps.specs.Postfix.{values_after, AreEnough};
 ghost use Rattle.cell_calc_binding.specs.Reach.{top_of, up_of, down_of};
 ghost use Rattle.cell_calc_binding.specs.Value.{value};
 ghost use Rattle.cell_calc.specs.Window.{IsOver, HasReach};
@@ -14,7 +14,7 @@ use crate::along::along;
 use crate::strip::{Spare, Strip};
 use crate::window::RowWindow;
 use cell_calc_binding::bound::Bound;
-use cell_calc_steps::bound::Step;
+use cell_calc_steps::step::Step;
 use cell_core::cell::Cell;
 use cell_core::memory::Memory;
 use cell_core::region::Region;
@@ -26,7 +26,7 @@ const STRIP: usize = 1024;
 // The values of an expression along a row, strip by strip.
 fn along_row(
     alloc: Global,
-    steps: &[Step],
+    steps: &[Step<usize>],
     region: Region,
     row: u32,
     windows: &[RowWindow],

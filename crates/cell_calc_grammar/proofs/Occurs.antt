@@ -14,7 +14,8 @@ use Rattle.cell_calc_tokens.specs.Function.{accepts}
 use Rattle.cell_calc_tokens.specs.Operator.{operator_of}
 use Rattle.cell_calc_grammar.specs.TokensRead as reading
 use Rattle.cell_calc_grammar.specs.TokensRead.{PartOfExpression, tail, read_then, distance_at, distance, offset_signed, offset_at, offset, comma_at, bracket_at, to_bracket, Outcome, Got, GotAll, Stops, State, Operand, Whole, More, Expression, Choice, AfterQuestion, Called, Arguments, Onward, next, after_bracket, close, join, choose, move, call_judged, call, add, GrammarReads, nothing, whole, stopped, done, more, expression, unread, unchosen, asked, unasked, no_colon, otherwise, arguments, halted, unended}
-use Rattle.cell_calc_grammar.specs.Term.{Term, Terms, Negated, Not, Call, NoTerms, Then, count}
+use Rattle.cell_calc_grammar.specs.Tree.{Tree}
+use Rattle.cell_calc_grammar.specs.Term.{Term, Terms, Negated, Not, Call, NoTrees, Then, count, map_name}
 use Rattle.cell_calc_tokens.specs.Token.{token_number_at, name_at, sign_at, head}
 use Rattle.cell_calc_grammar.proofs.Sound.{below_some, front_is, mapped, IsSound, sound}
 use Rattle.cell_calc_grammar.proofs.Splits.{Stays, in_first, in_second, stays, not_nothing}
@@ -230,7 +231,7 @@ finds_inside c ts (Stops kind rest) i w = finds_next (sign_at OpenParenthesis c)
 
 finds_moved : (name : List ℕ) (c d : ℕ) (ts : List Placed) (p : PartOfExpression (ℤ × ℤ)) → GrammarReads (Operand (name_at name c ∷ sign_at OpenBracket d ∷ ts)) (move name c p) → IsNameless ts p → FindsOf (name_at name c ∷ sign_at OpenBracket d ∷ ts) (move name c p)
 finds_moved name c d ts (Ok x) r h =
-    let o : Outcome = Got (Term.Map name x.0.0 x.0.1 c) x.1 in
+    let o : Outcome = Got (Tree.Map (map_name name c) x.0.0 x.0.1) x.1 in
     finds_self (name_at name c) (sign_at OpenBracket d ∷ ts) x.1 o r (finds_next (sign_at OpenBracket d) ts x.1 o tt (finds_no_names ts h.0 x.1 o h.1 h.2))
 finds_moved name c d ts (Err e) r h =
     let o : Outcome = Stops e.0 e.1 in
@@ -265,9 +266,9 @@ finds_joined k s ts a o p op e w r m =
     (finds_both ts o p (λ kind us h. stops_more r kind us (ap (join op a) h)) w (subst (λ l. Finds l (left p) p) (join_left op a o) m))
 
 pub find : {s : State} {o : Outcome} → GrammarReads s o → FindsOf (tokens s) o
-find (reading.number {n = n} {c = c} {ts = ts}) = finds_next (token_number_at n c) ts ts (Got (Term.Number n) ts) tt (finds_nothing ts (Got (Term.Number n) ts))
+find (reading.number {n = n} {c = c} {ts = ts}) = finds_next (token_number_at n c) ts ts (Got (Tree.Number n) ts) tt (finds_nothing ts (Got (Tree.Number n) ts))
 find (reading.map {name = name} {c = c} {ts = ts} f) =
-    let o : Outcome = Got (Term.Map name (pos 0) (pos 0) c) ts in
+    let o : Outcome = Got (Tree.Map (map_name name c) (pos 0) (pos 0)) ts in
     finds_self (name_at name c) ts ts o (reading.map f) (finds_nothing ts o)
 find (reading.moved {name = name} {c = c} {d = d} {ts = ts}) = finds_moved name c d ts (reading.offsets ts) reading.moved (nameless_offsets ts)
 find (reading.unknown {name = name} {c = c} {d = d} {ts = ts} e) =
@@ -287,11 +288,11 @@ find (unchosen {a = a} {ts = ts} n) = finds_nothing ts (Got a ts)
 find (asked {c = c} {x = x} {ts = ts} {o = o} {p = p} r m) = finds_next (sign_at Question c) ts (left p) p tt (finds_both ts o p (stops_after m) (find r) (find m))
 find (unasked {kind = kind} {ts = ts}) = finds_nothing ts (Stops kind ts)
 find (no_colon {ts = ts} n) = finds_nothing ts (Stops Expected ts)
-find (otherwise {c = c} {x = x} {a = a} {ts = ts} {o = o} r) = finds_mapped (λ b. Call If (Then x (Then a (Then b NoTerms)))) (sign_at Colon c) ts o tt (find r)
-find (reading.none {c = c} {ts = ts}) = finds_next (sign_at CloseParenthesis c) ts ts (GotAll NoTerms ts) tt (finds_nothing ts (GotAll NoTerms ts))
+find (otherwise {c = c} {x = x} {a = a} {ts = ts} {o = o} r) = finds_mapped (λ b. Call If (Then x (Then a (Then b NoTrees)))) (sign_at Colon c) ts o tt (find r)
+find (reading.none {c = c} {ts = ts}) = finds_next (sign_at CloseParenthesis c) ts ts (GotAll NoTrees ts) tt (finds_nothing ts (GotAll NoTrees ts))
 find (reading.some {ts = ts} {o = o} n r) = find r
 find (arguments {ts = ts} {o = o} {p = p} r m) = finds_both ts o p (stops_onward m) (find r) (find m)
 find (halted {kind = kind} {ts = ts}) = finds_nothing ts (Stops kind ts)
-find (reading.last {c = c} {a = a} {ts = ts}) = finds_next (sign_at CloseParenthesis c) ts ts (GotAll (Then a NoTerms) ts) tt (finds_nothing ts (GotAll (Then a NoTerms) ts))
+find (reading.last {c = c} {a = a} {ts = ts}) = finds_next (sign_at CloseParenthesis c) ts ts (GotAll (Then a NoTrees) ts) tt (finds_nothing ts (GotAll (Then a NoTrees) ts))
 find (reading.another {c = c} {a = a} {ts = ts} {o = o} r) = finds_added a (sign_at Comma c) ts o tt (find r)
 find (unended {ts = ts} n m) = finds_nothing ts (Stops Expected ts)

@@ -18,7 +18,8 @@ use Rattle.cell_calc_tokens.specs.Operator.{operator_of, level_of, top}
 use Rattle.cell_calc_grammar.specs.TokensRead as reading
 use Rattle.cell_calc_grammar.specs.TokensRead.{PartOfExpression, tail, read_then, distance_at, distance, offset_signed, offset_at, offset, comma_at, bracket_at, to_bracket, Outcome, Got, GotAll, Stops, State, Operand, Whole, More, Expression, Choice, AfterQuestion, Called, Arguments, Onward, below_level, next, after_bracket, close, join, choose, move, call_judged, call, add, GrammarReads, nothing, whole, stopped, more, expression, unread, asked, unasked, no_colon, otherwise, arguments, halted, unended}
 use Rattle.cell_calc_grammar.specs.Shape.{shape}
-use Rattle.cell_calc_grammar.specs.Term.{Term, Terms, NoTerms, Negated, Not, count}
+use Rattle.cell_calc_grammar.specs.Tree.{Tree}
+use Rattle.cell_calc_grammar.specs.Term.{Term, Terms, NoTrees, Negated, Not, count, map_name}
 use Rattle.cell_calc_tokens.specs.Token.{token_number_at, name_at, sign_at, head}
 use Rattle.cell_calc_grammar.proofs.Sound.{raise, below_some, above_none, next_zero, front_is, IsPartOf, sound_offset, mapped, IsSound, sound}
 use Rattle.cell_calc_grammar.proofs.Walk.{shape_append}
@@ -227,8 +228,8 @@ IsViable (Arguments ts) (Stops kind rest) = Viable SomeArguments ts kind rest
 IsViable (Onward (Got a ts)) (Stops kind rest) = (front : List Placed) → IsExpression front a → Viable (λ l. SomeArguments (front ++ l)) ts kind rest
 IsViable s o = Unit {0}
 
-zero_of : (k : ℕ) → Stands k (token_number_at 0 0 ∷ []) (Term.Number 0)
-zero_of k = raise zero k (token_number_at 0 0 ∷ []) (Term.Number 0) (omega arith) grammar.number
+zero_of : (k : ℕ) → Stands k (token_number_at 0 0 ∷ []) (Tree.Number 0)
+zero_of k = raise zero k (token_number_at 0 0 ∷ []) (Tree.Number 0) (omega arith) grammar.number
 
 viable_unary : (f : Term → Term) (s : Placed) (ts : List Placed) → ((us : List Placed) (a : Term) → Stands zero us a → Stands zero (s ∷ us) (f a)) → (o : Outcome) → IsSound (Operand ts) o → IsViable (Operand ts) o → IsViable (Operand (s ∷ ts)) (mapped f o)
 viable_unary f s ts rule (Got a rest) h v = tt
@@ -247,7 +248,7 @@ viable_unknown name c d ts e = record {
   front = refl;
   told = (name, c, d, refl, e);
   same = refl;
-  goes = (Term.Call Null NoTerms, grammar.called Null refl refl grammar.none);
+  goes = (Tree.Call Null NoTrees, grammar.called Null refl refl grammar.none);
 }
 
 eval_takes : {ts : List Placed} {xs : Terms} → AreArguments ts xs → accepts Eval (count xs) ≡ true
@@ -258,11 +259,11 @@ eval_takes (grammar.another {xs = xs} c s q) = go (count xs)
     go n = grind (arith, nat_tests)
 
 call_of : (c d : ℕ) (l : List Placed) → SomeArguments l → SomeOf zero (name_at (codes "eval") c ∷ sign_at OpenParenthesis d ∷ l)
-call_of c d l (xs, h) = (Term.Call Eval xs, grammar.called Eval refl (eval_takes h) (grammar.some h))
+call_of c d l (xs, h) = (Tree.Call Eval xs, grammar.called Eval refl (eval_takes h) (grammar.some h))
 
 -- with another name
 renamed : (c d : ℕ) (l : List Placed) (xs : Terms) → AreCalled l xs → (name : List ℕ) × SomeOf zero (name_at name c ∷ sign_at OpenParenthesis d ∷ l)
-renamed c d l xs grammar.none = (codes "null", (Term.Call Null NoTerms, grammar.called Null refl refl grammar.none))
+renamed c d l xs grammar.none = (codes "null", (Tree.Call Null NoTrees, grammar.called Null refl refl grammar.none))
 renamed c d l xs (grammar.some h) = (codes "eval", call_of c d l (xs, h))
 
 viable_called : (name : List ℕ) (c d : ℕ) (ts : List Placed) (f : Function) → function_of name ≡ Some f → (o : Outcome) → IsSound (Called ts) o → IsViable (Called ts) o
@@ -292,7 +293,7 @@ viable_called name c d ts f e (GotAll xs rest) h v = go (accepts f (count xs)) r
 viable_moved : (name : List ℕ) (c d : ℕ) (ts : List Placed) (p : PartOfExpression (ℤ × ℤ)) → ViablePart SomeOffsets ts p → IsViable (Operand (name_at name c ∷ sign_at OpenBracket d ∷ ts)) (move name c p)
 viable_moved name c d ts (Ok x) v = tt
 viable_moved name c d ts (Err e) v =
-    viable_after SomeOffsets (SomeOf zero) (name_at name c ∷ sign_at OpenBracket d ∷ []) (name_at name c ∷ sign_at OpenBracket d ∷ []) ts e.0 e.1 refl (λ l h. (Term.Map name h.0 h.1 c, grammar.moved h.2)) v
+    viable_after SomeOffsets (SomeOf zero) (name_at name c ∷ sign_at OpenBracket d ∷ []) (name_at name c ∷ sign_at OpenBracket d ∷ []) ts e.0 e.1 refl (λ l h. (Tree.Map (map_name name c) h.0 h.1, grammar.moved h.2)) v
 
 -- in parentheses
 closing : (c d : ℕ) (l : List Placed) → SomeExpression l → SomeOf zero (sign_at OpenParenthesis c ∷ (l ++ sign_at CloseParenthesis d ∷ []))
@@ -327,7 +328,7 @@ viable_right k s ts a op e kind rest v j front le stop st =
     let here_level = here.1 in
     let left = raise j (suc (level_of op)) front a (omega arith) st in
     viable_after (SomeOf (level_of op)) (λ l. SomeOf k (front ++ l)) (s ∷ []) (s ∷ []) ts kind rest refl
-    (λ l x. (Term.Binary op a x.0, raise (suc (level_of op)) k (front ++ s ∷ l) (Term.Binary op a x.0) (omega arith) (joined s op here.0 refl left x.1))) v
+    (λ l x. (Tree.Binary op a x.0, raise (suc (level_of op)) k (front ++ s ∷ l) (Tree.Binary op a x.0) (omega arith) (joined s op here.0 refl left x.1))) v
 
 viable_more : (k : ℕ) (s : Placed) (ts : List Placed) (a : Term) (o p : Outcome) (op : Operator) → next k (s ∷ ts) ≡ Some op → IsSound (Whole (level_of op) ts) o → IsViable (Whole (level_of op) ts) o
     → GrammarReads (More k (join op a o)) p → IsViable (More k (join op a o)) p → IsViable (More k (Got a (s ∷ ts))) p
@@ -351,7 +352,7 @@ viable_expression ts (Got a us) (Stops kind rest) h v r w = viable_past (λ l. S
 viable_expression ts (GotAll xs us) (Stops kind rest) h v r w = absurd h
 viable_expression ts (Stops kind' us) (Stops kind rest) h v unread w = viable_weaken (SomeOf top) SomeExpression ts kind rest (λ l x. (x.0, grammar.IsExpression.plain x.1)) v
 
-zero_expression : IsExpression (token_number_at 0 0 ∷ []) (Term.Number 0)
+zero_expression : IsExpression (token_number_at 0 0 ∷ []) (Tree.Number 0)
 zero_expression = grammar.IsExpression.plain (zero_of top)
 
 -- a choice, after the question mark

@@ -16,7 +16,7 @@ use Rattle.cell_calc_language.specs.GrammarFault as grammar_fault
 use Rattle.cell_calc_language.specs.GrammarFault.{IsOffsetSign, IsBeforeNumber, IsInBrackets}
 use Rattle.cell_calc_grammar.specs.TokensRead as reading
 use Rattle.cell_calc_grammar.specs.TokensRead.{PartOfExpression, tail, read_then, distance_at, distance, offset_signed, offset_at, offset, comma_at, bracket_at, to_bracket, Outcome, Got, GotAll, Stops, State, Operand, Whole, More, Expression, Choice, AfterQuestion, Called, Arguments, Onward, negate, invert, after_bracket, close, join, choose, move, call_judged, call, add, GrammarReads, nothing, whole, stopped, done, more, expression, unread, unchosen, asked, unasked, no_colon, otherwise, arguments, halted, unended}
-use Rattle.cell_calc_grammar.specs.Term.{Term, Negated, Not, Binary, Call, NoTerms, Then, count}
+use Rattle.cell_calc_grammar.specs.Term.{Term, Negated, Not, Binary, Call, NoTrees, Then, count}
 use Rattle.cell_calc_tokens.specs.Token.{name_at, sign_at, head}
 use Rattle.cell_calc_grammar.proofs.Sound.{mapped, IsPartOf, IsSign, AreBoth, front_is, sound_offset, sound_offsets, sound_comma, sound_bracket}
 
@@ -180,7 +180,7 @@ fine (more {s = s} {ts = us} {a = a} {o = o} op e r m) ts h = fine m ts (fine_ma
 fine (expression r m) ts h = fine m ts (fine r ts h)
 fine (asked {ts = us} r m) ts h = fine m ts (fine r ts (after_one ts us _ h))
 fine (no_colon {ts = us} n) ts h = unexpected IsInBrackets ts us
-fine (otherwise {x = x} {a = a} {ts = us} {o = o} r) ts h = fine_mapped (λ b. Call If (Then x (Then a (Then b NoTerms)))) ts o (fine r ts (after_one ts us _ h))
+fine (otherwise {x = x} {a = a} {ts = us} {o = o} r) ts h = fine_mapped (λ b. Call If (Then x (Then a (Then b NoTrees)))) ts o (fine r ts (after_one ts us _ h))
 fine (reading.none {ts = us}) ts h = after_one ts us _ h
 fine (reading.some n r) ts h = fine r ts h
 fine (arguments r m) ts h = fine m ts (fine r ts h)

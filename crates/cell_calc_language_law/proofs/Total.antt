@@ -12,7 +12,8 @@ use Rattle.cell_calc_tokens.specs.Function.{function_of, accepts}
 use Rattle.cell_calc_tokens.specs.Operator.{level_of, top}
 use Rattle.cell_calc_grammar.specs.TokensRead as reading
 use Rattle.cell_calc_grammar.specs.TokensRead.{PartOfExpression, tail, Outcome, Got, GotAll, Stops, State, Operand, Whole, More, Expression, Choice, AfterQuestion, Called, Arguments, Onward, next, IsNot, IsAlone, BeginsNone, negate, invert, after_bracket, close, join, choose, move, call_judged, call, add, GrammarReads, nothing, whole, stopped, done, more, expression, unread, unchosen, asked, unasked, no_colon, otherwise, arguments, halted, unended}
-use Rattle.cell_calc_grammar.specs.Term.{Term, Negated, Not, Binary, NoTerms, Then, count}
+use Rattle.cell_calc_grammar.specs.Tree.{Tree}
+use Rattle.cell_calc_grammar.specs.Term.{Term, map_name, Negated, Not, Binary, NoTrees, Then, count}
 use Rattle.cell_calc_tokens.specs.Token.{name_at, sign_at, head}
 use Rattle.cell_calc_grammar.proofs.Sound.{front_is, mapped, AreBoth, IsPartOf, sound_offsets, sound}
 
@@ -99,7 +100,7 @@ module _ (n : ℕ) (t : Totals n) where
       go : (u : Option Token) → head ts ≡ u → Total (Called ts) (length ts)
       go (Some (token.Sign CloseParenthesis)) e =
           let f = front_is ts (token.Sign CloseParenthesis) e in
-          (GotAll NoTerms (tail ts), subst (λ l. GrammarReads (Called l) (GotAll NoTerms (tail ts))) (sym f.1) reading.none, shorter ts (tail ts) (sign_at CloseParenthesis f.0) f.1)
+          (GotAll NoTrees (tail ts), subst (λ l. GrammarReads (Called l) (GotAll NoTrees (tail ts))) (sym f.1) reading.none, shorter ts (tail ts) (sign_at CloseParenthesis f.0) f.1)
       go _ e = others (subst (IsNot CloseParenthesis) (sym e) (λ k. cc))
 
   -- a name and what follows it
@@ -110,7 +111,7 @@ module _ (n : ℕ) (t : Totals n) where
       one = shorter (name_at name c ∷ ts) ts (name_at name c) refl
 
       alone : IsAlone (head ts) → Total (Operand (name_at name c ∷ ts)) (length (name_at name c ∷ ts))
-      alone e = (Got (Term.Map name (pos 0) (pos 0) c) ts, reading.map e, one)
+      alone e = (Got (Tree.Map (map_name name c) (pos 0) (pos 0)) ts, reading.map e, one)
 
       is_call : (d : ℕ) (us : List Placed) → ts ≡ sign_at OpenParenthesis d ∷ us → (x : Option Function) → function_of name ≡ x → Total (Operand (name_at name c ∷ ts)) (length (name_at name c ∷ ts))
       is_call d us e None f =
@@ -148,7 +149,7 @@ module _ (n : ℕ) (t : Totals n) where
       go : (u : Option Token) → head ts ≡ u → Total (Operand ts) (length ts)
       go (Some (token.Number m)) e =
           let f = front_is ts (token.Number m) e in
-          (Got (Term.Number m) (tail ts), subst (λ l. GrammarReads (Operand l) (Got (Term.Number m) (tail ts))) (sym f.1) reading.number, tail_less f.0 (token.Number m) f.1)
+          (Got (Tree.Number m) (tail ts), subst (λ l. GrammarReads (Operand l) (Got (Tree.Number m) (tail ts))) (sym f.1) reading.number, tail_less f.0 (token.Number m) f.1)
       go (Some (token.Name name)) e =
           let f = front_is ts (token.Name name) e in
           let less = tail_less f.0 (token.Name name) f.1 in
@@ -212,7 +213,7 @@ module _ (n : ℕ) (t : Totals n) where
           let y = t.expression (tail ts) (omega arith) in (
             choose x a y.0,
             subst (λ l. GrammarReads (AfterQuestion x (Got a l)) (choose x a y.0)) (sym f.1) (otherwise y.1),
-            within (length (tail ts)) bound (choose x a y.0) (omega arith) (within_mapped (λ b. Term.Call If (Then x (Then a (Then b NoTerms)))) (length (tail ts)) y.0 y.2),
+            within (length (tail ts)) bound (choose x a y.0) (omega arith) (within_mapped (λ b. Tree.Call If (Then x (Then a (Then b NoTrees)))) (length (tail ts)) y.0 y.2),
           )
       go _ e = others (subst (IsNot Colon) (sym e) (λ k. cc))
 
@@ -259,7 +260,7 @@ module _ (n : ℕ) (t : Totals n) where
       go (Some (token.Sign CloseParenthesis)) e =
           let f = front_is ts (token.Sign CloseParenthesis) e in
           let less = shorter ts (tail ts) (sign_at CloseParenthesis f.0) f.1 in
-          (GotAll (Then a NoTerms) (tail ts), subst (λ l. GrammarReads (Onward (Got a l)) (GotAll (Then a NoTerms) (tail ts))) (sym f.1) reading.last, omega arith)
+          (GotAll (Then a NoTrees) (tail ts), subst (λ l. GrammarReads (Onward (Got a l)) (GotAll (Then a NoTrees) (tail ts))) (sym f.1) reading.last, omega arith)
       go (Some (token.Sign Comma)) e =
           let f = front_is ts (token.Sign Comma) e in
           let less = shorter ts (tail ts) (sign_at Comma f.0) f.1 in

@@ -4,8 +4,8 @@ use Rattle.cell_core.specs.Grid.{CellValue}
 use Rattle.cell_calc_operators.specs.Applied.{Spot, spot, applied, call_result, negated, inverted}
 use Rattle.cell_calc_operators.specs.Offsets.{item_at}
 use Rattle.cell_calc.specs.Window.{Window}
-use Rattle.cell_calc_steps.specs.declared.bound.Step.{Step}
-use Rattle.cell_calc_steps.specs.declared.bound.Step.TheVariants as step
+use Rattle.cell_calc_steps.specs.declared.step.Step.{Step}
+use Rattle.cell_calc_steps.specs.declared.step.Step.TheVariants as step
 use Rattle.cell_calc.specs.declared.strip.Operand.{Operand}
 use Rattle.cell_calc.specs.declared.strip.Operand.TheVariants as operand
 use Rattle.cell_calc.specs.declared.strip.Strip.{Strip}
@@ -19,7 +19,7 @@ pub record IsStrip (strip : Strip) : Type 0 where
   pub most : strip.region.cols ≤ 65535
 
 -- a number that is a category, or a map whose window reaches the offset
-abbrev pub IsReadyStep : List Window → Step → Type 0
+abbrev pub IsReadyStep : List Window → Step ℕ → Type 0
 IsReadyStep windows (step.Number n) = n ≤ 2147483647
 IsReadyStep windows (step.Map i down right) = IsInReach down (slice_get windows i)
 IsReadyStep windows step.Negated = Unit {0}
@@ -44,7 +44,7 @@ abbrev pub cells_at : List Window → Strip → ℕ → List Operand → List Ce
 cells_at windows strip c operands = map (operand_at windows strip c) operands
 
 -- what a step makes of cells, with the rows that windows hold for those of maps
-abbrev pub seen : List Window → Spot → Step → List CellValue → CellValue
+abbrev pub seen : List Window → Spot → Step ℕ → List CellValue → CellValue
 seen windows s (step.Number n) xs = Some (pos n)
 seen windows s (step.Map i down right) xs = item_at None (row_below down (slice_get windows i)) (pos s.col +ℤ right)
 seen windows s step.Negated xs = negated (slice_index_or xs 0 None)
