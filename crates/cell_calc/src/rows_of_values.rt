@@ -35,7 +35,8 @@ fn along_row(
     requires ready { All (IsReadyStep windows.now) steps.now }
     requires enough { AreEnough steps.now 0 }
     ensures width { IfOk result (λ cells. length cells.items ≡ region.cols) }
-    ensures each { IfOk result (λ cells. (c : ℕ) → c < region.cols → at cells.items c ∷ [] ≡ values_after (seen windows.now (spot region row c)) steps.now []) }
+    ensures each { IfOk result (λ cells. (c : ℕ) → c < region.cols
+        → at cells.items c ∷ [] ≡ values_after (seen windows.now (spot region row c)) steps.now []) }
 {
     let cols = region.cols() as usize;
     let mut cells = Vec::with_capacity(alloc, cols)?;
@@ -76,10 +77,13 @@ pub fn eval_row(
 ) -> Result<(), Memory>
     requires row { row < region.now.rows }
     requires width { length cells.old ≡ region.now.cols }
-    requires windows { (i : ℕ) → i < top_of bound.now → HasReach row (up_of i bound.now) (down_of i bound.now) (slice_get windows.now i) }
+    requires windows { (i : ℕ) → i < top_of bound.now
+        → HasReach row (up_of i bound.now) (down_of i bound.now) (slice_get windows.now i) }
     ensures width { length cells.new ≡ length cells.old }
-    ensures ok { OnOk result ((maps : List Grid) → ((i : ℕ) → i < top_of bound.now → IsOver (slice_get windows.now i) (slice_get maps i))
-        → (c : ℕ) → c < region.now.cols → slice_index_or cells.new c None ≡ value bound.now maps (spot region.now row c)) }
+    ensures ok { OnOk result ((maps : List Grid)
+        → ((i : ℕ) → i < top_of bound.now → IsOver (slice_get windows.now i) (slice_get maps i))
+        → (c : ℕ) → c < region.now.cols
+        → slice_index_or cells.new c None ≡ value bound.now maps (spot region.now row c)) }
     ensures err { OnErr result (cells.new ≡ cells.old) }
 {
     let values = along_row(alloc, bound.steps(), *region, row, windows)?;

@@ -6,10 +6,10 @@ ghost use Rattle.cell_calc_steps.specs.Postfix.{step_over};
 ghost use Rattle.cell_calc_language.specs.Unknown.{first_unknown};
 
 use crate::bound::Bound;
+use cell_calc_grammar::map_name::MapName;
 use cell_calc_language::calc_fault::{CalcFault, CalcKind};
 use cell_calc_language::expr::Expr;
 use cell_calc_steps::step::Step;
-use cell_calc_grammar::map_name::MapName;
 use cell_core::memory::Memory;
 use cell_core::name::{Name, Names};
 use std::alloc::Global;
@@ -41,7 +41,11 @@ fn placed(step: &Step<MapName>, names: &Names) -> Step<usize>
     }
 }
 
-fn all_placed(alloc: Global, steps: &[Step<MapName>], names: &Names) -> Result<Vec<Step<usize>>, Memory>
+fn all_placed(
+    alloc: Global,
+    steps: &[Step<MapName>],
+    names: &Names,
+) -> Result<Vec<Step<usize>>, Memory>
     ensures { IfOk result (λ found. found.items ≡ map (step_over (place_in names.now)) steps.now) }
 {
     let mut found = Vec::with_capacity(alloc, steps.len())?;

@@ -1,5 +1,5 @@
 -- Values along a strip: some columns of a row, from one on.
-use Rattle.std.specs.Prelude.{◌≡◌, ◌≤◌, ◌<◌, ◌+◌, ◌+ℤ◌, ℕ, pos, List, Some, None, length, map, slice_get, slice_index_or}
+use Rattle.std.specs.Prelude.{◌≡◌, ◌≤◌, ◌<◌, ◌+◌, ◌-◌, ◌+ℤ◌, ℕ, pos, List, Some, None, length, take, drop, map, slice_get, slice_index_or}
 use Rattle.cell_core.specs.Grid.{CellValue}
 use Rattle.cell_calc_operators.specs.Applied.{Spot, spot, applied, call_result, negated, inverted}
 use Rattle.cell_calc_operators.specs.Offsets.{item_at}
@@ -12,11 +12,22 @@ use Rattle.cell_calc.specs.declared.strip.Strip.{Strip}
 use Rattle.cell_calc_rows.specs.RowValues.{at}
 use Rattle.cell_calc.specs.parts.WindowsOver.{IsInReach, row_below}
 
+-- the last so many operands, and those before them
+abbrev pub top_operands : {X : Type 0} → ℕ → List X → List X
+top_operands n operands = drop (length operands - n) operands
+
+abbrev pub lower_operands : {X : Type 0} → ℕ → List X → List X
+lower_operands n operands = take (length operands - n) operands
+
 -- it lies in a region
 pub record IsStrip (strip : Strip) : Type 0 where
   pub row : strip.row < strip.region.rows
   pub columns : strip.from + strip.width ≤ strip.region.cols
   pub most : strip.region.cols ≤ 65535
+
+-- it holds of each column of a strip
+abbrev pub AtColumns : Strip → (ℕ → Type 0) → Type 0
+AtColumns strip P = (c : ℕ) → c < strip.width → P c
 
 -- a number that is a category, or a map whose window reaches the offset
 abbrev pub IsReadyStep : List Window → Step ℕ → Type 0
