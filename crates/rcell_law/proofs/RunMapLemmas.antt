@@ -356,7 +356,8 @@ mutual
   placed_categories names (term.Binary op a b) h = (placed_categories names a h.0, placed_categories names b h.1)
   placed_categories names (term.Call f xs) h = all_categories names xs h.1
 
-  all_categories : (names : List (List ℕ)) (xs : Terms) → AreGrammatical xs → HaveCategories (with_leaves_all (place_in names) xs)
+  all_categories : (names : List (List ℕ)) (xs : Terms) → AreGrammatical xs
+      → HaveCategories (with_leaves_all (place_in names) xs)
   all_categories names term.NoTrees h = tt
   all_categories names (term.Then a xs) h = (placed_categories names a h.0, all_categories names xs h.1)
 
