@@ -12,7 +12,7 @@ COMMON_FILES = {"lib", "main", "law"}
 COMMON_SPECS = {"Lib", "parts"}
 ANSWERS = {"Answers.antt", "Invariants.antt", "Proof.antt"}
 # The crates that the steps of an expression are for: those that make them, and the one that evaluates them.
-CRATES_OF_STEPS = {"cell_calc_language", "cell_calc_binding", "cell_calc"}
+CRATES_OF_STEPS = {"cell_calc_steps", "cell_calc_language", "cell_calc_binding", "cell_calc"}
 STEPS = re.compile(r"\.steps\(|\bstep::Step\b|declared\.step\b")
 
 

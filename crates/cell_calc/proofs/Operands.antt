@@ -5,14 +5,14 @@ use Rattle.std.proofs.lemmas.List.{take_all, length-map, length-take-le, length-
 use Rattle.std.proofs.lemmas.List.Elements.{All-head, All-push, All-same, All-tail, All-take}
 use Rattle.std.specs.Prelude.{All, OnOk, reverse}
 use Rattle.cell_core.specs.Grid.{CellValue}
-use Rattle.cell_calc_steps.specs.declared.bound.Step.{Step}
+use Rattle.cell_calc_steps.specs.declared.step.Step.{Step}
 use Rattle.cell_calc.specs.declared.strip.Operand.{Operand}
 use Rattle.cell_calc.specs.declared.strip.Strip.{Strip}
 use Rattle.cell_calc.specs.Window.{Window}
 use Rattle.cell_calc.specs.parts.Operands.{operand_at, cells_at, seen, spot_at}
-use Rattle.cell_calc_binding.specs.FormulaPostfix.{arity, values_after, AreEnough}
+use Rattle.cell_calc_steps.specs.Postfix.{arity, values_after, AreEnough}
 use Rattle.cell_calc_rows.specs.RowValues.{at, column}
-use Rattle.cell_calc_binding.proofs.Postfix.{one_step}
+use Rattle.cell_calc_steps.proofs.PostfixLemmas.{one_step}
 
 -- what stands before the last operands, and those
 pub front_is : {X : Type 0} (old new ys : List X) (n : ℕ) → old ≡ new ++ ys → length ys ≡ n → new ≡ take (length old - n) old
@@ -48,17 +48,17 @@ only_one old new x one is =
     is ∙ ap (λ l. l ++ x ∷ []) (nil_from_length new none)
 
 -- the steps from one on
-pub steps_from : (steps : List Step) (i : ℕ) (d : Step) → i < length steps → drop i steps ≡ get_or steps i d ∷ drop (i + 1) steps
+pub steps_from : (steps : List (Step ℕ)) (i : ℕ) (d : Step ℕ) → i < length steps → drop i steps ≡ get_or steps i d ∷ drop (i + 1) steps
 steps_from steps i d lt = rw add-one (drop-cons steps i d lt)
 
-pub no_steps : (steps : List Step) (i : ℕ) → length steps ≤ i → drop i steps ≡ []
+pub no_steps : (steps : List (Step ℕ)) (i : ℕ) → length steps ≤ i → drop i steps ≡ []
 no_steps steps i le = nil_from_length (drop i steps) (omega (arith, length-drop i steps))
 
 -- the next step has its operands, and so have those after it
-pub enough_at : (steps : List Step) (i n : ℕ) (d : Step) → i < length steps → AreEnough (drop i steps) n → arity (get_or steps i d) ≤ n
+pub enough_at : (steps : List (Step ℕ)) (i n : ℕ) (d : Step ℕ) → i < length steps → AreEnough (drop i steps) n → arity (get_or steps i d) ≤ n
 enough_at steps i n d lt h = let all = rw (steps_from steps i d lt) at h in all.0
 
-pub enough_more : (steps : List Step) (i : ℕ) (d : Step) {X : Type 0} (old new : List X) (o : X) → i < length steps → AreEnough (drop i steps) (length old)
+pub enough_more : (steps : List (Step ℕ)) (i : ℕ) (d : Step ℕ) {X : Type 0} (old new : List X) (o : X) → i < length steps → AreEnough (drop i steps) (length old)
     → new ≡ take (length old - arity (get_or steps i d)) old ++ o ∷ [] → AreEnough (drop (i + 1) steps) (length new)
 enough_more steps i d old new o lt h is =
     let all = rw (steps_from steps i d lt) at h in
@@ -68,14 +68,14 @@ enough_more steps i d old new o lt h is =
     rw count all.1
 
 -- one step more along a strip
-pub step_more : (windows : List Window) (strip : Strip) (steps : List Step) (i c : ℕ) (d : Step) (old new : List Operand) (o : Operand) (end : List CellValue)
+pub step_more : (windows : List Window) (strip : Strip) (steps : List (Step ℕ)) (i c : ℕ) (d : Step ℕ) (old new : List Operand) (o : Operand) (end : List CellValue)
     → i < length steps → arity (get_or steps i d) ≤ length old → new ≡ take (length old - arity (get_or steps i d)) old ++ o ∷ []
     → operand_at windows strip c o ≡ seen windows (spot_at strip c) (get_or steps i d) (cells_at windows strip c (drop (length old - arity (get_or steps i d)) old))
     → values_after (seen windows (spot_at strip c)) (drop i steps) (cells_at windows strip c old) ≡ end
     → values_after (seen windows (spot_at strip c)) (drop (i + 1) steps) (cells_at windows strip c new) ≡ end
 step_more windows strip steps i c d old new o end lt le is made before =
     let f = λ (p : Operand). operand_at windows strip c p in
-    let g = λ (s : Step) (xs : List CellValue). seen windows (spot_at strip c) s xs in
+    let g = λ (s : Step ℕ) (xs : List CellValue). seen windows (spot_at strip c) s xs in
     let s = get_or steps i d in
     let n = length old - arity s in
     let split : map f old ≡ map f (take n old) ++ map f (drop n old) = ap (λ l. map f l) (sym (take-append-drop n old)) ∙ map-append f (take n old) (drop n old) in
@@ -87,11 +87,11 @@ step_more windows strip steps i c d old new o end lt le is made before =
     ∙ ap (λ l. values_after g l (map f old)) (sym (steps_from steps i d lt)) ∙ before
 
 -- the value of the only operand that is left
-pub end_value : (windows : List Window) (strip : Strip) (steps : List Step) (i c : ℕ) (old : List Operand) (o : Operand) (end : List CellValue)
+pub end_value : (windows : List Window) (strip : Strip) (steps : List (Step ℕ)) (i c : ℕ) (old : List Operand) (o : Operand) (end : List CellValue)
     → drop i steps ≡ [] → old ≡ o ∷ [] → values_after (seen windows (spot_at strip c)) (drop i steps) (cells_at windows strip c old) ≡ end
     → operand_at windows strip c o ∷ [] ≡ end
 end_value windows strip steps i c old o end none only is =
-    let g = λ (s : Step) (xs : List CellValue). seen windows (spot_at strip c) s xs in
+    let g = λ (s : Step ℕ) (xs : List CellValue). seen windows (spot_at strip c) s xs in
     ap (λ l. values_after g l (operand_at windows strip c o ∷ [])) (sym none)
     ∙ ap (λ l. values_after g (drop i steps) (cells_at windows strip c l)) (sym only) ∙ is
 

@@ -5,24 +5,24 @@ use Rattle.std.proofs.lemmas.Int.{ints}
 use Rattle.std.proofs.lemmas.List.Elements.{All-head, All-tail}
 use Rattle.cell_core.specs.Grid.{Grid, CellValue}
 use Rattle.cell_calc_language.specs.Grammatical.{up_by, down_by}
-use Rattle.cell_calc_steps.specs.declared.bound.Step.{Step}
-use Rattle.cell_calc_steps.specs.declared.bound.Step.TheVariants as step
-use Rattle.cell_calc_binding.specs.Formula.{Formula, Formulas, NoFormulas, Then}
-use Rattle.cell_calc_binding.specs.Reach.{IsProper, top_of, up_of, down_of}
+use Rattle.cell_calc_steps.specs.declared.step.Step.{Step}
+use Rattle.cell_calc_steps.specs.declared.step.Step.TheVariants as step
+use Rattle.cell_calc_binding.specs.Formula.{Formula, Formulas, NoTrees, Then}
+use Rattle.cell_calc_binding.specs.Reach.{IsProper, top_at, up_at, down_at, top_of, up_of, down_of}
 use Rattle.cell_calc_operators.specs.Applied.{Spot, applied, call_result, negated, inverted}
 use Rattle.cell_calc_operators.specs.Offsets.{cell_in, item_at, row_of}
 use Rattle.cell_calc_binding.specs.Value.{value, argument_values}
 use Rattle.cell_calc.specs.Window.{Window, IsWindowOf, Reaches, IsOver, HasReach}
 use Rattle.cell_calc.specs.parts.Operands.{IsReadyStep, seen}
-use Rattle.cell_calc_binding.specs.FormulaPostfix.{postfix, arity, values_after}
-use Rattle.cell_calc_binding.specs.parts.TreeSteps.{top_step, up_step, down_step, IsProperStep}
+use Rattle.cell_calc_steps.specs.Postfix.{postfix, arity, values_after}
+use Rattle.cell_calc_binding.specs.parts.TreeSteps.{IsProperStep}
 use Rattle.cell_calc.specs.parts.WindowsOver.{IsInReach, row_below}
-use Rattle.cell_calc_binding.proofs.Postfix.{listed, IsMeaning, after_postfix}
+use Rattle.cell_calc_steps.proofs.PostfixLemmas.{listed, IsMeaning, after_postfix}
 use Rattle.cell_calc.proofs.Rings.{held_row}
 use Rattle.cell_calc_binding.proofs.Steps.{proper_steps, below_greatest, top-postfix, up-postfix, down-postfix}
 
 -- what a step makes of cells over maps
-abbrev over_maps : List Grid → Spot → Step → List CellValue → CellValue
+abbrev over_maps : List Grid → Spot → Step ℕ → List CellValue → CellValue
 over_maps maps s (step.Number n) xs = Some (pos n)
 over_maps maps s (step.Map i down right) xs = cell_in (slice_get maps i) (pos s.row +ℤ down) (pos s.col +ℤ right)
 over_maps maps s step.Negated xs = negated (slice_index_or xs 0 None)
@@ -31,16 +31,16 @@ over_maps maps s (step.Binary op) xs = applied op (slice_index_or xs 0 None) (sl
 over_maps maps s (step.Call f n) xs = call_result f s xs
 
 values-listed : (maps : List Grid) (s : Spot) (xs : Formulas) → map (λ a. value a maps s) (listed xs) ≡ argument_values xs maps s
-values-listed maps s NoFormulas = refl
+values-listed maps s NoTrees = refl
 values-listed maps s (Then a xs) = ap (λ l. value a maps s ∷ l) (values-listed maps s xs)
 
 -- the steps of an expression make its value
 value_after : (maps : List Grid) (s : Spot) (f : Formula) → values_after (over_maps maps s) (postfix f) [] ≡ value f maps s ∷ []
 value_after maps s f =
-    let is : IsMeaning CellValue (over_maps maps s) (λ a. value a maps s) =
+    let is : IsMeaning ℕ CellValue (over_maps maps s) (λ a. value a maps s) =
     record {
       number = λ n. refl;
-      place = λ i down right. refl;
+      leaf = λ i down right. refl;
       negated = λ a. refl;
       inverted = λ a. refl;
       binary = λ op a b. refl;
@@ -79,12 +79,12 @@ at_place i n = by_case (i == i) refl
 
 -- the window of a place that a step of an expression reads
 has_reach : (f : Formula) (row : ℕ) (windows : List Window) → ((i : ℕ) → i < top_of f → HasReach row (up_of i f) (down_of i f) (slice_get windows i))
-    → (k : ℕ) (d : Step) → k < length (postfix f) → (i : ℕ) (down right : ℤ) → get_or (postfix f) k d ≡ step.Map i down right
+    → (k : ℕ) (d : Step ℕ) → k < length (postfix f) → (i : ℕ) (down right : ℤ) → get_or (postfix f) k d ≡ step.Map i down right
     → (i < top_of f) × HasReach row (up_by down) (down_by down) (slice_get windows i)
 has_reach f row windows h k d lt i down right is =
-    let top : i < top_of f = omega (arith, rw is at (below_greatest top_step (postfix f) k d lt), top-postfix f) in
-    let up : up_by down ≤ up_of i f = omega (arith, rw (is, at_place i (up_by down)) at (below_greatest (up_step i) (postfix f) k d lt), up-postfix i f) in
-    let below : down_by down ≤ down_of i f = omega (arith, rw (is, at_place i (down_by down)) at (below_greatest (down_step i) (postfix f) k d lt), down-postfix i f) in
+    let top : i < top_of f = omega (arith, rw is at (below_greatest top_at (postfix f) k d lt), top-postfix f) in
+    let up : up_by down ≤ up_of i f = omega (arith, rw (is, at_place i (up_by down)) at (below_greatest (up_at i) (postfix f) k d lt), up-postfix i f) in
+    let below : down_by down ≤ down_of i f = omega (arith, rw (is, at_place i (down_by down)) at (below_greatest (down_at i) (postfix f) k d lt), down-postfix i f) in
     (top, weaken row (up_by down) (up_of i f) (down_by down) (down_of i f) (slice_get windows i) up below (h i top))
 
 -- the windows are ready for each step
@@ -92,7 +92,7 @@ in_reach : (down : ℤ) (row : ℕ) (o : Option Window) → HasReach row (up_by 
 in_reach down row None h = h
 in_reach down row (Some w) h = reaches_offset down row w h
 
-ready_step : (windows : List Window) (row : ℕ) (s : Step) → IsProperStep s
+ready_step : (windows : List Window) (row : ℕ) (s : Step ℕ) → IsProperStep s
     → ((i : ℕ) (down right : ℤ) → s ≡ step.Map i down right → HasReach row (up_by down) (down_by down) (slice_get windows i)) → IsReadyStep windows s
 ready_step windows row (step.Number n) p reach = p
 ready_step windows row (step.Map i down right) p reach = in_reach down row (slice_get windows i) (reach i down right refl)
@@ -114,7 +114,7 @@ over_window row c down right (Some w) None over h = absurd over
 over_window row c down right (Some w) (Some m) over h =
     ap (λ l. item_at None l (pos c +ℤ right)) (window_row w m down over (reaches_offset down row w h) ∙ ap (λ r. row_of m (pos r +ℤ down)) h.0)
 
-same_step : (windows : List Window) (maps : List Grid) (s : Spot) (t : Step)
+same_step : (windows : List Window) (maps : List Grid) (s : Spot) (t : Step ℕ)
     → ((i : ℕ) (down right : ℤ) → t ≡ step.Map i down right → IsOver (slice_get windows i) (slice_get maps i) × HasReach s.row (up_by down) (down_by down) (slice_get windows i))
     → (xs : List CellValue) → seen windows s t xs ≡ over_maps maps s t xs
 same_step windows maps s (step.Number n) reach xs = refl
@@ -127,7 +127,7 @@ same_step windows maps s (step.Binary op) reach xs = refl
 same_step windows maps s (step.Call g n) reach xs = refl
 
 -- steps that make the same of operands
-after_same : {X : Type 0} (g h : Step → List X → X) (steps : List Step) → All (λ s. (xs : List X) → g s xs ≡ h s xs) steps
+after_same : {X : Type 0} (g h : Step ℕ → List X → X) (steps : List (Step ℕ)) → All (λ s. (xs : List X) → g s xs ≡ h s xs) steps
     → (xs : List X) → values_after g steps xs ≡ values_after h steps xs
 after_same g h [] all xs = refl
 after_same {X} g h (s ∷ steps) all xs =

@@ -1,9 +1,10 @@
 //! Values along strips: the steps of an expression, one after another, with a stack of operands.
 
-ghost use Rattle.std.specs.Prelude.{◌≡◌, ◌≤◌, ◌<◌, ◌-◌, ℕ, [], ◌∷◌, length, take, drop, map, All, IfOk, OnOk};
+ghost use Rattle.std.specs.Prelude.{◌≡◌, ◌≤◌, [], ◌∷◌, length, map, All, IfOk, OnOk};
 ghost use Rattle.cell_calc_operators.specs.Applied.{call_result};
-ghost use Rattle.cell_calc.specs.parts.Operands.{IsStrip, IsReadyStep, IsOperandReady, operand_at, cells_at, seen, spot_at};
-ghost use Rattle.cell_calc_binding.specs.FormulaPostfix.{arity, values_after, AreEnough};
+ghost use Rattle.cell_calc.specs.parts.Operands.{IsStrip, IsReadyStep, IsOperandReady, AtColumns};
+ghost use Rattle.cell_calc.specs.parts.Operands.{top_operands, lower_operands, operand_at, cells_at, seen, spot_at};
+ghost use Rattle.cell_calc_steps.specs.Postfix.{arity, values_after, AreEnough};
 ghost use Rattle.cell_calc_rows.specs.RowValues.{at, column};
 
 use crate::operand::{chosen, joined, popped, row_of, taken};
@@ -11,7 +12,7 @@ use crate::strip::{Operand, Spare, Strip};
 use crate::window::RowWindow;
 use cell_calc_rows::calls::call;
 use cell_calc_rows::rows;
-use cell_calc_steps::bound::Step;
+use cell_calc_steps::step::Step;
 use cell_calc_tokens::function::Function;
 use cell_core::cell::Cell;
 use cell_core::memory::Memory;
@@ -20,7 +21,7 @@ use std::alloc::Global;
 /// The values of an expression along a strip, from windows that stand at its row.
 pub(crate) fn along(
     alloc: Global,
-    steps: &[Step],
+    steps: &[Step<usize>],
     strip: &Strip,
     windows: &[RowWindow],
     operands: &mut Vec<Operand>,
@@ -30,7 +31,8 @@ pub(crate) fn along(
     requires ready { All (IsReadyStep windows.now) steps.now }
     requires enough { AreEnough steps.now 0 }
     ensures width { IfOk result (λ row. length row.items ≡ strip.now.width) }
-    ensures each { IfOk result (λ row. (c : ℕ) → c < strip.now.width → at row.items c ∷ [] ≡ values_after (seen windows.now (spot_at strip.now c)) steps.now []) }
+    ensures each { IfOk result (λ row. AtColumns strip.now (λ c. at row.items c ∷ []
+        ≡ values_after (seen windows.now (spot_at strip.now c)) steps.now [])) }
 {
     operands.clear();
     for step in steps {
@@ -45,7 +47,7 @@ pub(crate) fn along(
 // What a step makes of the last operands.
 fn made(
     alloc: Global,
-    step: Step,
+    step: Step<usize>,
     operands: &mut Vec<Operand>,
     strip: &Strip,
     windows: &[RowWindow],
@@ -55,14 +57,19 @@ fn made(
     requires step { IsReadyStep windows.now step }
     requires enough { arity step ≤ length operands.old.items }
     requires ready { All (IsOperandReady windows.now strip.now) operands.old.items }
-    ensures rest { OnOk result (operands.new.items ≡ take (length operands.old.items - arity step) operands.old.items) }
+    ensures rest { OnOk result (operands.new.items ≡ lower_operands (arity step) operands.old.items) }
     ensures ready { IfOk result (λ o. IsOperandReady windows.now strip.now o) }
-    ensures each { IfOk result (λ o. (c : ℕ) → c < strip.now.width → operand_at windows.now strip.now c o
-        ≡ seen windows.now (spot_at strip.now c) step (cells_at windows.now strip.now c (drop (length operands.old.items - arity step) operands.old.items))) }
+    ensures each { IfOk result (λ o. AtColumns strip.now (λ c. operand_at windows.now strip.now c o
+        ≡ seen windows.now (spot_at strip.now c) step
+        (cells_at windows.now strip.now c (top_operands (arity step) operands.old.items)))) }
 {
     match step {
         Step::Number(n) => Ok(Operand::Number(n)),
-        Step::Map { place, down, right } => Ok(Operand::Map { place, down, right }),
+        Step::Map { leaf, down, right } => Ok(Operand::Map {
+            place: leaf,
+            down,
+            right,
+        }),
         Step::Negated => {
             let mut row = row_of(alloc, popped(operands), strip, windows, &mut spare.free)?;
             rows::negate(row.as_mut_slice());
@@ -107,10 +114,11 @@ fn called(
     requires strip { IsStrip strip.now }
     requires enough { count ≤ length operands.old.items }
     requires ready { All (IsOperandReady windows.now strip.now) operands.old.items }
-    ensures rest { OnOk result (operands.new.items ≡ take (length operands.old.items - count) operands.old.items) }
+    ensures rest { OnOk result (operands.new.items ≡ lower_operands count operands.old.items) }
     ensures width { IfOk result (λ row. length row.items ≡ strip.now.width) }
-    ensures each { IfOk result (λ row. (c : ℕ) → c < strip.now.width → at row.items c
-        ≡ call_result function (spot_at strip.now c) (cells_at windows.now strip.now c (drop (length operands.old.items - count) operands.old.items))) }
+    ensures each { IfOk result (λ row. AtColumns strip.now (λ c. at row.items c
+        ≡ call_result function (spot_at strip.now c)
+        (cells_at windows.now strip.now c (top_operands count operands.old.items)))) }
 {
     match (function, count) {
         (Function::If, 1) => {
@@ -151,10 +159,11 @@ fn by_rows(
     requires strip { IsStrip strip.now }
     requires enough { count ≤ length operands.old.items }
     requires ready { All (IsOperandReady windows.now strip.now) operands.old.items }
-    ensures rest { OnOk result (operands.new.items ≡ take (length operands.old.items - count) operands.old.items) }
+    ensures rest { OnOk result (operands.new.items ≡ lower_operands count operands.old.items) }
     ensures width { IfOk result (λ row. length row.items ≡ strip.now.width) }
-    ensures each { IfOk result (λ row. (c : ℕ) → c < strip.now.width → at row.items c
-        ≡ call_result function (spot_at strip.now c) (cells_at windows.now strip.now c (drop (length operands.old.items - count) operands.old.items))) }
+    ensures each { IfOk result (λ row. AtColumns strip.now (λ c. at row.items c
+        ≡ call_result function (spot_at strip.now c)
+        (cells_at windows.now strip.now c (top_operands count operands.old.items)))) }
 {
     gather(alloc, count, operands, strip, windows, spare)?;
     let (number, from, width) = (strip.row, strip.from, strip.width);
@@ -186,10 +195,12 @@ fn gather(
     requires strip { IsStrip strip.now }
     requires enough { count ≤ length operands.old.items }
     requires ready { All (IsOperandReady windows.now strip.now) operands.old.items }
-    ensures rest { OnOk result (operands.new.items ≡ take (length operands.old.items - count) operands.old.items) }
-    ensures width { OnOk result (All (λ cells. length cells.items ≡ strip.now.width) spare.new.arguments.items) }
-    ensures each { OnOk result ((c : ℕ) → c < strip.now.width → column c (map (λ cells. cells.items) spare.new.arguments.items)
-        ≡ cells_at windows.now strip.now c (drop (length operands.old.items - count) operands.old.items)) }
+    ensures rest { OnOk result (operands.new.items ≡ lower_operands count operands.old.items) }
+    ensures width { OnOk result
+        (All (λ cells. length cells.items ≡ strip.now.width) spare.new.arguments.items) }
+    ensures each { OnOk result (AtColumns strip.now (λ c.
+        column c (map (λ cells. cells.items) spare.new.arguments.items)
+        ≡ cells_at windows.now strip.now c (top_operands count operands.old.items))) }
 {
     spare.arguments.clear();
     'operands: for _ in 0..count {

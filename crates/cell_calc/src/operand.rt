@@ -3,7 +3,7 @@
 ghost use Rattle.std.specs.Prelude.{◌≡◌, ◌<◌, ◌++◌, [], ◌∷◌, ℕ, length, slice_get, IfOk, OnOk};
 ghost use Rattle.cell_calc_operators.specs.Applied.{applied};
 ghost use Rattle.cell_calc_operators.specs.CellOperators.{chosen};
-ghost use Rattle.cell_calc.specs.parts.Operands.{IsStrip, IsOperandReady, operand_at};
+ghost use Rattle.cell_calc.specs.parts.Operands.{IsStrip, IsOperandReady, AtColumns, operand_at};
 ghost use Rattle.cell_calc.specs.parts.WindowsOver.{IsInReach, row_below};
 ghost use Rattle.cell_calc_rows.specs.RowValues.{at};
 
@@ -60,7 +60,8 @@ pub(crate) fn row_of(
     requires strip { IsStrip strip.now }
     requires ready { IsOperandReady windows.now strip.now operand }
     ensures width { IfOk result (λ row. length row.items ≡ strip.now.width) }
-    ensures each { IfOk result (λ row. (c : ℕ) → c < strip.now.width → at row.items c ≡ operand_at windows.now strip.now c operand) }
+    ensures each { IfOk result (λ row. AtColumns strip.now (λ c.
+        at row.items c ≡ operand_at windows.now strip.now c operand)) }
 {
     let (from, width) = (strip.from, strip.width);
     match operand {
@@ -93,7 +94,9 @@ pub(crate) fn joined(
     requires left { IsOperandReady windows.now strip.now left }
     requires right { IsOperandReady windows.now strip.now right }
     ensures width { IfOk result (λ row. length row.items ≡ strip.now.width) }
-    ensures each { IfOk result (λ row. (c : ℕ) → c < strip.now.width → at row.items c ≡ applied operator (operand_at windows.now strip.now c left) (operand_at windows.now strip.now c right)) }
+    ensures each { IfOk result (λ row. AtColumns strip.now (λ c. at row.items c
+        ≡ applied operator (operand_at windows.now strip.now c left)
+        (operand_at windows.now strip.now c right))) }
 {
     let mut row = row_of(alloc, left, strip, windows, free)?;
     apply(operator, right, strip, windows, row.as_mut_slice(), free)?;
@@ -114,7 +117,8 @@ fn apply(
     requires right { IsOperandReady windows.now strip.now right }
     requires width { length row.old ≡ strip.now.width }
     ensures width { length row.new ≡ strip.now.width }
-    ensures each { OnOk result ((c : ℕ) → c < strip.now.width → at row.new c ≡ applied operator (at row.old c) (operand_at windows.now strip.now c right)) }
+    ensures each { OnOk result (AtColumns strip.now (λ c. at row.new c
+        ≡ applied operator (at row.old c) (operand_at windows.now strip.now c right))) }
 {
     let from = strip.from;
     match right {
@@ -151,7 +155,9 @@ pub(crate) fn chosen(
     requires yes { IsOperandReady windows.now strip.now yes }
     requires no { IsOperandReady windows.now strip.now no }
     ensures width { IfOk result (λ row. length row.items ≡ strip.now.width) }
-    ensures each { IfOk result (λ row. (c : ℕ) → c < strip.now.width → at row.items c ≡ chosen (operand_at windows.now strip.now c condition) (operand_at windows.now strip.now c yes) (operand_at windows.now strip.now c no)) }
+    ensures each { IfOk result (λ row. AtColumns strip.now (λ c. at row.items c
+        ≡ chosen (operand_at windows.now strip.now c condition)
+        (operand_at windows.now strip.now c yes) (operand_at windows.now strip.now c no))) }
 {
     let mut row = row_of(alloc, no, strip, windows, free)?;
     let conditions = row_of(alloc, condition, strip, windows, free)?;
@@ -176,7 +182,8 @@ fn choose(
     requires width { length row.old ≡ strip.now.width }
     requires conditions { length conditions.now ≡ strip.now.width }
     ensures width { length row.new ≡ strip.now.width }
-    ensures each { OnOk result ((c : ℕ) → c < strip.now.width → at row.new c ≡ chosen (at conditions.now c) (operand_at windows.now strip.now c yes) (at row.old c)) }
+    ensures each { OnOk result (AtColumns strip.now (λ c. at row.new c
+        ≡ chosen (at conditions.now c) (operand_at windows.now strip.now c yes) (at row.old c))) }
 {
     let (from, width) = (strip.from, strip.width);
     match yes {
@@ -208,7 +215,8 @@ fn choose_row(
     requires width { length others.items ≡ length row.old }
     requires conditions { length conditions.now ≡ length row.old }
     ensures width { length row.new ≡ length row.old }
-    ensures each { (c : ℕ) → c < length row.old → at row.new c ≡ chosen (at conditions.now c) (at others.items c) (at row.old c) }
+    ensures each { (c : ℕ) → c < length row.old
+        → at row.new c ≡ chosen (at conditions.now c) (at others.items c) (at row.old c) }
 {
     rows::choose(row, conditions, others.as_slice());
     free.push(others)?;

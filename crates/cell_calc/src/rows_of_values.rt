@@ -4,7 +4,7 @@ ghost use Rattle.std.specs.Prelude.{◌≡◌, ◌<◌, ◌≤◌, ℕ, List, []
 ghost use Rattle.cell_core.specs.Grid.{Grid};
 ghost use Rattle.cell_calc_operators.specs.Applied.{spot};
 ghost use Rattle.cell_calc_rows.specs.RowValues.{at};
-ghost use Rattle.cell_calc_binding.specs.FormulaPostfix.{values_after, AreEnough};
+ghost use Rattle.cell_calc_steps.specs.Postfix.{values_after, AreEnough};
 ghost use Rattle.cell_calc_binding.specs.Reach.{top_of, up_of, down_of};
 ghost use Rattle.cell_calc_binding.specs.Value.{value};
 ghost use Rattle.cell_calc.specs.Window.{IsOver, HasReach};
@@ -14,7 +14,7 @@ use crate::along::along;
 use crate::strip::{Spare, Strip};
 use crate::window::RowWindow;
 use cell_calc_binding::bound::Bound;
-use cell_calc_steps::bound::Step;
+use cell_calc_steps::step::Step;
 use cell_core::cell::Cell;
 use cell_core::memory::Memory;
 use cell_core::region::Region;
@@ -26,7 +26,7 @@ const STRIP: usize = 1024;
 // The values of an expression along a row, strip by strip.
 fn along_row(
     alloc: Global,
-    steps: &[Step],
+    steps: &[Step<usize>],
     region: Region,
     row: u32,
     windows: &[RowWindow],
@@ -35,7 +35,8 @@ fn along_row(
     requires ready { All (IsReadyStep windows.now) steps.now }
     requires enough { AreEnough steps.now 0 }
     ensures width { IfOk result (λ cells. length cells.items ≡ region.cols) }
-    ensures each { IfOk result (λ cells. (c : ℕ) → c < region.cols → at cells.items c ∷ [] ≡ values_after (seen windows.now (spot region row c)) steps.now []) }
+    ensures each { IfOk result (λ cells. (c : ℕ) → c < region.cols
+        → at cells.items c ∷ [] ≡ values_after (seen windows.now (spot region row c)) steps.now []) }
 {
     let cols = region.cols() as usize;
     let mut cells = Vec::with_capacity(alloc, cols)?;
@@ -76,10 +77,13 @@ pub fn eval_row(
 ) -> Result<(), Memory>
     requires row { row < region.now.rows }
     requires width { length cells.old ≡ region.now.cols }
-    requires windows { (i : ℕ) → i < top_of bound.now → HasReach row (up_of i bound.now) (down_of i bound.now) (slice_get windows.now i) }
+    requires windows { (i : ℕ) → i < top_of bound.now
+        → HasReach row (up_of i bound.now) (down_of i bound.now) (slice_get windows.now i) }
     ensures width { length cells.new ≡ length cells.old }
-    ensures ok { OnOk result ((maps : List Grid) → ((i : ℕ) → i < top_of bound.now → IsOver (slice_get windows.now i) (slice_get maps i))
-        → (c : ℕ) → c < region.now.cols → slice_index_or cells.new c None ≡ value bound.now maps (spot region.now row c)) }
+    ensures ok { OnOk result ((maps : List Grid)
+        → ((i : ℕ) → i < top_of bound.now → IsOver (slice_get windows.now i) (slice_get maps i))
+        → (c : ℕ) → c < region.now.cols
+        → slice_index_or cells.new c None ≡ value bound.now maps (spot region.now row c)) }
     ensures err { OnErr result (cells.new ≡ cells.old) }
 {
     let values = along_row(alloc, bound.steps(), *region, row, windows)?;

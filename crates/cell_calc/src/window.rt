@@ -104,7 +104,8 @@ impl RowWindow {
     /// The map's cell so many rows below the centre and at a column, null outside its region.
     pub fn cell(&self, dr: i32, c: i64) -> Cell
         requires { Reaches self.now dr }
-        ensures { (m : Grid) → IsWindowOf self.now m → result ≡ cell_at_offset m (pos self.now.centre +ℤ dr) c }
+        ensures { (m : Grid) → IsWindowOf self.now m
+            → result ≡ cell_at_offset m (pos self.now.centre +ℤ dr) c }
     {
         cell_at(self.row(dr), c)
     }
@@ -113,7 +114,8 @@ impl RowWindow {
     pub(crate) fn row(&self, down: i32) -> &[Cell]
         requires { Reaches self.now down }
         ensures held { result.now ≡ row_below down (Some self.now) }
-        ensures map { (m : Grid) → IsWindowOf self.now m → result.now ≡ row_of m (pos self.now.centre +ℤ down) }
+        ensures map { (m : Grid) → IsWindowOf self.now m
+            → result.now ≡ row_of m (pos self.now.centre +ℤ down) }
     {
         let first = self.centre.saturating_sub(self.above);
         match place_of(self.centre, first, down) {

@@ -69,7 +69,8 @@ impl Held {
 
     /// Lets the first row wait, if the centre is not above so many rows.
     pub(crate) fn release(&mut self, above: u32, centre: u32)
-        ensures rows { self.new.rows ≡ (if nat_le above centre then drop 1 self.old.rows else self.old.rows) }
+        ensures rows { self.new.rows
+            ≡ (if nat_le above centre then drop 1 self.old.rows else self.old.rows) }
         ensures free { length self.new.rows + self.new.free ≡ length self.old.rows + self.old.free }
         ensures cols { self.new.cols ≡ self.old.cols }
     {

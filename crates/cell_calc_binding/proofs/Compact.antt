@@ -3,7 +3,7 @@ use Rattle.std.proofs.Common.{◌≡◌, ◌<◌, ℕ, zero, suc, List, [], ◌�
 use Rattle.std.proofs.lemmas.Option.{slice_get-get_or}
 use Rattle.std.specs.Prelude.{All}
 use Rattle.cell_calc_binding.specs.Compact.{ReadsMap, AreReading, AreMapsRead}
-use Rattle.cell_calc_binding.specs.Formula.{Formula, Number, Map, Negated, Not, Binary, Call, Formulas, NoFormulas, Then}
+use Rattle.cell_calc_binding.specs.Formula.{Formula, Number, Map, Negated, Not, Binary, Call, Formulas, NoTrees, Then}
 use Rattle.cell_calc_binding.specs.Reach.{top_of, top_of_all}
 
 -- below one of two is below the greater
@@ -22,7 +22,7 @@ mutual
   reads_below i (Call f xs) h = all_below i xs h
 
   all_below : (i : ℕ) (xs : Formulas) → AreReading i xs → i < top_of_all xs
-  all_below i NoFormulas h = absurd h
+  all_below i NoTrees h = absurd h
   all_below i (Then a xs) (inl h) = either i (top_of a) (top_of_all xs) (inl (reads_below i a h))
   all_below i (Then a xs) (inr h) = either i (top_of a) (top_of_all xs) (inr (all_below i xs h))
 

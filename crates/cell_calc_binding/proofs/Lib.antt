@@ -3,6 +3,5 @@ pub mod Compact
 pub mod Index
 pub mod Moved
 pub mod Placing
-pub mod Postfix
 pub mod Steps
 pub mod Worked

@@ -1,45 +1,52 @@
--- The steps of an expression with places for names.
-use Rattle.std.proofs.Common.{◌≡◌, ◌<◌, ◌≤◌, ◌+◌, ◌^◌, ℕ, suc, List, [], ◌∷◌, ◌++◌, length, map, max, refl, ap, arith, Bool, true, false, Some}
+-- Expressions over other leaves keep what the language allows.
+use Rattle.std.proofs.Common.{◌≡◌, ◌<◌, ◌≤◌, ◌+◌, ◌^◌, ℕ, List, [], ◌∷◌, length, max, sym, ap, ◌∙◌, arith, Bool, true, false, Some}
 use Rattle.std.specs.Option.{unwrap_or}
 use Rattle.std.specs.Prelude.{cond}
 use Rattle.std.specs.List.{position_from}
-use Rattle.std.proofs.lemmas.List.{map-append}
-use Rattle.cell_core_values.specs.Name.{place_of}
-use Rattle.cell_calc_binding.specs.Binding.{with_places, placed_all}
-use Rattle.cell_calc_binding.specs.Formula as formula
-use Rattle.cell_calc_binding.specs.Reach.{IsProper, AreProper}
-use Rattle.cell_calc_binding.specs.parts.Placing.{placed_step}
-use Rattle.cell_calc_binding.specs.FormulaPostfix as places
+use Rattle.cell_calc_steps.specs.declared.step.Step.{Step}
+use Rattle.cell_calc_steps.specs.Postfix.{postfix}
+use Rattle.cell_calc_steps.proofs.PostfixLemmas.{count-over, are_of_tree}
+use Rattle.cell_calc_grammar.specs.Tree.{Tree, Number, Map, Negated, Not, Binary, Call, Trees, NoTrees, Then, with_leaves, with_leaves_all}
+use Rattle.cell_calc_grammar.specs.Term.{Term}
 use Rattle.cell_calc_language.specs.Grammatical.{IsGrammatical, AreGrammatical}
-use Rattle.cell_calc_language.specs.Postfix.{postfix, postfix_all}
-use Rattle.cell_calc_grammar.specs.Term.{Term, Number, Map, Negated, Not, Binary, Call, Terms, NoTerms, Then, count}
-use Rattle.cell_calc_steps.specs.declared.named.Step.TheVariants as step
-
--- so many arguments
-count-placed : (names : List (List ℕ)) (xs : Terms) → formula.count (placed_all names xs) ≡ count xs
-count-placed names NoTerms = refl
-count-placed names (Then a xs) = ap suc (count-placed names xs)
+use Rattle.cell_calc_binding.specs.Binding.{with_places, place_in}
+use Rattle.cell_calc_binding.specs.Formula.{Formula}
+use Rattle.cell_calc_binding.specs.Reach.{top_of, top_of_all, IsProper}
+use Rattle.cell_calc_binding.specs.parts.TreeSteps.{AreBound}
 
 mutual
-  pub postfix-placed : (names : List (List ℕ)) (e : Term) → map (placed_step names) (postfix e) ≡ places.postfix (with_places names e)
-  postfix-placed names (Number n) = refl
-  postfix-placed names (Map name down right c) = refl
-  postfix-placed names (Negated a) = rw (map-append (placed_step names) (postfix a) (step.Negated ∷ []), postfix-placed names a) refl
-  postfix-placed names (Not a) = rw (map-append (placed_step names) (postfix a) (step.Not ∷ []), postfix-placed names a) refl
-  postfix-placed names (Binary op a b) =
-      rw (
-        map-append (placed_step names) (postfix a) (postfix b ++ step.Binary op ∷ []),
-        map-append (placed_step names) (postfix b) (step.Binary op ∷ []),
-        postfix-placed names a,
-        postfix-placed names b,
-      ) refl
-  postfix-placed names (Call f xs) =
-      rw (map-append (placed_step names) (postfix_all xs) (step.Call f (count xs) ∷ []), postfix-placed_all names xs, count-placed names xs) refl
+  grammatical-over : {L M : Type 0} (to : L → M) (f : Tree L) → IsGrammatical f → IsGrammatical (with_leaves to f)
+  grammatical-over to (Number n) h = h
+  grammatical-over to (Map l down right) h = h
+  grammatical-over to (Negated a) h = grammatical-over to a h
+  grammatical-over to (Not a) h = grammatical-over to a h
+  grammatical-over to (Binary op a b) h = (grammatical-over to a h.0, grammatical-over to b h.1)
+  grammatical-over to (Call f xs) h = (rw (count-over to xs) h.0, grammatical-over_all to xs h.1)
 
-  postfix-placed_all : (names : List (List ℕ)) (xs : Terms) → map (placed_step names) (postfix_all xs) ≡ places.postfix_all (placed_all names xs)
-  postfix-placed_all names NoTerms = refl
-  postfix-placed_all names (Then a xs) =
-      rw (map-append (placed_step names) (postfix a) (postfix_all xs), postfix-placed names a, postfix-placed_all names xs) refl
+  grammatical-over_all : {L M : Type 0} (to : L → M) (xs : Trees L) → AreGrammatical xs → AreGrammatical (with_leaves_all to xs)
+  grammatical-over_all to NoTrees h = tt
+  grammatical-over_all to (Then a xs) h = (grammatical-over to a h.0, grammatical-over_all to xs h.1)
+
+mutual
+  top-over : {L : Type 0} (to : L → ℕ) (most : ℕ) → ((l : L) → to l + 1 ≤ most) → (f : Tree L) → top_of (with_leaves to f) ≤ most
+  top-over to most few (Number n) = omega arith
+  top-over to most few (Map l down right) = few l
+  top-over to most few (Negated a) = top-over to most few a
+  top-over to most few (Not a) = top-over to most few a
+  top-over to most few (Binary op a b) = omega (arith, top-over to most few a, top-over to most few b)
+  top-over to most few (Call f xs) = top-over_all to most few xs
+
+  top-over_all : {L : Type 0} (to : L → ℕ) (most : ℕ) → ((l : L) → to l + 1 ≤ most) → (xs : Trees L) → top_of_all (with_leaves_all to xs) ≤ most
+  top-over_all to most few NoTrees = omega arith
+  top-over_all to most few (Then a xs) = omega (arith, top-over to most few a, top-over_all to most few xs)
+
+-- an expression over places that are few
+pub proper-over : {L : Type 0} (to : L → ℕ) (most : ℕ) → most < 2 ^ 64 → ((l : L) → to l + 1 ≤ most) → (f : Tree L) → IsGrammatical f → IsProper (with_leaves to f)
+proper-over to most small few f h = (grammatical-over to f h, omega (arith, small, top-over to most few f))
+
+-- the steps of an expression that the language allows
+pub bound_by : (steps : List (Step ℕ)) (f : Formula) → steps ≡ postfix f → IsProper f → AreBound steps
+bound_by steps f is proper = let b = are_of_tree f steps is in record { postfix = b.1; proper = rw (b.0) proper }
 
 -- a place is one of the list
 found_within : {K : Type 0} (is : K → Bool) (i : ℕ) (xs : List K) → unwrap_or (position_from is i xs) 0 + 1 ≤ max 1 (i + length xs)
@@ -51,16 +58,5 @@ found_within is i (x ∷ xs) = by_case (is x) (found_within is (i + 1) xs)
     by_case true h = omega arith
     by_case false h = omega (arith, h)
 
-mutual
-  pub proper-placed : (names : List (List ℕ)) → length names < 2 ^ 64 → (e : Term) → IsGrammatical e → IsProper (with_places names e)
-  proper-placed names few (Number n) h = h
-  proper-placed names few (Map name down right c) h =
-      (let within : unwrap_or (place_of name names) 0 + 1 ≤ max 1 (0 + length names) = found_within _ 0 names in omega (arith, within, few), h)
-  proper-placed names few (Negated a) h = proper-placed names few a h
-  proper-placed names few (Not a) h = proper-placed names few a h
-  proper-placed names few (Binary op a b) h = (proper-placed names few a h.0, proper-placed names few b h.1)
-  proper-placed names few (Call f xs) h = (rw (count-placed names xs) h.0, proper-placed_all names few xs h.1)
-
-  proper-placed_all : (names : List (List ℕ)) → length names < 2 ^ 64 → (xs : Terms) → AreGrammatical xs → AreProper (placed_all names xs)
-  proper-placed_all names few NoTerms h = tt
-  proper-placed_all names few (Then a xs) h = (proper-placed names few a h.0, proper-placed_all names few xs h.1)
+pub proper-placed : (names : List (List ℕ)) → length names < 2 ^ 64 → (e : Term) → IsGrammatical e → IsProper (with_places names e)
+proper-placed names few e h = proper-over (place_in names) (max 1 (0 + length names)) (omega (arith, few)) (λ m. found_within _ 0 names) e h

@@ -1,7 +1,7 @@
 -- Expressions over just the maps that they read.
 use Rattle.std.specs.Prelude.{◌≡◌, ◌≢◌, ◌⊎◌, ℕ, List, Some, slice_get, AllPairs}
 use Rattle.cell_core.specs.Grid.{Grid}
-use Rattle.cell_calc_binding.specs.Formula.{Formula, Number, Map, Negated, Not, Binary, Call, Formulas, NoFormulas, Then}
+use Rattle.cell_calc_binding.specs.Formula.{Formula, Number, Map, Negated, Not, Binary, Call, Formulas, NoTrees, Then}
 
 abbrev mutual
   -- the map at a place is read
@@ -15,7 +15,7 @@ abbrev mutual
 
   -- one of the arguments reads it
   pub AreReading : ℕ → Formulas → Type 0
-  AreReading i NoFormulas = ⊥
+  AreReading i NoTrees = ⊥
   AreReading i (Then a xs) = ReadsMap i a ⊎ AreReading i xs
 
 -- each of the places is read

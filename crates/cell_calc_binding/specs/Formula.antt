@@ -1,24 +1,12 @@
 -- Expressions whose maps are places.
-use Rattle.std.specs.Prelude.{ℕ, zero, suc, ℤ}
-use Rattle.cell_calc_tokens.specs.declared.function.Function.{Function}
-use Rattle.cell_calc_tokens.specs.declared.operator.Operator.{Operator}
+use Rattle.std.specs.Prelude.{ℕ}
+use Rattle.cell_calc_grammar.specs.Tree.{Tree, Trees}
+pub use Rattle.cell_calc_grammar.specs.Tree.{Number, Map, Negated, Not, Binary, Call, NoTrees, Then, count}
 
-mutual
-  -- an expression whose maps are places
-  pub data Formula : Type 0 where
-    Number : (n : ℕ) → Formula
-    Map : (place : ℕ) (down right : ℤ) → Formula
-    Negated : (a : Formula) → Formula
-    Not : (a : Formula) → Formula
-    Binary : (op : Operator) (a b : Formula) → Formula
-    Call : (f : Function) (xs : Formulas) → Formula
+-- an expression over the places of its maps
+abbrev pub Formula : Type 0
+Formula = Tree ℕ
 
-  -- the arguments of a call, in order
-  pub data Formulas : Type 0 where
-    NoFormulas : Formulas
-    Then : (a : Formula) (xs : Formulas) → Formulas
-
--- how many arguments there are
-abbrev pub count : Formulas → ℕ
-count NoFormulas = zero
-count (Then a xs) = suc (count xs)
+-- arguments over them
+abbrev pub Formulas : Type 0
+Formulas = Trees ℕ

@@ -2,7 +2,6 @@
 pub mod Binding
 pub mod Compact
 pub mod Formula
-pub mod FormulaPostfix
 pub mod Reach
 pub mod Value
 pub mod parts

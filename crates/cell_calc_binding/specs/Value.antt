@@ -3,7 +3,7 @@ use Rattle.std.specs.Prelude.{pos, ◌+ℤ◌, List, [], ◌∷◌, Some, slice_
 use Rattle.cell_core.specs.Grid.{Grid, CellValue}
 use Rattle.cell_calc_operators.specs.Applied.{Spot, negated, inverted, applied, call_result}
 use Rattle.cell_calc_operators.specs.Offsets.{cell_in}
-use Rattle.cell_calc_binding.specs.Formula.{Formula, Number, Map, Negated, Not, Binary, Call, Formulas, NoFormulas, Then}
+use Rattle.cell_calc_binding.specs.Formula.{Formula, Number, Map, Negated, Not, Binary, Call, Formulas, NoTrees, Then}
 
 abbrev mutual
   -- the value of an expression over maps of one region, at a row and a column from 0
@@ -17,5 +17,5 @@ abbrev mutual
 
   -- those of arguments, in order
   pub argument_values : Formulas → List Grid → Spot → List CellValue
-  argument_values NoFormulas maps s = []
+  argument_values NoTrees maps s = []
   argument_values (Then a xs) maps s = value a maps s ∷ argument_values xs maps s

@@ -1,55 +1,52 @@
 //! From names of maps to places.
 
 ghost use Rattle.std.specs.Prelude.{◌≡◌, map, None, IfOk, IfErr, IfSome, IsErrOf, OnOk};
-ghost use Rattle.std.specs.Option.{unwrap_or};
-ghost use Rattle.cell_core_values.specs.Name.{place_of};
-ghost use Rattle.cell_calc_binding.specs.Binding.{with_places, IsBindingFault};
-ghost use Rattle.cell_calc_binding.specs.parts.Placing.{placed_step};
+ghost use Rattle.cell_calc_binding.specs.Binding.{place_in, with_places, IsBindingFault};
+ghost use Rattle.cell_calc_steps.specs.Postfix.{step_over};
 ghost use Rattle.cell_calc_language.specs.Unknown.{first_unknown};
 
 use crate::bound::Bound;
+use cell_calc_grammar::map_name::MapName;
 use cell_calc_language::calc_fault::{CalcFault, CalcKind};
 use cell_calc_language::expr::Expr;
-use cell_calc_steps::bound::Step;
-use cell_calc_steps::named;
+use cell_calc_steps::step::Step;
 use cell_core::memory::Memory;
 use cell_core::name::{Name, Names};
 use std::alloc::Global;
 
-fn place_of(name: &Name, names: &Names) -> usize
-    ensures { result ≡ unwrap_or (place_of name.now names.now) 0 }
+fn place_in(map: &MapName, names: &Names) -> usize
+    ensures { result ≡ place_in names.now map.now }
 {
-    match names.find(name.bytes()) {
+    match names.find(map.name.bytes()) {
         Some(i) => i,
         None => 0,
     }
 }
 
 // The same step with its name replaced by its place.
-fn placed(step: &named::Step, names: &Names) -> Step
-    ensures { result ≡ placed_step names.now step.now }
+fn placed(step: &Step<MapName>, names: &Names) -> Step<usize>
+    ensures { result ≡ step_over (place_in names.now) step.now }
 {
     match step {
-        named::Step::Number(n) => Step::Number(*n),
-        named::Step::Map {
-            name,
-            down,
-            right,
-            ..
-        } => Step::Map {
-            place: place_of(name, names),
+        Step::Number(n) => Step::Number(*n),
+        Step::Map { leaf, down, right } => Step::Map {
+            leaf: place_in(leaf, names),
             down: *down,
             right: *right,
         },
-        named::Step::Negated => Step::Negated,
-        named::Step::Not => Step::Not,
-        named::Step::Binary(operator) => Step::Binary(*operator),
-        named::Step::Call(function, count) => Step::Call(*function, *count),
+        Step::Negated => Step::Negated,
+        Step::Not => Step::Not,
+        Step::Binary(operator) => Step::Binary(*operator),
+        Step::Call(function, count) => Step::Call(*function, *count),
     }
 }
 
-fn all_placed(alloc: Global, steps: &[named::Step], names: &Names) -> Result<Vec<Step>, Memory>
-    ensures { IfOk result (λ found. found.items ≡ map (placed_step names.now) steps.now) }
+fn all_placed(
+    alloc: Global,
+    steps: &[Step<MapName>],
+    names: &Names,
+) -> Result<Vec<Step<usize>>, Memory>
+    ensures { IfOk result (λ found. found.items ≡ map (step_over (place_in names.now)) steps.now) }
 {
     let mut found = Vec::with_capacity(alloc, steps.len())?;
     for step in steps {

@@ -1,46 +1,50 @@
 //! Expressions over places of maps.
 
-ghost use Rattle.std.specs.Prelude.{◌≡◌, ◌<◌, ◌≤◌, All};
-ghost use Rattle.cell_calc_binding.specs.FormulaPostfix.{postfix};
-ghost use Rattle.cell_calc_binding.specs.Reach.{top_of, up_of, down_of, IsProper};
-ghost use Rattle.cell_calc_binding.specs.parts.TreeSteps.{greatest_of_steps, top_step, up_step, down_step, IsProperStep};
+ghost use Rattle.std.specs.Prelude.{◌≡◌, ◌<◌, ◌≤◌, max, All};
+ghost use Rattle.cell_calc_steps.specs.Postfix.{postfix, at_step, fold_steps};
+ghost use Rattle.cell_calc_binding.specs.Reach.{top_at, up_at, down_at, top_of, up_of, down_of, IsProper};
+ghost use Rattle.cell_calc_binding.specs.parts.TreeSteps.{IsProperStep};
 
-use cell_calc_steps::bound::Step;
+use cell_calc_steps::step::Step;
 use std::marker::Model;
 
 /// An expression whose maps are places in a list of maps.
 #[derive(Drop)]
 pub struct Bound {
-    pub(crate) steps: Vec<Step>,
+    pub(crate) steps: Vec<Step<usize>>,
 }
 
 impl Model for Bound {
-    ghost use Rattle.cell_calc_binding.specs.parts.FormulaCode.{formula_code};
+    ghost use Rattle.std.specs.Prelude.{ℕ, List};
+    ghost use Rattle.std.specs.Coded.{code_by, codes};
+    ghost use Rattle.cell_calc_steps.specs.declared.step.Step.{Step};
+    ghost use Rattle.cell_calc_steps.proofs.PostfixLemmas.{tree-postfix};
     ghost use Rattle.cell_calc_binding.specs.Formula.{Formula};
-    ghost use Rattle.cell_calc_binding.specs.FormulaPostfix.{formula_of, AreBound};
+    ghost use Rattle.cell_calc_steps.specs.Postfix.{postfix, tree_of};
+    ghost use Rattle.cell_calc_binding.specs.parts.TreeSteps.{AreBound};
 
     ghost Value = { Formula };
 
-    ghost coded = { formula_code };
+    ghost coded = { code_by (List (Step ℕ)) (Prim.hlevel codes) postfix tree_of tree-postfix };
 
-    ghost view = { λ b. formula_of b.steps.items };
+    ghost view = { λ b. tree_of b.steps.items };
 
     ghost invariant = { λ b. AreBound b.steps.items };
 }
 
-fn top_of_step(step: Step) -> usize
+fn top_of_step(step: Step<usize>) -> usize
     requires { IsProperStep step }
-    ensures { result ≡ top_step step }
+    ensures { result ≡ at_step top_at 0 step }
 {
     match step {
-        Step::Map { place, .. } => place + 1,
+        Step::Map { leaf, .. } => leaf + 1,
         _ => 0,
     }
 }
 
-fn top(steps: &[Step]) -> usize
+fn top(steps: &[Step<usize>]) -> usize
     requires { All IsProperStep steps.now }
-    ensures { result ≡ greatest_of_steps top_step steps.now }
+    ensures { result ≡ fold_steps top_at 0 max steps.now }
 {
     let mut top = 0;
     for step in steps {
@@ -49,14 +53,14 @@ fn top(steps: &[Step]) -> usize
     top
 }
 
-fn up_of_step(i: usize, step: Step) -> u32
+fn up_of_step(i: usize, step: Step<usize>) -> u32
     requires { IsProperStep step }
-    ensures value { result ≡ up_step i step }
+    ensures value { result ≡ at_step (up_at i) 0 step }
     ensures bound { result ≤ 255 }
 {
     match step {
-        Step::Map { place, down, .. } => {
-            if i == place && down < 0 {
+        Step::Map { leaf, down, .. } => {
+            if i == leaf && down < 0 {
                 -(down as i64) as u32
             } else {
                 0
@@ -66,9 +70,9 @@ fn up_of_step(i: usize, step: Step) -> u32
     }
 }
 
-fn up(i: usize, steps: &[Step]) -> u32
+fn up(i: usize, steps: &[Step<usize>]) -> u32
     requires { All IsProperStep steps.now }
-    ensures value { result ≡ greatest_of_steps (up_step i) steps.now }
+    ensures value { result ≡ fold_steps (up_at i) 0 max steps.now }
     ensures bound { result ≤ 255 }
 {
     let mut up = 0;
@@ -78,14 +82,14 @@ fn up(i: usize, steps: &[Step]) -> u32
     up
 }
 
-fn down_of_step(i: usize, step: Step) -> u32
+fn down_of_step(i: usize, step: Step<usize>) -> u32
     requires { IsProperStep step }
-    ensures value { result ≡ down_step i step }
+    ensures value { result ≡ at_step (down_at i) 0 step }
     ensures bound { result ≤ 255 }
 {
     match step {
-        Step::Map { place, down, .. } => {
-            if i == place && down > 0 {
+        Step::Map { leaf, down, .. } => {
+            if i == leaf && down > 0 {
                 down as u32
             } else {
                 0
@@ -95,9 +99,9 @@ fn down_of_step(i: usize, step: Step) -> u32
     }
 }
 
-fn down(i: usize, steps: &[Step]) -> u32
+fn down(i: usize, steps: &[Step<usize>]) -> u32
     requires { All IsProperStep steps.now }
-    ensures value { result ≡ greatest_of_steps (down_step i) steps.now }
+    ensures value { result ≡ fold_steps (down_at i) 0 max steps.now }
     ensures bound { result ≤ 255 }
 {
     let mut down = 0;
@@ -127,7 +131,7 @@ impl Bound {
     }
 
     /// The steps of the expression in postfix order. Takes no memory.
-    pub fn steps(&self) -> &[Step]
+    pub fn steps(&self) -> &[Step<usize>]
         ensures steps { result.now ≡ postfix self.now }
         ensures proper { IsProper self.now }
     {

@@ -4,13 +4,14 @@ ghost use Rattle.std.specs.Prelude.{◌≡◌, ◌<◌, ◌+◌, ℕ, List, leng
 ghost use Rattle.cell_core.specs.Grid.{Grid};
 ghost use Rattle.cell_calc_binding.specs.Compact.{ReadsMap, AreMapsRead, ArePicked, AreDistinctPlaces};
 ghost use Rattle.cell_calc_binding.specs.Formula.{Formula};
-ghost use Rattle.cell_calc_binding.specs.Reach.{top_of};
+ghost use Rattle.cell_calc_binding.specs.Reach.{top_at, top_of};
 ghost use Rattle.cell_calc_operators.specs.Applied.{Spot};
 ghost use Rattle.cell_calc_binding.specs.Value.{value};
-ghost use Rattle.cell_calc_binding.specs.parts.TreeSteps.{greatest_of_steps, top_step, moved_step, index_in, IsListed, ReadsPlace};
+ghost use Rattle.cell_calc_steps.specs.Postfix.{at_step, fold_steps, step_over};
+ghost use Rattle.cell_calc_binding.specs.parts.TreeSteps.{index_in, IsListed, ReadsPlace};
 
 use crate::bound::Bound;
-use cell_calc_steps::bound::Step;
+use cell_calc_steps::step::Step;
 use cell_core::memory::Memory;
 use std::alloc::Global;
 
@@ -43,17 +44,17 @@ fn listed(places: &mut Vec<usize>, place: usize) -> Result<usize, Memory>
 }
 
 // A step over the places in a list, to which the one that it reads is added.
-fn moved(step: Step, places: &mut Vec<usize>) -> Result<Step, Memory>
-    ensures step { IfOk result (λ s. s ≡ moved_step (index_in places.new.items) step) }
+fn moved(step: Step<usize>, places: &mut Vec<usize>) -> Result<Step<usize>, Memory>
+    ensures step { IfOk result (λ s. s ≡ step_over (index_in places.new.items) step) }
     ensures listed { IfOk result (λ _. IsListed places.new.items step) }
-    ensures count { IfOk result (λ s. length places.new.items ≡ max (length places.old.items) (top_step s)) }
+    ensures count { IfOk result (λ s. length places.new.items ≡ max (length places.old.items) (at_step top_at 0 s)) }
     ensures kept { (i : ℕ) → index_in places.old.items i < length places.old.items → index_in places.new.items i ≡ index_in places.old.items i }
     ensures distinct { AreDistinctPlaces places.old.items → AreDistinctPlaces places.new.items }
     ensures read { (f : Formula) → ((i : ℕ) → ReadsPlace i step → ReadsMap i f) → AreMapsRead places.old.items f → AreMapsRead places.new.items f }
 {
     match step {
-        Step::Map { place, down, right } => Ok(Step::Map {
-            place: listed(places, place)?,
+        Step::Map { leaf, down, right } => Ok(Step::Map {
+            leaf: listed(places, leaf)?,
             down,
             right,
         }),
@@ -62,10 +63,10 @@ fn moved(step: Step, places: &mut Vec<usize>) -> Result<Step, Memory>
 }
 
 // Steps over a list of just the places that they read, and that list.
-fn compacted(alloc: Global, steps: &[Step]) -> Result<(Vec<Step>, Vec<usize>), Memory>
-    ensures steps { IfOk result (λ r. r.0.items ≡ map (moved_step (index_in r.1.items)) steps.now) }
+fn compacted(alloc: Global, steps: &[Step<usize>]) -> Result<(Vec<Step<usize>>, Vec<usize>), Memory>
+    ensures steps { IfOk result (λ r. r.0.items ≡ map (step_over (index_in r.1.items)) steps.now) }
     ensures listed { IfOk result (λ r. All (IsListed r.1.items) steps.now) }
-    ensures count { IfOk result (λ r. length r.1.items ≡ greatest_of_steps top_step r.0.items) }
+    ensures count { IfOk result (λ r. length r.1.items ≡ fold_steps top_at 0 max r.0.items) }
     ensures distinct { IfOk result (λ r. AreDistinctPlaces r.1.items) }
     ensures read { IfOk result (λ r. (f : Formula) → All (λ s. (i : ℕ) → ReadsPlace i s → ReadsMap i f) steps.now → AreMapsRead r.1.items f) }
 {

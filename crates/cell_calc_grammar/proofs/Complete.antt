@@ -17,7 +17,7 @@ use Rattle.cell_calc_grammar.specs.Grammar.{IsOffset, AreOffsets, Stands, IsExpr
 use Rattle.cell_calc_tokens.specs.Operator.{operator_of, level_of, top}
 use Rattle.cell_calc_grammar.specs.TokensRead as reading
 use Rattle.cell_calc_grammar.specs.TokensRead.{PartOfExpression, read_then, offset, to_bracket, Outcome, Got, GotAll, Stops, State, Operand, Whole, More, Expression, Choice, AfterQuestion, Called, Arguments, Onward, below_level, next, IsNot, IsAlone, BeginsNone, negate, invert, close, join, choose, move, call_judged, call, add, GrammarReads, nothing, whole, stopped, done, more, expression, unread, unchosen, asked, unasked, no_colon, otherwise, arguments, halted, unended}
-use Rattle.cell_calc_grammar.specs.Term.{Term, Number, Map, Binary, Call, Terms, NoTerms, Then, count}
+use Rattle.cell_calc_grammar.specs.Term.{Term, Number, Map, Binary, Call, Terms, NoTrees, Then, count, map_name}
 use Rattle.cell_calc_tokens.specs.Token.{name_at, sign_at, head}
 
 -- what is there once
@@ -161,7 +161,7 @@ plain_read : (ts : List Placed) (a : Term) → IsRead top ts a → IsAllRead ts 
 plain_read ts a h = λ rest f q. expression (read_whole top ts a h rest f) (unchosen q)
 
 choice_read : (ts us vs : List Placed) (x a b : Term) (c d : ℕ) → IsRead top ts x → IsAllRead us a → IsAllRead vs b
-    → IsAllRead (ts ++ sign_at Question c ∷ (us ++ sign_at Colon d ∷ vs)) (Call If (Then x (Then a (Then b NoTerms))))
+    → IsAllRead (ts ++ sign_at Question c ∷ (us ++ sign_at Colon d ∷ vs)) (Call If (Then x (Then a (Then b NoTrees))))
 choice_read ts us vs x a b c d hx ha hb = λ rest f q.
     let colon = colon_follows d (vs ++ rest) in
     let first = read_whole top ts x hx (sign_at Question c ∷ (us ++ (sign_at Colon d ∷ (vs ++ rest)))) (question_follows c (us ++ (sign_at Colon d ∷ (vs ++ rest)))) in
@@ -169,7 +169,7 @@ choice_read ts us vs x a b c d hx ha hb = λ rest f q.
     let all = expression first (asked second (otherwise (hb rest f q))) in
     let e : ts ++ sign_at Question c ∷ (us ++ (sign_at Colon d ∷ (vs ++ rest))) ≡ (ts ++ sign_at Question c ∷ (us ++ sign_at Colon d ∷ vs)) ++ rest =
     ap (λ l. ts ++ sign_at Question c ∷ l) (sym (append_assoc us (sign_at Colon d ∷ vs) rest)) ∙ sym (append_assoc ts (sign_at Question c ∷ (us ++ sign_at Colon d ∷ vs)) rest) in
-    subst (λ l. GrammarReads (Expression l) (Got (Call If (Then x (Then a (Then b NoTerms)))) rest)) e all
+    subst (λ l. GrammarReads (Expression l) (Got (Call If (Then x (Then a (Then b NoTrees)))) rest)) e all
 
 inside_read : (ts : List Placed) (a : Term) (c d : ℕ) → IsAllRead ts a → IsRead zero (sign_at OpenParenthesis c ∷ (ts ++ sign_at CloseParenthesis d ∷ [])) a
 inside_read ts a c d h = λ rest n.
@@ -215,10 +215,10 @@ close_first (s ∷ ts) rest xs r = λ e.
 some_read : (ts : List Placed) (xs : Terms) → AreRead ts xs → IsCalledRead ts xs
 some_read ts xs h = λ rest. reading.some (close_first (ts ++ rest) rest xs (h rest)) (h rest)
 
-last_read : (ts : List Placed) (a : Term) (c : ℕ) → IsAllRead ts a → AreRead (ts ++ sign_at CloseParenthesis c ∷ []) (Then a NoTerms)
+last_read : (ts : List Placed) (a : Term) (c : ℕ) → IsAllRead ts a → AreRead (ts ++ sign_at CloseParenthesis c ∷ []) (Then a NoTrees)
 last_read ts a c h = λ rest.
     let close = close_follows c rest in
-    subst (λ l. GrammarReads (Arguments l) (GotAll (Then a NoTerms) rest)) (sym (append_assoc ts (sign_at CloseParenthesis c ∷ []) rest))
+    subst (λ l. GrammarReads (Arguments l) (GotAll (Then a NoTrees) rest)) (sym (append_assoc ts (sign_at CloseParenthesis c ∷ []) rest))
     (arguments (h (sign_at CloseParenthesis c ∷ rest) close.0 close.1) reading.last)
 
 another_read : (ts us : List Placed) (a : Term) (xs : Terms) (c : ℕ) → IsAllRead ts a → AreRead us xs → AreRead (ts ++ sign_at Comma c ∷ us) (Then a xs)
@@ -245,7 +245,7 @@ offsets_read : {ts : List Placed} {down right : ℤ} → AreOffsets ts down righ
 offsets_read (grammar.offsets {ts = ts} {us = us} c d h g) rest =
     rw (append_assoc ts (sign_at Comma c ∷ (us ++ sign_at CloseBracket d ∷ [])) rest, offset_read h (sign_at Comma c ∷ ((us ++ sign_at CloseBracket d ∷ []) ++ rest)), append_assoc us (sign_at CloseBracket d ∷ []) rest, offset_read g (sign_at CloseBracket d ∷ rest))
 
-moved_read : (name : List ℕ) (c d : ℕ) (ts : List Placed) (down right : ℤ) → AreOffsets ts down right → IsRead zero (name_at name c ∷ sign_at OpenBracket d ∷ ts) (Map name down right c)
+moved_read : (name : List ℕ) (c d : ℕ) (ts : List Placed) (down right : ℤ) → AreOffsets ts down right → IsRead zero (name_at name c ∷ sign_at OpenBracket d ∷ ts) (Map (map_name name c) down right)
 moved_read name c d ts down right h = λ rest n.
     subst (GrammarReads (Operand (name_at name c ∷ sign_at OpenBracket d ∷ (ts ++ rest)))) (ap (move name c) (offsets_read h rest)) reading.moved
 

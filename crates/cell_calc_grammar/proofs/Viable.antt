@@ -17,7 +17,8 @@ use Rattle.cell_calc_tokens.specs.Operator.{level_of, top}
 use Rattle.cell_calc_grammar.specs.TokensRead as reading
 use Rattle.cell_calc_grammar.specs.TokensRead.{PartOfExpression, tail, read_then, distance_at, distance, offset_signed, offset_at, offset, comma_at, bracket_at, to_bracket, Outcome, Got, GotAll, Stops, State, Operand, Whole, More, Expression, Choice, AfterQuestion, Called, Arguments, Onward, below_level, next, after_bracket, close, join, choose, move, call_judged, call, add, GrammarReads, nothing, whole, stopped, more, expression, unread, asked, unasked, no_colon, otherwise, arguments, halted, unended}
 use Rattle.cell_calc_grammar.specs.Shape.{shape}
-use Rattle.cell_calc_grammar.specs.Term.{Term, Terms, NoTerms, Negated, Not, count}
+use Rattle.cell_calc_grammar.specs.Tree.{Tree}
+use Rattle.cell_calc_grammar.specs.Term.{Term, Terms, NoTrees, Negated, Not, count, map_name}
 use Rattle.cell_calc_tokens.specs.Token.{token_number_at, name_at, sign_at, head}
 use Rattle.cell_calc_grammar.proofs.Sound.{raise, next_zero, offset_of, NoNumber, none, far, NoOffsets, first, no_comma, second, no_bracket, IsPart, AreBoth, offsets_part, goes_joined, IsSound, sound}
 use Rattle.cell_calc_grammar.proofs.Walk.{shape_append}
@@ -125,9 +126,9 @@ viable_past Q f {kind = kind} {rest = rest} e v =
 zero_offset : IsOffset (token_number_at 0 0 ∷ []) (pos 0)
 zero_offset = IsOffset.plain (omega arith)
 
-zero_expression : IsExpression (token_number_at 0 0 ∷ []) (Term.Number 0)
+zero_expression : IsExpression (token_number_at 0 0 ∷ []) (Tree.Number 0)
 zero_expression =
-    grammar.IsExpression.plain (raise zero top (token_number_at 0 0 ∷ []) (Term.Number 0) (omega arith) grammar.number)
+    grammar.IsExpression.plain (raise zero top (token_number_at 0 0 ∷ []) (Tree.Number 0) (omega arith) grammar.number)
 
 -- a number makes what is read go on
 viable_number : (P : List Placed → Type 0) (front l : List Placed) {ts : List Placed} {kind : CalcKind}
@@ -201,7 +202,7 @@ viable_moved name c d ts (Err (kind, rest)) (front, e, stop) = go (offsets_go_on
     opens = name_at name c ∷ sign_at OpenBracket d ∷ []
 
     made : (l : List Placed) → SomeOffsets l → SomeOf zero (opens ++ l)
-    made l h = (Term.Map name h.0 h.1 c, grammar.moved h.2)
+    made l h = (Tree.Map (map_name name c) h.0 h.1, grammar.moved h.2)
 
     go : ((l : List Placed) × SomeOffsets ((front ++ token_number_at 0 0 ∷ []) ++ l) × NoNumber kind rest)
         ⊎ ((kind ≡ Expected) × (l : List Placed) × SomeOffsets (front ++ l))
@@ -222,12 +223,12 @@ eval_takes (grammar.another {xs = xs} c s q) = go (count xs)
     go n = grind (arith, nat_tests)
 
 call_of : (c d : ℕ) (l : List Placed) → SomeArguments l → SomeOf zero (name_at (codes "eval") c ∷ sign_at OpenParenthesis d ∷ l)
-call_of c d l (xs, h) = (Term.Call Eval xs, grammar.called Eval refl (eval_takes h) (grammar.some h))
+call_of c d l (xs, h) = (Tree.Call Eval xs, grammar.called Eval refl (eval_takes h) (grammar.some h))
 
 -- with another name
 renamed : (c d : ℕ) (l : List Placed) (xs : Terms) → AreCalled l xs
     → (name : List ℕ) × SomeOf zero (name_at name c ∷ sign_at OpenParenthesis d ∷ l)
-renamed c d l xs grammar.none = (codes "null", (Term.Call Null NoTerms, grammar.called Null refl refl grammar.none))
+renamed c d l xs grammar.none = (codes "null", (Tree.Call Null NoTrees, grammar.called Null refl refl grammar.none))
 renamed c d l xs (grammar.some h) = (codes "eval", call_of c d l (xs, h))
 
 -- in parentheses
@@ -251,7 +252,7 @@ viable (reading.unknown {name = name} {c = c} {d = d} {ts = ts} e) =
     let call : List Placed = name_at (codes "null") c ∷ sign_at OpenParenthesis d ∷ [] in
     viable_made (SomeOf zero) [] (name_at name c ∷ sign_at OpenParenthesis d ∷ []) ts call
     (sign_at CloseParenthesis 0 ∷ []) refl
-    (name, c, d, refl, e) refl (Term.Call Null NoTerms, grammar.called Null refl refl grammar.none)
+    (name, c, d, refl, e) refl (Tree.Call Null NoTrees, grammar.called Null refl refl grammar.none)
 viable (reading.called {o = Got a rest} f e r) = absurd (sound r)
 viable (reading.called {name = name} {c = c} {d = d} {o = Stops kind rest} f e r) =
     viable_after SomeArguments (SomeOf zero) (name_at name c ∷ sign_at OpenParenthesis d ∷ [])

@@ -8,7 +8,7 @@ use Rattle.cell_calc_tokens.specs.declared.token.Placed.{Placed}
 use Rattle.cell_calc_tokens.specs.declared.token.Sign.TheVariants.{Plus, Minus, Exclamation, Question, Colon, OpenParenthesis, CloseParenthesis, OpenBracket, CloseBracket, Comma}
 use Rattle.cell_calc_tokens.specs.Function.{function_of, accepts}
 use Rattle.cell_calc_tokens.specs.Operator.{operator_of, level_of, top}
-use Rattle.cell_calc_grammar.specs.Term.{Term, Number, Map, Negated, Not, Binary, Call, Terms, NoTerms, Then, count}
+use Rattle.cell_calc_grammar.specs.Term.{Term, Number, Map, Negated, Not, Binary, Call, Terms, NoTrees, Then, count, map_name}
 use Rattle.cell_calc_tokens.specs.Token.{token_number_at, name_at, sign_at}
 
 -- off = NUMBER | "-" NUMBER | "+" NUMBER, where the number is at most 255
@@ -26,9 +26,9 @@ mutual
   -- level 0 has operands alone; each further level has one of the level below, or one of its own, its operator and one of the level below
   pub data Stands : ℕ → List Placed → Term → Type 0 where
     number : {n c : ℕ} → Stands zero (token_number_at n c ∷ []) (Number n)
-    map : {name : List ℕ} {c : ℕ} → Stands zero (name_at name c ∷ []) (Map name (pos 0) (pos 0) c)
+    map : {name : List ℕ} {c : ℕ} → Stands zero (name_at name c ∷ []) (Map (map_name name c) (pos 0) (pos 0))
     moved : {name : List ℕ} {c d : ℕ} {ts : List Placed} {down right : ℤ} → AreOffsets ts down right
-        → Stands zero (name_at name c ∷ sign_at OpenBracket d ∷ ts) (Map name down right c)
+        → Stands zero (name_at name c ∷ sign_at OpenBracket d ∷ ts) (Map (map_name name c) down right)
     called : {name : List ℕ} {c d : ℕ} {ts : List Placed} {xs : Terms} (f : Function)
         → function_of name ≡ Some f → accepts f (count xs) ≡ true → AreCalled ts xs
         → Stands zero (name_at name c ∷ sign_at OpenParenthesis d ∷ ts) (Call f xs)
@@ -45,16 +45,16 @@ mutual
   pub data IsExpression : List Placed → Term → Type 0 where
     plain : {ts : List Placed} {a : Term} → Stands top ts a → IsExpression ts a
     choice : {ts us vs : List Placed} {x a b : Term} (c d : ℕ) → Stands top ts x → IsExpression us a → IsExpression vs b
-        → IsExpression (ts ++ sign_at Question c ∷ (us ++ sign_at Colon d ∷ vs)) (Call If (Then x (Then a (Then b NoTerms))))
+        → IsExpression (ts ++ sign_at Question c ∷ (us ++ sign_at Colon d ∷ vs)) (Call If (Then x (Then a (Then b NoTrees))))
 
   -- what follows the opening parenthesis of a call, with the closing one
   pub data AreCalled : List Placed → Terms → Type 0 where
-    none : {c : ℕ} → AreCalled (sign_at CloseParenthesis c ∷ []) NoTerms
+    none : {c : ℕ} → AreCalled (sign_at CloseParenthesis c ∷ []) NoTrees
     some : {ts : List Placed} {xs : Terms} → AreArguments ts xs → AreCalled ts xs
 
   -- one argument or more, with the closing parenthesis
   pub data AreArguments : List Placed → Terms → Type 0 where
     last : {ts : List Placed} {a : Term} (c : ℕ) → IsExpression ts a
-        → AreArguments (ts ++ sign_at CloseParenthesis c ∷ []) (Then a NoTerms)
+        → AreArguments (ts ++ sign_at CloseParenthesis c ∷ []) (Then a NoTrees)
     another : {ts us : List Placed} {a : Term} {xs : Terms} (c : ℕ) → IsExpression ts a → AreArguments us xs
         → AreArguments (ts ++ sign_at Comma c ∷ us) (Then a xs)

@@ -4,3 +4,4 @@ pub mod TokensRead
 pub mod ReadingLaw
 pub mod Shape
 pub mod Term
+pub mod Tree

@@ -13,7 +13,7 @@ use Rattle.cell_calc_tokens.specs.declared.token.Token.{Token}
 use Rattle.cell_calc_tokens.specs.declared.token.Token.TheVariants as token
 use Rattle.cell_calc_tokens.specs.Function.{function_of, accepts}
 use Rattle.cell_calc_tokens.specs.Operator.{operator_of, level_of, top}
-use Rattle.cell_calc_grammar.specs.Term.{Term, Number, Map, Negated, Not, Binary, Call, Terms, NoTerms, Then, count}
+use Rattle.cell_calc_grammar.specs.Term.{Term, Number, Map, Negated, Not, Binary, Call, Terms, NoTrees, Then, count, map_name}
 use Rattle.cell_calc_tokens.specs.Token.{token_number_at, name_at, sign_at, head}
 
 -- the tokens after the first
@@ -156,13 +156,13 @@ join op a (Stops kind rest) = Stops kind rest
 
 -- after a condition, what is chosen where it holds, and the colon
 abbrev pub choose : Term → Term → Outcome → Outcome
-choose x a (Got b rest) = Got (Call If (Then x (Then a (Then b NoTerms)))) rest
+choose x a (Got b rest) = Got (Call If (Then x (Then a (Then b NoTrees)))) rest
 choose x a (GotAll xs rest) = Stops Expected rest
 choose x a (Stops kind rest) = Stops kind rest
 
 -- a map with its offsets
 abbrev pub move : List ℕ → ℕ → PartOfExpression (ℤ × ℤ) → Outcome
-move name c (Ok x) = Got (Map name x.0.0 x.0.1 c) x.1
+move name c (Ok x) = Got (Map (map_name name c) x.0.0 x.0.1) x.1
 move name c (Err e) = Stops e.0 e.1
 
 -- a call that begins there, if its function takes so many arguments
@@ -184,7 +184,7 @@ add a (Stops kind rest) = Stops kind rest
 -- one rule for each step: what is read of a state
 pub data GrammarReads : State → Outcome → Type 0 where
   number : {n c : ℕ} {ts : List Placed} → GrammarReads (Operand (token_number_at n c ∷ ts)) (Got (Number n) ts)
-  map : {name : List ℕ} {c : ℕ} {ts : List Placed} → IsAlone (head ts) → GrammarReads (Operand (name_at name c ∷ ts)) (Got (Map name (pos 0) (pos 0) c) ts)
+  map : {name : List ℕ} {c : ℕ} {ts : List Placed} → IsAlone (head ts) → GrammarReads (Operand (name_at name c ∷ ts)) (Got (Map (map_name name c) (pos 0) (pos 0)) ts)
   moved : {name : List ℕ} {c d : ℕ} {ts : List Placed} → GrammarReads (Operand (name_at name c ∷ sign_at OpenBracket d ∷ ts)) (move name c (offsets ts))
   unknown : {name : List ℕ} {c d : ℕ} {ts : List Placed} → function_of name ≡ None
       → GrammarReads (Operand (name_at name c ∷ sign_at OpenParenthesis d ∷ ts)) (Stops UnknownFunction (name_at name c ∷ sign_at OpenParenthesis d ∷ ts))
@@ -208,10 +208,10 @@ pub data GrammarReads : State → Outcome → Type 0 where
   no_colon : {x a : Term} {ts : List Placed} → IsNot Colon (head ts) → GrammarReads (AfterQuestion x (Got a ts)) (Stops Expected ts)
   otherwise : {c : ℕ} {x a : Term} {ts : List Placed} {o : Outcome} → GrammarReads (Expression ts) o
       → GrammarReads (AfterQuestion x (Got a (sign_at Colon c ∷ ts))) (choose x a o)
-  none : {c : ℕ} {ts : List Placed} → GrammarReads (Called (sign_at CloseParenthesis c ∷ ts)) (GotAll NoTerms ts)
+  none : {c : ℕ} {ts : List Placed} → GrammarReads (Called (sign_at CloseParenthesis c ∷ ts)) (GotAll NoTrees ts)
   some : {ts : List Placed} {o : Outcome} → IsNot CloseParenthesis (head ts) → GrammarReads (Arguments ts) o → GrammarReads (Called ts) o
   arguments : {ts : List Placed} {o p : Outcome} → GrammarReads (Expression ts) o → GrammarReads (Onward o) p → GrammarReads (Arguments ts) p
   halted : {kind : CalcKind} {ts : List Placed} → GrammarReads (Onward (Stops kind ts)) (Stops kind ts)
-  last : {c : ℕ} {a : Term} {ts : List Placed} → GrammarReads (Onward (Got a (sign_at CloseParenthesis c ∷ ts))) (GotAll (Then a NoTerms) ts)
+  last : {c : ℕ} {a : Term} {ts : List Placed} → GrammarReads (Onward (Got a (sign_at CloseParenthesis c ∷ ts))) (GotAll (Then a NoTrees) ts)
   another : {c : ℕ} {a : Term} {ts : List Placed} {o : Outcome} → GrammarReads (Arguments ts) o → GrammarReads (Onward (Got a (sign_at Comma c ∷ ts))) (add a o)
   unended : {a : Term} {ts : List Placed} → IsNot CloseParenthesis (head ts) → IsNot Comma (head ts) → GrammarReads (Onward (Got a ts)) (Stops Expected ts)

@@ -20,6 +20,7 @@ use Rattle.cell_calc_language.specs.GrammarFault.{IsOffsetSign, IsBeforeNumber, 
 use Rattle.cell_calc_grammar.specs.TokensRead.{Outcome, Got, Stops, Expression, IsNot, GrammarReads, tail}
 use Rattle.cell_calc_grammar.specs.Shape.{shape_of, shape}
 use Rattle.cell_calc_language.specs.Stopping.{ParserStopsAt, FollowsSign, fault_of_stop}
+use Rattle.cell_calc_grammar.specs.Tree.{Tree}
 use Rattle.cell_calc_grammar.specs.Term.{Term}
 use Rattle.cell_calc_tokens.specs.Token.{token_number_at, name_at, sign_at, head}
 use Rattle.cell_calc_tokens.specs.Tokens.{token_fault, token_list}
@@ -74,12 +75,12 @@ expression_goes_on name c d ts us after e (a, h) =
     let x : Assignment = record { target = name; expr = a } in
     (name_at name c ∷ sign_at Assign d ∷ us, after, x, ap (λ l. token.Name [] ∷ token.Sign Assign ∷ l) e, (c, d, us ++ after, refl, h))
 
-zero_expression : IsExpression (token_number_at 0 0 ∷ []) (Term.Number 0)
-zero_expression = grammar.IsExpression.plain (raise 0 6 (token_number_at 0 0 ∷ []) (Term.Number 0) (omega arith) grammar.number)
+zero_expression : IsExpression (token_number_at 0 0 ∷ []) (Tree.Number 0)
+zero_expression = grammar.IsExpression.plain (raise 0 6 (token_number_at 0 0 ∷ []) (Tree.Number 0) (omega arith) grammar.number)
 
 name_goes_on : (name : List ℕ) (c : ℕ) → CanGoOn (name_at name c ∷ [])
 name_goes_on name c =
-    can_before (name_at name c ∷ []) (sign_at Assign 0 ∷ []) (expression_goes_on name c 0 [] [] (token_number_at 0 0 ∷ []) refl (Term.Number 0, zero_expression))
+    can_before (name_at name c ∷ []) (sign_at Assign 0 ∷ []) (expression_goes_on name c 0 [] [] (token_number_at 0 0 ∷ []) refl (Tree.Number 0, zero_expression))
 
 nothing_goes_on : CanGoOn []
 nothing_goes_on = can_before [] (name_at [] 0 ∷ []) (name_goes_on [] 0)

@@ -12,8 +12,9 @@ use Rattle.cell_calc_language.specs.declared.token_parsing.Stop.{Stop}
 use Rattle.cell_calc_language.specs.declared.token_parsing.Stop.TheVariants.{Memory, At}
 use Rattle.cell_calc_language.specs.declared.expression_reader.Frame.{Frame}
 use Rattle.cell_calc_language.specs.declared.expression_reader.Frame.TheVariants as frame
-use Rattle.cell_calc_steps.specs.declared.named.Step.{Step}
-use Rattle.cell_calc_steps.specs.declared.named.Step.TheVariants as step
+use Rattle.cell_calc_grammar.specs.declared.map_name.MapName.{MapName}
+use Rattle.cell_calc_steps.specs.declared.step.Step.{Step}
+use Rattle.cell_calc_steps.specs.declared.step.Step.TheVariants as step
 use Rattle.cell_calc_tokens.specs.declared.token.Placed.{Placed}
 use Rattle.cell_calc_tokens.specs.declared.token.Sign.{Sign}
 use Rattle.cell_calc_tokens.specs.declared.token.Sign.TheVariants.{Minus, Exclamation, Question, Colon, OpenParenthesis, CloseParenthesis, OpenBracket, Comma}
@@ -21,15 +22,15 @@ use Rattle.cell_calc_tokens.specs.declared.token.Token.{Token}
 use Rattle.cell_calc_tokens.specs.declared.token.Token.TheVariants as token
 use Rattle.cell_calc_tokens.specs.Function.{function_of, accepts}
 use Rattle.cell_calc_tokens.specs.Operator.{level_of}
-use Rattle.cell_calc_language.specs.Postfix.{postfix, postfix_all}
+use Rattle.cell_calc_steps.specs.Postfix.{postfix, postfix_all}
 use Rattle.cell_calc_grammar.specs.TokensRead as reading
 use Rattle.cell_calc_grammar.specs.TokensRead.{PartOfExpression, tail, Outcome, Got, GotAll, Stops, State, Operand, More, Expression, Choice, AfterQuestion, Called, Onward, next, GoesOn, IsNot, BeginsNone, negate, invert, after_bracket, close, join, choose, move, call_judged, call, add, GrammarReads, nothing, whole, stopped, done, expression, unread, unchosen, unasked, no_colon, otherwise, arguments, halted, unended}
 use Rattle.cell_calc_language.specs.Stopping.{ParserStopsAt, IsPartStop, FollowsSign, IsCallOf}
-use Rattle.cell_calc_grammar.specs.Term.{Term, Number, Map, Negated, Not, Binary, Call, Terms, NoTerms, Then, count}
+use Rattle.cell_calc_grammar.specs.Term.{Term, Number, Map, Negated, Not, Binary, Call, Terms, NoTrees, Then, count, map_name}
 use Rattle.cell_calc_tokens.specs.Token.{token_number_at, name_at, sign_at, head}
-use Rattle.cell_calc_language.specs.parts.Built.{built}
+use Rattle.cell_calc_steps.specs.Postfix.{tree_of}
 use Rattle.cell_calc_language.specs.parts.Waiting.{add_all, Fills, Awaits, IsReadExpression, latest_first}
-use Rattle.cell_calc_language.proofs.PostfixLemmas.{are_of_built}
+use Rattle.cell_calc_steps.proofs.PostfixLemmas.{are_of_tree}
 use Rattle.cell_calc_grammar.proofs.Sound.{front_is}
 
 -- a sign at the front, as it stands there
@@ -56,11 +57,11 @@ begins_none OpenParenthesis n m o = o refl
 begins_none _ n m o = tt
 
 add_all_stops : (xs : Terms) (kind : CalcKind) (ts : List Placed) → add_all xs (Stops kind ts) ≡ Stops kind ts
-add_all_stops NoTerms kind ts = refl
+add_all_stops NoTrees kind ts = refl
 add_all_stops (Then a xs) kind ts = ap (add a) (add_all_stops xs kind ts)
 
 -- a fault goes through whatever waits
-stops : (s : State) (fs : List Frame) (steps : List Step) (kind : CalcKind) (ts : List Placed) → Fills s fs steps (Stops kind ts) → GrammarReads s (Stops kind ts)
+stops : (s : State) (fs : List Frame) (steps : List (Step MapName)) (kind : CalcKind) (ts : List Placed) → Fills s fs steps (Stops kind ts) → GrammarReads s (Stops kind ts)
 stops s [] steps kind ts h = h.1
 stops s (frame.Negated ∷ fs) steps kind ts h = stops s fs steps kind ts h
 stops s (frame.Not ∷ fs) steps kind ts h = stops s fs steps kind ts h
@@ -74,7 +75,7 @@ stops s (frame.Call f from n ∷ fs) steps kind ts h =
     stops s fs h.1 kind ts (subst (λ o. Fills s fs h.1 (call f from.now o)) (add_all_stops h.0 kind ts) (h.4 (Stops kind ts) halted))
 
 -- where an operand or an expression is to be read
-module _ (s : State) (fs : List Frame) (steps : List Step) (ts : List Placed) where
+module _ (s : State) (fs : List Frame) (steps : List (Step MapName)) (ts : List Placed) where
   stops_at : (kind : CalcKind) (us : List Placed) → Awaits s fs steps (Operand ts) → GrammarReads (Operand ts) (Stops kind us) → GrammarReads s (Stops kind us)
   stops_at kind us h r = stops s fs steps kind us (h (Stops kind us) r)
 
@@ -105,20 +106,20 @@ module _ (s : State) (fs : List Frame) (steps : List Step) (ts : List Placed) wh
   no_operand sign h e n m o = stops_at Expected ts h (nothing (subst BeginsNone (sym e) (begins_none sign n m o)))
 
 -- after a map's name
-module _ (s : State) (fs : List Frame) (steps : List Step) (name copy : List ℕ) (c : ℕ) (ts : List Placed) where
-  pub map_alone : Awaits s fs steps (Operand (name_at name c ∷ ts)) → copy ≡ name → IsNot OpenParenthesis (head ts) → IsNot OpenBracket (head ts) → IsReadExpression s fs (steps ++ step.Map copy (pos 0) (pos 0) c ∷ []) ts
-  map_alone h e n m = operand_read s fs steps (name_at name c ∷ ts) (Map copy (pos 0) (pos 0) c) ts h (rw e (reading.map (n, m)))
+module _ (s : State) (fs : List Frame) (steps : List (Step MapName)) (name copy : List ℕ) (c : ℕ) (ts : List Placed) where
+  pub map_alone : Awaits s fs steps (Operand (name_at name c ∷ ts)) → copy ≡ name → IsNot OpenParenthesis (head ts) → IsNot OpenBracket (head ts) → IsReadExpression s fs (steps ++ step.Map (map_name copy c) (pos 0) (pos 0) ∷ []) ts
+  map_alone h e n m = operand_read s fs steps (name_at name c ∷ ts) (Map (map_name copy c) (pos 0) (pos 0)) ts h (rw e (reading.map (n, m)))
 
   pub map_moved : (us rest : List Placed) (down right : ℤ) → Awaits s fs steps (Operand (name_at name c ∷ ts)) → copy ≡ name → FollowsSign OpenBracket ts us → reading.offsets us ≡ Ok ((down, right), rest)
-      → IsReadExpression s fs (steps ++ step.Map copy down right c ∷ []) rest
-  map_moved us rest down right h e a p = operand_read s fs steps (name_at name c ∷ ts) (Map copy down right c) rest h (rw e (map_reads name c ts us a (Ok ((down, right), rest)) p))
+      → IsReadExpression s fs (steps ++ step.Map (map_name copy c) down right ∷ []) rest
+  map_moved us rest down right h e a p = operand_read s fs steps (name_at name c ∷ ts) (Map (map_name copy c) down right) rest h (rw e (map_reads name c ts us a (Ok ((down, right), rest)) p))
 
   pub map_stops : (us : List Placed) (e : Stop) → Awaits s fs steps (Operand (name_at name c ∷ ts)) → FollowsSign OpenBracket ts us → IsPartStop (reading.offsets us) e → ParserStopsAt s e
   map_stops us Memory h a p = tt
   map_stops us (At kind rest) h a p = stops_at s fs steps (name_at name c ∷ ts) kind rest.now h (map_reads name c ts us a (Err (kind, rest.now)) p)
 
 -- after a call's name and the opening parenthesis
-module _ (s : State) (fs : List Frame) (steps : List Step) (name : List ℕ) (from : Bor (List Placed)) (us : List Placed) (h : Awaits s fs steps (Operand from.now)) (a : IsCallOf name from.now us) where
+module _ (s : State) (fs : List Frame) (steps : List (Step MapName)) (name : List ℕ) (from : Bor (List Placed)) (us : List Placed) (h : Awaits s fs steps (Operand from.now)) (a : IsCallOf name from.now us) where
   pub unknown_call : function_of name ≡ None → GrammarReads s (Stops UnknownFunction from.now)
   unknown_call e = stops_at s fs steps from.now UnknownFunction from.now h (subst (λ l. GrammarReads (Operand l) (Stops UnknownFunction l)) (sym (call_is name from.now us a).2) (reading.unknown e))
 
@@ -126,19 +127,19 @@ module _ (s : State) (fs : List Frame) (steps : List Step) (name : List ℕ) (fr
   call_reads f o e r = subst (λ l. GrammarReads (Operand l) (call f l o)) (sym (call_is name from.now us a).2) (reading.called f e r)
 
   -- without arguments
-  judged_empty : (f : Function) (rest : List Placed) (b : Bool) → function_of name ≡ Some f → FollowsSign CloseParenthesis us rest → accepts f 0 ≡ b → GrammarReads (Operand from.now) (call_judged b f NoTerms from.now rest)
+  judged_empty : (f : Function) (rest : List Placed) (b : Bool) → function_of name ≡ Some f → FollowsSign CloseParenthesis us rest → accepts f 0 ≡ b → GrammarReads (Operand from.now) (call_judged b f NoTrees from.now rest)
   judged_empty f rest b e d g =
-      subst (λ x. GrammarReads (Operand from.now) (call_judged x f NoTerms from.now rest)) g
-      (call_reads f (GotAll NoTerms rest) e (subst (λ l. GrammarReads (Called l) (GotAll NoTerms rest)) (sym (after_is CloseParenthesis us rest d).1) reading.none))
+      subst (λ x. GrammarReads (Operand from.now) (call_judged x f NoTrees from.now rest)) g
+      (call_reads f (GotAll NoTrees rest) e (subst (λ l. GrammarReads (Called l) (GotAll NoTrees rest)) (sym (after_is CloseParenthesis us rest d).1) reading.none))
 
   pub empty_call : (f : Function) (rest : List Placed) → function_of name ≡ Some f → FollowsSign CloseParenthesis us rest → accepts f 0 ≡ true → IsReadExpression s fs (steps ++ step.Call f 0 ∷ []) rest
-  empty_call f rest e d g = operand_read s fs steps from.now (Call f NoTerms) rest h (judged_empty f rest true e d g)
+  empty_call f rest e d g = operand_read s fs steps from.now (Call f NoTrees) rest h (judged_empty f rest true e d g)
 
   pub refused_empty : (f : Function) (rest : List Placed) → function_of name ≡ Some f → FollowsSign CloseParenthesis us rest → accepts f 0 ≡ false → GrammarReads s (Stops BadArguments from.now)
   refused_empty f rest e d g = stops_at s fs steps from.now BadArguments from.now h (judged_empty f rest false e d g)
 
   pub first_argument : (f : Function) → function_of name ≡ Some f → IsNot CloseParenthesis (head us) → Awaits s (frame.Call f from 0 ∷ fs) steps (Expression us)
-  first_argument f e n = λ o r. (NoTerms, steps, sym (append-nil steps), refl, λ p m. h (call f from.now p) (call_reads f p e (reading.some n (arguments r m))))
+  first_argument f e n = λ o r. (NoTrees, steps, sym (append-nil steps), refl, λ p m. h (call f from.now p) (call_reads f p e (reading.some n (arguments r m))))
 
 more_reads : (k : ℕ) (ts : List Placed) (a : Term) (op : Operator) (rest : List Placed) (o p : Outcome) → GoesOn k ts op rest → GrammarReads (reading.Whole (level_of op) rest) o → GrammarReads (More k (join op a o)) p → GrammarReads (More k (Got a ts)) p
 more_reads k [] a op rest o p g r m = let h : ⊥ = cc (g.1) in absurd h
@@ -149,7 +150,7 @@ not_closed (Some (token.Sign CloseParenthesis)) a ts n = absurd (n refl)
 not_closed _ a ts n = refl
 
 -- after an operand, or more
-module _ (s : State) (fs : List Frame) (steps : List Step) (ts : List Placed) where
+module _ (s : State) (fs : List Frame) (steps : List (Step MapName)) (ts : List Placed) where
   pub negated : IsReadExpression s (frame.Negated ∷ fs) steps ts → IsReadExpression s fs (steps ++ step.Negated ∷ []) ts
   negated h = (Negated h.0, h.1, ap (λ l. l ++ step.Negated ∷ []) h.2 ∙ append_assoc h.1 (postfix h.0) (step.Negated ∷ []), h.3)
 
@@ -164,7 +165,7 @@ module _ (s : State) (fs : List Frame) (steps : List Step) (ts : List Placed) wh
   pub chosen : IsReadExpression s (frame.AfterColon ∷ fs) steps ts → IsReadExpression s fs (steps ++ step.Call If 3 ∷ []) ts
   chosen h =
       let f = h.3 in
-      (Call If (Then f.0 (Then f.1 (Then h.0 NoTerms))), f.2, ap (λ l. l ++ step.Call If 3 ∷ []) (h.2 ∙ ap (λ l. l ++ postfix h.0) f.3) ∙ simp (append_assoc, append-nil), f.4)
+      (Call If (Then f.0 (Then f.1 (Then h.0 NoTrees))), f.2, ap (λ l. l ++ step.Call If 3 ∷ []) (h.2 ∙ ap (λ l. l ++ postfix h.0) f.3) ∙ simp (append_assoc, append-nil), f.4)
 
   pub no_more : (k : ℕ) → IsReadExpression s (frame.Level k ∷ fs) steps ts → next k ts ≡ None → IsReadExpression s fs steps ts
   no_more k h e = (h.0, h.1, h.2, h.3 (Got h.0 ts) (done e))
@@ -196,31 +197,31 @@ module _ (s : State) (fs : List Frame) (steps : List Step) (ts : List Placed) wh
 
 -- arguments, and a last one
 with_last : Terms → Term → Terms
-with_last NoTerms b = Then b NoTerms
+with_last NoTrees b = Then b NoTrees
 with_last (Then a xs) b = Then a (with_last xs b)
 
 count_with_last : (xs : Terms) (b : Term) → count (with_last xs b) ≡ suc (count xs)
 unfolding with_last
-count_with_last NoTerms b = refl
+count_with_last NoTrees b = refl
 count_with_last (Then a xs) b = ap suc (count_with_last xs b)
 
 postfix_with_last : (xs : Terms) (b : Term) → postfix_all (with_last xs b) ≡ postfix_all xs ++ postfix b
 unfolding with_last
-postfix_with_last NoTerms b = append-nil (postfix b)
+postfix_with_last NoTrees b = append-nil (postfix b)
 postfix_with_last (Then a xs) b = ap (λ l. postfix a ++ l) (postfix_with_last xs b) ∙ sym (append_assoc (postfix a) (postfix_all xs) (postfix b))
 
 add_with_last : (xs : Terms) (b : Term) (o : Outcome) → add_all xs (add b o) ≡ add_all (with_last xs b) o
 unfolding with_last
-add_with_last NoTerms b o = refl
+add_with_last NoTrees b o = refl
 add_with_last (Then a xs) b o = ap (add a) (add_with_last xs b o)
 
-add_all_last : (xs : Terms) (b : Term) (us : List Placed) → add_all xs (GotAll (Then b NoTerms) us) ≡ GotAll (with_last xs b) us
+add_all_last : (xs : Terms) (b : Term) (us : List Placed) → add_all xs (GotAll (Then b NoTrees) us) ≡ GotAll (with_last xs b) us
 unfolding with_last
-add_all_last NoTerms b us = refl
+add_all_last NoTrees b us = refl
 add_all_last (Then a xs) b us = ap (add a) (add_all_last xs b us)
 
 -- after an argument of a call
-module _ (s : State) (fs : List Frame) (steps : List Step) (ts : List Placed) (f : Function) (from : Bor (List Placed)) (n m : ℕ) (e : m ≡ n + 1) (h : IsReadExpression s (frame.Call f from n ∷ fs) steps ts) where
+module _ (s : State) (fs : List Frame) (steps : List (Step MapName)) (ts : List Placed) (f : Function) (from : Bor (List Placed)) (n m : ℕ) (e : m ≡ n + 1) (h : IsReadExpression s (frame.Call f from n ∷ fs) steps ts) where
   all : Terms
   all = with_last h.3.0 h.0
 
@@ -251,7 +252,7 @@ module _ (s : State) (fs : List Frame) (steps : List Step) (ts : List Placed) (f
   judged_call us b a g =
       subst (λ x. Fills s fs h.3.1 (call_judged x f all from.now us)) (ap (accepts f) counted ∙ g)
       (subst (λ x. Fills s fs h.3.1 (call f from.now x)) (add_all_last h.3.0 h.0 us)
-      (h.3.4 (GotAll (Then h.0 NoTerms) us) (subst (λ l. GrammarReads (Onward (Got h.0 l)) (GotAll (Then h.0 NoTerms) us)) (sym (after_is CloseParenthesis ts us a).1) reading.last)))
+      (h.3.4 (GotAll (Then h.0 NoTrees) us) (subst (λ l. GrammarReads (Onward (Got h.0 l)) (GotAll (Then h.0 NoTrees) us)) (sym (after_is CloseParenthesis ts us a).1) reading.last)))
 
   pub refused_call : (us : List Placed) → FollowsSign CloseParenthesis ts us → accepts f m ≡ false → GrammarReads s (Stops BadArguments from.now)
   refused_call us a g = stops s fs h.3.1 BadArguments from.now (judged_call us false a g)
@@ -265,19 +266,19 @@ module _ (s : State) (fs : List Frame) (steps : List Step) (ts : List Placed) (f
   )
 
 -- at the beginning nothing waits
-pub begins : (fs : List Frame) (steps : List Step) (ts : List Placed) → fs ≡ [] → steps ≡ [] → Awaits (Expression ts) (latest_first fs) steps (Expression ts)
+pub begins : (fs : List Frame) (steps : List (Step MapName)) (ts : List Placed) → fs ≡ [] → steps ≡ [] → Awaits (Expression ts) (latest_first fs) steps (Expression ts)
 begins fs steps ts e g = λ o r. rw (e, g) (refl, r)
 
 -- the latest of the frames goes on
-pub resumes : (s : State) (fs gs : List Frame) (f : Frame) (steps : List Step) (ts : List Placed) → fs ≡ gs ++ f ∷ [] → IsReadExpression s (latest_first fs) steps ts → IsReadExpression s (f ∷ latest_first gs) steps ts
+pub resumes : (s : State) (fs gs : List Frame) (f : Frame) (steps : List (Step MapName)) (ts : List Placed) → fs ≡ gs ++ f ∷ [] → IsReadExpression s (latest_first fs) steps ts → IsReadExpression s (f ∷ latest_first gs) steps ts
 resumes s fs gs f steps ts e h = subst (λ l. IsReadExpression s l steps ts) (ap latest_first e ∙ reverse-append gs (f ∷ [])) h
 
 -- at the end nothing waits
-pub ends : (s : State) (frames : Vec Frame Global) (steps : List Step) (ts : List Placed) → vec_len frames ≡ 0 → IsReadExpression s (latest_first frames.items) steps ts
-    → (GrammarReads s (Got (built steps) ts)) × (steps ≡ postfix (built steps))
+pub ends : (s : State) (frames : Vec Frame Global) (steps : List (Step MapName)) (ts : List Placed) → vec_len frames ≡ 0 → IsReadExpression s (latest_first frames.items) steps ts
+    → (GrammarReads s (Got (tree_of steps) ts)) × (steps ≡ postfix (tree_of steps))
 ends s frames steps ts e h =
     let len = frames.ok.0 in
     let none : frames.items ≡ [] = nil_from_length frames.items (omega arith) in
     let g = subst (λ l. IsReadExpression s (latest_first l) steps ts) none h in
-    let b = are_of_built g.0 steps (g.2 ∙ ap (λ l. l ++ postfix g.0) g.3.0) in
+    let b = are_of_tree g.0 steps (g.2 ∙ ap (λ l. l ++ postfix g.0) g.3.0) in
     (subst (λ a. GrammarReads s (Got a ts)) (sym b.0) g.3.1, b.1)

@@ -1,7 +1,9 @@
 -- What holds of each expression of the grammar (offsets, numbers of arguments: r.mapcalc manual; their limits: profile).
-use Rattle.std.specs.Prelude.{◌≤◌, IsTrue, ℕ, zero, suc, ℤ, pos, negsuc}
+use Rattle.std.specs.Prelude.{◌≡◌, ◌≤◌, IsTrue, List, ℕ, zero, suc, ℤ, pos, negsuc}
 use Rattle.cell_calc_tokens.specs.Function.{accepts}
-use Rattle.cell_calc_grammar.specs.Term.{Term, Number, Map, Negated, Not, Binary, Call, Terms, NoTerms, Then, count}
+use Rattle.cell_calc_grammar.specs.Tree.{Tree, Number, Map, Negated, Not, Binary, Call, Trees, NoTrees, Then, count}
+use Rattle.cell_calc_steps.specs.declared.step.Step.{Step}
+use Rattle.cell_calc_steps.specs.Postfix.{postfix, tree_of}
 
 -- the rows up, or columns to the left, that an offset asks for
 abbrev pub up_by : ℤ → ℕ
@@ -15,15 +17,19 @@ down_by (negsuc n) = zero
 
 abbrev mutual
   -- numbers are categories, offsets are at most 255, and a function takes so many arguments
-  pub IsGrammatical : Term → Type 0
+  pub IsGrammatical : {L : Type 0} → Tree L → Type 0
   IsGrammatical (Number n) = n ≤ 2147483647
-  IsGrammatical (Map name down right c) = (up_by down ≤ 255) × ((down_by down ≤ 255) × ((up_by right ≤ 255) × (down_by right ≤ 255)))
+  IsGrammatical (Map leaf down right) = (up_by down ≤ 255) × ((down_by down ≤ 255) × ((up_by right ≤ 255) × (down_by right ≤ 255)))
   IsGrammatical (Negated a) = IsGrammatical a
   IsGrammatical (Not a) = IsGrammatical a
   IsGrammatical (Binary op a b) = IsGrammatical a × IsGrammatical b
   IsGrammatical (Call f xs) = IsTrue (accepts f (count xs)) × AreGrammatical xs
 
   -- each of the arguments is grammatical
-  pub AreGrammatical : Terms → Type 0
-  AreGrammatical NoTerms = Unit {0}
+  pub AreGrammatical : {L : Type 0} → Trees L → Type 0
+  AreGrammatical NoTrees = Unit {0}
   AreGrammatical (Then a xs) = IsGrammatical a × AreGrammatical xs
+
+-- the steps are those of an expression
+abbrev pub AreOfExpression : {L : Type 0} → List (Step L) → Type 0
+AreOfExpression steps = (steps ≡ postfix (tree_of steps)) × IsGrammatical (tree_of steps)

@@ -1,7 +1,9 @@
 -- The first map name of an expression, by place in the text, that is not among some names (profile).
-use Rattle.std.specs.Prelude.{ℕ, List, Option, Some, None}
+use Rattle.std.specs.Prelude.{ℕ, ℤ, List, Option, Some, None}
 use Rattle.cell_core_values.specs.Name.{place_of}
-use Rattle.cell_calc_grammar.specs.Term.{Term, Number, Map, Negated, Not, Binary, Call, Terms, NoTerms, Then}
+use Rattle.cell_calc_grammar.specs.declared.map_name.MapName.{MapName}
+use Rattle.cell_calc_grammar.specs.Tree.{fold_maps}
+use Rattle.cell_calc_grammar.specs.Term.{Term}
 
 -- the first of two columns
 abbrev pub first_column : Option ℕ → Option ℕ → Option ℕ
@@ -13,16 +15,10 @@ abbrev pub unplaced : Option ℕ → ℕ → Option ℕ
 unplaced None c = Some c
 unplaced (Some i) c = None
 
-abbrev mutual
-  -- the column of the first map name that is not among the names
-  pub first_unknown : List (List ℕ) → Term → Option ℕ
-  first_unknown names (Number n) = None
-  first_unknown names (Map name down right c) = unplaced (place_of name names) c
-  first_unknown names (Negated a) = first_unknown names a
-  first_unknown names (Not a) = first_unknown names a
-  first_unknown names (Binary op a b) = first_column (first_unknown names a) (first_unknown names b)
-  first_unknown names (Call f xs) = first_unknown_all names xs
+-- the column of a map name that is not among the names
+abbrev pub unknown_at : List (List ℕ) → MapName → ℤ → ℤ → Option ℕ
+unknown_at names m down right = unplaced (place_of m.name names) m.column
 
-  pub first_unknown_all : List (List ℕ) → Terms → Option ℕ
-  first_unknown_all names NoTerms = None
-  first_unknown_all names (Then a xs) = first_column (first_unknown names a) (first_unknown_all names xs)
+-- the column of the first map name that is not among the names
+abbrev pub first_unknown : List (List ℕ) → Term → Option ℕ
+first_unknown names e = fold_maps (unknown_at names) None first_column e

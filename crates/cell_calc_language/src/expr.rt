@@ -2,11 +2,12 @@
 
 ghost use Rattle.std.specs.Prelude.{◌≡◌};
 ghost use Rattle.cell_calc_language.specs.Grammatical.{IsGrammatical};
-ghost use Rattle.cell_calc_language.specs.Postfix.{postfix};
+ghost use Rattle.cell_calc_steps.specs.Postfix.{postfix};
 ghost use Rattle.cell_calc_language.specs.Unknown.{first_unknown};
 
 use crate::unknown::first_unplaced;
-use cell_calc_steps::named::Step;
+use cell_calc_grammar::map_name::MapName;
+use cell_calc_steps::step::Step;
 use cell_core_values::name::Names;
 use std::marker::Model;
 
@@ -14,19 +15,24 @@ use std::marker::Model;
 /// number of arguments that its function takes.
 #[derive(Drop)]
 pub struct Expr {
-    pub(crate) steps: Vec<Step>,
+    pub(crate) steps: Vec<Step<MapName>>,
 }
 
 impl Model for Expr {
-    ghost use Rattle.cell_calc_language.specs.TreeCode.{term_code};
+    ghost use Rattle.std.specs.Prelude.{List};
+    ghost use Rattle.std.specs.Coded.{code_by, codes};
+    ghost use Rattle.cell_calc_steps.specs.declared.step.Step.{Step};
+    ghost use Rattle.cell_calc_grammar.specs.declared.map_name.MapName.{MapName};
+    ghost use Rattle.cell_calc_steps.proofs.PostfixLemmas.{tree-postfix};
     ghost use Rattle.cell_calc_grammar.specs.Term.{Term};
-    ghost use Rattle.cell_calc_language.specs.parts.Built.{built, AreOfExpression};
+    ghost use Rattle.cell_calc_steps.specs.Postfix.{postfix, tree_of};
+    ghost use Rattle.cell_calc_language.specs.Grammatical.{AreOfExpression};
 
     ghost Value = { Term };
 
-    ghost coded = { term_code };
+    ghost coded = { code_by (List (Step MapName)) (Prim.hlevel codes) postfix tree_of tree-postfix };
 
-    ghost view = { λ e. built e.steps.items };
+    ghost view = { λ e. tree_of e.steps.items };
 
     ghost invariant = { λ e. AreOfExpression e.steps.items };
 }
@@ -40,7 +46,7 @@ impl Expr {
     }
 
     /// The steps of the expression in postfix order. Takes no memory.
-    pub fn steps(&self) -> &[Step]
+    pub fn steps(&self) -> &[Step<MapName>]
         ensures steps { result.now ≡ postfix self.now }
         ensures grammatical { IsGrammatical self.now }
     {

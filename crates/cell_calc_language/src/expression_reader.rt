@@ -4,15 +4,16 @@ ghost use Rattle.std.specs.Prelude.{◌≡◌, ◌<◌, ◌≤◌, ◌+◌, ◌*
 ghost use Rattle.cell_calc_language.specs.declared.token_parsing.Stop.TheVariants.{Memory};
 ghost use Rattle.cell_calc_language.specs.declared.expression_reader.Frame.TheVariants as frame;
 ghost use Rattle.cell_calc_tokens.specs.declared.token.Sign.TheVariants.{OpenParenthesis};
-ghost use Rattle.cell_calc_language.specs.Postfix.{postfix};
+ghost use Rattle.cell_calc_steps.specs.Postfix.{postfix};
 ghost use Rattle.cell_calc_grammar.specs.TokensRead.{State, Operand, Expression, Got, GrammarReads, IsNot};
 ghost use Rattle.cell_calc_language.specs.Stopping.{ParserStopsAt, FollowsSign, IsCallOf};
 ghost use Rattle.cell_calc_tokens.specs.Token.{head, name_at};
-ghost use Rattle.cell_calc_language.specs.parts.Built.{built};
+ghost use Rattle.cell_calc_steps.specs.Postfix.{tree_of};
 ghost use Rattle.cell_calc_language.specs.parts.Waiting.{IsAwaited, IsResumed, IsReadExpression, Goes, waiting, latest_first, turn_tokens, work};
 
 use crate::token_parsing::{Stop, after_sign, copied, first, next, offsets};
-use cell_calc_steps::named::Step;
+use cell_calc_grammar::map_name::MapName;
+use cell_calc_steps::step::Step;
 use cell_calc_tokens::calc_fault::CalcKind;
 use cell_calc_tokens::function::{Function, accepts, function_of};
 use cell_calc_tokens::operator::{Operator, TOP_LEVEL, level_of};
@@ -58,7 +59,7 @@ enum Turn<'a> {
 #[derive(Drop)]
 struct Reader<'a> {
     frames: Vec<Frame<'a>>,
-    steps: Vec<Step>,
+    steps: Vec<Step<MapName>>,
 }
 
 fn push<'a>(frames: &mut Vec<Frame<'a>>, frame: Frame<'a>) -> Result<(), Stop<'a>>
@@ -72,7 +73,7 @@ fn push<'a>(frames: &mut Vec<Frame<'a>>, frame: Frame<'a>) -> Result<(), Stop<'a
     }
 }
 
-fn put<'a>(steps: &mut Vec<Step>, step: Step) -> Result<(), Stop<'a>>
+fn put<'a>(steps: &mut Vec<Step<MapName>>, step: Step<MapName>) -> Result<(), Stop<'a>>
     ensures ok { IfOk result (λ _. steps.new.items ≡ steps.old.items ++ step ∷ []) }
     ensures err { IfErr result (λ e. e ≡ Memory) }
 {
@@ -94,7 +95,7 @@ impl<'a> Reader<'a> {
     }
 
     // What is being read ends with the step.
-    fn end(&mut self, step: Step, tokens: &'a [Placed]) -> Result<Turn<'a>, Stop<'a>>
+    fn end(&mut self, step: Step<MapName>, tokens: &'a [Placed]) -> Result<Turn<'a>, Stop<'a>>
         ensures goes { (s : State) → IsReadExpression s (waiting self.old) (self.old.steps.items ++ step ∷ []) tokens.now → Goes s self.new result }
         ensures lighter { IfOk result (λ turn. work (turn_tokens turn) self.new ≤ work tokens.now self.old) }
     {
@@ -160,22 +161,17 @@ impl<'a> Reader<'a> {
         ensures lighter { IfOk result (λ turn. work (turn_tokens turn) self.new ≤ work tokens.now self.old) }
     {
         let name = copied(alloc, name)?;
+        let leaf = MapName { name, column };
         let Some(after) = after_sign(Sign::OpenBracket, tokens) else {
             let map = Step::Map {
-                name,
+                leaf,
                 down: 0,
                 right: 0,
-                column,
             };
             return self.end(map, tokens);
         };
         let ((down, right), rest) = offsets(after)?;
-        let map = Step::Map {
-            name,
-            down,
-            right,
-            column,
-        };
+        let map = Step::Map { leaf, down, right };
         self.end(map, rest)
     }
 
@@ -318,9 +314,9 @@ impl<'a> Reader<'a> {
 pub(crate) fn expression<'a>(
     alloc: Global,
     tokens: &'a [Placed],
-) -> Result<(Vec<Step>, &'a [Placed]), Stop<'a>>
-    ensures ok { IfOk result (λ x. GrammarReads (Expression tokens.now) (Got (built x.0.items) x.1.now)) }
-    ensures steps { IfOk result (λ x. x.0.items ≡ postfix (built x.0.items)) }
+) -> Result<(Vec<Step<MapName>>, &'a [Placed]), Stop<'a>>
+    ensures ok { IfOk result (λ x. GrammarReads (Expression tokens.now) (Got (tree_of x.0.items) x.1.now)) }
+    ensures steps { IfOk result (λ x. x.0.items ≡ postfix (tree_of x.0.items)) }
     ensures err { IfErr result (λ e. ParserStopsAt (Expression tokens.now) e) }
 {
     let mut reader = Reader {

@@ -1,27 +1,29 @@
 //! Map names that are not known.
 
-ghost use Rattle.std.specs.Prelude.{◌≡◌};
-ghost use Rattle.cell_calc_language.specs.parts.Unplaced.{first_unplaced, unplaced_at};
+ghost use Rattle.std.specs.Prelude.{◌≡◌, None};
+ghost use Rattle.cell_calc_language.specs.Unknown.{unknown_at, first_column};
+ghost use Rattle.cell_calc_steps.specs.Postfix.{at_step, fold_steps};
 
-use cell_calc_steps::named::Step;
+use cell_calc_grammar::map_name::MapName;
+use cell_calc_steps::step::Step;
 use cell_core_values::name::Names;
 
 // The column of a map name that has no place among the names.
-fn unplaced(step: &Step, names: &Names) -> Option<u32>
-    ensures { result ≡ unplaced_at names.now step.now }
+fn unplaced(step: &Step<MapName>, names: &Names) -> Option<u32>
+    ensures { result ≡ at_step (unknown_at names.now) None step.now }
 {
-    let Step::Map { name, column, .. } = step else {
+    let Step::Map { leaf, .. } = step else {
         return None;
     };
-    match names.find(name.bytes()) {
+    match names.find(leaf.name.bytes()) {
         Some(_) => None,
-        None => Some(*column),
+        None => Some(leaf.column),
     }
 }
 
 /// The column of the first map name that has no place among the names.
-pub(crate) fn first_unplaced(steps: &[Step], names: &Names) -> Option<u32>
-    ensures { result ≡ first_unplaced names.now steps.now }
+pub(crate) fn first_unplaced(steps: &[Step<MapName>], names: &Names) -> Option<u32>
+    ensures { result ≡ fold_steps (unknown_at names.now) None first_column steps.now }
 {
     for step in steps {
         if let Some(column) = unplaced(step, names) {

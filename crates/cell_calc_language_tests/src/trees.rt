@@ -3,7 +3,8 @@
 use cell_calc_language::assignment::parse;
 use cell_calc_language::function::Function;
 use cell_calc_language::operator::Operator;
-use cell_calc_steps::named::Step;
+use cell_calc_grammar::map_name::MapName;
+use cell_calc_steps::step::Step;
 use std::alloc::Global;
 use std::test::Fail;
 
@@ -117,18 +118,16 @@ fn write_call(
 }
 
 // The tree that steps build, with a parenthesis for each operator.
-fn tree_of(alloc: Global, steps: &[Step]) -> Result<Vec<u8>, Fail> {
+fn tree_of(alloc: Global, steps: &[Step<MapName>]) -> Result<Vec<u8>, Fail> {
     let mut stack = Vec::new(alloc);
     for step in steps {
         let mut out = Vec::new(alloc);
         match step {
             Step::Number(n) => write_number(alloc, i64::from(*n), &mut out)?,
-            Step::Map {
-                name,
-                down,
-                right,
-                column,
-            } => write_map(alloc, name.bytes(), (*down, *right), *column, &mut out)?,
+            Step::Map { leaf, down, right } => {
+                let name = leaf.name.bytes();
+                write_map(alloc, name, (*down, *right), leaf.column, &mut out)?
+            }
             Step::Negated => write_unary(b'-', &mut stack, &mut out)?,
             Step::Not => write_unary(b'!', &mut stack, &mut out)?,
             Step::Binary(operator) => write_binary(*operator, &mut stack, &mut out)?,

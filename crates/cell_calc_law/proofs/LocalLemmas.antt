@@ -83,7 +83,7 @@ abbrev mutual
   given_by (formula.Call f xs) picks k = call_result f nowhere (all_given xs picks k)
 
   all_given : Formulas → List ℕ → Combination → List CellValue
-  all_given formula.NoFormulas picks k = []
+  all_given formula.NoTrees picks k = []
   all_given (formula.Then a xs) picks k = given_by a picks k ∷ all_given xs picks k
 
 -- a function that does not ask where it is
@@ -115,7 +115,7 @@ module _ (picks : List ℕ) (maps : List Grid) (s : Spot) where
 
     all-go : (xs : Formulas) → AreLocal xs → ((place : ℕ) → AreReading place xs → Contains picks place)
         → argument_values xs maps s ≡ all_given xs picks k
-    all-go formula.NoFormulas local reads = refl
+    all-go formula.NoTrees local reads = refl
     all-go (formula.Then a xs) local reads =
         ap (λ (x : CellValue). x ∷ argument_values xs maps s) (goes a local.0 (λ place h. reads place (inl h)))
         ∙ ap (λ (l : List CellValue). given_by a picks k ∷ l) (all-go xs local.1 (λ place h. reads place (inr h)))

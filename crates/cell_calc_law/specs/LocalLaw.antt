@@ -8,7 +8,7 @@ use Rattle.cell_calc_tokens.specs.declared.function.Function.{Function}
 use Rattle.cell_calc_tokens.specs.declared.function.Function.TheVariants.{If, IsNull, Row, Column, RowCount, ColumnCount}
 use Rattle.cell_calc_operators.specs.Applied.{Spot, spot}
 use Rattle.cell_calc_binding.specs.Compact.{ReadsMap}
-use Rattle.cell_calc_binding.specs.Formula.{Formula, Number, Map, Negated, Not, Binary, Call, Formulas, NoFormulas, Then}
+use Rattle.cell_calc_binding.specs.Formula.{Formula, Number, Map, Negated, Not, Binary, Call, Formulas, NoTrees, Then}
 use Rattle.cell_calc_binding.specs.Value.{value}
 use Rattle.cell_stats_combinations.specs.Combinations.{Combination, combination_at, all_combinations}
 use Rattle.cell_stats_combinations.specs.declared.skip.Skip.TheVariants.{Nothing}
@@ -36,7 +36,7 @@ abbrev mutual
 
   -- each of the arguments is one
   pub AreLocal : Formulas → Type 0
-  AreLocal NoFormulas = Unit {0}
+  AreLocal NoTrees = Unit {0}
   AreLocal (Then a xs) = IsLocal a × AreLocal xs
 
 -- each map that an expression reads is among the picked ones
@@ -104,7 +104,7 @@ OneMapOfValues =
 
 -- if(isnull(g), g, g)
 abbrev pub either_way : Formula → Formula
-either_way g = Call If (Then (Call IsNull (Then g NoFormulas)) (Then g (Then g NoFormulas)))
+either_way g = Call If (Then (Call IsNull (Then g NoTrees)) (Then g (Then g NoTrees)))
 
 -- after `x = g` and `y = if(isnull(g), g, g)`: y is x, whatever expression g is
 abbrev pub EitherWayIsTheSame : Type 0

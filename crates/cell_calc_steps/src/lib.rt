@@ -1,6 +1,5 @@
-//! The steps of expressions. Of the crates of the program only those that make and evaluate expressions list this one, so
-//! that no other can name a step.
+//! The steps of expressions, in postfix order. Of the crates of the program only those that make and evaluate expressions list
+//! this one, so that no other can name a step.
 #![tactic(auto)]
 
-pub mod bound;
-pub mod named;
+pub mod step;

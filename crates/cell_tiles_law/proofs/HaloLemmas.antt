@@ -12,7 +12,7 @@ use Rattle.cell_calc_tokens.specs.declared.function.Function.TheVariants as func
 use Rattle.cell_calc_language.specs.Grammatical.{up_by, down_by}
 use Rattle.cell_calc_operators.specs.Applied.{Spot, spot, negated, inverted, applied, call_result}
 use Rattle.cell_calc_operators.specs.Offsets.{item_at, cell_at_offset, cell_in}
-use Rattle.cell_calc_binding.specs.Formula.{Formula, Number, Map, Negated, Not, Binary, Call, Formulas, NoFormulas, Then}
+use Rattle.cell_calc_binding.specs.Formula.{Formula, Number, Map, Negated, Not, Binary, Call, Formulas, NoTrees, Then}
 use Rattle.cell_calc_binding.specs.Reach.{up_of, down_of, up_of_all, down_of_all}
 use Rattle.cell_calc_binding.specs.Value.{value, argument_values}
 use Rattle.cell_tiles_law.specs.Parts.{Rectangle, AreCutOut, cut_out}
@@ -228,7 +228,7 @@ module _ (region : RegionValue) (r : Rectangle) (row col : ℕ) where
           ∙ called-same g (argument_values xs whole there) (or-first (asks_rows g) (call_any asks_rows xs) h.rows) (or-first (asks_cols g) (call_any asks_cols xs) h.cols)
 
       same-values : (xs : Formulas) → HaloOfAll xs → argument_values xs part here ≡ argument_values xs whole there
-      same-values NoFormulas h = refl
+      same-values NoTrees h = refl
       same-values (Then a xs) h =
           let first : HaloOf a = first-halo (λ i. up_of i a) (λ i. down_of i a) (λ i. left_of i a) (λ i. right_of i a) (λ i. up_of_all i xs) (λ i. down_of_all i xs) (λ i. left_of_all i xs) (λ i. right_of_all i xs) (calls asks_rows a) (calls asks_cols a) (call_any asks_rows xs) (call_any asks_cols xs) h in
           let second : HaloOfAll xs = second-halo (λ i. up_of i a) (λ i. down_of i a) (λ i. left_of i a) (λ i. right_of i a) (λ i. up_of_all i xs) (λ i. down_of_all i xs) (λ i. left_of_all i xs) (λ i. right_of_all i xs) (calls asks_rows a) (calls asks_cols a) (call_any asks_rows xs) (call_any asks_cols xs) h in
@@ -249,7 +249,7 @@ module _ (region : RegionValue) (r : Rectangle) (row col : ℕ) where
       same-told (Call g xs) h = ap (call_result g there) (sames-told xs (record { up = h.up; down = h.down; left = h.left; right = h.right; rows = inl refl; cols = inl refl }))
 
       sames-told : (xs : Formulas) → IsHalo region r row col (λ i. up_of_all i xs) (λ i. down_of_all i xs) (λ i. left_of_all i xs) (λ i. right_of_all i xs) false false → values_told xs part here there ≡ argument_values xs whole there
-      sames-told NoFormulas h = refl
+      sames-told NoTrees h = refl
       sames-told (Then a xs) h =
           let first = first-halo (λ i. up_of i a) (λ i. down_of i a) (λ i. left_of i a) (λ i. right_of i a) (λ i. up_of_all i xs) (λ i. down_of_all i xs) (λ i. left_of_all i xs) (λ i. right_of_all i xs) false false false false h in
           let second = second-halo (λ i. up_of i a) (λ i. down_of i a) (λ i. left_of i a) (λ i. right_of i a) (λ i. up_of_all i xs) (λ i. down_of_all i xs) (λ i. left_of_all i xs) (λ i. right_of_all i xs) false false false false h in
@@ -265,7 +265,7 @@ mutual
   told-of-itself (Call g xs) maps s = ap (call_result g s) (all-of-itself xs maps s)
 
   all-of-itself : (xs : Formulas) (maps : List Grid) (s : Spot) → values_told xs maps s s ≡ argument_values xs maps s
-  all-of-itself NoFormulas maps s = refl
+  all-of-itself NoTrees maps s = refl
   all-of-itself (Then a xs) maps s = ap (λ (x : CellValue). x ∷ values_told xs maps s s) (told-of-itself a maps s) ∙ ap (λ (l : List CellValue). value a maps s ∷ l) (all-of-itself xs maps s)
 
 pub reach-is-enough : ReachIsEnough

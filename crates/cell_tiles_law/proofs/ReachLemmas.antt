@@ -55,7 +55,7 @@ mutual
       let h = all-within xs place in record { up = h.up; down = h.down; left = h.left; right = h.right }
 
   all-within : (xs : Formulas) (place : ℕ) → IsWithinAll xs place
-  all-within formula.NoFormulas place =
+  all-within formula.NoTrees place =
       record { up = omega arith; down = omega arith; left = omega arith; right = omega arith }
   all-within (formula.Then a xs) place =
       let h = within a place in

@@ -1,5 +1,5 @@
 -- Values of parts: an expression has the same value over a part of maps, where what it reads lies in the part or the maps end.
-use Rattle.std.specs.Prelude.{ℕ, pos, ◌+ℤ◌, Some, slice_get, [], ◌∷◌, Bool, true, false, ◌||◌, ◌==◌, ◌≡◌, ◌≤◌, ◌<◌, ◌+◌, ◌⊎◌, max, List, All, if◌then◌else◌}
+use Rattle.std.specs.Prelude.{ℕ, ℤ, pos, ◌+ℤ◌, Some, slice_get, [], ◌∷◌, Bool, true, false, ◌||◌, ◌==◌, ◌≡◌, ◌≤◌, ◌<◌, ◌+◌, ◌⊎◌, max, List, All, if◌then◌else◌}
 use Rattle.cell_core_values.specs.Region.{RegionValue}
 use Rattle.cell_core.specs.Grid.{Grid, CellValue, IsFilled}
 use Rattle.cell_calc_tokens.specs.declared.function.Function.{Function}
@@ -7,38 +7,33 @@ use Rattle.cell_calc_tokens.specs.declared.function.Function.TheVariants.{Row, C
 use Rattle.cell_calc_language.specs.Grammatical.{up_by, down_by}
 use Rattle.cell_calc_operators.specs.Applied.{Spot, spot, negated, inverted, applied, call_result}
 use Rattle.cell_calc_operators.specs.Offsets.{cell_in}
-use Rattle.cell_calc_binding.specs.Formula.{Formula, Number, Map, Negated, Not, Binary, Call, Formulas, NoFormulas, Then}
+use Rattle.cell_calc_grammar.specs.Tree.{fold_maps, fold_all}
+use Rattle.cell_calc_binding.specs.Formula.{Formula, Number, Map, Negated, Not, Binary, Call, Formulas, NoTrees, Then}
 use Rattle.cell_calc_binding.specs.Reach.{up_of, down_of}
 use Rattle.cell_calc_binding.specs.Value.{value}
 use Rattle.cell_tiles_law.specs.Parts.{Rectangle, AreCutOut}
 
-abbrev mutual
-  -- the most columns to the left that an offset for a place asks for
-  pub left_of : ℕ → Formula → ℕ
-  left_of i (Number n) = 0
-  left_of i (Map j down right) = if i == j then up_by right else 0
-  left_of i (Negated a) = left_of i a
-  left_of i (Not a) = left_of i a
-  left_of i (Binary op a b) = max (left_of i a) (left_of i b)
-  left_of i (Call f xs) = left_of_all i xs
+-- the columns to the left that an offset for a place asks for
+abbrev pub left_at : ℕ → (place : ℕ) (down right : ℤ) → ℕ
+left_at i j down right = if i == j then up_by right else 0
 
-  pub left_of_all : ℕ → Formulas → ℕ
-  left_of_all i NoFormulas = 0
-  left_of_all i (Then a xs) = max (left_of i a) (left_of_all i xs)
+-- the columns to the right
+abbrev pub right_at : ℕ → (place : ℕ) (down right : ℤ) → ℕ
+right_at i j down right = if i == j then down_by right else 0
 
-abbrev mutual
-  -- the most columns to the right
-  pub right_of : ℕ → Formula → ℕ
-  right_of i (Number n) = 0
-  right_of i (Map j down right) = if i == j then down_by right else 0
-  right_of i (Negated a) = right_of i a
-  right_of i (Not a) = right_of i a
-  right_of i (Binary op a b) = max (right_of i a) (right_of i b)
-  right_of i (Call f xs) = right_of_all i xs
+-- the most columns to the left that an offset for a place asks for
+abbrev pub left_of : ℕ → Formula → ℕ
+left_of i f = fold_maps (left_at i) 0 max f
 
-  pub right_of_all : ℕ → Formulas → ℕ
-  right_of_all i NoFormulas = 0
-  right_of_all i (Then a xs) = max (right_of i a) (right_of_all i xs)
+abbrev pub left_of_all : ℕ → Formulas → ℕ
+left_of_all i xs = fold_all (left_at i) 0 max xs
+
+-- the most columns to the right
+abbrev pub right_of : ℕ → Formula → ℕ
+right_of i f = fold_maps (right_at i) 0 max f
+
+abbrev pub right_of_all : ℕ → Formulas → ℕ
+right_of_all i xs = fold_all (right_at i) 0 max xs
 
 -- what an expression reads at a cell of a rectangle lies in the rectangle, or on a side where the region ends
 pub record ReadsWithin (f : Formula) (region : RegionValue) (r : Rectangle) (row col : ℕ) : Type 0 where
@@ -58,7 +53,7 @@ abbrev mutual
   calls these (Call f xs) = these f || call_any these xs
 
   pub call_any : (Function → Bool) → Formulas → Bool
-  call_any these NoFormulas = false
+  call_any these NoTrees = false
   call_any these (Then a xs) = calls these a || call_any these xs
 
 -- row() and nrows(), and col() and ncols()
@@ -93,7 +88,7 @@ abbrev mutual
   value_told (Call f xs) maps here told = call_result f told (values_told xs maps here told)
 
   pub values_told : Formulas → List Grid → (here told : Spot) → List CellValue
-  values_told NoFormulas maps here told = []
+  values_told NoTrees maps here told = []
   values_told (Then a xs) maps here told = value_told a maps here told ∷ values_told xs maps here told
 
 -- told of that spot itself, it is the value

@@ -4,7 +4,7 @@ use Rattle.cell_core_values.specs.Region.{RegionValue}
 use Rattle.cell_core.specs.Grid.{Grid, IsFilled}
 use Rattle.cell_calc_language.specs.Grammatical.{up_by, down_by}
 use Rattle.cell_calc_operators.specs.Applied.{Spot, spot}
-use Rattle.cell_calc_binding.specs.Formula.{Formula, Number, Map, Negated, Not, Binary, Call, Formulas, NoFormulas, Then}
+use Rattle.cell_calc_binding.specs.Formula.{Formula, Number, Map, Negated, Not, Binary, Call, Formulas, NoTrees, Then}
 use Rattle.cell_calc_binding.specs.Reach.{up_of, down_of}
 use Rattle.cell_calc_binding.specs.Value.{value}
 use Rattle.cell_tiles_law.specs.HaloParts.{left_of, right_of, calls, asks_rows, asks_cols, value_told}
@@ -41,7 +41,7 @@ abbrev mutual
   reach_of (Call f xs) = reach_of_all xs
 
   pub reach_of_all : Formulas → Halo
-  reach_of_all NoFormulas = no_halo
+  reach_of_all NoTrees = no_halo
   reach_of_all (Then a xs) = wider (reach_of a) (reach_of_all xs)
 
 -- no map is read further than the expression reaches

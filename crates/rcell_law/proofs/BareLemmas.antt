@@ -9,7 +9,7 @@ use Rattle.cell_core.specs.Grid.{Grid, CellValue, cell_at}
 use Rattle.cell_core.specs.Text.{cell_text}
 use Rattle.cell_calc_operators.specs.Applied.{Spot, negated, inverted, applied, call_result}
 use Rattle.cell_calc_operators.specs.Offsets.{cell_in}
-use Rattle.cell_calc_binding.specs.Formula.{Formula, Number, Map, Negated, Not, Binary, Call, Formulas, NoFormulas}
+use Rattle.cell_calc_binding.specs.Formula.{Formula, Number, Map, Negated, Not, Binary, Call, Formulas, NoTrees}
 use Rattle.cell_calc_binding.specs.Formula.{Then}
 use Rattle.cell_calc_binding.specs.Value.{value, argument_values}
 use Rattle.cell_ascii_meaning.specs.Writing.{grid_text}
@@ -70,7 +70,7 @@ mutual
 
   values_bare : (xs : Formulas) (maps : List Grid) (s : Spot)
       → argument_values xs maps s ≡ argument_values xs (map without_labels maps) s
-  values_bare NoFormulas maps s = refl
+  values_bare NoTrees maps s = refl
   values_bare (Then a xs) maps s =
       ap (λ (x : CellValue). x ∷ argument_values xs maps s) (value_bare a maps s)
       ∙ ap (λ (l : List CellValue). value a (map without_labels maps) s ∷ l) (values_bare xs maps s)

@@ -23,7 +23,7 @@ use Rattle.cell_calc_operators.specs.CellOperators.{known, most_frequent}
 use Rattle.cell_calc_operators.specs.CellOperators.{is_most_frequent, first_known, if_of}
 use Rattle.cell_calc_operators.specs.Offsets.{item_at, cell_in}
 use Rattle.cell_calc_operators.proofs.Fit.{fit_number}
-use Rattle.cell_calc_binding.specs.Formula.{Formula, Number, Map, Negated, Not, Binary, Call, Formulas, NoFormulas}
+use Rattle.cell_calc_binding.specs.Formula.{Formula, Number, Map, Negated, Not, Binary, Call, Formulas, NoTrees}
 use Rattle.cell_calc_binding.specs.Formula.{Then}
 use Rattle.cell_calc_binding.specs.Value.{value, argument_values}
 
@@ -192,7 +192,7 @@ abbrev mutual
   HasCategories (Call f xs) = HaveCategories xs
 
   pub HaveCategories : Formulas → Type 0
-  HaveCategories NoFormulas = Unit {0}
+  HaveCategories NoTrees = Unit {0}
   HaveCategories (Then a xs) = HasCategories a × HaveCategories xs
 
 row_in : (rows : List (List CellValue)) (i : ℕ) → AllInRange rows → All InRange (get_or rows i [])
@@ -227,7 +227,7 @@ module _ (maps : List Grid) (all : All (λ m. AllInRange m.rows) maps) (s : Spot
     value_in (Call g xs) h = result_in g s (argument_values xs maps s) is (values_in xs h)
 
     values_in : (xs : Formulas) → HaveCategories xs → All InRange (argument_values xs maps s)
-    values_in NoFormulas h = All-nil InRange
+    values_in NoTrees h = All-nil InRange
     values_in (Then a xs) h = All-cons InRange (value a maps s) (argument_values xs maps s) (value_in a h.0)
         (values_in xs h.1)
 

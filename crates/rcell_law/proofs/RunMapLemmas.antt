@@ -39,8 +39,9 @@ use Rattle.cell_cats_areas.specs.Areas.{Position, cell_at_spot, IsEarlierCell, I
 use Rattle.cell_cats_areas.specs.parts.CellPlaces.{position, cell_place, IsInside}
 use Rattle.cell_cats_areas.proofs.MeetingLemmas.{some_of}
 use Rattle.cell_cats_areas.proofs.StartLemmas.{inside_map, place_lt, place_inside}
-use Rattle.cell_calc_binding.specs.Binding.{with_places, placed_all}
-use Rattle.cell_calc_grammar.specs.Term as term
+use Rattle.cell_calc_binding.specs.Binding.{place_in, with_places}
+use Rattle.cell_calc_grammar.specs.Tree.{with_leaves_all}
+use Rattle.cell_calc_grammar.specs.Tree as term
 use Rattle.cell_calc_grammar.specs.Term.{Term, Terms}
 use Rattle.cell_calc_language.specs.Grammatical.{IsGrammatical, AreGrammatical}
 use Rattle.cell_calc_language.specs.Assignment.{IsAssignment, IsAssignmentText}
@@ -349,14 +350,15 @@ IsGood (OutAscii place null_text) = Unit {0}
 mutual
   placed_categories : (names : List (List ℕ)) (e : Term) → IsGrammatical e → HasCategories (with_places names e)
   placed_categories names (term.Number n) h = h
-  placed_categories names (term.Map name down right c) h = tt
+  placed_categories names (term.Map m down right) h = tt
   placed_categories names (term.Negated a) h = placed_categories names a h
   placed_categories names (term.Not a) h = placed_categories names a h
   placed_categories names (term.Binary op a b) h = (placed_categories names a h.0, placed_categories names b h.1)
   placed_categories names (term.Call f xs) h = all_categories names xs h.1
 
-  all_categories : (names : List (List ℕ)) (xs : Terms) → AreGrammatical xs → HaveCategories (placed_all names xs)
-  all_categories names term.NoTerms h = tt
+  all_categories : (names : List (List ℕ)) (xs : Terms) → AreGrammatical xs
+      → HaveCategories (with_leaves_all (place_in names) xs)
+  all_categories names term.NoTrees h = tt
   all_categories names (term.Then a xs) h = (placed_categories names a h.0, all_categories names xs h.1)
 
 -- the numbers of an assignment's text are categories

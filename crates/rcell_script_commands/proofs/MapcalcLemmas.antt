@@ -2,11 +2,12 @@
 use Rattle.std.proofs.Common.{◌≡◌, ◌≢◌, ℕ, ◌+◌, ◌≤◌, List, length, Option, Some, None, Result, Err, inl, inr, refl, ap, sym, subst, arith}
 use Rattle.std.specs.Option.{unwrap_or}
 use Rattle.cell_core_values.specs.Name.{place_of}
-use Rattle.cell_calc_binding.specs.Binding.{with_places, placed_all, IsBindingFault}
+use Rattle.cell_calc_binding.specs.Binding.{place_in, with_places, IsBindingFault}
 use Rattle.cell_calc_binding.specs.Formula.{Formula}
 use Rattle.cell_calc_binding.specs.Reach.{top_of, top_of_all}
-use Rattle.cell_calc_grammar.specs.Term.{Term, Number, Map, Negated, Not, Binary, Call, Terms, NoTerms, Then}
-use Rattle.cell_calc_language.specs.Unknown.{first_column, unplaced, first_unknown, first_unknown_all}
+use Rattle.cell_calc_grammar.specs.Tree.{fold_all, with_leaves_all}
+use Rattle.cell_calc_grammar.specs.Term.{Term, Number, Map, Negated, Not, Binary, Call, Terms, NoTrees, Then}
+use Rattle.cell_calc_language.specs.Unknown.{first_column, unplaced, unknown_at, first_unknown}
 use Rattle.rcell_script_options.proofs.PlaceLemmas.{place_of-within}
 use Rattle.cell_calc_language.specs.Assignment.{IsAssignmentText}
 use Rattle.cell_calc_language.specs.GrammarFault.{IsTextFault}
@@ -44,7 +45,7 @@ mutual
   -- no place is past the names
   pub top-placed : (names : List (List ℕ)) (e : Term) → first_unknown names e ≡ None → top_of (with_places names e) ≤ length names
   top-placed names (Number n) h = omega arith
-  top-placed names (Map name down right c) h = placed-within names name c (place_of name names) refl h
+  top-placed names (Map m down right) h = placed-within names m.name m.column (place_of m.name names) refl h
   top-placed names (Negated a) h = top-placed names a h
   top-placed names (Not a) h = top-placed names a h
   top-placed names (Binary op a b) h =
@@ -52,10 +53,10 @@ mutual
       omega (arith, top-placed names a both.0, top-placed names b both.1)
   top-placed names (Call f xs) h = top-placed_all names xs h
 
-  top-placed_all : (names : List (List ℕ)) (es : Terms) → first_unknown_all names es ≡ None → top_of_all (placed_all names es) ≤ length names
-  top-placed_all names NoTerms h = omega arith
+  top-placed_all : (names : List (List ℕ)) (es : Terms) → fold_all (unknown_at names) None first_column es ≡ None → top_of_all (with_leaves_all (place_in names) es) ≤ length names
+  top-placed_all names NoTrees h = omega arith
   top-placed_all names (Then a xs) h =
-      let both = neither (first_unknown names a) (first_unknown_all names xs) h in
+      let both = neither (first_unknown names a) (fold_all (unknown_at names) None first_column xs) h in
       omega (arith, top-placed names a both.0, top-placed_all names xs both.1)
 
 -- a map that an assignment makes reads known maps

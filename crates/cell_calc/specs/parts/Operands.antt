@@ -1,16 +1,23 @@
 -- Values along a strip: some columns of a row, from one on.
-use Rattle.std.specs.Prelude.{◌≡◌, ◌≤◌, ◌<◌, ◌+◌, ◌+ℤ◌, ℕ, pos, List, Some, None, length, map, slice_get, slice_index_or}
+use Rattle.std.specs.Prelude.{◌≡◌, ◌≤◌, ◌<◌, ◌+◌, ◌-◌, ◌+ℤ◌, ℕ, pos, List, Some, None, length, take, drop, map, slice_get, slice_index_or}
 use Rattle.cell_core.specs.Grid.{CellValue}
 use Rattle.cell_calc_operators.specs.Applied.{Spot, spot, applied, call_result, negated, inverted}
 use Rattle.cell_calc_operators.specs.Offsets.{item_at}
 use Rattle.cell_calc.specs.Window.{Window}
-use Rattle.cell_calc_steps.specs.declared.bound.Step.{Step}
-use Rattle.cell_calc_steps.specs.declared.bound.Step.TheVariants as step
+use Rattle.cell_calc_steps.specs.declared.step.Step.{Step}
+use Rattle.cell_calc_steps.specs.declared.step.Step.TheVariants as step
 use Rattle.cell_calc.specs.declared.strip.Operand.{Operand}
 use Rattle.cell_calc.specs.declared.strip.Operand.TheVariants as operand
 use Rattle.cell_calc.specs.declared.strip.Strip.{Strip}
 use Rattle.cell_calc_rows.specs.RowValues.{at}
 use Rattle.cell_calc.specs.parts.WindowsOver.{IsInReach, row_below}
+
+-- the last so many operands, and those before them
+abbrev pub top_operands : {X : Type 0} → ℕ → List X → List X
+top_operands n operands = drop (length operands - n) operands
+
+abbrev pub lower_operands : {X : Type 0} → ℕ → List X → List X
+lower_operands n operands = take (length operands - n) operands
 
 -- it lies in a region
 pub record IsStrip (strip : Strip) : Type 0 where
@@ -18,8 +25,12 @@ pub record IsStrip (strip : Strip) : Type 0 where
   pub columns : strip.from + strip.width ≤ strip.region.cols
   pub most : strip.region.cols ≤ 65535
 
+-- it holds of each column of a strip
+abbrev pub AtColumns : Strip → (ℕ → Type 0) → Type 0
+AtColumns strip P = (c : ℕ) → c < strip.width → P c
+
 -- a number that is a category, or a map whose window reaches the offset
-abbrev pub IsReadyStep : List Window → Step → Type 0
+abbrev pub IsReadyStep : List Window → Step ℕ → Type 0
 IsReadyStep windows (step.Number n) = n ≤ 2147483647
 IsReadyStep windows (step.Map i down right) = IsInReach down (slice_get windows i)
 IsReadyStep windows step.Negated = Unit {0}
@@ -44,7 +55,7 @@ abbrev pub cells_at : List Window → Strip → ℕ → List Operand → List Ce
 cells_at windows strip c operands = map (operand_at windows strip c) operands
 
 -- what a step makes of cells, with the rows that windows hold for those of maps
-abbrev pub seen : List Window → Spot → Step → List CellValue → CellValue
+abbrev pub seen : List Window → Spot → Step ℕ → List CellValue → CellValue
 seen windows s (step.Number n) xs = Some (pos n)
 seen windows s (step.Map i down right) xs = item_at None (row_below down (slice_get windows i)) (pos s.col +ℤ right)
 seen windows s step.Negated xs = negated (slice_index_or xs 0 None)

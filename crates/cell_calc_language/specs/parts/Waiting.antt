@@ -6,43 +6,44 @@ use Rattle.cell_calc_language.specs.declared.expression_reader.Frame.TheVariants
 use Rattle.cell_calc_language.specs.declared.expression_reader.Reader.{Reader}
 use Rattle.cell_calc_language.specs.declared.expression_reader.Turn.{Turn}
 use Rattle.cell_calc_language.specs.declared.expression_reader.Turn.TheVariants as turn
-use Rattle.cell_calc_steps.specs.declared.named.Step.{Step}
+use Rattle.cell_calc_grammar.specs.declared.map_name.MapName.{MapName}
+use Rattle.cell_calc_steps.specs.declared.step.Step.{Step}
 use Rattle.cell_calc_tokens.specs.declared.token.Placed.{Placed}
-use Rattle.cell_calc_language.specs.Postfix.{postfix, postfix_all}
+use Rattle.cell_calc_steps.specs.Postfix.{postfix, postfix_all}
 use Rattle.cell_calc_grammar.specs.TokensRead.{Outcome, Got, State, Operand, More, Choice, AfterQuestion, Onward, GrammarReads, negate, invert, close, join, choose, call, add}
 use Rattle.cell_calc_language.specs.Stopping.{ParserStopsAt}
-use Rattle.cell_calc_grammar.specs.Term.{Term, Terms, NoTerms, Then, count}
+use Rattle.cell_calc_grammar.specs.Term.{Term, Terms, NoTrees, Then, count}
 
 -- arguments, before others
 abbrev pub add_all : Terms → Outcome → Outcome
-add_all NoTerms o = o
+add_all NoTrees o = o
 add_all (Then a xs) o = add a (add_all xs o)
 
 -- with this outcome the state is read: it comes after these steps, and these frames wait for it, the latest first
-abbrev pub Fills : State → List Frame → List Step → Outcome → Type 0
+abbrev pub Fills : State → List Frame → List (Step MapName) → Outcome → Type 0
 Fills s [] steps o = (steps ≡ []) × GrammarReads s o
 Fills s (frame.Negated ∷ fs) steps o = Fills s fs steps (negate o)
 Fills s (frame.Not ∷ fs) steps o = Fills s fs steps (invert o)
 Fills s (frame.Level k ∷ fs) steps o = (p : Outcome) → GrammarReads (More k o) p → Fills s fs steps p
 Fills s (frame.Joined k op ∷ fs) steps o =
-    (a : Term) × (before : List Step) × (steps ≡ before ++ postfix a) × ((p : Outcome) → GrammarReads (More k (join op a o)) p → Fills s fs before p)
+    (a : Term) × (before : List (Step MapName)) × (steps ≡ before ++ postfix a) × ((p : Outcome) → GrammarReads (More k (join op a o)) p → Fills s fs before p)
 Fills s (frame.Choice ∷ fs) steps o = (p : Outcome) → GrammarReads (Choice o) p → Fills s fs steps p
 Fills s (frame.AfterQuestion ∷ fs) steps o =
-    (x : Term) × (before : List Step) × (steps ≡ before ++ postfix x) × ((p : Outcome) → GrammarReads (AfterQuestion x o) p → Fills s fs before p)
+    (x : Term) × (before : List (Step MapName)) × (steps ≡ before ++ postfix x) × ((p : Outcome) → GrammarReads (AfterQuestion x o) p → Fills s fs before p)
 Fills s (frame.AfterColon ∷ fs) steps o =
-    (x a : Term) × (before : List Step) × (steps ≡ before ++ (postfix x ++ postfix a)) × Fills s fs before (choose x a o)
+    (x a : Term) × (before : List (Step MapName)) × (steps ≡ before ++ (postfix x ++ postfix a)) × Fills s fs before (choose x a o)
 Fills s (frame.Parenthesis ∷ fs) steps o = Fills s fs steps (close o)
 Fills s (frame.Call f from n ∷ fs) steps o =
-    (xs : Terms) × (before : List Step) × (steps ≡ before ++ postfix_all xs) × (count xs ≡ n)
+    (xs : Terms) × (before : List (Step MapName)) × (steps ≡ before ++ postfix_all xs) × (count xs ≡ n)
     × ((p : Outcome) → GrammarReads (Onward o) p → Fills s fs before (call f from.now (add_all xs p)))
 
 -- whatever is read of the second state, with it the first is read
-abbrev pub Awaits : State → List Frame → List Step → State → Type 0
+abbrev pub Awaits : State → List Frame → List (Step MapName) → State → Type 0
 Awaits s fs steps t = (o : Outcome) → GrammarReads t o → Fills s fs steps o
 
 -- the last steps are those of an operand, with which the state is read; the rest follows
-abbrev pub IsReadExpression : State → List Frame → List Step → List Placed → Type 0
-IsReadExpression s fs steps rest = (a : Term) × (before : List Step) × (steps ≡ before ++ postfix a) × Fills s fs before (Got a rest)
+abbrev pub IsReadExpression : State → List Frame → List (Step MapName) → List Placed → Type 0
+IsReadExpression s fs steps rest = (a : Term) × (before : List (Step MapName)) × (steps ≡ before ++ postfix a) × Fills s fs before (Got a rest)
 
 abbrev pub latest_first : List Frame → List Frame
 latest_first fs = reverse fs

@@ -1,23 +1,23 @@
 //! The value of an expression at a cell.
 
 ghost use Rattle.std.specs.Prelude.{◌≡◌, ◌<◌, None, slice_get, IfOk};
-ghost use Rattle.std.specs.Option.{unwrap_or};
 ghost use Rattle.cell_core.specs.Grid.{row_at};
-ghost use Rattle.cell_core_values.specs.Name.{place_of};
-ghost use Rattle.cell_calc_binding.specs.Binding.{with_places};
+ghost use Rattle.cell_calc_binding.specs.Binding.{place_in, with_places};
 ghost use Rattle.cell_calc_operators.specs.Applied.{spot, call_result};
 ghost use Rattle.cell_calc_operators.specs.Offsets.{item_at, row_of, cell_in};
 ghost use Rattle.cell_calc_binding.specs.Value.{value};
-ghost use Rattle.cell_calc_tests.specs.Steps.{arity, step_value, IsProperStep};
+ghost use Rattle.cell_calc_tests.specs.Steps.{step_value, IsProperStep};
+ghost use Rattle.cell_calc_steps.specs.Postfix.{arity};
 
 use crate::definition::{cells, lists};
 use cell_calc_language::expr::Expr;
 use cell_calc_language::function::Function;
-use cell_calc_steps::named::Step;
+use cell_calc_grammar::map_name::MapName;
+use cell_calc_steps::step::Step;
 use cell_core::cell::Cell;
 use cell_core::map::CellMap;
 use cell_core::memory::Memory;
-use cell_core::name::{Name, Names};
+use cell_core::name::Names;
 use cell_core::region::Region;
 use cell_core::shelf::Shelf;
 use std::alloc::Global;
@@ -65,10 +65,10 @@ fn cell_in(alloc: Global, shelf: &Shelf, place: usize, row: i64, col: i64) -> Re
     Ok(item_at(cells.as_slice(), col))
 }
 
-fn place_of(name: &Name, names: &Names) -> usize
-    ensures { result ≡ unwrap_or (place_of name.now names.now) 0 }
+fn place_in(map: &MapName, names: &Names) -> usize
+    ensures { result ≡ place_in names.now map.now }
 {
-    match names.find(name.bytes()) {
+    match names.find(map.name.bytes()) {
         Some(i) => i,
         None => 0,
     }
@@ -117,7 +117,7 @@ fn called(
 }
 
 // How many operands a step takes.
-fn arity(step: &Step) -> usize
+fn arity(step: &Step<MapName>) -> usize
     ensures { result ≡ arity step.now }
 {
     match step {
@@ -133,7 +133,7 @@ fn arity(step: &Step) -> usize
 // The value of a step, of those of its operands.
 fn step_value(
     alloc: Global,
-    step: &Step,
+    step: &Step<MapName>,
     names: &Names,
     shelf: &Shelf,
     row: u32,
@@ -147,15 +147,10 @@ fn step_value(
 {
     match step {
         Step::Number(n) => Ok(cells::number(*n)),
-        Step::Map {
-            name,
-            down,
-            right,
-            ..
-        } => cell_in(
+        Step::Map { leaf, down, right } => cell_in(
             alloc,
             shelf,
-            place_of(name, names),
+            place_in(leaf, names),
             row as i64 + *down as i64,
             col as i64 + *right as i64,
         ),

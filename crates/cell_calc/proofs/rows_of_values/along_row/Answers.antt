@@ -5,7 +5,7 @@ use Rattle.std.proofs.lemmas.List.{get_or_append_left, get_or-append_right, leng
 use Rattle.std.proofs.lemmas.Result.{IfOk-from_err}
 use Rattle.cell_core.specs.Grid.{CellValue}
 use Rattle.cell_calc_operators.specs.Applied.{spot}
-use Rattle.cell_calc_binding.specs.FormulaPostfix.{values_after}
+use Rattle.cell_calc_steps.specs.Postfix.{values_after}
 use Rattle.cell_calc_rows.specs.RowValues.{at}
 use Rattle.cell_calc.specs.parts.Operands.{seen}
 use Rattle.cell_calc.proofs.rows_of_values.along_row.Goals as goal

@@ -1,7 +1,7 @@
 use Rattle.std.proofs.Common.{◌≡◌, ◌≤◌, ◌<◌, ◌-◌, ℕ, [], ◌∷◌, length}
 use Rattle.cell_calc_operators.specs.Applied.{spot}
 use Rattle.cell_calc.specs.parts.Operands.{seen}
-use Rattle.cell_calc_binding.specs.FormulaPostfix.{values_after}
+use Rattle.cell_calc_steps.specs.Postfix.{values_after}
 use Rattle.cell_calc_rows.specs.RowValues.{at}
 use Rattle.cell_calc.proofs.rows_of_values.along_row.Given as goal
 

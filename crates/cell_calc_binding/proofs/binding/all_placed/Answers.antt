@@ -2,7 +2,8 @@ use Rattle.std.proofs.Common.{◌≡◌, ℕ, ◌+◌, ◌<◌, List, [], ◌∷
 use Rattle.std.proofs.lemmas.List.{map_more, take_all}
 use Rattle.std.proofs.lemmas.Result.{IfOk-from_err}
 use borrow.Author.Count.{falls}
-use Rattle.cell_calc_binding.specs.parts.Placing.{placed_step}
+use Rattle.cell_calc_binding.specs.Binding.{place_in}
+use Rattle.cell_calc_steps.specs.Postfix.{step_over}
 use Rattle.cell_calc_binding.proofs.binding.all_placed.Goals as goal
 
 one_more : {X Y : Type 0} (f : X → Y) (xs : List X) (i : ℕ) (x : X) (ys : List Y) (y : Y)
@@ -26,10 +27,10 @@ loop-step-smaller c = falls (length c.args.steps.now) c.loop-step.step-index c.l
 pub loop-step-preserved : goal.loop-step-preserved
 loop-step-preserved c =
     c.in_ok-push.ensures.items
-    ∙ one_more (placed_step c.args.names.now) c.args.steps.now c.loop-step.step-index c.step-item.result
+    ∙ one_more (step_over (place_in c.args.names.now)) c.args.steps.now c.loop-step.step-index c.step-item.result
     c.loop-step.found.items c.placed.result c.loop-step-test.true c.loop-step.invariant c.placed.ensures c.step-item.is
 
 pub returns : goal.returns
 returns c =
     let all = take_all c.loop-step.step-index c.args.steps.now c.loop-step-test.false in
-    c.loop-step.invariant ∙ ap (λ l. map (placed_step c.args.names.now) l) all
+    c.loop-step.invariant ∙ ap (λ l. map (step_over (place_in c.args.names.now)) l) all

@@ -1,6 +1,7 @@
-use Rattle.std.proofs.Common.{◌≡◌, ◌≤◌, take}
-use Rattle.cell_calc_binding.specs.parts.TreeSteps.{greatest_of_steps, down_step}
+use Rattle.std.proofs.Common.{◌≡◌, ◌≤◌, take, max}
+use Rattle.cell_calc_binding.specs.Reach.{down_at}
+use Rattle.cell_calc_steps.specs.Postfix.{fold_steps}
 use Rattle.cell_calc_binding.proofs.bound.down.Given as goal
 
 abbrev pub invariant-loop-step : goal.invariant-loop-step
-invariant-loop-step l = record { value : l.down ≡ greatest_of_steps (down_step l.i) (take l.step-index l.steps); bound : l.down ≤ 255 }
+invariant-loop-step l = record { value : l.down ≡ fold_steps (down_at l.i) 0 max (take l.step-index l.steps); bound : l.down ≤ 255 }

@@ -1,6 +1,7 @@
-use Rattle.std.proofs.Common.{◌≡◌, take}
-use Rattle.cell_calc_binding.specs.parts.TreeSteps.{greatest_of_steps, top_step}
+use Rattle.std.proofs.Common.{◌≡◌, take, max}
+use Rattle.cell_calc_binding.specs.Reach.{top_at}
+use Rattle.cell_calc_steps.specs.Postfix.{fold_steps}
 use Rattle.cell_calc_binding.proofs.bound.top.Given as goal
 
 abbrev pub invariant-loop-step : goal.invariant-loop-step
-invariant-loop-step l = l.top ≡ greatest_of_steps top_step (take l.step-index l.steps)
+invariant-loop-step l = l.top ≡ fold_steps top_at 0 max (take l.step-index l.steps)

@@ -1,6 +1,7 @@
-use Rattle.std.proofs.Common.{◌≡◌, ◌≤◌, take}
-use Rattle.cell_calc_binding.specs.parts.TreeSteps.{greatest_of_steps, up_step}
+use Rattle.std.proofs.Common.{◌≡◌, ◌≤◌, take, max}
+use Rattle.cell_calc_binding.specs.Reach.{up_at}
+use Rattle.cell_calc_steps.specs.Postfix.{fold_steps}
 use Rattle.cell_calc_binding.proofs.bound.up.Given as goal
 
 abbrev pub invariant-loop-step : goal.invariant-loop-step
-invariant-loop-step l = record { value : l.up ≡ greatest_of_steps (up_step l.i) (take l.step-index l.steps); bound : l.up ≤ 255 }
+invariant-loop-step l = record { value : l.up ≡ fold_steps (up_at l.i) 0 max (take l.step-index l.steps); bound : l.up ≤ 255 }

@@ -4,9 +4,12 @@ use Rattle.std.proofs.lemmas.Result.{IfOk-from_err}
 use borrow.Author.Count.{falls}
 use Rattle.cell_calc_binding.specs.Compact.{AreMapsRead, AreDistinctPlaces}
 use Rattle.cell_calc_binding.specs.Formula.{Formula}
-use Rattle.cell_calc_binding.specs.parts.TreeSteps.{moved_step, index_in, top_step}
+use Rattle.cell_calc_binding.specs.parts.TreeSteps.{index_in}
+use Rattle.cell_calc_binding.specs.Reach.{top_at}
+use Rattle.cell_calc_steps.specs.Postfix.{step_over, at_step}
+use Rattle.cell_calc_steps.proofs.PostfixLemmas.{fold-append}
 use Rattle.cell_calc_binding.proofs.Moved.{moved_more, listed_more}
-use Rattle.cell_calc_binding.proofs.Steps.{greatest-append}
+use Rattle.cell_calc_binding.proofs.Steps.{greatest}
 use Rattle.cell_calc_binding.proofs.compacting.compacted.Goals as goal
 
 none_below : {k : ℕ} → k < 0 → ⊥
@@ -92,9 +95,9 @@ loop-step-preserved c =
     let so_far = c.loop-step.invariant in
     let moved = c.in_ok-other.ensures in
     let others = c.in_ok-push.ensures.items in
-    let last = greatest-append top_step c.loop-step.others.items (c.in_ok-other.other ∷ []) in
+    let last = fold-append top_at 0 max greatest c.loop-step.others.items (c.in_ok-other.other ∷ []) in
     let longer : length c.loop-step.places.items ≤ length c.moved.new.places.items =
-    at_least (length c.loop-step.places.items) (top_step c.in_ok-other.other) moved.count in
+    at_least (length c.loop-step.places.items) (at_step top_at 0 c.in_ok-other.other) moved.count in
     record {
       steps = others ∙ moved_more c.loop-step.places.items c.moved.new.places.items c.args.steps.now
           c.loop-step.step-index _ c.loop-step.others.items c.in_ok-other.other c.loop-step-test.true
@@ -112,7 +115,7 @@ loop-step-smaller c = falls (length c.args.steps.now) c.loop-step.step-index c.l
 pub returns-clause-steps : goal.returns-clause-steps
 returns-clause-steps c =
     let all = take_all c.loop-step.step-index c.args.steps.now c.loop-step-test.false in
-    c.loop-step.invariant.steps ∙ ap (λ l. map (moved_step (index_in c.loop-step.places.items)) l) all
+    c.loop-step.invariant.steps ∙ ap (λ l. map (step_over (index_in c.loop-step.places.items)) l) all
 
 pub returns-clause-listed : goal.returns-clause-listed
 returns-clause-listed c =

@@ -1,6 +1,6 @@
 use Rattle.std.proofs.Common.{sym, subst}
 use Rattle.cell_calc_language.specs.GrammarFault.{IsFaultOf}
-use Rattle.cell_calc_language.specs.parts.Built.{built}
+use Rattle.cell_calc_steps.specs.Postfix.{tree_of}
 use Rattle.cell_calc_language.proofs.Faults.{fault_nothing, fault_no_name, fault_no_assign, fault_stops, fault_goes_on, ends, ends_only}
 use Rattle.cell_calc_language.proofs.Grammatical.{read_grammatical}
 use Rattle.cell_calc_language.proofs.token_parsing.assignment.Goals as goal
@@ -25,20 +25,20 @@ returns-in-Err-expression-clause-fault c =
 
 pub returns-in-None-clause-ok : goal.returns-in-None-clause-ok
 returns-in-None-clause-ok c =
-    ends c.in-Name.name c.in-Ok.target c.args.tokens.now c.in-Some-after_sign.after.now (built c.in-Ok-expression.read.0.items) c.in-Ok-expression.read.1.now c.in-Ok.ensures.ok (c.in-Some.placed.now, c.in-Some.rest.now, c.in-Some.ensures.some, c.in-Name.is, c.in-Some-after_sign.ensures.some) c.in-None.ensures.none c.in-Ok-expression.ensures.ok
+    ends c.in-Name.name c.in-Ok.target c.args.tokens.now c.in-Some-after_sign.after.now (tree_of c.in-Ok-expression.read.0.items) c.in-Ok-expression.read.1.now c.in-Ok.ensures.ok (c.in-Some.placed.now, c.in-Some.rest.now, c.in-Some.ensures.some, c.in-Name.is, c.in-Some-after_sign.ensures.some) c.in-None.ensures.none c.in-Ok-expression.ensures.ok
 
 pub returns-in-None-clause-only : goal.returns-in-None-clause-only
 returns-in-None-clause-only c =
-    ends_only c.in-Name.name c.in-Ok.target c.args.tokens.now c.in-Some-after_sign.after.now (built c.in-Ok-expression.read.0.items) c.in-Ok-expression.read.1.now c.in-Ok.ensures.ok (c.in-Some.placed.now, c.in-Some.rest.now, c.in-Some.ensures.some, c.in-Name.is, c.in-Some-after_sign.ensures.some) c.in-None.ensures.none c.in-Ok-expression.ensures.ok
+    ends_only c.in-Name.name c.in-Ok.target c.args.tokens.now c.in-Some-after_sign.after.now (tree_of c.in-Ok-expression.read.0.items) c.in-Ok-expression.read.1.now c.in-Ok.ensures.ok (c.in-Some.placed.now, c.in-Some.rest.now, c.in-Some.ensures.some, c.in-Name.is, c.in-Some-after_sign.ensures.some) c.in-None.ensures.none c.in-Ok-expression.ensures.ok
 
 pub returns-in-Some-first-clause-fault : goal.returns-in-Some-first-clause-fault
 returns-in-Some-first-clause-fault c =
     subst (IsFaultOf c.args.end c.args.tokens.now) (sym c.fault_of-in-Some-first.ensures)
-    (fault_goes_on c.args.end c.in-Name.name c.args.tokens.now c.in-Some-after_sign.after.now (built c.in-Ok-expression.read.0.items) c.in-Ok-expression.read.1.now c.in-Some-first.field-0.0.now c.in-Some-first.field-0.1.now (c.in-Some.placed.now, c.in-Some.rest.now, c.in-Some.ensures.some, c.in-Name.is, c.in-Some-after_sign.ensures.some) c.in-Some-first.ensures.some c.in-Ok-expression.ensures.ok)
+    (fault_goes_on c.args.end c.in-Name.name c.args.tokens.now c.in-Some-after_sign.after.now (tree_of c.in-Ok-expression.read.0.items) c.in-Ok-expression.read.1.now c.in-Some-first.field-0.0.now c.in-Some-first.field-0.1.now (c.in-Some.placed.now, c.in-Some.rest.now, c.in-Some.ensures.some, c.in-Name.is, c.in-Some-after_sign.ensures.some) c.in-Some-first.ensures.some c.in-Ok-expression.ensures.ok)
 
 pub invariant_of-result : goal.invariant_of-result
 invariant_of-result c = (
   c.in-Ok-expression.ensures.steps,
-  read_grammatical c.in-Name.name c.args.tokens.now c.in-Some-after_sign.after.now (built c.in-Ok-expression.read.0.items) c.in-Ok-expression.read.1.now c.requires
+  read_grammatical c.in-Name.name c.args.tokens.now c.in-Some-after_sign.after.now (tree_of c.in-Ok-expression.read.0.items) c.in-Ok-expression.read.1.now c.requires
       (c.in-Some.placed.now, c.in-Some.rest.now, c.in-Some.ensures.some, c.in-Name.is, c.in-Some-after_sign.ensures.some) c.in-None.ensures.none c.in-Ok-expression.ensures.ok,
 )

@@ -1,0 +1,10 @@
+//! Names of maps in expressions.
+
+use cell_core_values::name::Name;
+
+/// The name of a map, and the column where it begins.
+#[derive(Drop)]
+pub struct MapName {
+    pub name: Name,
+    pub column: u32,
+}

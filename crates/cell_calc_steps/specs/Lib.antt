@@ -1,0 +1,2 @@
+-- Expressions as lists of steps.
+pub mod Postfix
