@@ -1,0 +1,2 @@
+-- Texts of tables: what their lines are, and how they are read.
+pub mod LineFields

@@ -1,0 +1,6 @@
+//! Texts of tables: the entry of each line, and the first fault of the lines.
+#![tactic(auto)]
+
+pub mod fields;
+mod places;
+pub mod table_fault;
