@@ -1,2 +1,3 @@
 pub mod PlaceLemmas
 pub mod FieldLemmas
+pub mod LinePartLemmas

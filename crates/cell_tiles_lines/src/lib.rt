@@ -2,5 +2,6 @@
 #![tactic(auto)]
 
 pub mod fields;
+pub mod lines;
 mod places;
 pub mod table_fault;
