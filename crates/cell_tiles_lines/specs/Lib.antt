@@ -3,3 +3,4 @@ pub mod LineFields
 pub mod LineReading
 pub mod SourceLines
 pub mod TableLines
+pub mod TextReading

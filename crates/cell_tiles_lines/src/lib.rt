@@ -5,3 +5,4 @@ pub mod fields;
 pub mod lines;
 mod places;
 pub mod table_fault;
+pub mod text;
