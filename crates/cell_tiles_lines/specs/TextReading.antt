@@ -1,5 +1,5 @@
 -- What a text is still read as, its head first.
-use Rattle.std.specs.Prelude.{ℕ, List, [], ◌∷◌, Option, Some, None, Result, Ok, Err}
+use Rattle.std.specs.Prelude.{ℕ, ◌≡◌, IfSome, List, [], ◌∷◌, Option, Some, None, Result, Ok, Err}
 use Rattle.std.specs.Option.{option_map}
 use Rattle.std.specs.Coded.{Coded, code_by, coded×, coded_ℕ, coded_ℤ, coded_list, coded_option}
 use Rattle.cell_core_devices.specs.Device.{Coming}
@@ -37,3 +37,11 @@ abbrev pub reading_by : FormatValue → ℕ → ℕ → Option Combination → R
 reading_by format width number last (Err kind) = stopped number kind
 reading_by format width number last (Ok None) = ended
 reading_by format width number last (Ok (Some (line, rest))) = then_reads number (next_entry format width last line) (λ entry. reading_of_rest format width (line_after number) (Some entry.0) rest)
+
+-- what was to come is what is now read from the head on
+abbrev pub IsRead : FormatValue → ℕ → ℕ → Option Combination → Option Coming → TextValue → Type 0
+IsRead format width number last coming text = option_map (reading_of_rest format width number last) coming ≡ reading_from format text
+
+-- what was to come stops at once, where it is known
+abbrev pub IsRefused : FormatValue → ℕ → ℕ → Option Combination → Option Coming → TableKind → Type 0
+IsRefused format width number last coming kind = IfSome (option_map (reading_of_rest format width number last) coming) (λ reading. reading ≡ stopped number kind)
