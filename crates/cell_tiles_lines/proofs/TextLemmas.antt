@@ -19,14 +19,14 @@ use Rattle.cell_tiles_lines.specs.declared.table_fault.TheConstants.{MOST_BYTES}
 use Rattle.cell_tiles_lines.proofs.PlaceLemmas.{split-none}
 
 module _ (format : FormatValue) (width number : ℕ) (last : Option Combination) where
-  abbrev by_lines : Bool → List (List ℕ) → Reading
+  abbrev pub by_lines : Bool → List (List ℕ) → Reading
   by_lines fails lines = reading_of_lines format width fails number last lines
 
-  abbrev one_line : Bool → List ℕ → List (List ℕ) → Reading
+  abbrev pub one_line : Bool → List ℕ → List (List ℕ) → Reading
   one_line fails line lines = cond (nat_lt MOST_BYTES (length line)) (stopped number LongLine) (then_reads number (next_entry format width last line) (λ entry. reading_of_lines format width fails (line_after number) (Some entry.0) lines))
 
   -- a line with others behind it
-  more-lines : (fails : Bool) (line bytes : List ℕ) → by_lines fails (line ∷ slice_split is_line_feed bytes) ≡ one_line fails line (slice_split is_line_feed bytes)
+  pub more-lines : (fails : Bool) (line bytes : List ℕ) → by_lines fails (line ∷ slice_split is_line_feed bytes) ≡ one_line fails line (slice_split is_line_feed bytes)
   more-lines fails line [] = refl
   more-lines fails line (b ∷ bs) = by (is_line_feed b) (slice_split is_line_feed bs)
     where
