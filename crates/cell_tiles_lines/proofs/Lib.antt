@@ -1,0 +1,4 @@
+pub mod PlaceLemmas
+pub mod FieldLemmas
+pub mod LinePartLemmas
+pub mod TextLemmas

@@ -1,0 +1,20 @@
+-- Where a byte stands in a text, and how it cuts the text.
+use Rattle.std.proofs.Common.{◌≡◌, ℕ, suc, ◌+◌, ◌<◌, ◌≤◌, List, [], ◌∷◌, length, get_or, Bool, true, false, Option, Some, None, refl, ap, sym, ◌∙◌, arith, cond, ◌==◌, MatchOption}
+use Rattle.std.proofs.lemmas.List.Splits.{slice_split_none, slice_split_first}
+use Rattle.std.proofs.lemmas.List.Sums.{position_or_len_is, fails_before_first}
+use Rattle.std.specs.Prelude.{All}
+use Rattle.std.specs.List.{position_or_len, before_first, after_first, slice_split}
+use Rattle.memchr.specs.Find.{IsFirstByte, is_byte}
+
+fails : (b : Bool) → ¬ (b ≡ true) → b ≡ false
+fails true h = absurd (h refl)
+fails false h = refl
+
+-- what `memchr` finds
+pub found : (a : ℕ) (text : List ℕ) (r : Option ℕ) → IsFirstByte (is_byte a) text r → MatchOption r (position_or_len (λ b. b == a) text ≡ length text) (λ k. (k < length text) × (position_or_len (λ b. b == a) text ≡ k))
+found a text None none = position_or_len_is (λ b. b == a) text (length text) 0 (omega arith) (λ k h. fails _ (none k (omega arith) h)) (λ h. absurd (omega arith))
+found a text (Some k) some = (some.0.high, position_or_len_is (λ b. b == a) text k 0 (omega (arith, some.0.high)) (λ j h. fails _ (some.0.before j (omega arith) h)) (λ h. some.1))
+
+-- a text without the byte is one part
+pub split-none : (p : ℕ → Bool) (text : List ℕ) → position_or_len p text ≡ length text → slice_split p text ≡ text ∷ []
+split-none p text e = slice_split_none p text (λ i d h. fails_before_first p text i d (omega (arith, e)))

@@ -1,0 +1,6 @@
+-- Texts of tables: what their lines are, and how they are read.
+pub mod LineFields
+pub mod LineReading
+pub mod SourceLines
+pub mod TableLines
+pub mod TextReading

@@ -1,0 +1,2 @@
+pub mod PrintedFieldLemmas
+pub mod PrintedTableLemmas

@@ -1,0 +1,41 @@
+-- Which tables are printed so that they are read back.
+use Rattle.std.specs.Prelude.{ℕ, ◌≡◌, ◌<◌, ◌≤◌, ◌^◌, ◌==◌, ◌||◌, ◌⊎◌, not, Bool, true, false, List, All, length, map, None}
+use Rattle.std.specs.List.{list_all, join_with_byte}
+use Rattle.std.specs.List.Sorted.{IsStrictlySortedBy}
+use Rattle.cell_core_text.specs.Digits.{is_digit}
+use Rattle.cell_core_values.specs.Cell.{IsCell}
+use Rattle.cell_core.specs.Grid.{Grid}
+use Rattle.cell_stats_combinations.specs.Combinations.{Combination, combination_cmp}
+use Rattle.cell_stats.specs.CategoryTables.{Pairs}
+use Rattle.cell_stats.specs.TableText.{FormatValue, table_text}
+use Rattle.cell_tiles_lines.specs.LineFields.{category_of_field}
+use Rattle.cell_tiles_lines.specs.LineReading.{reading_of}
+use Rattle.cell_tiles_lines.specs.TableLines.{entries_text, entry_fields}
+use Rattle.cell_tiles_lines.specs.declared.table_fault.TheConstants.{MOST_BYTES}
+
+-- a byte that no number is printed with, and no line feed
+abbrev pub is_apart : ℕ → Bool
+is_apart b = not (is_digit b || (b == 45 || b == 10))
+
+-- fields can be told apart: by a separator that stands in none of them, and a null text that is no category
+pub record IsClear (format : FormatValue) : Type 0 where
+  pub separator : is_apart format.separator ≡ true
+  pub apart : list_all (λ b. not (b == format.separator)) format.null_text ≡ true
+  pub one_line : list_all (λ b. not (b == 10)) format.null_text ≡ true
+  pub null : category_of_field format.null_text ≡ None
+
+-- an entry of so many cells, with a count from 1 to 2^64 - 1, whose line is not too long
+pub record IsEntry (format : FormatValue) (width : ℕ) (entry : Combination × ℕ) : Type 0 where
+  pub wide : length entry.0 ≡ width
+  pub cells : All IsCell entry.0
+  pub some : 0 < entry.1
+  pub fits : entry.1 < 2 ^ 64
+  pub short : length (join_with_byte format.separator (entry_fields format entry)) ≤ MOST_BYTES
+
+-- the text of such entries in order is read as these entries, with no fault, whether or not their width is known before
+abbrev pub PrintedReadsAsItself : Type 0
+PrintedReadsAsItself = (format : FormatValue) (wanted width : ℕ) (entries : Pairs) → IsClear format → 0 < width → (wanted ≡ 0) ⊎ (wanted ≡ width) → All (IsEntry format width) entries → IsStrictlySortedBy combination_cmp (map (λ entry. entry.0) entries) → reading_of format wanted (record { bytes = entries_text format entries; fails = false }) ≡ record { entries = entries; fault = None }
+
+-- what is printed of a table with counts and without labels is the text of its entries
+abbrev pub PrintsAsTables : Type 0
+PrintsAsTables = (format : FormatValue) (maps : List Grid) (picks : List ℕ) (entries : Pairs) → format.labels ≡ false → format.counts ≡ true → All (λ entry. length entry.0 ≡ length picks) entries → table_text format maps picks entries ≡ entries_text format entries

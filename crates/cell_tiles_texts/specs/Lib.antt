@@ -1,0 +1,3 @@
+-- Texts of tables merged.
+pub mod JoinedTexts
+pub mod parts

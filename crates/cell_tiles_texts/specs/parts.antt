@@ -1,0 +1,2 @@
+-- One step of a merge.
+pub mod Steps
