@@ -87,13 +87,16 @@ first_fault (Err f) grid region shelf name map is same h = λ input.
     cc
 
 -- what is wrong with a map that was read is wrong with its grid
-pub grid_refused : (given : Option Coming) (placed : Result ShelfValue RunFault) (grid : ℕ) (shelf : Option ShelfValue) (name : List ℕ) (map : Grid)
-    → IfSome given (λ c. grid_of c ≡ Ok map) → IfErr placed (λ f. IsOfInput f → shelf_placed grid shelf name map ≡ Err f)
+pub grid_refused : (given : Option Coming) (placed : Result ShelfValue RunFault) (grid : ℕ)
+    (shelf : Option ShelfValue) (name : List ℕ) (map : Grid)
+    → IfSome given (λ c. grid_of c ≡ Ok map)
+    → IfErr placed (λ f. IsOfInput f → shelf_placed grid shelf name map ≡ Err f)
     → IfErr placed (λ f. IsOfInput f → IfSome given (λ c. with_grid grid shelf name (grid_of c) ≡ Err f))
 grid_refused None (Ok s) grid shelf name map read fault = tt
 grid_refused None (Err f) grid shelf name map read fault = λ input. tt
 grid_refused (Some c) (Ok s) grid shelf name map read fault = tt
-grid_refused (Some c) (Err f) grid shelf name map read fault = λ input. ap (with_grid grid shelf name) read ∙ fault input
+grid_refused (Some c) (Err f) grid shelf name map read fault = λ input. ap (with_grid grid shelf name) read
+    ∙ fault input
 
 module _ {R : Type 0} (coming : R → Option Coming) (grid : ℕ) (shelf : Option ShelfValue) (g : List ℕ × R) (rest : List (List ℕ × R)) where
   -- what the first grid gives is known
@@ -102,25 +105,37 @@ module _ {R : Type 0} (coming : R → Option Coming) (grid : ℕ) (shelf : Optio
 
   more : (next : ShelfValue) (named : List Named) → Tell coming (g ∷ rest) named
       → IfSome (coming g.1) (λ c. with_grid grid shelf g.0 (grid_of c) ≡ Ok next)
-      → (others : List Named) × (Tell coming rest others × (shelf_from grid shelf named ≡ shelf_from (grid + 1) (Some next) others))
+      → (others : List Named) × (Tell coming rest others
+      × (shelf_from grid shelf named ≡ shelf_from (grid + 1) (Some next) others))
   unfolding shelf_from
   more next [] tell one = absurd tell
   more next (n ∷ named) tell one =
-      let first : with_grid grid shelf g.0 (grid_of n.1) ≡ Ok next = one_known n (λ c. with_grid grid shelf g.0 (grid_of c) ≡ Ok next) tell.0.1 one in
-      (named, (tell.1, ap (then_grids (λ s. shelf_from (grid + 1) (Some s) named)) (ap (λ name. with_grid grid shelf name (grid_of n.1)) (sym tell.0.0) ∙ first)))
+      let first : with_grid grid shelf g.0 (grid_of n.1) ≡ Ok next =
+      one_known n (λ c. with_grid grid shelf g.0 (grid_of c) ≡ Ok next) tell.0.1 one in (
+        named,
+        (
+          tell.1,
+          ap (then_grids (λ s. shelf_from (grid + 1) (Some s) named))
+              (ap (λ name. with_grid grid shelf name (grid_of n.1)) (sym tell.0.0) ∙ first),
+        ),
+      )
 
   fails : (f : RunFault) (named : List Named) → Tell coming (g ∷ rest) named
       → IfSome (coming g.1) (λ c. with_grid grid shelf g.0 (grid_of c) ≡ Err f) → shelf_from grid shelf named ≡ Err f
   unfolding shelf_from
   fails f [] tell one = absurd tell
   fails f (n ∷ named) tell one =
-      let first : with_grid grid shelf g.0 (grid_of n.1) ≡ Err f = one_known n (λ c. with_grid grid shelf g.0 (grid_of c) ≡ Err f) tell.0.1 one in
-      ap (then_grids (λ s. shelf_from (grid + 1) (Some s) named)) (ap (λ name. with_grid grid shelf name (grid_of n.1)) (sym tell.0.0) ∙ first)
+      let first : with_grid grid shelf g.0 (grid_of n.1) ≡ Err f =
+      one_known n (λ c. with_grid grid shelf g.0 (grid_of c) ≡ Err f) tell.0.1 one in
+      ap (then_grids (λ s. shelf_from (grid + 1) (Some s) named))
+      (ap (λ name. with_grid grid shelf name (grid_of n.1)) (sym tell.0.0) ∙ first)
 
   -- a grid more
-  pub shelf_more : (gs : List (List ℕ × R)) (next : ShelfValue) (named : List Named) → gs ≡ g ∷ rest → Tell coming gs named
+  pub shelf_more : (gs : List (List ℕ × R)) (next : ShelfValue) (named : List Named) → gs ≡ g ∷ rest
+      → Tell coming gs named
       → IfSome (coming g.1) (λ c. with_grid grid shelf g.0 (grid_of c) ≡ Ok next)
-      → (others : List Named) × (Tell coming rest others × (shelf_from grid shelf named ≡ shelf_from (grid + 1) (Some next) others))
+      → (others : List Named) × (Tell coming rest others
+      × (shelf_from grid shelf named ≡ shelf_from (grid + 1) (Some next) others))
   shelf_more gs next named is tell one = more next named (rw is at tell) one
 
   -- a grid that is refused
@@ -129,7 +144,8 @@ module _ {R : Type 0} (coming : R → Option Coming) (grid : ℕ) (shelf : Optio
   shelf_fails gs f named is tell one = fails f named (rw is at tell) one
 
 -- no grid is left
-pub none_left : {R : Type 0} (coming : R → Option Coming) (gs : List (List ℕ × R)) (named : List Named) → gs ≡ [] → Tell coming gs named → named ≡ []
+pub none_left : {R : Type 0} (coming : R → Option Coming) (gs : List (List ℕ × R)) (named : List Named) → gs ≡ []
+    → Tell coming gs named → named ≡ []
 none_left coming gs [] none tell = refl
 none_left coming gs (n ∷ named) none tell = absurd (let t : Tell coming [] (n ∷ named) = rw none at tell in t)
 

@@ -22,7 +22,9 @@ loop-name-preserved g c =
     record {
       loads = λ named tell.
           let so = at.invariant.loads named tell in
-          let n = shelf_more coming at.grid at.shelf (c.in-Some.name, c.in-Some.source) (into_iter_items c.next.new.self) (into_iter_items at.name-iterator) c.in-Ok.more so.0 is so.1.0 c.in-Ok.ensures.ok in
+          let n = shelf_more coming at.grid at.shelf (c.in-Some.name, c.in-Some.source)
+          (into_iter_items c.next.new.self) (into_iter_items at.name-iterator) c.in-Ok.more so.0 is so.1.0
+          c.in-Ok.ensures.ok in
           (n.0, (n.1.0, so.1.1 ∙ n.1.1));
       count = search rules;
       len = let was = at.invariant.len in
