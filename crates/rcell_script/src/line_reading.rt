@@ -90,7 +90,8 @@ fn add_made(alloc: Global, known: &mut Names, command: &Command) -> Result<(), M
 
 // A line among rules, and the rules with it.
 fn add_rule(rules: &mut Rules, line: &[u8]) -> Result<LineKind, ScriptKind>
-    ensures { Answers ScriptKind.Memory (λ kind. (kind, rules.new)) result (rule_line rules.old line.now) }
+    ensures { Answers ScriptKind.Memory (λ kind. (kind, rules.new)) result
+        (rule_line rules.old line.now) }
 {
     if line.len() > MOST_LINE {
         return Err(ScriptKind::LongLine);
@@ -160,7 +161,8 @@ impl Progress {
         text: &[u8],
     ) -> Result<Progress, ScriptFault>
         requires { FitsBlock self.known (Some block) }
-        ensures next { ReadsLine (λ next. after_rule line self block (rule_line block.rules text.now) ≡ next) result }
+        ensures next { ReadsLine (λ next. after_rule line self block (rule_line block.rules text.now)
+            ≡ next) result }
         ensures memory { IfErr result (λ fault. fault.kind ≡ ScriptKind.Memory → fault.line ≡ 0) }
     {
         match add_rule(&mut block.rules, text) {
@@ -199,7 +201,8 @@ impl Progress {
         requires line { 0 < line }
         requires fits { FitsBlock self.known self.pending }
         ensures next { ReadsLine (IsNext line self text.now) result }
-        ensures sound { IfOk result (λ read. (first : List (List ℕ)) → IsSound first self → IsSound first read) }
+        ensures sound { IfOk result (λ read. (first : List (List ℕ)) → IsSound first self
+            → IsSound first read) }
         ensures memory { IfErr result (λ fault. fault.kind ≡ ScriptKind.Memory → fault.line ≡ 0) }
     {
         let Progress {

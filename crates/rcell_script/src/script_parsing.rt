@@ -23,7 +23,8 @@ pub fn parse_script(alloc: Global, text: &[u8], known: &Names) -> Result<Script,
     ensures ok { IfOk result (λ script. IsScript known.now text.now script) }
     ensures fits { IfOk result (λ script. Fits known.now script) }
     ensures numbered { IfOk result (λ script. All (λ s. 0 < s.line) script) }
-    ensures err { IfErr result (λ fault. fault.kind ≢ ScriptKind.Memory → IsScriptFault known.now text.now fault) }
+    ensures err { IfErr result (λ fault. fault.kind ≢ ScriptKind.Memory
+        → IsScriptFault known.now text.now fault) }
     ensures memory { IfErr result (λ fault. fault.kind ≡ ScriptKind.Memory → fault.line ≡ 0) }
 {
     let Ok(lines) = lines_of(alloc, text) else {

@@ -1,32 +1,34 @@
 -- What a line is that is read without a fault, and what it spells.
 use Rattle.std.proofs.Common.{◌≡◌, ℕ, ◌≤◌, Bool, true, false, cond, List, [], ◌∷◌, length, Option, Some, None, Result, Ok, Err, inl, inr, codes, refl, ap, sym, ◌∙◌, subst}
-use Rattle.std.specs.Prelude.{◌⊎◌, nat_lt, bytes_eq, unwrap_or}
+use Rattle.std.specs.Prelude.{◌⊎◌, ◌&&◌, ◌||◌, is_some, nat_lt, bytes_eq, unwrap_or}
 use Rattle.std.specs.Cmp.Lexicographic.{bytes_decides}
+use Rattle.std.specs.List.{flat_map}
 use Rattle.std.specs.Option.{ok_or}
 use Rattle.std.proofs.lemmas.Bool.{ltb-false, le-ltb}
 use Rattle.cell_ascii_meaning.specs.Header.{usual_null}
 use Rattle.cell_calc_binding.specs.Binding.{with_places}
-use Rattle.cell_core_values.specs.Name.{place_of}
+use Rattle.cell_core_values.specs.Name.{is_name, place_of}
 use Rattle.cell_calc_language.specs.Assignment.{IsAssignmentText}
 use Rattle.cell_calc_language.specs.Unknown.{first_unknown}
 use Rattle.cell_calc_language.specs.declared.assignment.Assignment.{Assignment}
 use Rattle.cell_stats_combinations.specs.Combinations.{Combination}
 use Rattle.cell_stats_combinations.specs.ComboReading.{combo_of}
+use Rattle.cell_stats_combinations.specs.ComboText.{SpellsCombination}
 use Rattle.cell_stats_combinations.proofs.ReadingLemmas.{combinations-are-read}
 use Rattle.cell_stats_combinations.specs.declared.combination_text.ComboFault.{ComboFault}
 use Rattle.cell_core_text.specs.Answers.{◌>>=◌}
 use Rattle.cell_core_text.specs.Words.{words_of}
-use Rattle.rcell_script_commands.specs.Commands.{as_whole, as_opened, head_named, head_of_words, is_mapcalc, IsShortHead, IsHeadOf, IsHead, clump_of, mapcalc_of, IsMapcalc, out_ascii_of, reclass_of, after_of, stats_of}
+use Rattle.rcell_script_commands.specs.Commands.{as_whole, as_opened, head_named, head_of_words, is_mapcalc, IsShortHead, IsHeadOf, IsHead, clump_of, mapcalc_of, IsMapcalc, out_ascii_of, reclass_of, after_of, printed_with, stats_of}
 use Rattle.rcell_script_commands.specs.ScriptFaults.{in_script}
 use Rattle.rcell_script_commands.specs.Skipped.{is_comment, IsSkipped}
-use Rattle.rcell_script_options.specs.Options.{Given, is_torn}
+use Rattle.rcell_script_options.specs.Options.{letters_in, values_of, IsOptional, SpellsText, SpellsNames}
 use Rattle.rcell_script_options.specs.Maps.{from_to, input_place, input_places}
 use Rattle.rcell_script_options.specs.InputPlaces.{places_of}
-use Rattle.rcell_script_options.specs.OptionReading.{options_of}
+use Rattle.rcell_script_options.specs.OptionReading.{Given, is_torn, no_flags, with_letters, options_of}
 use Rattle.rcell_script_commands.specs.RClump.{joining_of, SpellsClump}
 use Rattle.rcell_script_commands.specs.RMapcalc.{assignment_text}
-use Rattle.rcell_script_commands.specs.RStats.{printed_with, SpellsAfter, SpellsStats}
-use Rattle.rcell_script_commands.specs.RReclass.{AreFromTo, SpellsReclass}
+use Rattle.rcell_script_commands.specs.RStats.{skip_of, SpellsStats}
+use Rattle.rcell_script_commands.specs.RReclass.{SpellsReclass}
 use Rattle.rcell_script_commands.specs.ROutAscii.{SpellsOutAscii}
 use Rattle.rcell_script_commands.specs.CommandSpelling.{SpellsCommand}
 use Rattle.rcell_script_commands.specs.declared.script_fault.ScriptKind.{ScriptKind}
@@ -39,7 +41,9 @@ use Rattle.rcell_script_options.specs.declared.options.Form.TheVariants as form
 use Rattle.rcell_script_commands.specs.declared.command.Command.{Command}
 use Rattle.rcell_script_commands.specs.declared.command.Command.TheVariants.{Mapcalc, Reclass, Clump, Stats, OutAscii}
 use Rattle.rcell_script_commands.specs.declared.command.StatsOptions.{StatsOptions}
-use Rattle.rcell_script_options.proofs.OptionLemmas.{options-sound, options-complete}
+use Rattle.rcell_script_options.specs.declared.options.Flags.{Flags}
+use Rattle.cell_stats_combinations.specs.declared.skip.Skip.{Skip}
+use Rattle.rcell_script_options.proofs.OptionLaw.{AreOptions, options-sound, options-complete}
 use Rattle.rcell_script_commands.proofs.SkippedLemmas.{say_nothing, say_nothing-trimmed}
 
 -- one of two, by a test
@@ -52,24 +56,39 @@ named name text e = (bytes_decides name text).0 e
 
 -- ---- options
 
+-- the flags that words give
+abbrev flags_in : List (List ℕ) → Flags
+flags_in words = with_letters no_flags (flat_map letters_in words)
+
 -- the maps of r.reclass and r.clump
-from_to-sound : (known : List (List ℕ)) (given : Given) (maps : ℕ × List ℕ) → from_to known given ≡ Ok maps → AreFromTo known given maps.0 maps.1
+record Maker (known : List (List ℕ)) (given : Given) (place : ℕ) (target : List ℕ) : Type 0 where
+  input : List ℕ
+  input_is : given.input ≡ Some input
+  read : place_of input known ≡ Some place
+  output_is : given.output ≡ Some target
+  made : place_of target known ≡ None
+
+from_to-sound : (known : List (List ℕ)) (given : Given) (maps : ℕ × List ℕ) → from_to known given ≡ Ok maps
+    → Maker known given maps.0 maps.1
 from_to-sound known given maps e = by given.input given.output refl refl
   where
-    found : (input output : List ℕ) (place made : Option ℕ) → given.input ≡ Some input → given.output ≡ Some output → place_of input known ≡ place → place_of output known ≡ made → AreFromTo known given maps.0 maps.1
+    found : (input output : List ℕ) (place made : Option ℕ) → given.input ≡ Some input → given.output ≡ Some output
+        → place_of input known ≡ place → place_of output known ≡ made → Maker known given maps.0 maps.1
     found input output None made i o p n = let f : Err _ ≡ Ok maps = rw (i, o, p) at e in cc
     found input output (Some place) (Some old) i o p n = let f : Err _ ≡ Ok maps = rw (i, o, p, n) at e in cc
     found input output (Some place) None i o p n =
         let f : Ok (place, output) ≡ Ok maps = rw (i, o, p, n) at e in
         let same : (place, output) ≡ maps = cc in
-        subst (λ (m : ℕ × List ℕ). AreFromTo known given m.0 m.1) same (record { input = input; input_is = i; read = p; output_is = o; made = n })
+        subst (λ (m : ℕ × List ℕ). Maker known given m.0 m.1) same (record { input = input; input_is = i; read = p; output_is = o; made = n })
 
-    by : (input output : Option (List ℕ)) → given.input ≡ input → given.output ≡ output → AreFromTo known given maps.0 maps.1
+    by : (input output : Option (List ℕ)) → given.input ≡ input → given.output ≡ output
+        → Maker known given maps.0 maps.1
     by None output i o = let f : Err _ ≡ Ok maps = rw i at e in cc
     by (Some input) None i o = let f : Err _ ≡ Ok maps = rw (i, o) at e in cc
     by (Some input) (Some output) i o = found input output (place_of input known) (place_of output known) i o refl refl
 
-from_to-complete : (known : List (List ℕ)) (given : Given) (place : ℕ) (target : List ℕ) → AreFromTo known given place target → from_to known given ≡ Ok (place, target)
+from_to-complete : (known : List (List ℕ)) (given : Given) (place : ℕ) (target : List ℕ)
+    → Maker known given place target → from_to known given ≡ Ok (place, target)
 from_to-complete known given place target maps = rw (maps.input_is, maps.output_is, maps.read, maps.made) refl
 
 -- what comes next of something that is good
@@ -78,7 +97,8 @@ record Went {A B E : Type 0} (next : A → Result B E) (first : Result A E) (las
   is : first ≡ Ok value
   goes : next value ≡ Ok last
 
-went : {A B E : Type 0} (next : A → Result B E) (first : Result A E) (last : B) → (first >>= next) ≡ Ok last → Went next first last
+went : {A B E : Type 0} (next : A → Result B E) (first : Result A E) (last : B) → (first >>= next) ≡ Ok last
+    → Went next first last
 went next (Ok value) last e = record { value = value; is = refl; goes = e }
 went next (Err kind) last e = cc
 
@@ -89,49 +109,147 @@ in_script-ok (Err fault) x e = cc
 
 -- ---- r.reclass
 
-reclass-sound : (known : List (List ℕ)) (line : List ℕ) (words : List (List ℕ)) (maps : ℕ × List ℕ) → words_of line ≡ codes "r.reclass" ∷ words
+reclass-sound : (known : List (List ℕ)) (line : List ℕ) (words : List (List ℕ)) (maps : ℕ × List ℕ)
+    → words_of line ≡ codes "r.reclass" ∷ words
     → reclass_of known words ≡ Ok maps → SpellsReclass known line maps.0 maps.1
 reclass-sound known line words maps is e =
     let w = went (from_to known) (options_of form.Reclass words) maps e in
-    record { words = words; named = is; given = w.value; options = options-sound form.Reclass words w.value w.is; maps = from_to-sound known w.value maps w.goes }
+    let are = options-sound form.Reclass words w.value w.is in
+    let m = from_to-sound known w.value maps w.goes in
+    record {
+      words = words;
+      named = is;
+      maps = record {
+        each = are.each;
+        input = m.input;
+        input_is = subst (λ o. IsOptional (SpellsText is_name) (values_of (codes "input") words) o) m.input_is are.input;
+        read = m.read;
+        output_is = subst (λ o. IsOptional (SpellsText is_name) (values_of (codes "output") words) o) m.output_is are.output;
+        made = m.made;
+      };
+    }
+
+-- what r.reclass and r.clump give
+abbrev maker_given : List (List ℕ) → List ℕ → List ℕ → Given
+maker_given words input target =
+    record { flags = flags_in words; input = Some input; inputs = None; output = Some target; separator = None; null_text = None; table_null_text = None; after = None }
 
 reclass-complete : (known : List (List ℕ)) (line : List ℕ) (place : ℕ) (target : List ℕ) (s : SpellsReclass known line place target) → reclass_of known s.words ≡ Ok (place, target)
-reclass-complete known line place target s = rw (options-complete form.Reclass s.words s.given s.options) (from_to-complete known s.given place target s.maps)
+reclass-complete known line place target s =
+    let m = s.maps in
+    let are : AreOptions form.Reclass s.words (maker_given s.words m.input target) = record {
+      each = m.each;
+      flags = refl;
+      input = m.input_is;
+      inputs = refl;
+      output = m.output_is;
+      separator = refl;
+      null_text = refl;
+      table_null_text = refl;
+      after = refl;
+    } in
+    ap (λ r. r >>= from_to known) (options-complete form.Reclass s.words (maker_given s.words m.input target) are)
+    ∙ from_to-complete known (maker_given s.words m.input target) place target (record { input = m.input; input_is = refl; read = m.read; output_is = refl; made = m.made })
 
 -- ---- r.clump
 
-clump-sound : (known : List (List ℕ)) (line : List ℕ) (words : List (List ℕ)) (command : Command) → words_of line ≡ codes "r.clump" ∷ words
+clump-sound : (known : List (List ℕ)) (line : List ℕ) (words : List (List ℕ)) (command : Command)
+    → words_of line ≡ codes "r.clump" ∷ words
     → clump_of known words ≡ Ok command → SpellsCommand known line command
 clump-sound known line words command is e =
-    let w = went (λ given. from_to known given >>= (λ maps. Ok (Clump maps.0 maps.1 (joining_of given)))) (options_of form.Clump words) command e in
-    let v = went (λ maps. Ok (Clump maps.0 maps.1 (joining_of w.value))) (from_to known w.value) command w.goes in
-    let same : Clump v.value.0 v.value.1 (joining_of w.value) ≡ command = let f = v.goes in cc in
-    subst (λ c. SpellsCommand known line c) same (record { words = words; named = is; given = w.value; options = options-sound form.Clump words w.value w.is; maps = from_to-sound known w.value v.value v.is; joining_is = refl })
+    let w = went (λ given. from_to known given >>= (λ maps. Ok (Clump maps.0 maps.1 (joining_of given.flags.corners)))) (options_of form.Clump words) command e in
+    let v = went (λ maps. Ok (Clump maps.0 maps.1 (joining_of w.value.flags.corners))) (from_to known w.value) command w.goes in
+    let are = options-sound form.Clump words w.value w.is in
+    let m = from_to-sound known w.value v.value v.is in
+    let same : Clump v.value.0 v.value.1 (joining_of w.value.flags.corners) ≡ command = let f = v.goes in cc in
+    subst (λ c. SpellsCommand known line c) same (record {
+      words = words;
+      named = is;
+      maps = record {
+        each = are.each;
+        input = m.input;
+        input_is = subst (λ o. IsOptional (SpellsText is_name) (values_of (codes "input") words) o) m.input_is are.input;
+        read = m.read;
+        output_is = subst (λ o. IsOptional (SpellsText is_name) (values_of (codes "output") words) o) m.output_is are.output;
+        made = m.made;
+      };
+      joining_is = ap (λ (flags : Flags). joining_of flags.corners) are.flags;
+    })
 
 clump-complete : (known : List (List ℕ)) (line : List ℕ) (place : ℕ) (target : List ℕ) (joining : _) (s : SpellsClump known line place target joining) → clump_of known s.words ≡ Ok (Clump place target joining)
 clump-complete known line place target joining s =
-    rw (options-complete form.Clump s.words s.given s.options, from_to-complete known s.given place target s.maps) (ap (λ j. Ok (Clump place target j)) s.joining_is)
+    let m = s.maps in
+    let are : AreOptions form.Clump s.words (maker_given s.words m.input target) = record {
+      each = m.each;
+      flags = refl;
+      input = m.input_is;
+      inputs = refl;
+      output = m.output_is;
+      separator = refl;
+      null_text = refl;
+      table_null_text = refl;
+      after = refl;
+    } in
+    ap (λ r. r >>= (λ given. from_to known given >>= (λ maps. Ok (Clump maps.0 maps.1 (joining_of given.flags.corners))))) (options-complete form.Clump s.words (maker_given s.words m.input target) are)
+    ∙ ap (λ r. r >>= (λ maps. Ok (Clump maps.0 maps.1 (joining_of (flags_in s.words).corners))))
+    (from_to-complete known (maker_given s.words m.input target) place target (record { input = m.input; input_is = refl; read = m.read; output_is = refl; made = m.made }))
+    ∙ ap (λ j. Ok (Clump place target j)) s.joining_is
 
 -- ---- r.stats
 
-after-sound : (width : ℕ) (text : Option (List ℕ)) (after : Option Combination) → after_of width text ≡ Ok after → SpellsAfter width text after
-after-sound width None None e = tt
-after-sound width None (Some combination) e = let f : None ≡ Some combination = cc in cc
-after-sound width (Some text) after e = by (combo_of width text) refl after e
+-- the values of `after` spell a combination
+abbrev IsAfter : ℕ → List (List ℕ) → Option Combination → Type 0
+IsAfter width values after = IsOptional (λ value cells. (length cells ≡ width) × SpellsCombination value cells) values after
+
+abbrev IsGivenText : List (List ℕ) → Option (List ℕ) → Type 0
+IsGivenText values text = IsOptional (λ value text. value ≡ text) values text
+
+after-sound : (width : ℕ) (values : List (List ℕ)) (text : Option (List ℕ)) (after : Option Combination)
+    → IsGivenText values text → after_of width text ≡ Ok after → IsAfter width values after
+after-sound width values None None none e = none
+after-sound width values None (Some combination) none e = let f : None ≡ Some combination = cc in cc
+after-sound width values (Some text) after (value, is, same) e = by (combo_of width text) refl after e
   where
-    by : (read : Result Combination ComboFault) → combo_of width text ≡ read → (after : Option Combination) → after_of width (Some text) ≡ Ok after → SpellsAfter width (Some text) after
+    by : (read : Result Combination ComboFault) → combo_of width text ≡ read → (after : Option Combination)
+        → after_of width (Some text) ≡ Ok after → IsAfter width values after
     by (Err fault) r after e = let f : Err _ ≡ Ok after = rw r at e in cc
     by (Ok combination) r None e = let f : Ok (Some combination) ≡ Ok None = rw r at e in cc
     by (Ok combination) r (Some other) e =
         let f : Ok (Some combination) ≡ Ok (Some other) = rw r at e in
-        let same : combination ≡ other = cc in
-        (combinations-are-read width text other).0 (r ∙ ap Ok same)
+        let that : combination ≡ other = cc in
+        (value, is, (combinations-are-read width value other).0 (ap (combo_of width) same ∙ r ∙ ap Ok that))
 
-after-complete : (width : ℕ) (text : Option (List ℕ)) (after : Option Combination) → SpellsAfter width text after → after_of width text ≡ Ok after
-after-complete width None None s = refl
-after-complete width None (Some combination) s = absurd s
-after-complete width (Some text) None s = absurd s
-after-complete width (Some text) (Some combination) s = rw ((combinations-are-read width text combination).1 s) refl
+-- no combination of no text
+after-none : (width : ℕ) (text : Option (List ℕ)) (after : Option Combination) → is_some text ≡ false
+    → after_of width text ≡ Ok after → after ≡ None
+after-none width None None e f = refl
+after-none width None (Some combination) e f = let g : None ≡ Some combination = cc in cc
+after-none width (Some text) after e f = cc
+
+-- the text that spells a combination
+record AfterText (width : ℕ) (values : List (List ℕ)) (after : Option Combination) : Type 0 where
+  text : Option (List ℕ)
+  is : IsGivenText values text
+  read : after_of width text ≡ Ok after
+  none : after ≡ None → is_some text ≡ false
+
+after-complete : (width : ℕ) (values : List (List ℕ)) (after : Option Combination) → IsAfter width values after
+    → AfterText width values after
+after-complete width values None none = record { text = None; is = none; read = refl; none = λ e. refl }
+after-complete width values (Some combination) (value, is, spells) = record { text = Some value; is = (value, is, refl); read = rw ((combinations-are-read width value combination).1 spells) refl; none = λ e. cc }
+
+-- flags that go together
+torn-no : (cells counts some : Bool) → (cells && (counts || some)) ≡ false → cells ≡ true
+    → (counts ≡ false) × (some ≡ false)
+torn-no true false false e c = (refl, refl)
+torn-no true true some e c = cc
+torn-no true false true e c = cc
+torn-no false counts some e c = cc
+
+no-torn : (cells counts some : Bool) → (cells ≡ true → (counts ≡ false) × (some ≡ false))
+    → (cells && (counts || some)) ≡ false
+no-torn false counts some h = refl
+no-torn true counts some h = let b = h refl in rw (b.0, b.1) refl
 
 -- the inputs whose places are these
 record Placed (known : List (List ℕ)) (given : Given) (places : List ℕ) : Type 0 where
@@ -140,20 +258,24 @@ record Placed (known : List (List ℕ)) (given : Given) (places : List ℕ) : Ty
   read : places_of known inputs ≡ Some places
   together : is_torn given ≡ false
 
-input_places-sound : (known : List (List ℕ)) (given : Given) (places : List ℕ) → input_places known given ≡ Ok places → Placed known given places
+input_places-sound : (known : List (List ℕ)) (given : Given) (places : List ℕ) → input_places known given ≡ Ok places
+    → Placed known given places
 input_places-sound known given places e = by given.inputs refl e
   where
-    found : (inputs : List (List ℕ)) (torn : Bool) (place : Option (List ℕ)) → given.inputs ≡ Some inputs → is_torn given ≡ torn → places_of known inputs ≡ place
+    found : (inputs : List (List ℕ)) (torn : Bool) (place : Option (List ℕ)) → given.inputs ≡ Some inputs
+        → is_torn given ≡ torn → places_of known inputs ≡ place
         → cond torn (Err BadOption) (ok_or place UnknownMap) ≡ Ok places → Placed known given places
     found inputs true place i t p f = cc
     found inputs false None i t p f = cc
     found inputs false (Some other) i t p f = let same : other ≡ places = cc in record { inputs = inputs; inputs_are = i; read = p ∙ ap Some same; together = t }
 
-    by : (inputs : Option (List (List ℕ))) → given.inputs ≡ inputs → (ok_or inputs MissingOption >>= (λ names. cond (is_torn given) (Err BadOption) (ok_or (places_of known names) UnknownMap))) ≡ Ok places → Placed known given places
+    by : (inputs : Option (List (List ℕ))) → given.inputs ≡ inputs
+        → (ok_or inputs MissingOption >>= (λ names. cond (is_torn given) (Err BadOption) (ok_or (places_of known names) UnknownMap))) ≡ Ok places → Placed known given places
     by None i f = cc
     by (Some inputs) i f = found inputs (is_torn given) (places_of known inputs) i refl refl f
 
-input_places-complete : (known : List (List ℕ)) (given : Given) (inputs : List (List ℕ)) (places : List ℕ) → given.inputs ≡ Some inputs → is_torn given ≡ false → places_of known inputs ≡ Some places
+input_places-complete : (known : List (List ℕ)) (given : Given) (inputs : List (List ℕ)) (places : List ℕ)
+    → given.inputs ≡ Some inputs → is_torn given ≡ false → places_of known inputs ≡ Some places
     → input_places known given ≡ Ok places
 input_places-complete known given inputs places i t p = rw (i, t, p) refl
 
@@ -167,30 +289,67 @@ stats_with known given = do
   places ← in_script (input_places known given)
   stats_at given places
 
-stats-sound : (known : List (List ℕ)) (line : List ℕ) (words : List (List ℕ)) (command : Command) → words_of line ≡ codes "r.stats" ∷ words
+stats-sound : (known : List (List ℕ)) (line : List ℕ) (words : List (List ℕ)) (command : Command)
+    → words_of line ≡ codes "r.stats" ∷ words
     → stats_of known words ≡ Ok command → SpellsCommand known line command
 stats-sound known line words command is e =
     let w = went (stats_with known) (in_script (options_of form.Stats words)) command e in
     let v = went (stats_at w.value) (in_script (input_places known w.value)) command w.goes in
     let with_places = input_places-sound known w.value v.value (in_script-ok (input_places known w.value) v.value v.is) in
     let u = went (λ after. Ok (Stats v.value (printed_with w.value after))) (after_of (length v.value) w.value.after) command v.goes in
+    let are = options-sound form.Stats words w.value (in_script-ok (options_of form.Stats words) w.value w.is) in
     let same : Stats v.value (printed_with w.value u.value) ≡ command = let g = u.goes in cc in
     subst (λ c. SpellsCommand known line c) same (record {
       words = words;
       named = is;
-      given = w.value;
-      options_are = options-sound form.Stats words w.value (in_script-ok (options_of form.Stats words) w.value w.is);
+      each = are.each;
       inputs = with_places.inputs;
-      inputs_are = with_places.inputs_are;
+      inputs_are = subst (λ o. IsOptional SpellsNames (values_of (codes "input") words) o) with_places.inputs_are are.inputs;
       read = with_places.read;
-      together = with_places.together;
-      after = after-sound (length v.value) w.value.after u.value u.is;
-      printed = refl;
+      skip = ap (λ (flags : Flags). skip_of flags.no_null flags.no_all_null) are.flags;
+      labels = ap (λ (flags : Flags). flags.labels) are.flags;
+      counts = ap (λ (flags : Flags). flags.counts) are.flags;
+      cells = ap (λ (flags : Flags). flags.cells) are.flags;
+      separator = (w.value.separator, are.separator, refl);
+      null_text = (w.value.table_null_text, are.table_null_text, refl);
+      after = after-sound (length v.value) (values_of (codes "after") words) w.value.after u.value are.after u.is;
+      together = λ cells. let t = torn-no w.value.flags.cells w.value.flags.counts (is_some w.value.after) with_places.together cells in
+          (t.0, after-none (length v.value) w.value.after u.value t.1 u.is);
     })
+
+stats-read : (known words : List (List ℕ)) (given : Given) (places : List ℕ) (after : Option Combination)
+    → options_of form.Stats words ≡ Ok given → input_places known given ≡ Ok places
+    → after_of (length places) given.after ≡ Ok after
+    → stats_of known words ≡ Ok (Stats places (printed_with given after))
+stats-read known words given places after o p a =
+    ap (λ r. in_script r >>= stats_with known) o
+    ∙ ap (λ r. in_script r >>= stats_at given) p
+    ∙ ap (λ r. r >>= (λ after. Ok (Stats places (printed_with given after)))) a
+
+printed-same : (options : StatsOptions) (skip : Skip) (labels counts cells : Bool) (separator : ℕ) (null_text : List ℕ) → skip ≡ options.skip → labels ≡ options.labels → counts ≡ options.counts
+    → cells ≡ options.cells → separator ≡ options.separator → null_text ≡ options.null_text
+    → ◌≡◌ {A = StatsOptions} (record { skip = skip; labels = labels; counts = counts; cells = cells; separator = separator; null_text = null_text; after = options.after }) options
+printed-same options skip labels counts cells separator null_text a b c d e f = rw (a, b, c, d, e, f) refl
 
 stats-complete : (known : List (List ℕ)) (line places : List ℕ) (options : StatsOptions) (s : SpellsStats known line places options) → stats_of known s.words ≡ Ok (Stats places options)
 stats-complete known line places options s =
-    rw (options-complete form.Stats s.words s.given s.options_are, input_places-complete known s.given s.inputs places s.inputs_are s.together s.read, after-complete (length places) s.given.after options.after s.after) (ap (λ o. Ok (Stats places o)) s.printed)
+    let t = after-complete (length places) (values_of (codes "after") s.words) options.after s.after in
+    let flags = flags_in s.words in
+    let given : Given = record { flags = flags; input = None; inputs = Some s.inputs; output = None; separator = s.separator.0; null_text = None; table_null_text = s.null_text.0; after = t.text } in
+    let are : AreOptions form.Stats s.words given = record {
+      each = s.each;
+      flags = refl;
+      input = refl;
+      inputs = s.inputs_are;
+      output = refl;
+      separator = s.separator.1;
+      null_text = refl;
+      table_null_text = s.null_text.1;
+      after = t.is;
+    } in
+    let torn = no-torn flags.cells flags.counts (is_some t.text) (λ cells. let b = s.together (sym s.cells ∙ cells) in (s.counts ∙ b.0, t.none b.1)) in
+    let read = stats-read known s.words given places options.after (options-complete form.Stats s.words given are) (input_places-complete known given s.inputs places refl torn s.read) t.read in
+    read ∙ ap (λ o. Ok (Stats places o)) (printed-same options _ _ _ _ _ _ s.skip s.labels s.counts s.cells s.separator.2 s.null_text.2)
 
 -- ---- r.out.ascii
 
@@ -200,41 +359,61 @@ record Found (known : List (List ℕ)) (given : Given) (place : ℕ) : Type 0 wh
   input_is : given.input ≡ Some input
   read : place_of input known ≡ Some place
 
-input_place-sound : (known : List (List ℕ)) (given : Given) (place : ℕ) → input_place known given ≡ Ok place → Found known given place
+input_place-sound : (known : List (List ℕ)) (given : Given) (place : ℕ) → input_place known given ≡ Ok place
+    → Found known given place
 input_place-sound known given place e = by given.input refl e
   where
-    found : (input : List ℕ) (at : Option ℕ) → given.input ≡ Some input → place_of input known ≡ at → ok_or at UnknownMap ≡ Ok place → Found known given place
+    found : (input : List ℕ) (at : Option ℕ) → given.input ≡ Some input → place_of input known ≡ at
+        → ok_or at UnknownMap ≡ Ok place → Found known given place
     found input None i p f = cc
     found input (Some other) i p f = let same : other ≡ place = cc in record { input = input; input_is = i; read = p ∙ ap Some same }
 
-    by : (input : Option (List ℕ)) → given.input ≡ input → (ok_or input MissingOption >>= (λ input. ok_or (place_of input known) UnknownMap)) ≡ Ok place → Found known given place
+    by : (input : Option (List ℕ)) → given.input ≡ input
+        → (ok_or input MissingOption >>= (λ input. ok_or (place_of input known) UnknownMap)) ≡ Ok place
+        → Found known given place
     by None i f = cc
     by (Some input) i f = found input (place_of input known) i refl f
 
-input_place-complete : (known : List (List ℕ)) (given : Given) (input : List ℕ) (place : ℕ) → given.input ≡ Some input → place_of input known ≡ Some place → input_place known given ≡ Ok place
+input_place-complete : (known : List (List ℕ)) (given : Given) (input : List ℕ) (place : ℕ)
+    → given.input ≡ Some input → place_of input known ≡ Some place → input_place known given ≡ Ok place
 input_place-complete known given input place i p = rw (i, p) refl
 
-out_ascii-sound : (known : List (List ℕ)) (line : List ℕ) (words : List (List ℕ)) (command : Command) → words_of line ≡ codes "r.out.ascii" ∷ words
+out_ascii-sound : (known : List (List ℕ)) (line : List ℕ) (words : List (List ℕ)) (command : Command)
+    → words_of line ≡ codes "r.out.ascii" ∷ words
     → out_ascii_of known words ≡ Ok command → SpellsCommand known line command
 out_ascii-sound known line words command is e =
     let w = went (λ given. input_place known given >>= (λ place. Ok (OutAscii place (unwrap_or given.null_text usual_null)))) (options_of form.OutAscii words) command e in
     let v = went (λ place. Ok (OutAscii place (unwrap_or w.value.null_text usual_null))) (input_place known w.value) command w.goes in
     let found = input_place-sound known w.value v.value v.is in
     let same : OutAscii v.value (unwrap_or w.value.null_text usual_null) ≡ command = let g = v.goes in cc in
+    let are = options-sound form.OutAscii words w.value w.is in
     subst (λ c. SpellsCommand known line c) same (record {
       words = words;
       named = is;
-      given = w.value;
-      options = options-sound form.OutAscii words w.value w.is;
+      each = are.each;
       input = found.input;
-      input_is = found.input_is;
+      input_is = subst (λ o. IsOptional (SpellsText is_name) (values_of (codes "input") words) o) found.input_is are.input;
       read = found.read;
-      null_is = refl;
+      null_is = (w.value.null_text, are.null_text, refl);
     })
 
 out_ascii-complete : (known : List (List ℕ)) (line : List ℕ) (place : ℕ) (null_text : List ℕ) (s : SpellsOutAscii known line place null_text) → out_ascii_of known s.words ≡ Ok (OutAscii place null_text)
 out_ascii-complete known line place null_text s =
-    rw (options-complete form.OutAscii s.words s.given s.options, input_place-complete known s.given s.input place s.input_is s.read) (ap (λ n. Ok (OutAscii place n)) s.null_is)
+    let given : Given = record { flags = flags_in s.words; input = Some s.input; inputs = None; output = None; separator = None; null_text = s.null_is.0; table_null_text = None; after = None } in
+    let are : AreOptions form.OutAscii s.words given = record {
+      each = s.each;
+      flags = refl;
+      input = s.input_is;
+      inputs = refl;
+      output = refl;
+      separator = refl;
+      null_text = s.null_is.1;
+      table_null_text = refl;
+      after = refl;
+    } in
+    ap (λ r. r >>= (λ given. input_place known given >>= (λ place. Ok (OutAscii place (unwrap_or given.null_text usual_null))))) (options-complete form.OutAscii s.words given are)
+    ∙ ap (λ r. r >>= (λ place. Ok (OutAscii place (unwrap_or s.null_is.0 usual_null)))) (input_place-complete known given s.input place refl s.read)
+    ∙ ap (λ n. Ok (OutAscii place n)) s.null_is.2
 
 -- ---- r.mapcalc
 
@@ -246,11 +425,13 @@ Says known line Skipped = IsSkipped line
 Says known line (Whole command) = SpellsCommand known line command
 Says known line (Opened place target) = SpellsReclass known line place target
 
-assigned-sound : (known : List (List ℕ)) (line : List ℕ) (words : List (List ℕ)) (a : Assignment) (head : Head) → words_of line ≡ codes "r.mapcalc" ∷ words
+assigned-sound : (known : List (List ℕ)) (line : List ℕ) (words : List (List ℕ)) (a : Assignment) (head : Head)
+    → words_of line ≡ codes "r.mapcalc" ∷ words
     → IsAssignmentText (assignment_text line) a → mapcalc_of known a ≡ Ok head → Says known line head
 assigned-sound known line words a head is assigned e = by (first_unknown known a.expr) (place_of a.target known) refl refl
   where
-    by : (unknown place : Option ℕ) → first_unknown known a.expr ≡ unknown → place_of a.target known ≡ place → Says known line head
+    by : (unknown place : Option ℕ) → first_unknown known a.expr ≡ unknown → place_of a.target known ≡ place
+        → Says known line head
     by (Some column) place u p = let f : Err _ ≡ Ok head = rw u at e in cc
     by None (Some place) u p = let f : Err _ ≡ Ok head = rw (u, p) at e in cc
     by None None u p =
@@ -259,24 +440,29 @@ assigned-sound known line words a head is assigned e = by (first_unknown known a
         subst (λ h. Says known line h) same
         (record { words = words; named = is; assignment = a; says = assigned; read = u; made = p; target_is = refl; bound_is = refl })
 
-whole-sound : (known : List (List ℕ)) (line : List ℕ) (head : Head) (read : Result Command ScriptKind) → as_whole read ≡ Ok head
+whole-sound : (known : List (List ℕ)) (line : List ℕ) (head : Head) (read : Result Command ScriptKind)
+    → as_whole read ≡ Ok head
     → ((command : Command) → read ≡ Ok command → SpellsCommand known line command) → Says known line head
 whole-sound known line head (Err kind) e spells = cc
 whole-sound known line head (Ok command) e spells = let same : Whole command ≡ head = cc in subst (λ h. Says known line h) same (spells command refl)
 
-opened-sound : (known : List (List ℕ)) (line : List ℕ) (head : Head) (read : Result (ℕ × List ℕ) ScriptKind) → as_opened read ≡ Ok head
+opened-sound : (known : List (List ℕ)) (line : List ℕ) (head : Head) (read : Result (ℕ × List ℕ) ScriptKind)
+    → as_opened read ≡ Ok head
     → ((maps : ℕ × List ℕ) → read ≡ Ok maps → SpellsReclass known line maps.0 maps.1) → Says known line head
 opened-sound known line head (Err kind) e spells = cc
 opened-sound known line head (Ok maps) e spells = let same : Opened maps.0 maps.1 ≡ head = cc in subst (λ h. Says known line h) same (spells maps refl)
 
-renamed : (line w name : List ℕ) (ws : List (List ℕ)) → words_of line ≡ w ∷ ws → bytes_eq w name ≡ true → words_of line ≡ name ∷ ws
+renamed : (line w name : List ℕ) (ws : List (List ℕ)) → words_of line ≡ w ∷ ws → bytes_eq w name ≡ true
+    → words_of line ≡ name ∷ ws
 renamed line w name ws is e = is ∙ ap (λ n. n ∷ ws) (named w name e)
 
-named-sound : (known : List (List ℕ)) (line : List ℕ) (w : List ℕ) (ws : List (List ℕ)) (head : Head) → words_of line ≡ w ∷ ws → head_named known w ws ≡ Ok head → Says known line head
+named-sound : (known : List (List ℕ)) (line : List ℕ) (w : List ℕ) (ws : List (List ℕ)) (head : Head)
+    → words_of line ≡ w ∷ ws → head_named known w ws ≡ Ok head → Says known line head
 named-sound known line w ws head is e =
     by (bytes_eq w (codes "r.stats")) (bytes_eq w (codes "r.out.ascii")) (bytes_eq w (codes "r.clump")) (bytes_eq w (codes "r.reclass")) refl refl refl refl e
   where
-    by : (stats out_ascii clump reclass : Bool) → bytes_eq w (codes "r.stats") ≡ stats → bytes_eq w (codes "r.out.ascii") ≡ out_ascii
+    by : (stats out_ascii clump reclass : Bool) → bytes_eq w (codes "r.stats") ≡ stats
+        → bytes_eq w (codes "r.out.ascii") ≡ out_ascii
         → bytes_eq w (codes "r.clump") ≡ clump → bytes_eq w (codes "r.reclass") ≡ reclass
         → cond stats (as_whole (stats_of known ws)) (cond out_ascii (as_whole (in_script (out_ascii_of known ws)))
         (cond clump (as_whole (in_script (clump_of known ws))) (cond reclass (as_opened (in_script (reclass_of known ws))) (Err UnknownCommand)))) ≡ Ok head
@@ -291,12 +477,14 @@ named-sound known line w ws head is e =
         opened-sound known line head (in_script (reclass_of known ws)) f (λ maps g. reclass-sound known line ws maps (renamed line w (codes "r.reclass") ws is r) (in_script-ok (reclass_of known ws) maps g))
     by false false false false s o c r f = cc
 
-nothing-sound : (known : List (List ℕ)) (line : List ℕ) (head : Head) (ws : List (List ℕ)) → words_of line ≡ ws → say_nothing ws ≡ true → ◌≡◌ {A = Result Head ScriptKind} (Ok Skipped) (Ok head) → Says known line head
+nothing-sound : (known : List (List ℕ)) (line : List ℕ) (head : Head) (ws : List (List ℕ)) → words_of line ≡ ws
+    → say_nothing ws ≡ true → ◌≡◌ {A = Result Head ScriptKind} (Ok Skipped) (Ok head) → Says known line head
 nothing-sound known line head ws is e f =
     let same : Skipped ≡ head = cc in
     subst (λ h. Says known line h) same (sym (say_nothing-trimmed line) ∙ ap say_nothing is ∙ e)
 
-words-sound : (known : List (List ℕ)) (line : List ℕ) (head : Head) (ws : List (List ℕ)) → words_of line ≡ ws → head_of_words known ws ≡ Ok head → Says known line head
+words-sound : (known : List (List ℕ)) (line : List ℕ) (head : Head) (ws : List (List ℕ)) → words_of line ≡ ws
+    → head_of_words known ws ≡ Ok head → Says known line head
 words-sound known line head [] is e = nothing-sound known line head [] is refl e
 words-sound known line head (w ∷ ws) is e = by (either {A = Result Head ScriptKind} (is_comment w) (Ok Skipped) (head_named known w ws) (Ok head) e)
   where
@@ -304,29 +492,35 @@ words-sound known line head (w ∷ ws) is e = by (either {A = Result Head Script
     by (inl (c, f)) = nothing-sound known line head (w ∷ ws) is c f
     by (inr (c, f)) = named-sound known line w ws head is f
 
-mapcalc-sound : (known : List (List ℕ)) (line : List ℕ) (head : Head) (ws : List (List ℕ)) → words_of line ≡ ws → is_mapcalc ws ≡ true → IsMapcalc known line (Ok head) → Says known line head
+mapcalc-sound : (known : List (List ℕ)) (line : List ℕ) (head : Head) (ws : List (List ℕ)) → words_of line ≡ ws
+    → is_mapcalc ws ≡ true → IsMapcalc known line (Ok head) → Says known line head
 mapcalc-sound known line head [] is m h = cc
 mapcalc-sound known line head (w ∷ ws) is m (inr (fault, told, other, e)) = cc
 mapcalc-sound known line head (w ∷ ws) is m (inl (a, assigned, e)) =
     assigned-sound known line ws a head (renamed line w (codes "r.mapcalc") ws is m) assigned e
 
 -- what is read of a line without a fault is what it says
-pub head-says : (known : List (List ℕ)) (line : List ℕ) (head : Head) → IsHead known line (Ok head) → (length line ≤ 65535) × Says known line head
+pub head-says : (known : List (List ℕ)) (line : List ℕ) (head : Head) → IsHead known line (Ok head)
+    → (length line ≤ 65535) × Says known line head
 head-says known line head h = by (nat_lt 65535 (length line)) refl h
   where
-    short : (mapcalc : Bool) → is_mapcalc (words_of line) ≡ mapcalc → IsShortHead mapcalc known line (Ok head) → Says known line head
+    short : (mapcalc : Bool) → is_mapcalc (words_of line) ≡ mapcalc → IsShortHead mapcalc known line (Ok head)
+        → Says known line head
     short true m is = mapcalc-sound known line head (words_of line) refl m is
     short false m is = words-sound known line head (words_of line) refl is
 
-    by : (long : Bool) → nat_lt 65535 (length line) ≡ long → IsHeadOf long known line (Ok head) → (length line ≤ 65535) × Says known line head
+    by : (long : Bool) → nat_lt 65535 (length line) ≡ long → IsHeadOf long known line (Ok head)
+        → (length line ≤ 65535) × Says known line head
     by true l e = cc
     by false l is = (ltb-false 65535 (length line) l, short (is_mapcalc (words_of line)) refl is)
 
-short-head : (known : List (List ℕ)) (line : List ℕ) (head : Result Head ScriptKind) → length line ≤ 65535 → IsShortHead (is_mapcalc (words_of line)) known line head → IsHead known line head
+short-head : (known : List (List ℕ)) (line : List ℕ) (head : Result Head ScriptKind) → length line ≤ 65535
+    → IsShortHead (is_mapcalc (words_of line)) known line head → IsHead known line head
 short-head known line head s h = subst (λ long. IsHeadOf long known line head) (sym (le-ltb 65535 (length line) s)) h
 
 -- a line whose first word is no r.mapcalc
-other-head : (known : List (List ℕ)) (line : List ℕ) (head : Result Head ScriptKind) (ws : List (List ℕ)) → length line ≤ 65535 → words_of line ≡ ws → is_mapcalc ws ≡ false
+other-head : (known : List (List ℕ)) (line : List ℕ) (head : Result Head ScriptKind) (ws : List (List ℕ))
+    → length line ≤ 65535 → words_of line ≡ ws → is_mapcalc ws ≡ false
     → head_of_words known ws ≡ head → IsHead known line head
 other-head known line head ws s is m e =
     short-head known line head s (subst (λ mapcalc. IsShortHead mapcalc known line head) (sym (ap is_mapcalc is ∙ m)) (ap (head_of_words known) is ∙ e))
@@ -339,12 +533,14 @@ nothing-mapcalc (w ∷ ws) e = by (bytes_eq w (codes "r.mapcalc")) refl
     by false m = m
     by true m = let f : is_comment (codes "r.mapcalc") ≡ true = ap is_comment (sym (named w (codes "r.mapcalc") m)) ∙ e in cc
 
-nothing-head : (known : List (List ℕ)) (ws : List (List ℕ)) → say_nothing ws ≡ true → head_of_words known ws ≡ Ok Skipped
+nothing-head : (known : List (List ℕ)) (ws : List (List ℕ)) → say_nothing ws ≡ true
+    → head_of_words known ws ≡ Ok Skipped
 nothing-head known [] e = refl
 nothing-head known (w ∷ ws) e = rw e refl
 
 -- a line is read as what it says
-pub says-head : (known : List (List ℕ)) (line : List ℕ) (head : Head) → length line ≤ 65535 → Says known line head → IsHead known line (Ok head)
+pub says-head : (known : List (List ℕ)) (line : List ℕ) (head : Head) → length line ≤ 65535 → Says known line head
+    → IsHead known line (Ok head)
 says-head known line Skipped s says =
     let e : say_nothing (words_of line) ≡ true = say_nothing-trimmed line ∙ says in
     other-head known line (Ok Skipped) (words_of line) s refl (nothing-mapcalc (words_of line) e) (nothing-head known (words_of line) e)

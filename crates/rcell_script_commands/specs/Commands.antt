@@ -2,6 +2,7 @@
 use Rattle.std.specs.Prelude.{ℕ, ◌≡◌, ◌≢◌, ◌⊎◌, List, Option, Some, None, Result, Ok, Err, length, if◌then◌else◌, unwrap_or, Bool, true, false, [], ◌∷◌, nat_lt, bytes_eq, codes}
 use Rattle.cell_ascii_meaning.specs.GridWords.{usual_null}
 use Rattle.cell_calc_binding.specs.Binding.{with_places}
+use Rattle.cell_core_values.specs.Letters.{byte}
 use Rattle.cell_core_values.specs.Name.{place_of}
 use Rattle.cell_calc_language.specs.Assignment.{IsAssignmentText}
 use Rattle.cell_calc_language.specs.GrammarFault.{IsTextFault}
@@ -17,10 +18,10 @@ use Rattle.cell_stats_combinations.specs.declared.combination_text.ComboFault.{C
 use Rattle.rcell_script_commands.specs.ScriptFaults.{in_script, of_combo}
 use Rattle.rcell_script_commands.specs.Skipped.{is_comment}
 use Rattle.rcell_script_options.specs.Maps.{new_target, from_to, input_place, input_places}
-use Rattle.rcell_script_options.specs.OptionReading.{options_of}
+use Rattle.rcell_script_options.specs.OptionReading.{Given, options_of}
 use Rattle.rcell_script_commands.specs.RClump.{joining_of}
 use Rattle.rcell_script_commands.specs.RMapcalc.{assignment_text}
-use Rattle.rcell_script_commands.specs.RStats.{printed_with}
+use Rattle.rcell_script_commands.specs.RStats.{skip_of}
 use Rattle.rcell_script_commands.specs.declared.script_fault.ScriptKind.{ScriptKind}
 use Rattle.rcell_script_commands.specs.declared.script_fault.ScriptKind.TheVariants.{Calc, UnknownCommand, LongLine}
 use Rattle.rcell_script_commands.specs.declared.heads.Head.{Head}
@@ -29,6 +30,7 @@ use Rattle.rcell_script_options.specs.declared.option_fault.OptionFault.{OptionF
 use Rattle.rcell_script_options.specs.declared.options.Form.TheVariants as form
 use Rattle.rcell_script_commands.specs.declared.command.Command.{Command}
 use Rattle.rcell_script_commands.specs.declared.command.Command.TheVariants.{Mapcalc, Clump, Stats, OutAscii}
+use Rattle.rcell_script_commands.specs.declared.command.StatsOptions.{StatsOptions}
 
 -- the map that an assignment makes: each map that it reads is known, and the target is new
 abbrev pub mapcalc_of : List (List ℕ) → Assignment → Result Head ScriptKind
@@ -59,7 +61,7 @@ abbrev pub clump_of : List (List ℕ) → List (List ℕ) → Result Command Opt
 clump_of known words = do
   given ← options_of form.Clump words
   maps ← from_to known given
-  Ok (Clump maps.0 maps.1 (joining_of given))
+  Ok (Clump maps.0 maps.1 (joining_of given.flags.corners))
 
 -- the combination after which a table goes on, where one is given
 abbrev pub after_of : ℕ → Option (List ℕ) → Result (Option Combination) ScriptKind
@@ -69,6 +71,19 @@ after_of width (Some text) = combined (combo_of width text)
     combined : Result Combination ComboFault → Result (Option Combination) ScriptKind
     combined (Ok combo) = Ok (Some combo)
     combined (Err fault) = Err (of_combo fault)
+
+-- how a table is printed, and what of it: fields are separated by a space and null is an asterisk where nothing else is given
+abbrev pub printed_with : Given → Option Combination → StatsOptions
+printed_with given after =
+    record {
+      skip = skip_of given.flags.no_null given.flags.no_all_null;
+      labels = given.flags.labels;
+      counts = given.flags.counts;
+      cells = given.flags.cells;
+      separator = unwrap_or given.separator (byte (codes " "));
+      null_text = unwrap_or given.table_null_text usual_null;
+      after = after;
+    }
 
 -- the table that words ask for: inputs, then flags that go together, then known maps, then a combination of their number
 abbrev pub stats_of : List (List ℕ) → List (List ℕ) → Result Command ScriptKind

@@ -9,3 +9,4 @@ pub mod CommandSpelling
 pub mod FittingCommands
 pub mod ScriptFaults
 pub mod Commands
+pub mod parts

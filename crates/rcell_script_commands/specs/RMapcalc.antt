@@ -2,6 +2,7 @@
 use Rattle.std.specs.Prelude.{ℕ, ◌-◌, List, [], ◌∷◌, ◌++◌, length, replicate, if◌then◌else◌, ◌≡◌, None, codes}
 use Rattle.cell_calc_binding.specs.Binding.{with_places}
 use Rattle.cell_calc_binding.specs.Formula.{Formula}
+use Rattle.cell_core_values.specs.Letters.{byte}
 use Rattle.cell_core_values.specs.Name.{place_of}
 use Rattle.cell_calc_language.specs.Assignment.{IsAssignmentText}
 use Rattle.cell_calc_language.specs.Unknown.{first_unknown}
@@ -20,7 +21,7 @@ after_command line = text_after_command (after_blanks line)
 
 -- the assignment of a line: blanks stand for all up to the end of the command, so that columns count within the line
 abbrev pub assignment_text : List ℕ → List ℕ
-assignment_text line = replicate (length line - length (after_command line)) 32 ++ after_command line
+assignment_text line = replicate (length line - length (after_command line)) (byte (codes " ")) ++ after_command line
 
 -- r.mapcalc: what follows the name is an assignment, whose maps are known and whose target is new
 pub record SpellsMapcalc (known : List (List ℕ)) (line target : List ℕ) (bound : Formula) : Type 0 where

@@ -1,50 +1,33 @@
 -- r.stats: the table that its options ask for (r.stats manual; `after` is the profile's).
-use Rattle.std.specs.Prelude.{ℕ, List, ◌∷◌, Option, Some, if◌then◌else◌, unwrap_or, ◌≡◌, ⊤, false, length, None, codes}
+use Rattle.std.specs.Prelude.{ℕ, ◌≡◌, Bool, true, false, List, [], ◌∷◌, length, All, Some, None, if◌then◌else◌, codes}
 use Rattle.cell_ascii_meaning.specs.GridWords.{usual_null}
-use Rattle.cell_stats_combinations.specs.Combinations.{Combination}
-use Rattle.cell_stats_combinations.specs.ComboText.{SpellsCombination}
 use Rattle.cell_core_text.specs.Words.{words_of}
+use Rattle.cell_core_values.specs.Letters.{byte}
+use Rattle.cell_stats_combinations.specs.ComboText.{SpellsCombination}
 use Rattle.cell_stats_combinations.specs.declared.skip.Skip.{Skip}
 use Rattle.cell_stats_combinations.specs.declared.skip.Skip.TheVariants.{Nothing, AnyNull, AllNull}
-use Rattle.rcell_script_options.specs.OptionWords.{AreOptions}
 use Rattle.rcell_script_options.specs.InputPlaces.{places_of}
-use Rattle.rcell_script_options.specs.Options.{Given, has_flag, is_torn}
-use Rattle.rcell_script_options.specs.declared.options.Form.TheVariants as form
+use Rattle.rcell_script_options.specs.NullText.{is_table_null_text}
+use Rattle.rcell_script_options.specs.Options.{IsOption, has_flag, values_of, IsOptional, IsOr, SpellsText, SpellsNames, separator_in}
 use Rattle.rcell_script_commands.specs.declared.command.StatsOptions.{StatsOptions}
 
 -- what is left out: `n` decides over `N`
-abbrev pub skip_of : Given → Skip
-skip_of given = if has_flag 110 given then AnyNull else (if has_flag 78 given then AllNull else Nothing)
+abbrev pub skip_of : Bool → Bool → Skip
+skip_of no_null no_all_null = if no_null then AnyNull else (if no_all_null then AllNull else Nothing)
 
--- how a table is printed, and what of it: fields are separated by a space and null is an asterisk where nothing else is given
-abbrev pub printed_with : Given → Option Combination → StatsOptions
-printed_with given after =
-    record {
-      skip = skip_of given;
-      labels = has_flag 108 given;
-      counts = has_flag 99 given;
-      cells = has_flag 49 given;
-      separator = unwrap_or given.separator 32;
-      null_text = unwrap_or given.table_null_text usual_null;
-      after = after;
-    }
-
--- the value of `after`, where it is given, spells a combination of so many cells
-abbrev pub SpellsAfter : ℕ → Option (List ℕ) → Option Combination → Type 0
-SpellsAfter width None None = ⊤
-SpellsAfter width None (Some combination) = ⊥
-SpellsAfter width (Some text) None = ⊥
-SpellsAfter width (Some text) (Some combination) = (length combination ≡ width) × SpellsCombination text combination
-
--- r.stats: `inputs` are known maps, `after` is a combination of as many cells, and flags go together
+-- r.stats: `input` names known maps, `after` is a combination of as many cells, fields are separated by a space and null is an asterisk where nothing else is given, and a line for each cell goes with no count and no `after`
 pub record SpellsStats (known : List (List ℕ)) (line : List ℕ) (places : List ℕ) (options : StatsOptions) : Type 0 where
   pub words : List (List ℕ)
   pub named : words_of line ≡ codes "r.stats" ∷ words
-  pub given : Given
-  pub options_are : AreOptions form.Stats words given
+  pub each : All (IsOption (codes "clnN1") (codes "input" ∷ codes "separator" ∷ codes "null_value" ∷ codes "after" ∷ [])) words
   pub inputs : List (List ℕ)
-  pub inputs_are : given.inputs ≡ Some inputs
+  pub inputs_are : IsOptional SpellsNames (values_of (codes "input") words) (Some inputs)
   pub read : places_of known inputs ≡ Some places
-  pub together : is_torn given ≡ false
-  pub after : SpellsAfter (length places) given.after options.after
-  pub printed : printed_with given options.after ≡ options
+  pub skip : skip_of (has_flag (codes "n") words) (has_flag (codes "N") words) ≡ options.skip
+  pub labels : has_flag (codes "l") words ≡ options.labels
+  pub counts : has_flag (codes "c") words ≡ options.counts
+  pub cells : has_flag (codes "1") words ≡ options.cells
+  pub separator : IsOr (byte (codes " ")) (λ value b. separator_in value ≡ Some b) (values_of (codes "separator") words) options.separator
+  pub null_text : IsOr usual_null (SpellsText is_table_null_text) (values_of (codes "null_value") words) options.null_text
+  pub after : IsOptional (λ value cells. (length cells ≡ length places) × SpellsCombination value cells) (values_of (codes "after") words) options.after
+  pub together : options.cells ≡ true → (options.counts ≡ false) × (options.after ≡ None)

@@ -1,7 +1,5 @@
--- The faults of options, expressions, rules and combinations, as those of a script, and how a reading of a script tells them.
-use Rattle.std.specs.Prelude.{◌≡◌, ◌≢◌, ◌⊎◌, Result, Ok, Err}
-use Rattle.cell_calc_tokens.specs.declared.calc_fault.CalcFault.{CalcFault}
-use Rattle.cell_calc_tokens.specs.declared.calc_fault.CalcKind.TheVariants as calc
+-- The faults of options, rules and combinations, as those of a script, and how a reading of a script tells them.
+use Rattle.std.specs.Prelude.{◌≢◌, Result, Ok, Err}
 use Rattle.cell_cats.specs.declared.rules.RuleFault.{RuleFault}
 use Rattle.cell_cats.specs.declared.rules.RuleFault.TheVariants as rule
 use Rattle.cell_stats_combinations.specs.declared.combination_text.ComboFault.{ComboFault}
@@ -9,7 +7,7 @@ use Rattle.cell_stats_combinations.specs.declared.combination_text.ComboFault.Th
 use Rattle.rcell_script_options.specs.declared.option_fault.OptionFault.{OptionFault}
 use Rattle.rcell_script_options.specs.declared.option_fault.OptionFault.TheVariants as option
 use Rattle.rcell_script_commands.specs.declared.script_fault.ScriptKind.{ScriptKind}
-use Rattle.rcell_script_commands.specs.declared.script_fault.ScriptKind.TheVariants.{BadOption, MissingOption, UnknownMap, MapExists, BadName, Calc, Rule, Combo, Memory}
+use Rattle.rcell_script_commands.specs.declared.script_fault.ScriptKind.TheVariants.{BadOption, MissingOption, UnknownMap, MapExists, BadName, Rule, Combo, Memory}
 use Rattle.rcell_script_commands.specs.declared.script_fault.ScriptFault.{ScriptFault}
 
 -- each fault of options is one of a script
@@ -25,10 +23,6 @@ kind_of option.Memory = Memory
 abbrev pub in_script : {A : Type 0} → Result A OptionFault → Result A ScriptKind
 in_script (Ok x) = Ok x
 in_script (Err fault) = Err (kind_of fault)
-
--- a fault of an expression
-abbrev pub IsOfCalc : CalcFault → ScriptKind → Type 0
-IsOfCalc fault kind = ((fault.kind ≡ calc.Memory) × (kind ≡ Memory)) ⊎ ((fault.kind ≢ calc.Memory) × (kind ≡ Calc fault))
 
 -- a fault of a combination
 abbrev pub of_combo : ComboFault → ScriptKind

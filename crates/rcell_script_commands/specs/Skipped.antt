@@ -1,12 +1,13 @@
 -- Lines that say nothing (profile).
-use Rattle.std.specs.Prelude.{ℕ, Bool, false, ◌==◌, List, [], ◌∷◌, ◌≡◌, true}
+use Rattle.std.specs.Prelude.{ℕ, Bool, false, ◌==◌, List, [], ◌∷◌, ◌≡◌, true, codes}
 use Rattle.cell_cats.specs.RuleLine.{is_skipped}
 use Rattle.cell_core_text.specs.Blanks.{trimmed}
+use Rattle.cell_core_values.specs.Letters.{byte}
 
 -- a word that begins a comment: its first byte is `#`
 abbrev pub is_comment : List ℕ → Bool
 is_comment [] = false
-is_comment (b ∷ bs) = b == 35
+is_comment (b ∷ bs) = b == byte (codes "#")
 
 -- a line that says nothing: blanks alone, or a comment
 abbrev pub IsSkipped : List ℕ → Type 0

@@ -51,7 +51,8 @@ fn head_named(
     name: &[u8],
     words: &[&[u8]],
 ) -> Result<Head, ScriptKind>
-    ensures head { Answers ScriptKind.Memory (λ head. head) result (head_named known.now name.now (texts words.now)) }
+    ensures head { Answers ScriptKind.Memory (λ head. head) result
+        (head_named known.now name.now (texts words.now)) }
     ensures fits { IfOk result (FitsHead known.now) }
 {
     if name == b"r.stats".as_slice() {
@@ -70,7 +71,8 @@ fn head_named(
 
 // What words are.
 fn head_of_words(alloc: Global, known: &Names, words: &[&[u8]]) -> Result<Head, ScriptKind>
-    ensures head { Answers ScriptKind.Memory (λ head. head) result (head_of_words known.now (texts words.now)) }
+    ensures head { Answers ScriptKind.Memory (λ head. head) result
+        (head_of_words known.now (texts words.now)) }
     ensures fits { IfOk result (FitsHead known.now) }
 {
     let Some((name, others)) = words.split_first() else {

@@ -12,13 +12,13 @@ use cell_cats_areas::clump::Joining;
 use cell_core::name::Names;
 use rcell_script_options::maps::from_to;
 use rcell_script_options::option_fault::OptionFault;
-use rcell_script_options::options::{Form, Options, options_of};
+use rcell_script_options::options::{Form, options_of};
 use std::alloc::Global;
 
-fn joining_of(options: &Options) -> Joining
-    ensures { result ≡ joining_of options.now }
+fn joining_of(corners: bool) -> Joining
+    ensures { result ≡ joining_of corners }
 {
-    if options.has_flag(b'd') {
+    if corners {
         Joining::EdgesAndCorners
     } else {
         Joining::Edges
@@ -36,11 +36,12 @@ pub(crate) fn clump_of(
     known: &Names,
     words: &[&[u8]],
 ) -> Result<Command, OptionFault>
-    ensures command { Answers OptionFault.Memory (λ command. command) result (clump_of known.now (texts words.now)) }
+    ensures command { Answers OptionFault.Memory (λ command. command) result
+        (clump_of known.now (texts words.now)) }
     ensures fits { IfOk result (FitsCommand known.now) }
 {
     let options = options_of(alloc, Form::Clump, words)?;
-    let joining = joining_of(&options);
+    let joining = joining_of(options.flags().corners);
     let (place, target) = from_to(known, options)?;
     Ok(Command::Clump {
         place,

@@ -24,7 +24,8 @@ pub(crate) fn out_ascii_of(
     known: &Names,
     words: &[&[u8]],
 ) -> Result<Command, OptionFault>
-    ensures command { Answers OptionFault.Memory (λ command. command) result (out_ascii_of known.now (texts words.now)) }
+    ensures command { Answers OptionFault.Memory (λ command. command) result
+        (out_ascii_of known.now (texts words.now)) }
     ensures fits { IfOk result (FitsCommand known.now) }
 {
     let options = options_of(alloc, Form::OutAscii, words)?;

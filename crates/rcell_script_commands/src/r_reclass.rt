@@ -23,7 +23,8 @@ pub(crate) fn reclass_of(
     known: &Names,
     words: &[&[u8]],
 ) -> Result<(usize, Name), OptionFault>
-    ensures maps { Answers OptionFault.Memory (λ maps. maps) result (reclass_of known.now (texts words.now)) }
+    ensures maps { Answers OptionFault.Memory (λ maps. maps) result
+        (reclass_of known.now (texts words.now)) }
     ensures within { IfOk result (λ maps. maps.0 < length known.now) }
     ensures new { IfOk result (λ maps. place_of maps.1 known.now ≡ None) }
 {

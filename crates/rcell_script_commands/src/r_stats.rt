@@ -4,8 +4,8 @@ ghost use Rattle.std.specs.Prelude.{◌≡◌, ◌≤◌, IfOk, IfSome, length};
 ghost use Rattle.std.specs.Option.{option_map};
 ghost use Rattle.cell_core_text.specs.Answers.{Answers};
 ghost use Rattle.rcell_script_options.specs.OptionReading.{texts};
-ghost use Rattle.rcell_script_commands.specs.RStats.{skip_of, printed_with};
-ghost use Rattle.rcell_script_commands.specs.Commands.{after_of, stats_of};
+ghost use Rattle.rcell_script_commands.specs.RStats.{skip_of};
+ghost use Rattle.rcell_script_commands.specs.Commands.{after_of, printed_with, stats_of};
 ghost use Rattle.rcell_script_commands.specs.FittingCommands.{FitsCommand};
 
 use crate::command::{Command, StatsOptions};
@@ -18,12 +18,12 @@ use rcell_script_options::maps::input_places;
 use rcell_script_options::options::{Form, Options, options_of};
 use std::alloc::Global;
 
-fn skip_of(options: &Options) -> Skip
-    ensures { result ≡ skip_of options.now }
+fn skip_of(no_null: bool, no_all_null: bool) -> Skip
+    ensures { result ≡ skip_of no_null no_all_null }
 {
-    if options.has_flag(b'n') {
+    if no_null {
         Skip::AnyNull
-    } else if options.has_flag(b'N') {
+    } else if no_all_null {
         Skip::AllNull
     } else {
         Skip::Nothing
@@ -33,7 +33,8 @@ fn skip_of(options: &Options) -> Skip
 // The combination after which a table goes on, where one is given.
 fn after_of(alloc: Global, width: usize, given: Option<&[u8]>) -> Result<Option<Combo>, ScriptKind>
     requires { (1 ≤ width) × (width ≤ 16) }
-    ensures after { Answers ScriptKind.Memory (λ after. after) result (after_of width (option_map (λ text. text.now) given.entry)) }
+    ensures after { Answers ScriptKind.Memory (λ after. after) result
+        (after_of width (option_map (λ text. text.now) given.entry)) }
     ensures width { IfOk result (λ after. IfSome after (λ combo. length combo ≡ width)) }
 {
     match given {
@@ -50,17 +51,14 @@ fn printed_with(
 ) -> Result<StatsOptions, Memory>
     ensures { IfOk result (λ printed. printed ≡ printed_with options after) }
 {
-    let skip = skip_of(&options);
-    let labels = options.has_flag(b'l');
-    let counts = options.has_flag(b'c');
-    let cells = options.has_flag(b'1');
+    let flags = options.flags();
     let separator = options.separator().unwrap_or(b' ');
     let null_text = options.into_table_null_text(alloc)?;
     Ok(StatsOptions {
-        skip,
-        labels,
-        counts,
-        cells,
+        skip: skip_of(flags.no_null, flags.no_all_null),
+        labels: flags.labels,
+        counts: flags.counts,
+        cells: flags.cells,
         separator,
         null_text,
         after,
@@ -75,7 +73,8 @@ fn printed_with(
 /// not go together, [`ScriptKind::UnknownMap`] and [`ScriptKind::Combo`]; [`ScriptKind::Memory`] where memory was refused.
 #[tactic(auto, using(crate::proofs::FaultLemmas::told))]
 pub(crate) fn stats_of(alloc: Global, known: &Names, words: &[&[u8]]) -> Result<Command, ScriptKind>
-    ensures command { Answers ScriptKind.Memory (λ command. command) result (stats_of known.now (texts words.now)) }
+    ensures command { Answers ScriptKind.Memory (λ command. command) result
+        (stats_of known.now (texts words.now)) }
     ensures fits { IfOk result (FitsCommand known.now) }
 {
     let options = options_of(alloc, Form::Stats, words)?;

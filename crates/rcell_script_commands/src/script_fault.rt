@@ -68,7 +68,7 @@ impl From<OptionFault> for ScriptKind {
 }
 
 impl From<CalcFault> for ScriptKind {
-    ghost use Rattle.rcell_script_commands.specs.ScriptFaults.{IsOfCalc};
+    ghost use Rattle.rcell_script_commands.specs.parts.CalcFaults.{IsOfCalc};
 
     ghost from_gives = { IsOfCalc };
 

@@ -7,8 +7,7 @@ use Rattle.std.specs.Prelude.{◌&&◌}
 use Rattle.std.specs.List.{list_all}
 use Rattle.cell_core_values.specs.Name.{is_name}
 use Rattle.rcell_script_options.specs.declared.option_fault.OptionFault.TheVariants.{BadName}
-use Rattle.rcell_script_options.specs.OptionReading.{texts}
-use Rattle.rcell_script_options.specs.Options.{option_name, names_from}
+use Rattle.rcell_script_options.specs.OptionReading.{texts, option_name, names_from}
 use Rattle.rcell_script_options.specs.declared.option_fault.OptionFault.{OptionFault}
 
 and_no : (b : Bool) → (b && false) ≡ false

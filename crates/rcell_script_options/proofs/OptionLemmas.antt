@@ -1,35 +1,87 @@
 -- The words after a command, one after another and all together.
-use Rattle.std.proofs.Common.{◌≡◌, ℕ, suc, Bool, true, false, cond, List, [], ◌∷◌, ◌++◌, All, Option, Some, None, Result, Ok, Err, inl, inr, refl, ap, sym, ◌∙◌, subst, append_assoc, arith}
-use Rattle.std.specs.Prelude.{◌⊎◌, ◌==◌, IsSome}
-use Rattle.std.specs.List.{flat_map, cons_option}
+use Rattle.std.proofs.Common.{◌≡◌, ℕ, suc, Bool, true, false, cond, List, [], ◌∷◌, ◌++◌, All, Option, Some, None, Result, Ok, Err, inl, inr, refl, ap, sym, ◌∙◌, subst, arith}
+use Rattle.std.specs.Prelude.{◌⊎◌, ◌==◌, ◌||◌, is_some}
+use Rattle.std.specs.List.{flat_map, cons_option, filter_map}
 use Rattle.std.specs.Option.{option_map, option_and_then, ok_or}
-use Rattle.std.proofs.lemmas.List.{append-nil}
+use Rattle.std.proofs.Math.Bool.{or_assoc, or-false}
 use Rattle.std.proofs.lemmas.List.Elements.{All-nil, All-cons}
+use Rattle.std.proofs.lemmas.List.Folds.{list_any-append}
 use Rattle.cell_core_text.specs.Answers.{◌>>=◌}
 use Rattle.cell_core_text.specs.Words.{parts_of, pair_of}
-use Rattle.rcell_script_options.specs.NullText.{null_text_of, table_null_text_of}
-use Rattle.rcell_script_options.specs.OptionWords.{letters_in, setting_in, IsOption, value_for, values_of, IsOnce, AreOptions}
-use Rattle.rcell_script_options.specs.Options.{Given, are_flags, option_key_of, option_name, names_of, separator_in}
-use Rattle.rcell_script_options.specs.OptionReading.{no_options, with_flags, given_once, with_value, with_option, with_pair, with_word, with_words, options_of}
+use Rattle.cell_core_values.specs.Letters.{byte, is_one_of}
+use Rattle.rcell_script_options.specs.Options.{letters_in, are_flags, separator_in}
+use Rattle.rcell_script_options.specs.OptionReading.{Given, flags_of, option_key_of, option_name, names_of, null_text_of, table_null_text_of, no_options, with_letters, with_flags, given_once, with_value, with_option, with_pair, with_word, with_words, options_of}
 use Rattle.rcell_script_options.specs.declared.option_fault.OptionFault.{OptionFault}
 use Rattle.rcell_script_options.specs.declared.option_fault.OptionFault.TheVariants.{BadOption}
+use Rattle.rcell_script_options.specs.declared.options.Flags.{Flags}
 use Rattle.rcell_script_options.specs.declared.options.Form.{Form}
 use Rattle.rcell_script_options.specs.declared.options.Key.{Key}
 use Rattle.rcell_script_options.specs.declared.options.Key.TheVariants.{Input, Inputs, Output, Separator, NullText, TableNullText, After}
 
-abbrev listed : List ℕ → Result (List (List ℕ)) OptionFault
+-- ---- words, by the keys of a command
+
+-- the number of a key
+abbrev pub tag : Key → ℕ
+tag Input = 0
+tag Inputs = 1
+tag Output = 2
+tag Separator = 3
+tag NullText = 4
+tag TableNullText = 5
+tag After = 6
+
+-- the value of a setting, where it is one of this key
+abbrev pub value_for : Key → Option (Key × List ℕ) → Option (List ℕ)
+value_for key None = None
+value_for key (Some setting) = cond (tag key == tag setting.0) (Some setting.1) None
+
+-- a key of the command and the value after its equals sign, in a word that begins with no dash
+abbrev pub setting_in : Form → List ℕ → Option (Key × List ℕ)
+setting_in form [] = None
+setting_in form (b ∷ bs) = cond (b == 45) None (option_and_then (λ pair. option_map (λ key. (key, pair.1)) (option_key_of form pair.0)) (pair_of (b ∷ bs)))
+
+-- the values that words give to a key of a command
+abbrev pub key_values : Form → Key → List (List ℕ) → List (List ℕ)
+key_values form key words = filter_map (λ word. value_for key (setting_in form word)) words
+
+-- a word is flags of the command, or a key of it with a value
+abbrev pub IsWord : Form → List ℕ → Type 0
+IsWord form word = (are_flags (flags_of form) (letters_in word) ≡ true) ⊎ (is_some (setting_in form word) ≡ true)
+
+-- ---- flags
+
+of_flags-same : (labels labels' counts counts' cells cells' no_null no_null' no_all_null no_all_null' corners corners' : Bool)
+    → labels ≡ labels' → counts ≡ counts' → cells ≡ cells' → no_null ≡ no_null' → no_all_null ≡ no_all_null' → corners ≡ corners'
+    → ◌≡◌ {A = Flags} (record { labels = labels; counts = counts; cells = cells; no_null = no_null; no_all_null = no_all_null; corners = corners })
+    (record { labels = labels'; counts = counts'; cells = cells'; no_null = no_null'; no_all_null = no_all_null'; corners = corners' })
+of_flags-same labels labels' counts counts' cells cells' no_null no_null' no_all_null no_all_null' corners corners' a b c d e f = rw (a, b, c, d, e, f) refl
+
+-- no letters
+with_letters-none : (flags : Flags) → with_letters flags [] ≡ flags
+with_letters-none flags =
+    of_flags-same _ _ _ _ _ _ _ _ _ _ _ _ (or-false flags.labels) (or-false flags.counts) (or-false flags.cells) (or-false flags.no_null) (or-false flags.no_all_null) (or-false flags.corners)
+
+one_flag : (given : Bool) (a b : List ℕ) (flag : ℕ) → (given || is_one_of (a ++ b) flag) ≡ ((given || is_one_of a flag) || is_one_of b flag)
+one_flag given a b flag = ap (λ t. given || t) (list_any-append (λ letter. letter == flag) a b) ∙ sym (or_assoc given (is_one_of a flag) (is_one_of b flag))
+
+-- letters, and others after them
+with_letters-append : (flags : Flags) (a b : List ℕ) → with_letters flags (a ++ b) ≡ with_letters (with_letters flags a) b
+with_letters-append flags a b =
+    of_flags-same _ _ _ _ _ _ _ _ _ _ _ _ (one_flag flags.labels a b _) (one_flag flags.counts a b _) (one_flag flags.cells a b _) (one_flag flags.no_null a b _) (one_flag flags.no_all_null a b _) (one_flag flags.corners a b _)
+
+abbrev pub listed : List ℕ → Result (List (List ℕ)) OptionFault
 listed value = names_of (parts_of value)
 
-abbrev separated : List ℕ → Result ℕ OptionFault
+abbrev pub separated : List ℕ → Result ℕ OptionFault
 separated value = ok_or (separator_in value) BadOption
 
-abbrev kept : List ℕ → Result (List ℕ) OptionFault
+abbrev pub kept : List ℕ → Result (List ℕ) OptionFault
 kept value = Ok value
 
 -- ---- one key
 
 -- after the values for a key, of which there is one at most, and none where the key was given before
-abbrev Extends : {X : Type 0} → (List ℕ → Result X OptionFault) → List (List ℕ) → Option X → Option X → Type 0
+abbrev pub Extends : {X : Type 0} → (List ℕ → Result X OptionFault) → List (List ℕ) → Option X → Option X → Type 0
 Extends read [] old new = old ≡ new
 Extends read (value ∷ []) None None = ⊥
 Extends read (value ∷ []) None (Some x) = read value ≡ Ok x
@@ -66,20 +118,6 @@ first read value [] None (Some x) e = record { given = x; none = refl; is = e; r
 first read value [] (Some x) new e = absurd e
 first read value (other ∷ values) old new e = absurd e
 
-once-extends : {X : Type 0} (read : List ℕ → Result X OptionFault) (values : List (List ℕ)) (new : Option X) → IsOnce read values new → Extends read values None new
-once-extends read [] None e = refl
-once-extends read [] (Some x) e = absurd e
-once-extends read (value ∷ []) None e = absurd e
-once-extends read (value ∷ []) (Some x) e = e
-once-extends read (value ∷ other ∷ values) new e = absurd e
-
-extends-once : {X : Type 0} (read : List ℕ → Result X OptionFault) (values : List (List ℕ)) (new : Option X) → Extends read values None new → IsOnce read values new
-extends-once read [] None e = tt
-extends-once read [] (Some x) e = cc
-extends-once read (value ∷ []) None e = absurd e
-extends-once read (value ∷ []) (Some x) e = e
-extends-once read (value ∷ other ∷ values) new e = absurd e
-
 -- a value that is taken
 record Taken {X : Type 0} (read : List ℕ → Result X OptionFault) (value : List ℕ) (old : Option X) (with : X → Given) (mid : Given) : Type 0 where
   given : X
@@ -108,7 +146,7 @@ setting_of form pair = option_and_then (λ p. option_map (λ key. (key, p.1)) (o
 
 -- what a word of these letters and this setting adds
 record Adds (letters : List ℕ) (setting : Option (Key × List ℕ)) (old mid : Given) : Type 0 where
-  flags : old.flags ++ letters ≡ mid.flags
+  flags : with_letters old.flags letters ≡ mid.flags
   input : Steps option_name (value_for Input setting) old.input mid.input
   inputs : Steps listed (value_for Inputs setting) old.inputs mid.inputs
   output : Steps option_name (value_for Output setting) old.output mid.output
@@ -121,7 +159,7 @@ value-sound : (given mid : Given) (key : Key) (value : List ℕ) → with_value 
 value-sound given mid Input value e =
     let t = taken option_name value given.input (λ x. record given { input = Some x }) mid e in
     subst (λ m. Adds [] (Some (Input, value)) given m) t.mid_is (record {
-      flags = append-nil given.flags;
+      flags = with_letters-none given.flags;
       input = subst (λ o. Steps option_name (Some value) o (Some t.given)) (sym t.none) t.is;
       inputs = refl;
       output = refl;
@@ -133,7 +171,7 @@ value-sound given mid Input value e =
 value-sound given mid Inputs value e =
     let t = taken listed value given.inputs (λ x. record given { inputs = Some x }) mid e in
     subst (λ m. Adds [] (Some (Inputs, value)) given m) t.mid_is (record {
-      flags = append-nil given.flags;
+      flags = with_letters-none given.flags;
       input = refl;
       inputs = subst (λ o. Steps listed (Some value) o (Some t.given)) (sym t.none) t.is;
       output = refl;
@@ -145,7 +183,7 @@ value-sound given mid Inputs value e =
 value-sound given mid Output value e =
     let t = taken option_name value given.output (λ x. record given { output = Some x }) mid e in
     subst (λ m. Adds [] (Some (Output, value)) given m) t.mid_is (record {
-      flags = append-nil given.flags;
+      flags = with_letters-none given.flags;
       input = refl;
       inputs = refl;
       output = subst (λ o. Steps option_name (Some value) o (Some t.given)) (sym t.none) t.is;
@@ -157,7 +195,7 @@ value-sound given mid Output value e =
 value-sound given mid Separator value e =
     let t = taken separated value given.separator (λ x. record given { separator = Some x }) mid e in
     subst (λ m. Adds [] (Some (Separator, value)) given m) t.mid_is (record {
-      flags = append-nil given.flags;
+      flags = with_letters-none given.flags;
       input = refl;
       inputs = refl;
       output = refl;
@@ -169,7 +207,7 @@ value-sound given mid Separator value e =
 value-sound given mid NullText value e =
     let t = taken null_text_of value given.null_text (λ x. record given { null_text = Some x }) mid e in
     subst (λ m. Adds [] (Some (NullText, value)) given m) t.mid_is (record {
-      flags = append-nil given.flags;
+      flags = with_letters-none given.flags;
       input = refl;
       inputs = refl;
       output = refl;
@@ -181,7 +219,7 @@ value-sound given mid NullText value e =
 value-sound given mid TableNullText value e =
     let t = taken table_null_text_of value given.table_null_text (λ x. record given { table_null_text = Some x }) mid e in
     subst (λ m. Adds [] (Some (TableNullText, value)) given m) t.mid_is (record {
-      flags = append-nil given.flags;
+      flags = with_letters-none given.flags;
       input = refl;
       inputs = refl;
       output = refl;
@@ -193,7 +231,7 @@ value-sound given mid TableNullText value e =
 value-sound given mid After value e =
     let t = taken kept value given.after (λ x. record given { after = Some x }) mid e in
     subst (λ m. Adds [] (Some (After, value)) given m) t.mid_is (record {
-      flags = append-nil given.flags;
+      flags = with_letters-none given.flags;
       input = refl;
       inputs = refl;
       output = refl;
@@ -203,18 +241,18 @@ value-sound given mid After value e =
       after = subst (λ o. Steps kept (Some value) o (Some t.given)) (sym t.none) t.is;
     })
 
-flags-sound : (form : Form) (given mid : Given) (letters : List ℕ) → with_flags form given letters ≡ Ok mid → (are_flags form letters ≡ true) × Adds letters None given mid
-flags-sound form given mid letters e = by (are_flags form letters) refl e
+flags-sound : (form : Form) (given mid : Given) (letters : List ℕ) → with_flags form given letters ≡ Ok mid → (are_flags (flags_of form) letters ≡ true) × Adds letters None given mid
+flags-sound form given mid letters e = by (are_flags (flags_of form) letters) refl e
   where
-    by : (good : Bool) → are_flags form letters ≡ good → cond good (Ok (record given { flags = given.flags ++ letters })) (Err BadOption) ≡ Ok mid → (are_flags form letters ≡ true) × Adds letters None given mid
+    by : (good : Bool) → are_flags (flags_of form) letters ≡ good → cond good (Ok (record given { flags = with_letters given.flags letters })) (Err BadOption) ≡ Ok mid → (are_flags (flags_of form) letters ≡ true) × Adds letters None given mid
     by false g f = cc
     by true g f =
-        let same : record given { flags = given.flags ++ letters } ≡ mid = cc in
+        let same : record given { flags = with_letters given.flags letters } ≡ mid = cc in
         (g, subst (λ m. Adds letters None given m) same (record { flags = refl; input = refl; inputs = refl; output = refl; separator = refl; null_text = refl; table_null_text = refl; after = refl }))
 
 -- a word that is read
 abbrev IsRead : Form → List ℕ → Given → Given → Type 0
-IsRead form word given mid = IsOption form word × Adds (letters_in word) (setting_in form word) given mid
+IsRead form word given mid = IsWord form word × Adds (letters_in word) (setting_in form word) given mid
 
 word-pair : (form : Form) (given mid : Given) (pair : Option (List ℕ × List ℕ)) → with_pair form given pair ≡ Ok mid
     → (setting : Key × List ℕ) × (setting_of form pair ≡ Some setting) × Adds [] (Some setting) given mid
@@ -227,7 +265,7 @@ word-pair form given mid (Some p) e = by (option_key_of form p.0) refl e
 
 -- a word whose first byte is a dash or none
 abbrev IsReadBy : Form → List ℕ → Given → Given → Bool → Option (Key × List ℕ) → Type 0
-IsReadBy form bs given mid dash setting = ((are_flags form (cond dash bs []) ≡ true) ⊎ IsSome (cond dash None setting)) × Adds (cond dash bs []) (cond dash None setting) given mid
+IsReadBy form bs given mid dash setting = ((are_flags (flags_of form) (cond dash bs []) ≡ true) ⊎ (is_some (cond dash None setting) ≡ true)) × Adds (cond dash bs []) (cond dash None setting) given mid
 
 word-sound : (form : Form) (given mid : Given) (word : List ℕ) → with_word form given word ≡ Ok mid → IsRead form word given mid
 word-sound form given mid [] e = cc
@@ -245,45 +283,45 @@ word-sound form given mid (b ∷ bs) e = by (b == 45) refl e
 -- ---- all words
 
 -- what letters and values for keys make of options
-record Whole (letters : List ℕ) (values : Key → List (List ℕ)) (old new : Given) : Type 0 where
-  flags : old.flags ++ letters ≡ new.flags
-  input : Extends option_name (values Input) old.input new.input
-  inputs : Extends listed (values Inputs) old.inputs new.inputs
-  output : Extends option_name (values Output) old.output new.output
-  separator : Extends separated (values Separator) old.separator new.separator
-  null_text : Extends null_text_of (values NullText) old.null_text new.null_text
-  table_null_text : Extends table_null_text_of (values TableNullText) old.table_null_text new.table_null_text
-  after : Extends kept (values After) old.after new.after
+pub record Whole (letters : List ℕ) (values : Key → List (List ℕ)) (old new : Given) : Type 0 where
+  pub flags : with_letters old.flags letters ≡ new.flags
+  pub input : Extends option_name (values Input) old.input new.input
+  pub inputs : Extends listed (values Inputs) old.inputs new.inputs
+  pub output : Extends option_name (values Output) old.output new.output
+  pub separator : Extends separated (values Separator) old.separator new.separator
+  pub null_text : Extends null_text_of (values NullText) old.null_text new.null_text
+  pub table_null_text : Extends table_null_text_of (values TableNullText) old.table_null_text new.table_null_text
+  pub after : Extends kept (values After) old.after new.after
 
 -- what words make of options
-abbrev More : Form → List (List ℕ) → Given → Given → Type 0
-More form words old new = Whole (flat_map letters_in words) (λ key. values_of form key words) old new
+abbrev pub More : Form → List (List ℕ) → Given → Given → Type 0
+More form words old new = Whole (flat_map letters_in words) (λ key. key_values form key words) old new
 
 one-more : (form : Form) (word : List ℕ) (words : List (List ℕ)) (old mid new : Given) → Adds (letters_in word) (setting_in form word) old mid → More form words mid new → More form (word ∷ words) old new
 one-more form word words old mid new adds more = record {
-  flags = sym (append_assoc old.flags (letters_in word) (flat_map letters_in words)) ∙ ap (λ fs. fs ++ flat_map letters_in words) adds.flags ∙ more.flags;
-  input = joined option_name (value_for Input (setting_in form word)) (values_of form Input words) old.input mid.input new.input adds.input more.input;
-  inputs = joined listed (value_for Inputs (setting_in form word)) (values_of form Inputs words) old.inputs mid.inputs new.inputs adds.inputs more.inputs;
-  output = joined option_name (value_for Output (setting_in form word)) (values_of form Output words) old.output mid.output new.output adds.output more.output;
-  separator = joined separated (value_for Separator (setting_in form word)) (values_of form Separator words) old.separator mid.separator new.separator adds.separator more.separator;
-  null_text = joined null_text_of (value_for NullText (setting_in form word)) (values_of form NullText words) old.null_text mid.null_text new.null_text adds.null_text more.null_text;
-  table_null_text = joined table_null_text_of (value_for TableNullText (setting_in form word)) (values_of form TableNullText words) old.table_null_text mid.table_null_text new.table_null_text adds.table_null_text more.table_null_text;
-  after = joined kept (value_for After (setting_in form word)) (values_of form After words) old.after mid.after new.after adds.after more.after;
+  flags = with_letters-append old.flags (letters_in word) (flat_map letters_in words) ∙ ap (λ fs. with_letters fs (flat_map letters_in words)) adds.flags ∙ more.flags;
+  input = joined option_name (value_for Input (setting_in form word)) (key_values form Input words) old.input mid.input new.input adds.input more.input;
+  inputs = joined listed (value_for Inputs (setting_in form word)) (key_values form Inputs words) old.inputs mid.inputs new.inputs adds.inputs more.inputs;
+  output = joined option_name (value_for Output (setting_in form word)) (key_values form Output words) old.output mid.output new.output adds.output more.output;
+  separator = joined separated (value_for Separator (setting_in form word)) (key_values form Separator words) old.separator mid.separator new.separator adds.separator more.separator;
+  null_text = joined null_text_of (value_for NullText (setting_in form word)) (key_values form NullText words) old.null_text mid.null_text new.null_text adds.null_text more.null_text;
+  table_null_text = joined table_null_text_of (value_for TableNullText (setting_in form word)) (key_values form TableNullText words) old.table_null_text mid.table_null_text new.table_null_text adds.table_null_text more.table_null_text;
+  after = joined kept (value_for After (setting_in form word)) (key_values form After words) old.after mid.after new.after adds.after more.after;
 }
 
-words-sound : (form : Form) (words : List (List ℕ)) (old new : Given) → with_words form old words ≡ Ok new → All (IsOption form) words × More form words old new
+words-sound : (form : Form) (words : List (List ℕ)) (old new : Given) → with_words form old words ≡ Ok new → All (IsWord form) words × More form words old new
 words-sound form [] old new e =
     let same : old ≡ new = cc in
-    (All-nil (IsOption form), subst (λ g. More form [] old g) same (record { flags = append-nil old.flags; input = refl; inputs = refl; output = refl; separator = refl; null_text = refl; table_null_text = refl; after = refl }))
+    (All-nil (IsWord form), subst (λ g. More form [] old g) same (record { flags = with_letters-none old.flags; input = refl; inputs = refl; output = refl; separator = refl; null_text = refl; table_null_text = refl; after = refl }))
 words-sound form (word ∷ words) old new e = by (λ mid f. words-sound form words mid new f) (with_word form old word) refl e
   where
-    by : ((mid : Given) → with_words form mid words ≡ Ok new → All (IsOption form) words × More form words mid new)
-        → (read : Result Given OptionFault) → with_word form old word ≡ read → (read >>= (λ more. with_words form more words)) ≡ Ok new → All (IsOption form) (word ∷ words) × More form (word ∷ words) old new
+    by : ((mid : Given) → with_words form mid words ≡ Ok new → All (IsWord form) words × More form words mid new)
+        → (read : Result Given OptionFault) → with_word form old word ≡ read → (read >>= (λ more. with_words form more words)) ≡ Ok new → All (IsWord form) (word ∷ words) × More form (word ∷ words) old new
     by others (Err kind) r f = cc
     by others (Ok mid) r f =
         let is = word-sound form old mid word r in
         let rest = others mid f in
-        (All-cons (IsOption form) word words is.0 rest.0, one-more form word words old mid new is.1 rest.1)
+        (All-cons (IsWord form) word words is.0 rest.0, one-more form word words old mid new is.1 rest.1)
 
 -- a value for a key, and what the words after it make
 value-complete : (letters : List ℕ) (values : Key → List (List ℕ)) (old new : Given) (key : Key) (value : List ℕ)
@@ -334,33 +372,33 @@ value-complete letters values old new After value whole =
 abbrev setting_with : Option Key → List ℕ → Option (Key × List ℕ)
 setting_with key value = option_map (λ key. (key, value)) key
 
-pair-complete : (form : Form) (letters : List ℕ) (values : Key → List (List ℕ)) (old new : Given) (pair : Option (List ℕ × List ℕ)) → IsSome (setting_of form pair)
+pair-complete : (form : Form) (letters : List ℕ) (values : Key → List (List ℕ)) (old new : Given) (pair : Option (List ℕ × List ℕ)) → is_some (setting_of form pair) ≡ true
     → Whole letters (λ other. cons_option (value_for other (setting_of form pair)) (values other)) old new → (mid : Given) × (with_pair form old pair ≡ Ok mid) × Whole letters values mid new
 pair-complete form letters values old new None some whole = cc
 pair-complete form letters values old new (Some p) some whole = by (option_key_of form p.0) refl some whole
   where
-    by : (key : Option Key) → option_key_of form p.0 ≡ key → IsSome (setting_with key p.1) → Whole letters (λ other. cons_option (value_for other (setting_with key p.1)) (values other)) old new
+    by : (key : Option Key) → option_key_of form p.0 ≡ key → is_some (setting_with key p.1) ≡ true → Whole letters (λ other. cons_option (value_for other (setting_with key p.1)) (values other)) old new
         → (mid : Given) × (with_option old (option_key_of form p.0) p.1 ≡ Ok mid) × Whole letters values mid new
     by None k some whole = cc
     by (Some key) k some whole =
         let v = value-complete letters values old new key p.1 whole in
         (v.0, ap (λ o. with_option old o p.1) k ∙ v.1, v.2)
 
-flags-complete : (form : Form) (word letters : List ℕ) (values : Key → List (List ℕ)) (old new : Given) → are_flags form word ≡ true → Whole (word ++ letters) values old new
+flags-complete : (form : Form) (word letters : List ℕ) (values : Key → List (List ℕ)) (old new : Given) → are_flags (flags_of form) word ≡ true → Whole (word ++ letters) values old new
     → (mid : Given) × (with_flags form old word ≡ Ok mid) × Whole letters values mid new
 flags-complete form word letters values old new good whole =
-    (record old { flags = old.flags ++ word }, rw good refl, record { flags = append_assoc old.flags word letters ∙ whole.flags; input = whole.input; inputs = whole.inputs; output = whole.output; separator = whole.separator; null_text = whole.null_text; table_null_text = whole.table_null_text; after = whole.after })
+    (record old { flags = with_letters old.flags word }, rw good refl, record { flags = sym (with_letters-append old.flags word letters) ∙ whole.flags; input = whole.input; inputs = whole.inputs; output = whole.output; separator = whole.separator; null_text = whole.null_text; table_null_text = whole.table_null_text; after = whole.after })
 
 abbrev setting_by : Form → List ℕ → Bool → Option (Key × List ℕ)
 setting_by form word dash = cond dash None (setting_of form (pair_of word))
 
-word-complete : (form : Form) (letters : List ℕ) (values : Key → List (List ℕ)) (old new : Given) (word : List ℕ) → IsOption form word
+word-complete : (form : Form) (letters : List ℕ) (values : Key → List (List ℕ)) (old new : Given) (word : List ℕ) → IsWord form word
     → Whole (letters_in word ++ letters) (λ key. cons_option (value_for key (setting_in form word)) (values key)) old new → (mid : Given) × (with_word form old word ≡ Ok mid) × Whole letters values mid new
 word-complete form letters values old new [] (inl good) whole = cc
 word-complete form letters values old new [] (inr some) whole = cc
 word-complete form letters values old new (b ∷ bs) is whole = by (b == 45) refl is whole
   where
-    by : (dash : Bool) → (b == 45) ≡ dash → (are_flags form (cond dash bs []) ≡ true) ⊎ IsSome (setting_by form (b ∷ bs) dash)
+    by : (dash : Bool) → (b == 45) ≡ dash → (are_flags (flags_of form) (cond dash bs []) ≡ true) ⊎ (is_some (setting_by form (b ∷ bs) dash) ≡ true)
         → Whole (cond dash bs [] ++ letters) (λ key. cons_option (value_for key (setting_by form (b ∷ bs) dash)) (values key)) old new → (mid : Given) × (with_word form old (b ∷ bs) ≡ Ok mid) × Whole letters values mid new
     by true d (inl good) whole =
         let f = flags-complete form bs letters values old new good whole in
@@ -372,12 +410,12 @@ word-complete form letters values old new (b ∷ bs) is whole = by (b == 45) ref
         (p.0, ap (λ dash. cond dash (with_flags form old bs) (with_pair form old (pair_of (b ∷ bs)))) d ∙ p.1, p.2)
 
 -- options of equal parts
-abbrev of_fields : List ℕ → Option (List ℕ) → Option (List (List ℕ)) → Option (List ℕ) → Option ℕ → Option (List ℕ) → Option (List ℕ) → Option (List ℕ) → Given
+abbrev of_fields : Flags → Option (List ℕ) → Option (List (List ℕ)) → Option (List ℕ) → Option ℕ → Option (List ℕ) → Option (List ℕ) → Option (List ℕ) → Given
 of_fields flags input inputs output separator null_text table_null_text after = record { flags = flags; input = input; inputs = inputs; output = output; separator = separator; null_text = null_text; table_null_text = table_null_text; after = after }
 
 same-options : (old new : Given) → Whole [] (λ key. []) old new → old ≡ new
 same-options old new more =
-    ap (λ (x : List ℕ). of_fields x old.input old.inputs old.output old.separator old.null_text old.table_null_text old.after) (sym (append-nil old.flags) ∙ more.flags)
+    ap (λ (x : Flags). of_fields x old.input old.inputs old.output old.separator old.null_text old.table_null_text old.after) (sym (with_letters-none old.flags) ∙ more.flags)
     ∙ ap (λ (x : Option (List ℕ)). of_fields new.flags x old.inputs old.output old.separator old.null_text old.table_null_text old.after) more.input
     ∙ ap (λ (x : Option (List (List ℕ))). of_fields new.flags new.input x old.output old.separator old.null_text old.table_null_text old.after) more.inputs
     ∙ ap (λ (x : Option (List ℕ)). of_fields new.flags new.input new.inputs x old.separator old.null_text old.table_null_text old.after) more.output
@@ -386,39 +424,17 @@ same-options old new more =
     ∙ ap (λ (x : Option (List ℕ)). of_fields new.flags new.input new.inputs new.output new.separator new.null_text x old.after) more.table_null_text
     ∙ ap (λ (x : Option (List ℕ)). of_fields new.flags new.input new.inputs new.output new.separator new.null_text new.table_null_text x) more.after
 
-words-complete : (form : Form) (words : List (List ℕ)) (old new : Given) → All (IsOption form) words → More form words old new → with_words form old words ≡ Ok new
+words-complete : (form : Form) (words : List (List ℕ)) (old new : Given) → All (IsWord form) words → More form words old new → with_words form old words ≡ Ok new
 words-complete form [] old new each more = ap Ok (same-options old new more)
 words-complete form (word ∷ words) old new each more =
-    let first_is : IsOption form word = each 0 word (omega arith) in
-    let m = word-complete form (flat_map letters_in words) (λ key. values_of form key words) old new word first_is more in
+    let first_is : IsWord form word = each 0 word (omega arith) in
+    let m = word-complete form (flat_map letters_in words) (λ key. key_values form key words) old new word first_is more in
     let rest = words-complete form words m.0 new (λ i d within. each (suc i) d (omega (arith, within))) m.2 in
     ap (λ r. r >>= (λ mid. with_words form mid words)) m.1 ∙ rest
 
--- the options that words give, read one after another, are those that they spell together
-pub options-sound : (form : Form) (words : List (List ℕ)) (given : Given) → options_of form words ≡ Ok given → AreOptions form words given
-options-sound form words given e =
-    let s = words-sound form words no_options given e in
-    record {
-      each = s.0;
-      flags = s.1.flags;
-      input = extends-once option_name (values_of form Input words) given.input s.1.input;
-      inputs = extends-once listed (values_of form Inputs words) given.inputs s.1.inputs;
-      output = extends-once option_name (values_of form Output words) given.output s.1.output;
-      separator = extends-once separated (values_of form Separator words) given.separator s.1.separator;
-      null_text = extends-once null_text_of (values_of form NullText words) given.null_text s.1.null_text;
-      table_null_text = extends-once table_null_text_of (values_of form TableNullText words) given.table_null_text s.1.table_null_text;
-      after = extends-once kept (values_of form After words) given.after s.1.after;
-    }
+-- the words that are read without a fault, and what they make
+pub words-read : (form : Form) (words : List (List ℕ)) (given : Given) → options_of form words ≡ Ok given → All (IsWord form) words × More form words no_options given
+words-read form words given e = words-sound form words no_options given e
 
-pub options-complete : (form : Form) (words : List (List ℕ)) (given : Given) → AreOptions form words given → options_of form words ≡ Ok given
-options-complete form words given are =
-    words-complete form words no_options given are.each (record {
-      flags = are.flags;
-      input = once-extends option_name (values_of form Input words) given.input are.input;
-      inputs = once-extends listed (values_of form Inputs words) given.inputs are.inputs;
-      output = once-extends option_name (values_of form Output words) given.output are.output;
-      separator = once-extends separated (values_of form Separator words) given.separator are.separator;
-      null_text = once-extends null_text_of (values_of form NullText words) given.null_text are.null_text;
-      table_null_text = once-extends table_null_text_of (values_of form TableNullText words) given.table_null_text are.table_null_text;
-      after = once-extends kept (values_of form After words) given.after are.after;
-    })
+pub read-words : (form : Form) (words : List (List ℕ)) (given : Given) → All (IsWord form) words → More form words no_options given → options_of form words ≡ Ok given
+read-words form words given each more = words-complete form words no_options given each more

@@ -3,7 +3,7 @@ use Rattle.std.specs.Prelude.{ℕ, List, Option, Some, None, Result, Ok, Err, if
 use Rattle.std.specs.Option.{ok_or}
 use Rattle.cell_core_text.specs.Answers.{◌>>=◌}
 use Rattle.cell_core_values.specs.Name.{place_of}
-use Rattle.rcell_script_options.specs.Options.{Given, is_torn}
+use Rattle.rcell_script_options.specs.OptionReading.{Given, is_torn}
 use Rattle.rcell_script_options.specs.InputPlaces.{places_of}
 use Rattle.rcell_script_options.specs.declared.option_fault.OptionFault.{OptionFault}
 use Rattle.rcell_script_options.specs.declared.option_fault.OptionFault.TheVariants.{BadOption, MissingOption, UnknownMap, MapExists}

@@ -1,9 +1,8 @@
 -- The texts that may stand for null in a table (r.stats manual) and in a grid text that is written (r.out.ascii manual); which texts is the profile's.
-use Rattle.std.specs.Prelude.{ℕ, Bool, not, ◌&&◌, ◌==◌, nat_le, List, length, Result, Ok, Err, if◌then◌else◌}
+use Rattle.std.specs.Prelude.{ℕ, Bool, not, ◌&&◌, ◌==◌, nat_le, List, length, codes}
 use Rattle.std.specs.List.{list_all}
+use Rattle.cell_core_values.specs.Letters.{byte}
 use Rattle.cell_core_values.specs.Name.{is_from_to}
-use Rattle.rcell_script_options.specs.declared.option_fault.OptionFault.{OptionFault}
-use Rattle.rcell_script_options.specs.declared.option_fault.OptionFault.TheVariants.{BadOption}
 
 -- 1 to 64 bytes, each of one kind
 abbrev pub is_short : (ℕ → Bool) → List ℕ → Bool
@@ -11,11 +10,11 @@ is_short kind bs = nat_le 1 (length bs) && (nat_le (length bs) 64 && list_all ki
 
 -- a printed ASCII character that is no space
 abbrev pub is_printed : ℕ → Bool
-is_printed b = is_from_to 33 126 b
+is_printed b = is_from_to (byte (codes "!")) (byte (codes "~")) b
 
 -- such a character that is no colon
 abbrev pub is_null_byte : ℕ → Bool
-is_null_byte b = is_printed b && not (b == 58)
+is_null_byte b = is_printed b && not (b == byte (codes ":"))
 
 -- what may stand for null in a grid text
 abbrev pub is_null_text : List ℕ → Bool
@@ -24,11 +23,3 @@ is_null_text bs = is_short is_null_byte bs
 -- what may stand for null in a table
 abbrev pub is_table_null_text : List ℕ → Bool
 is_table_null_text bs = is_short is_printed bs
-
--- the null text of a grid text that a value spells
-abbrev pub null_text_of : List ℕ → Result (List ℕ) OptionFault
-null_text_of value = if is_null_text value then Ok value else Err BadOption
-
--- the null text of a table that a value spells
-abbrev pub table_null_text_of : List ℕ → Result (List ℕ) OptionFault
-table_null_text_of value = if is_table_null_text value then Ok value else Err BadOption

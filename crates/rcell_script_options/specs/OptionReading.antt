@@ -1,16 +1,19 @@
 -- The words after a command, read one after another: the options that they give, or the first fault (the order of the faults is the profile's).
-use Rattle.std.specs.Prelude.{ℕ, ◌==◌, List, [], ◌∷◌, ◌++◌, map, Option, Some, None, Result, Ok, Err, if◌then◌else◌}
+use Rattle.std.specs.Prelude.{ℕ, Bool, false, ◌&&◌, ◌||◌, ◌==◌, nat_lt, List, [], ◌∷◌, map, length, Option, Some, None, is_some, Result, Ok, Err, if◌then◌else◌, bytes_eq, codes}
 use Rattle.std.specs.Borrow.{Bor}
+use Rattle.std.specs.List.{list_all}
 use Rattle.std.specs.Option.{ok_or}
 use Rattle.cell_core_text.specs.Answers.{◌>>=◌}
 use Rattle.cell_core_text.specs.Words.{parts_of, pair_of}
-use Rattle.cell_core_values.specs.declared.name.NameFault.{NameFault}
-use Rattle.cell_core_values.specs.declared.name.NameFault.TheVariants as name
-use Rattle.rcell_script_options.specs.NullText.{null_text_of, table_null_text_of}
-use Rattle.rcell_script_options.specs.Options.{option_key_of, Given, are_flags, option_name, names_of, separator_in}
+use Rattle.cell_core_values.specs.Letters.{byte, is_one_of}
+use Rattle.cell_core_values.specs.Name.{is_name}
+use Rattle.rcell_script_options.specs.NullText.{is_null_text, is_table_null_text}
+use Rattle.rcell_script_options.specs.Options.{are_flags, separator_in}
 use Rattle.rcell_script_options.specs.declared.option_fault.OptionFault.{OptionFault}
-use Rattle.rcell_script_options.specs.declared.option_fault.OptionFault.TheVariants.{BadOption, BadName, Memory}
+use Rattle.rcell_script_options.specs.declared.option_fault.OptionFault.TheVariants.{BadOption, BadName}
+use Rattle.rcell_script_options.specs.declared.options.Flags.{Flags}
 use Rattle.rcell_script_options.specs.declared.options.Form.{Form}
+use Rattle.rcell_script_options.specs.declared.options.Form.TheVariants.{Clump, Stats, OutAscii}
 use Rattle.rcell_script_options.specs.declared.options.Key.{Key}
 use Rattle.rcell_script_options.specs.declared.options.Key.TheVariants.{Input, Inputs, Output, Separator, NullText, TableNullText, After}
 
@@ -18,19 +21,92 @@ use Rattle.rcell_script_options.specs.declared.options.Key.TheVariants.{Input, I
 abbrev pub texts : List (Bor (List ℕ)) → List (List ℕ)
 texts words = map (λ word. word.now) words
 
--- a fault of a name, as one of options
-abbrev pub of_name : NameFault → OptionFault
-of_name name.BadName = BadName
-of_name name.Memory = Memory
+-- ---- commands
+
+-- the flags of a command
+abbrev pub flags_of : Form → List ℕ
+flags_of Clump = codes "d"
+flags_of Stats = codes "clnN1"
+flags_of _ = []
+
+-- the keys of a command, and what each asks for
+abbrev pub option_keys : Form → List (List ℕ × Key)
+option_keys Stats = (codes "input", Inputs) ∷ (codes "separator", Separator) ∷ (codes "null_value", TableNullText) ∷ (codes "after", After) ∷ []
+option_keys OutAscii = (codes "input", Input) ∷ (codes "null_value", NullText) ∷ []
+option_keys _ = (codes "input", Input) ∷ (codes "output", Output) ∷ []
+
+-- what a text asks for among these keys
+abbrev pub key_among : List (List ℕ × Key) → List ℕ → Option Key
+key_among [] text = None
+key_among (k ∷ ks) text = if bytes_eq text k.0 then Some k.1 else key_among ks text
+
+-- what a text asks for among the keys of a command
+abbrev pub option_key_of : Form → List ℕ → Option Key
+option_key_of form text = key_among (option_keys form) text
+
+-- ---- values
+
+-- the name of one map: a comma is no letter of it
+abbrev pub option_name : List ℕ → Result (List ℕ) OptionFault
+option_name value = if is_name value then Ok value else Err BadName
+
+-- texts that are all names
+abbrev pub names_from : List (List ℕ) → Result (List (List ℕ)) OptionFault
+names_from texts = if list_all is_name texts then Ok texts else Err BadName
+
+-- the names of at most 16 maps
+abbrev pub names_of : List (List ℕ) → Result (List (List ℕ)) OptionFault
+names_of texts = if nat_lt 16 (length texts) then Err BadOption else names_from texts
+
+-- the null text of a grid text that a value spells
+abbrev pub null_text_of : List ℕ → Result (List ℕ) OptionFault
+null_text_of value = if is_null_text value then Ok value else Err BadOption
+
+-- the null text of a table that a value spells
+abbrev pub table_null_text_of : List ℕ → Result (List ℕ) OptionFault
+table_null_text_of value = if is_table_null_text value then Ok value else Err BadOption
+
+-- ---- what was read
+
+-- the options that words gave
+pub record Given : Type 0 where
+  pub flags : Flags
+  pub input : Option (List ℕ)
+  pub inputs : Option (List (List ℕ))
+  pub output : Option (List ℕ)
+  pub separator : Option ℕ
+  pub null_text : Option (List ℕ)
+  pub table_null_text : Option (List ℕ)
+  pub after : Option (List ℕ)
+
+-- no flag was given
+abbrev pub no_flags : Flags
+no_flags = record { labels = false; counts = false; cells = false; no_null = false; no_all_null = false; corners = false }
 
 -- no option was given
 abbrev pub no_options : Given
 no_options =
-    record { flags = []; input = None; inputs = None; output = None; separator = None; null_text = None; table_null_text = None; after = None }
+    record { flags = no_flags; input = None; inputs = None; output = None; separator = None; null_text = None; table_null_text = None; after = None }
+
+-- a line for each cell goes with no count and no `after`
+abbrev pub is_torn : Given → Bool
+is_torn given = given.flags.cells && (given.flags.counts || is_some given.after)
+
+-- with letters that are flags; one that is given twice is given
+abbrev pub with_letters : Flags → List ℕ → Flags
+with_letters flags letters =
+    record {
+      labels = flags.labels || is_one_of letters (byte (codes "l"));
+      counts = flags.counts || is_one_of letters (byte (codes "c"));
+      cells = flags.cells || is_one_of letters (byte (codes "1"));
+      no_null = flags.no_null || is_one_of letters (byte (codes "n"));
+      no_all_null = flags.no_all_null || is_one_of letters (byte (codes "N"));
+      corners = flags.corners || is_one_of letters (byte (codes "d"));
+    }
 
 -- with the letters after a dash
 abbrev pub with_flags : Form → Given → List ℕ → Result Given OptionFault
-with_flags form given letters = if are_flags form letters then Ok (record given { flags = given.flags ++ letters }) else Err BadOption
+with_flags form given letters = if are_flags (flags_of form) letters then Ok (record given { flags = with_letters given.flags letters }) else Err BadOption
 
 -- a key that was given is a bad option
 abbrev pub given_once : {X O : Type 0} → Option X → Result O OptionFault → Result O OptionFault
@@ -72,7 +148,7 @@ with_pair form given (Some pair) = with_option given (option_key_of form pair.0)
 -- flags after a dash, or a key and its value
 abbrev pub with_word : Form → Given → List ℕ → Result Given OptionFault
 with_word form given [] = Err BadOption
-with_word form given (b ∷ bs) = if b == 45 then with_flags form given bs else with_pair form given (pair_of (b ∷ bs))
+with_word form given (b ∷ bs) = if b == byte (codes "-") then with_flags form given bs else with_pair form given (pair_of (b ∷ bs))
 
 -- the options of all words, or the fault of the first word that has one
 abbrev pub with_words : Form → Given → List (List ℕ) → Result Given OptionFault

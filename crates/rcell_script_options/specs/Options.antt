@@ -1,88 +1,64 @@
--- The flags and keys of each command, and the values that keys take (r.stats, r.clump, r.reclass and r.out.ascii manuals; the limits are the profile's).
-use Rattle.std.specs.Prelude.{ℕ, Bool, false, not, ◌&&◌, ◌||◌, ◌==◌, nat_lt, List, [], ◌∷◌, length, Option, Some, None, is_some, Result, Ok, Err, if◌then◌else◌, bytes_eq, codes}
-use Rattle.std.specs.List.{list_all, list_any}
+-- Which options the words after a command spell, in any order: flags after a dash, and keys with their values (r.stats, r.clump, r.reclass and r.out.ascii manuals; the limits are the profile's).
+use Rattle.std.specs.Prelude.{ℕ, ◌≡◌, ◌≤◌, ◌⊎◌, Bool, true, not, ◌&&◌, ◌==◌, List, [], ◌∷◌, length, Option, Some, None, is_some, unwrap_or, if◌then◌else◌, bytes_eq, codes}
+use Rattle.std.specs.List.{list_all, list_any, flat_map, filter_map}
+use Rattle.std.specs.Option.{option_and_then}
+use Rattle.cell_core_text.specs.Words.{parts_of, pair_of}
+use Rattle.cell_core_values.specs.Letters.{byte, is_one_of}
 use Rattle.cell_core_values.specs.Name.{is_from_to, is_name}
-use Rattle.rcell_script_options.specs.declared.option_fault.OptionFault.{OptionFault}
-use Rattle.rcell_script_options.specs.declared.option_fault.OptionFault.TheVariants.{BadOption, BadName}
-use Rattle.rcell_script_options.specs.declared.options.Form.{Form}
-use Rattle.rcell_script_options.specs.declared.options.Form.TheVariants.{Reclass, Clump, Stats, OutAscii}
-use Rattle.rcell_script_options.specs.declared.options.Key.{Key}
-use Rattle.rcell_script_options.specs.declared.options.Key.TheVariants.{Input, Inputs, Output, Separator, NullText, TableNullText, After}
 
--- the flags of a command: `d` of r.clump; `c`, `l`, `n`, `N` and `1` of r.stats
-abbrev pub is_flag : Form → ℕ → Bool
-is_flag Clump letter = letter == 100
-is_flag Stats letter = ((letter == 99 || letter == 108) || (letter == 110 || letter == 78)) || letter == 49
-is_flag _ letter = false
+-- the letters after a dash
+abbrev pub letters_in : List ℕ → List ℕ
+letters_in [] = []
+letters_in (b ∷ bs) = if b == byte (codes "-") then bs else []
 
--- the keys of r.reclass and r.clump
-abbrev pub maker_key : List ℕ → Option Key
-maker_key text = if bytes_eq text (codes "input") then Some Input else (if bytes_eq text (codes "output") then Some Output else None)
+-- one or more letters, each one of these
+abbrev pub are_flags : List ℕ → List ℕ → Bool
+are_flags flags letters = not (length letters == 0) && list_all (is_one_of flags) letters
 
--- the keys of r.stats
-abbrev pub stats_key : List ℕ → Option Key
-stats_key text =
-    if bytes_eq text (codes "input") then Some Inputs
-    else (if bytes_eq text (codes "separator") then Some Separator
-    else (if bytes_eq text (codes "null_value") then Some TableNullText
-    else (if bytes_eq text (codes "after") then Some After else None)))
+-- the value that a word gives to a key: what stands after the key and an equals sign
+abbrev pub value_in : List ℕ → List ℕ → Option (List ℕ)
+value_in key word = option_and_then (λ pair. if bytes_eq pair.0 key then Some pair.1 else None) (pair_of word)
 
--- the keys of r.out.ascii
-abbrev pub out_ascii_key : List ℕ → Option Key
-out_ascii_key text = if bytes_eq text (codes "input") then Some Input else (if bytes_eq text (codes "null_value") then Some NullText else None)
+-- a word is flags of a command, or one of its keys with a value
+abbrev pub IsOption : List ℕ → List (List ℕ) → List ℕ → Type 0
+IsOption flags keys word =
+    (are_flags flags (letters_in word) ≡ true) ⊎ (list_any (λ key. is_some (value_in key word)) keys ≡ true)
 
--- the keys of a command
-abbrev pub option_key_of : Form → List ℕ → Option Key
-option_key_of Reclass text = maker_key text
-option_key_of Clump text = maker_key text
-option_key_of Stats text = stats_key text
-option_key_of OutAscii text = out_ascii_key text
+-- words give a flag
+abbrev pub has_flag : List ℕ → List (List ℕ) → Bool
+has_flag flag words = is_one_of (flat_map letters_in words) (byte flag)
 
--- the options that words gave: the letters of the flags, and the value of each key
-pub record Given : Type 0 where
-  pub flags : List ℕ
-  pub input : Option (List ℕ)
-  pub inputs : Option (List (List ℕ))
-  pub output : Option (List ℕ)
-  pub separator : Option ℕ
-  pub null_text : Option (List ℕ)
-  pub table_null_text : Option (List ℕ)
-  pub after : Option (List ℕ)
+-- the values that words give to a key
+abbrev pub values_of : List ℕ → List (List ℕ) → List (List ℕ)
+values_of key words = filter_map (value_in key) words
 
--- a flag was given
-abbrev pub has_flag : ℕ → Given → Bool
-has_flag letter given = list_any (λ flag. flag == letter) given.flags
+-- there is no value, or one, and it spells this
+abbrev pub IsOptional : {X : Type 0} → (List ℕ → X → Type 0) → List (List ℕ) → Option X → Type 0
+IsOptional Spells values None = values ≡ []
+IsOptional Spells values (Some x) = (value : List ℕ) × (values ≡ value ∷ []) × Spells value x
 
--- a line for each cell goes with no count and no `after`
-abbrev pub is_torn : Given → Bool
-is_torn given = has_flag 49 given && (has_flag 99 given || is_some given.after)
+-- there is no value, and this is the usual, or one, and it spells this
+abbrev pub IsOr : {X : Type 0} → X → (List ℕ → X → Type 0) → List (List ℕ) → X → Type 0
+IsOr {X} usual Spells values x = (given : Option X) × IsOptional Spells values given × (unwrap_or given usual ≡ x)
 
--- one or more letters, each a flag of the command
-abbrev pub are_flags : Form → List ℕ → Bool
-are_flags form letters = not (length letters == 0) && list_all (is_flag form) letters
+-- a value spells itself, where it passes a test
+abbrev pub SpellsText : (List ℕ → Bool) → List ℕ → List ℕ → Type 0
+SpellsText test value text = (value ≡ text) × (test value ≡ true)
 
--- the name of one map: a comma is no letter of it
-abbrev pub option_name : List ℕ → Result (List ℕ) OptionFault
-option_name value = if is_name value then Ok value else Err BadName
-
--- texts that are all names
-abbrev pub names_from : List (List ℕ) → Result (List (List ℕ)) OptionFault
-names_from texts = if list_all is_name texts then Ok texts else Err BadName
-
--- the names of at most 16 maps
-abbrev pub names_of : List (List ℕ) → Result (List (List ℕ)) OptionFault
-names_of texts = if nat_lt 16 (length texts) then Err BadOption else names_from texts
+-- a value spells the names of at most 16 maps, between commas
+abbrev pub SpellsNames : List ℕ → List (List ℕ) → Type 0
+SpellsNames value names = (parts_of value ≡ names) × (list_all is_name names ≡ true) × (length names ≤ 16)
 
 -- one printed ASCII character that is no space
 abbrev pub printed_byte : List ℕ → Option ℕ
 printed_byte [] = None
-printed_byte (b ∷ []) = if is_from_to 33 126 b then Some b else None
+printed_byte (b ∷ []) = if is_from_to (byte (codes "!")) (byte (codes "~")) b then Some b else None
 printed_byte (b ∷ c ∷ bs) = None
 
 -- the byte between the fields of a line: `pipe`, `comma`, `space`, `tab` or a printed character
 abbrev pub separator_in : List ℕ → Option ℕ
 separator_in value =
-    if bytes_eq value (codes "pipe") then Some 124
-    else (if bytes_eq value (codes "comma") then Some 44
-    else (if bytes_eq value (codes "space") then Some 32
-    else (if bytes_eq value (codes "tab") then Some 9 else printed_byte value)))
+    if bytes_eq value (codes "pipe") then Some (byte (codes "|"))
+    else (if bytes_eq value (codes "comma") then Some (byte (codes ","))
+    else (if bytes_eq value (codes "space") then Some (byte (codes " "))
+    else (if bytes_eq value (codes "tab") then Some (byte (codes "\t")) else printed_byte value)))

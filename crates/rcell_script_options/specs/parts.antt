@@ -1,2 +1,3 @@
 -- What only private functions and proofs speak of.
 pub mod Keys
+pub mod Faults

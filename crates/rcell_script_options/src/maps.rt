@@ -4,7 +4,7 @@ ghost use Rattle.std.specs.Prelude.{◌≡◌, ◌<◌, ◌≤◌, IfOk, None, A
 ghost use Rattle.std.specs.Option.{ok_or};
 ghost use Rattle.cell_core_text.specs.Answers.{Answers};
 ghost use Rattle.cell_core_values.specs.Name.{place_of};
-ghost use Rattle.rcell_script_options.specs.Options.{is_torn};
+ghost use Rattle.rcell_script_options.specs.OptionReading.{is_torn};
 ghost use Rattle.rcell_script_options.specs.Maps.{from_to, input_place, input_places};
 ghost use Rattle.rcell_script_options.specs.InputPlaces.{places_of};
 
@@ -29,13 +29,6 @@ impl Model for Places {
 }
 
 impl Places {
-    // The places of a vector.
-    fn from_vec(places: Vec<usize>) -> Places
-        ensures { result ≡ places.items }
-    {
-        Places { places }
-    }
-
     /// The places as a slice.
     pub fn as_slice(&self) -> &[usize]
         ensures { result.now ≡ self.now }
@@ -98,14 +91,14 @@ fn places_of(alloc: Global, known: &Names, names: &[Name]) -> Result<Places, Opt
             None => return Err(OptionFault::UnknownMap),
         }
     }
-    Ok(Places::from_vec(places))
+    Ok(Places { places })
 }
 
 // Whether a line for each cell is asked for, and what does not go with it.
 fn is_torn(options: &Options) -> bool
     ensures { result ≡ is_torn options.now }
 {
-    options.has_flag(b'1') && (options.has_flag(b'c') || options.after.is_some())
+    options.flags.cells && (options.flags.counts || options.after.is_some())
 }
 
 /// The places of the maps that are read, 1 to 16.

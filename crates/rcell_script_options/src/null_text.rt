@@ -5,7 +5,8 @@ ghost use Rattle.std.specs.List.{list_all};
 ghost use Rattle.cell_ascii_meaning.specs.Header.{usual_null};
 ghost use Rattle.cell_ascii_meaning.specs.Writing.{IsNullText};
 ghost use Rattle.cell_core_text.specs.Answers.{Answers};
-ghost use Rattle.rcell_script_options.specs.NullText.{is_printed, is_null_byte, is_null_text, is_table_null_text, null_text_of, table_null_text_of};
+ghost use Rattle.rcell_script_options.specs.NullText.{is_printed, is_null_byte, is_null_text, is_table_null_text};
+ghost use Rattle.rcell_script_options.specs.OptionReading.{null_text_of, table_null_text_of};
 
 use crate::option_fault::OptionFault;
 use cell_core::memory::Memory;

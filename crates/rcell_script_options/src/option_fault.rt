@@ -24,7 +24,7 @@ pub enum OptionFault {
 
 impl From<NameFault> for OptionFault {
     ghost use Rattle.std.specs.Prelude.{◌≡◌};
-    ghost use Rattle.rcell_script_options.specs.OptionReading.{of_name};
+    ghost use Rattle.rcell_script_options.specs.parts.Faults.{of_name};
 
     ghost from_gives = { λ fault option. option ≡ of_name fault };
 

@@ -1,14 +1,15 @@
 //! The words after a command: flags, and keys with their values.
 
-ghost use Rattle.std.specs.Prelude.{◌≡◌, ◌≤◌, IfOk, length, unwrap_or};
+ghost use Rattle.std.specs.Prelude.{◌≡◌, ◌≤◌, ◌||◌, IfOk, length, unwrap_or};
 ghost use Rattle.std.specs.List.{list_all};
 ghost use Rattle.std.specs.Option.{option_map};
 ghost use Rattle.cell_ascii_meaning.specs.Header.{usual_null};
 ghost use Rattle.cell_core_text.specs.Answers.{Answers};
 ghost use Rattle.cell_core_text.specs.Words.{parts_of};
-ghost use Rattle.rcell_script_options.specs.OptionReading.{texts, no_options, with_flags, with_value, with_pair, with_word, with_words, options_of};
+ghost use Rattle.cell_core_values.specs.Letters.{is_one_of};
+ghost use Rattle.rcell_script_options.specs.OptionReading.{texts, flags_of, option_key_of, option_name, names_from, names_of, no_options, with_letters, with_flags, with_value, with_pair, with_word, with_words, options_of};
 ghost use Rattle.rcell_script_options.specs.parts.Keys.{is_given};
-ghost use Rattle.rcell_script_options.specs.Options.{is_flag, are_flags, has_flag, maker_key, stats_key, out_ascii_key, option_key_of, option_name, names_from, names_of, printed_byte, separator_in};
+ghost use Rattle.rcell_script_options.specs.Options.{are_flags, printed_byte, separator_in};
 
 use crate::null_text::{NullText, TableNullText};
 use crate::option_fault::OptionFault;
@@ -82,10 +83,50 @@ impl Inputs {
     }
 }
 
+/// The flags that words gave so far.
+#[derive(Clone, Copy)]
+pub struct Flags {
+    /// `l` of r.stats.
+    pub labels: bool,
+    /// `c` of r.stats.
+    pub counts: bool,
+    /// `1` of r.stats.
+    pub cells: bool,
+    /// `n` of r.stats.
+    pub no_null: bool,
+    /// `N` of r.stats.
+    pub no_all_null: bool,
+    /// `d` of r.clump.
+    pub corners: bool,
+}
+
+// Whether a flag was given, before or now.
+fn or_given(given: bool, letters: &[u8], flag: u8) -> bool
+    ensures { result ≡ (given || is_one_of letters.now flag) }
+{
+    given || letters.contains(&flag)
+}
+
+impl Flags {
+    // With letters that are flags; one that is given twice is given.
+    fn with(self, letters: &[u8]) -> Flags
+        ensures { result ≡ with_letters self letters.now }
+    {
+        Flags {
+            labels: or_given(self.labels, letters, b'l'),
+            counts: or_given(self.counts, letters, b'c'),
+            cells: or_given(self.cells, letters, b'1'),
+            no_null: or_given(self.no_null, letters, b'n'),
+            no_all_null: or_given(self.no_all_null, letters, b'N'),
+            corners: or_given(self.corners, letters, b'd'),
+        }
+    }
+}
+
 /// The options that words gave so far.
 #[derive(Drop)]
 pub struct Options {
-    pub(crate) flags: Vec<u8>,
+    pub(crate) flags: Flags,
     pub(crate) input: Option<Name>,
     pub(crate) inputs: Option<Inputs>,
     pub(crate) output: Option<Name>,
@@ -97,40 +138,38 @@ pub struct Options {
 
 impl Model for Options {
     ghost use Rattle.std.specs.Option.{option_map};
-    ghost use Rattle.rcell_script_options.specs.Options.{Given};
+    ghost use Rattle.rcell_script_options.specs.OptionReading.{Given};
 
     ghost Value = { Given };
 
-    ghost view = { λ o. record { flags = o.flags.items; input = o.input; inputs = o.inputs; output = o.output; separator = o.separator; null_text = o.null_text; table_null_text = o.table_null_text; after = option_map (λ text. text.items) o.after } };
+    ghost view = { λ o. record { flags = o.flags; input = o.input; inputs = o.inputs; output = o.output; separator = o.separator; null_text = o.null_text; table_null_text = o.table_null_text; after = option_map (λ text. text.items) o.after } };
 }
 
 fn is_flag(form: Form, letter: u8) -> bool
-    ensures { result ≡ is_flag form letter }
+    ensures { result ≡ is_one_of (flags_of form) letter }
 {
     match form {
         Form::Clump => letter == b'd',
-        Form::Stats => {
-            letter == b'c' || letter == b'l' || letter == b'n' || letter == b'N' || letter == b'1'
-        }
+        Form::Stats => matches!(letter, b'c' | b'l' | b'n' | b'N' | b'1'),
         _ => false,
     }
 }
 
 fn are_all_flags(form: Form, letters: &[u8]) -> bool
-    ensures { result ≡ list_all (is_flag form) letters.now }
+    ensures { result ≡ list_all (is_one_of (flags_of form)) letters.now }
 {
     letters.iter().all(|letter| is_flag(form, *letter))
 }
 
 // One or more letters, each a flag of the command.
 fn are_flags(form: Form, letters: &[u8]) -> bool
-    ensures { result ≡ are_flags form letters.now }
+    ensures { result ≡ are_flags (flags_of form) letters.now }
 {
     !letters.is_empty() && are_all_flags(form, letters)
 }
 
 fn maker_key(text: &[u8]) -> Option<Key>
-    ensures { result ≡ maker_key text.now }
+    ensures { result ≡ option_key_of Form.Reclass text.now }
 {
     if text == b"input".as_slice() {
         Some(Key::Input)
@@ -142,7 +181,7 @@ fn maker_key(text: &[u8]) -> Option<Key>
 }
 
 fn stats_key(text: &[u8]) -> Option<Key>
-    ensures { result ≡ stats_key text.now }
+    ensures { result ≡ option_key_of Form.Stats text.now }
 {
     if text == b"input".as_slice() {
         Some(Key::Inputs)
@@ -158,7 +197,7 @@ fn stats_key(text: &[u8]) -> Option<Key>
 }
 
 fn out_ascii_key(text: &[u8]) -> Option<Key>
-    ensures { result ≡ out_ascii_key text.now }
+    ensures { result ≡ option_key_of Form.OutAscii text.now }
 {
     if text == b"input".as_slice() {
         Some(Key::Input)
@@ -241,11 +280,18 @@ fn separator_in(value: &[u8]) -> Option<u8>
 
 impl Options {
     // No option was given.
-    fn new(alloc: Global) -> Options
+    fn new() -> Options
         ensures { result ≡ no_options }
     {
         Options {
-            flags: Vec::new(alloc),
+            flags: Flags {
+                labels: false,
+                counts: false,
+                cells: false,
+                no_null: false,
+                no_all_null: false,
+                corners: false,
+            },
             input: None,
             inputs: None,
             output: None,
@@ -256,11 +302,11 @@ impl Options {
         }
     }
 
-    /// Whether a flag was given.
-    pub fn has_flag(&self, letter: u8) -> bool
-        ensures { result ≡ has_flag letter self.now }
+    /// The flags that were given.
+    pub fn flags(&self) -> Flags
+        ensures { result ≡ self.now.flags }
     {
-        self.flags.iter().any(|flag| *flag == letter)
+        self.flags
     }
 
     /// The byte between the fields of a line, where one was given.
@@ -341,7 +387,7 @@ impl Options {
         if !are_flags(form, letters) {
             return Err(OptionFault::BadOption);
         }
-        self.flags.extend_from_slice(letters)?;
+        self.flags = self.flags.with(letters);
         Ok(())
     }
 
@@ -394,7 +440,7 @@ impl Options {
 pub fn options_of(alloc: Global, form: Form, words: &[&[u8]]) -> Result<Options, OptionFault>
     ensures { Answers OptionFault.Memory (λ options. options) result (options_of form (texts words.now)) }
 {
-    let mut options = Options::new(alloc);
+    let mut options = Options::new();
     for word in words {
         options.add_word(alloc, form, *word)?;
     }

@@ -1,6 +1,6 @@
 -- Which keys were given.
 use Rattle.std.specs.Prelude.{Bool, is_some}
-use Rattle.rcell_script_options.specs.Options.{Given}
+use Rattle.rcell_script_options.specs.OptionReading.{Given}
 use Rattle.rcell_script_options.specs.declared.options.Key.{Key}
 use Rattle.rcell_script_options.specs.declared.options.Key.TheVariants.{Input, Inputs, Output, Separator, NullText, TableNullText, After}
 

@@ -2,13 +2,11 @@ use Rattle.std.proofs.Common.{◌≡◌, ◌≢◌, ℕ, List, length, Option, O
 use Rattle.std.proofs.lemmas.Result.{err_from_is_err_and}
 use Rattle.cell_core_text.specs.Answers.{◌>>=◌}
 use Rattle.rcell_script_options.specs.Maps.{input_places}
-use Rattle.rcell_script_options.specs.OptionReading.{texts, options_of}
-use Rattle.rcell_script_options.specs.Options.{Given}
+use Rattle.rcell_script_options.specs.OptionReading.{Given, texts, options_of}
 use Rattle.rcell_script_options.specs.declared.option_fault.OptionFault.{OptionFault}
 use Rattle.rcell_script_options.specs.declared.option_fault.OptionFault.TheVariants as option
 use Rattle.rcell_script_options.specs.declared.options.Form.TheVariants as form
-use Rattle.rcell_script_commands.specs.Commands.{after_of, stats_of}
-use Rattle.rcell_script_commands.specs.RStats.{printed_with}
+use Rattle.rcell_script_commands.specs.Commands.{after_of, printed_with, stats_of}
 use Rattle.rcell_script_commands.specs.ScriptFaults.{kind_of}
 use Rattle.rcell_script_commands.specs.declared.command.Command.TheVariants.{Stats}
 use Rattle.rcell_script_commands.specs.declared.script_fault.ScriptKind.{ScriptKind}

@@ -1,0 +1,2 @@
+-- What only conversions of faults and proofs speak of.
+pub mod CalcFaults
