@@ -8,8 +8,8 @@ use Rattle.cell_stats_combinations.specs.Combinations.{Combination, combination_
 use Rattle.cell_stats_combinations.proofs.OrderLemmas.{combination_cmp-exact, is_equal}
 use Rattle.cell_stats.specs.CategoryTables.{Pairs}
 use Rattle.cell_tiles_merging.specs.parts.Pairwise.{by_order, merge_entry, merged_of}
-use Rattle.cell_tiles_texts.specs.JoinedTexts.{merge_of}
-use Rattle.cell_tiles_texts.specs.parts.Steps.{added, is_of, past_first}
+use Rattle.cell_tiles_texts.specs.parts.MergedTables.{merge_of}
+use Rattle.cell_tiles_texts.specs.parts.Steps.{sum_if_any, is_of, past_first}
 
 -- the first combination, if there is one, is greater
 abbrev pub BeginsAbove : Combination → Pairs → Type 0
@@ -28,7 +28,7 @@ first_count k (e ∷ es) = cond (is_of k e) (Some e.1) None
 -- the counts of the first entries that are of the combination
 abbrev pub total_in : Combination → List Pairs → Option ℕ
 total_in k [] = None
-total_in k (table ∷ tables) = added (first_count k table) (total_in k tables)
+total_in k (table ∷ tables) = sum_if_any (first_count k table) (total_in k tables)
 
 -- an entry before others, where there is a count
 abbrev pub put_first : Combination → Option ℕ → Pairs → Pairs
@@ -57,7 +57,7 @@ greater-is Greater h e = refl
 
 module _ (k : Combination) where
   -- an entry that is of the combination
-  taken-of : (e : Combination × ℕ) (es m : Pairs) (o : Option ℕ) → e.0 ≡ k → BeginsAbove k m → merged_of (e ∷ es) (put_first k o m) ≡ put_first k (added (Some e.1) o) (merged_of es m)
+  taken-of : (e : Combination × ℕ) (es m : Pairs) (o : Option ℕ) → e.0 ≡ k → BeginsAbove k m → merged_of (e ∷ es) (put_first k o m) ≡ put_first k (sum_if_any (Some e.1) o) (merged_of es m)
   taken-of e es [] None same above = (λ i. (same i, e.1) ∷ merged_of es [])
   taken-of e es (y ∷ ys) None same above =
       let less : combination_cmp e.0 y.0 ≡ Less = ap (λ c. combination_cmp c y.0) same ∙ above in
@@ -73,11 +73,11 @@ module _ (k : Combination) where
   left-of e es m None greater = refl
   left-of e es m (Some n) greater = ap (λ o. by_order o (e ∷ merged_of es ((k, n) ∷ m)) ((e.0, e.1 + n) ∷ merged_of es m) ((k, n) ∷ merge_entry e (merged_of es) m)) greater
 
-  one-step : (table m : Pairs) (o : Option ℕ) → BeginsAt k table → BeginsAbove k m → (merged_of table (put_first k o m) ≡ put_first k (added (first_count k table) o) (merged_of (past_first k table) m)) × BeginsAbove k (merged_of (past_first k table) m)
+  one-step : (table m : Pairs) (o : Option ℕ) → BeginsAt k table → BeginsAbove k m → (merged_of table (put_first k o m) ≡ put_first k (sum_if_any (first_count k table) o) (merged_of (past_first k table) m)) × BeginsAbove k (merged_of (past_first k table) m)
   one-step [] m o at above = (refl, above)
   one-step (e ∷ es) m o at above = by (is_of k e) refl
     where
-      by : (t : Bool) → is_of k e ≡ t → (merged_of (e ∷ es) (put_first k o m) ≡ put_first k (added (cond t (Some e.1) None) o) (merged_of (cond t es (e ∷ es)) m)) × BeginsAbove k (merged_of (cond t es (e ∷ es)) m)
+      by : (t : Bool) → is_of k e ≡ t → (merged_of (e ∷ es) (put_first k o m) ≡ put_first k (sum_if_any (cond t (Some e.1) None) o) (merged_of (cond t es (e ∷ es)) m)) × BeginsAbove k (merged_of (cond t es (e ∷ es)) m)
       by true is =
           let same : e.0 ≡ k = combination_cmp-exact e.0 k (is_equal _ is) in
           (taken-of e es m o same above, above-merged k es m (subst (λ c. BeginsAbove c es) same at.1) above)

@@ -1,3 +1,2 @@
 -- Texts of tables merged.
-pub mod JoinedTexts
 pub mod parts

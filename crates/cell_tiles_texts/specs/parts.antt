@@ -1,2 +1,3 @@
 -- One step of a merge.
+pub mod MergedTables
 pub mod Steps

@@ -68,8 +68,10 @@ pub fn read_line(
     line: &[u8],
     cells: &mut Vec<Cell>,
 ) -> Result<u64, TableKind>
-    ensures ok { IfOk result (λ count. entry_of_line separator null_text.now line.now ≡ Ok (cells.new.items, count)) }
-    ensures err { IfErr result (λ kind. kind ≢ TableKind.Memory → entry_of_line separator null_text.now line.now ≡ Err kind) }
+    ensures ok { IfOk result (λ count. entry_of_line separator null_text.now line.now ≡ Ok
+        (cells.new.items, count)) }
+    ensures err { IfErr result (λ kind. kind ≢ TableKind.Memory → entry_of_line separator
+        null_text.now line.now ≡ Err kind) }
 {
     cells.clear();
     let mut rest = line;

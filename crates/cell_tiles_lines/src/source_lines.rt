@@ -1,7 +1,7 @@
 //! The lines of a source, one after the other.
 
 ghost use Rattle.std.specs.Prelude.{◌≡◌, ◌<◌, ◌≤◌, ◌==◌, nat_le, nat_lt, if◌then◌else◌, [], false, true, length, IfOk, OnErr, Ok, Err};
-ghost use Rattle.cell_tiles_lines.specs.SourceLines.{IsAtEnd, IsFirstLine, IsPassed, lines_coming};
+ghost use Rattle.cell_tiles_lines.specs.SourceLines.{HasEnded, IsFirstLine, IsPassed, lines_coming};
 
 use crate::places::place_of;
 use crate::table_fault::{MOST_BYTES, TableKind};
@@ -36,7 +36,8 @@ impl<R: Source> Model for Lines<R> {
       line = lines.line.items;
     } };
 
-    ghost invariant = { λ lines. (lines.at ≤ lines.filled) × (lines.filled ≤ length lines.buffer.items) × (0 < length lines.buffer.items) };
+    ghost invariant = { λ lines. (lines.at ≤ lines.filled) × (lines.filled ≤ length
+        lines.buffer.items) × (0 < length lines.buffer.items) };
 }
 
 impl<R: Source> Lines<R> {
@@ -48,7 +49,12 @@ impl<R: Source> Lines<R> {
     pub fn new(alloc: Global, source: R) -> Result<Lines<R>, Memory>
     where
         R: Drop,
-        ensures { IfOk result (λ lines. lines ≡ record { held = []; rest = R.coming source; line = [] }) }
+        ensures { IfOk result (λ lines. lines ≡ record {
+          held = [];
+          rest = R.coming source;
+          line =
+              [];
+        }) }
     {
         let buffer = vec![in alloc; 0u8; BLOCK]?;
         Ok(Lines {
@@ -61,7 +67,7 @@ impl<R: Source> Lines<R> {
     }
 
     /// The line that was read last, without its line feed.
-    pub fn line(&self) -> &[u8]
+    pub fn last_line(&self) -> &[u8]
         ensures { result.now ≡ self.now.line }
     {
         self.line.as_slice()
@@ -72,8 +78,8 @@ impl<R: Source> Lines<R> {
         ensures same { lines_coming self.new ≡ lines_coming self.old }
         ensures line { self.new.line ≡ self.old.line }
         ensures some { result ≡ Ok true → 0 < length self.new.held }
-        ensures end { result ≡ Ok false → IsAtEnd false (lines_coming self.old) }
-        ensures fault { OnErr result (IsAtEnd true (lines_coming self.old)) }
+        ensures end { result ≡ Ok false → HasEnded false (lines_coming self.old) }
+        ensures fault { OnErr result (HasEnded true (lines_coming self.old)) }
     {
         if self.at < self.filled {
             return Ok(true);
@@ -123,7 +129,8 @@ impl<R: Source> Lines<R> {
 
     // Whether the line that was read is short enough.
     fn whole(&self) -> Result<bool, TableKind>
-        ensures { result ≡ (if nat_lt MOST_BYTES (length self.now.line) then Err TableKind.LongLine else Ok true) }
+        ensures { result ≡ (if nat_lt MOST_BYTES (length self.now.line) then Err
+            TableKind.LongLine else Ok true) }
     {
         if MOST_BYTES < self.line.len() {
             return Err(TableKind::LongLine);

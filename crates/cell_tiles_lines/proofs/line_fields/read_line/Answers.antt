@@ -2,7 +2,7 @@ use Rattle.std.proofs.Common.{rules, ◌≡◌, ◌++◌, [], ◌∷◌, Some, N
 use Rattle.std.specs.List.{before_first}
 use Rattle.cell_tiles_lines.specs.LineFields.{cell_of_field, count_of_field, entry_of_line}
 use Rattle.cell_tiles_lines.proofs.FieldLemmas.{fields-start, fields-cell, fields-bad, fields-count, fields-no-count, with_cells}
-use Rattle.cell_tiles_lines.proofs.fields.read_line.Goals as goal
+use Rattle.cell_tiles_lines.proofs.line_fields.read_line.Goals as goal
 
 pub returns-in-None-clause-err : goal.returns-in-None-clause-err
 returns-in-None-clause-err c =

@@ -3,7 +3,7 @@ use Rattle.std.specs.List.{position_or_len, before_first, after_first}
 use Rattle.cell_tiles_lines.specs.LineReading.{is_line_feed}
 use Rattle.cell_tiles_lines.specs.SourceLines.{LinesValue}
 use Rattle.cell_tiles_lines.proofs.LinePartLemmas.{passed-part, passed-rest, held-is, held-all}
-use Rattle.cell_tiles_lines.proofs.lines.Lines.pass.Goals as goal
+use Rattle.cell_tiles_lines.proofs.source_lines.Lines.pass.Goals as goal
 
 pub returns-in_ok-extend_from_slice-in-Some-clause-passed :
     goal.returns-in_ok-extend_from_slice-in-Some-clause-passed
