@@ -1,2 +1,3 @@
 -- Texts of tables merged.
+pub mod MergedTables
 pub mod parts

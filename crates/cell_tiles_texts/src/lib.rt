@@ -2,4 +2,6 @@
 #![tactic(auto)]
 
 pub mod join_fault;
+pub mod law;
+pub mod printing;
 pub mod text_heads;

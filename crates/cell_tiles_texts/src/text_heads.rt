@@ -97,7 +97,7 @@ fn add(total: Option<u64>, count: Option<u64>) -> Option<Option<u64>>
 ///
 /// [`JoinFault::Text`] of the first text that has a fault behind its head, [`JoinFault::TooMany`] where the counts are
 /// beyond 64 bits, [`JoinFault::Memory`].
-pub(crate) fn take_all<R: Source>(
+pub fn take_all<R: Source>(
     alloc: Global,
     format: &Format,
     texts: &mut [TableText<R>],
@@ -123,7 +123,7 @@ pub(crate) fn take_all<R: Source>(
 }
 
 /// The least combination that a text begins with; None where each is at its end.
-pub(crate) fn least_of<'a, R: Source>(texts: &'a [TableText<R>]) -> Option<&'a Combo>
+pub fn least_of<'a, R: Source>(texts: &'a [TableText<R>]) -> Option<&'a Combo>
     ensures { MatchOption result
         (All (λ text. text.head ≡ None) texts.now)
         (λ combo. All (λ text. IfSome text.head (λ entry. combination_cmp entry.0 combo.now ≢ Less)) texts.now) }
