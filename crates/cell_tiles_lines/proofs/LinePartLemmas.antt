@@ -11,7 +11,7 @@ use Rattle.std.specs.Option.{option_map}
 use Rattle.std.specs.Prelude.{IfSome}
 use Rattle.cell_core_devices.specs.Device.{Coming}
 use Rattle.cell_tiles_lines.specs.LineReading.{is_line_feed}
-use Rattle.cell_tiles_lines.specs.SourceLines.{LinesValue, IsAtEnd, IsFirstLine, IsPassed, before_coming, first_line, lines_coming}
+use Rattle.cell_tiles_lines.specs.SourceLines.{LinesValue, HasEnded, IsFirstLine, IsPassed, held_before, first_line, lines_coming}
 use Rattle.cell_tiles_lines.specs.declared.table_fault.TableKind.{TableKind}
 use Rattle.cell_tiles_lines.specs.declared.table_fault.TableKind.TheVariants.{LongLine, CutOff, Read, Memory}
 use Rattle.cell_tiles_lines.specs.declared.table_fault.TheConstants.{MOST_BYTES}
@@ -94,11 +94,11 @@ from-told two old true e = λ n. if-some old (lines_coming two) e
 from-told two old false e = e
 
 -- a line feed among the bytes held
-pub whole-told : (old : Option Coming) (one two : LinesValue) (r : Result Bool TableKind) → lf one.line ≡ length one.line → old ≡ option_map (before_coming one.line) (lines_coming one) → IsPassed one true two → two.rest ≡ one.rest → r ≡ cond (nat_lt MOST_BYTES (length two.line)) (Err LongLine) (Ok true) → IsFirstLine old r two
+pub whole-told : (old : Option Coming) (one two : LinesValue) (r : Result Bool TableKind) → lf one.line ≡ length one.line → old ≡ option_map (held_before one.line) (lines_coming one) → IsPassed one true two → two.rest ≡ one.rest → r ≡ cond (nat_lt MOST_BYTES (length two.line)) (Err LongLine) (Ok true) → IsFirstLine old r two
 whole-told old one two r clean is passed same told =
-    subst (λ (x : Result Bool TableKind). IsFirstLine old x two) (sym told) (from-told two old (nat_lt MOST_BYTES (length two.line)) (ap (option_map first_line) is ∙ by one.rest ∙ ap (λ o. option_map (whole_line two.line) (option_map (before_coming two.held) o)) (sym same)))
+    subst (λ (x : Result Bool TableKind). IsFirstLine old x two) (sym told) (from-told two old (nat_lt MOST_BYTES (length two.line)) (ap (option_map first_line) is ∙ by one.rest ∙ ap (λ o. option_map (whole_line two.line) (option_map (held_before two.held) o)) (sym same)))
   where
-    by : (o : Option Coming) → option_map first_line (option_map (before_coming one.line) (option_map (before_coming one.held) o)) ≡ option_map (whole_line two.line) (option_map (before_coming two.held) o)
+    by : (o : Option Coming) → option_map first_line (option_map (held_before one.line) (option_map (held_before one.held) o)) ≡ option_map (whole_line two.line) (option_map (held_before two.held) o)
     by None = refl
     by (Some c) =
         let bytes = one.held ++ c.bytes in
@@ -106,16 +106,16 @@ whole-told old one two r clean is passed same told =
         let behind = after-behind is_line_feed one.line bytes clean ∙ after-within is_line_feed one.held c.bytes passed.0 ∙ ap (λ part. part ++ c.bytes) (sym passed.2) in
         let place = place-behind is_line_feed one.line bytes clean ∙ ap (λ n. length one.line + n) (place-within is_line_feed one.held c.bytes passed.0) in
         let most : lf one.held < length one.held = ⊎_elim (λ less. less) (λ more. absurd (passed.0 (let l = low is_line_feed one.held in omega arith))) (cases_lt (lf one.held) (length one.held)) in
-        ap Some (first-whole (before_coming one.line (before_coming one.held c)) two.line (two.held ++ c.bytes) before behind (omega (arith, place, length-append one.line bytes, length-append one.held c.bytes, most)))
+        ap Some (first-whole (held_before one.line (held_before one.held c)) two.line (two.held ++ c.bytes) before behind (omega (arith, place, length-append one.line bytes, length-append one.held c.bytes, most)))
 
 -- none among them
 pub part-clean : (one two : LinesValue) → lf one.line ≡ length one.line → IsPassed one false two → lf two.line ≡ length two.line
 part-clean one two clean passed = ap lf passed.1 ∙ place-behind is_line_feed one.line one.held clean ∙ ap (λ n. length one.line + n) passed.0 ∙ sym (length-append one.line one.held) ∙ ap length (sym passed.1)
 
-pub part-same : (old : Option Coming) (one two : LinesValue) → old ≡ option_map (before_coming one.line) (lines_coming one) → IsPassed one false two → two.rest ≡ one.rest → old ≡ option_map (before_coming two.line) (lines_coming two)
-part-same old one two is passed same = is ∙ by one.rest ∙ ap (λ o. option_map (before_coming two.line) (option_map (before_coming two.held) o)) (sym same)
+pub part-same : (old : Option Coming) (one two : LinesValue) → old ≡ option_map (held_before one.line) (lines_coming one) → IsPassed one false two → two.rest ≡ one.rest → old ≡ option_map (held_before two.line) (lines_coming two)
+part-same old one two is passed same = is ∙ by one.rest ∙ ap (λ o. option_map (held_before two.line) (option_map (held_before two.held) o)) (sym same)
   where
-    by : (o : Option Coming) → option_map (before_coming one.line) (option_map (before_coming one.held) o) ≡ option_map (before_coming two.line) (option_map (before_coming two.held) o)
+    by : (o : Option Coming) → option_map (held_before one.line) (option_map (held_before one.held) o) ≡ option_map (held_before two.line) (option_map (held_before two.held) o)
     by None = refl
     by (Some c) =
         let bytes : one.line ++ (one.held ++ c.bytes) ≡ two.line ++ (two.held ++ c.bytes) =
@@ -123,9 +123,9 @@ part-same old one two is passed same = is ∙ by one.rest ∙ ap (λ o. option_m
         ap (λ (all : List ℕ). let o : Option Coming = Some (record { bytes = all; fails = c.fails }) in o) bytes
 
 -- more bytes than a line may have
-pub long-told : (old : Option Coming) (one : LinesValue) → lf one.line ≡ length one.line → old ≡ option_map (before_coming one.line) (lines_coming one) → MOST_BYTES < length one.line → IfSome old (λ coming. first_line coming ≡ Err LongLine)
+pub long-told : (old : Option Coming) (one : LinesValue) → lf one.line ≡ length one.line → old ≡ option_map (held_before one.line) (lines_coming one) → MOST_BYTES < length one.line → IfSome old (λ coming. first_line coming ≡ Err LongLine)
 long-told old one clean is most = subst (λ (o : Option Coming). IfSome o (λ coming. first_line coming ≡ Err LongLine)) (sym is) (by (lines_coming one))
   where
-    by : (o : Option Coming) → IfSome (option_map (before_coming one.line) o) (λ coming. first_line coming ≡ Err LongLine)
+    by : (o : Option Coming) → IfSome (option_map (held_before one.line) o) (λ coming. first_line coming ≡ Err LongLine)
     by None = tt
-    by (Some c) = first-long (before_coming one.line c) (omega (arith, most, ap length (before-behind is_line_feed one.line c.bytes clean), length-append one.line (before_first is_line_feed c.bytes)))
+    by (Some c) = first-long (held_before one.line c) (omega (arith, most, ap length (before-behind is_line_feed one.line c.bytes clean), length-append one.line (before_first is_line_feed c.bytes)))

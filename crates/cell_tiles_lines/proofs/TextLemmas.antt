@@ -10,19 +10,19 @@ use Rattle.std.specs.Prelude.{IfSome}
 use Rattle.cell_core_devices.specs.Device.{Coming}
 use Rattle.cell_stats_combinations.specs.Combinations.{Combination}
 use Rattle.cell_stats.specs.TableText.{FormatValue}
-use Rattle.cell_tiles_lines.specs.LineReading.{Reading, at_end, ended, is_line_feed, line_after, next_entry, reading_of_lines, reading_of_rest, stopped, then_reads, with_entry}
+use Rattle.cell_tiles_lines.specs.LineReading.{TableReading, at_text_end, ended, is_line_feed, line_after, next_entry, reading_of_lines, reading_of_rest, stopped, then_reads, with_entry}
 use Rattle.cell_tiles_lines.specs.SourceLines.{LinesValue, IsFirstLine, first_line, lines_coming}
-use Rattle.cell_tiles_lines.specs.TextReading.{TextValue, combination_of, reading_behind, reading_by, reading_from}
+use Rattle.cell_tiles_lines.specs.parts.FirstLine.{reading_by}
 use Rattle.cell_tiles_lines.specs.declared.table_fault.TableKind.{TableKind}
 use Rattle.cell_tiles_lines.specs.declared.table_fault.TableKind.TheVariants.{LongLine, CutOff, Read, Memory}
 use Rattle.cell_tiles_lines.specs.declared.table_fault.TheConstants.{MOST_BYTES}
 use Rattle.cell_tiles_lines.proofs.PlaceLemmas.{split-none}
 
 module _ (format : FormatValue) (width number : ℕ) (last : Option Combination) where
-  abbrev pub by_lines : Bool → List (List ℕ) → Reading
+  abbrev pub by_lines : Bool → List (List ℕ) → TableReading
   by_lines fails lines = reading_of_lines format width fails number last lines
 
-  abbrev pub one_line : Bool → List ℕ → List (List ℕ) → Reading
+  abbrev pub one_line : Bool → List ℕ → List (List ℕ) → TableReading
   one_line fails line lines = cond (nat_lt MOST_BYTES (length line)) (stopped number LongLine) (then_reads number (next_entry format width last line) (λ entry. reading_of_lines format width fails (line_after number) (Some entry.0) lines))
 
   -- a line with others behind it
@@ -48,7 +48,7 @@ module _ (format : FormatValue) (width number : ℕ) (last : Option Combination)
   pick coming true = refl
   pick coming false = refl
 
-  end : (fails : Bool) (bytes : List ℕ) (t : Bool) → cond t (stopped number LongLine) (at_end fails number bytes) ≡ reading_by format width number last (cond t (Err LongLine) (cond fails (Err Read) (cond (length bytes == 0) (Ok None) (Err CutOff))))
+  end : (fails : Bool) (bytes : List ℕ) (t : Bool) → cond t (stopped number LongLine) (at_text_end fails number bytes) ≡ reading_by format width number last (cond t (Err LongLine) (cond fails (Err Read) (cond (length bytes == 0) (Ok None) (Err CutOff))))
   end fails bytes true = refl
   end true bytes false = refl
   end false bytes false = by (length bytes == 0)
@@ -97,7 +97,7 @@ module _ (format : FormatValue) (width number : ℕ) (last : Option Combination)
     pub end-read : IsFirstLine old (Ok false) new → option_map (reading_of_rest format width number last) old ≡ option_map (λ rest. ended) (lines_coming new)
     end-read first = by-first-known old ∙ ap (option_map (reading_by format width number last)) first ∙ twice (reading_by format width number last) (λ rest. Ok None) (lines_coming new)
 
-    told : (kind : TableKind) (o : Option Reading) (x : Option Coming) → o ≡ option_map (λ rest. stopped number kind) x → IfSome o (λ reading. reading ≡ stopped number kind)
+    told : (kind : TableKind) (o : Option TableReading) (x : Option Coming) → o ≡ option_map (λ rest. stopped number kind) x → IfSome o (λ reading. reading ≡ stopped number kind)
     told kind None x e = tt
     told kind (Some r) None e = cc
     told kind (Some r) (Some c) e = cc

@@ -4,3 +4,4 @@ pub mod LineReading
 pub mod SourceLines
 pub mod TableLines
 pub mod TextReading
+pub mod parts

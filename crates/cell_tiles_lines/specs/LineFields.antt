@@ -27,10 +27,10 @@ abbrev pub count_of_field : List ℕ → Option ℕ
 count_of_field field = if nat_lt 0 (capped_value field) && bytes_eq (decimal (capped_value field)) field then Some (capped_value field) else None
 
 -- a cell before what the fields after it spell
-abbrev pub with_cell : Option CellValue → Result (Combination × ℕ) TableKind → Result (Combination × ℕ) TableKind
-with_cell None others = Err BadCell
-with_cell (Some cell) (Err kind) = Err kind
-with_cell (Some cell) (Ok entry) = Ok (cell ∷ entry.0, entry.1)
+abbrev pub cell_before : Option CellValue → Result (Combination × ℕ) TableKind → Result (Combination × ℕ) TableKind
+cell_before None others = Err BadCell
+cell_before (Some cell) (Err kind) = Err kind
+cell_before (Some cell) (Ok entry) = Ok (cell ∷ entry.0, entry.1)
 
 -- a count alone
 abbrev pub with_count : Option ℕ → Result (Combination × ℕ) TableKind
@@ -41,7 +41,7 @@ with_count (Some n) = Ok ([], n)
 abbrev pub entry_of_fields : List ℕ → List (List ℕ) → Result (Combination × ℕ) TableKind
 entry_of_fields null_text [] = Err BadCount
 entry_of_fields null_text (field ∷ []) = with_count (count_of_field field)
-entry_of_fields null_text (field ∷ next ∷ fields) = with_cell (cell_of_field null_text field) (entry_of_fields null_text (next ∷ fields))
+entry_of_fields null_text (field ∷ next ∷ fields) = cell_before (cell_of_field null_text field) (entry_of_fields null_text (next ∷ fields))
 
 -- the entry of a line, without its line feed
 abbrev pub entry_of_line : ℕ → List ℕ → List ℕ → Result (Combination × ℕ) TableKind

@@ -15,16 +15,16 @@ pub record LinesValue : Type 0 where
   pub line : List ℕ
 
 -- bytes, and then those of a source
-abbrev pub before_coming : List ℕ → Coming → Coming
-before_coming bytes coming = record { bytes = bytes ++ coming.bytes; fails = coming.fails }
+abbrev pub held_before : List ℕ → Coming → Coming
+held_before bytes coming = record { bytes = bytes ++ coming.bytes; fails = coming.fails }
 
 -- all that is to come behind the line, where it is known
 abbrev pub lines_coming : LinesValue → Option Coming
-lines_coming lines = option_map (before_coming lines.held) lines.rest
+lines_coming lines = option_map (held_before lines.held) lines.rest
 
 -- a source whose bytes are known to be at their end
-abbrev pub IsAtEnd : Bool → Option Coming → Type 0
-IsAtEnd fails known = IfSome known (λ coming. (coming.bytes ≡ []) × (coming.fails ≡ fails))
+abbrev pub HasEnded : Bool → Option Coming → Type 0
+HasEnded fails known = IfSome known (λ coming. (coming.bytes ≡ []) × (coming.fails ≡ fails))
 
 -- the first line, without its line feed, and what comes behind it; or the end, or why there is neither
 abbrev pub first_line : Coming → Result (Option (List ℕ × Coming)) TableKind

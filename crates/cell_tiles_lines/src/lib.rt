@@ -1,8 +1,8 @@
 //! Texts of tables: the entry of each line, and the first fault of the lines.
 #![tactic(auto)]
 
-pub mod fields;
-pub mod lines;
+pub mod line_fields;
 mod places;
+pub mod source_lines;
 pub mod table_fault;
 pub mod text;

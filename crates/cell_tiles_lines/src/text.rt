@@ -3,10 +3,11 @@
 ghost use Rattle.std.specs.Prelude.{◌≡◌, ◌≢◌, ℕ, length, Ok, Err, IfOk, IfErr, IfSome, None, OnOk, MatchResult, option_map};
 ghost use Rattle.cell_tiles_lines.specs.LineReading.{is_as_wide, in_order, line_after, next_entry, reading_of, stopped};
 ghost use Rattle.cell_tiles_lines.specs.SourceLines.{lines_coming};
-ghost use Rattle.cell_tiles_lines.specs.TextReading.{IsRead, IsRefused, combination_of, reading_behind, reading_from};
+ghost use Rattle.cell_tiles_lines.specs.TextReading.{combination_of, reading_behind, reading_from};
+ghost use Rattle.cell_tiles_lines.specs.parts.FirstLine.{IsRead, IsRefused};
 
-use crate::fields::read_line;
-use crate::lines::Lines;
+use crate::line_fields::read_line;
+use crate::source_lines::Lines;
 use crate::table_fault::{TableFault, TableKind};
 use cell_core::cell::Cell;
 use cell_core::memory::Memory;
@@ -58,8 +59,10 @@ fn entry_of(
     line: &[u8],
     cells: &mut Vec<Cell>,
 ) -> Result<(Combo, u64), TableKind>
-    ensures ok { IfOk result (λ entry. next_entry format.now width (option_map (λ k. k.now) last.entry) line.now ≡ Ok (entry.0, entry.1)) }
-    ensures err { IfErr result (λ kind. kind ≢ TableKind.Memory → next_entry format.now width (option_map (λ k. k.now) last.entry) line.now ≡ Err kind) }
+    ensures ok { IfOk result (λ entry. next_entry format.now width (option_map (λ k. k.now)
+        last.entry) line.now ≡ Ok (entry.0, entry.1)) }
+    ensures err { IfErr result (λ kind. kind ≢ TableKind.Memory → next_entry format.now width
+        (option_map (λ k. k.now) last.entry) line.now ≡ Err kind) }
 {
     let count = read_line(format.separator(), format.null_text(), line, cells)?;
     check_order(width, last, cells)?;
@@ -78,15 +81,23 @@ fn read_entry<R: Source>(
     lines: &mut Lines<R>,
     cells: &mut Vec<Cell>,
 ) -> Result<Option<(Combo, u64)>, TableKind>
-    ensures read { IfOk result (λ head. (number : ℕ) → IsRead format.now width number (option_map (λ k. k.now) last.entry) (lines_coming lines.old) (record { width = width; head = head; number = line_after number; coming = lines_coming lines.new })) }
-    ensures fault { IfErr result (λ kind. kind ≢ TableKind.Memory → (number : ℕ) → IsRefused format.now width number (option_map (λ k. k.now) last.entry) (lines_coming lines.old) kind) }
+    ensures read { IfOk result (λ head. (number : ℕ) → IsRead format.now width number (option_map
+        (λ k. k.now) last.entry) (lines_coming lines.old) (record {
+          width = width;
+          head = head;
+          number = line_after number;
+          coming = lines_coming lines.new;
+        })) }
+    ensures fault { IfErr result (λ kind. kind ≢ TableKind.Memory → (number : ℕ) → IsRefused
+        format.now width number (option_map (λ k. k.now) last.entry) (lines_coming lines.old)
+        kind) }
 {
     match lines.next_line() {
         Ok(true) => {}
         Ok(false) => return Ok(None),
         Err(kind) => return Err(kind),
     }
-    match entry_of(alloc, format, width, last, lines.line(), cells) {
+    match entry_of(alloc, format, width, last, lines.last_line(), cells) {
         Ok(entry) => Ok(Some(entry)),
         Err(kind) => Err(kind),
     }
@@ -132,7 +143,7 @@ impl<R: Source> TableText<R> {
     /// # Errors
     ///
     /// The fault of the first line.
-    pub fn open(
+    pub fn from_source(
         alloc: Global,
         format: &Format,
         width: usize,
@@ -140,9 +151,12 @@ impl<R: Source> TableText<R> {
     ) -> Result<TableText<R>, TableFault>
     where
         R: Drop,
-        ensures read { IfOk result (λ text. option_map (reading_of format.now width) (R.coming source) ≡ reading_from format.now text) }
+        ensures read { IfOk result (λ text. option_map (reading_of format.now width) (R.coming
+            source) ≡ reading_from format.now text) }
         ensures width { IfOk result (λ text. text.width ≡ width) }
-        ensures fault { IfErr result (λ fault. fault.kind ≢ TableKind.Memory → IfSome (R.coming source) (λ coming. reading_of format.now width coming ≡ stopped fault.line fault.kind)) }
+        ensures fault { IfErr result (λ fault. fault.kind ≢ TableKind.Memory → IfSome (R.coming
+            source) (λ coming. reading_of format.now width coming ≡ stopped fault.line
+            fault.kind)) }
     {
         let lines = match Lines::new(alloc, source) {
             Ok(lines) => lines,
@@ -177,9 +191,12 @@ impl<R: Source> TableText<R> {
     ///
     /// The first fault of the text, after which it is not to be read on.
     pub fn next(&mut self, alloc: Global, format: &Format) -> Result<(), TableFault>
-        ensures read { OnOk result (reading_behind format.now self.old ≡ reading_from format.now self.new) }
+        ensures read { OnOk result (reading_behind format.now self.old ≡ reading_from format.now
+            self.new) }
         ensures width { self.new.width ≡ self.old.width }
-        ensures fault { IfErr result (λ fault. fault.kind ≢ TableKind.Memory → IfSome (reading_behind format.now self.old) (λ reading. reading ≡ stopped fault.line fault.kind)) }
+        ensures fault { IfErr result (λ fault. fault.kind ≢ TableKind.Memory → IfSome
+            (reading_behind format.now self.old) (λ reading. reading ≡ stopped fault.line
+            fault.kind)) }
     {
         let number = self.number;
         let last = combination_of(&self.head);

@@ -17,10 +17,10 @@ use Rattle.cell_ascii_law_written.proofs.WritingDigitLemmas.{IsNumeralOf, numera
 use Rattle.cell_ascii_law_written.proofs.WritingNumberLemmas.{whole_back, in_range_low, size}
 use Rattle.cell_stats_combinations.specs.Combinations.{Combination}
 use Rattle.cell_stats.specs.TableText.{FormatValue}
-use Rattle.cell_tiles_lines.specs.LineFields.{capped_value, category_of_field, cell_of_field, count_of_field, entry_of_fields, entry_of_line, with_cell, with_count}
+use Rattle.cell_tiles_lines.specs.LineFields.{capped_value, category_of_field, cell_of_field, count_of_field, entry_of_fields, entry_of_line, cell_before, with_count}
 use Rattle.cell_tiles_lines.specs.TableLines.{entry_fields}
 use Rattle.cell_tiles_lines.specs.declared.table_fault.TableKind.{TableKind}
-use Rattle.cell_tiles_lines_law.specs.PrintedTables.{IsClear, is_apart}
+use Rattle.cell_tiles_lines_law.specs.PrintedTables.{IsClear, is_clear_byte}
 
 same : (xs : List ℕ) → bytes_eq xs xs ≡ true
 same xs = (bytes_eq-Decides xs xs).1 refl
@@ -111,5 +111,5 @@ split-joined c field (next ∷ fields) all =
 
 pub fields-back : (format : FormatValue) (cells : Combination) (n : ℕ) → category_of_field format.null_text ≡ None → All IsCell cells → 0 < n → n < 2 ^ 64 → entry_of_fields format.null_text (entry_fields format (cells, n)) ≡ Ok (cells, n)
 fields-back format [] n null are some fits = ap with_count (count-back n some fits)
-fields-back format (cell ∷ []) n null are some fits = (λ i. with_cell (cell-back format.null_text cell null (All-head IsCell cell [] are) i) (fields-back format [] n null (All-tail IsCell cell [] are) some fits i))
-fields-back format (cell ∷ next ∷ cells) n null are some fits = (λ i. with_cell (cell-back format.null_text cell null (All-head IsCell cell (next ∷ cells) are) i) (fields-back format (next ∷ cells) n null (All-tail IsCell cell (next ∷ cells) are) some fits i))
+fields-back format (cell ∷ []) n null are some fits = (λ i. cell_before (cell-back format.null_text cell null (All-head IsCell cell [] are) i) (fields-back format [] n null (All-tail IsCell cell [] are) some fits i))
+fields-back format (cell ∷ next ∷ cells) n null are some fits = (λ i. cell_before (cell-back format.null_text cell null (All-head IsCell cell (next ∷ cells) are) i) (fields-back format (next ∷ cells) n null (All-tail IsCell cell (next ∷ cells) are) some fits i))

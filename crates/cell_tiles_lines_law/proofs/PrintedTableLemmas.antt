@@ -19,17 +19,17 @@ use Rattle.cell_stats_combinations.specs.Combinations.{Combination, combination_
 use Rattle.cell_stats.specs.CategoryTables.{Pairs}
 use Rattle.cell_stats.specs.TableText.{FormatValue, combination_fields, count_fields, line_text, pair_line, table_text}
 use Rattle.cell_tiles_lines.specs.LineFields.{category_of_field, entry_of_fields, entry_of_line}
-use Rattle.cell_tiles_lines.specs.LineReading.{Reading, by_order, in_order, is_as_wide, is_line_feed, line_after, next_entry, reading_of_lines, reading_of, then_reads, with_entry, stopped}
+use Rattle.cell_tiles_lines.specs.LineReading.{TableReading, ordered_entry, in_order, is_as_wide, is_line_feed, line_after, next_entry, reading_of_lines, reading_of, then_reads, with_entry, stopped}
 use Rattle.cell_tiles_lines.specs.TableLines.{entries_text, entry_fields, entry_line}
 use Rattle.cell_tiles_lines.specs.declared.table_fault.TableKind.{TableKind}
 use Rattle.cell_tiles_lines.specs.declared.table_fault.TableKind.TheVariants.{LongLine, BadWidth}
 use Rattle.cell_tiles_lines.specs.declared.table_fault.TheConstants.{MOST_BYTES}
 use Rattle.cell_tiles_lines.proofs.TextLemmas.{more-lines, one_line}
-use Rattle.cell_tiles_lines_law.specs.PrintedTables.{IsClear, IsEntry, PrintedReadsAsItself, PrintsAsTables, is_apart}
+use Rattle.cell_tiles_lines_law.specs.PrintedTables.{IsClear, IsPrintedEntry, PrintedReadsAsItself, PrintsAsTables, is_clear_byte}
 use Rattle.cell_tiles_lines_law.proofs.PrintedFieldLemmas.{fields-back, fields-free, joined-free, null-free, split-joined}
 
 -- a byte that is apart is no digit, no minus sign and no line feed
-digit-apart : (c : ℕ) → is_apart c ≡ true → (b : ℕ) → is_digit b ≡ true → (b == c) ≡ false
+digit-apart : (c : ℕ) → is_clear_byte c ≡ true → (b : ℕ) → is_digit b ≡ true → (b == c) ≡ false
 digit-apart c apart b digit = by (b == c) refl
   where
     by : (t : Bool) → (b == c) ≡ t → t ≡ false
@@ -40,10 +40,10 @@ digit-apart c apart b digit = by (b == c) refl
         cc
     by false e = refl
 
-minus-apart : (c : ℕ) → is_apart c ≡ true → (45 == c) ≡ false
+minus-apart : (c : ℕ) → is_clear_byte c ≡ true → (45 == c) ≡ false
 minus-apart c apart = grind (arith, nat_tests)
 
-feed-apart : (c : ℕ) → is_apart c ≡ true → (c == 10) ≡ false
+feed-apart : (c : ℕ) → is_clear_byte c ≡ true → (c == 10) ≡ false
 feed-apart c apart = grind (arith, nat_tests)
 
 digit-feed : (b : ℕ) → is_digit b ≡ true → (b == 10) ≡ false
@@ -58,18 +58,18 @@ module _ (format : FormatValue) (clear : IsClear format) (width : ℕ) (some_wid
   cut-again [] n free = split-joined format.separator (decimal n) [] free
   cut-again (cell ∷ cells) n free = split-joined format.separator (cell_text format.null_text cell) (entry_fields format (cells, n)) free
 
-  line-back : (entry : Combination × ℕ) → IsEntry format width entry → entry_of_line format.separator format.null_text (line_bytes entry) ≡ Ok entry
+  line-back : (entry : Combination × ℕ) → IsPrintedEntry format width entry → entry_of_line format.separator format.null_text (line_bytes entry) ≡ Ok entry
   line-back entry is =
       let free = fields-free (λ b. b == format.separator) (digit-apart format.separator clear.separator) (minus-apart format.separator clear.separator) format entry.0 entry.1 (null-free (λ b. b == format.separator) format.null_text clear.apart) is.cells is.fits in
       ap (entry_of_fields format.null_text) (cut-again entry.0 entry.1 free) ∙ fields-back format entry.0 entry.1 clear.null is.cells is.some is.fits
 
-  line-free : (entry : Combination × ℕ) → IsEntry format width entry → All (λ b. is_line_feed b ≡ false) (line_bytes entry)
+  line-free : (entry : Combination × ℕ) → IsPrintedEntry format width entry → All (λ b. is_line_feed b ≡ false) (line_bytes entry)
   line-free entry is =
       joined-free is_line_feed digit-feed refl format.separator (feed-apart format.separator clear.separator) (entry_fields format entry)
       (fields-free is_line_feed digit-feed refl format entry.0 entry.1 (null-free is_line_feed format.null_text clear.one_line) is.cells is.fits)
 
   -- the lines of entries
-  split-lines : (entry : Combination × ℕ) (entries : Pairs) → IsEntry format width entry → slice_split is_line_feed (entries_text format (entry ∷ entries)) ≡ line_bytes entry ∷ slice_split is_line_feed (entries_text format entries)
+  split-lines : (entry : Combination × ℕ) (entries : Pairs) → IsPrintedEntry format width entry → slice_split is_line_feed (entries_text format (entry ∷ entries)) ≡ line_bytes entry ∷ slice_split is_line_feed (entries_text format entries)
   split-lines entry entries is =
       ap (slice_split is_line_feed) (append_assoc (line_bytes entry) (10 ∷ []) (entries_text format entries))
       ∙ slice_split_at is_line_feed (line_bytes entry) 10 (entries_text format entries) (line-free entry is) refl
@@ -79,28 +79,28 @@ module _ (format : FormatValue) (clear : IsClear format) (width : ℕ) (some_wid
   MayFollow wanted None entries = is_as_wide wanted width ≡ true
   MayFollow wanted (Some last) entries = (length last ≡ width) × AllByRecursion (λ k. combination_cmp last k ≡ Less) (map (λ (e : Combination × ℕ). e.0) entries)
 
-  ordered : (wanted : ℕ) (last : Option Combination) (entry : Combination × ℕ) (entries : Pairs) → IsEntry format width entry → MayFollow wanted last (entry ∷ entries) → in_order wanted last entry ≡ Ok entry
+  ordered : (wanted : ℕ) (last : Option Combination) (entry : Combination × ℕ) (entries : Pairs) → IsPrintedEntry format width entry → MayFollow wanted last (entry ∷ entries) → in_order wanted last entry ≡ Ok entry
   ordered wanted None entry entries is may =
       let e : is_as_wide wanted (length entry.0) ≡ true = ap (is_as_wide wanted) is.wide ∙ may in
       ap (λ t. cond t (Ok entry) (Err BadWidth)) e
   ordered wanted (Some last) entry entries is may =
       let e : (length entry.0 == length last) ≡ true = (Decides-eqb (length entry.0) (length last)).1 (is.wide ∙ sym may.0) in
-      (λ i. cond (e i) (by_order (may.1.0 i) entry) (Err BadWidth))
+      (λ i. cond (e i) (ordered_entry (may.1.0 i) entry) (Err BadWidth))
 
-  abbrev all_read : Pairs → Reading
+  abbrev all_read : Pairs → TableReading
   all_read entries = record { entries = entries; fault = None }
 
-  read-all : (wanted number : ℕ) (last : Option Combination) (entries : Pairs) → All (IsEntry format width) entries → IsStrictlySortedBy combination_cmp (map (λ (e : Combination × ℕ). e.0) entries) → MayFollow wanted last entries → reading_of_lines format wanted false number last (slice_split is_line_feed (entries_text format entries)) ≡ all_read entries
+  read-all : (wanted number : ℕ) (last : Option Combination) (entries : Pairs) → All (IsPrintedEntry format width) entries → IsStrictlySortedBy combination_cmp (map (λ (e : Combination × ℕ). e.0) entries) → MayFollow wanted last entries → reading_of_lines format wanted false number last (slice_split is_line_feed (entries_text format entries)) ≡ all_read entries
   unfolding IsStrictlySortedBy
   read-all wanted number last [] are up may = refl
   read-all wanted number last (entry ∷ entries) are up may =
-      let is : IsEntry format width entry = All-head (IsEntry format width) entry entries are in
+      let is : IsPrintedEntry format width entry = All-head (IsPrintedEntry format width) entry entries are in
       let short : nat_lt MOST_BYTES (length (line_bytes entry)) ≡ false = le-ltb MOST_BYTES (length (line_bytes entry)) is.short in
       let entry_is : next_entry format wanted last (line_bytes entry) ≡ Ok entry = ap (λ r. r >>= in_order wanted last) (line-back entry is) ∙ ordered wanted last entry entries is may in
       ap (reading_of_lines format wanted false number last) (split-lines entry entries is)
       ∙ more-lines format wanted number last false (line_bytes entry) (entries_text format entries)
       ∙ (λ i. cond (short i) (stopped number LongLine) (then_reads number (entry_is i) (λ e. reading_of_lines format wanted false (line_after number) (Some e.0) (slice_split is_line_feed (entries_text format entries)))))
-      ∙ ap (with_entry entry) (read-all wanted (line_after number) (Some entry.0) entries (All-tail (IsEntry format width) entry entries are) up.1 (is.wide, up.0))
+      ∙ ap (with_entry entry) (read-all wanted (line_after number) (Some entry.0) entries (All-tail (IsPrintedEntry format width) entry entries are) up.1 (is.wide, up.0))
 
 wide : (wanted width : ℕ) → 0 < width → (wanted ≡ 0) ⊎ (wanted ≡ width) → is_as_wide wanted width ≡ true
 wide wanted width some (inl none) = ap (λ w. is_as_wide w width) none ∙ lt-ltb 0 width some

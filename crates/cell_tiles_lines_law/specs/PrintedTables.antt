@@ -14,18 +14,18 @@ use Rattle.cell_tiles_lines.specs.TableLines.{entries_text, entry_fields}
 use Rattle.cell_tiles_lines.specs.declared.table_fault.TheConstants.{MOST_BYTES}
 
 -- a byte that no number is printed with, and no line feed
-abbrev pub is_apart : ℕ → Bool
-is_apart b = not (is_digit b || (b == 45 || b == 10))
+abbrev pub is_clear_byte : ℕ → Bool
+is_clear_byte b = not (is_digit b || (b == 45 || b == 10))
 
 -- fields can be told apart: by a separator that stands in none of them, and a null text that is no category
 pub record IsClear (format : FormatValue) : Type 0 where
-  pub separator : is_apart format.separator ≡ true
+  pub separator : is_clear_byte format.separator ≡ true
   pub apart : list_all (λ b. not (b == format.separator)) format.null_text ≡ true
   pub one_line : list_all (λ b. not (b == 10)) format.null_text ≡ true
   pub null : category_of_field format.null_text ≡ None
 
 -- an entry of so many cells, with a count from 1 to 2^64 - 1, whose line is not too long
-pub record IsEntry (format : FormatValue) (width : ℕ) (entry : Combination × ℕ) : Type 0 where
+pub record IsPrintedEntry (format : FormatValue) (width : ℕ) (entry : Combination × ℕ) : Type 0 where
   pub wide : length entry.0 ≡ width
   pub cells : All IsCell entry.0
   pub some : 0 < entry.1
@@ -34,7 +34,7 @@ pub record IsEntry (format : FormatValue) (width : ℕ) (entry : Combination × 
 
 -- the text of such entries in order is read as these entries, with no fault, whether or not their width is known before
 abbrev pub PrintedReadsAsItself : Type 0
-PrintedReadsAsItself = (format : FormatValue) (wanted width : ℕ) (entries : Pairs) → IsClear format → 0 < width → (wanted ≡ 0) ⊎ (wanted ≡ width) → All (IsEntry format width) entries → IsStrictlySortedBy combination_cmp (map (λ entry. entry.0) entries) → reading_of format wanted (record { bytes = entries_text format entries; fails = false }) ≡ record { entries = entries; fault = None }
+PrintedReadsAsItself = (format : FormatValue) (wanted width : ℕ) (entries : Pairs) → IsClear format → 0 < width → (wanted ≡ 0) ⊎ (wanted ≡ width) → All (IsPrintedEntry format width) entries → IsStrictlySortedBy combination_cmp (map (λ entry. entry.0) entries) → reading_of format wanted (record { bytes = entries_text format entries; fails = false }) ≡ record { entries = entries; fault = None }
 
 -- what is printed of a table with counts and without labels is the text of its entries
 abbrev pub PrintsAsTables : Type 0

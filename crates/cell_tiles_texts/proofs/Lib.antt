@@ -1,2 +1,4 @@
+pub mod EntryLemmas
 pub mod HeadLemmas
+pub mod ListLemmas
 pub mod StepLemmas

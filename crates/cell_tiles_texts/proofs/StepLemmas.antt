@@ -8,32 +8,11 @@ use Rattle.cell_stats_combinations.specs.Combinations.{Combination, combination_
 use Rattle.cell_stats_combinations.proofs.OrderLemmas.{combination_cmp-exact, is_equal}
 use Rattle.cell_stats.specs.CategoryTables.{Pairs}
 use Rattle.cell_tiles_merging.specs.parts.Pairwise.{by_order, merge_entry, merged_of}
-use Rattle.cell_tiles_texts.specs.JoinedTexts.{merge_of}
-use Rattle.cell_tiles_texts.specs.parts.Steps.{added, is_of, past_first}
-
--- the first combination, if there is one, is greater
-abbrev pub BeginsAbove : Combination → Pairs → Type 0
-BeginsAbove k [] = Unit {0}
-BeginsAbove k (e ∷ es) = combination_cmp k e.0 ≡ Less
-
--- it is not less, and the next one is greater
-abbrev pub BeginsAt : Combination → Pairs → Type 0
-BeginsAt k [] = Unit {0}
-BeginsAt k (e ∷ es) = (combination_cmp e.0 k ≢ Less) × BeginsAbove e.0 es
-
-abbrev pub first_count : Combination → Pairs → Option ℕ
-first_count k [] = None
-first_count k (e ∷ es) = cond (is_of k e) (Some e.1) None
-
--- the counts of the first entries that are of the combination
-abbrev pub total_in : Combination → List Pairs → Option ℕ
-total_in k [] = None
-total_in k (table ∷ tables) = added (first_count k table) (total_in k tables)
-
--- an entry before others, where there is a count
-abbrev pub put_first : Combination → Option ℕ → Pairs → Pairs
-put_first k None es = es
-put_first k (Some n) es = (k, n) ∷ es
+use Rattle.cell_tiles_law.specs.TableParts.{IsMerge}
+use Rattle.cell_tiles_merging.specs.Merging.{IsListing}
+use Rattle.cell_tiles_merging.proofs.ListingLemmas.{listing-merged, listing-none, merge-none, merge-one, merge-split}
+use Rattle.cell_tiles_texts.specs.MergedTables.{BeginsAbove, BeginsAt, LeastGoesFirst, MergesAll, first_count, merge_of, put_first, total_in}
+use Rattle.cell_tiles_texts.specs.parts.Steps.{sum_if_any, is_of, past_first}
 
 above-merged : (k : Combination) (xs ys : Pairs) → BeginsAbove k xs → BeginsAbove k ys → BeginsAbove k (merged_of xs ys)
 above-merged k [] ys one other = other
@@ -57,7 +36,7 @@ greater-is Greater h e = refl
 
 module _ (k : Combination) where
   -- an entry that is of the combination
-  taken-of : (e : Combination × ℕ) (es m : Pairs) (o : Option ℕ) → e.0 ≡ k → BeginsAbove k m → merged_of (e ∷ es) (put_first k o m) ≡ put_first k (added (Some e.1) o) (merged_of es m)
+  taken-of : (e : Combination × ℕ) (es m : Pairs) (o : Option ℕ) → e.0 ≡ k → BeginsAbove k m → merged_of (e ∷ es) (put_first k o m) ≡ put_first k (sum_if_any (Some e.1) o) (merged_of es m)
   taken-of e es [] None same above = (λ i. (same i, e.1) ∷ merged_of es [])
   taken-of e es (y ∷ ys) None same above =
       let less : combination_cmp e.0 y.0 ≡ Less = ap (λ c. combination_cmp c y.0) same ∙ above in
@@ -73,11 +52,11 @@ module _ (k : Combination) where
   left-of e es m None greater = refl
   left-of e es m (Some n) greater = ap (λ o. by_order o (e ∷ merged_of es ((k, n) ∷ m)) ((e.0, e.1 + n) ∷ merged_of es m) ((k, n) ∷ merge_entry e (merged_of es) m)) greater
 
-  one-step : (table m : Pairs) (o : Option ℕ) → BeginsAt k table → BeginsAbove k m → (merged_of table (put_first k o m) ≡ put_first k (added (first_count k table) o) (merged_of (past_first k table) m)) × BeginsAbove k (merged_of (past_first k table) m)
+  one-step : (table m : Pairs) (o : Option ℕ) → BeginsAt k table → BeginsAbove k m → (merged_of table (put_first k o m) ≡ put_first k (sum_if_any (first_count k table) o) (merged_of (past_first k table) m)) × BeginsAbove k (merged_of (past_first k table) m)
   one-step [] m o at above = (refl, above)
   one-step (e ∷ es) m o at above = by (is_of k e) refl
     where
-      by : (t : Bool) → is_of k e ≡ t → (merged_of (e ∷ es) (put_first k o m) ≡ put_first k (added (cond t (Some e.1) None) o) (merged_of (cond t es (e ∷ es)) m)) × BeginsAbove k (merged_of (cond t es (e ∷ es)) m)
+      by : (t : Bool) → is_of k e ≡ t → (merged_of (e ∷ es) (put_first k o m) ≡ put_first k (sum_if_any (cond t (Some e.1) None) o) (merged_of (cond t es (e ∷ es)) m)) × BeginsAbove k (merged_of (cond t es (e ∷ es)) m)
       by true is =
           let same : e.0 ≡ k = combination_cmp-exact e.0 k (is_equal _ is) in
           (taken-of e es m o same above, above-merged k es m (subst (λ c. BeginsAbove c es) same at.1) above)
@@ -92,3 +71,15 @@ module _ (k : Combination) where
       let rest = step tables all.1 in
       let one = one-step table (merge_of (map (past_first k) tables)) (total_in k tables) all.0 rest.1 in
       (ap (merged_of table) rest.0 ∙ one.0, one.1)
+
+pub least-first : LeastGoesFirst
+least-first k tables all = (step k tables all).0
+
+merge-all : (tables : List Pairs) → AllByRecursion IsListing tables → IsMerge tables (merge_of tables) × IsListing (merge_of tables)
+merge-all [] all = (merge-none, listing-none)
+merge-all (table ∷ tables) all =
+    let rest = merge-all tables all.1 in
+    (merge-split (table ∷ tables) 1 table (merge_of tables) all.0 rest.1 (merge-one table all.0) rest.0, listing-merged table (merge_of tables) all.0 rest.1)
+
+pub merges-all : MergesAll
+merges-all tables all = (merge-all tables all).0

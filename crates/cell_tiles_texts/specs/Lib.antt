@@ -1,3 +1,3 @@
 -- Texts of tables merged.
-pub mod JoinedTexts
+pub mod MergedTables
 pub mod parts

@@ -3,7 +3,7 @@ use Rattle.std.specs.Prelude.{ℕ, ◌+◌, ◌≡◌, ◌≤◌, ◌^◌, Bool,
 use Rattle.std.specs.Ordering.{eq_by_cmp, is_lt}
 use Rattle.cell_stats_combinations.specs.Combinations.{Combination, combination_cmp}
 use Rattle.cell_stats.specs.CategoryTables.{Pairs}
-use Rattle.cell_tiles_lines.specs.LineReading.{Reading}
+use Rattle.cell_tiles_lines.specs.LineReading.{TableReading}
 
 -- an entry is of the combination
 abbrev pub is_of : Combination → Combination × ℕ → Bool
@@ -20,18 +20,18 @@ past_first k [] = []
 past_first k (entry ∷ entries) = if is_of k entry then entries else entry ∷ entries
 
 -- the same of what is read
-abbrev pub past : Combination → Reading → Reading
+abbrev pub past : Combination → TableReading → TableReading
 past k reading = record { entries = past_first k reading.entries; fault = reading.fault }
 
 -- two counts that may be
-abbrev pub added : Option ℕ → Option ℕ → Option ℕ
-added None count = count
-added (Some total) None = Some total
-added (Some total) (Some count) = Some (total + count)
+abbrev pub sum_if_any : Option ℕ → Option ℕ → Option ℕ
+sum_if_any None count = count
+sum_if_any (Some total) None = Some total
+sum_if_any (Some total) (Some count) = Some (total + count)
 
 -- counts that may be, together
-abbrev pub total_of : List (Option ℕ) → Option ℕ
-total_of counts = fold added None counts
+abbrev pub sum_of_counts : List (Option ℕ) → Option ℕ
+sum_of_counts counts = fold sum_if_any None counts
 
 -- counts whose sum is beyond 64 bits
 abbrev pub IsBeyondCounts : Option ℕ → Option ℕ → Type 0

@@ -14,14 +14,14 @@ pub returns-in-Ok-clause-read : goal.returns-in-Ok-clause-read
 returns-in-Ok-clause-read g c = λ number.
     let last : Option Combination = option_map (λ k. k.now) c.args.last in
     let first : IsFirstLine (lines_coming c.args.lines.now) (Ok true) c.next_line.new.self = subst (λ (b : Bool). IsFirstLine (lines_coming c.args.lines.now) (Ok b) c.next_line.new.self) c.in-Ok-true.field-0-test c.in-Ok-true.ensures in
-    let is : next_entry c.args.format.now c.args.width last c.next_line.new.self.line ≡ Ok c.in-Ok.entry = ap (next_entry c.args.format.now c.args.width last) (sym c.line.ensures) ∙ c.in-Ok.ensures.ok in
+    let is : next_entry c.args.format.now c.args.width last c.next_line.new.self.line ≡ Ok c.in-Ok.entry = ap (next_entry c.args.format.now c.args.width last) (sym c.last_line.ensures) ∙ c.in-Ok.ensures.ok in
     line-read c.args.format.now c.args.width number last (lines_coming c.args.lines.now) c.next_line.new.self c.in-Ok.entry first is
 
 pub returns-in-Err-entry_of-clause-fault : goal.returns-in-Err-entry_of-clause-fault
 returns-in-Err-entry_of-clause-fault g c = λ n number.
     let last : Option Combination = option_map (λ k. k.now) c.args.last in
     let first : IsFirstLine (lines_coming c.args.lines.now) (Ok true) c.next_line.new.self = subst (λ (b : Bool). IsFirstLine (lines_coming c.args.lines.now) (Ok b) c.next_line.new.self) c.in-Ok-true.field-0-test c.in-Ok-true.ensures in
-    let is : next_entry c.args.format.now c.args.width last c.next_line.new.self.line ≡ Err c.in-Err-entry_of.kind = ap (next_entry c.args.format.now c.args.width last) (sym c.line.ensures) ∙ c.in-Err-entry_of.ensures.err n in
+    let is : next_entry c.args.format.now c.args.width last c.next_line.new.self.line ≡ Err c.in-Err-entry_of.kind = ap (next_entry c.args.format.now c.args.width last) (sym c.last_line.ensures) ∙ c.in-Err-entry_of.ensures.err n in
     line-refused c.args.format.now c.args.width number last (lines_coming c.args.lines.now) c.next_line.new.self c.in-Err-entry_of.kind first is
 
 pub returns-in-Ok-false-clause-read : goal.returns-in-Ok-false-clause-read

@@ -3,7 +3,8 @@ use Rattle.std.specs.Prelude.{IfSome, ◌≡◌}
 use Rattle.cell_stats_combinations.specs.Combinations.{Combination}
 use Rattle.cell_tiles_lines.specs.LineReading.{stopped}
 use Rattle.cell_tiles_lines.specs.SourceLines.{lines_coming}
-use Rattle.cell_tiles_lines.specs.TextReading.{IsRefused, TextValue, reading_behind}
+use Rattle.cell_tiles_lines.specs.TextReading.{TextValue, reading_behind}
+use Rattle.cell_tiles_lines.specs.parts.FirstLine.{IsRefused}
 use Rattle.cell_tiles_lines.proofs.text.TableText.next.Goals as goal
 
 pub returns-in-Err-clause-fault : goal.returns-in-Err-clause-fault

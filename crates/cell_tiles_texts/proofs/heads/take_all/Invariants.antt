@@ -1,9 +1,0 @@
-use Rattle.std.proofs.Common.{◌≡◌, ◌++◌, map, take, drop, option_map}
-use Rattle.cell_tiles_lines.specs.TextReading.{reading_from}
-use Rattle.cell_tiles_texts.specs.parts.Steps.{head_count, past, total_of}
-use Rattle.cell_tiles_texts.proofs.heads.take_all.Given as goal
-
-abbrev pub invariant-texts : goal.invariant-texts
-invariant-texts g l = (l.total ≡ total_of (map (λ text. head_count l.combo text.head) (take l.text l.initial.texts)))
-    × (map (λ text. reading_from l.format text) (take l.text l.texts) ≡ map (λ text. option_map (past l.combo) (reading_from l.format text)) (take l.text l.initial.texts))
-    × (drop l.text l.texts ≡ drop l.text l.initial.texts)

@@ -1,0 +1,9 @@
+use Rattle.std.proofs.Common.{◌≡◌, None, take, map, fold, option_map, arith, ap, ◌∙◌}
+use Rattle.std.proofs.lemmas.List.{take_all}
+use Rattle.cell_tiles_lines.specs.TextReading.{combination_of}
+use Rattle.cell_tiles_texts.specs.parts.Steps.{lesser_of}
+use Rattle.cell_tiles_texts.proofs.ListLemmas.{least-told}
+use Rattle.cell_tiles_texts.proofs.text_heads.least_of.Goals as goal
+
+pub returns : goal.returns
+returns g c = least-told (λ text. text.head) (λ k. k.now) c.texts.least c.args.texts.now (c.texts.invariant ∙ ap (λ xs. fold lesser_of None (map (λ text. combination_of text.head) xs)) (take_all c.texts.text-index c.args.texts.now (omega arith)))
