@@ -20,10 +20,12 @@ import tempfile
 import threading
 import time
 import warnings
+import zlib
+from collections import Counter
 from collections.abc import Callable, Iterator
 from dataclasses import dataclass, replace
 from pathlib import Path
-from typing import Any
+from typing import Any, NamedTuple
 
 import numpy as np
 import rasterio
@@ -41,8 +43,8 @@ from rcell.tiles.joining import Edges, Rectangle, join
 from watching import MILLION, Figures, measured
 
 MEMORY_SIDE = 4096
-KILLED_AFTER = 0.3
-"""Seconds from the start of some work until a worker is killed."""
+KILLED_AFTER = 1 / 3
+"""When a worker is killed: so much of the time that the same work took as many workers of which none was."""
 
 TABLE = "r.stats -c input=lc"
 
@@ -107,47 +109,69 @@ def of_shapes(given: Settings) -> list[str]:
 # Workers
 
 
+class Work(NamedTuple):
+    """What workers do, and what is told of its answer: a killed worker must change no cell of it."""
+
+    title: str
+    do: Callable[[rcell.tiles.Mosaic, Path], Any]
+    told: Callable[[Any, Path], Any]
+
+
+WORKS = [
+    Work("Table", lambda mosaic, out: mosaic.table(TABLE), lambda table, out: table.to_csv()),
+    Work("nmode over 3x3, written", lambda mosaic, out: mosaic.grid(f"x = {NMODE}", out), lambda _, out: sum_of(out)),
+    Work("Areas by edges, written", lambda mosaic, out: mosaic.clump("lc", out), lambda areas, out: (areas, sum_of(out))),
+    Work("Sizes of areas", lambda mosaic, out: mosaic.patches("lc"), lambda patches, out: zlib.crc32(patches.to_numpy(np.int64).tobytes())),
+]
+
+
+def sum_of(path: Path) -> int:
+    """A sum over the cells of a map, from the first to the last: the files of one map differ by the order of their tiles."""
+    found = 0
+    with rasterio.open(path) as dataset:
+        for top in range(0, dataset.height, STRIP):
+            found = zlib.crc32(dataset.read(1, window=Window(0, top, dataset.width, min(STRIP, dataset.height - top))), found)
+    return found
+
+
 def of_workers(given: Settings) -> list[str]:
     """1, 2 and 4 workers, and 4 of which one is killed on the way."""
     head = [f"{given.side:,} x {given.side:,} cells of land cover, tiles of {given.tile:,}. {load()}.", "",
-            "| Workers | Table | nmode over 3x3, written | Areas by edges, written | Sizes of areas | Greatest worker |", "|---|---|---|---|---|---|"]
-    first: dict[str, Figures] = {}
-    lines: set[tuple[Any, ...]] = set()
+            f"| Workers | {' | '.join(work.title for work in WORKS)} | Each worker at its peak |", f"|---|{'---|' * len(WORKS)}---|"]
+    clocks: dict[int, list[float]] = {}
+    answers: list[list[Any]] = []
     rows = []
     for count, is_killed in ((1, False), (2, False), (4, False), (4, True)):
         with rcell.tiles.open(size=given.tile, scheduler=count, lc=str(given.path)) as mosaic:
-            works = _works(mosaic, given.folder / "workers.tif")
-            found = {name: _worked(mosaic, work, is_killed) for name, work in works.items()}
-        lines.add(tuple(answer for answer, _ in found.values()))
-        first = first or {name: figures for name, (_, figures) in found.items()}
-        entries = [f"{figures.clock:.1f} s ({first[name].clock / figures.clock:.1f}), {figures.processor:.1f} s" for name, (_, figures) in found.items()]
-        greatest = max(figures.both for _, figures in found.values()) / MILLION
-        rows.append(told(f"| {count}{', one killed in each task' if is_killed else ''} | {' | '.join(entries)} | {greatest:.0f} MB |"))
-    same = "the same answers each time" if len(lines) == 1 else "**different answers**"
-    return [*head, *rows, "", f"By the clock (times as fast as one worker), and of the processors; {same}."]
+            killed = [KILLED_AFTER * clock for clock in clocks[count]] if is_killed else [0.0] * len(WORKS)
+            found = [_worked(mosaic, count, work, given.folder / "workers.tif", after) for work, after in zip(WORKS, killed)]
+        answers.append([answer for answer, _ in found])
+        clocks.setdefault(count, [figures.clock for _, figures in found])
+        entries = [f"{figures.clock:.1f} s ({alone / figures.clock:.1f}), {figures.processor:.1f} s"
+                   for alone, (_, figures) in zip(clocks[1], found)]
+        peaks = Counter[int]()
+        for _, figures in found:
+            peaks |= Counter(figures.each)
+        each = ", ".join(f"{peak / MILLION:.0f}" for peak in sorted(peaks.values(), reverse=True))
+        rows.append(told(f"| {count}{', one killed in each task' if is_killed else ''} | {' | '.join(entries)} | {each} MB |"))
+    same = "the same tables and cells each time" if all(line == answers[0] for line in answers) else "**different answers**"
+    return [*head, *rows, "", told(f"By the clock (times as fast as one worker), and of the processors; {same}.")]
 
 
-def _works(mosaic: rcell.tiles.Mosaic, out: Path) -> dict[str, Callable[[], Any]]:
-    """What is done, and what is told of its answer: a killed worker must not change it."""
-
-    def nmode() -> Any:
-        mosaic.grid(f"x = {NMODE}", out)
-        return rcell.table("r.stats -c input=x", x=str(out))
-
-    return {"table": lambda: mosaic.table(TABLE), "nmode": nmode, "clump": lambda: mosaic.clump("lc", out), "sizes": lambda: mosaic.patches("lc")}
-
-
-def _worked(mosaic: rcell.tiles.Mosaic, work: Callable[[], Any], is_killed: bool) -> tuple[str, Figures]:
-    mosaic.table(TABLE)  # workers are there, and have imported what they need
-    workers = mosaic._engine.cluster.client.run(os.getpid)
-    killed = next(iter(workers.values()))
-    timer = threading.Timer(KILLED_AFTER, os.kill, (killed, signal.SIGKILL))
-    if is_killed:
+def _worked(mosaic: rcell.tiles.Mosaic, count: int, work: Work, out: Path, killed_after: float) -> tuple[Any, Figures]:
+    """What is told of an answer, and what it took; a worker is killed after so many seconds, where they are not 0."""
+    mosaic.table(TABLE)  # workers have imported what they need
+    client = mosaic._engine.cluster.client
+    client.wait_for_workers(count)
+    killed = next(iter(client.run(os.getpid).values()))
+    timer = threading.Timer(killed_after, os.kill, (killed, signal.SIGKILL))
+    if killed_after:
         timer.start()
-    answer, figures = measured(mosaic, work)
-    if is_killed and timer.is_alive():
-        raise SystemExit(f"the work took less than {KILLED_AFTER} s, and no worker was killed on the way: give a greater --side")
-    return answer.to_csv() if hasattr(answer, "to_csv") else str(answer), figures
+    answer, figures = measured(mosaic, lambda: work.do(mosaic, out))
+    if killed_after and timer.is_alive():
+        timer.cancel()
+        raise SystemExit(f"{work.title} took less than {killed_after:.1f} s, and no worker was killed on the way: give a greater --side")
+    return work.told(answer, out), figures
 
 
 # Memory
