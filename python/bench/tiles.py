@@ -1,13 +1,14 @@
 #!/usr/bin/python3
 """Measures maps by tiles: answers beside the undivided map and beside GRASS, workers, memory, the cost of joining areas.
 
-    tiles.py [--side N] [--folder F] [--workers W] [--write] [PART ...]
+    tiles.py [--side N] [--folder F] [--workers W] [--task T ...] [--write] [PART ...]
 
 PART is one of answers, grass, shapes, workers, memory, joining; without one they are all but grass. Made is a land cover map of
 N x N cells, 4,096 where N is not given; in a folder F that is named, it stays, and so do the maps that the part grass makes, which
 answers then lays beside those of tiles (20,000 x 20,000 cells take some ten minutes of a processor in GRASS, half an hour in tiles,
-and 10 GB). With --write each part's table takes its place in docs/SPEED.md. Seconds are of the processors, of the workers, of
-what they run and of this process; only `workers` tells those of the clock, which say something where nothing else runs.
+and 10 GB). T is one of what these two make: table, edges, corners, total, modes, sizes; all where none is given. With --write each
+part's table takes its place in docs/SPEED.md. Seconds are of the processors, of the workers, of what they run and of this process;
+only `workers` tells those of the clock, which say something where nothing else runs.
 """
 
 from __future__ import annotations
@@ -33,7 +34,7 @@ from rasterio.windows import Window
 
 import rcell
 import rcell.tiles
-from beside import NMODE, SUM, answers, grass_maps, undivided
+from beside import ALL, NMODE, SUM, answers, grass_maps, undivided
 from made_maps import STRIP, checkerboard, comb, land_cover, noise, runs_of, spiral, write
 from page import load, put
 from rcell.tiles._memory import Demand, areas_demand, grid_demand, places, sizes_demand, table_demand
@@ -57,6 +58,7 @@ class Settings:
     folder: Path
     side: int
     workers: int
+    tasks: list[str]
 
     @property
     def tile(self) -> int:
@@ -78,11 +80,11 @@ def of_answers(given: Settings) -> list[str]:
     heads = " | ".join(f"tiles of {size:,}" for size in sizes)
     head = [f"{given.side:,} x {given.side:,} cells, {runs_of(given.path):.2f} runs a cell, {given.workers} workers. {load()}.", "",
             f"| Task | one run | {heads} | GRASS 8.2.1 |", f"|---|---|{'---|' * len(sizes)}---|"]
-    return head + answers(given.path, given.folder, sizes, given.workers)
+    return head + answers(given.path, given.folder, sizes, given.workers, given.tasks)
 
 
 def of_grass(given: Settings) -> list[str]:
-    grass_maps(given.path, given.folder)
+    grass_maps(given.path, given.folder, given.tasks)
     return []
 
 
@@ -267,6 +269,7 @@ def main() -> None:
     parser.add_argument("--side", type=int, default=4096)
     parser.add_argument("--workers", type=int, default=2)
     parser.add_argument("--folder", type=Path)
+    parser.add_argument("--task", action="append", choices=ALL)
     parser.add_argument("--write", action="store_true")
     parser.add_argument("parts", nargs="*", choices=[*PARTS, []], metavar="PART")
     given = parser.parse_args()
@@ -278,7 +281,7 @@ def main() -> None:
             land_cover(path, given.side)
         for part in given.parts or [part for part in PARTS if part != "grass"]:
             print(f"\n# {part}", flush=True)
-            rows = PARTS[part](Settings(path, folder, given.side, given.workers))
+            rows = PARTS[part](Settings(path, folder, given.side, given.workers, given.task or ALL))
             if given.write and rows:
                 put(f"Tiles: {part}", "\n".join(rows) + "\n")
 
