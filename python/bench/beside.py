@@ -4,7 +4,7 @@ from __future__ import annotations
 
 import os
 import subprocess
-from collections.abc import Callable, Iterator
+from collections.abc import Callable, Collection, Iterator
 from pathlib import Path
 from typing import Any, NamedTuple
 
@@ -18,7 +18,7 @@ from rcell._maps import source_of
 from rcell._program import execute
 from watching import MILLION, Figures, Watch, measured, processor
 
-__all__ = ["NMODE", "SUM", "answers", "grass_maps", "undivided"]
+__all__ = ["ALL", "NMODE", "SUM", "answers", "grass_maps", "undivided"]
 
 AROUND = [f"lc[{down},{right}]" for down in (-1, 0, 1) for right in (-1, 0, 1)]
 SUM = " + ".join(AROUND)
@@ -48,8 +48,18 @@ TASKS = [
 ]
 
 
-def answers(path: Path, folder: Path, sizes: list[int], workers: int) -> list[str]:
-    """All tasks over a map, by tiles of several sizes, each beside one run of the program, and beside GRASS's maps in the folder."""
+ALL = ["table", *(task.grass for task in TASKS), "sizes"]
+"""What can be asked for: the table, maps by GRASS's names of them, and with maps of areas the sizes of these."""
+
+
+def answers(path: Path, folder: Path, sizes: list[int], workers: int, asked: Collection[str] = ALL) -> list[str]:
+    """Tasks over a map, by tiles of several sizes, each beside one run of the program, and beside GRASS's maps in the folder."""
+    table = [_row(_table(path, folder, sizes, workers))] if "table" in asked else []
+    tasks = [task for task in TASKS if task.grass in asked]
+    return [*table, *(_row(line) for task in tasks for line in _answer(task, path, folder, sizes, workers, "sizes" in asked))]
+
+
+def _table(path: Path, folder: Path, sizes: list[int], workers: int) -> list[str]:
     expected, seconds, program = _watched(lambda: rcell.table("r.stats -c input=lc", lc=str(path)))
     row = ["table", f"{seconds:.1f} s, {program / MILLION:.0f} MB"]
     for size in sizes:
@@ -58,7 +68,7 @@ def answers(path: Path, folder: Path, sizes: list[int], workers: int) -> list[st
         row.append(_told(found.equals(expected), figures))
     is_there = (folder / "table.txt").exists()
     row.append(_judged(_grass_table(found) == (folder / "table.txt").read_text().splitlines()) if is_there else "")
-    return [_row(row), *(_row(line) for task in TASKS for line in _answer(task, path, folder, sizes, workers))]
+    return row
 
 
 def _row(entries: list[str]) -> str:
@@ -81,8 +91,8 @@ def _grass_table(table: Any) -> list[str]:
             for category, cells in zip(table["lc"].astype(object).where(table["lc"].notna(), None), table["cells"])]
 
 
-def _answer(task: Task, path: Path, folder: Path, sizes: list[int], workers: int) -> Iterator[list[str]]:
-    """The row of a task; where it makes areas, one of their sizes as well."""
+def _answer(task: Task, path: Path, folder: Path, sizes: list[int], workers: int, has_sizes: bool) -> Iterator[list[str]]:
+    """The row of a task; where it makes areas, and it is asked for, one of their sizes as well."""
     out = folder / "tiles.tif"
     cells, seconds, program = undivided(path, task.script)
     row, of_sizes = [task.name, f"{seconds:.1f} s, {program / MILLION:.0f} MB"], []
@@ -90,7 +100,7 @@ def _answer(task: Task, path: Path, folder: Path, sizes: list[int], workers: int
         with rcell.tiles.open(size=size, scheduler=workers, lc=str(path)) as mosaic:
             areas, figures = measured(mosaic, lambda: task.tiled(mosaic, out))
             row.append(_told(_same(cells, out, task.null), figures))
-            if task.is_of_areas:
+            if task.is_of_areas and has_sizes:
                 patches, figures = measured(mosaic, lambda: mosaic.patches("lc", diagonal="corners" in task.name))
                 is_equal = len(patches) == areas and np.array_equal(patches["cells"].to_numpy(np.int64), _sizes_of(cells, areas))
                 of_sizes.append(_told(is_equal, figures))
@@ -146,22 +156,26 @@ GRASS = """
 set -e
 r.in.gdal -o --q input=$LC output=lc memory=300
 g.region raster=lc
-r.stats -c --q input=lc output=table.txt
-r.clump --q input=lc output=edges
-r.clump -d --q input=lc output=corners
-r.mapcalc --q "total = $SUM"
-r.neighbors --q input=lc output=modes method=mode size=3
-for map in edges corners total modes; do
-    r.out.gdal -c --q input=$map output=$map.tif type=Int32 nodata=-2147483648 \\
+for map in $ASKED; do
+    case $map in
+    table) r.stats -c --q input=lc output=part && mv part table.txt; continue;;
+    edges) r.clump --q input=lc output=edges;;
+    corners) r.clump -d --q input=lc output=corners;;
+    total) r.mapcalc --q "total = $SUM";;
+    modes) r.neighbors --q input=lc output=modes method=mode size=3;;
+    *) continue;;
+    esac
+    r.out.gdal -c --q input=$map output=part.tif type=Int32 nodata=-2147483648 \\
         createopt=TILED=YES,COMPRESS=ZSTD,ZSTD_LEVEL=1,BIGTIFF=YES
+    mv part.tif $map.tif
 done
 """
 
 
-def grass_maps(path: Path, folder: Path) -> None:
+def grass_maps(path: Path, folder: Path, asked: Collection[str] = ALL) -> None:
     """The same maps by GRASS's modules, as GeoTIFF into the folder, where `answers` lays them beside those of tiles."""
     subprocess.run(["grass", "--tmp-location", "XY", "--exec", "sh", "-c", GRASS], cwd=folder, check=True, stdout=subprocess.DEVNULL,
-                   stderr=subprocess.DEVNULL, env={**os.environ, "LC": str(path), "SUM": SUM})
+                   stderr=subprocess.DEVNULL, env={**os.environ, "LC": str(path), "SUM": SUM, "ASKED": " ".join(asked)})
 
 
 def _strips(first: Path, second: Path) -> Iterator[tuple[Any, Any]]:

@@ -1,13 +1,14 @@
 #!/usr/bin/python3
 """Measures maps by tiles: answers beside the undivided map and beside GRASS, workers, memory, the cost of joining areas.
 
-    tiles.py [--side N] [--folder F] [--workers W] [--write] [PART ...]
+    tiles.py [--side N] [--folder F] [--workers W] [--task T ...] [--write] [PART ...]
 
 PART is one of answers, grass, shapes, workers, memory, joining; without one they are all but grass. Made is a land cover map of
 N x N cells, 4,096 where N is not given; in a folder F that is named, it stays, and so do the maps that the part grass makes, which
 answers then lays beside those of tiles (20,000 x 20,000 cells take some ten minutes of a processor in GRASS, half an hour in tiles,
-and 10 GB). With --write each part's table takes its place in docs/SPEED.md. Seconds are of the processors, of the workers, of
-what they run and of this process; only `workers` tells those of the clock, which say something where nothing else runs.
+and 10 GB). T is one of what these two make: table, edges, corners, total, modes, sizes; all where none is given. With --write each
+part's table takes its place in docs/SPEED.md. Seconds are of the processors, of the workers, of what they run and of this process;
+only `workers` tells those of the clock, which say something where nothing else runs.
 """
 
 from __future__ import annotations
@@ -20,10 +21,12 @@ import tempfile
 import threading
 import time
 import warnings
+import zlib
+from collections import Counter
 from collections.abc import Callable, Iterator
 from dataclasses import dataclass, replace
 from pathlib import Path
-from typing import Any
+from typing import Any, NamedTuple
 
 import numpy as np
 import rasterio
@@ -31,7 +34,7 @@ from rasterio.windows import Window
 
 import rcell
 import rcell.tiles
-from beside import NMODE, SUM, answers, grass_maps, undivided
+from beside import ALL, NMODE, SUM, answers, grass_maps, undivided
 from made_maps import STRIP, checkerboard, comb, land_cover, noise, runs_of, spiral, write
 from page import load, put
 from rcell.tiles._memory import Demand, areas_demand, grid_demand, places, sizes_demand, table_demand
@@ -41,8 +44,8 @@ from rcell.tiles.joining import Edges, Rectangle, join
 from watching import MILLION, Figures, measured
 
 MEMORY_SIDE = 4096
-KILLED_AFTER = 0.3
-"""Seconds from the start of some work until a worker is killed."""
+KILLED_AFTER = 1 / 3
+"""When a worker is killed: so much of the time that the same work took as many workers of which none was."""
 
 TABLE = "r.stats -c input=lc"
 
@@ -55,6 +58,7 @@ class Settings:
     folder: Path
     side: int
     workers: int
+    tasks: list[str]
 
     @property
     def tile(self) -> int:
@@ -76,11 +80,11 @@ def of_answers(given: Settings) -> list[str]:
     heads = " | ".join(f"tiles of {size:,}" for size in sizes)
     head = [f"{given.side:,} x {given.side:,} cells, {runs_of(given.path):.2f} runs a cell, {given.workers} workers. {load()}.", "",
             f"| Task | one run | {heads} | GRASS 8.2.1 |", f"|---|---|{'---|' * len(sizes)}---|"]
-    return head + answers(given.path, given.folder, sizes, given.workers)
+    return head + answers(given.path, given.folder, sizes, given.workers, given.tasks)
 
 
 def of_grass(given: Settings) -> list[str]:
-    grass_maps(given.path, given.folder)
+    grass_maps(given.path, given.folder, given.tasks)
     return []
 
 
@@ -107,47 +111,69 @@ def of_shapes(given: Settings) -> list[str]:
 # Workers
 
 
+class Work(NamedTuple):
+    """What workers do, and what is told of its answer: a killed worker must change no cell of it."""
+
+    title: str
+    do: Callable[[rcell.tiles.Mosaic, Path], Any]
+    told: Callable[[Any, Path], Any]
+
+
+WORKS = [
+    Work("Table", lambda mosaic, out: mosaic.table(TABLE), lambda table, out: table.to_csv()),
+    Work("nmode over 3x3, written", lambda mosaic, out: mosaic.grid(f"x = {NMODE}", out), lambda _, out: sum_of(out)),
+    Work("Areas by edges, written", lambda mosaic, out: mosaic.clump("lc", out), lambda areas, out: (areas, sum_of(out))),
+    Work("Sizes of areas", lambda mosaic, out: mosaic.patches("lc"), lambda patches, out: zlib.crc32(patches.to_numpy(np.int64).tobytes())),
+]
+
+
+def sum_of(path: Path) -> int:
+    """A sum over the cells of a map, from the first to the last: the files of one map differ by the order of their tiles."""
+    found = 0
+    with rasterio.open(path) as dataset:
+        for top in range(0, dataset.height, STRIP):
+            found = zlib.crc32(dataset.read(1, window=Window(0, top, dataset.width, min(STRIP, dataset.height - top))), found)
+    return found
+
+
 def of_workers(given: Settings) -> list[str]:
     """1, 2 and 4 workers, and 4 of which one is killed on the way."""
     head = [f"{given.side:,} x {given.side:,} cells of land cover, tiles of {given.tile:,}. {load()}.", "",
-            "| Workers | Table | nmode over 3x3, written | Areas by edges, written | Sizes of areas | Greatest worker |", "|---|---|---|---|---|---|"]
-    first: dict[str, Figures] = {}
-    lines: set[tuple[Any, ...]] = set()
+            f"| Workers | {' | '.join(work.title for work in WORKS)} | Each worker at its peak |", f"|---|{'---|' * len(WORKS)}---|"]
+    clocks: dict[int, list[float]] = {}
+    answers: list[list[Any]] = []
     rows = []
     for count, is_killed in ((1, False), (2, False), (4, False), (4, True)):
         with rcell.tiles.open(size=given.tile, scheduler=count, lc=str(given.path)) as mosaic:
-            works = _works(mosaic, given.folder / "workers.tif")
-            found = {name: _worked(mosaic, work, is_killed) for name, work in works.items()}
-        lines.add(tuple(answer for answer, _ in found.values()))
-        first = first or {name: figures for name, (_, figures) in found.items()}
-        entries = [f"{figures.clock:.1f} s ({first[name].clock / figures.clock:.1f}), {figures.processor:.1f} s" for name, (_, figures) in found.items()]
-        greatest = max(figures.both for _, figures in found.values()) / MILLION
-        rows.append(told(f"| {count}{', one killed in each task' if is_killed else ''} | {' | '.join(entries)} | {greatest:.0f} MB |"))
-    same = "the same answers each time" if len(lines) == 1 else "**different answers**"
-    return [*head, *rows, "", f"By the clock (times as fast as one worker), and of the processors; {same}."]
+            killed = [KILLED_AFTER * clock for clock in clocks[count]] if is_killed else [0.0] * len(WORKS)
+            found = [_worked(mosaic, count, work, given.folder / "workers.tif", after) for work, after in zip(WORKS, killed)]
+        answers.append([answer for answer, _ in found])
+        clocks.setdefault(count, [figures.clock for _, figures in found])
+        entries = [f"{figures.clock:.1f} s ({alone / figures.clock:.1f}), {figures.processor:.1f} s"
+                   for alone, (_, figures) in zip(clocks[1], found)]
+        peaks = Counter[int]()
+        for _, figures in found:
+            peaks |= Counter(figures.each)
+        each = ", ".join(f"{peak / MILLION:.0f}" for peak in sorted(peaks.values(), reverse=True))
+        rows.append(told(f"| {count}{', one killed in each task' if is_killed else ''} | {' | '.join(entries)} | {each} MB |"))
+    same = "the same tables and cells each time" if all(line == answers[0] for line in answers) else "**different answers**"
+    return [*head, *rows, "", told(f"By the clock (times as fast as one worker), and of the processors; {same}.")]
 
 
-def _works(mosaic: rcell.tiles.Mosaic, out: Path) -> dict[str, Callable[[], Any]]:
-    """What is done, and what is told of its answer: a killed worker must not change it."""
-
-    def nmode() -> Any:
-        mosaic.grid(f"x = {NMODE}", out)
-        return rcell.table("r.stats -c input=x", x=str(out))
-
-    return {"table": lambda: mosaic.table(TABLE), "nmode": nmode, "clump": lambda: mosaic.clump("lc", out), "sizes": lambda: mosaic.patches("lc")}
-
-
-def _worked(mosaic: rcell.tiles.Mosaic, work: Callable[[], Any], is_killed: bool) -> tuple[str, Figures]:
-    mosaic.table(TABLE)  # workers are there, and have imported what they need
-    workers = mosaic._engine.cluster.client.run(os.getpid)
-    killed = next(iter(workers.values()))
-    timer = threading.Timer(KILLED_AFTER, os.kill, (killed, signal.SIGKILL))
-    if is_killed:
+def _worked(mosaic: rcell.tiles.Mosaic, count: int, work: Work, out: Path, killed_after: float) -> tuple[Any, Figures]:
+    """What is told of an answer, and what it took; a worker is killed after so many seconds, where they are not 0."""
+    mosaic.table(TABLE)  # workers have imported what they need
+    client = mosaic._engine.cluster.client
+    client.wait_for_workers(count)
+    killed = next(iter(client.run(os.getpid).values()))
+    timer = threading.Timer(killed_after, os.kill, (killed, signal.SIGKILL))
+    if killed_after:
         timer.start()
-    answer, figures = measured(mosaic, work)
-    if is_killed and timer.is_alive():
-        raise SystemExit(f"the work took less than {KILLED_AFTER} s, and no worker was killed on the way: give a greater --side")
-    return answer.to_csv() if hasattr(answer, "to_csv") else str(answer), figures
+    answer, figures = measured(mosaic, lambda: work.do(mosaic, out))
+    if killed_after and timer.is_alive():
+        timer.cancel()
+        raise SystemExit(f"{work.title} took less than {killed_after:.1f} s, and no worker was killed on the way: give a greater --side")
+    return work.told(answer, out), figures
 
 
 # Memory
@@ -243,6 +269,7 @@ def main() -> None:
     parser.add_argument("--side", type=int, default=4096)
     parser.add_argument("--workers", type=int, default=2)
     parser.add_argument("--folder", type=Path)
+    parser.add_argument("--task", action="append", choices=ALL)
     parser.add_argument("--write", action="store_true")
     parser.add_argument("parts", nargs="*", choices=[*PARTS, []], metavar="PART")
     given = parser.parse_args()
@@ -254,7 +281,7 @@ def main() -> None:
             land_cover(path, given.side)
         for part in given.parts or [part for part in PARTS if part != "grass"]:
             print(f"\n# {part}", flush=True)
-            rows = PARTS[part](Settings(path, folder, given.side, given.workers))
+            rows = PARTS[part](Settings(path, folder, given.side, given.workers, given.task or ALL))
             if given.write and rows:
                 put(f"Tiles: {part}", "\n".join(rows) + "\n")
 

@@ -6,6 +6,7 @@ import pathlib
 import subprocess
 import sys
 import warnings
+import zipfile
 from typing import Any, Callable
 
 import numpy as np
@@ -128,10 +129,10 @@ def test_other_forms(raster: Write, tmp_path: pathlib.Path) -> None:
     for name, driver in (("m.asc", "AAIGrid"), ("m.vrt", "VRT")):
         shutil.copy(path, str(tmp_path / name), driver=driver)
         assert cells(tmp_path / name) == null
-    subprocess.run(["zip", "-qj", str(tmp_path / "m.zip"), path], check=False)
-    if (tmp_path / "m.zip").exists():
-        assert cells(f"/vsizip/{tmp_path}/m.zip/map.tif") == null
-        assert cells(f"zip://{tmp_path}/m.zip!map.tif") == null
+    with zipfile.ZipFile(tmp_path / "m.zip", "w") as archive:
+        archive.write(path, "map.tif")
+    assert cells(f"/vsizip/{tmp_path}/m.zip/map.tif") == null
+    assert cells(f"zip://{tmp_path}/m.zip!map.tif") == null
 
 
 def test_names_of_files(raster: Write, tmp_path: pathlib.Path) -> None:
