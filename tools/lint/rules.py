@@ -1,4 +1,5 @@
 """The rules of the lint. Each is a function that returns its findings, one a line; the first line of its doc says what they are."""
+import pathlib
 import re
 from collections import Counter, defaultdict
 
@@ -61,8 +62,17 @@ def undocumented():
             if it.is_public and not it.is_of_trait_impl and not any(line.startswith("///") for line in it.comments)]
 
 
+def names_alike():
+    """The names that are meant to stand in several files, as kind and name; tools/lint/names_alike.txt says why of each."""
+    lines = (pathlib.Path(__file__).resolve().parent / "names_alike.txt").read_text(encoding="utf-8").splitlines()
+    return {line.partition(": ")[0] for line in lines if line and not line.startswith("#")}
+
+
 def in_several(places, what):
-    return [f"{what} {name}: {', '.join(sorted(paths))}" for name, paths in sorted(places.items()) if len(paths) > 1]
+    """Those names that stand in several files and are not meant to, and those that are meant to and do not."""
+    several, alike = {name: paths for name, paths in places.items() if len(paths) > 1}, names_alike()
+    found = [f"{what} {name}: {', '.join(sorted(paths))}" for name, paths in sorted(several.items()) if f"{what} {name}" not in alike]
+    return found + [f"{it}: in names_alike.txt, and in one file" for it in sorted(alike) if it.startswith(f"{what} ") and it.partition(" ")[2] not in several]
 
 
 def names():
