@@ -19,7 +19,7 @@ use Rattle.cell_ascii_meaning.specs.declared.grid_fault.GridFault.{GridFault}
 use Rattle.cell_ascii_law.proofs.LexemeLemmas.{coming, Lines, no_feed, feed_space, start-ends}
 use Rattle.cell_ascii_law.proofs.DataLawLemmas.{read_grid_is, read_end}
 use Rattle.cell_ascii_law.proofs.KeyLawLemmas.{open_keys, key_known, header_given, sides}
-use Rattle.cell_ascii_law.proofs.HeaderLawLemmas.{read_opened}
+use Rattle.cell_ascii_law.proofs.HeaderLawLemmas.{read_opened, value_at, value_is}
 use Rattle.cell_ascii_law.proofs.TextLawLemmas.{with_lines}
 use Rattle.cell_ascii_law_faults.proofs.SeenLemmas.{at_seen, tells, scan}
 use Rattle.cell_ascii_law_faults.proofs.PlaceWordLemmas.{table_of, judged, one_told, one_silent, step_feed, before_word, IsAfterWord, next_word, before_gap, settled}
@@ -244,21 +244,6 @@ module _ (whole : Bool) where
             opens whole h s.0 s.1 (record { header = header_now ∙ e; count = ap length words_now; begun = inr (no, word) })
 
   -- A header line behind its first word, where `rest` reads the lines behind it.
-  abbrev value_at : ℕ → Gap → Result (List ℕ × Coming) GridFault
-  value_at line (Word d) = word_from line [] d
-  value_at line (Feed run d) = Err (grid_fault BadHeader line)
-  value_at line Last = Err (grid_fault BadHeader line)
-  value_at line (Fault f) = Err f
-
-  value_is : (line : ℕ) (c : Coming) → value_from line [] c ≡ value_at line (gap_of line 0 c)
-  value_is line c = by (gap_of line 0 c) refl
-    where
-      by : (g : Gap) → gap_of line 0 c ≡ g → value_from line [] c ≡ value_at line g
-      by (Word d) e = rw e
-      by (Feed run d) e = rw e
-      by Last e = rw e
-      by (Fault f) e = rw e
-
   -- where a line begins, after lines whose keys were taken
   abbrev pub IsStart : Keys → Lines → List (List ℕ) → Type 0
   IsStart keys ls [] = (has_data ls ≡ false) × (with_lines no_keys (heads ls) ≡ Ok keys)
