@@ -4,18 +4,18 @@ use Rattle.std.specs.Prelude.{◌&&◌, not}
 use Rattle.std.specs.List.{flat_map, list_all}
 use Rattle.std.specs.Option.{option_map}
 use Rattle.std.specs.Cmp.Lexicographic.{bytes_decides}
-use Rattle.cell_cats.specs.RuleLine.{is_thru, is_star, is_end, with_item, items_of}
+use Rattle.cell_cats.specs.RuleReading.{is_thru, is_star, is_end, with_item, items_of}
 use Rattle.cell_cats.specs.ItemLaw.{Item, item_words, is_item, item_ends, AreItems, ItemsAreRead}
 
-both-left : (a b : Bool) → (a && b) ≡ true → a ≡ true
+pub both-left : (a b : Bool) → (a && b) ≡ true → a ≡ true
 both-left true b e = refl
 both-left false b e = e
 
-both-right : (a b : Bool) → (a && b) ≡ true → b ≡ true
+pub both-right : (a b : Bool) → (a && b) ≡ true → b ≡ true
 both-right true b e = e
 both-right false b e = cc
 
-both : (a b : Bool) → a ≡ true → b ≡ true → (a && b) ≡ true
+pub both : (a b : Bool) → a ≡ true → b ≡ true → (a && b) ≡ true
 both a b e f = rw (e, f) refl
 
 -- a word for a number is not `thru`
@@ -43,7 +43,8 @@ with_item-some a b rest ends e = by (is_end a && is_end b) rest refl refl e
     by false o good is h = cc
 
 -- an item more at the head
-add : (words : List (List ℕ)) (ends : List (List ℕ × List ℕ)) (item : Item) → is_item item ≡ true → AreItems words ends → AreItems (item_words item ++ words) (item_ends item ∷ ends)
+pub add : (words : List (List ℕ)) (ends : List (List ℕ × List ℕ)) (item : Item) → is_item item ≡ true
+    → AreItems words ends → AreItems (item_words item ++ words) (item_ends item ∷ ends)
 add words ends item good are = record {
   items = item ∷ are.items;
   good = both (is_item item) (list_all is_item are.items) good are.good;
@@ -51,7 +52,7 @@ add words ends item good are = record {
   ends_are = ap (λ l. item_ends item ∷ l) are.ends_are;
 }
 
-none : AreItems [] []
+pub none : AreItems [] []
 none = record { items = []; good = refl; words_are = refl; ends_are = refl }
 
 add-one : (words : List (List ℕ)) (a : List ℕ) (ends : List (List ℕ × List ℕ)) → ((more : List (List ℕ × List ℕ)) → items_of words ≡ Some more → AreItems words more)
@@ -96,7 +97,8 @@ with_item-good : (a b : List ℕ) (more : List (List ℕ × List ℕ)) → (is_e
 with_item-good a b more e = rw e refl
 
 -- what is written so is read
-written-read : (items : List Item) → list_all is_item items ≡ true → items_of (flat_map item_words items) ≡ Some (map item_ends items)
+pub written-read : (items : List Item) → list_all is_item items ≡ true
+    → items_of (flat_map item_words items) ≡ Some (map item_ends items)
 written-read [] good = refl
 written-read ((a, None) ∷ items) good =
     let rest : list_all is_item items ≡ true = both-right (is_item (a, None)) (list_all is_item items) good in

@@ -1,9 +1,13 @@
 -- Items and ranges, one more at a time.
-use Rattle.std.proofs.Common.{◌≡◌, ℕ, ℤ, ◌+◌, ◌-◌, ◌<◌, ◌≤◌, length, take, drop, get_or, arith, take_all, length-drop, drop-drop, Bool, true, false, List, [], ◌∷◌, ◌++◌, map, Bor, Option, Some, None, refl, ap, sym, ◌∙◌, append_assoc, append-nil}
-use Rattle.std.specs.Prelude.{◌&&◌}
-use Rattle.std.specs.Option.{option_map}
+use Rattle.std.proofs.Common.{◌≡◌, cond, Ok, Err, ℕ, ℤ, ◌+◌, ◌-◌, ◌<◌, ◌≤◌, length, take, drop, get_or, arith, take_all, length-drop}
+use Rattle.std.proofs.Common.{drop-drop, Bool, true, false, List, [], ◌∷◌, ◌++◌, Bor, Option, Some, None, refl, ap, sym, ◌∙◌, append_assoc, append-nil}
+use Rattle.std.specs.Prelude.{◌&&◌, ◌==◌}
+use Rattle.std.specs.Option.{option_map, ok_or}
 use Rattle.std.proofs.lemmas.List.{map-append, at_drop_more}
-use Rattle.cell_cats.specs.RuleLine.{is_end, with_item, items_of, range_of, ranges_of}
+use Rattle.cell_cats.specs.parts.ItemWords.{texts, pairs}
+use Rattle.cell_cats.specs.RuleReading.{is_end, with_item, items_of, Left, is_lone_star, left_side, range_of, ranges_of}
+use Rattle.cell_cats.specs.declared.rules.RuleFault.{RuleFault}
+use Rattle.cell_cats.specs.declared.rules.RuleFault.TheVariants.{BadRule}
 
 -- what stands before, and then
 abbrev pub after : {X : Type 0} → List X → Option (List X) → Option (List X)
@@ -26,12 +30,6 @@ with_item-good a b o ea eb = rw (ea, eb) refl
 
 pub with_item-bad : (a b : List ℕ) (o : Option (List (List ℕ × List ℕ))) → (is_end a && is_end b) ≡ false → with_item a b o ≡ None
 with_item-bad a b o e = rw e refl
-
-abbrev pub texts : List (Bor (List ℕ)) → List (List ℕ)
-texts ws = map (λ w. w.now) ws
-
-abbrev pub pairs : List (Bor (List ℕ) × Bor (List ℕ)) → List (List ℕ × List ℕ)
-pairs items = map (λ item. (item.0.now, item.1.now)) items
 
 both-left : (a b : Bool) → (a && b) ≡ true → a ≡ true
 both-left true b e = refl
@@ -94,3 +92,32 @@ module _ (items : List (Bor (List ℕ) × Bor (List ℕ))) (i : ℕ) (d : Bor (L
   ranges-stop bad =
       let none : ranges_of (pairs (drop i items)) ≡ None = at_drop_more (λ l. ranges_of (pairs l)) items i d h ∙ rw bad refl in
       so_far ∙ ap (after done) none
+
+-- a left side that is no `*` is its items
+module _ (ws : List (Bor (List ℕ))) (lone : false ≡ is_lone_star (texts ws)) (some : false ≡ (length ws == 0)) where
+  left-items : left_side (texts ws) ≡ option_map Some (items_of (texts ws))
+  left-items = by ws lone some
+    where
+      by : (ws : List (Bor (List ℕ))) → false ≡ is_lone_star (texts ws) → false ≡ (length ws == 0)
+          → left_side (texts ws) ≡ option_map Some (items_of (texts ws))
+      by [] lone some = cc
+      by (w ∷ ws) lone some = ap (λ t. cond {A = Option Left} t (Some None)
+          (option_map Some (items_of (texts (w ∷ ws))))) (sym lone)
+
+  pub left-fails : (fault : RuleFault) → ok_or (items_of (texts ws)) BadRule ≡ Err fault
+      → ok_or (left_side (texts ws)) BadRule ≡ Err fault
+  left-fails fault e = ap (λ o. ok_or o BadRule) left-items ∙ by (items_of (texts ws)) e
+    where
+      by : (o : Option (List (List ℕ × List ℕ))) → ok_or o BadRule ≡ Err fault
+          → ok_or {T = Left} (option_map Some o) BadRule ≡ Err fault
+      by None e = let same : BadRule ≡ fault = cc in ap Err same
+      by (Some items) e = cc
+
+  pub left-found : (items : List (List ℕ × List ℕ)) → ok_or (items_of (texts ws)) BadRule ≡ Ok items
+      → ok_or (left_side (texts ws)) BadRule ≡ Ok (Some items)
+  left-found items e = ap (λ o. ok_or o BadRule) left-items ∙ by (items_of (texts ws)) e
+    where
+      by : (o : Option (List (List ℕ × List ℕ))) → ok_or o BadRule ≡ Ok items
+          → ok_or {T = Left} (option_map Some o) BadRule ≡ Ok (Some items)
+      by None e = cc
+      by (Some others) e = let same : others ≡ items = cc in ap (λ l. Ok (Some l)) same

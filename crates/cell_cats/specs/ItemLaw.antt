@@ -1,7 +1,7 @@
 -- What a list of items spells: items as they are written, one after another (r.reclass manual).
 use Rattle.std.specs.Prelude.{ℕ, ◌≡◌, ◌↔◌, Bool, true, ◌&&◌, List, [], ◌∷◌, map, Option, Some, None, codes}
 use Rattle.std.specs.List.{flat_map, list_all}
-use Rattle.cell_cats.specs.RuleLine.{is_end, items_of}
+use Rattle.cell_cats.specs.RuleReading.{is_end, items_of}
 
 -- an item as it is written: a word, and the one after `thru` where it is a range
 abbrev pub Item : Type 0

@@ -1,17 +1,38 @@
--- Rule lines (r.reclass manual; comments, blank lines and commas are the profile's).
-use Rattle.std.specs.Prelude.{ℕ, ℤ, Bool, true, false, not, ◌&&◌, ◌||◌, ◌==◌, List, [], ◌∷◌, ◌++◌, Option, Some, None, Result, Ok, Err, if◌then◌else◌, bytes_eq, codes}
-use Rattle.std.specs.List.{before_first, after_first}
-use Rattle.std.specs.Option.{option_map, option_and_then}
+-- What a rule line spells (r.reclass manual; comments, blank lines and commas are the profile's).
+use Rattle.std.specs.Prelude.{ℕ, ℤ, ◌≡◌, ◌≢◌, ◌<◌, ◌⊎◌, ◌==◌, Bool, true, false, List, [], ◌∷◌, ◌++◌, length, Option, Some, None, codes}
+use Rattle.std.specs.List.{before_first, after_first, list_any}
+use Rattle.cell_core_values.specs.Letters.{byte}
 use Rattle.cell_core_text.specs.Blanks.{is_blank, trimmed}
 use Rattle.cell_core_text.specs.WholeNumbers.{whole_in_range}
-use Rattle.cell_core_text.specs.Words.{is_word, list_words_of, pair_of}
+use Rattle.cell_core_text.specs.Words.{is_equals, list_words_of}
 use Rattle.cell_cats.specs.Rule.{RuleValue}
 use Rattle.cell_cats.specs.declared.rule.Output.{Output}
 use Rattle.cell_cats.specs.declared.rule.Output.TheVariants.{Same, To}
-use Rattle.cell_cats.specs.declared.rules.LineKind.{LineKind}
-use Rattle.cell_cats.specs.declared.rules.LineKind.TheVariants.{Rule, Skipped, End}
-use Rattle.cell_cats.specs.declared.rules.RuleFault.{RuleFault}
-use Rattle.cell_cats.specs.declared.rules.RuleFault.TheVariants.{BadRule, BadNumber}
+
+-- blank, or a comment
+abbrev pub is_skipped : List ℕ → Bool
+is_skipped [] = true
+is_skipped (b ∷ bs) = b == byte (codes "#")
+
+-- words spell ranges, one after another: `N thru N`, or `N` alone, which is both of its ends
+pub data SpellsRanges : List (List ℕ) → List (ℤ × ℤ) → Type 0 where
+  none : SpellsRanges [] []
+  one : {word : List ℕ} {words : List (List ℕ)} {end : ℤ} {ranges : List (ℤ × ℤ)}
+      → whole_in_range word ≡ Some end → SpellsRanges words ranges → SpellsRanges (word ∷ words) ((end, end) ∷ ranges)
+  thru : {word other : List ℕ} {words : List (List ℕ)} {end last : ℤ} {ranges : List (ℤ × ℤ)}
+      → whole_in_range word ≡ Some end → whole_in_range other ≡ Some last → SpellsRanges words ranges
+      → SpellsRanges (word ∷ codes "thru" ∷ other ∷ words) ((end, last) ∷ ranges)
+
+-- the words of the left side: nothing but `*`, or one range or more
+abbrev pub SpellsListed : List (List ℕ) → Option (List (ℤ × ℤ)) → Type 0
+SpellsListed words None = words ≡ codes "*" ∷ []
+SpellsListed words (Some ranges) = (0 < length words) × SpellsRanges words ranges
+
+-- the first word of the right side: `*`, null or a category
+abbrev pub SpellsOutput : List ℕ → Output → Type 0
+SpellsOutput word Same = word ≡ codes "*"
+SpellsOutput word (To None) = (word ≡ codes "NULL") ⊎ (word ≡ codes "null")
+SpellsOutput word (To (Some category)) = whole_in_range word ≡ Some category
 
 -- the first word of the right side
 abbrev pub output_word : List ℕ → List ℕ
@@ -21,108 +42,15 @@ output_word right = before_first is_blank right
 abbrev pub label_of_right : List ℕ → List ℕ
 label_of_right right = trimmed (after_first is_blank right)
 
-abbrev pub is_thru : List ℕ → Bool
-is_thru word = bytes_eq word (codes "thru")
-
-abbrev pub is_star : List ℕ → Bool
-is_star word = bytes_eq word (codes "*")
-
-abbrev pub is_null_word : List ℕ → Bool
-is_null_word word = bytes_eq word (codes "NULL") || bytes_eq word (codes "null")
-
--- a word that stands for a number, good or bad
-abbrev pub is_end : List ℕ → Bool
-is_end word = not (is_thru word) && not (is_star word)
-
--- one more item, where its ends stand for numbers
-abbrev pub with_item : List ℕ → List ℕ → Option (List (List ℕ × List ℕ)) → Option (List (List ℕ × List ℕ))
-with_item a b items = if is_end a && is_end b then option_map (λ more. (a, b) ∷ more) items else None
-
--- the two ends of each item that words spell: `N thru N`, or `N`, which is both of its ends
-abbrev pub items_of : List (List ℕ) → Option (List (List ℕ × List ℕ))
-items_of [] = Some []
-items_of (a ∷ []) = with_item a a (Some [])
-items_of (a ∷ b ∷ []) = with_item a a (with_item b b (Some []))
-items_of (a ∷ b ∷ c ∷ words) = if is_thru b then with_item a c (items_of words) else with_item a a (items_of (b ∷ c ∷ words))
-
--- which left the words spell
-abbrev pub Left : Type 0
-Left = Option (List (List ℕ × List ℕ))
-
--- nothing but `*`
-abbrev pub is_lone_star : List (List ℕ) → Bool
-is_lone_star [] = false
-is_lone_star (w ∷ []) = is_star w
-is_lone_star (w ∷ v ∷ words) = false
-
--- one item or more
-abbrev pub some_items : List (List ℕ) → Option (List (List ℕ × List ℕ))
-some_items [] = None
-some_items (w ∷ words) = items_of (w ∷ words)
-
--- the items, or none where it is `*`
-abbrev pub left_side : List (List ℕ) → Option Left
-left_side words = if is_lone_star words then Some None else option_map Some (some_items words)
-
--- a word that may stand on the right; `*` only where the left is `*`
-abbrev pub is_output : Bool → List ℕ → Bool
-is_output star word = (is_word word && not (is_thru word)) && (star || not (is_star word))
-
-abbrev pub is_star_left : Left → Bool
-is_star_left None = true
-is_star_left (Some items) = false
-
--- the number of each of two ends
-abbrev pub range_of : List ℕ × List ℕ → Option (ℤ × ℤ)
-range_of item = option_and_then (λ a. option_map (λ b. (a, b)) (whole_in_range item.1)) (whole_in_range item.0)
-
--- the ranges of items, where all their numbers are good
-abbrev pub ranges_of : List (List ℕ × List ℕ) → Option (List (ℤ × ℤ))
-ranges_of [] = Some []
-ranges_of (item ∷ items) = option_and_then (λ range. option_map (λ ranges. range ∷ ranges) (ranges_of items)) (range_of item)
-
--- the same of a left
-abbrev pub listed_of_line : Left → Option (Option (List (ℤ × ℤ)))
-listed_of_line None = Some None
-listed_of_line (Some items) = option_map Some (ranges_of items)
-
--- what the word of an output gives, where its number is good
-abbrev pub output_of : List ℕ → Option Output
-output_of word = if is_null_word word then Some (To None) else (if is_star word then Some Same else option_map (λ n. To (Some n)) (whole_in_range word))
-
--- a rule of good numbers
-abbrev pub of_numbers : List ℕ → Option (Option (List (ℤ × ℤ))) → Option Output → Result RuleValue RuleFault
-of_numbers label None output = Err BadNumber
-of_numbers label (Some listed) None = Err BadNumber
-of_numbers label (Some listed) (Some output) = Ok (record { listed = listed; output = output; label = label })
-
--- a rule of a good shape, or its bad number
-abbrev pub of_shape : List ℕ → Option Left → Result RuleValue RuleFault
-of_shape right None = Err BadRule
-of_shape right (Some left) =
-    if is_output (is_star_left left) (output_word right) then of_numbers (label_of_right right) (listed_of_line left) (output_of (output_word right)) else Err BadRule
-
--- the rule that the two sides of an equals sign spell
-abbrev pub of_sides : Option (List ℕ × List ℕ) → Result RuleValue RuleFault
-of_sides None = Err BadRule
-of_sides (Some sides) = of_shape (trimmed sides.1) (left_side (list_words_of sides.0))
-
--- the rule that a line spells: its shape is judged before its numbers
-abbrev pub rule_of : List ℕ → Result RuleValue RuleFault
-rule_of line = of_sides (pair_of line)
-
--- blank, or a comment
-abbrev pub is_skipped : List ℕ → Bool
-is_skipped [] = true
-is_skipped (b ∷ bs) = b == 35
-
--- a rule at the end
-abbrev pub with_rule : List RuleValue → Result RuleValue RuleFault → Result (LineKind × List RuleValue) RuleFault
-with_rule rules (Ok rule) = Ok (Rule, rules ++ rule ∷ [])
-with_rule rules (Err fault) = Err fault
-
--- what kind of line it is, and the rules with it
-abbrev pub with_line : List RuleValue → List ℕ → Result (LineKind × List RuleValue) RuleFault
-with_line rules line =
-    if is_skipped (trimmed line) then Ok (Skipped, rules)
-    else (if bytes_eq (trimmed line) (codes "end") then Ok (End, rules) else with_rule rules (rule_of line))
+-- a line that spells a rule by what stands left and right of its first equals sign; `*` is an output only where the left is `*`
+pub record SpellsRule (line : List ℕ) (rule : RuleValue) : Type 0 where
+  pub not_skipped : is_skipped (trimmed line) ≡ false
+  pub not_end : trimmed line ≢ codes "end"
+  pub left : List ℕ
+  pub right : List ℕ
+  pub sides : line ≡ left ++ (codes "=" ++ right)
+  pub before : list_any is_equals left ≡ false
+  pub listed : SpellsListed (list_words_of left) rule.listed
+  pub output : SpellsOutput (output_word (trimmed right)) rule.output
+  pub kept : rule.output ≡ Same → rule.listed ≡ None
+  pub label : label_of_right (trimmed right) ≡ rule.label

@@ -3,7 +3,7 @@ use Rattle.std.specs.Prelude.{pos, ◌≡◌, List, [], ◌∷◌, Some, None, O
 use Rattle.cell_core.specs.Grid.{CellValue}
 use Rattle.cell_cats.specs.Rule.{RuleValue}
 use Rattle.cell_cats.specs.Reclass.{new_rows}
-use Rattle.cell_cats.specs.RuleLine.{rule_of, with_line}
+use Rattle.cell_cats.specs.RuleReading.{rule_of, with_line}
 use Rattle.cell_cats.specs.declared.rule.Output.TheVariants.{To}
 use Rattle.cell_cats.specs.declared.rules.LineKind.TheVariants.{Rule, Skipped, End}
 use Rattle.cell_cats.specs.declared.rules.RuleFault.TheVariants.{BadRule, BadNumber}

@@ -1,3 +1,5 @@
--- Cells that are reclassed by what is known of them, and by the pieces that rules cut the number line into.
+-- Cells that are reclassed by what is known of them, and by the pieces that rules cut the number line into; words as they
+-- are borrowed.
 pub mod KnownCategories
 pub mod Pieces
+pub mod ItemWords

@@ -1,6 +1,7 @@
-//! What a list of items spells, what rules keep, and worked lines.
+//! What a list of items and a rule line spell, what rules keep, and worked lines.
 
 ghost use Rattle.cell_cats.specs.ItemLaw.{ItemsAreRead};
+ghost use Rattle.cell_cats.specs.RuleReading.{RulesAreRead};
 ghost use Rattle.cell_cats.specs.RulesLaw.{StarKeeps, WorkedLines};
 
 /// Under the rule `* = *` a map keeps its rows.
@@ -13,7 +14,9 @@ pub fn worked_lines()
     ensures { WorkedLines }
 {}
 
-/// Words are read as items exactly where they are the words of items, one item after another, and as the ends of those.
-pub fn items_are_read()
-    ensures { ItemsAreRead }
+/// Words are read as items exactly where they are the words of items, one item after another, and as the ends of those; and
+/// a line is read as one more rule exactly where it spells that rule.
+pub fn rules_are_read()
+    ensures items { ItemsAreRead }
+    ensures rules { RulesAreRead }
 {}

@@ -1,8 +1,13 @@
 //! The rule that a line spells.
 
-ghost use Rattle.std.specs.Prelude.{◌≡◌, ◌≢◌, ℕ, List, IfOk, IfErr, Ok, Err, Some, None, map, ◌∷◌, ◌≤◌, ◌<◌, ◌&&◌, length, drop};
-ghost use Rattle.std.specs.Option.{option_map};
-ghost use Rattle.cell_cats.specs.RuleLine.{is_skipped, is_thru, is_star, is_null_word, is_end, with_item, items_of, is_lone_star, left_side, is_output, ranges_of, range_of, listed_of_line, output_of, rule_of};
+ghost use Rattle.std.specs.Prelude.{◌≡◌, ◌∷◌, ◌≤◌, ◌&&◌, length, drop};
+ghost use Rattle.std.specs.Option.{option_map, ok_or};
+ghost use Rattle.cell_core_text.specs.Answers.{Answers};
+ghost use Rattle.cell_cats.specs.RuleLine.{is_skipped};
+ghost use Rattle.cell_cats.specs.RuleReading.{is_thru, is_star, is_null_word, is_end, with_item, items_of, is_lone_star, left_side};
+ghost use Rattle.cell_cats.specs.RuleReading.{is_output, ranges_of, range_of, listed_of_line, output_of, rule_of};
+ghost use Rattle.cell_cats.specs.parts.ItemWords.{texts, pairs};
+ghost use Rattle.cell_cats.specs.declared.rules.RuleFault.TheVariants.{BadRule, BadNumber};
 
 use crate::rule::{Output, Rule};
 use crate::rules::RuleFault;
@@ -56,7 +61,8 @@ fn are_ends(a: &[u8], b: &[u8]) -> bool
 
 // The second end of the item that begins with a word, and how many words more the item has.
 fn item_end<'a>(a: &'a [u8], others: &[&'a [u8]]) -> (&'a [u8], usize)
-    ensures items { items_of (a.now ∷ map (λ w. w.now) others.now) ≡ with_item a.now result.0.now (items_of (map (λ w. w.now) (drop result.1 others.now))) }
+    ensures items { items_of (a.now ∷ texts others.now)
+        ≡ with_item a.now result.0.now (items_of (texts (drop result.1 others.now))) }
     ensures within { result.1 ≤ length others.now }
 {
     match others {
@@ -67,8 +73,8 @@ fn item_end<'a>(a: &'a [u8], others: &[&'a [u8]]) -> (&'a [u8], usize)
 
 // The items that words spell.
 fn items_of<'a>(alloc: Global, words: &[&'a [u8]]) -> Result<Vec<(&'a [u8], &'a [u8])>, RuleFault>
-    ensures ok { IfOk result (λ items. items_of (map (λ w. w.now) words.now) ≡ Some (map (λ item. (item.0.now, item.1.now)) items.items)) }
-    ensures err { IfErr result (λ fault. fault ≢ RuleFault.Memory → (fault ≡ RuleFault.BadRule) × (items_of (map (λ w. w.now) words.now) ≡ None)) }
+    ensures { Answers RuleFault.Memory (λ items. pairs items.items) result
+        (ok_or (items_of (texts words.now)) BadRule) }
 {
     let mut items = Vec::new(alloc);
     let mut at = 0;
@@ -95,8 +101,7 @@ fn range_of(a: &[u8], b: &[u8]) -> Option<(i32, i32)>
 
 // The ranges of items.
 fn ranges_of(alloc: Global, items: &[(&[u8], &[u8])]) -> Result<Vec<(i32, i32)>, RuleFault>
-    ensures ok { IfOk result (λ ranges. ranges_of (map (λ item. (item.0.now, item.1.now)) items.now) ≡ Some ranges.items) }
-    ensures err { IfErr result (λ fault. fault ≢ RuleFault.Memory → (fault ≡ RuleFault.BadNumber) × (ranges_of (map (λ item. (item.0.now, item.1.now)) items.now) ≡ None)) }
+    ensures { Answers RuleFault.Memory (λ ranges. ranges.items) result (ok_or (ranges_of (pairs items.now)) BadNumber) }
 {
     let mut ranges = Vec::new(alloc);
     for item in items {
@@ -132,7 +137,7 @@ fn is_output(star: bool, word: &[u8]) -> bool
 }
 
 fn is_lone_star(words: &[&[u8]]) -> bool
-    ensures { result ≡ is_lone_star (map (λ w. w.now) words.now) }
+    ensures { result ≡ is_lone_star (texts words.now) }
 {
     match words {
         [word] => is_star(*word),
@@ -145,8 +150,8 @@ fn left_of<'a>(
     alloc: Global,
     words: &[&'a [u8]],
 ) -> Result<Option<Vec<(&'a [u8], &'a [u8])>>, RuleFault>
-    ensures ok { IfOk result (λ left. left_side (map (λ w. w.now) words.now) ≡ Some (option_map (λ items. map (λ item. (item.0.now, item.1.now)) items.items) left)) }
-    ensures err { IfErr result (λ fault. fault ≢ RuleFault.Memory → (fault ≡ RuleFault.BadRule) × (left_side (map (λ w. w.now) words.now) ≡ None)) }
+    ensures { Answers RuleFault.Memory (option_map (λ items. pairs items.items)) result
+        (ok_or (left_side (texts words.now)) BadRule) }
 {
     if is_lone_star(words) {
         return Ok(None);
@@ -163,8 +168,8 @@ fn listed_of(
     alloc: Global,
     left: &Option<Vec<(&[u8], &[u8])>>,
 ) -> Result<Option<Vec<(i32, i32)>>, RuleFault>
-    ensures ok { IfOk result (λ listed. listed_of_line (option_map (λ items. map (λ item. (item.0.now, item.1.now)) items.items) left.now) ≡ Some (option_map (λ ranges. ranges.items) listed)) }
-    ensures err { IfErr result (λ fault. fault ≢ RuleFault.Memory → (fault ≡ RuleFault.BadNumber) × (listed_of_line (option_map (λ items. map (λ item. (item.0.now, item.1.now)) items.items) left.now) ≡ None)) }
+    ensures { Answers RuleFault.Memory (option_map (λ ranges. ranges.items)) result
+        (ok_or (listed_of_line (option_map (λ items. pairs items.items) left.now)) BadNumber) }
 {
     match left {
         Some(items) => {
@@ -182,8 +187,7 @@ fn listed_of(
 /// [`RuleFault::BadRule`] where it has not the shape of a rule, else [`RuleFault::BadNumber`] where a number is bad;
 /// [`RuleFault::Memory`] where memory was refused.
 pub fn rule_of(alloc: Global, line: &[u8]) -> Result<Rule, RuleFault>
-    ensures ok { IfOk result (λ rule. rule_of line.now ≡ Ok rule) }
-    ensures err { IfErr result (λ fault. fault ≢ RuleFault.Memory → rule_of line.now ≡ Err fault) }
+    ensures { Answers RuleFault.Memory (λ rule. rule) result (rule_of line.now) }
 {
     let Some((left, right)) = pair_of(line) else {
         return Err(RuleFault::BadRule);

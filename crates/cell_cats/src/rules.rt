@@ -1,9 +1,10 @@
 //! Lists of rules.
 
-ghost use Rattle.std.specs.Prelude.{◌≡◌, ◌≢◌, [], Ok, Err, IfOk, IfErr, OnErr, IfSome};
+ghost use Rattle.std.specs.Prelude.{◌≡◌, [], OnErr};
 ghost use Rattle.std.specs.Option.{option_map};
+ghost use Rattle.cell_core_text.specs.Answers.{Answers};
 ghost use Rattle.cell_cats.specs.Rule.{new_category, output_for, last_output, is_star_rule, outcome};
-ghost use Rattle.cell_cats.specs.RuleLine.{with_line};
+ghost use Rattle.cell_cats.specs.RuleReading.{with_line};
 
 use crate::line::{is_skipped, rule_of};
 use crate::rule::{Output, Rule};
@@ -148,8 +149,7 @@ impl Rules {
     /// [`RuleFault::BadRule`] where it has not the shape of a rule, else [`RuleFault::BadNumber`] where a number is bad,
     /// [`RuleFault::Memory`] where memory was refused. The rules are unchanged, and further lines may be added.
     pub fn add_line(&mut self, line: &[u8]) -> Result<LineKind, RuleFault>
-        ensures ok { IfOk result (λ kind. with_line self.old line.now ≡ Ok (kind, self.new)) }
-        ensures err { IfErr result (λ fault. fault ≢ RuleFault.Memory → with_line self.old line.now ≡ Err fault) }
+        ensures said { Answers RuleFault.Memory (λ kind. (kind, self.new)) result (with_line self.old line.now) }
         ensures unchanged { OnErr result (self.new ≡ self.old) }
     {
         let text = trimmed(line);

@@ -15,7 +15,6 @@ use Rattle.cell_core_values.specs.Region.{most_side, most_cells}
 use Rattle.cell_core_values.specs.declared.region.RegionFault.TheVariants.{BadExtent, BadRows, BadCols, TooManyCells}
 use Rattle.cell_core_devices.specs.Device.{Coming}
 use Rattle.cell_core_text.specs.Blanks.{trimmed}
-use Rattle.cell_core_text.specs.Words.{list_words_of, pair_of}
 use Rattle.cell_core_text.specs.WholeNumbers.{whole_number, whole_in_range, is_in_range}
 use Rattle.cell_core.specs.Grid.{Grid, CellValue, IsFilled, cell_at}
 use Rattle.cell_core.specs.Shelf.{ShelfValue}
@@ -28,12 +27,10 @@ use Rattle.cell_ascii_law_written.proofs.WritingNumberLemmas.{whole_back, in_ran
 use Rattle.cell_calc_operators.specs.Applied.{spot}
 use Rattle.cell_calc_binding.specs.Formula.{Formula}
 use Rattle.cell_cats.specs.Rule.{RuleValue, last_such, last_output, outcome, new_category, lists, is_star_rule}
-use Rattle.cell_cats.specs.RuleLine.{rule_of, of_sides, of_shape, of_numbers, output_of, is_null_word, is_star}
-use Rattle.cell_cats.specs.RuleLine.{left_side, is_output, is_star_left, output_word, label_of_right, listed_of_line}
+use Rattle.cell_cats.specs.RuleLine.{SpellsOutput, output_word, SpellsRule}
 use Rattle.cell_cats.specs.Reclass.{reclassed, new_row}
 use Rattle.cell_cats.specs.declared.rule.Output.{Output}
 use Rattle.cell_cats.specs.declared.rule.Output.TheVariants.{Same, To}
-use Rattle.cell_cats.specs.declared.rules.RuleFault.{RuleFault}
 use Rattle.cell_cats_areas.specs.declared.clump.Joining.{Joining}
 use Rattle.cell_cats_areas.specs.Areas.{Position, cell_at_spot, IsEarlierCell, IsClumping, HasNumber}
 use Rattle.cell_cats_areas.specs.parts.CellPlaces.{position, cell_place, IsInside}
@@ -97,54 +94,19 @@ whole_in word = by (whole_number word)
     by None = tt
     by (Some n) = if_in n (is_in_range n) refl
 
-good_output : (word : List ℕ) → IsGoodOption (output_of word)
-good_output word = by (is_null_word word) (is_star word) (whole_in_range word) (whole_in word)
-  where
-    number : (o : Option ℤ) → InRange o → IsGoodOption (option_map (λ n. To (Some n)) o)
-    number None h = tt
-    number (Some n) h = h
+good_output : (word : List ℕ) (output : Output) → SpellsOutput word output → IsGoodOutput output
+good_output word Same spells = tt
+good_output word (To None) spells = tt
+good_output word (To (Some category)) spells = subst InRange spells (whole_in word)
 
-    by : (null star : Bool) (o : Option ℤ) → InRange o
-        → IsGoodOption (if null then Some (To None) else (if star then Some Same else option_map (λ n. To (Some n)) o))
-    by true star o h = tt
-    by false true o h = tt
-    by false false o h = number o h
-
-abbrev IsGoodResult : Result RuleValue RuleFault → Type 0
-IsGoodResult (Ok rule) = IsGoodOutput rule.output
-IsGoodResult (Err fault) = Unit {0}
-
-good_numbers : (label : List ℕ) (listed : Option (Option (List (ℤ × ℤ)))) (output : Option Output) → IsGoodOption output
-    → IsGoodResult (of_numbers label listed output)
-good_numbers label None output h = tt
-good_numbers label (Some listed) None h = tt
-good_numbers label (Some listed) (Some output) h = h
-
-good_if : (t : Bool) (a b : Result RuleValue RuleFault) → IsGoodResult a → IsGoodResult b → IsGoodResult
-    (if t then a else b)
-good_if true a b h k = h
-good_if false a b h k = k
-
-good_shape : (right : List ℕ) (o : Option (Option (List (List ℕ × List ℕ)))) → IsGoodResult (of_shape right o)
-good_shape right None = tt
-good_shape right (Some left) =
-    good_if (is_output (is_star_left left) (output_word right))
-    (of_numbers (label_of_right right) (listed_of_line left) (output_of (output_word right))) _
-    (good_numbers (label_of_right right) (listed_of_line left) (output_of (output_word right))
-    (good_output (output_word right))) tt
-
-good_sides : (o : Option (List ℕ × List ℕ)) → IsGoodResult (of_sides o)
-good_sides None = tt
-good_sides (Some sides) = good_shape (trimmed sides.1) (left_side (list_words_of sides.0))
-
-good_rule : (bytes : List ℕ) (rule : RuleValue) → rule_of bytes ≡ Ok rule → IsGoodOutput rule.output
-good_rule bytes rule is = subst IsGoodResult is (good_sides (pair_of bytes))
+good_rule : (line : List ℕ) (rule : RuleValue) → SpellsRule line rule → IsGoodOutput rule.output
+good_rule line rule spells = good_output (output_word (trimmed spells.right)) rule.output spells.output
 
 pub good_rules : (lines : List Line) (given : List RuleValue) → AreRules lines given → AreGoodRules given
 good_rules _ _ rules.none = All-nil (λ rule. IsGoodOutput rule.output)
 good_rules _ _ (rules.skipped says more) = good_rules _ _ more
 good_rules _ _ (rules.rule {line} {first} {rules = others} spells more) =
-    All-cons (λ rule. IsGoodOutput rule.output) first others (good_rule line.bytes first spells.rule_is)
+    All-cons (λ rule. IsGoodOutput rule.output) first others (good_rule line.bytes first spells)
     (good_rules _ _ more)
 
 abbrev IsGoodLast : Option RuleValue → Type 0

@@ -6,16 +6,19 @@ use Rattle.std.proofs.lemmas.Bool.{ltb-false, le-ltb}
 use Rattle.std.proofs.lemmas.List.{append-nil}
 use Rattle.std.proofs.lemmas.List.Elements.{All-nil, All-cons}
 use Rattle.cell_cats.specs.Rule.{RuleValue}
-use Rattle.cell_cats.specs.RuleLine.{is_skipped, rule_of, with_rule, with_line}
+use Rattle.cell_cats.specs.RuleLine.{is_skipped, SpellsRule}
+use Rattle.cell_cats.specs.RuleReading.{rule_of, with_line}
+use Rattle.cell_cats.proofs.RuleLawLemmas as rule_law
 use Rattle.cell_cats.specs.declared.rules.LineKind.{LineKind}
 use Rattle.cell_cats.specs.declared.rules.LineKind.TheVariants as line_kind
 use Rattle.cell_cats.specs.declared.rules.RuleFault.{RuleFault}
+use Rattle.cell_core_text.specs.Answers.{◌>>=◌}
 use Rattle.cell_core_text.specs.Blanks.{trimmed}
 use Rattle.rcell_script_commands.specs.Commands.{IsHead}
 use Rattle.rcell_script_commands.specs.Skipped.{IsSkipped}
 use Rattle.rcell_script.specs.Lines.{Line, numbered, script_lines}
 use Rattle.rcell_script_commands.specs.RReclass.{SpellsReclass}
-use Rattle.rcell_script.specs.ReclassRules.{IsEnd, SpellsRule, AreRules}
+use Rattle.rcell_script.specs.ReclassRules.{IsEnd, AreRules}
 use Rattle.rcell_script_commands.specs.CommandSpelling.{SpellsCommand}
 use Rattle.rcell_script.specs.Scripts.{Group, IsGrouped}
 use Rattle.rcell_script.specs.ReclassRules as reclass_rules
@@ -52,13 +55,15 @@ line-sound : (rules : List RuleValue) (l : List ℕ) (kind : LineKind) (more : L
 line-sound rules l kind more e = by (is_skipped (trimmed l)) (bytes_eq (trimmed l) (codes "end")) (rule_of l) refl refl refl e
   where
     by : (skipped end : Bool) (rule : Result RuleValue RuleFault) → is_skipped (trimmed l) ≡ skipped → bytes_eq (trimmed l) (codes "end") ≡ end → rule_of l ≡ rule
-        → cond skipped (Ok (line_kind.Skipped, rules)) (cond end (Ok (line_kind.End, rules)) (with_rule rules rule)) ≡ Ok (kind, more) → SaysRule rules l kind more
+        → cond {A = Result (LineKind × List RuleValue) RuleFault} skipped (Ok (line_kind.Skipped, rules))
+        (cond end (Ok (line_kind.End, rules)) (rule >>= λ rule. Ok (line_kind.Rule, rules ++ rule ∷ [])))
+        ≡ Ok (kind, more) → SaysRule rules l kind more
     by true end rule s n r f = pair-same line_kind.Skipped kind rules more rules l f (s, refl)
     by false true rule s n r f = pair-same line_kind.End kind rules more rules l f ((bytes_decides (trimmed l) (codes "end")).0 n)
     by false false (Err fault) s n r f = cc
     by false false (Ok rule) s n r f =
         let inside : IsEnd l → ⊥ = λ e. let t : bytes_eq (trimmed l) (codes "end") ≡ true = (bytes_decides (trimmed l) (codes "end")).1 e in cc in
-        pair-same line_kind.Rule kind (rules ++ rule ∷ []) more rules l f (rule, (record { not_skipped = s; not_end = inside; rule_is = r }, refl))
+        pair-same line_kind.Rule kind (rules ++ rule ∷ []) more rules l f (rule, (rule_law.rule-sound l rule s inside r, refl))
 
 as_rule-ok : (x : Result (LineKind × List RuleValue) RuleFault) (y : LineKind × List RuleValue) → as_rule x ≡ Ok y → x ≡ Ok y
 as_rule-ok (Ok x) y e = let same : x ≡ y = cc in ap Ok same
@@ -86,7 +91,8 @@ no_end l inside = by (bytes_eq (trimmed l) (codes "end")) refl
     by false e = e
 
 rule-read : (rules : List RuleValue) (l : List ℕ) (rule : RuleValue) → length l ≤ 65535 → SpellsRule l rule → rule_line rules l ≡ Ok (line_kind.Rule, rules ++ rule ∷ [])
-rule-read rules l rule s spells = short-rule rules l s ∙ rw (spells.not_skipped, no_end l spells.not_end, spells.rule_is) refl
+rule-read rules l rule s spells = short-rule rules l s
+    ∙ rw (spells.not_skipped, no_end l spells.not_end, rule_law.rule-complete l rule spells) refl
 
 end-skipped : is_skipped (codes "end") ≡ false
 end-skipped = refl

@@ -1,7 +1,7 @@
 -- The reading of a script line by line from the top, up to its end or its first fault (profile).
 use Rattle.std.specs.Prelude.{ℕ, ◌≡◌, ◌+◌, List, [], ◌∷◌, ◌++◌, nat_lt, length, Option, Some, None, Result, Ok, Err, MatchResult, if◌then◌else◌}
 use Rattle.cell_cats.specs.Rule.{RuleValue}
-use Rattle.cell_cats.specs.RuleLine.{with_line}
+use Rattle.cell_cats.specs.RuleReading.{with_line}
 use Rattle.cell_cats.specs.declared.rules.LineKind.{LineKind}
 use Rattle.cell_cats.specs.declared.rules.LineKind.TheVariants as line_kind
 use Rattle.cell_cats.specs.declared.rules.RuleFault.{RuleFault}

@@ -1,8 +1,10 @@
-use Rattle.std.proofs.Common.{ℕ, ◌+◌, ◌-◌, ◌<◌, ◌≤◌, length, arith, refl, ap, sym, ◌∙◌}
+use Rattle.std.proofs.Common.{ℕ, ◌+◌, ◌-◌, ◌<◌, ◌≤◌, length, arith, ap, sym, ◌∙◌}
 use Rattle.std.proofs.lemmas.List.{at_drop_all}
-use Rattle.std.proofs.lemmas.Result.{IfOk-from_err, err_from_is_err_and}
-use Rattle.cell_cats.specs.RuleLine.{items_of}
-use Rattle.cell_cats.proofs.ItemLemmas.{after, after-nil, after-all, texts, pairs, items-step, items-stop}
+use Rattle.std.specs.Option.{ok_or}
+use Rattle.cell_cats.specs.RuleReading.{items_of}
+use Rattle.cell_cats.proofs.ItemLemmas.{after, after-nil, after-all, items-step, items-stop}
+use Rattle.cell_cats.specs.parts.ItemWords.{texts, pairs}
+use Rattle.cell_cats.specs.declared.rules.RuleFault.TheVariants.{BadRule}
 use Rattle.cell_cats.proofs.line.items_of.Goals as goal
 
 least : (n : ℕ) → 0 ≤ n
@@ -15,23 +17,11 @@ pub loop-at-init : goal.loop-at-init
 loop-at-init c =
     (rw c.new-items.ensures.items (after-nil (items_of (texts c.args.words.now))), least (length c.args.words.now))
 
-pub returns-then-not-are_ends-clause-ok : goal.returns-then-not-are_ends-clause-ok
-returns-then-not-are_ends-clause-ok c = tt
-
-pub returns-then-not-are_ends-clause-err : goal.returns-then-not-are_ends-clause-err
-returns-then-not-are_ends-clause-err c = λ other. (
-  refl,
-  items-stop c.args.words.now c.loop-at.at c.item_end-more.result.1 _ c.item_end-more.result.0 c.loop-at.items.items
-      c.loop-at-test.true c.item_end-more.ensures.items (sym c.if-not-are_ends.ensures) c.loop-at.invariant.0,
-)
-
-pub returns-in_err-push-clause-ok : goal.returns-in_err-push-clause-ok
-returns-in_err-push-clause-ok c = IfOk-from_err c.from_residual.result _ c.from_residual.ensures.0
-
-pub returns-in_err-push-clause-err : goal.returns-in_err-push-clause-err
-returns-in_err-push-clause-err c =
-    let p = err_from_is_err_and c.from_residual.result c.from_residual.ensures.1 in
-    rw (p.1, p.2) (λ other. absurd (other refl))
+pub returns-then-not-are_ends : goal.returns-then-not-are_ends
+returns-then-not-are_ends c = λ _.
+    ap (λ o. ok_or o BadRule)
+    (items-stop c.args.words.now c.loop-at.at c.item_end-more.result.1 _ c.item_end-more.result.0 c.loop-at.items.items
+    c.loop-at-test.true c.item_end-more.ensures.items (sym c.if-not-are_ends.ensures) c.loop-at.invariant.0)
 
 pub loop-at-smaller : goal.loop-at-smaller
 loop-at-smaller c = fewer (length c.args.words.now) c.loop-at.at c.item_end-more.result.1 c.loop-at-test.true
@@ -42,11 +32,8 @@ loop-at-preserved c =
     c.push.new.self.items c.loop-at-test.true c.item_end-more.ensures.within c.item_end-more.ensures.items
     (sym c.if-not-are_ends.ensures) c.in_ok-push.ensures.items c.loop-at.invariant.0
 
-pub returns-clause-ok : goal.returns-clause-ok
-returns-clause-ok c =
+pub returns : goal.returns
+returns c =
     let found = pairs c.loop-at.items.items in
     let end = at_drop_all (λ l. items_of (texts l)) c.args.words.now c.loop-at.at c.loop-at-test.false in
-    c.loop-at.invariant.0 ∙ ap (after found) end ∙ after-all found
-
-pub returns-clause-err : goal.returns-clause-err
-returns-clause-err c = tt
+    ap (λ o. ok_or o BadRule) (c.loop-at.invariant.0 ∙ ap (after found) end ∙ after-all found)

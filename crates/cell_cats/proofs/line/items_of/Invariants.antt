@@ -1,5 +1,5 @@
 use Rattle.std.proofs.Common.{◌≡◌, ◌-◌, ◌≤◌, length, map, drop}
-use Rattle.cell_cats.specs.RuleLine.{items_of}
+use Rattle.cell_cats.specs.RuleReading.{items_of}
 use Rattle.cell_cats.proofs.ItemLemmas.{after}
 use Rattle.cell_cats.proofs.line.items_of.Given as goal
 

@@ -1,5 +1,5 @@
 use Rattle.std.proofs.Common.{◌≡◌, drop, map}
-use Rattle.cell_cats.specs.RuleLine.{ranges_of}
+use Rattle.cell_cats.specs.RuleReading.{ranges_of}
 use Rattle.cell_cats.proofs.ItemLemmas.{after}
 use Rattle.cell_cats.proofs.line.ranges_of.Given as goal
 

@@ -1,0 +1,112 @@
+-- How a rule line is read, with its faults, and that it is read where it is spelled (r.reclass manual).
+use Rattle.std.specs.Prelude.{ℕ, ℤ, Bool, true, false, not, ◌&&◌, ◌||◌, ◌≡◌, ◌↔◌, List, [], ◌∷◌, ◌++◌, Option, Some, None, Result, Ok, Err, if◌then◌else◌, bytes_eq, codes}
+use Rattle.std.specs.Option.{option_map, option_and_then, ok_or}
+use Rattle.cell_core_text.specs.Answers.{◌>>=◌}
+use Rattle.cell_core_text.specs.Blanks.{trimmed}
+use Rattle.cell_core_text.specs.WholeNumbers.{whole_in_range}
+use Rattle.cell_core_text.specs.Words.{is_word, list_words_of, pair_of}
+use Rattle.cell_cats.specs.Rule.{RuleValue}
+use Rattle.cell_cats.specs.RuleLine.{is_skipped, output_word, label_of_right, SpellsRule}
+use Rattle.cell_cats.specs.declared.rule.Output.{Output}
+use Rattle.cell_cats.specs.declared.rule.Output.TheVariants.{Same, To}
+use Rattle.cell_cats.specs.declared.rules.LineKind.{LineKind}
+use Rattle.cell_cats.specs.declared.rules.LineKind.TheVariants.{Rule, Skipped, End}
+use Rattle.cell_cats.specs.declared.rules.RuleFault.{RuleFault}
+use Rattle.cell_cats.specs.declared.rules.RuleFault.TheVariants.{BadRule, BadNumber}
+
+-- the word between the ends of a range
+abbrev pub is_thru : List ℕ → Bool
+is_thru word = bytes_eq word (codes "thru")
+
+-- an asterisk
+abbrev pub is_star : List ℕ → Bool
+is_star word = bytes_eq word (codes "*")
+
+-- null as an output
+abbrev pub is_null_word : List ℕ → Bool
+is_null_word word = bytes_eq word (codes "NULL") || bytes_eq word (codes "null")
+
+-- a word that stands for a number, good or bad
+abbrev pub is_end : List ℕ → Bool
+is_end word = not (is_thru word) && not (is_star word)
+
+-- one more item, where its ends stand for numbers
+abbrev pub with_item : List ℕ → List ℕ → Option (List (List ℕ × List ℕ)) → Option (List (List ℕ × List ℕ))
+with_item a b items = if is_end a && is_end b then option_map (λ more. (a, b) ∷ more) items else None
+
+-- the two ends of each item that words spell: `N thru N`, or `N`, which is both of its ends
+abbrev pub items_of : List (List ℕ) → Option (List (List ℕ × List ℕ))
+items_of [] = Some []
+items_of (a ∷ []) = with_item a a (Some [])
+items_of (a ∷ b ∷ []) = with_item a a (with_item b b (Some []))
+items_of (a ∷ b ∷ c ∷ words) = if is_thru b then with_item a c (items_of words) else with_item a a (items_of (b ∷ c ∷ words))
+
+-- which left the words spell
+abbrev pub Left : Type 0
+Left = Option (List (List ℕ × List ℕ))
+
+-- nothing but `*`
+abbrev pub is_lone_star : List (List ℕ) → Bool
+is_lone_star [] = false
+is_lone_star (w ∷ []) = is_star w
+is_lone_star (w ∷ v ∷ words) = false
+
+-- one item or more
+abbrev pub some_items : List (List ℕ) → Option (List (List ℕ × List ℕ))
+some_items [] = None
+some_items (w ∷ words) = items_of (w ∷ words)
+
+-- the items, or none where it is `*`
+abbrev pub left_side : List (List ℕ) → Option Left
+left_side words = if is_lone_star words then Some None else option_map Some (some_items words)
+
+-- a word that may stand on the right; `*` only where the left is `*`
+abbrev pub is_output : Bool → List ℕ → Bool
+is_output star word = (is_word word && not (is_thru word)) && (star || not (is_star word))
+
+abbrev pub is_star_left : Left → Bool
+is_star_left None = true
+is_star_left (Some items) = false
+
+-- the number of each of two ends
+abbrev pub range_of : List ℕ × List ℕ → Option (ℤ × ℤ)
+range_of item = option_and_then (λ a. option_map (λ b. (a, b)) (whole_in_range item.1)) (whole_in_range item.0)
+
+-- the ranges of items, where all their numbers are good
+abbrev pub ranges_of : List (List ℕ × List ℕ) → Option (List (ℤ × ℤ))
+ranges_of [] = Some []
+ranges_of (item ∷ items) = option_and_then (λ range. option_map (λ ranges. range ∷ ranges) (ranges_of items)) (range_of item)
+
+-- the same of a left
+abbrev pub listed_of_line : Left → Option (Option (List (ℤ × ℤ)))
+listed_of_line None = Some None
+listed_of_line (Some items) = option_map Some (ranges_of items)
+
+-- what the word of an output gives, where its number is good
+abbrev pub output_of : List ℕ → Option Output
+output_of word = if is_null_word word then Some (To None) else (if is_star word then Some Same else option_map (λ n. To (Some n)) (whole_in_range word))
+
+-- the rule of a good shape, or its bad number
+abbrev pub of_numbers : List ℕ → Left → Result RuleValue RuleFault
+of_numbers right left =
+    ok_or (listed_of_line left) BadNumber >>= λ listed. ok_or (output_of (output_word right)) BadNumber >>= λ output.
+    Ok (record { listed = listed; output = output; label = label_of_right right })
+
+-- the rule of two sides
+abbrev pub of_shape : List ℕ → Left → Result RuleValue RuleFault
+of_shape right left = if is_output (is_star_left left) (output_word right) then of_numbers right left else Err BadRule
+
+-- the rule that a line spells: its shape is judged before its numbers
+abbrev pub rule_of : List ℕ → Result RuleValue RuleFault
+rule_of line =
+    ok_or (pair_of line) BadRule >>= λ sides. ok_or (left_side (list_words_of sides.0)) BadRule >>= λ left. of_shape (trimmed sides.1) left
+
+-- what kind of line it is, and the rules with it
+abbrev pub with_line : List RuleValue → List ℕ → Result (LineKind × List RuleValue) RuleFault
+with_line rules line =
+    if is_skipped (trimmed line) then Ok (Skipped, rules)
+    else (if bytes_eq (trimmed line) (codes "end") then Ok (End, rules) else (rule_of line >>= λ rule. Ok (Rule, rules ++ rule ∷ [])))
+
+-- a line is read as one more rule exactly where it spells that rule
+abbrev pub RulesAreRead : Type 0
+RulesAreRead = (rules : List RuleValue) (line : List ℕ) (rule : RuleValue) → (with_line rules line ≡ Ok (Rule, rules ++ rule ∷ [])) ↔ SpellsRule line rule

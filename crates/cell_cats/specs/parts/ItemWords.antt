@@ -1,0 +1,11 @@
+-- The words of a line, and the items of a left side, as they are borrowed.
+use Rattle.std.specs.Prelude.{ℕ, List, map}
+use Rattle.std.specs.Borrow.{Bor}
+
+-- the texts of words
+abbrev pub texts : List (Bor (List ℕ)) → List (List ℕ)
+texts words = map (λ w. w.now) words
+
+-- the texts of the two ends of items
+abbrev pub pairs : List (Bor (List ℕ) × Bor (List ℕ)) → List (List ℕ × List ℕ)
+pairs items = map (λ item. (item.0.now, item.1.now)) items
