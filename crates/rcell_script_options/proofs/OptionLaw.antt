@@ -1,23 +1,23 @@
 -- The options that words spell together are those that are read of them one after another.
 use Rattle.std.proofs.Common.{◌≡◌, ℕ, ◌≤◌, ◌<◌, Bool, true, false, cond, List, [], ◌∷◌, ◌++◌, map, length, get_or, All, Option, Some, None, Result, Ok, Err, inl, inr, refl, ap, sym, ◌∙◌, subst}
-use Rattle.std.specs.Prelude.{◌⊎◌, ◌==◌, ◌&&◌, ◌||◌, not, nat_lt, is_some, bytes_eq}
+use Rattle.std.specs.Prelude.{◌==◌, ◌&&◌, not, nat_lt, is_some, bytes_eq}
 use Rattle.std.specs.Cmp.Lexicographic.{bytes_decides}
-use Rattle.std.specs.List.{flat_map, cons_option, filter_map, list_all, list_any, position_or_len, before_first, after_first}
+use Rattle.std.specs.List.{flat_map, filter_map, list_all, list_any, position_or_len, before_first, after_first}
 use Rattle.std.specs.Option.{option_map, option_and_then, ok_or}
 use Rattle.std.proofs.lemmas.Bool.{eqb-true, ltb-true, ltb-false, le-ltb}
 use Rattle.std.proofs.lemmas.List.Sums.{split_at_first}
 use Rattle.cell_core_text.specs.Words.{is_equals, parts_of, pair_of}
 use Rattle.cell_core_values.specs.Name.{is_name}
 use Rattle.rcell_script_options.specs.NullText.{is_null_text, is_table_null_text}
-use Rattle.rcell_script_options.specs.Options.{letters_in, are_flags, value_in, IsOption, values_of, IsOptional, SpellsText, SpellsNames, separator_in}
-use Rattle.rcell_script_options.specs.OptionReading.{Given, flags_of, option_keys, key_among, option_key_of, option_name, names_from, names_of, null_text_of, table_null_text_of, no_flags, no_options, with_letters, options_of}
+use Rattle.rcell_script_options.specs.Options.{letters_in, value_in, IsOption, values_of, IsOptional, SpellsText, SpellsNames, separator_in}
+use Rattle.rcell_script_options.specs.OptionReading.{Given, flags_of, option_keys, key_among, option_key_of, option_name, names_of, null_text_of, table_null_text_of, no_flags, no_options, with_letters, options_of}
 use Rattle.rcell_script_options.specs.declared.option_fault.OptionFault.{OptionFault}
 use Rattle.rcell_script_options.specs.declared.option_fault.OptionFault.TheVariants.{BadOption, BadName}
 use Rattle.rcell_script_options.specs.declared.options.Form.{Form}
 use Rattle.rcell_script_options.specs.declared.options.Form.TheVariants.{Reclass, Clump, Stats, OutAscii}
 use Rattle.rcell_script_options.specs.declared.options.Key.{Key}
 use Rattle.rcell_script_options.specs.declared.options.Key.TheVariants.{Input, Inputs, Output, Separator, NullText, TableNullText, After}
-use Rattle.rcell_script_options.proofs.OptionLemmas.{tag, value_for, setting_in, key_values, IsWord, Extends, Whole, More, listed, separated, kept, words-read, read-words}
+use Rattle.rcell_script_options.proofs.OptionLemmas.{tag, value_for, setting_in, key_values, IsWord, Extends, More, listed, separated, kept, words-read, read-words}
 
 both : (a b : Bool) → (a && b) ≡ true → (a ≡ true) × (b ≡ true)
 both true b e = (refl, e)
@@ -115,6 +115,10 @@ pair-value (k ∷ ks) key t v h = by (λ rest. pair-value ks key t v rest) (tag 
         rw (s, e) (rw s (sym (no_text-none ks key t v other)))
     by others false false s e = rw (s, e) (others texts.1)
 
+-- the texts of the keys of a command
+abbrev pub option_texts : Form → List (List ℕ)
+option_texts form = map (λ k. k.0) (option_keys form)
+
 -- ---- a word
 
 abbrev setting_of : Form → Option (List ℕ × List ℕ) → Option (Key × List ℕ)
@@ -136,8 +140,8 @@ dash-none text bs plain = by (nat_lt (position_or_len is_equals (45 ∷ bs)) (le
         → before_first is_equals (45 ∷ bs) ≡ text → ⊥
     inside l [] p e = cc
     inside l (c ∷ cs) p e =
-        let split : 45 ∷ bs ≡ (c ∷ cs) ++ (get_or (45 ∷ bs) (position_or_len is_equals (45 ∷ bs)) 0 ∷ after_first is_equals (45 ∷ bs)) =
-        split_at_first is_equals (45 ∷ bs) 0 l ∙ ap (λ x. x ++ (get_or (45 ∷ bs) (position_or_len is_equals (45 ∷ bs)) 0 ∷ after_first is_equals (45 ∷ bs))) e in
+        let rest = get_or (45 ∷ bs) (position_or_len is_equals (45 ∷ bs)) 0 ∷ after_first is_equals (45 ∷ bs) in
+        let split : 45 ∷ bs ≡ (c ∷ cs) ++ rest = split_at_first is_equals (45 ∷ bs) 0 l ∙ ap (λ x. x ++ rest) e in
         let same : 45 ≡ c = cc in
         let f : not (45 == 45) ≡ true = ap (λ x. not (x == 45)) same ∙ p in
         cc
@@ -232,19 +236,19 @@ nothing-any [] = refl
 nothing-any (key ∷ keys) = nothing-any keys
 
 word-any : (form : Form) (word : List ℕ)
-    → is_some (setting_in form word) ≡ list_any (λ key. is_some (value_in key word)) (map (λ k. k.0) (option_keys form))
+    → is_some (setting_in form word) ≡ list_any (λ key. is_some (value_in key word)) (option_texts form)
 word-any form [] = sym (none-any (option_keys form) [] (keys-apart form) (λ text plain. refl))
 word-any form (b ∷ bs) = by (b == 45) refl
   where
     pair : (p : Option (List ℕ × List ℕ)) → pair_of (b ∷ bs) ≡ p
-        → is_some (setting_of form p) ≡ list_any (λ key. is_some (value_in key (b ∷ bs))) (map (λ k. k.0) (option_keys form))
-    pair None q = sym (any-same (λ key. is_some (value_in key (b ∷ bs))) (λ key. false) (λ key. ap (λ p. is_some (first_value key p)) q) (map (λ k. k.0) (option_keys form)) ∙ nothing-any (map (λ k. k.0) (option_keys form)))
+        → is_some (setting_of form p) ≡ list_any (λ key. is_some (value_in key (b ∷ bs))) (option_texts form)
+    pair None q = sym (any-same (λ key. is_some (value_in key (b ∷ bs))) (λ key. false) (λ key. ap (λ p. is_some (first_value key p)) q) (option_texts form) ∙ nothing-any (option_texts form))
     pair (Some p) q =
         among-any (option_keys form) p.0 p.1
-        ∙ sym (any-same (λ key. is_some (value_in key (b ∷ bs))) (λ key. bytes_eq p.0 key) (λ key. ap (λ p. is_some (first_value key p)) q ∙ some-is (bytes_eq p.0 key) p.1) (map (λ k. k.0) (option_keys form)))
+        ∙ sym (any-same (λ key. is_some (value_in key (b ∷ bs))) (λ key. bytes_eq p.0 key) (λ key. ap (λ p. is_some (first_value key p)) q ∙ some-is (bytes_eq p.0 key) p.1) (option_texts form))
 
     by : (dash : Bool) → (b == 45) ≡ dash
-        → is_some (cond dash None (setting_of form (pair_of (b ∷ bs)))) ≡ list_any (λ key. is_some (value_in key (b ∷ bs))) (map (λ k. k.0) (option_keys form))
+        → is_some (cond dash None (setting_of form (pair_of (b ∷ bs)))) ≡ list_any (λ key. is_some (value_in key (b ∷ bs))) (option_texts form)
     by true d = sym (none-any (option_keys form) (b ∷ bs) (keys-apart form) (λ text plain. ap (λ x. value_in text (x ∷ bs)) (eqb-true b 45 d) ∙ dash-none text bs plain))
     by false d = pair (pair_of (b ∷ bs)) refl
 
@@ -267,8 +271,12 @@ abbrev pub slot_values : Option (List ℕ) → List (List ℕ) → List (List �
 slot_values None words = []
 slot_values (Some text) words = values_of text words
 
+-- the values that words give to a key of a command
+abbrev pub slots_of : Form → Key → List (List ℕ) → List (List ℕ)
+slots_of form key words = slot_values (text_of key (option_keys form)) words
+
 slots : (form : Form) (key : Key) (words : List (List ℕ))
-    → key_values form key words ≡ slot_values (text_of key (option_keys form)) words
+    → key_values form key words ≡ slots_of form key words
 slots form key words = by (text_of key (option_keys form)) refl
   where
     by : (o : Option (List ℕ)) → text_of key (option_keys form) ≡ o → key_values form key words ≡ slot_values o words
@@ -276,19 +284,19 @@ slots form key words = by (text_of key (option_keys form)) refl
     by (Some text) e = filter_map-same (λ word. value_for key (setting_in form word)) (value_in text) (word-value form key (Some text) e) words
 
 each-option : (form : Form) (words : List (List ℕ)) → All (IsWord form) words
-    → All (IsOption (flags_of form) (map (λ k. k.0) (option_keys form))) words
+    → All (IsOption (flags_of form) (option_texts form)) words
 each-option form words each i d within = by (each i d within)
   where
     by : IsWord form (get_or words i d)
-        → IsOption (flags_of form) (map (λ k. k.0) (option_keys form)) (get_or words i d)
+        → IsOption (flags_of form) (option_texts form) (get_or words i d)
     by (inl flags) = inl flags
     by (inr some) = inr (sym (word-any form (get_or words i d)) ∙ some)
 
 each-word : (form : Form) (words : List (List ℕ))
-    → All (IsOption (flags_of form) (map (λ k. k.0) (option_keys form))) words → All (IsWord form) words
+    → All (IsOption (flags_of form) (option_texts form)) words → All (IsWord form) words
 each-word form words each i d within = by (each i d within)
   where
-    by : IsOption (flags_of form) (map (λ k. k.0) (option_keys form)) (get_or words i d)
+    by : IsOption (flags_of form) (option_texts form) (get_or words i d)
         → IsWord form (get_or words i d)
     by (inl flags) = inl flags
     by (inr some) = inr (word-any form (get_or words i d) ∙ some)
@@ -352,14 +360,14 @@ separator-spelled value b e = by (separator_in value) e
 to-slots : {X : Type 0} (form : Form) (key : Key) (words : List (List ℕ)) (read : List ℕ → Result X OptionFault)
     (Spells : List ℕ → X → Type 0) → ((value : List ℕ) (x : X) → read value ≡ Ok x → Spells value x) → (new : Option X)
     → Extends read (key_values form key words) None new
-    → IsOptional Spells (slot_values (text_of key (option_keys form)) words) new
+    → IsOptional Spells (slots_of form key words) new
 to-slots form key words read Spells spells new e =
     subst (λ vs. IsOptional Spells vs new) (slots form key words) (to-optional read Spells spells _ _ e)
 
 -- what its values spell, as what is read for a key
 from-slots : {X : Type 0} (form : Form) (key : Key) (words : List (List ℕ)) (read : List ℕ → Result X OptionFault)
     (Spells : List ℕ → X → Type 0) → ((value : List ℕ) (x : X) → Spells value x → read value ≡ Ok x) → (new : Option X)
-    → IsOptional Spells (slot_values (text_of key (option_keys form)) words) new
+    → IsOptional Spells (slots_of form key words) new
     → Extends read (key_values form key words) None new
 from-slots form key words read Spells reads new e =
     from-optional read Spells reads _ _ (subst (λ vs. IsOptional Spells vs new) (sym (slots form key words)) e)
@@ -372,15 +380,15 @@ IsKept value text = value ≡ text
 
 -- the options that words spell together
 pub record AreOptions (form : Form) (words : List (List ℕ)) (given : Given) : Type 0 where
-  pub each : All (IsOption (flags_of form) (map (λ k. k.0) (option_keys form))) words
+  pub each : All (IsOption (flags_of form) (option_texts form)) words
   pub flags : with_letters no_flags (flat_map letters_in words) ≡ given.flags
-  pub input : IsOptional (SpellsText is_name) (slot_values (text_of Input (option_keys form)) words) given.input
-  pub inputs : IsOptional SpellsNames (slot_values (text_of Inputs (option_keys form)) words) given.inputs
-  pub output : IsOptional (SpellsText is_name) (slot_values (text_of Output (option_keys form)) words) given.output
-  pub separator : IsOptional (λ value b. separator_in value ≡ Some b) (slot_values (text_of Separator (option_keys form)) words) given.separator
-  pub null_text : IsOptional (SpellsText is_null_text) (slot_values (text_of NullText (option_keys form)) words) given.null_text
-  pub table_null_text : IsOptional (SpellsText is_table_null_text) (slot_values (text_of TableNullText (option_keys form)) words) given.table_null_text
-  pub after : IsOptional (λ value text. value ≡ text) (slot_values (text_of After (option_keys form)) words) given.after
+  pub input : IsOptional (SpellsText is_name) (slots_of form Input words) given.input
+  pub inputs : IsOptional SpellsNames (slots_of form Inputs words) given.inputs
+  pub output : IsOptional (SpellsText is_name) (slots_of form Output words) given.output
+  pub separator : IsOptional (λ value b. separator_in value ≡ Some b) (slots_of form Separator words) given.separator
+  pub null_text : IsOptional (SpellsText is_null_text) (slots_of form NullText words) given.null_text
+  pub table_null_text : IsOptional (SpellsText is_table_null_text) (slots_of form TableNullText words) given.table_null_text
+  pub after : IsOptional (λ value text. value ≡ text) (slots_of form After words) given.after
 
 -- the options that words give, read one after another, are those that they spell together
 pub options-sound : (form : Form) (words : List (List ℕ)) (given : Given) → options_of form words ≡ Ok given

@@ -8,7 +8,7 @@ use Rattle.std.proofs.lemmas.List.Elements.{All-nil, All-cons}
 use Rattle.std.proofs.lemmas.List.Folds.{list_any-append}
 use Rattle.cell_core_text.specs.Answers.{◌>>=◌}
 use Rattle.cell_core_text.specs.Words.{parts_of, pair_of}
-use Rattle.cell_core_values.specs.Letters.{byte, is_one_of}
+use Rattle.cell_core_values.specs.Letters.{is_one_of}
 use Rattle.rcell_script_options.specs.Options.{letters_in, are_flags, separator_in}
 use Rattle.rcell_script_options.specs.OptionReading.{Given, flags_of, option_key_of, option_name, names_of, null_text_of, table_null_text_of, no_options, with_letters, with_flags, given_once, with_value, with_option, with_pair, with_word, with_words, options_of}
 use Rattle.rcell_script_options.specs.declared.option_fault.OptionFault.{OptionFault}
