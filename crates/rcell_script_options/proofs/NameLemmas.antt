@@ -14,7 +14,8 @@ and_no : (b : Bool) → (b && false) ≡ false
 and_no true = refl
 and_no false = refl
 
-list_all-no : (xs : List (Bor (List ℕ))) (i : ℕ) (d : Bor (List ℕ)) → i < length xs → is_name (get_or xs i d).now ≡ false → list_all is_name (map (λ text. text.now) xs) ≡ false
+list_all-no : (xs : List (Bor (List ℕ))) (i : ℕ) (d : Bor (List ℕ)) → i < length xs
+    → is_name (get_or xs i d).now ≡ false → list_all is_name (map (λ text. text.now) xs) ≡ false
 list_all-no [] i d h bad = absurd (omega arith)
 list_all-no (x ∷ xs) zero d h bad = rw bad refl
 list_all-no (x ∷ xs) (suc i) d h bad = rw (list_all-no xs i d (omega arith) bad) (and_no _)
@@ -43,5 +44,6 @@ option_name-is text name e = by (is_name text) refl
     by false is = let f : ◌≡◌ {A = Result (List ℕ) OptionFault} (Err BadName) (Ok name) = rw is at e in cc
 
 -- a value has one part or more
-pub parts-some : (parts : List (Bor (List ℕ))) (value : List ℕ) (n : ℕ) → map (λ w. w.now) parts ≡ parts_of value → n ≡ length parts → 1 ≤ n
+pub parts-some : (parts : List (Bor (List ℕ))) (value : List ℕ) (n : ℕ) → map (λ w. w.now) parts ≡ parts_of value
+    → n ≡ length parts → 1 ≤ n
 parts-some parts value n e count = omega (arith, count, length-map parts (λ w. w.now), ap length e, length-slice_split (λ b. b == 44) value)

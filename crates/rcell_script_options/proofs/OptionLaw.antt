@@ -1,23 +1,23 @@
 -- The options that words spell together are those that are read of them one after another.
 use Rattle.std.proofs.Common.{◌≡◌, ℕ, ◌≤◌, ◌<◌, Bool, true, false, cond, List, [], ◌∷◌, ◌++◌, map, length, get_or, All, Option, Some, None, Result, Ok, Err, inl, inr, refl, ap, sym, ◌∙◌, subst}
-use Rattle.std.specs.Prelude.{◌⊎◌, ◌==◌, ◌&&◌, ◌||◌, not, nat_lt, is_some, bytes_eq}
+use Rattle.std.specs.Prelude.{◌==◌, ◌&&◌, not, nat_lt, is_some, bytes_eq}
 use Rattle.std.specs.Cmp.Lexicographic.{bytes_decides}
-use Rattle.std.specs.List.{flat_map, cons_option, filter_map, list_all, list_any, position_or_len, before_first, after_first}
+use Rattle.std.specs.List.{flat_map, filter_map, list_all, list_any, position_or_len, before_first, after_first}
 use Rattle.std.specs.Option.{option_map, option_and_then, ok_or}
 use Rattle.std.proofs.lemmas.Bool.{eqb-true, ltb-true, ltb-false, le-ltb}
 use Rattle.std.proofs.lemmas.List.Sums.{split_at_first}
 use Rattle.cell_core_text.specs.Words.{is_equals, parts_of, pair_of}
 use Rattle.cell_core_values.specs.Name.{is_name}
 use Rattle.rcell_script_options.specs.NullText.{is_null_text, is_table_null_text}
-use Rattle.rcell_script_options.specs.Options.{letters_in, are_flags, value_in, IsOption, values_of, IsOptional, SpellsText, SpellsNames, separator_in}
-use Rattle.rcell_script_options.specs.OptionReading.{Given, flags_of, option_keys, key_among, option_key_of, option_name, names_from, names_of, null_text_of, table_null_text_of, no_flags, no_options, with_letters, options_of}
+use Rattle.rcell_script_options.specs.Options.{letters_in, value_in, IsOption, values_of, IsOptional, SpellsText, SpellsNames, separator_in}
+use Rattle.rcell_script_options.specs.OptionReading.{Given, flags_of, option_keys, key_among, option_key_of, option_name, names_of, null_text_of, table_null_text_of, no_flags, no_options, with_letters, options_of}
 use Rattle.rcell_script_options.specs.declared.option_fault.OptionFault.{OptionFault}
 use Rattle.rcell_script_options.specs.declared.option_fault.OptionFault.TheVariants.{BadOption, BadName}
 use Rattle.rcell_script_options.specs.declared.options.Form.{Form}
 use Rattle.rcell_script_options.specs.declared.options.Form.TheVariants.{Reclass, Clump, Stats, OutAscii}
 use Rattle.rcell_script_options.specs.declared.options.Key.{Key}
 use Rattle.rcell_script_options.specs.declared.options.Key.TheVariants.{Input, Inputs, Output, Separator, NullText, TableNullText, After}
-use Rattle.rcell_script_options.proofs.OptionLemmas.{tag, value_for, setting_in, key_values, IsWord, Extends, Whole, More, listed, separated, kept, words-read, read-words}
+use Rattle.rcell_script_options.proofs.OptionLemmas.{tag, value_for, setting_in, key_values, IsWord, Extends, More, listed, separated, kept, words-read, read-words}
 
 both : (a b : Bool) → (a && b) ≡ true → (a ≡ true) × (b ≡ true)
 both true b e = (refl, e)
@@ -64,26 +64,33 @@ pair_value (Some text) t v = cond (bytes_eq t text) (Some v) None
 abbrev pair_setting : List (List ℕ × Key) → List ℕ → List ℕ → Option (Key × List ℕ)
 pair_setting ks t v = option_map (λ key. (key, v)) (key_among ks t)
 
-no_tag-none : (ks : List (List ℕ × Key)) (key : Key) (t v : List ℕ) → no_tag (tag key) ks ≡ true → value_for key (pair_setting ks t v) ≡ None
+no_tag-none : (ks : List (List ℕ × Key)) (key : Key) (t v : List ℕ) → no_tag (tag key) ks ≡ true
+    → value_for key (pair_setting ks t v) ≡ None
 no_tag-none [] key t v h = refl
 no_tag-none (k ∷ ks) key t v h = by (λ rest. no_tag-none ks key t v rest) (bytes_eq t k.0) (tag key == tag k.1) refl refl h
   where
-    by : (no_tag (tag key) ks ≡ true → value_for key (pair_setting ks t v) ≡ None) → (text same : Bool) → bytes_eq t k.0 ≡ text → (tag key == tag k.1) ≡ same → (not same && no_tag (tag key) ks) ≡ true → value_for key (pair_setting (k ∷ ks) t v) ≡ None
+    by : (no_tag (tag key) ks ≡ true → value_for key (pair_setting ks t v) ≡ None) → (text same : Bool)
+        → bytes_eq t k.0 ≡ text → (tag key == tag k.1) ≡ same → (not same && no_tag (tag key) ks) ≡ true
+        → value_for key (pair_setting (k ∷ ks) t v) ≡ None
     by others text true e s h = cc
     by others true false e s h = rw (e, s) refl
     by others false false e s h = rw e (others h)
 
-no_text-none : (ks : List (List ℕ × Key)) (key : Key) (t v : List ℕ) → no_text t ks ≡ true → pair_value (text_of key ks) t v ≡ None
+no_text-none : (ks : List (List ℕ × Key)) (key : Key) (t v : List ℕ) → no_text t ks ≡ true
+    → pair_value (text_of key ks) t v ≡ None
 no_text-none [] key t v h = refl
 no_text-none (k ∷ ks) key t v h = by (λ rest. no_text-none ks key t v rest) (tag key == tag k.1) (bytes_eq t k.0) refl refl h
   where
-    by : (no_text t ks ≡ true → pair_value (text_of key ks) t v ≡ None) → (same text : Bool) → (tag key == tag k.1) ≡ same → bytes_eq t k.0 ≡ text → (not text && no_text t ks) ≡ true → pair_value (text_of key (k ∷ ks)) t v ≡ None
+    by : (no_text t ks ≡ true → pair_value (text_of key ks) t v ≡ None) → (same text : Bool)
+        → (tag key == tag k.1) ≡ same → bytes_eq t k.0 ≡ text → (not text && no_text t ks) ≡ true
+        → pair_value (text_of key (k ∷ ks)) t v ≡ None
     by others same true s e h = cc
     by others true false s e h = rw (s, e) refl
     by others false false s e h = rw s (others h)
 
 -- the value for a key is that of the pair with its text
-pair-value : (ks : List (List ℕ × Key)) (key : Key) (t v : List ℕ) → are_apart ks ≡ true → value_for key (pair_setting ks t v) ≡ pair_value (text_of key ks) t v
+pair-value : (ks : List (List ℕ × Key)) (key : Key) (t v : List ℕ) → are_apart ks ≡ true
+    → value_for key (pair_setting ks t v) ≡ pair_value (text_of key ks) t v
 pair-value [] key t v h = refl
 pair-value (k ∷ ks) key t v h = by (λ rest. pair-value ks key t v rest) (tag key == tag k.1) (bytes_eq t k.0) refl refl
   where
@@ -96,7 +103,8 @@ pair-value (k ∷ ks) key t v h = by (λ rest. pair-value ks key t v rest) (tag 
     texts : (no_text k.0 ks ≡ true) × (are_apart ks ≡ true)
     texts = both (no_text k.0 ks) (are_apart ks) tags.1
 
-    by : (are_apart ks ≡ true → value_for key (pair_setting ks t v) ≡ pair_value (text_of key ks) t v) → (same text : Bool) → (tag key == tag k.1) ≡ same → bytes_eq t k.0 ≡ text
+    by : (are_apart ks ≡ true → value_for key (pair_setting ks t v) ≡ pair_value (text_of key ks) t v)
+        → (same text : Bool) → (tag key == tag k.1) ≡ same → bytes_eq t k.0 ≡ text
         → value_for key (pair_setting (k ∷ ks) t v) ≡ pair_value (text_of key (k ∷ ks)) t v
     by others true true s e = rw (s, e) (rw s refl)
     by others true false s e =
@@ -106,6 +114,10 @@ pair-value (k ∷ ks) key t v h = by (λ rest. pair-value ks key t v rest) (tag 
         let other : no_text t ks ≡ true = ap (λ x. no_text x ks) ((bytes_decides t k.0).0 e) ∙ texts.0 in
         rw (s, e) (rw s (sym (no_text-none ks key t v other)))
     by others false false s e = rw (s, e) (others texts.1)
+
+-- the texts of the keys of a command
+abbrev pub option_texts : Form → List (List ℕ)
+option_texts form = map (λ k. k.0) (option_keys form)
 
 -- ---- a word
 
@@ -124,16 +136,19 @@ first_value text pair = option_and_then (λ pair. cond (bytes_eq pair.0 text) (S
 dash-none : (text bs : List ℕ) → is_plain text ≡ true → value_in text (45 ∷ bs) ≡ None
 dash-none text bs plain = by (nat_lt (position_or_len is_equals (45 ∷ bs)) (length (45 ∷ bs))) refl
   where
-    inside : position_or_len is_equals (45 ∷ bs) < length (45 ∷ bs) → (text : List ℕ) → is_plain text ≡ true → before_first is_equals (45 ∷ bs) ≡ text → ⊥
+    inside : position_or_len is_equals (45 ∷ bs) < length (45 ∷ bs) → (text : List ℕ) → is_plain text ≡ true
+        → before_first is_equals (45 ∷ bs) ≡ text → ⊥
     inside l [] p e = cc
     inside l (c ∷ cs) p e =
-        let split : 45 ∷ bs ≡ (c ∷ cs) ++ (get_or (45 ∷ bs) (position_or_len is_equals (45 ∷ bs)) 0 ∷ after_first is_equals (45 ∷ bs)) =
-        split_at_first is_equals (45 ∷ bs) 0 l ∙ ap (λ x. x ++ (get_or (45 ∷ bs) (position_or_len is_equals (45 ∷ bs)) 0 ∷ after_first is_equals (45 ∷ bs))) e in
+        let rest = get_or (45 ∷ bs) (position_or_len is_equals (45 ∷ bs)) 0 ∷ after_first is_equals (45 ∷ bs) in
+        let split : 45 ∷ bs ≡ (c ∷ cs) ++ rest = split_at_first is_equals (45 ∷ bs) 0 l ∙ ap (λ x. x ++ rest) e in
         let same : 45 ≡ c = cc in
         let f : not (45 == 45) ≡ true = ap (λ x. not (x == 45)) same ∙ p in
         cc
 
-    eq : position_or_len is_equals (45 ∷ bs) < length (45 ∷ bs) → (is : Bool) → bytes_eq (before_first is_equals (45 ∷ bs)) text ≡ is → cond is (Some (after_first is_equals (45 ∷ bs))) None ≡ None
+    eq : position_or_len is_equals (45 ∷ bs) < length (45 ∷ bs) → (is : Bool)
+        → bytes_eq (before_first is_equals (45 ∷ bs)) text ≡ is
+        → cond is (Some (after_first is_equals (45 ∷ bs))) None ≡ None
     eq l true e = absurd (inside l text plain ((bytes_decides (before_first is_equals (45 ∷ bs)) text).0 e))
     eq l false e = refl
 
@@ -145,7 +160,8 @@ dash-none text bs plain = by (nat_lt (position_or_len is_equals (45 ∷ bs)) (le
         at
 
 -- the text of a key has no dash
-text-plain : (ks : List (List ℕ × Key)) (key : Key) (text : List ℕ) → are_apart ks ≡ true → text_of key ks ≡ Some text → is_plain text ≡ true
+text-plain : (ks : List (List ℕ × Key)) (key : Key) (text : List ℕ) → are_apart ks ≡ true
+    → text_of key ks ≡ Some text → is_plain text ≡ true
 text-plain [] key text h e = cc
 text-plain (k ∷ ks) key text h e = by (λ apart f. text-plain ks key text apart f) (tag key == tag k.1) refl e
   where
@@ -155,12 +171,14 @@ text-plain (k ∷ ks) key text h e = by (λ apart f. text-plain ks key text apar
     rest : are_apart ks ≡ true
     rest = (both (no_text k.0 ks) (are_apart ks) (both (no_tag (tag k.1) ks) (no_text k.0 ks && are_apart ks) plain.1).1).1
 
-    by : (are_apart ks ≡ true → text_of key ks ≡ Some text → is_plain text ≡ true) → (same : Bool) → (tag key == tag k.1) ≡ same → cond same (Some k.0) (text_of key ks) ≡ Some text → is_plain text ≡ true
+    by : (are_apart ks ≡ true → text_of key ks ≡ Some text → is_plain text ≡ true) → (same : Bool)
+        → (tag key == tag k.1) ≡ same → cond same (Some k.0) (text_of key ks) ≡ Some text → is_plain text ≡ true
     by others true s f = let is : k.0 ≡ text = cc in ap is_plain (sym is) ∙ plain.0
     by others false s f = others rest f
 
 -- what a word gives to a key
-word-value : (form : Form) (key : Key) (o : Option (List ℕ)) → text_of key (option_keys form) ≡ o → (word : List ℕ) → value_for key (setting_in form word) ≡ slot_value o word
+word-value : (form : Form) (key : Key) (o : Option (List ℕ)) → text_of key (option_keys form) ≡ o → (word : List ℕ)
+    → value_for key (setting_in form word) ≡ slot_value o word
 word-value form key None e [] = refl
 word-value form key (Some text) e [] = refl
 word-value form key o e (b ∷ bs) = by (b == 45) refl
@@ -169,14 +187,16 @@ word-value form key o e (b ∷ bs) = by (b == 45) refl
     none None e d = refl
     none (Some text) e d = sym (ap (λ x. value_in text (x ∷ bs)) d ∙ dash-none text bs (text-plain (option_keys form) key text (keys-apart form) e))
 
-    pair : (o : Option (List ℕ)) → text_of key (option_keys form) ≡ o → (p : Option (List ℕ × List ℕ)) → pair_of (b ∷ bs) ≡ p
+    pair : (o : Option (List ℕ)) → text_of key (option_keys form) ≡ o → (p : Option (List ℕ × List ℕ))
+        → pair_of (b ∷ bs) ≡ p
         → value_for key (setting_of form p) ≡ slot_value o (b ∷ bs)
     pair None e None q = refl
     pair (Some text) e None q = sym (ap (first_value text) q)
     pair None e (Some p) q = pair-value (option_keys form) key p.0 p.1 (keys-apart form) ∙ ap (λ o. pair_value o p.0 p.1) e
     pair (Some text) e (Some p) q = pair-value (option_keys form) key p.0 p.1 (keys-apart form) ∙ ap (λ o. pair_value o p.0 p.1) e ∙ sym (ap (first_value text) q)
 
-    by : (dash : Bool) → (b == 45) ≡ dash → value_for key (cond dash None (setting_of form (pair_of (b ∷ bs)))) ≡ slot_value o (b ∷ bs)
+    by : (dash : Bool) → (b == 45) ≡ dash
+        → value_for key (cond dash None (setting_of form (pair_of (b ∷ bs)))) ≡ slot_value o (b ∷ bs)
     by true d = none o e (eqb-true b 45 d)
     by false d = pair o e (pair_of (b ∷ bs)) refl
 
@@ -190,16 +210,21 @@ some-is : (is : Bool) (v : List ℕ) → is_some (cond is (Some v) None) ≡ is
 some-is true v = refl
 some-is false v = refl
 
-among-any : (ks : List (List ℕ × Key)) (t v : List ℕ) → is_some (pair_setting ks t v) ≡ list_any (λ key. bytes_eq t key) (map (λ k. k.0) ks)
+among-any : (ks : List (List ℕ × Key)) (t v : List ℕ)
+    → is_some (pair_setting ks t v) ≡ list_any (λ key. bytes_eq t key) (map (λ k. k.0) ks)
 among-any [] t v = refl
 among-any (k ∷ ks) t v = by (among-any ks t v) (bytes_eq t k.0) refl
   where
-    by : is_some (pair_setting ks t v) ≡ list_any (λ key. bytes_eq t key) (map (λ k. k.0) ks) → (text : Bool) → bytes_eq t k.0 ≡ text → is_some (pair_setting (k ∷ ks) t v) ≡ list_any (λ key. bytes_eq t key) (map (λ k. k.0) (k ∷ ks))
+    by : is_some (pair_setting ks t v) ≡ list_any (λ key. bytes_eq t key) (map (λ k. k.0) ks) → (text : Bool)
+        → bytes_eq t k.0 ≡ text
+        → is_some (pair_setting (k ∷ ks) t v) ≡ list_any (λ key. bytes_eq t key) (map (λ k. k.0) (k ∷ ks))
     by others true e = rw e refl
     by others false e = rw e others
 
 -- no key has a value
-none-any : (ks : List (List ℕ × Key)) (word : List ℕ) → are_apart ks ≡ true → ((text : List ℕ) → is_plain text ≡ true → value_in text word ≡ None) → list_any (λ key. is_some (value_in key word)) (map (λ k. k.0) ks) ≡ false
+none-any : (ks : List (List ℕ × Key)) (word : List ℕ) → are_apart ks ≡ true
+    → ((text : List ℕ) → is_plain text ≡ true → value_in text word ≡ None)
+    → list_any (λ key. is_some (value_in key word)) (map (λ k. k.0) ks) ≡ false
 none-any [] word h none = refl
 none-any (k ∷ ks) word h none =
     let plain = both (is_plain k.0) (no_tag (tag k.1) ks && (no_text k.0 ks && are_apart ks)) h in
@@ -210,24 +235,27 @@ nothing-any : (keys : List (List ℕ)) → list_any (λ (key : List ℕ). false)
 nothing-any [] = refl
 nothing-any (key ∷ keys) = nothing-any keys
 
-word-any : (form : Form) (word : List ℕ) → is_some (setting_in form word) ≡ list_any (λ key. is_some (value_in key word)) (map (λ k. k.0) (option_keys form))
+word-any : (form : Form) (word : List ℕ)
+    → is_some (setting_in form word) ≡ list_any (λ key. is_some (value_in key word)) (option_texts form)
 word-any form [] = sym (none-any (option_keys form) [] (keys-apart form) (λ text plain. refl))
 word-any form (b ∷ bs) = by (b == 45) refl
   where
-    pair : (p : Option (List ℕ × List ℕ)) → pair_of (b ∷ bs) ≡ p → is_some (setting_of form p) ≡ list_any (λ key. is_some (value_in key (b ∷ bs))) (map (λ k. k.0) (option_keys form))
-    pair None q = sym (any-same (λ key. is_some (value_in key (b ∷ bs))) (λ key. false) (λ key. ap (λ p. is_some (first_value key p)) q) (map (λ k. k.0) (option_keys form)) ∙ nothing-any (map (λ k. k.0) (option_keys form)))
+    pair : (p : Option (List ℕ × List ℕ)) → pair_of (b ∷ bs) ≡ p
+        → is_some (setting_of form p) ≡ list_any (λ key. is_some (value_in key (b ∷ bs))) (option_texts form)
+    pair None q = sym (any-same (λ key. is_some (value_in key (b ∷ bs))) (λ key. false) (λ key. ap (λ p. is_some (first_value key p)) q) (option_texts form) ∙ nothing-any (option_texts form))
     pair (Some p) q =
         among-any (option_keys form) p.0 p.1
-        ∙ sym (any-same (λ key. is_some (value_in key (b ∷ bs))) (λ key. bytes_eq p.0 key) (λ key. ap (λ p. is_some (first_value key p)) q ∙ some-is (bytes_eq p.0 key) p.1) (map (λ k. k.0) (option_keys form)))
+        ∙ sym (any-same (λ key. is_some (value_in key (b ∷ bs))) (λ key. bytes_eq p.0 key) (λ key. ap (λ p. is_some (first_value key p)) q ∙ some-is (bytes_eq p.0 key) p.1) (option_texts form))
 
     by : (dash : Bool) → (b == 45) ≡ dash
-        → is_some (cond dash None (setting_of form (pair_of (b ∷ bs)))) ≡ list_any (λ key. is_some (value_in key (b ∷ bs))) (map (λ k. k.0) (option_keys form))
+        → is_some (cond dash None (setting_of form (pair_of (b ∷ bs)))) ≡ list_any (λ key. is_some (value_in key (b ∷ bs))) (option_texts form)
     by true d = sym (none-any (option_keys form) (b ∷ bs) (keys-apart form) (λ text plain. ap (λ x. value_in text (x ∷ bs)) (eqb-true b 45 d) ∙ dash-none text bs plain))
     by false d = pair (pair_of (b ∷ bs)) refl
 
 -- ---- all words
 
-filter_map-same : (f g : List ℕ → Option (List ℕ)) → ((x : List ℕ) → f x ≡ g x) → (xs : List (List ℕ)) → filter_map f xs ≡ filter_map g xs
+filter_map-same : (f g : List ℕ → Option (List ℕ)) → ((x : List ℕ) → f x ≡ g x) → (xs : List (List ℕ))
+    → filter_map f xs ≡ filter_map g xs
 filter_map-same f g same [] = refl
 filter_map-same f g same (x ∷ xs) = rw (same x, filter_map-same f g same xs) refl
 
@@ -243,30 +271,40 @@ abbrev pub slot_values : Option (List ℕ) → List (List ℕ) → List (List �
 slot_values None words = []
 slot_values (Some text) words = values_of text words
 
-slots : (form : Form) (key : Key) (words : List (List ℕ)) → key_values form key words ≡ slot_values (text_of key (option_keys form)) words
+-- the values that words give to a key of a command
+abbrev pub slots_of : Form → Key → List (List ℕ) → List (List ℕ)
+slots_of form key words = slot_values (text_of key (option_keys form)) words
+
+slots : (form : Form) (key : Key) (words : List (List ℕ))
+    → key_values form key words ≡ slots_of form key words
 slots form key words = by (text_of key (option_keys form)) refl
   where
     by : (o : Option (List ℕ)) → text_of key (option_keys form) ≡ o → key_values form key words ≡ slot_values o words
     by None e = filter_map-same (λ word. value_for key (setting_in form word)) nothing (word-value form key None e) words ∙ filter_map-none words
     by (Some text) e = filter_map-same (λ word. value_for key (setting_in form word)) (value_in text) (word-value form key (Some text) e) words
 
-each-option : (form : Form) (words : List (List ℕ)) → All (IsWord form) words → All (IsOption (flags_of form) (map (λ k. k.0) (option_keys form))) words
+each-option : (form : Form) (words : List (List ℕ)) → All (IsWord form) words
+    → All (IsOption (flags_of form) (option_texts form)) words
 each-option form words each i d within = by (each i d within)
   where
-    by : IsWord form (get_or words i d) → IsOption (flags_of form) (map (λ k. k.0) (option_keys form)) (get_or words i d)
+    by : IsWord form (get_or words i d)
+        → IsOption (flags_of form) (option_texts form) (get_or words i d)
     by (inl flags) = inl flags
     by (inr some) = inr (sym (word-any form (get_or words i d)) ∙ some)
 
-each-word : (form : Form) (words : List (List ℕ)) → All (IsOption (flags_of form) (map (λ k. k.0) (option_keys form))) words → All (IsWord form) words
+each-word : (form : Form) (words : List (List ℕ))
+    → All (IsOption (flags_of form) (option_texts form)) words → All (IsWord form) words
 each-word form words each i d within = by (each i d within)
   where
-    by : IsOption (flags_of form) (map (λ k. k.0) (option_keys form)) (get_or words i d) → IsWord form (get_or words i d)
+    by : IsOption (flags_of form) (option_texts form) (get_or words i d)
+        → IsWord form (get_or words i d)
     by (inl flags) = inl flags
     by (inr some) = inr (word-any form (get_or words i d) ∙ some)
 
 -- ---- values
 
-to-optional : {X : Type 0} (read : List ℕ → Result X OptionFault) (Spells : List ℕ → X → Type 0) → ((value : List ℕ) (x : X) → read value ≡ Ok x → Spells value x)
+to-optional : {X : Type 0} (read : List ℕ → Result X OptionFault) (Spells : List ℕ → X → Type 0)
+    → ((value : List ℕ) (x : X) → read value ≡ Ok x → Spells value x)
     → (values : List (List ℕ)) (new : Option X) → Extends read values None new → IsOptional Spells values new
 to-optional read Spells spells [] None e = refl
 to-optional read Spells spells [] (Some x) e = cc
@@ -274,22 +312,29 @@ to-optional read Spells spells (value ∷ []) None e = absurd e
 to-optional read Spells spells (value ∷ []) (Some x) e = (value, refl, spells value x e)
 to-optional read Spells spells (value ∷ other ∷ values) new e = absurd e
 
-from-optional : {X : Type 0} (read : List ℕ → Result X OptionFault) (Spells : List ℕ → X → Type 0) → ((value : List ℕ) (x : X) → Spells value x → read value ≡ Ok x)
+from-optional : {X : Type 0} (read : List ℕ → Result X OptionFault) (Spells : List ℕ → X → Type 0)
+    → ((value : List ℕ) (x : X) → Spells value x → read value ≡ Ok x)
     → (values : List (List ℕ)) (new : Option X) → IsOptional Spells values new → Extends read values None new
 from-optional read Spells reads values None e = subst (λ vs. Extends read vs None None) (sym e) refl
 from-optional read Spells reads values (Some x) (value, is, spells) = subst (λ vs. Extends read vs None (Some x)) (sym is) (reads value x spells)
 
-text-spelled : (test : List ℕ → Bool) (fault : OptionFault) (value text : List ℕ) → ◌≡◌ {A = Result (List ℕ) OptionFault} (cond (test value) (Ok value) (Err fault)) (Ok text) → SpellsText test value text
+text-spelled : (test : List ℕ → Bool) (fault : OptionFault) (value text : List ℕ)
+    → ◌≡◌ {A = Result (List ℕ) OptionFault} (cond (test value) (Ok value) (Err fault)) (Ok text)
+    → SpellsText test value text
 text-spelled test fault value text e = by (test value) refl e
   where
-    by : (good : Bool) → test value ≡ good → ◌≡◌ {A = Result (List ℕ) OptionFault} (cond good (Ok value) (Err fault)) (Ok text) → SpellsText test value text
+    by : (good : Bool) → test value ≡ good
+        → ◌≡◌ {A = Result (List ℕ) OptionFault} (cond good (Ok value) (Err fault)) (Ok text)
+        → SpellsText test value text
     by true g f = let same : value ≡ text = cc in (same, g)
     by false g f = cc
 
-spelled-text : (test : List ℕ → Bool) (fault : OptionFault) (value text : List ℕ) → SpellsText test value text → ◌≡◌ {A = Result (List ℕ) OptionFault} (cond (test value) (Ok value) (Err fault)) (Ok text)
+spelled-text : (test : List ℕ → Bool) (fault : OptionFault) (value text : List ℕ) → SpellsText test value text
+    → ◌≡◌ {A = Result (List ℕ) OptionFault} (cond (test value) (Ok value) (Err fault)) (Ok text)
 spelled-text test fault value text (same, good) = rw good (ap Ok same)
 
-names-spelled : (value : List ℕ) (names : List (List ℕ)) → names_of (parts_of value) ≡ Ok names → SpellsNames value names
+names-spelled : (value : List ℕ) (names : List (List ℕ)) → names_of (parts_of value) ≡ Ok names
+    → SpellsNames value names
 names-spelled value names e = by (nat_lt 16 (length (parts_of value))) (list_all is_name (parts_of value)) refl refl e
   where
     by : (many good : Bool) → nat_lt 16 (length (parts_of value)) ≡ many → list_all is_name (parts_of value) ≡ good
@@ -300,7 +345,8 @@ names-spelled value names e = by (nat_lt 16 (length (parts_of value))) (list_all
         let same : parts_of value ≡ names = cc in
         (same, ap (list_all is_name) (sym same) ∙ g, subst (λ ns. length ns ≤ 16) same (ltb-false 16 (length (parts_of value)) m))
 
-spelled-names : (value : List ℕ) (names : List (List ℕ)) → SpellsNames value names → names_of (parts_of value) ≡ Ok names
+spelled-names : (value : List ℕ) (names : List (List ℕ)) → SpellsNames value names
+    → names_of (parts_of value) ≡ Ok names
 spelled-names value names (same, good, few) = rw (same, le-ltb 16 (length names) few, good) refl
 
 separator-spelled : (value : List ℕ) (b : ℕ) → separated value ≡ Ok b → separator_in value ≡ Some b
@@ -310,44 +356,79 @@ separator-spelled value b e = by (separator_in value) e
     by None f = cc
     by (Some c) f = let same : c ≡ b = cc in ap Some same
 
+-- what is read for a key, as what its values spell
+to-slots : {X : Type 0} (form : Form) (key : Key) (words : List (List ℕ)) (read : List ℕ → Result X OptionFault)
+    (Spells : List ℕ → X → Type 0) → ((value : List ℕ) (x : X) → read value ≡ Ok x → Spells value x) → (new : Option X)
+    → Extends read (key_values form key words) None new
+    → IsOptional Spells (slots_of form key words) new
+to-slots form key words read Spells spells new e =
+    subst (λ vs. IsOptional Spells vs new) (slots form key words) (to-optional read Spells spells _ _ e)
+
+-- what its values spell, as what is read for a key
+from-slots : {X : Type 0} (form : Form) (key : Key) (words : List (List ℕ)) (read : List ℕ → Result X OptionFault)
+    (Spells : List ℕ → X → Type 0) → ((value : List ℕ) (x : X) → Spells value x → read value ≡ Ok x) → (new : Option X)
+    → IsOptional Spells (slots_of form key words) new
+    → Extends read (key_values form key words) None new
+from-slots form key words read Spells reads new e =
+    from-optional read Spells reads _ _ (subst (λ vs. IsOptional Spells vs new) (sym (slots form key words)) e)
+
+abbrev IsSeparator : List ℕ → ℕ → Type 0
+IsSeparator value b = separator_in value ≡ Some b
+
+abbrev IsKept : List ℕ → List ℕ → Type 0
+IsKept value text = value ≡ text
+
 -- the options that words spell together
 pub record AreOptions (form : Form) (words : List (List ℕ)) (given : Given) : Type 0 where
-  pub each : All (IsOption (flags_of form) (map (λ k. k.0) (option_keys form))) words
+  pub each : All (IsOption (flags_of form) (option_texts form)) words
   pub flags : with_letters no_flags (flat_map letters_in words) ≡ given.flags
-  pub input : IsOptional (SpellsText is_name) (slot_values (text_of Input (option_keys form)) words) given.input
-  pub inputs : IsOptional SpellsNames (slot_values (text_of Inputs (option_keys form)) words) given.inputs
-  pub output : IsOptional (SpellsText is_name) (slot_values (text_of Output (option_keys form)) words) given.output
-  pub separator : IsOptional (λ value b. separator_in value ≡ Some b) (slot_values (text_of Separator (option_keys form)) words) given.separator
-  pub null_text : IsOptional (SpellsText is_null_text) (slot_values (text_of NullText (option_keys form)) words) given.null_text
-  pub table_null_text : IsOptional (SpellsText is_table_null_text) (slot_values (text_of TableNullText (option_keys form)) words) given.table_null_text
-  pub after : IsOptional (λ value text. value ≡ text) (slot_values (text_of After (option_keys form)) words) given.after
+  pub input : IsOptional (SpellsText is_name) (slots_of form Input words) given.input
+  pub inputs : IsOptional SpellsNames (slots_of form Inputs words) given.inputs
+  pub output : IsOptional (SpellsText is_name) (slots_of form Output words) given.output
+  pub separator : IsOptional (λ value b. separator_in value ≡ Some b) (slots_of form Separator words) given.separator
+  pub null_text : IsOptional (SpellsText is_null_text) (slots_of form NullText words) given.null_text
+  pub table_null_text : IsOptional (SpellsText is_table_null_text) (slots_of form TableNullText words) given.table_null_text
+  pub after : IsOptional (λ value text. value ≡ text) (slots_of form After words) given.after
 
 -- the options that words give, read one after another, are those that they spell together
-pub options-sound : (form : Form) (words : List (List ℕ)) (given : Given) → options_of form words ≡ Ok given → AreOptions form words given
+pub options-sound : (form : Form) (words : List (List ℕ)) (given : Given) → options_of form words ≡ Ok given
+    → AreOptions form words given
 options-sound form words given e =
     let s = words-read form words given e in
+    let name = text-spelled is_name BadName in
+    let null = text-spelled is_null_text BadOption in
+    let table_null = text-spelled is_table_null_text BadOption in
     record {
       each = each-option form words s.0;
       flags = s.1.flags;
-      input = subst (λ vs. IsOptional (SpellsText is_name) vs given.input) (slots form Input words) (to-optional option_name (SpellsText is_name) (text-spelled is_name BadName) _ _ s.1.input);
-      inputs = subst (λ vs. IsOptional SpellsNames vs given.inputs) (slots form Inputs words) (to-optional listed SpellsNames names-spelled _ _ s.1.inputs);
-      output = subst (λ vs. IsOptional (SpellsText is_name) vs given.output) (slots form Output words) (to-optional option_name (SpellsText is_name) (text-spelled is_name BadName) _ _ s.1.output);
-      separator = subst (λ vs. IsOptional (λ value b. separator_in value ≡ Some b) vs given.separator) (slots form Separator words) (to-optional separated (λ value b. separator_in value ≡ Some b) separator-spelled _ _ s.1.separator);
-      null_text = subst (λ vs. IsOptional (SpellsText is_null_text) vs given.null_text) (slots form NullText words) (to-optional null_text_of (SpellsText is_null_text) (text-spelled is_null_text BadOption) _ _ s.1.null_text);
-      table_null_text = subst (λ vs. IsOptional (SpellsText is_table_null_text) vs given.table_null_text) (slots form TableNullText words) (to-optional table_null_text_of (SpellsText is_table_null_text) (text-spelled is_table_null_text BadOption) _ _ s.1.table_null_text);
-      after = subst (λ vs. IsOptional (λ value text. value ≡ text) vs given.after) (slots form After words) (to-optional kept (λ value text. value ≡ text) (λ value text f. cc) _ _ s.1.after);
+      input = to-slots form Input words option_name (SpellsText is_name) name _ s.1.input;
+      inputs = to-slots form Inputs words listed SpellsNames names-spelled _ s.1.inputs;
+      output = to-slots form Output words option_name (SpellsText is_name) name _ s.1.output;
+      separator = to-slots form Separator words separated IsSeparator separator-spelled _ s.1.separator;
+      null_text = to-slots form NullText words null_text_of (SpellsText is_null_text) null _ s.1.null_text;
+      table_null_text =
+          to-slots form TableNullText words table_null_text_of (SpellsText is_table_null_text) table_null _
+          s.1.table_null_text;
+      after = to-slots form After words kept IsKept (λ value text f. cc) _ s.1.after;
     }
 
-pub options-complete : (form : Form) (words : List (List ℕ)) (given : Given) → AreOptions form words given → options_of form words ≡ Ok given
+pub options-complete : (form : Form) (words : List (List ℕ)) (given : Given) → AreOptions form words given
+    → options_of form words ≡ Ok given
 options-complete form words given are =
+    let name = spelled-text is_name BadName in
+    let null = spelled-text is_null_text BadOption in
+    let table_null = spelled-text is_table_null_text BadOption in
     let more : More form words no_options given = record {
       flags = are.flags;
-      input = from-optional option_name (SpellsText is_name) (spelled-text is_name BadName) _ _ (subst (λ vs. IsOptional (SpellsText is_name) vs given.input) (sym (slots form Input words)) are.input);
-      inputs = from-optional listed SpellsNames spelled-names _ _ (subst (λ vs. IsOptional SpellsNames vs given.inputs) (sym (slots form Inputs words)) are.inputs);
-      output = from-optional option_name (SpellsText is_name) (spelled-text is_name BadName) _ _ (subst (λ vs. IsOptional (SpellsText is_name) vs given.output) (sym (slots form Output words)) are.output);
-      separator = from-optional separated (λ value b. separator_in value ≡ Some b) (λ value b e. ap (λ o. ok_or o BadOption) e) _ _ (subst (λ vs. IsOptional (λ value b. separator_in value ≡ Some b) vs given.separator) (sym (slots form Separator words)) are.separator);
-      null_text = from-optional null_text_of (SpellsText is_null_text) (spelled-text is_null_text BadOption) _ _ (subst (λ vs. IsOptional (SpellsText is_null_text) vs given.null_text) (sym (slots form NullText words)) are.null_text);
-      table_null_text = from-optional table_null_text_of (SpellsText is_table_null_text) (spelled-text is_table_null_text BadOption) _ _ (subst (λ vs. IsOptional (SpellsText is_table_null_text) vs given.table_null_text) (sym (slots form TableNullText words)) are.table_null_text);
-      after = from-optional kept (λ value text. value ≡ text) (λ value text e. ap Ok e) _ _ (subst (λ vs. IsOptional (λ value text. value ≡ text) vs given.after) (sym (slots form After words)) are.after);
+      input = from-slots form Input words option_name (SpellsText is_name) name _ are.input;
+      inputs = from-slots form Inputs words listed SpellsNames spelled-names _ are.inputs;
+      output = from-slots form Output words option_name (SpellsText is_name) name _ are.output;
+      separator = from-slots form Separator words separated IsSeparator (λ value b e. ap (λ o. ok_or o BadOption) e) _
+          are.separator;
+      null_text = from-slots form NullText words null_text_of (SpellsText is_null_text) null _ are.null_text;
+      table_null_text =
+          from-slots form TableNullText words table_null_text_of (SpellsText is_table_null_text) table_null _
+          are.table_null_text;
+      after = from-slots form After words kept IsKept (λ value text e. ap Ok e) _ are.after;
     } in
     read-words form words given (each-word form words are.each) more

@@ -8,7 +8,7 @@ use Rattle.std.proofs.lemmas.List.Elements.{All-nil, All-cons}
 use Rattle.std.proofs.lemmas.List.Folds.{list_any-append}
 use Rattle.cell_core_text.specs.Answers.{◌>>=◌}
 use Rattle.cell_core_text.specs.Words.{parts_of, pair_of}
-use Rattle.cell_core_values.specs.Letters.{byte, is_one_of}
+use Rattle.cell_core_values.specs.Letters.{is_one_of}
 use Rattle.rcell_script_options.specs.Options.{letters_in, are_flags, separator_in}
 use Rattle.rcell_script_options.specs.OptionReading.{Given, flags_of, option_key_of, option_name, names_of, null_text_of, table_null_text_of, no_options, with_letters, with_flags, given_once, with_value, with_option, with_pair, with_word, with_words, options_of}
 use Rattle.rcell_script_options.specs.declared.option_fault.OptionFault.{OptionFault}
@@ -51,7 +51,8 @@ IsWord form word = (are_flags (flags_of form) (letters_in word) ≡ true) ⊎ (i
 -- ---- flags
 
 of_flags-same : (labels labels' counts counts' cells cells' no_null no_null' no_all_null no_all_null' corners corners' : Bool)
-    → labels ≡ labels' → counts ≡ counts' → cells ≡ cells' → no_null ≡ no_null' → no_all_null ≡ no_all_null' → corners ≡ corners'
+    → labels ≡ labels' → counts ≡ counts' → cells ≡ cells' → no_null ≡ no_null' → no_all_null ≡ no_all_null'
+    → corners ≡ corners'
     → ◌≡◌ {A = Flags} (record { labels = labels; counts = counts; cells = cells; no_null = no_null; no_all_null = no_all_null; corners = corners })
     (record { labels = labels'; counts = counts'; cells = cells'; no_null = no_null'; no_all_null = no_all_null'; corners = corners' })
 of_flags-same labels labels' counts counts' cells cells' no_null no_null' no_all_null no_all_null' corners corners' a b c d e f = rw (a, b, c, d, e, f) refl
@@ -61,11 +62,13 @@ with_letters-none : (flags : Flags) → with_letters flags [] ≡ flags
 with_letters-none flags =
     of_flags-same _ _ _ _ _ _ _ _ _ _ _ _ (or-false flags.labels) (or-false flags.counts) (or-false flags.cells) (or-false flags.no_null) (or-false flags.no_all_null) (or-false flags.corners)
 
-one_flag : (given : Bool) (a b : List ℕ) (flag : ℕ) → (given || is_one_of (a ++ b) flag) ≡ ((given || is_one_of a flag) || is_one_of b flag)
+one_flag : (given : Bool) (a b : List ℕ) (flag : ℕ)
+    → (given || is_one_of (a ++ b) flag) ≡ ((given || is_one_of a flag) || is_one_of b flag)
 one_flag given a b flag = ap (λ t. given || t) (list_any-append (λ letter. letter == flag) a b) ∙ sym (or_assoc given (is_one_of a flag) (is_one_of b flag))
 
 -- letters, and others after them
-with_letters-append : (flags : Flags) (a b : List ℕ) → with_letters flags (a ++ b) ≡ with_letters (with_letters flags a) b
+with_letters-append : (flags : Flags) (a b : List ℕ)
+    → with_letters flags (a ++ b) ≡ with_letters (with_letters flags a) b
 with_letters-append flags a b =
     of_flags-same _ _ _ _ _ _ _ _ _ _ _ _ (one_flag flags.labels a b _) (one_flag flags.counts a b _) (one_flag flags.cells a b _) (one_flag flags.no_null a b _) (one_flag flags.no_all_null a b _) (one_flag flags.corners a b _)
 
@@ -155,7 +158,8 @@ record Adds (letters : List ℕ) (setting : Option (Key × List ℕ)) (old mid :
   table_null_text : Steps table_null_text_of (value_for TableNullText setting) old.table_null_text mid.table_null_text
   after : Steps kept (value_for After setting) old.after mid.after
 
-value-sound : (given mid : Given) (key : Key) (value : List ℕ) → with_value given key value ≡ Ok mid → Adds [] (Some (key, value)) given mid
+value-sound : (given mid : Given) (key : Key) (value : List ℕ) → with_value given key value ≡ Ok mid
+    → Adds [] (Some (key, value)) given mid
 value-sound given mid Input value e =
     let t = taken option_name value given.input (λ x. record given { input = Some x }) mid e in
     subst (λ m. Adds [] (Some (Input, value)) given m) t.mid_is (record {
@@ -241,10 +245,13 @@ value-sound given mid After value e =
       after = subst (λ o. Steps kept (Some value) o (Some t.given)) (sym t.none) t.is;
     })
 
-flags-sound : (form : Form) (given mid : Given) (letters : List ℕ) → with_flags form given letters ≡ Ok mid → (are_flags (flags_of form) letters ≡ true) × Adds letters None given mid
+flags-sound : (form : Form) (given mid : Given) (letters : List ℕ) → with_flags form given letters ≡ Ok mid
+    → (are_flags (flags_of form) letters ≡ true) × Adds letters None given mid
 flags-sound form given mid letters e = by (are_flags (flags_of form) letters) refl e
   where
-    by : (good : Bool) → are_flags (flags_of form) letters ≡ good → cond good (Ok (record given { flags = with_letters given.flags letters })) (Err BadOption) ≡ Ok mid → (are_flags (flags_of form) letters ≡ true) × Adds letters None given mid
+    by : (good : Bool) → are_flags (flags_of form) letters ≡ good
+        → cond good (Ok (record given { flags = with_letters given.flags letters })) (Err BadOption) ≡ Ok mid
+        → (are_flags (flags_of form) letters ≡ true) × Adds letters None given mid
     by false g f = cc
     by true g f =
         let same : record given { flags = with_letters given.flags letters } ≡ mid = cc in
@@ -259,7 +266,8 @@ word-pair : (form : Form) (given mid : Given) (pair : Option (List ℕ × List �
 word-pair form given mid None e = cc
 word-pair form given mid (Some p) e = by (option_key_of form p.0) refl e
   where
-    by : (key : Option Key) → option_key_of form p.0 ≡ key → with_option given key p.1 ≡ Ok mid → (setting : Key × List ℕ) × (setting_of form (Some p) ≡ Some setting) × Adds [] (Some setting) given mid
+    by : (key : Option Key) → option_key_of form p.0 ≡ key → with_option given key p.1 ≡ Ok mid
+        → (setting : Key × List ℕ) × (setting_of form (Some p) ≡ Some setting) × Adds [] (Some setting) given mid
     by None k f = cc
     by (Some key) k f = ((key, p.1), ap (option_map (λ key. (key, p.1))) k, value-sound given mid key p.1 f)
 
@@ -267,11 +275,14 @@ word-pair form given mid (Some p) e = by (option_key_of form p.0) refl e
 abbrev IsReadBy : Form → List ℕ → Given → Given → Bool → Option (Key × List ℕ) → Type 0
 IsReadBy form bs given mid dash setting = ((are_flags (flags_of form) (cond dash bs []) ≡ true) ⊎ (is_some (cond dash None setting) ≡ true)) × Adds (cond dash bs []) (cond dash None setting) given mid
 
-word-sound : (form : Form) (given mid : Given) (word : List ℕ) → with_word form given word ≡ Ok mid → IsRead form word given mid
+word-sound : (form : Form) (given mid : Given) (word : List ℕ) → with_word form given word ≡ Ok mid
+    → IsRead form word given mid
 word-sound form given mid [] e = cc
 word-sound form given mid (b ∷ bs) e = by (b == 45) refl e
   where
-    by : (dash : Bool) → (b == 45) ≡ dash → cond dash (with_flags form given bs) (with_pair form given (pair_of (b ∷ bs))) ≡ Ok mid → IsReadBy form bs given mid (b == 45) (setting_of form (pair_of (b ∷ bs)))
+    by : (dash : Bool) → (b == 45) ≡ dash
+        → cond dash (with_flags form given bs) (with_pair form given (pair_of (b ∷ bs))) ≡ Ok mid
+        → IsReadBy form bs given mid (b == 45) (setting_of form (pair_of (b ∷ bs)))
     by true d f =
         let s = flags-sound form given mid bs f in
         subst (λ dash. IsReadBy form bs given mid dash (setting_of form (pair_of (b ∷ bs)))) (sym d) (inl s.0, s.1)
@@ -297,7 +308,8 @@ pub record Whole (letters : List ℕ) (values : Key → List (List ℕ)) (old ne
 abbrev pub More : Form → List (List ℕ) → Given → Given → Type 0
 More form words old new = Whole (flat_map letters_in words) (λ key. key_values form key words) old new
 
-one-more : (form : Form) (word : List ℕ) (words : List (List ℕ)) (old mid new : Given) → Adds (letters_in word) (setting_in form word) old mid → More form words mid new → More form (word ∷ words) old new
+one-more : (form : Form) (word : List ℕ) (words : List (List ℕ)) (old mid new : Given)
+    → Adds (letters_in word) (setting_in form word) old mid → More form words mid new → More form (word ∷ words) old new
 one-more form word words old mid new adds more = record {
   flags = with_letters-append old.flags (letters_in word) (flat_map letters_in words) ∙ ap (λ fs. with_letters fs (flat_map letters_in words)) adds.flags ∙ more.flags;
   input = joined option_name (value_for Input (setting_in form word)) (key_values form Input words) old.input mid.input new.input adds.input more.input;
@@ -309,14 +321,17 @@ one-more form word words old mid new adds more = record {
   after = joined kept (value_for After (setting_in form word)) (key_values form After words) old.after mid.after new.after adds.after more.after;
 }
 
-words-sound : (form : Form) (words : List (List ℕ)) (old new : Given) → with_words form old words ≡ Ok new → All (IsWord form) words × More form words old new
+words-sound : (form : Form) (words : List (List ℕ)) (old new : Given) → with_words form old words ≡ Ok new
+    → All (IsWord form) words × More form words old new
 words-sound form [] old new e =
     let same : old ≡ new = cc in
     (All-nil (IsWord form), subst (λ g. More form [] old g) same (record { flags = with_letters-none old.flags; input = refl; inputs = refl; output = refl; separator = refl; null_text = refl; table_null_text = refl; after = refl }))
 words-sound form (word ∷ words) old new e = by (λ mid f. words-sound form words mid new f) (with_word form old word) refl e
   where
     by : ((mid : Given) → with_words form mid words ≡ Ok new → All (IsWord form) words × More form words mid new)
-        → (read : Result Given OptionFault) → with_word form old word ≡ read → (read >>= (λ more. with_words form more words)) ≡ Ok new → All (IsWord form) (word ∷ words) × More form (word ∷ words) old new
+        → (read : Result Given OptionFault) → with_word form old word ≡ read
+        → (read >>= (λ more. with_words form more words)) ≡ Ok new
+        → All (IsWord form) (word ∷ words) × More form (word ∷ words) old new
     by others (Err kind) r f = cc
     by others (Ok mid) r f =
         let is = word-sound form old mid word r in
@@ -325,7 +340,8 @@ words-sound form (word ∷ words) old new e = by (λ mid f. words-sound form wor
 
 -- a value for a key, and what the words after it make
 value-complete : (letters : List ℕ) (values : Key → List (List ℕ)) (old new : Given) (key : Key) (value : List ℕ)
-    → Whole letters (λ other. cons_option (value_for other (Some (key, value))) (values other)) old new → (mid : Given) × (with_value old key value ≡ Ok mid) × Whole letters values mid new
+    → Whole letters (λ other. cons_option (value_for other (Some (key, value))) (values other)) old new
+    → (mid : Given) × (with_value old key value ≡ Ok mid) × Whole letters values mid new
 value-complete letters values old new Input value whole =
     let v = first option_name value (values Input) old.input new.input whole.input in (
       record old { input = Some v.given },
@@ -373,18 +389,21 @@ abbrev setting_with : Option Key → List ℕ → Option (Key × List ℕ)
 setting_with key value = option_map (λ key. (key, value)) key
 
 pair-complete : (form : Form) (letters : List ℕ) (values : Key → List (List ℕ)) (old new : Given) (pair : Option (List ℕ × List ℕ)) → is_some (setting_of form pair) ≡ true
-    → Whole letters (λ other. cons_option (value_for other (setting_of form pair)) (values other)) old new → (mid : Given) × (with_pair form old pair ≡ Ok mid) × Whole letters values mid new
+    → Whole letters (λ other. cons_option (value_for other (setting_of form pair)) (values other)) old new
+    → (mid : Given) × (with_pair form old pair ≡ Ok mid) × Whole letters values mid new
 pair-complete form letters values old new None some whole = cc
 pair-complete form letters values old new (Some p) some whole = by (option_key_of form p.0) refl some whole
   where
-    by : (key : Option Key) → option_key_of form p.0 ≡ key → is_some (setting_with key p.1) ≡ true → Whole letters (λ other. cons_option (value_for other (setting_with key p.1)) (values other)) old new
+    by : (key : Option Key) → option_key_of form p.0 ≡ key → is_some (setting_with key p.1) ≡ true
+        → Whole letters (λ other. cons_option (value_for other (setting_with key p.1)) (values other)) old new
         → (mid : Given) × (with_option old (option_key_of form p.0) p.1 ≡ Ok mid) × Whole letters values mid new
     by None k some whole = cc
     by (Some key) k some whole =
         let v = value-complete letters values old new key p.1 whole in
         (v.0, ap (λ o. with_option old o p.1) k ∙ v.1, v.2)
 
-flags-complete : (form : Form) (word letters : List ℕ) (values : Key → List (List ℕ)) (old new : Given) → are_flags (flags_of form) word ≡ true → Whole (word ++ letters) values old new
+flags-complete : (form : Form) (word letters : List ℕ) (values : Key → List (List ℕ)) (old new : Given)
+    → are_flags (flags_of form) word ≡ true → Whole (word ++ letters) values old new
     → (mid : Given) × (with_flags form old word ≡ Ok mid) × Whole letters values mid new
 flags-complete form word letters values old new good whole =
     (record old { flags = with_letters old.flags word }, rw good refl, record { flags = sym (with_letters-append old.flags word letters) ∙ whole.flags; input = whole.input; inputs = whole.inputs; output = whole.output; separator = whole.separator; null_text = whole.null_text; table_null_text = whole.table_null_text; after = whole.after })
@@ -392,13 +411,15 @@ flags-complete form word letters values old new good whole =
 abbrev setting_by : Form → List ℕ → Bool → Option (Key × List ℕ)
 setting_by form word dash = cond dash None (setting_of form (pair_of word))
 
-word-complete : (form : Form) (letters : List ℕ) (values : Key → List (List ℕ)) (old new : Given) (word : List ℕ) → IsWord form word
+word-complete : (form : Form) (letters : List ℕ) (values : Key → List (List ℕ)) (old new : Given) (word : List ℕ)
+    → IsWord form word
     → Whole (letters_in word ++ letters) (λ key. cons_option (value_for key (setting_in form word)) (values key)) old new → (mid : Given) × (with_word form old word ≡ Ok mid) × Whole letters values mid new
 word-complete form letters values old new [] (inl good) whole = cc
 word-complete form letters values old new [] (inr some) whole = cc
 word-complete form letters values old new (b ∷ bs) is whole = by (b == 45) refl is whole
   where
-    by : (dash : Bool) → (b == 45) ≡ dash → (are_flags (flags_of form) (cond dash bs []) ≡ true) ⊎ (is_some (setting_by form (b ∷ bs) dash) ≡ true)
+    by : (dash : Bool) → (b == 45) ≡ dash
+        → (are_flags (flags_of form) (cond dash bs []) ≡ true) ⊎ (is_some (setting_by form (b ∷ bs) dash) ≡ true)
         → Whole (cond dash bs [] ++ letters) (λ key. cons_option (value_for key (setting_by form (b ∷ bs) dash)) (values key)) old new → (mid : Given) × (with_word form old (b ∷ bs) ≡ Ok mid) × Whole letters values mid new
     by true d (inl good) whole =
         let f = flags-complete form bs letters values old new good whole in
@@ -424,7 +445,8 @@ same-options old new more =
     ∙ ap (λ (x : Option (List ℕ)). of_fields new.flags new.input new.inputs new.output new.separator new.null_text x old.after) more.table_null_text
     ∙ ap (λ (x : Option (List ℕ)). of_fields new.flags new.input new.inputs new.output new.separator new.null_text new.table_null_text x) more.after
 
-words-complete : (form : Form) (words : List (List ℕ)) (old new : Given) → All (IsWord form) words → More form words old new → with_words form old words ≡ Ok new
+words-complete : (form : Form) (words : List (List ℕ)) (old new : Given) → All (IsWord form) words
+    → More form words old new → with_words form old words ≡ Ok new
 words-complete form [] old new each more = ap Ok (same-options old new more)
 words-complete form (word ∷ words) old new each more =
     let first_is : IsWord form word = each 0 word (omega arith) in
@@ -433,8 +455,10 @@ words-complete form (word ∷ words) old new each more =
     ap (λ r. r >>= (λ mid. with_words form mid words)) m.1 ∙ rest
 
 -- the words that are read without a fault, and what they make
-pub words-read : (form : Form) (words : List (List ℕ)) (given : Given) → options_of form words ≡ Ok given → All (IsWord form) words × More form words no_options given
+pub words-read : (form : Form) (words : List (List ℕ)) (given : Given) → options_of form words ≡ Ok given
+    → All (IsWord form) words × More form words no_options given
 words-read form words given e = words-sound form words no_options given e
 
-pub read-words : (form : Form) (words : List (List ℕ)) (given : Given) → All (IsWord form) words → More form words no_options given → options_of form words ≡ Ok given
+pub read-words : (form : Form) (words : List (List ℕ)) (given : Given) → All (IsWord form) words
+    → More form words no_options given → options_of form words ≡ Ok given
 read-words form words given each more = words-complete form words no_options given each more

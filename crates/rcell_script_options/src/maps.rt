@@ -80,7 +80,8 @@ pub fn input_place(known: &Names, options: &Options) -> Result<usize, OptionFaul
 
 // The places of names among the known ones.
 fn places_of(alloc: Global, known: &Names, names: &[Name]) -> Result<Places, OptionFault>
-    ensures places { Answers OptionFault.Memory (λ places. places) result (ok_or (places_of known.now names.now) OptionFault.UnknownMap) }
+    ensures places { Answers OptionFault.Memory (λ places. places) result
+        (ok_or (places_of known.now names.now) OptionFault.UnknownMap) }
     ensures within { IfOk result (λ places. All (λ place. place < length known.now) places) }
     ensures count { IfOk result (λ places. length places ≡ length names.now) }
 {
@@ -108,7 +109,8 @@ fn is_torn(options: &Options) -> bool
 /// [`OptionFault::MissingOption`], then [`OptionFault::BadOption`] where flags do not go together, then
 /// [`OptionFault::UnknownMap`]; [`OptionFault::Memory`] where memory was refused.
 pub fn input_places(alloc: Global, known: &Names, options: &Options) -> Result<Places, OptionFault>
-    ensures places { Answers OptionFault.Memory (λ places. places) result (input_places known.now options.now) }
+    ensures places { Answers OptionFault.Memory (λ places. places) result
+        (input_places known.now options.now) }
     ensures within { IfOk result (λ places. All (λ place. place < length known.now) places) }
     ensures some { IfOk result (λ places. 1 ≤ length places) }
     ensures most { IfOk result (λ places. length places ≤ 16) }

@@ -230,7 +230,8 @@ fn name_of(alloc: Global, value: &[u8]) -> Result<Name, OptionFault>
 
 // The names that texts spell.
 fn names_from(alloc: Global, parts: &[&[u8]]) -> Result<Vec<Name>, OptionFault>
-    ensures names { Answers OptionFault.Memory (λ names. names.items) result (names_from (texts parts.now)) }
+    ensures names { Answers OptionFault.Memory (λ names. names.items) result
+        (names_from (texts parts.now)) }
     ensures count { IfOk result (λ names. length names.items ≡ length parts.now) }
 {
     let mut names = Vec::new(alloc);
@@ -382,7 +383,8 @@ impl Options {
 
     // Adds flags.
     fn add_flags(&mut self, form: Form, letters: &[u8]) -> Result<(), OptionFault>
-        ensures { Answers OptionFault.Memory (λ _. self.new) result (with_flags form self.old letters.now) }
+        ensures { Answers OptionFault.Memory (λ _. self.new) result
+            (with_flags form self.old letters.now) }
     {
         if !are_flags(form, letters) {
             return Err(OptionFault::BadOption);
@@ -393,7 +395,8 @@ impl Options {
 
     // Sets the value of a key, which may be given once.
     fn set_value(&mut self, alloc: Global, key: Key, value: &[u8]) -> Result<(), OptionFault>
-        ensures { Answers OptionFault.Memory (λ _. self.new) result (with_value self.old key value.now) }
+        ensures { Answers OptionFault.Memory (λ _. self.new) result
+            (with_value self.old key value.now) }
     {
         if self.is_given(key) {
             return Err(OptionFault::BadOption);
@@ -414,7 +417,8 @@ impl Options {
 
     // Adds the options of one more word.
     fn add_word(&mut self, alloc: Global, form: Form, word: &[u8]) -> Result<(), OptionFault>
-        ensures { Answers OptionFault.Memory (λ _. self.new) result (with_word form self.old word.now) }
+        ensures { Answers OptionFault.Memory (λ _. self.new) result
+            (with_word form self.old word.now) }
     {
         let Some((first, letters)) = word.split_first() else {
             return Err(OptionFault::BadOption);
@@ -438,7 +442,8 @@ impl Options {
 ///
 /// The fault of the first word that has one, [`OptionFault::Memory`] where memory was refused.
 pub fn options_of(alloc: Global, form: Form, words: &[&[u8]]) -> Result<Options, OptionFault>
-    ensures { Answers OptionFault.Memory (λ options. options) result (options_of form (texts words.now)) }
+    ensures { Answers OptionFault.Memory (λ options. options) result
+        (options_of form (texts words.now)) }
 {
     let mut options = Options::new();
     for word in words {
