@@ -1,6 +1,6 @@
 //! The printed form of an entry.
 
-ghost use Rattle.std.specs.Prelude.{◌++◌, flat_map};
+ghost use Rattle.std.specs.Prelude.{decimal, flat_map};
 ghost use Rattle.cell_core_devices.specs.Blocks.{Appends};
 ghost use Rattle.cell_tiles_lines.specs.TableLines.{entry_line};
 ghost use Rattle.cell_tiles_texts.specs.parts.EntryParts.{cell_and_separator};
@@ -32,6 +32,13 @@ fn write_fields<W: Sink>(out: &mut W, block: &mut Block, format: &Format, cells:
     }
 }
 
+// Writes a count.
+fn write_count<W: Sink>(out: &mut W, block: &mut Block, count: u64)
+    ensures { Appends W.taken W.faults out.old block.old (decimal count) out.new block.new }
+{
+    block.push(out, Buffer::new().format(count).as_bytes());
+}
+
 /// Writes the line of an entry. Takes no memory.
 pub fn write_entry<W: Sink>(
     out: &mut W,
@@ -44,6 +51,6 @@ pub fn write_entry<W: Sink>(
         (entry_line format.now (combo.now, count)) out.new block.new }
 {
     write_fields(out, block, format, combo.cells());
-    block.push(out, Buffer::new().format(count).as_bytes());
+    write_count(out, block, count);
     block.push(out, b"\n");
 }

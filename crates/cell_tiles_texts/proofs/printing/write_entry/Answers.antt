@@ -7,4 +7,4 @@ use Rattle.cell_tiles_texts.proofs.printing.write_entry.Goals as goal
 pub returns : goal.returns
 returns g c =
     rw (← entry-parts c.args.format.now c.args.combo.now c.args.count)
-    (rw (ap (flat_map (cell_and_separator c.args.format.now)) c.cells.ensures) at (appends_then (appends_then c.write_fields.ensures c.push.ensures) c.push-2.ensures))
+    (rw (ap (flat_map (cell_and_separator c.args.format.now)) c.cells.ensures) at (appends_then (appends_then c.write_fields.ensures c.write_count.ensures) c.push.ensures))
