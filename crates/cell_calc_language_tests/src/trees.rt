@@ -1,9 +1,9 @@
 //! Trees of texts: levels, directions, calls and offsets.
 
+use cell_calc_grammar::map_name::MapName;
 use cell_calc_language::assignment::parse;
 use cell_calc_language::function::Function;
 use cell_calc_language::operator::Operator;
-use cell_calc_grammar::map_name::MapName;
 use cell_calc_steps::step::Step;
 use std::alloc::Global;
 use std::test::Fail;

@@ -10,9 +10,9 @@ ghost use Rattle.cell_calc_tests.specs.Steps.{step_value, IsProperStep};
 ghost use Rattle.cell_calc_steps.specs.Postfix.{arity};
 
 use crate::definition::{cells, lists};
+use cell_calc_grammar::map_name::MapName;
 use cell_calc_language::expr::Expr;
 use cell_calc_language::function::Function;
-use cell_calc_grammar::map_name::MapName;
 use cell_calc_steps::step::Step;
 use cell_core::cell::Cell;
 use cell_core::map::CellMap;
