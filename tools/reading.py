@@ -17,7 +17,7 @@ import sys
 
 import sources
 
-RUN_FILE, RUN, HEADLINE = "rcell/src/runs/running.rt", "run", "headline"
+RUN_FILE, RUN, HEADLINE = "rcell/src/running.rt", "run", "headline"
 # What one command alone stands on begins at these definitions: how a line spells it, and what it makes or prints.
 BEGINNINGS = {
     "r.mapcalc": ["SpellsMapcalc", "IsWithValues"],

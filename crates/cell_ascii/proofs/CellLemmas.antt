@@ -6,7 +6,7 @@ use Rattle.cell_core_devices.specs.Device.{Coming}
 use Rattle.cell_core.specs.Grid.{CellValue}
 use Rattle.cell_ascii_scanner.specs.Ahead.{Ahead}
 use Rattle.cell_ascii_meaning.specs.GridTokens.{Start, Begins, Ends, Stops, grid_start, word_from}
-use Rattle.cell_ascii_meaning.specs.Header.{◌>>=◌, At, Header, at_line}
+use Rattle.cell_ascii_meaning.specs.Header.{◌>>=◌, At, HeaderValue, at_line}
 use Rattle.cell_ascii_meaning.specs.CellTexts.{Reading, after_start, cell_after_word, after_cell, cell_from, cell_of_number, cell_of_word, at_of, many}
 use Rattle.cell_ascii_meaning.specs.Kinds.{IsOfText}
 use Rattle.cell_ascii_meaning.specs.EdgeNumbers.{whole_number, is_in_range}
@@ -17,35 +17,36 @@ use Rattle.cell_ascii_meaning.specs.declared.grid_fault.GridKind.TheVariants.{Ce
 use Rattle.cell_ascii_header.proofs.MapLemmas.{then_map, map_same}
 
 -- where a cell leaves a reader
-abbrev pub place_after : Header → ℕ → Ahead → ReaderPlace
+abbrev pub place_after : HeaderValue → ℕ → Ahead → ReaderPlace
 place_after h line ahead = record { header = h; pending = None; line = line; run = 0; ahead = ahead }
 
-judged : (h : Header) (line : ℕ) (ahead : Ahead) (c : Coming) (r : Result CellValue GridKind) → after_cell line c r ≡ reading_seen (at_line line r) (place_after h line ahead) c
+judged : (h : HeaderValue) (line : ℕ) (ahead : Ahead) (c : Coming) (r : Result CellValue GridKind) → after_cell line c r ≡ reading_seen (at_line line r) (place_after h line ahead) c
 judged h line ahead c (Ok v) = refl
 judged h line ahead c (Err kind) = refl
 
 -- the word that waits is the next cell
-pub cell_pending : (h : Header) (word : List ℕ) (line run : ℕ) (ahead : Ahead) (a : Option Coming)
+pub cell_pending : (h : HeaderValue) (word : List ℕ) (line run : ℕ) (ahead : Ahead) (a : Option Coming)
     → option_map (λ c. cell_from h (record { pending = Some word; line = line; run = run; coming = c })) a
     ≡ option_map (reading_seen (at_line line (cell_of_word h word)) (place_after h line ahead)) a
 unfolding cell_from
 cell_pending h word line run ahead a =
     map_same (λ c. after_cell line c (cell_of_word h word)) (reading_seen (at_line line (cell_of_word h word)) (place_after h line ahead)) a (λ c. judged h line ahead c (cell_of_word h word))
 
-abbrev after_token : Header → Result (ℕ × (List ℕ × Coming)) GridFault → Reading CellValue
+abbrev after_token : HeaderValue → Result (ℕ × (List ℕ × Coming)) GridFault → Reading CellValue
 after_token h (Ok (line, (word, c))) = after_cell line c (cell_of_word h word)
 after_token h (Err f) = Err f
 
-word_token : (h : Header) (line : ℕ) (r : Result (List ℕ × Coming) GridFault) → cell_after_word h line r ≡ after_token h (r >>= (λ w. Ok (line, w)))
+word_token : (h : HeaderValue) (line : ℕ) (r : Result (List ℕ × Coming) GridFault) → cell_after_word h line r ≡ after_token h (r >>= (λ w. Ok (line, w)))
 word_token h line (Ok (word, c)) = refl
 word_token h line (Err f) = refl
 
-start_token : (h : Header) (s : Start) → after_start h s ≡ after_token h (token_read s)
+start_token : (h : HeaderValue) (s : Start) → after_start h s ≡ after_token h (token_read s)
 start_token h (Begins line c) = word_token h line (word_from line [] c)
 start_token h (Ends line) = refl
 start_token h (Stops f) = refl
 
-module _ (h : Header) (line run : ℕ) (a b : Option Coming) (r : Result (Unit {0}) GridFault) (l : ℕ) (word : List ℕ)
+module _ (h : HeaderValue) (line run : ℕ) (a b : Option Coming) (r : Result (Unit {0}) GridFault) (l : ℕ)
+    (word : List ℕ)
     (read : option_map (λ c. token_read (grid_start line run c)) a ≡ option_map (token_seen r l word) b) where
   token_cell : option_map (λ c. cell_from h (at_of line run c)) a ≡ option_map (λ c. after_token h (token_seen r l word c)) b
   unfolding cell_from
@@ -54,14 +55,14 @@ module _ (h : Header) (line run : ℕ) (a b : Option Coming) (r : Result (Unit {
       ∙ then_map (after_token h) (λ c. token_read (grid_start line run c)) (token_seen r l word) a b read
 
 -- the next word is the next cell
-pub cell_read : (h : Header) (line run : ℕ) (a b : Option Coming) (l : ℕ) (word : List ℕ) (ahead : Ahead)
+pub cell_read : (h : HeaderValue) (line run : ℕ) (a b : Option Coming) (l : ℕ) (word : List ℕ) (ahead : Ahead)
     → option_map (λ c. token_read (grid_start line run c)) a ≡ option_map (token_seen (Ok tt) l word) b
     → option_map (λ c. cell_from h (at_of line run c)) a ≡ option_map (reading_seen (at_line l (cell_of_word h word)) (place_after h l ahead)) b
 cell_read h line run a b l word ahead read =
     token_cell h line run a b (Ok tt) l word read
     ∙ map_same (λ c. after_cell l c (cell_of_word h word)) (reading_seen (at_line l (cell_of_word h word)) (place_after h l ahead)) b (λ c. judged h l ahead c (cell_of_word h word))
 
-pub cell_fails : (h : Header) (line run : ℕ) (a b : Option Coming) (l : ℕ) (word : List ℕ) (f : GridFault)
+pub cell_fails : (h : HeaderValue) (line run : ℕ) (a b : Option Coming) (l : ℕ) (word : List ℕ) (f : GridFault)
     → option_map (λ c. token_read (grid_start line run c)) a ≡ option_map (token_seen (Err f) l word) b
     → option_map (λ c. cell_from h (at_of line run c)) a ≡ option_map (λ c. Err f) b
 cell_fails h line run a b l word f read = token_cell h line run a b (Err f) l word read
@@ -76,7 +77,7 @@ number_faults line m (Some n) = by (is_in_range n) (is_in_range (n *ℤ m))
     by false high = tt
 
 -- what is wrong with a word is a fault of the text
-pub cell_faults : (h : Header) (word : List ℕ) (line : ℕ) → IfErr (at_line line (cell_of_word h word)) (λ f. IsOfText f.kind)
+pub cell_faults : (h : HeaderValue) (word : List ℕ) (line : ℕ) → IfErr (at_line line (cell_of_word h word)) (λ f. IsOfText f.kind)
 cell_faults h word line = by (bytes_eq word h.null_text)
   where
     by : (null : Bool) → IfErr (at_line line (if null then Ok None else cell_of_number h.multiplier (whole_number word))) (λ f. IsOfText f.kind)

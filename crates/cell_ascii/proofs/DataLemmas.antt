@@ -7,7 +7,7 @@ use Rattle.cell_core.specs.Grid.{CellValue, Grid, no_labels}
 use Rattle.cell_ascii_meaning.specs.GridTokens.{grid_start}
 use Rattle.cell_core_values.specs.Region.{RegionValue, region_fault}
 use Rattle.cell_core_values.specs.declared.region.RegionFault.{RegionFault}
-use Rattle.cell_ascii_meaning.specs.Header.{◌>>=◌, At, at_line, Header, Keys, header_of_keys, no_keys, header_of, header_from, header_of_text}
+use Rattle.cell_ascii_meaning.specs.Header.{◌>>=◌, At, at_line, HeaderValue, KeyValues, header_of_keys, no_keys, header_of, header_from, header_of_text}
 use Rattle.cell_ascii_meaning.specs.Kinds.{IsOfText, is_read}
 use Rattle.cell_ascii_meaning.specs.CellTexts.{Reading, cell_from, many, end_of, data_from, grid_of}
 use Rattle.cell_ascii.specs.Reader.{rows_from}
@@ -32,14 +32,14 @@ told_map F v None e = refl
 told_map F v (Some c) e = ap Some e
 
 -- one of some rows fails
-pub rows_fail : (h : Header) (F : Coming → Reading (List (List CellValue))) (a b : Option Coming) (front : List (List CellValue)) (n i : ℕ) (here : Coming → At) (f : GridFault) → i < n
+pub rows_fail : (h : HeaderValue) (F : Coming → Reading (List (List CellValue))) (a b : Option Coming) (front : List (List CellValue)) (n i : ℕ) (here : Coming → At) (f : GridFault) → i < n
     → option_map F a ≡ option_map (λ c. with_front front (many (many (cell_from h) h.region.cols) (n - i) (here c))) b
     → IfSome b (λ c. many (cell_from h) h.region.cols (here c) ≡ Err f) → IfSome a (λ c. F c ≡ Err f)
 rows_fail h F a b front n i here f lower so_far fails =
     known F (λ c. Err f) a b (Err f)
     (more_fails (many (cell_from h) h.region.cols) F a b b front n i here lower so_far f (told_map (λ c. many (cell_from h) h.region.cols (here c)) (Err f) b fails)) (λ c. refl)
 
-module _ (h : Header) (here : Coming → At) where
+module _ (h : HeaderValue) (here : Coming → At) where
   -- a row fails
   pub data_fails : (a : Option Coming) (f : GridFault) → IfSome a (λ c. rows_from h (here c) ≡ Err f) → IfSome a (λ c. data_from h (here c) ≡ Err f)
   data_fails a f e = implied (λ c. rows_from h (here c) ≡ Err f) (λ c. data_from h (here c) ≡ Err f) a (λ c o. ap then_end o) e
@@ -112,14 +112,14 @@ nothing_held None = refl
 nothing_held (Some c) = refl
 
 -- the keys give no header
-pub open_fails : (keys : Keys) (word : List ℕ) (line : ℕ) (waiting : Bool) (a b : Option Coming) (f : GridFault)
+pub open_fails : (keys : KeyValues) (word : List ℕ) (line : ℕ) (waiting : Bool) (a b : Option Coming) (f : GridFault)
     → option_map (header_from 10 no_keys 1 0) a ≡ option_map (header_seen (Ok waiting) keys word line) b
     → Err f ≡ at_line line (header_of keys) → IfSome a (λ c. header_of_text c ≡ Err f)
 open_fails keys word line waiting a b f e bad =
     known (header_from 10 no_keys 1 0) (header_seen (Ok waiting) keys word line) a b (Err f) e (λ c. rw (← bad) refl)
 
 -- the keys give a header
-pub open_reads : (keys : Keys) (word : List ℕ) (line : ℕ) (waiting : Bool) (a b : Option Coming) (h : Header)
+pub open_reads : (keys : KeyValues) (word : List ℕ) (line : ℕ) (waiting : Bool) (a b : Option Coming) (h : HeaderValue)
     → option_map (header_from 10 no_keys 1 0) a ≡ option_map (header_seen (Ok waiting) keys word line) b
     → Ok h ≡ at_line line (header_of keys)
     → option_map header_of_text a ≡ option_map (λ c. Ok (record { header = h; at = record { pending = (if waiting then Some word else None); line = line; run = 0; coming = c } })) b
@@ -128,12 +128,13 @@ open_reads keys word line waiting a b h e good =
     ∙ map_same (header_seen (Ok waiting) keys word line) (λ c. Ok (record { header = h; at = record { pending = (if waiting then Some word else None); line = line; run = 0; coming = c } })) b (λ c. rw (← good) refl)
 
 -- where each of the six keys stood, the header is judged by their region
-all_given : (k : Keys) (north south east west : ℤ) (rows cols : ℕ) → k.north ≡ Some north → k.south ≡ Some south → k.east ≡ Some east → k.west ≡ Some west → k.rows ≡ Some rows → k.cols ≡ Some cols
+all_given : (k : KeyValues) (north south east west : ℤ) (rows cols : ℕ) → k.north ≡ Some north → k.south ≡ Some south → k.east ≡ Some east → k.west ≡ Some west → k.rows ≡ Some rows → k.cols ≡ Some cols
     → header_of_keys k (region_fault (record { north = north; south = south; east = east; west = west; rows = rows; cols = cols })) ≡ header_of k
 all_given k north south east west rows cols n s e w r c = rw (n, s, e, w, r, c) refl
 
 -- what holds of the faults of all keys together
-module _ (P : GridKind → Type 0) (missing : P MissingKey) (region : (f : RegionFault) → P (Region f)) (k : Keys) where
+module _ (P : GridKind → Type 0) (missing : P MissingKey) (region : (f : RegionFault) → P (Region f))
+    (k : KeyValues) where
   judged_has : (r : Result RegionValue RegionFault) (kind : GridKind) → header_of_keys k r ≡ Err kind → P kind
   judged_has (Ok given) kind e = cc
   judged_has (Err f) kind e = let p : Region f ≡ kind = cc in subst P p (region f)
@@ -155,13 +156,14 @@ module _ (P : GridKind → Type 0) (missing : P MissingKey) (region : (f : Regio
   header_has : (line : ℕ) (f : GridFault) → Err f ≡ at_line line (header_of k) → P f.kind
   header_has line f e = by (header_of k) refl e
     where
-      by : (r : Result Header GridKind) → header_of k ≡ r → Err f ≡ at_line line r → P f.kind
+      by : (r : Result HeaderValue GridKind) → header_of k ≡ r → Err f ≡ at_line line r → P f.kind
       by (Ok h) is o = cc
       by (Err kind) is o = let p : kind ≡ f.kind = cc in subst P p (keys_have k.north k.south k.east k.west k.rows k.cols kind refl refl refl refl refl refl is)
 
 -- keys that give no header are a fault of the text, and not of its source
-pub header_kind : (k : Keys) (line : ℕ) (f : GridFault) → Err f ≡ at_line line (header_of k) → IsOfText f.kind
+pub header_kind : (k : KeyValues) (line : ℕ) (f : GridFault) → Err f ≡ at_line line (header_of k) → IsOfText f.kind
 header_kind = header_has IsOfText tt (λ f. tt)
 
-pub header_told : (k : Keys) (line : ℕ) (f : GridFault) → Err f ≡ at_line line (header_of k) → is_read f.kind ≡ false
+pub header_told : (k : KeyValues) (line : ℕ) (f : GridFault) → Err f ≡ at_line line (header_of k)
+    → is_read f.kind ≡ false
 header_told = header_has (λ kind. is_read kind ≡ false) refl (λ f. refl)

@@ -4,7 +4,7 @@ use Rattle.std.specs.Option.{option_map, IfSome}
 use Rattle.cell_core_devices.specs.Device.{Coming}
 use Rattle.cell_core.specs.Grid.{CellValue}
 use Rattle.cell_ascii_meaning.specs.GridTokens.{grid_start}
-use Rattle.cell_ascii_meaning.specs.Header.{◌>>=◌, At, Header, header_of_text}
+use Rattle.cell_ascii_meaning.specs.Header.{◌>>=◌, At, HeaderValue, header_of_text}
 use Rattle.cell_ascii_meaning.specs.CellTexts.{Reading, cell_from, many, end_of}
 use Rattle.cell_ascii_meaning.specs.RowPlaces.{IsPlaceOf, cells_fault, end_fault}
 use Rattle.cell_ascii.specs.Reader.{always}
@@ -22,7 +22,7 @@ implied P Q None go h = tt
 implied P Q (Some c) go h = go c h
 
 -- a row that was cut off there
-pub row_cut : (h : Header) (here mid : Coming → At) (a b d : Option Coming) (i : ℕ) (f : GridFault) (old row : List CellValue) → i < length old → drop i row ≡ drop i old
+pub row_cut : (h : HeaderValue) (here mid : Coming → At) (a b d : Option Coming) (i : ℕ) (f : GridFault) (old row : List CellValue) → i < length old → drop i row ≡ drop i old
     → option_map (λ c. many (cell_from h) i (here c)) a ≡ option_map (λ c. Ok (take i row, mid c)) b → option_map (λ c. cell_from h (mid c)) b ≡ option_map (λ c. Err f) d
     → IfSome a (λ c. IsCutRow h (here c) f old row)
 row_cut h here mid None b d i f old row lower kept e o = tt
@@ -34,10 +34,10 @@ row_cut h here mid (Some c) (Some m) (Some z) i f old row lower kept e o =
     record { count = i; fewer = lower; rest = mid m; cells = cells; stop = stop; kept = kept }
 
 -- the fault of the whole row
-pub cut_fails : (h : Header) (at : At) (f : GridFault) (old row : List CellValue) → IsCutRow h at f old row → many (cell_from h) (length old) at ≡ Err f
+pub cut_fails : (h : HeaderValue) (at : At) (f : GridFault) (old row : List CellValue) → IsCutRow h at f old row → many (cell_from h) (length old) at ≡ Err f
 cut_fails h at f old row cut = many_cut (cell_from h) cut.count (length old) at cut.rest (take cut.count row) f cut.fewer cut.cells cut.stop
 
-module _ (h : Header) (here : Coming → At) (Q : Coming → Type 0) (a : Option Coming) (placed : IfSome a (λ c. IsPlaceOf (here c) × Q c)) where
+module _ (h : HeaderValue) (here : Coming → At) (Q : Coming → Type 0) (a : Option Coming) (placed : IfSome a (λ c. IsPlaceOf (here c) × Q c)) where
   -- a row that was read tells no fault
   pub row_told : (n : ℕ) (there : Coming → At) (b : Option Coming) (row : List CellValue) → option_map (λ c. many (cell_from h) n (here c)) a ≡ option_map (λ d. Ok (row, there d)) b
       → IfSome a (λ c. None ≡ cells_fault h n (here c))
@@ -72,7 +72,7 @@ module _ (h : Header) (here : Coming → At) (Q : Coming → Type 0) (a : Option
           (kept.0, λ _. kept.1 some)
 
 -- the data begins at a place
-pub opening_placed : (h : Header) (there : Coming → At) (left : ℕ) (a b : Option Coming) → 0 < left
+pub opening_placed : (h : HeaderValue) (there : Coming → At) (left : ℕ) (a b : Option Coming) → 0 < left
     → option_map header_of_text a ≡ option_map (λ c. Ok (record { header = h; at = there c })) b → IfSome b (λ c. IsPlaceOf (there c) × (left ≡ 0 → (there c).pending ≡ None))
 opening_placed h there left a None some e = tt
 opening_placed h there left None (Some d) some e = cc
@@ -104,7 +104,7 @@ end_is at r is none told = by (end_of (grid_start at.line at.run at.coming)) r (
     by (Err f) (Ok y) e = cc
     by (Err f) (Err g) e = cc
 
-module _ (h : Header) (cols : ℕ) (some : 0 < cols) where
+module _ (h : HeaderValue) (cols : ℕ) (some : 0 < cols) where
   -- behind rows is a place, and no token waits behind the last
   pub rows_kept : (n : ℕ) (at : At) (x : List (List CellValue) × At) → IsPlaceOf at → many (many (cell_from h) cols) n at ≡ Ok x → IsPlaceOf x.1 × (0 < n → x.1.pending ≡ None)
   rows_kept zero at x is e = (let p : at ≡ x.1 = cc in subst IsPlaceOf p is, λ none. absurd (omega arith))

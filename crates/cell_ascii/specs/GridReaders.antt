@@ -4,7 +4,7 @@ use Rattle.std.specs.Option.{option_map}
 use Rattle.cell_core_devices.specs.Asking.{Heard}
 use Rattle.cell_core_devices.specs.Device.{Coming}
 use Rattle.cell_core.specs.Grid.{CellValue}
-use Rattle.cell_ascii_meaning.specs.Header.{At, Header, Opened, header_of_text}
+use Rattle.cell_ascii_meaning.specs.Header.{At, HeaderValue, OpenedText, header_of_text}
 use Rattle.cell_ascii_meaning.specs.CellTexts.{cell_from, many}
 use Rattle.cell_ascii_meaning.specs.GridTokens.{grid_fault}
 use Rattle.cell_ascii_meaning.specs.declared.grid_fault.GridKind.TheVariants.{Failed}
@@ -14,7 +14,7 @@ use Rattle.cell_ascii_meaning.specs.declared.grid_fault.GridFault.{GridFault}
 -- the length of the run of blanks and line feeds, whether it has failed, the bytes to come where they are known, and what
 -- was heard of the source
 pub record ReaderValue : Type 0 where
-  pub header : Header
+  pub header : HeaderValue
   pub rows_left : ℕ
   pub pending : Option (List ℕ)
   pub line : ℕ
@@ -28,7 +28,7 @@ abbrev pub reader_place : ReaderValue → Coming → At
 reader_place r c = record { pending = r.pending; line = r.line; run = r.run; coming = c }
 
 -- the header that was read, and where the data begins
-abbrev pub opened_in : ReaderValue → Coming → Opened
+abbrev pub opened_in : ReaderValue → Coming → OpenedText
 opened_in r c = record { header = r.header; at = reader_place r c }
 
 -- a reader that read the header of a text, and nothing behind its first token
@@ -45,7 +45,7 @@ abbrev pub reader_has_failed : GridFault
 reader_has_failed = grid_fault Failed 0
 
 -- a row that was cut off: the cells that were read of it stand in front, and behind them what stood there
-pub record IsCutRow (h : Header) (at : At) (f : GridFault) (old new : List CellValue) : Type 0 where
+pub record IsCutRow (h : HeaderValue) (at : At) (f : GridFault) (old new : List CellValue) : Type 0 where
   pub count : ℕ
   pub fewer : count < length old
   pub rest : At

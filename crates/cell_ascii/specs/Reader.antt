@@ -5,7 +5,7 @@ use Rattle.cell_core.specs.Grid.{CellValue}
 use Rattle.cell_ascii_scanner.specs.Ahead.{Ahead, bytes_to_come}
 use Rattle.cell_ascii_scanner.specs.Scan.{Scan}
 use Rattle.cell_ascii_meaning.specs.GridTokens.{Start, Begins, Ends, Stops, word_from, grid_fault}
-use Rattle.cell_ascii_meaning.specs.Header.{◌>>=◌, At, Header, Opened}
+use Rattle.cell_ascii_meaning.specs.Header.{◌>>=◌, At, HeaderValue, OpenedText}
 use Rattle.cell_ascii_meaning.specs.CellTexts.{Reading, cell_from, many}
 use Rattle.cell_ascii_meaning.specs.RowPlaces.{IsPlaceOf}
 use Rattle.cell_ascii.specs.GridReaders.{ReaderValue, reader_place}
@@ -14,7 +14,7 @@ use Rattle.cell_ascii_meaning.specs.declared.grid_fault.GridFault.{GridFault}
 
 -- the header, a first word that is not yet judged, the line, the length of the run of blanks and line feeds, and the bytes ahead
 pub record ReaderPlace : Type 0 where
-  pub header : Header
+  pub header : HeaderValue
   pub pending : Option (List ℕ)
   pub line : ℕ
   pub run : ℕ
@@ -25,11 +25,11 @@ abbrev pub at_place : ReaderPlace → Coming → At
 at_place p c = record { pending = p.pending; line = p.line; run = p.run; coming = c }
 
 -- the header that was read, and where the data begins
-abbrev pub opened_at : ReaderPlace → Coming → Opened
+abbrev pub opened_at : ReaderPlace → Coming → OpenedText
 opened_at p c = record { header = p.header; at = at_place p c }
 
 -- the same of a scanner behind the header and the first word of the data, if there is one
-abbrev pub opened_by : Header × Bool → Scan → Coming → Opened
+abbrev pub opened_by : HeaderValue × Bool → Scan → Coming → OpenedText
 opened_by (header, waiting) s c =
     record { header = header; at = record { pending = (if waiting then Some s.word else None); line = s.line; run = 0; coming = c } }
 
@@ -70,5 +70,5 @@ pub record IsReaderReady (r : ReaderValue) : Type 0 where
   pub heard : r.failed ≡ false → r.heard.failed ≡ false
 
 -- the rows of the data
-abbrev pub rows_from : Header → At → Reading (List (List CellValue))
+abbrev pub rows_from : HeaderValue → At → Reading (List (List CellValue))
 rows_from h at = many (many (cell_from h) h.region.cols) h.region.rows at

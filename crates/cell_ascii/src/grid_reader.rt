@@ -19,7 +19,7 @@ ghost use Rattle.cell_ascii.specs.GridReaders.{reader_place, opened_in, IsOpened
 
 use cell_ascii_header::header::Header;
 use cell_ascii_header::header_reading;
-use cell_ascii_header::keys::Keys;
+use cell_ascii_header::keys::HeaderKeys;
 use cell_ascii_held::pace::Pace;
 use cell_ascii_held::short_cells::cells_in;
 use cell_ascii_held::word_table::WordTable;
@@ -66,8 +66,10 @@ impl<R: Source> Model for CellReader<R> {
 fn read_token<R: Source>(scanner: &mut Scanner<R>) -> Result<(), GridFault>
     requires room { scanner.old.line + 1048576 < 2 ^ 64 }
     requires run { scanner.old.run ≤ 1048576 }
-    ensures token { option_map (λ c. token_read (grid_start scanner.old.line scanner.old.run c)) (bytes_to_come scanner.old.ahead)
-        ≡ option_map (token_seen result scanner.new.line scanner.new.word) (bytes_to_come scanner.new.ahead) }
+    ensures token { option_map (λ c. token_read (grid_start scanner.old.line scanner.old.run c))
+        (bytes_to_come scanner.old.ahead)
+        ≡ option_map (token_seen result scanner.new.line scanner.new.word)
+        (bytes_to_come scanner.new.ahead) }
     ensures lines { scanner.new.line ≤ scanner.old.line + 1048576 }
     ensures run { scanner.new.run ≤ 1048576 }
     ensures none { OnOk result (scanner.new.run ≡ 0) }
@@ -84,24 +86,26 @@ fn read_token<R: Source>(scanner: &mut Scanner<R>) -> Result<(), GridFault>
 }
 
 // The header that the keys give, judged at a line.
-fn header_at(keys: Keys, line: u64) -> Result<Header, GridFault>
+fn header_at(keys: HeaderKeys, line: u64) -> Result<Header, GridFault>
     ensures { result ≡ at_line line (header_of keys) }
 {
-    keys.header().map_err(|kind| GridFault { kind, line })
+    keys.into_header().map_err(|kind| GridFault { kind, line })
 }
 
 // Reads the header of a text, of which nothing was read before, and the first word behind it. Answers what the header says, and
 // whether there was such a word.
 fn read_opening<R: Source>(scanner: &mut Scanner<R>) -> Result<(Header, bool), GridFault>
     requires start { (scanner.old.line ≡ 1) × (scanner.old.run ≡ 0) }
-    ensures opened { IfOk result (λ r. option_map header_of_text (bytes_to_come scanner.old.ahead) ≡ option_map (λ c. Ok (opened_by r scanner.new c)) (bytes_to_come scanner.new.ahead)) }
-    ensures fault { IfErr result (λ f. IfSome (bytes_to_come scanner.old.ahead) (λ c. header_of_text c ≡ Err f)) }
+    ensures opened { IfOk result (λ r. option_map header_of_text (bytes_to_come scanner.old.ahead)
+        ≡ option_map (λ c. Ok (opened_by r scanner.new c)) (bytes_to_come scanner.new.ahead)) }
+    ensures fault { IfErr result
+        (λ f. IfSome (bytes_to_come scanner.old.ahead) (λ c. header_of_text c ≡ Err f)) }
     ensures kind { IfErr result (λ f. IsOfText f.kind) }
     ensures line { OnOk result (scanner.new.line < 2 ^ 62) }
     ensures run { OnOk result (scanner.new.run ≡ 0) }
     ensures heard { scanner.new.ahead.heard ≡ hears (tells_read result) scanner.old.ahead.heard }
 {
-    let mut keys = Keys::new();
+    let mut keys = HeaderKeys::new();
     let waiting = match header_reading::read_header(scanner, &mut keys) {
         Ok(waiting) => waiting,
         Err(fault) => return Err(fault),
@@ -128,8 +132,10 @@ impl<R: Source> CellReader<R> {
     fn open(alloc: Global, source: R) -> Result<CellReader<R>, GridFault>
     where
         R: Drop,
-        ensures opened { IfOk result (λ r. option_map header_of_text (R.coming source) ≡ option_map (λ c. Ok (opened_at r c)) (bytes_to_come r.ahead)) }
-        ensures fault { IfErr result (λ f. f.kind ≢ GridKind.Memory → IfSome (R.coming source) (λ c. header_of_text c ≡ Err f)) }
+        ensures opened { IfOk result (λ r. option_map header_of_text (R.coming source)
+            ≡ option_map (λ c. Ok (opened_at r c)) (bytes_to_come r.ahead)) }
+        ensures fault { IfErr result (λ f. f.kind ≢ GridKind.Memory
+            → IfSome (R.coming source) (λ c. header_of_text c ≡ Err f)) }
         ensures memory { IfErr result (λ f. f.kind ≡ GridKind.Memory → f.line ≡ 0) }
         ensures kinds { IfErr result (λ f. f.kind ≢ GridKind.Failed) }
         ensures line { IfOk result (λ r. r.line < 2 ^ 62) }
@@ -163,8 +169,11 @@ impl<R: Source> CellReader<R> {
     #[tactic(auto, using(cell_ascii_held::proofs::WordLemmas::lines_held))]
     fn held_cells(&mut self, row: &mut [Cell]) -> usize
         requires room { self.old.line + length row.old * 64 < 2 ^ 64 }
-        ensures cells { option_map (λ c. many (cell_from self.old.header) result (at_place self.old c)) (bytes_to_come self.old.ahead)
-            ≡ option_map (λ d. Ok (take result row.new, at_place self.new d)) (bytes_to_come self.new.ahead) }
+        ensures cells { option_map
+            (λ c. many (cell_from self.old.header) result (at_place self.old c))
+            (bytes_to_come self.old.ahead)
+            ≡ option_map (λ d. Ok (take result row.new, at_place self.new d))
+            (bytes_to_come self.new.ahead) }
         ensures count { result ≤ length row.old }
         ensures rest { drop result row.new ≡ drop result row.old }
         ensures header { self.new.header ≡ self.old.header }
@@ -174,7 +183,12 @@ impl<R: Source> CellReader<R> {
         if self.waiting || !self.scanner.is_behind_word() {
             return 0;
         }
-        let (count, n, lines) = cells_in(self.scanner.held(), &mut self.words, row, &mut self.pace);
+        let (count, n, lines) = cells_in(
+            self.scanner.held_bytes(),
+            &mut self.words,
+            row,
+            &mut self.pace,
+        );
         if count > 0 {
             self.scanner.pass(n);
             self.scanner.count_lines(lines);
@@ -186,7 +200,8 @@ impl<R: Source> CellReader<R> {
     fn next_cell(&mut self) -> Result<Cell, GridFault>
         requires room { self.old.line + 1048576 < 2 ^ 64 }
         requires heard { self.old.ahead.heard.failed ≡ false }
-        ensures cell { option_map (λ c. cell_from self.old.header (at_place self.old c)) (bytes_to_come self.old.ahead)
+        ensures cell { option_map (λ c. cell_from self.old.header (at_place self.old c))
+            (bytes_to_come self.old.ahead)
             ≡ option_map (reading_seen result self.new) (bytes_to_come self.new.ahead) }
         ensures header { self.new.header ≡ self.old.header }
         ensures lines { self.new.line ≤ self.old.line + 1048576 }
@@ -203,9 +218,10 @@ impl<R: Source> CellReader<R> {
     }
 
     // Nothing but blanks and line feeds is left.
-    fn finish(&mut self) -> Result<(), GridFault>
+    fn check_end(&mut self) -> Result<(), GridFault>
         requires room { self.old.line + 1048576 < 2 ^ 64 }
-        ensures end { option_map (λ c. end_of (grid_start self.old.line self.old.run c)) (bytes_to_come self.old.ahead)
+        ensures end { option_map (λ c. end_of (grid_start self.old.line self.old.run c))
+            (bytes_to_come self.old.ahead)
             ≡ option_map (always result) (bytes_to_come self.new.ahead) }
         ensures header { self.new.header ≡ self.old.header }
         ensures kind { IfErr result (λ f. IsOfText f.kind) }
@@ -225,9 +241,12 @@ impl<R: Source> CellReader<R> {
 fn read_row<R: Source>(cells: &mut CellReader<R>, row: &mut [Cell]) -> Result<(), GridFault>
     requires room { cells.old.line + length row.old * 1048577 < 2 ^ 63 }
     requires heard { cells.old.ahead.heard.failed ≡ false }
-    ensures row { OnOk result (option_map (λ c. many (cell_from cells.old.header) (length row.old) (at_place cells.old c)) (bytes_to_come cells.old.ahead)
+    ensures row { OnOk result (option_map
+        (λ c. many (cell_from cells.old.header) (length row.old) (at_place cells.old c))
+        (bytes_to_come cells.old.ahead)
         ≡ option_map (λ d. Ok (row.new, at_place cells.new d)) (bytes_to_come cells.new.ahead)) }
-    ensures cut { IfErr result (λ f. IfSome (bytes_to_come cells.old.ahead) (λ c. IsCutRow cells.old.header (at_place cells.old c) f row.old row.new)) }
+    ensures cut { IfErr result (λ f. IfSome (bytes_to_come cells.old.ahead)
+        (λ c. IsCutRow cells.old.header (at_place cells.old c) f row.old row.new)) }
     ensures kept { OnErr result (IsChangedInFront row.old row.new) }
     ensures header { cells.new.header ≡ cells.old.header }
     ensures lines { cells.new.line ≤ cells.old.line + length row.old * 1048577 }
@@ -277,9 +296,12 @@ impl<R: Source> GridReader<R> {
     pub fn open(alloc: Global, source: R) -> Result<GridReader<R>, GridFault>
     where
         R: Drop,
-        ensures opened { IfOk result (λ r. option_map header_of_text (R.coming source) ≡ option_map (λ c. Ok (opened_in r c)) r.coming) }
-        ensures whole { IfOk result (λ r. (r.rows_left ≡ r.header.region.rows) × (r.failed ≡ false)) }
-        ensures fault { IfErr result (λ f. f.kind ≢ GridKind.Memory → IfSome (R.coming source) (λ c. opening_fault c ≡ Some f)) }
+        ensures opened { IfOk result (λ r. option_map header_of_text (R.coming source)
+            ≡ option_map (λ c. Ok (opened_in r c)) r.coming) }
+        ensures whole { IfOk result (λ r. (r.rows_left ≡ r.header.region.rows)
+            × (r.failed ≡ false)) }
+        ensures fault { IfErr result (λ f. f.kind ≢ GridKind.Memory
+            → IfSome (R.coming source) (λ c. opening_fault c ≡ Some f)) }
         ensures memory { IfErr result (λ f. f.kind ≡ GridKind.Memory → f.line ≡ 0) }
         ensures kinds { IfErr result (λ f. f.kind ≢ GridKind.Failed) }
         // The source is asked only while it goes on, and an `Err` of it is told as Read: so far none was.
@@ -318,13 +340,21 @@ impl<R: Source> GridReader<R> {
     /// call was refused: the slice is unchanged.
     pub fn next_row(&mut self, row: &mut [Cell]) -> Result<bool, GridFault>
         requires width { length row.old ≡ self.old.header.region.cols }
-        ensures failed { self.old.failed ≡ true → (result ≡ Err reader_has_failed) × (row.new ≡ row.old) × (self.new ≡ self.old) }
-        ensures none { self.old.failed ≡ false → self.old.rows_left ≡ 0 → (result ≡ Ok false) × (row.new ≡ row.old) × (self.new ≡ self.old) }
+        ensures failed { self.old.failed ≡ true
+            → (result ≡ Err reader_has_failed) × (row.new ≡ row.old) × (self.new ≡ self.old) }
+        ensures none { self.old.failed ≡ false → self.old.rows_left ≡ 0
+            → (result ≡ Ok false) × (row.new ≡ row.old) × (self.new ≡ self.old) }
         ensures told { self.old.failed ≡ false → 0 < self.old.rows_left
-            → IfSome self.old.coming (λ c. fault_of_reading result ≡ cells_fault self.old.header (length row.old) (reader_place self.old c)) }
-        ensures row { result ≡ Ok true → option_map (λ c. many (cell_from self.old.header) (length row.old) (reader_place self.old c)) self.old.coming
+            → IfSome self.old.coming (λ c. fault_of_reading result
+            ≡ cells_fault self.old.header (length row.old) (reader_place self.old c)) }
+        ensures row { result ≡ Ok true
+            → option_map
+            (λ c. many (cell_from self.old.header) (length row.old) (reader_place self.old c))
+            self.old.coming
             ≡ option_map (λ d. Ok (row.new, reader_place self.new d)) self.new.coming }
-        ensures cut { IfErr result (λ f. self.old.failed ≡ false → IfSome self.old.coming (λ c. IsCutRow self.old.header (reader_place self.old c) f row.old row.new)) }
+        ensures cut { IfErr result (λ f. self.old.failed ≡ false
+            → IfSome self.old.coming
+            (λ c. IsCutRow self.old.header (reader_place self.old c) f row.old row.new)) }
         ensures kept { OnErr result (self.old.failed ≡ false → IsChangedInFront row.old row.new) }
         ensures width { length row.new ≡ length row.old }
         ensures left { result ≡ Ok true → self.new.rows_left + 1 ≡ self.old.rows_left }
@@ -335,7 +365,8 @@ impl<R: Source> GridReader<R> {
         ensures memory { IfErr result (λ f. f.kind ≢ GridKind.Memory) }
         ensures kinds { self.old.failed ≡ false → IfErr result (λ f. IsOfText f.kind) }
         // The source is asked only while it goes on, and an `Err` of it is told as Read.
-        ensures heard { self.old.failed ≡ false → self.new.heard ≡ hears (tells_read result) self.old.heard }
+        ensures heard { self.old.failed ≡ false
+            → self.new.heard ≡ hears (tells_read result) self.old.heard }
     {
         if self.failed {
             return Err(HAS_FAILED);
@@ -367,7 +398,8 @@ impl<R: Source> GridReader<R> {
         R: Drop,
         requires done { self.failed ≡ false → self.rows_left ≡ 0 }
         ensures failed { self.failed ≡ true → result ≡ Err reader_has_failed }
-        ensures told { self.failed ≡ false → IfSome self.coming (λ c. fault_of_reading result ≡ end_fault (reader_place self c)) }
+        ensures told { self.failed ≡ false
+            → IfSome self.coming (λ c. fault_of_reading result ≡ end_fault (reader_place self c)) }
         ensures memory { IfErr result (λ f. f.kind ≢ GridKind.Memory) }
         ensures kinds { self.failed ≡ false → IfErr result (λ f. IsOfText f.kind) }
     {
@@ -379,25 +411,31 @@ impl<R: Source> GridReader<R> {
     fn end(&mut self) -> Result<(), GridFault>
         requires done { self.old.failed ≡ false → self.old.rows_left ≡ 0 }
         ensures failed { self.old.failed ≡ true → result ≡ Err reader_has_failed }
-        ensures told { self.old.failed ≡ false → IfSome self.old.coming (λ c. fault_of_reading result ≡ end_fault (reader_place self.old c)) }
+        ensures told { self.old.failed ≡ false
+            → IfSome self.old.coming (λ c. fault_of_reading result
+            ≡ end_fault (reader_place self.old c)) }
         ensures memory { IfErr result (λ f. f.kind ≢ GridKind.Memory) }
         ensures kinds { self.old.failed ≡ false → IfErr result (λ f. IsOfText f.kind) }
-        ensures heard { self.old.failed ≡ false → self.new.heard ≡ hears (tells_read result) self.old.heard }
+        ensures heard { self.old.failed ≡ false
+            → self.new.heard ≡ hears (tells_read result) self.old.heard }
     {
         if self.failed {
             return Err(HAS_FAILED);
         }
         self.failed = true;
-        self.cells.finish()
+        self.cells.check_end()
     }
 }
 
 // Reads the rows that are left into a map.
 fn read_rows<R: Source>(alloc: Global, reader: &mut GridReader<R>) -> Result<CellMap, GridFault>
-    requires whole { (reader.old.rows_left ≡ reader.old.header.region.rows) × (reader.old.failed ≡ false) }
+    requires whole { (reader.old.rows_left ≡ reader.old.header.region.rows)
+        × (reader.old.failed ≡ false) }
     requires heard { reader.old.heard.failed ≡ false }
-    ensures region { IfOk result (λ m. (m.region ≡ reader.old.header.region) × (m.labels ≡ no_labels)) }
-    ensures rows { IfOk result (λ m. option_map (λ c. rows_from reader.old.header (reader_place reader.old c)) reader.old.coming
+    ensures region { IfOk result (λ m. (m.region ≡ reader.old.header.region)
+        × (m.labels ≡ no_labels)) }
+    ensures rows { IfOk result (λ m. option_map
+        (λ c. rows_from reader.old.header (reader_place reader.old c)) reader.old.coming
         ≡ option_map (λ d. Ok (m.rows, reader_place reader.new d)) reader.new.coming) }
     ensures done { OnOk result ((reader.new.rows_left ≡ 0) × (reader.new.failed ≡ false)) }
     ensures wide { (0 < reader.old.header.region.rows) × (0 < reader.old.header.region.cols) }
@@ -424,10 +462,13 @@ fn read_rows<R: Source>(alloc: Global, reader: &mut GridReader<R>) -> Result<Cel
 
 // Reads the rows of a text whose header was read, and its end.
 fn read_whole<R: Source>(alloc: Global, reader: &mut GridReader<R>) -> Result<CellMap, GridFault>
-    requires whole { (reader.old.rows_left ≡ reader.old.header.region.rows) × (reader.old.failed ≡ false) }
+    requires whole { (reader.old.rows_left ≡ reader.old.header.region.rows)
+        × (reader.old.failed ≡ false) }
     requires heard { reader.old.heard.failed ≡ false }
-    ensures map { IfOk result (λ m. (text : Option Coming) → IsOpened text reader.old → IfSome text (λ c. grid_of c ≡ Ok m)) }
-    ensures fault { IfErr result (λ f. f.kind ≢ GridKind.Memory → (text : Option Coming) → IsOpened text reader.old → IfSome text (λ c. grid_of c ≡ Err f)) }
+    ensures map { IfOk result (λ m. (text : Option Coming) → IsOpened text reader.old
+        → IfSome text (λ c. grid_of c ≡ Ok m)) }
+    ensures fault { IfErr result (λ f. f.kind ≢ GridKind.Memory → (text : Option Coming)
+        → IsOpened text reader.old → IfSome text (λ c. grid_of c ≡ Err f)) }
     ensures memory { IfErr result (λ f. f.kind ≡ GridKind.Memory → f.line ≡ 0) }
     ensures kinds { IfErr result (λ f. f.kind ≢ GridKind.Failed) }
     // The source is asked only while it goes on, and an `Err` of it is told as Read.
@@ -450,11 +491,13 @@ fn read_whole<R: Source>(alloc: Global, reader: &mut GridReader<R>) -> Result<Ce
 /// The text's first fault with its line, or `Memory` with line 0 where memory is refused.
 pub fn read_map<R: Source + Drop>(alloc: Global, source: R) -> Result<CellMap, GridFault>
     ensures map { IfOk result (λ m. IfSome (R.coming source) (λ c. Denotes c m)) }
-    ensures fault { IfErr result (λ f. f.kind ≢ GridKind.Memory → IfSome (R.coming source) (λ c. text_fault c ≡ Some f)) }
+    ensures fault { IfErr result (λ f. f.kind ≢ GridKind.Memory
+        → IfSome (R.coming source) (λ c. text_fault c ≡ Some f)) }
     ensures memory { IfErr result (λ f. f.kind ≡ GridKind.Memory → f.line ≡ 0) }
     ensures kinds { IfErr result (λ f. f.kind ≢ GridKind.Failed) }
     ensures reading_map { IfOk result (λ m. IfSome (R.coming source) (λ c. grid_of c ≡ Ok m)) }
-    ensures reading_fault { IfErr result (λ f. f.kind ≢ GridKind.Memory → IfSome (R.coming source) (λ c. grid_of c ≡ Err f)) }
+    ensures reading_fault { IfErr result (λ f. f.kind ≢ GridKind.Memory
+        → IfSome (R.coming source) (λ c. grid_of c ≡ Err f)) }
 {
     let mut reader = GridReader::open(alloc, source)?;
     match read_whole(alloc, &mut reader) {

@@ -1,30 +1,30 @@
 -- Which faults are of the text.
 use Rattle.std.proofs.Common.{◌≡◌, ℕ, List, Option, Some, None, Ok, Err, Bool, true, false, if◌then◌else◌, refl, subst}
 use Rattle.cell_ascii_meaning.specs.EdgeNumbers.{coordinate, side, whole_in_range}
-use Rattle.cell_ascii_meaning.specs.Header.{Keys, given, is_int, has_colon, with_header_key}
+use Rattle.cell_ascii_meaning.specs.Header.{KeyValues, value_given, is_int, has_colon, with_header_key}
 use Rattle.cell_ascii_meaning.specs.Kinds.{IsOfText, is_read}
-use Rattle.cell_ascii_meaning.specs.declared.header_key.Key.{Key}
-use Rattle.cell_ascii_meaning.specs.declared.header_key.Key.TheVariants.{North, South, East, West, Rows, Cols, Null, CellType, Multiplier}
+use Rattle.cell_ascii_meaning.specs.declared.header_key.HeaderKey.{HeaderKey}
+use Rattle.cell_ascii_meaning.specs.declared.header_key.HeaderKey.TheVariants.{North, South, East, West, Rows, Cols, Null, CellType, Multiplier}
 use Rattle.cell_ascii_meaning.specs.declared.grid_fault.GridKind.{GridKind}
 use Rattle.cell_ascii_meaning.specs.declared.grid_fault.GridKind.TheVariants.{BadHeader, TwiceKey, BadNumber, BadType}
 
 -- what holds of the four faults of a key
 module _ (P : GridKind → Type 0) (header : P BadHeader) (twice : P TwiceKey) (number : P BadNumber) (other : P BadType) where
-  given_kind : {X : Type 0} (old value : Option X) (keep : X → Keys) (kind : GridKind) → given old value keep ≡ Err kind → P kind
+  given_kind : {X : Type 0} (old value : Option X) (keep : X → KeyValues) (kind : GridKind) → value_given old value keep ≡ Err kind → P kind
   given_kind (Some old) value keep kind e = let p : TwiceKey ≡ kind = cc in subst P p twice
   given_kind None None keep kind e = let p : BadNumber ≡ kind = cc in subst P p number
   given_kind None (Some x) keep kind e = cc
 
-  null_kind : (colon : Bool) (keys : Keys) (value : List ℕ) (kind : GridKind) → (if colon then Err BadHeader else given keys.null (Some value) (λ x. record keys { null = Some x })) ≡ Err kind → P kind
+  null_kind : (colon : Bool) (keys : KeyValues) (value : List ℕ) (kind : GridKind) → (if colon then Err BadHeader else value_given keys.null (Some value) (λ x. record keys { null = Some x })) ≡ Err kind → P kind
   null_kind true keys value kind e = let p : BadHeader ≡ kind = cc in subst P p header
   null_kind false keys value kind e = given_kind keys.null (Some value) (λ x. record keys { null = Some x }) kind e
 
-  type_kind : (old int : Bool) (keys : Keys) (kind : GridKind) → (if old then Err TwiceKey else (if int then Ok (record keys { kind = true }) else Err BadType)) ≡ Err kind → P kind
+  type_kind : (old int : Bool) (keys : KeyValues) (kind : GridKind) → (if old then Err TwiceKey else (if int then Ok (record keys { kind = true }) else Err BadType)) ≡ Err kind → P kind
   type_kind true int keys kind e = let p : TwiceKey ≡ kind = cc in subst P p twice
   type_kind false true keys kind e = cc
   type_kind false false keys kind e = let p : BadType ≡ kind = cc in subst P p other
 
-  key_has : (keys : Keys) (key : Option Key) (value : List ℕ) (kind : GridKind) → with_header_key keys key value ≡ Err kind → P kind
+  key_has : (keys : KeyValues) (key : Option HeaderKey) (value : List ℕ) (kind : GridKind) → with_header_key keys key value ≡ Err kind → P kind
   key_has keys None value kind e = let p : BadHeader ≡ kind = cc in subst P p header
   key_has keys (Some North) value kind e = given_kind keys.north (coordinate value) (λ x. record keys { north = Some x }) kind e
   key_has keys (Some South) value kind e = given_kind keys.south (coordinate value) (λ x. record keys { south = Some x }) kind e
@@ -37,8 +37,8 @@ module _ (P : GridKind → Type 0) (header : P BadHeader) (twice : P TwiceKey) (
   key_has keys (Some Multiplier) value kind e = given_kind keys.multiplier (whole_in_range value) (λ x. record keys { multiplier = Some x }) kind e
 
 -- a key that is not taken is a fault of the text, and not of its source
-pub key_kind : (keys : Keys) (key : Option Key) (value : List ℕ) (kind : GridKind) → with_header_key keys key value ≡ Err kind → IsOfText kind
+pub key_kind : (keys : KeyValues) (key : Option HeaderKey) (value : List ℕ) (kind : GridKind) → with_header_key keys key value ≡ Err kind → IsOfText kind
 key_kind = key_has IsOfText tt tt tt tt
 
-pub key_told : (keys : Keys) (key : Option Key) (value : List ℕ) (kind : GridKind) → with_header_key keys key value ≡ Err kind → is_read kind ≡ false
+pub key_told : (keys : KeyValues) (key : Option HeaderKey) (value : List ℕ) (kind : GridKind) → with_header_key keys key value ≡ Err kind → is_read kind ≡ false
 key_told = key_has (λ kind. is_read kind ≡ false) refl refl refl refl

@@ -8,7 +8,7 @@ use Rattle.cell_ascii_meaning.specs.EdgeNumbers.{is_in_range, whole_number, digi
 use Rattle.cell_core_text.specs.Capped.{at_most, capped_number}
 use Rattle.cell_core_values.proofs.NameLemmas.{bytes_eq-differ}
 use Rattle.cell_ascii_header.specs.InRange.{cell_in_range}
-use Rattle.cell_ascii_meaning.specs.Header.{Header}
+use Rattle.cell_ascii_meaning.specs.Header.{HeaderValue}
 use Rattle.cell_ascii_meaning.specs.CellTexts.{cell_of_word, cell_of_number}
 use Rattle.cell_ascii_meaning.specs.declared.grid_fault.GridKind.TheVariants.{CellRange}
 
@@ -98,7 +98,7 @@ by_one m n e = by (is_in_range n) refl
     by false f = rw f refl
 
 -- the word of a number is its cell, where the null text is no number and nothing is multiplied
-pub plain_cell : (h : Header) (word : List ℕ) (n : ℤ) → whole_number word ≡ Some n → capped_number h.null_text ≡ None → h.multiplier ≡ pos 1
+pub plain_cell : (h : HeaderValue) (word : List ℕ) (n : ℤ) → whole_number word ≡ Some n → capped_number h.null_text ≡ None → h.multiplier ≡ pos 1
     → cell_in_range n ≡ cell_of_word h word
 plain_cell h word n is none one =
     let other : bytes_eq word h.null_text ≡ false = bytes_eq-differ word h.null_text (λ same. let no : whole_number word ≡ None = capped_none word (ap capped_number same ∙ none) in cc) in

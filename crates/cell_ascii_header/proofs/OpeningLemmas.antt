@@ -6,10 +6,10 @@ use Rattle.std.specs.Result.{IsErr}
 use Rattle.std.specs.List.{before_first, after_first, list_any, position_or_len}
 use Rattle.cell_core_devices.specs.Device.{Coming}
 use Rattle.cell_ascii_meaning.specs.GridTokens.{Start, Begins, Ends, Stops, grid_start, word_from, grid_fault}
-use Rattle.cell_ascii_meaning.specs.Header.{◌>>=◌, Keys, LineEnd, is_colon, at_line, with_header_key, Gap, Word, Feed as FeedGap, Last, Fault, value_from, line_end, gap_of, key_line, after_line, line_from, header_from, Opened, opened, header_ended}
+use Rattle.cell_ascii_meaning.specs.Header.{◌>>=◌, KeyValues, LineEnd, is_colon, at_line, with_header_key, Gap, Word, Feed as FeedGap, Last, Fault, value_from, line_end, gap_of, key_line, after_line, line_from, header_from, OpenedText, opened_text, header_ended}
 use Rattle.cell_ascii_scanner.specs.Ahead.{IsAtEnd}
 use Rattle.cell_ascii_meaning.specs.KeyNames.{header_key_of}
-use Rattle.cell_ascii_meaning.specs.declared.header_key.Key.{Key}
+use Rattle.cell_ascii_meaning.specs.declared.header_key.HeaderKey.{HeaderKey}
 use Rattle.cell_ascii_meaning.specs.declared.grid_fault.GridKind.TheVariants.{BadHeader}
 use Rattle.cell_ascii_scanner.specs.Scan.{start_seen, word_seen, line_count_seen as lines_seen}
 use Rattle.cell_ascii_header.specs.Opening.{value_seen, ending_seen, key_line_seen, AfterLine, More, Stop, after_key, line_read}
@@ -65,18 +65,19 @@ err_no_ok P (Err d) x err e = cc
 pub one_ending : (P : Type 0) (r : Result Ending GridFault) → r ≡ Ok Feed → r ≡ Ok Text → P
 one_ending P r feed text = cc
 
-abbrev after_end : Result Keys GridKind → ℕ → Result LineEnd GridFault → Result (Keys × LineEnd) GridFault
+abbrev after_end : Result KeyValues GridKind → ℕ → Result LineEnd GridFault → Result (KeyValues × LineEnd) GridFault
 after_end more line r = r >>= (λ end. at_line line more >>= (λ k. Ok (k, end)))
 
-abbrev after_value : ℕ → Keys → List ℕ → Result (List ℕ × Coming) GridFault → Result (Keys × LineEnd) GridFault
+abbrev after_value : ℕ → KeyValues → List ℕ → Result (List ℕ × Coming) GridFault
+    → Result (KeyValues × LineEnd) GridFault
 after_value line keys word r = r >>= (λ value. after_end (with_header_key keys (header_key_of (before_first is_colon word)) value.0) line (line_end line (gap_of line 0 value.1)))
 
-ends_with : (more : Keys) (line run : ℕ) (e : Ending) (c : Coming) → after_end (Ok more) line (ending_seen (Ok e) run c) ≡ key_line_seen (Ok e) more run c
+ends_with : (more : KeyValues) (line run : ℕ) (e : Ending) (c : Coming) → after_end (Ok more) line (ending_seen (Ok e) run c) ≡ key_line_seen (Ok e) more run c
 ends_with more line run Feed c = refl
 ends_with more line run Text c = refl
 
 -- a header line whose value and end were read
-pub key_done : (line : ℕ) (keys : Keys) (word w : List ℕ) (at run : ℕ) (e : Ending) (more : Keys) (a b d : Option Coming)
+pub key_done : (line : ℕ) (keys : KeyValues) (word w : List ℕ) (at run : ℕ) (e : Ending) (more : KeyValues) (a b d : Option Coming)
     → option_map (value_from line (after_first is_colon word)) a ≡ option_map (value_seen (Ok at) w) b
     → option_map (λ c. line_end line (gap_of line 0 c)) b ≡ option_map (ending_seen (Ok e) run) d
     → with_header_key keys (header_key_of (before_first is_colon word)) (drop at w) ≡ Ok more
@@ -86,11 +87,11 @@ key_done line keys word w at run e more a b d values ends given =
     values
     ∙ then_map (after_end (with_header_key keys (header_key_of (before_first is_colon word)) (drop at w)) line)
     (λ c. line_end line (gap_of line 0 c)) (ending_seen (Ok e) run) b d ends
-    ∙ ap (λ (v : Result Keys GridKind). option_map (λ c. after_end v line (ending_seen (Ok e) run c)) d) given
+    ∙ ap (λ (v : Result KeyValues GridKind). option_map (λ c. after_end v line (ending_seen (Ok e) run c)) d) given
     ∙ map_same (λ c. after_end (Ok more) line (ending_seen (Ok e) run c)) (key_line_seen (Ok e) more run) d (ends_with more line run e)
 
 -- one whose value could not be read
-pub key_unread : (line : ℕ) (keys : Keys) (word w : List ℕ) (run : ℕ) (more : Keys) (f : GridFault)
+pub key_unread : (line : ℕ) (keys : KeyValues) (word w : List ℕ) (run : ℕ) (more : KeyValues) (f : GridFault)
     (a b : Option Coming)
     → option_map (value_from line (after_first is_colon word)) a ≡ option_map (value_seen (Err f) w) b
     → option_map (key_line line keys word) a ≡ option_map (key_line_seen (Err f) more run) b
@@ -99,7 +100,7 @@ key_unread line keys word w run more f a b values =
     values
 
 -- one whose end could not be read
-pub key_unended : (line : ℕ) (keys : Keys) (word w : List ℕ) (at run : ℕ) (more : Keys) (f : GridFault)
+pub key_unended : (line : ℕ) (keys : KeyValues) (word w : List ℕ) (at run : ℕ) (more : KeyValues) (f : GridFault)
     (a b d : Option Coming)
     → option_map (value_from line (after_first is_colon word)) a ≡ option_map (value_seen (Ok at) w) b
     → option_map (λ c. line_end line (gap_of line 0 c)) b ≡ option_map (ending_seen (Err f) run) d
@@ -116,7 +117,8 @@ refused_with kind line run Feed c = refl
 refused_with kind line run Text c = refl
 
 -- one whose key or value is refused
-pub key_refused : (line : ℕ) (keys : Keys) (word w : List ℕ) (at run : ℕ) (e : Ending) (more : Keys) (kind : GridKind)
+pub key_refused : (line : ℕ) (keys : KeyValues) (word w : List ℕ) (at run : ℕ) (e : Ending) (more : KeyValues)
+    (kind : GridKind)
     (a b d : Option Coming)
     → option_map (value_from line (after_first is_colon word)) a ≡ option_map (value_seen (Ok at) w) b
     → option_map (λ c. line_end line (gap_of line 0 c)) b ≡ option_map (ending_seen (Ok e) run) d
@@ -127,7 +129,7 @@ key_refused line keys word w at run e more kind a b d values ends given =
     values
     ∙ then_map (after_end (with_header_key keys (header_key_of (before_first is_colon word)) (drop at w)) line)
     (λ c. line_end line (gap_of line 0 c)) (ending_seen (Ok e) run) b d ends
-    ∙ ap (λ (v : Result Keys GridKind). option_map (λ c. after_end v line (ending_seen (Ok e) run c)) d) given
+    ∙ ap (λ (v : Result KeyValues GridKind). option_map (λ c. after_end v line (ending_seen (Ok e) run c)) d) given
     ∙ map_same (λ c. after_end (Err kind) line (ending_seen (Ok e) run c))
     (key_line_seen (Err (grid_fault kind line)) more run) d (refused_with kind line run e)
 
@@ -136,8 +138,8 @@ whole_rest : (bs : List ℕ) (i : ℕ) → take (length bs - i) (drop i bs) ≡ 
 whole_rest bs i = take_all (length bs - i) (drop i bs) (omega (arith, length-drop i bs))
 
 -- the key and the value as they are computed
-pub key_given : (keys : Keys) (r : Result Keys GridKind) (word first last end : List ℕ) (colon at : ℕ)
-    (key : Option Key)
+pub key_given : (keys : KeyValues) (r : Result KeyValues GridKind) (word first last end : List ℕ) (colon at : ℕ)
+    (key : Option HeaderKey)
     → colon ≡ position_or_len is_colon word → first ≡ word → key ≡ header_key_of (take colon first) → last ≡ end
     → r ≡ with_header_key keys key (take (length last - at) (drop at last))
     → with_header_key keys (header_key_of (before_first is_colon word)) (drop at end) ≡ r
@@ -169,10 +171,10 @@ any_none p (x ∷ xs) h = by (any_none p xs) (p x) refl
     by rest true e = let none = none_later p x xs e in absurd (omega (arith, h, none))
     by rest false e = let step = later p x xs e in rw e (rest (omega (arith, h, step)))
 
-abbrev after_first_word : Keys → ℕ → Result (List ℕ × Coming) GridFault → Result AfterLine GridFault
+abbrev after_first_word : KeyValues → ℕ → Result (List ℕ × Coming) GridFault → Result AfterLine GridFault
 after_first_word keys line r = r >>= (λ w. if list_any is_colon w.0 then key_line line keys w.0 w.1 >>= after_key line else Ok (Stop keys line (Some w.0) w.1))
 
-module _ (keys : Keys) (line run l : ℕ) (word : List ℕ) (a b d : Option Coming)
+module _ (keys : KeyValues) (line run l : ℕ) (word : List ℕ) (a b d : Option Coming)
     (starts : option_map (grid_start line run) a ≡ option_map (start_seen (Ok NextWord) l) b)
     (words : option_map (word_from l []) b ≡ option_map (word_seen (Ok tt) word) d) where
   first_word : option_map (λ c. line_read keys (grid_start line run c)) a ≡ option_map (λ c. after_first_word keys l (Ok (word, c))) d
@@ -187,7 +189,7 @@ module _ (keys : Keys) (line run l : ℕ) (word : List ℕ) (a b d : Option Comi
   key_word : list_any is_colon word ≡ true → option_map (λ c. line_read keys (grid_start line run c)) a ≡ option_map (λ c. key_line l keys word c >>= after_key l) d
   key_word some = first_word ∙ map_same (λ c. after_first_word keys l (Ok (word, c))) (λ c. key_line l keys word c >>= after_key l) d (λ c. rw some refl)
 
-  module _ (some : list_any is_colon word ≡ true) (more : Keys) (run' : ℕ) (e : Option Coming) where
+  module _ (some : list_any is_colon word ≡ true) (more : KeyValues) (run' : ℕ) (e : Option Coming) where
     line_ends : (r : Result Ending GridFault) → option_map (key_line l keys word) d ≡ option_map (key_line_seen r more run') e
         → option_map (λ c. line_read keys (grid_start line run c)) a ≡ option_map (λ c. key_line_seen r more run' c >>= after_key l) e
     line_ends r h = key_word some ∙ then_map (λ r. r >>= after_key l) (key_line l keys word) (key_line_seen r more run') d e h
@@ -209,47 +211,48 @@ module _ (keys : Keys) (line run l : ℕ) (word : List ℕ) (a b d : Option Comi
     line_fails f h = line_ends (Err f) h
 
 -- a line of the header, and then what is read behind it
-abbrev go_on : (Keys → ℕ → ℕ → Coming → Result Opened GridFault) → Result AfterLine GridFault → Result Opened GridFault
+abbrev go_on : (KeyValues → ℕ → ℕ → Coming → Result OpenedText GridFault) → Result AfterLine GridFault
+    → Result OpenedText GridFault
 go_on rest (Ok (More keys line run c)) = rest keys line run c
-go_on rest (Ok (Stop keys line pending c)) = opened keys line pending c
+go_on rest (Ok (Stop keys line pending c)) = opened_text keys line pending c
 go_on rest (Err f) = Err f
 
-module _ (rest : Keys → ℕ → ℕ → Coming → Result Opened GridFault) where
-  key_on : (line : ℕ) (r : Result (Keys × LineEnd) GridFault) → (r >>= after_line rest line) ≡ go_on rest (r >>= after_key line)
+module _ (rest : KeyValues → ℕ → ℕ → Coming → Result OpenedText GridFault) where
+  key_on : (line : ℕ) (r : Result (KeyValues × LineEnd) GridFault) → (r >>= after_line rest line) ≡ go_on rest (r >>= after_key line)
   key_on line (Ok (keys, None)) = refl
   key_on line (Ok (keys, Some (run, c))) = refl
   key_on line (Err f) = refl
 
-  word_on : (keys : Keys) (line : ℕ) (word : List ℕ) (c : Coming) (t : Bool)
-      → (if t then key_line line keys word c >>= after_line rest line else opened keys line (Some word) c)
+  word_on : (keys : KeyValues) (line : ℕ) (word : List ℕ) (c : Coming) (t : Bool)
+      → (if t then key_line line keys word c >>= after_line rest line else opened_text keys line (Some word) c)
       ≡ go_on rest (if t then key_line line keys word c >>= after_key line else Ok (Stop keys line (Some word) c))
   word_on keys line word c true = key_on line (key_line line keys word c)
   word_on keys line word c false = refl
 
-  begun_on : (keys : Keys) (line : ℕ) (r : Result (List ℕ × Coming) GridFault)
-      → (r >>= (λ w. if list_any is_colon w.0 then key_line line keys w.0 w.1 >>= after_line rest line else opened keys line (Some w.0) w.1))
+  begun_on : (keys : KeyValues) (line : ℕ) (r : Result (List ℕ × Coming) GridFault)
+      → (r >>= (λ w. if list_any is_colon w.0 then key_line line keys w.0 w.1 >>= after_line rest line else opened_text keys line (Some w.0) w.1))
       ≡ go_on rest (after_first_word keys line r)
   begun_on keys line (Ok (word, c)) = word_on keys line word c (list_any is_colon word)
   begun_on keys line (Err f) = refl
 
-  line_on : (keys : Keys) (s : Start) → line_from rest keys s ≡ go_on rest (line_read keys s)
+  line_on : (keys : KeyValues) (s : Start) → line_from rest keys s ≡ go_on rest (line_read keys s)
   line_on keys (Begins line c) = begun_on keys line (word_from line [] c)
   line_on keys (Ends line) = refl
   line_on keys (Stops f) = refl
 
-header_more : (fuel : ℕ) (keys : Keys) (line run : ℕ) (c : Coming)
+header_more : (fuel : ℕ) (keys : KeyValues) (line run : ℕ) (c : Coming)
     → header_from (suc fuel) keys line run c ≡ go_on (λ k l r d. header_from fuel k l r d) (line_read keys (grid_start line run c))
 unfolding header_from
 header_more fuel keys line run c = line_on (λ k l r d. header_from fuel k l r d) keys (grid_start line run c)
 
-pub header_none : (keys : Keys) (line run : ℕ) (c : Coming) → header_from 0 keys line run c ≡ Err (grid_fault BadHeader line)
+pub header_none : (keys : KeyValues) (line run : ℕ) (c : Coming) → header_from 0 keys line run c ≡ Err (grid_fault BadHeader line)
 unfolding header_from
 header_none keys line run c = refl
 
 less_one : (n i : ℕ) → i < n → n - i ≡ suc (n - (i + 1))
 less_one n i h = omega arith
 
-module _ (F : Coming → Result Opened GridFault) (a b d : Option Coming) (i : ℕ) (keys : Keys) (line run : ℕ) (in_range : i < 10)
+module _ (F : Coming → Result OpenedText GridFault) (a b d : Option Coming) (i : ℕ) (keys : KeyValues) (line run : ℕ) (in_range : i < 10)
     (so_far : option_map F a ≡ option_map (header_from (10 - i) keys line run) b) where
   one_line : (seen : Coming → Result AfterLine GridFault) → option_map (λ c. line_read keys (grid_start line run c)) b ≡ option_map seen d
       → option_map F a ≡ option_map (λ c. go_on (λ k l r x. header_from (10 - (i + 1)) k l r x) (seen c)) d
@@ -259,12 +262,12 @@ module _ (F : Coming → Result Opened GridFault) (a b d : Option Coming) (i : �
       ∙ then_map (go_on (λ k l r x. header_from (10 - (i + 1)) k l r x)) (λ c. line_read keys (grid_start line run c)) seen b d h
 
   -- the keys after the line, and the lines behind it
-  pub header_goes : (more : Keys) (l r : ℕ) → option_map (λ c. line_read keys (grid_start line run c)) b ≡ option_map (λ c. Ok (More more l r c)) d
+  pub header_goes : (more : KeyValues) (l r : ℕ) → option_map (λ c. line_read keys (grid_start line run c)) b ≡ option_map (λ c. Ok (More more l r c)) d
       → option_map F a ≡ option_map (header_from (10 - (i + 1)) more l r) d
   header_goes more l r h = one_line (λ c. Ok (More more l r c)) h
 
-  pub header_stops : (more : Keys) (l : ℕ) (pending : Option (List ℕ)) → option_map (λ c. line_read keys (grid_start line run c)) b ≡ option_map (λ c. Ok (Stop more l pending c)) d
-      → option_map F a ≡ option_map (opened more l pending) d
+  pub header_stops : (more : KeyValues) (l : ℕ) (pending : Option (List ℕ)) → option_map (λ c. line_read keys (grid_start line run c)) b ≡ option_map (λ c. Ok (Stop more l pending c)) d
+      → option_map F a ≡ option_map (opened_text more l pending) d
   header_stops more l pending h = one_line (λ c. Ok (Stop more l pending c)) h
 
   pub header_fails : (f : GridFault) → option_map (λ c. line_read keys (grid_start line run c)) b ≡ option_map (λ c. Err f) d

@@ -2,7 +2,7 @@
 use Rattle.std.specs.Prelude.{ℕ, ℤ, Bool, unwrap_or, true, List, Option, Some, None, Result, Ok, Err, if◌then◌else◌}
 use Rattle.cell_core_values.specs.Region.{RegionValue}
 use Rattle.cell_core_values.specs.declared.region.RegionFault.{RegionFault}
-use Rattle.cell_ascii_meaning.specs.Header.{Header, has_colon, is_int, usual_null, usual_multiplier}
+use Rattle.cell_ascii_meaning.specs.Header.{HeaderValue, has_colon, is_int, usual_null, usual_multiplier}
 use Rattle.cell_ascii_meaning.specs.declared.grid_fault.GridKind.{GridKind}
 use Rattle.cell_ascii_meaning.specs.declared.grid_fault.GridKind.TheVariants.{BadHeader, TwiceKey, BadNumber, BadType, Region}
 
@@ -21,6 +21,6 @@ abbrev pub given_type : Bool → List ℕ → Result Bool GridKind
 given_type old text = if old then Err TwiceKey else (if is_int text then Ok true else Err BadType)
 
 -- the header over a region, where there is one
-abbrev pub keys_judged : Result RegionValue RegionFault → Option (List ℕ) → Option ℤ → Result Header GridKind
+abbrev pub keys_judged : Result RegionValue RegionFault → Option (List ℕ) → Option ℤ → Result HeaderValue GridKind
 keys_judged (Ok region) null multiplier = Ok (record { region = region; null_text = unwrap_or null usual_null; multiplier = unwrap_or multiplier usual_multiplier })
 keys_judged (Err f) null multiplier = Err (Region f)

@@ -5,7 +5,7 @@ ghost use Rattle.cell_ascii_meaning.specs.CellTexts.{cell_of_word, cell_of_numbe
 ghost use Rattle.cell_ascii_header.specs.InRange.{cell_in_range};
 ghost use Rattle.cell_ascii_meaning.specs.EdgeNumbers.{whole_number};
 
-use crate::header_null::NullText;
+use crate::header_null::HeaderNull;
 use cell_ascii_meaning::grid_fault::GridKind;
 use cell_core::cell::Cell;
 use cell_core::region::Region;
@@ -16,7 +16,7 @@ use std::marker::Model;
 #[derive(Drop)]
 pub struct Header {
     region: Region,
-    null_text: NullText,
+    null_text: HeaderNull,
     // The number that the null text is, if it is one: no word of another number in range is compared with the text.
     null_number: Option<i64>,
     multiplier: i32,
@@ -27,9 +27,9 @@ pub struct Header {
 impl Model for Header {
     ghost use Rattle.std.specs.Prelude.{◌≡◌, None, pos, true};
     ghost use Rattle.cell_core_text.specs.Capped.{capped_number};
-    ghost use Rattle.cell_ascii_meaning.specs.Header.{Header};
+    ghost use Rattle.cell_ascii_meaning.specs.Header.{HeaderValue};
 
-    ghost Value = { Header };
+    ghost Value = { HeaderValue };
 
     ghost view = { λ h. record { region = h.region; null_text = h.null_text; multiplier = h.multiplier } };
 
@@ -51,7 +51,7 @@ fn in_range(number: i64) -> Result<Cell, GridKind>
 
 // The cell of a number, by the multiplier.
 #[inline(always)]
-fn cell_of_number(multiplier: i32, number: i64) -> Result<Cell, GridKind>
+fn multiplied_cell(multiplier: i32, number: i64) -> Result<Cell, GridKind>
     ensures { result ≡ cell_of_number multiplier (Some number) }
 {
     if !whole_numbers::is_in_range(number) {
@@ -66,10 +66,11 @@ fn cell_of_number(multiplier: i32, number: i64) -> Result<Cell, GridKind>
 
 impl Header {
     /// A header that says this.
-    pub fn new(region: Region, null_text: NullText, multiplier: i32) -> Header
-        ensures { result ≡ record { region = region; null_text = null_text; multiplier = multiplier } }
+    pub fn new(region: Region, null_text: HeaderNull, multiplier: i32) -> Header
+        ensures { result
+            ≡ record { region = region; null_text = null_text; multiplier = multiplier } }
     {
-        let null_number = null_text.number();
+        let null_number = null_text.as_number();
         let is_plain = null_number.is_none() && multiplier == 1;
         Header {
             region,
@@ -96,16 +97,16 @@ impl Header {
         if self.is_plain {
             return in_range(number);
         }
-        if self.is_null(word, number) {
+        if self.spells_null(word, number) {
             Ok(Cell::null())
         } else {
-            cell_of_number(self.multiplier, number)
+            multiplied_cell(self.multiplier, number)
         }
     }
 
     // Whether the word of a number is the null text. The texts are compared only where the numbers do not tell.
     #[inline(always)]
-    fn is_null(&self, word: &[u8], number: i64) -> bool
+    fn spells_null(&self, word: &[u8], number: i64) -> bool
         requires { whole_number word.now ≡ Some number }
         ensures { result ≡ bytes_eq word.now self.now.null_text }
     {
@@ -126,7 +127,7 @@ impl Header {
             return Ok(Cell::null());
         }
         match whole_numbers::whole_number(word) {
-            Some(number) => cell_of_number(self.multiplier, number),
+            Some(number) => multiplied_cell(self.multiplier, number),
             None => Err(GridKind::BadCell),
         }
     }

@@ -9,12 +9,12 @@ use std::marker::Model;
 
 /// A text of at most 64 bytes.
 #[derive(Drop)]
-pub struct NullText {
+pub struct HeaderNull {
     bytes: [u8; 64],
     len: usize,
 }
 
-impl Model for NullText {
+impl Model for HeaderNull {
     ghost use Rattle.std.specs.Prelude.{ℕ, List, take, ◌≤◌};
 
     ghost Value = { List ℕ };
@@ -24,25 +24,25 @@ impl Model for NullText {
     ghost invariant = { λ t. t.len ≤ 64 };
 }
 
-impl NullText {
+impl HeaderNull {
     /// An asterisk.
-    pub fn usual() -> NullText
+    pub fn usual() -> HeaderNull
         ensures { result ≡ usual_null }
     {
-        NullText {
+        HeaderNull {
             bytes: [b'*'; 64],
             len: 1,
         }
     }
 
     /// A copy of a text.
-    pub fn new(text: &[u8]) -> NullText
+    pub fn new(text: &[u8]) -> HeaderNull
         requires { length text.now ≤ 64 }
         ensures { result ≡ text.now }
     {
         let mut bytes = [0; 64];
         bytes[..text.len()].copy_from_slice(text);
-        NullText {
+        HeaderNull {
             bytes,
             len: text.len(),
         }
@@ -56,7 +56,7 @@ impl NullText {
     }
 
     /// The number that this text is, if it is one. One below -10^18 or above 10^18 comes as that bound.
-    pub fn number(&self) -> Option<i64>
+    pub fn as_number(&self) -> Option<i64>
         ensures { result ≡ capped_number self.now }
     {
         whole_numbers::whole_number(&self.bytes[..self.len])

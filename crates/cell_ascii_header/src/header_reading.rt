@@ -10,7 +10,7 @@ ghost use Rattle.cell_ascii_meaning.specs.GridTokens.{grid_start};
 ghost use Rattle.cell_ascii_meaning.specs.Header.{gap_of, value_from, line_end, key_line, is_colon, header_from};
 ghost use Rattle.cell_ascii_header.specs.Opening.{value_seen, ending_seen, key_line_seen, line_read, header_line_seen, header_seen};
 
-use crate::keys::Keys;
+use crate::keys::HeaderKeys;
 use crate::{key_names, number};
 use cell_ascii_meaning::grid_fault::{GridFault, GridKind};
 use cell_ascii_scanner::scanner::{InLine, Next, Scanner};
@@ -28,7 +28,7 @@ pub enum Ending {
 
 /// What a line came to: a key, the first word of the data, or the end of the text.
 #[derive(Clone, Copy)]
-pub enum Line {
+pub enum HeaderLine {
     Key,
     Data,
     Last,
@@ -48,7 +48,8 @@ fn read_value<R: Source>(scanner: &mut Scanner<R>, start: usize) -> Result<usize
     requires room { scanner.old.line + 1048576 < 2 ^ 64 }
     requires run { scanner.old.run ≡ 0 }
     requires heard { scanner.old.ahead.heard.failed ≡ false }
-    ensures value { option_map (value_from scanner.old.line (drop start scanner.old.word)) (bytes_to_come scanner.old.ahead)
+    ensures value { option_map (value_from scanner.old.line (drop start scanner.old.word))
+        (bytes_to_come scanner.old.ahead)
         ≡ option_map (value_seen result scanner.new.word) (bytes_to_come scanner.new.ahead) }
     ensures line { OnOk result (scanner.new.line ≡ scanner.old.line) }
     ensures run { OnOk result (scanner.new.run ≡ 0) }
@@ -75,7 +76,8 @@ fn read_value<R: Source>(scanner: &mut Scanner<R>, start: usize) -> Result<usize
 fn end_line<R: Source>(scanner: &mut Scanner<R>) -> Result<Ending, GridFault>
     requires room { scanner.old.line + 1048576 < 2 ^ 64 }
     requires run { scanner.old.run ≡ 0 }
-    ensures ending { option_map (λ c. line_end scanner.old.line (gap_of scanner.old.line 0 c)) (bytes_to_come scanner.old.ahead)
+    ensures ending { option_map (λ c. line_end scanner.old.line (gap_of scanner.old.line 0 c))
+        (bytes_to_come scanner.old.ahead)
         ≡ option_map (ending_seen result scanner.new.run) (bytes_to_come scanner.new.ahead) }
     ensures feed { result ≡ Ok Ending.Feed → scanner.new.line ≡ scanner.old.line + 1 }
     ensures text { result ≡ Ok Ending.Text → scanner.new.line ≡ scanner.old.line }
@@ -97,7 +99,7 @@ fn end_line<R: Source>(scanner: &mut Scanner<R>) -> Result<Ending, GridFault>
 // Reads a header line behind its first word, whose first colon is at this place.
 fn read_key<R: Source>(
     scanner: &mut Scanner<R>,
-    keys: &mut Keys,
+    keys: &mut HeaderKeys,
     colon: usize,
 ) -> Result<Ending, GridFault>
     requires room { scanner.old.line + 1048577 < 2 ^ 64 }
@@ -105,8 +107,10 @@ fn read_key<R: Source>(
     requires colon { colon ≡ position_or_len is_colon scanner.old.word }
     requires within { colon < length scanner.old.word }
     requires heard { scanner.old.ahead.heard.failed ≡ false }
-    ensures key { option_map (key_line scanner.old.line keys.old scanner.old.word) (bytes_to_come scanner.old.ahead)
-        ≡ option_map (key_line_seen result keys.new scanner.new.run) (bytes_to_come scanner.new.ahead) }
+    ensures key { option_map (key_line scanner.old.line keys.old scanner.old.word)
+        (bytes_to_come scanner.old.ahead)
+        ≡ option_map (key_line_seen result keys.new scanner.new.run)
+        (bytes_to_come scanner.new.ahead) }
     ensures feed { result ≡ Ok Ending.Feed → scanner.new.line ≡ scanner.old.line + 1 }
     ensures text { result ≡ Ok Ending.Text → scanner.new.line ≡ scanner.old.line }
     ensures run { OnOk result (scanner.new.run ≤ 1048576) }
@@ -116,7 +120,7 @@ fn read_key<R: Source>(
     ensures heard { scanner.new.ahead.heard ≡ hears (tells_read result) scanner.old.ahead.heard }
 {
     let line = scanner.line();
-    let key = key_names::key_of(&scanner.word()[..colon]);
+    let key = key_names::header_key_of(&scanner.word()[..colon]);
     let start = read_value(scanner, colon + 1)?;
     let ending = end_line(scanner)?;
     match keys.give(key, &scanner.word()[start..]) {
@@ -126,11 +130,18 @@ fn read_key<R: Source>(
 }
 
 // Reads a line of the header, or the first word of the data.
-fn read_line<R: Source>(scanner: &mut Scanner<R>, keys: &mut Keys) -> Result<Line, GridFault>
+fn read_line<R: Source>(
+    scanner: &mut Scanner<R>,
+    keys: &mut HeaderKeys,
+) -> Result<HeaderLine, GridFault>
     requires room { scanner.old.line + 2097154 < 2 ^ 64 }
     requires run { scanner.old.run ≤ 1048576 }
-    ensures line { option_map (λ c. line_read keys.old (grid_start scanner.old.line scanner.old.run c)) (bytes_to_come scanner.old.ahead)
-        ≡ option_map (header_line_seen result keys.new scanner.new.word scanner.new.line scanner.new.run) (bytes_to_come scanner.new.ahead) }
+    ensures line { option_map
+        (λ c. line_read keys.old (grid_start scanner.old.line scanner.old.run c))
+        (bytes_to_come scanner.old.ahead)
+        ≡ option_map
+        (header_line_seen result keys.new scanner.new.word scanner.new.line scanner.new.run)
+        (bytes_to_come scanner.new.ahead) }
     ensures run { OnOk result (scanner.new.run ≤ 1048576) }
     ensures lines { OnOk result (scanner.new.line ≤ scanner.old.line + 1048577) }
     ensures kind { IfErr result (λ f. IsOfText f.kind) }
@@ -138,39 +149,44 @@ fn read_line<R: Source>(scanner: &mut Scanner<R>, keys: &mut Keys) -> Result<Lin
 {
     match scanner.skip_spaces() {
         Ok(Next::Word) => {}
-        Ok(Next::End) => return Ok(Line::Last),
+        Ok(Next::End) => return Ok(HeaderLine::Last),
         Err(fault) => return Err(fault),
     }
     match scanner.read_word() {
         Ok(()) => {}
         Err(fault) => return Err(fault),
     }
-    let colon = number::place_of(b':', scanner.word());
+    let colon = number::byte_place(b':', scanner.word());
     if colon >= scanner.word().len() {
-        return Ok(Line::Data);
+        return Ok(HeaderLine::Data);
     }
     match read_key(scanner, keys, colon) {
-        Ok(Ending::Feed) => Ok(Line::Key),
-        Ok(Ending::Text) => Ok(Line::Last),
+        Ok(Ending::Feed) => Ok(HeaderLine::Key),
+        Ok(Ending::Text) => Ok(HeaderLine::Last),
         Err(fault) => Err(fault),
     }
 }
 
 /// Reads the lines of a header up to the first word of the data, or to the end of the text. Answers whether that word was read.
-pub fn read_header<R: Source>(scanner: &mut Scanner<R>, keys: &mut Keys) -> Result<bool, GridFault>
+pub fn read_header<R: Source>(
+    scanner: &mut Scanner<R>,
+    keys: &mut HeaderKeys,
+) -> Result<bool, GridFault>
     requires room { scanner.old.line ≤ 1048576 }
     requires run { scanner.old.run ≤ 1048576 }
-    ensures header { option_map (header_from 10 keys.old scanner.old.line scanner.old.run) (bytes_to_come scanner.old.ahead)
-        ≡ option_map (header_seen result keys.new scanner.new.word scanner.new.line) (bytes_to_come scanner.new.ahead) }
+    ensures header { option_map (header_from 10 keys.old scanner.old.line scanner.old.run)
+        (bytes_to_come scanner.old.ahead)
+        ≡ option_map (header_seen result keys.new scanner.new.word scanner.new.line)
+        (bytes_to_come scanner.new.ahead) }
     ensures lines { OnOk result (scanner.new.line ≤ scanner.old.line + 10485770) }
     ensures kind { IfErr result (λ f. IsOfText f.kind) }
     ensures heard { scanner.new.ahead.heard ≡ hears (tells_read result) scanner.old.ahead.heard }
 {
     for _ in 0..LINES {
         match read_line(scanner, keys) {
-            Ok(Line::Key) => {}
-            Ok(Line::Data) => return Ok(true),
-            Ok(Line::Last) => return Ok(false),
+            Ok(HeaderLine::Key) => {}
+            Ok(HeaderLine::Data) => return Ok(true),
+            Ok(HeaderLine::Last) => return Ok(false),
             Err(fault) => return Err(fault),
         }
     }

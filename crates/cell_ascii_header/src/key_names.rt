@@ -3,30 +3,30 @@
 ghost use Rattle.std.specs.Prelude.{◌≡◌, Option};
 ghost use Rattle.cell_ascii_meaning.specs.KeyNames.{header_key_of};
 
-use cell_ascii_meaning::header_key::Key;
+use cell_ascii_meaning::header_key::HeaderKey;
 
 /// The key with this name.
-pub fn key_of(name: &[u8]) -> Option<Key>
+pub fn header_key_of(name: &[u8]) -> Option<HeaderKey>
     ensures { result ≡ header_key_of name.now }
 {
     if name == b"north".as_slice() {
-        Some(Key::North)
+        Some(HeaderKey::North)
     } else if name == b"south".as_slice() {
-        Some(Key::South)
+        Some(HeaderKey::South)
     } else if name == b"east".as_slice() {
-        Some(Key::East)
+        Some(HeaderKey::East)
     } else if name == b"west".as_slice() {
-        Some(Key::West)
+        Some(HeaderKey::West)
     } else if name == b"rows".as_slice() {
-        Some(Key::Rows)
+        Some(HeaderKey::Rows)
     } else if name == b"cols".as_slice() {
-        Some(Key::Cols)
+        Some(HeaderKey::Cols)
     } else if name == b"null".as_slice() {
-        Some(Key::Null)
+        Some(HeaderKey::Null)
     } else if name == b"type".as_slice() {
-        Some(Key::CellType)
+        Some(HeaderKey::CellType)
     } else if name == b"multiplier".as_slice() {
-        Some(Key::Multiplier)
+        Some(HeaderKey::Multiplier)
     } else {
         None
     }

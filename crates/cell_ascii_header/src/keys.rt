@@ -5,38 +5,38 @@ ghost use Rattle.cell_ascii_meaning.specs.Header.{no_keys, with_header_key, head
 ghost use Rattle.cell_ascii_header.specs.Given.{given_value, given_null, given_type, keys_judged};
 
 use crate::header::Header;
-use crate::header_null::NullText;
+use crate::header_null::HeaderNull;
 use crate::number;
 use cell_ascii_meaning::grid_fault::GridKind;
-use cell_ascii_meaning::header_key::Key;
+use cell_ascii_meaning::header_key::HeaderKey;
 use cell_core::region::{Region, RegionFault};
 use cell_core_text::whole_numbers;
 use std::marker::Model;
 
 /// The keys that stood so far, each with its value.
 #[derive(Drop)]
-pub struct Keys {
+pub struct HeaderKeys {
     north: Option<i64>,
     south: Option<i64>,
     east: Option<i64>,
     west: Option<i64>,
     rows: Option<u32>,
     cols: Option<u32>,
-    null: Option<NullText>,
+    null: Option<HeaderNull>,
     kind: bool,
     multiplier: Option<i32>,
 }
 
-impl Model for Keys {
-    ghost use Rattle.cell_ascii_meaning.specs.Header.{Keys};
+impl Model for HeaderKeys {
+    ghost use Rattle.cell_ascii_meaning.specs.Header.{KeyValues};
 
-    ghost Value = { Keys };
+    ghost Value = { KeyValues };
 
     ghost view = { λ k. record { north = k.north; south = k.south; east = k.east; west = k.west; rows = k.rows; cols = k.cols; null = k.null; kind = k.kind; multiplier = k.multiplier } };
 }
 
 // A key is given once, and its value is a number.
-fn given<T: Copy>(old: Option<T>, value: Option<T>) -> Result<T, GridKind>
+fn value_given<T: Copy>(old: Option<T>, value: Option<T>) -> Result<T, GridKind>
     ensures { result ≡ given_value old value }
 {
     match (old, value) {
@@ -47,7 +47,7 @@ fn given<T: Copy>(old: Option<T>, value: Option<T>) -> Result<T, GridKind>
 }
 
 // A null text is given once, and has no colon.
-fn given_null(old: &Option<NullText>, text: &[u8]) -> Result<NullText, GridKind>
+fn given_null(old: &Option<HeaderNull>, text: &[u8]) -> Result<HeaderNull, GridKind>
     requires { length text.now ≤ 64 }
     ensures { result ≡ given_null old.now text.now }
 {
@@ -56,7 +56,7 @@ fn given_null(old: &Option<NullText>, text: &[u8]) -> Result<NullText, GridKind>
     }
     match old {
         Some(_) => Err(GridKind::TwiceKey),
-        None => Ok(NullText::new(text)),
+        None => Ok(HeaderNull::new(text)),
     }
 }
 
@@ -74,9 +74,9 @@ fn given_type(old: bool, text: &[u8]) -> Result<bool, GridKind>
 }
 
 // The header over a region, where there is one.
-fn judged(
+fn header_of_region(
     region: Result<Region, RegionFault>,
-    null: Option<NullText>,
+    null: Option<HeaderNull>,
     multiplier: Option<i32>,
 ) -> Result<Header, GridKind>
     ensures { result ≡ keys_judged region null multiplier }
@@ -84,19 +84,19 @@ fn judged(
     match region {
         Ok(region) => Ok(Header::new(
             region,
-            null.unwrap_or(NullText::usual()),
+            null.unwrap_or(HeaderNull::usual()),
             multiplier.unwrap_or(1),
         )),
         Err(fault) => Err(GridKind::Region(fault)),
     }
 }
 
-impl Keys {
+impl HeaderKeys {
     /// Keys of which none was given.
-    pub fn new() -> Keys
+    pub fn new() -> HeaderKeys
         ensures { result ≡ no_keys }
     {
-        Keys {
+        HeaderKeys {
             north: None,
             south: None,
             east: None,
@@ -110,30 +110,45 @@ impl Keys {
     }
 
     /// Adds a key, whose value is a text.
-    pub fn give(&mut self, key: Option<Key>, text: &[u8]) -> Result<(), GridKind>
+    pub fn give(&mut self, key: Option<HeaderKey>, text: &[u8]) -> Result<(), GridKind>
         requires { length text.now ≤ 64 }
         ensures ok { OnOk result (with_header_key self.old key text.now ≡ Ok self.new) }
         ensures err { IfErr result (λ kind. with_header_key self.old key text.now ≡ Err kind) }
     {
         match key {
             None => return Err(GridKind::BadHeader),
-            Some(Key::North) => self.north = Some(given(self.north, number::coordinate(text))?),
-            Some(Key::South) => self.south = Some(given(self.south, number::coordinate(text))?),
-            Some(Key::East) => self.east = Some(given(self.east, number::coordinate(text))?),
-            Some(Key::West) => self.west = Some(given(self.west, number::coordinate(text))?),
-            Some(Key::Rows) => self.rows = Some(given(self.rows, number::side(text))?),
-            Some(Key::Cols) => self.cols = Some(given(self.cols, number::side(text))?),
-            Some(Key::Null) => self.null = Some(given_null(&self.null, text)?),
-            Some(Key::CellType) => self.kind = given_type(self.kind, text)?,
-            Some(Key::Multiplier) => {
-                self.multiplier = Some(given(self.multiplier, whole_numbers::whole_in_range(text))?)
+            Some(HeaderKey::North) => self.north = Some(value_given(
+                self.north,
+                number::coordinate(text),
+            )?),
+            Some(HeaderKey::South) => self.south = Some(value_given(
+                self.south,
+                number::coordinate(text),
+            )?),
+            Some(HeaderKey::East) => self.east = Some(value_given(
+                self.east,
+                number::coordinate(text),
+            )?),
+            Some(HeaderKey::West) => self.west = Some(value_given(
+                self.west,
+                number::coordinate(text),
+            )?),
+            Some(HeaderKey::Rows) => self.rows = Some(value_given(self.rows, number::side(text))?),
+            Some(HeaderKey::Cols) => self.cols = Some(value_given(self.cols, number::side(text))?),
+            Some(HeaderKey::Null) => self.null = Some(given_null(&self.null, text)?),
+            Some(HeaderKey::CellType) => self.kind = given_type(self.kind, text)?,
+            Some(HeaderKey::Multiplier) => {
+                self.multiplier = Some(value_given(
+                    self.multiplier,
+                    whole_numbers::whole_in_range(text),
+                )?)
             }
         }
         Ok(())
     }
 
     /// The header that the keys give.
-    pub fn header(self) -> Result<Header, GridKind>
+    pub fn into_header(self) -> Result<Header, GridKind>
         ensures { result ≡ header_of self }
     {
         let Some(north) = self.north else {
@@ -154,7 +169,7 @@ impl Keys {
         let Some(cols) = self.cols else {
             return Err(GridKind::MissingKey)
         };
-        judged(
+        header_of_region(
             Region::new(north, south, east, west, rows, cols),
             self.null,
             self.multiplier,

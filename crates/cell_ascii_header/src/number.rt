@@ -35,7 +35,7 @@ fn in_units(whole: &[u8], part: &[u8]) -> Option<u64>
 }
 
 /// The place of the first such byte, or the length.
-pub fn place_of(byte: u8, text: &[u8]) -> usize
+pub fn byte_place(byte: u8, text: &[u8]) -> usize
     ensures place { result ≡ position_or_len (λ b. b == byte) text.now }
     ensures within { result ≤ length text.now }
 {
@@ -51,7 +51,7 @@ fn unsigned_coordinate(text: &[u8]) -> Option<u64>
     ensures value { result ≡ unsigned_coordinate text.now }
     ensures most { IfSome result (λ n. n < UNITS_CAP) }
 {
-    let point = place_of(b'.', text);
+    let point = byte_place(b'.', text);
     if point < text.len() {
         in_units(&text[..point], &text[point + 1..])
     } else {

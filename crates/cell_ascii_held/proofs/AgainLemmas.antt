@@ -4,7 +4,7 @@ use Rattle.std.proofs.lemmas.List.{drop-take, take-take, drop-drop, take-append-
 use Rattle.cell_core_devices.specs.Device.{Coming}
 use Rattle.cell_core.specs.Grid.{CellValue}
 use Rattle.cell_ascii_scanner.specs.Ahead.{before_coming}
-use Rattle.cell_ascii_meaning.specs.Header.{Header}
+use Rattle.cell_ascii_meaning.specs.Header.{HeaderValue}
 use Rattle.cell_ascii_meaning.specs.CellTexts.{cell_from, at_of}
 use Rattle.cell_ascii_held.specs.HeldCells.{HoldsCell, HoldsCells, HoldsFront, ComesAgain}
 use Rattle.cell_ascii_held.proofs.HeldRowLemmas.{HoldsCells-more}
@@ -46,7 +46,7 @@ joined-rest n m bs c within =
     ∙ ap (λ (l : List ℕ). l ++ c.bytes) (sym (drop-append-le n (take m bs) (drop m bs) within) ∙ ap (drop n) (take-append-drop m bs)))
 
 -- what the front holds is held
-pub front_holds : (h : Header) (bs : List ℕ) (v : CellValue) (n : ℕ) → n ≤ length bs → HoldsFront h bs v n → HoldsCell h bs v n
+pub front_holds : (h : HeaderValue) (bs : List ℕ) (v : CellValue) (n : ℕ) → n ≤ length bs → HoldsFront h bs v n → HoldsCell h bs v n
 front_holds h bs v n within front = λ line run room c.
     let m = n + 1 in
     let inside : n ≤ length (take m bs) = omega (arith, length-take m bs) in
@@ -55,14 +55,14 @@ front_holds h bs v n within front = λ line run room c.
     ∙ ap (λ (d : Coming). Ok (v, at_of line 0 d)) (joined-rest n m bs c inside)
 
 -- and so it is where it comes again
-pub again_holds : (h : Header) (bs : List ℕ) (v : CellValue) (n times : ℕ) → n + times * n ≤ length bs → HoldsFront h bs v n → ComesAgain bs n times
+pub again_holds : (h : HeaderValue) (bs : List ℕ) (v : CellValue) (n times : ℕ) → n + times * n ≤ length bs → HoldsFront h bs v n → ComesAgain bs n times
     → (i : ℕ) → i ≤ times → HoldsCell h (drop (i * n) bs) v n
 again_holds h bs v n times within front again i few =
     let most : i * n ≤ times * n = mul-le-mul few (omega arith) in
     let inside : n ≤ length (drop (i * n) bs) = omega (arith, length-drop (i * n) bs) in
     front_holds h (drop (i * n) bs) v n inside (subst (λ (l : List ℕ). HoldsCell h l v n) (sym (again i few)) front)
 
-module _ (h : Header) (bs : List ℕ) where
+module _ (h : HeaderValue) (bs : List ℕ) where
   -- the same cell so many times more
   many_times : (cells : List CellValue) (count m : ℕ) (v : CellValue) (n times : ℕ) → HoldsCells h bs cells count m
       → ((i : ℕ) → i ≤ times → HoldsCell h (drop (i * n) (drop m bs)) v n)

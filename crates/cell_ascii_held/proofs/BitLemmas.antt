@@ -7,9 +7,9 @@ use Rattle.std.proofs.lemmas.Simd.{trailing_mask_l, ones-mask_l, mask_l-mod}
 use Rattle.std.proofs.lemmas.Nat.{and_block, and_mask, one_shl, mod-pow-add, field_of, shl-shr}
 use Rattle.std.proofs.lemmas.List.{length-map, take-map, take-take, drop-take, get_or-take}
 use Rattle.std.specs.Int.Bits.{bit_and, bit_or, and_self}
-use Rattle.cell_ascii_meaning.specs.GridTokens.{is_line_feed, is_space, is_grid_word, newlines}
+use Rattle.cell_ascii_meaning.specs.GridTokens.{is_line_feed, is_space, is_word_byte, newlines}
 use Rattle.cell_ascii_held.proofs.ByteLemmas.{digits-mod, digits-number}
-use Rattle.cell_ascii_held.specs.TableWords.{blanks, feeds, cleared, kept_bytes}
+use Rattle.cell_ascii_held.specs.TableWords.{blanks, feeds, cleared_front, kept_bytes}
 use lib.Count.{count_trailing_zeros}
 use lib.Lanes.{mask_l, number_l, digits_l, top, zip2}
 
@@ -29,7 +29,7 @@ some_set (true ∷ ms) some = omega arith
 some_set (false ∷ ms) some = let rest : 0 < mask_l ms = omega arith in omega (arith, some_set ms rest)
 
 -- the lowest bit that is set, taken away
-without_lowest : (ms : List Bool) → 0 < mask_l ms → bit_and (mask_l ms) (mask_l ms - 1) ≡ mask_l (cleared (unset ms + 1) ms)
+without_lowest : (ms : List Bool) → 0 < mask_l ms → bit_and (mask_l ms) (mask_l ms - 1) ≡ mask_l (cleared_front (unset ms + 1) ms)
 without_lowest [] some = absurd (omega arith)
 without_lowest (true ∷ ms) some =
     let m = mask_l ms in
@@ -43,16 +43,16 @@ without_lowest (false ∷ ms) some =
     let all : 0 + 2 * m ≡ m * 2 ^ 1 + 0 = omega arith in
     let less : 0 + 2 * m - 1 ≡ (m - 1) * 2 ^ 1 + 1 = omega arith in
     let count : 1 + unset ms + 1 ≡ suc (unset ms + 1) = omega arith in
-    let same : mask_l (cleared (unset ms + 1) ms) * 2 ^ 1 + 0 ≡ 0 + 2 * mask_l (cleared (unset ms + 1) ms) = omega arith in
+    let same : mask_l (cleared_front (unset ms + 1) ms) * 2 ^ 1 + 0 ≡ 0 + 2 * mask_l (cleared_front (unset ms + 1) ms) = omega arith in
     ap₂ bit_and all less ∙ and_block 1 m (m - 1) 0 1 (omega arith) (omega arith) ∙ ap (λ (k : ℕ). k * 2 ^ 1 + 0) (without_lowest ms rest)
-    ∙ same ∙ ap (λ (k : ℕ). mask_l (cleared k (false ∷ ms))) (sym count)
+    ∙ same ∙ ap (λ (k : ℕ). mask_l (cleared_front k (false ∷ ms))) (sym count)
 
-length-cleared : (n : ℕ) (ms : List Bool) → length (cleared n ms) ≡ length ms
+length-cleared : (n : ℕ) (ms : List Bool) → length (cleared_front n ms) ≡ length ms
 length-cleared zero ms = refl
 length-cleared (suc n) [] = refl
 length-cleared (suc n) (m ∷ ms) = ap suc (length-cleared n ms)
 
-cleared-cleared : (n m : ℕ) (ms : List Bool) → m ≤ n → cleared n (cleared m ms) ≡ cleared n ms
+cleared-cleared : (n m : ℕ) (ms : List Bool) → m ≤ n → cleared_front n (cleared_front m ms) ≡ cleared_front n ms
 cleared-cleared n zero ms le = refl
 cleared-cleared zero (suc m) ms le = absurd (omega arith)
 cleared-cleared (suc n) (suc m) [] le = refl
@@ -64,11 +64,11 @@ itself (m ∷ ms) = ap (λ (l : List Bool). m ∷ l) (itself ms)
 
 record NextBlank (xs : List ℕ) (at k : ℕ) : Type 0 where
   pub behind : at ≤ k
-  pub word : list_all is_grid_word (take (k - at) (drop at xs)) ≡ true
+  pub word : list_all is_word_byte (take (k - at) (drop at xs)) ≡ true
   pub blank : is_space (get_or xs k 0) ≡ true
 
 -- the next blank, from a place on
-next_blank : (xs : List ℕ) (at : ℕ) → unset (cleared at (map is_space xs)) < length xs → NextBlank xs at (unset (cleared at (map is_space xs)))
+next_blank : (xs : List ℕ) (at : ℕ) → unset (cleared_front at (map is_space xs)) < length xs → NextBlank xs at (unset (cleared_front at (map is_space xs)))
 next_blank [] zero l = absurd (omega arith)
 next_blank [] (suc at) l = absurd (omega arith)
 next_blank (x ∷ xs) zero l = by (is_space x) refl l (next_blank xs zero)
@@ -81,17 +81,17 @@ next_blank (x ∷ xs) zero l = by (is_space x) refl l (next_blank xs zero)
         let is = on (omega arith) in
         let one : 1 + k ≡ suc k = omega arith in
         let none : k - 0 ≡ k = omega arith in
-        let word : list_all is_grid_word (take k xs) ≡ true = ap (λ (n : ℕ). list_all is_grid_word (take n xs)) (sym none) ∙ is.word in
-        let both : list_all is_grid_word (x ∷ take k xs) ≡ true = rw e word in
+        let word : list_all is_word_byte (take k xs) ≡ true = ap (λ (n : ℕ). list_all is_word_byte (take n xs)) (sym none) ∙ is.word in
+        let both : list_all is_word_byte (x ∷ take k xs) ≡ true = rw e word in
         let all : suc k - 0 ≡ suc k = omega arith in
-        let front : list_all is_grid_word (take (suc k - 0) (x ∷ xs)) ≡ true = ap (λ (n : ℕ). list_all is_grid_word (take n (x ∷ xs))) all ∙ both in
+        let front : list_all is_word_byte (take (suc k - 0) (x ∷ xs)) ≡ true = ap (λ (n : ℕ). list_all is_word_byte (take n (x ∷ xs))) all ∙ both in
         rw one (record { behind = omega arith; word = front; blank = is.blank })
 next_blank (x ∷ xs) (suc at) l =
-    let k = unset (cleared at (map is_space xs)) in
+    let k = unset (cleared_front at (map is_space xs)) in
     let is = next_blank xs at (omega arith) in
     let one : 1 + k ≡ suc k = omega arith in
     let less : suc k - suc at ≡ k - at = omega arith in
-    let word : list_all is_grid_word (take (suc k - suc at) (drop at xs)) ≡ true = ap (λ (n : ℕ). list_all is_grid_word (take n (drop at xs))) less ∙ is.word in
+    let word : list_all is_word_byte (take (suc k - suc at) (drop at xs)) ≡ true = ap (λ (n : ℕ). list_all is_word_byte (take n (drop at xs))) less ∙ is.word in
     rw one (record { behind = omega (arith, is.behind); word = word; blank = is.blank })
 
 abbrev hit : ℕ → ℕ → ℕ
@@ -132,53 +132,54 @@ four-hits xs long =
 
 module _ (bs : List ℕ) (held : 64 ≤ length bs) (at : ℕ) where
   abbrev ends : ℕ
-  ends = mask_l (cleared at (blanks bs))
+  ends = mask_l (cleared_front at (blanks bs))
 
   wide : length (take 64 bs) ≡ 64
   wide = omega (arith, length-take 64 bs)
 
-  size : length (cleared at (blanks bs)) ≡ 64
+  size : length (cleared_front at (blanks bs)) ≡ 64
   size = length-cleared at (blanks bs) ∙ length-map (take 64 bs) is_space ∙ wide
 
-  lowest : 0 < ends → count_trailing_zeros 64 ends ≡ unset (cleared at (blanks bs))
+  lowest : 0 < ends → count_trailing_zeros 64 ends ≡ unset (cleared_front at (blanks bs))
   lowest some =
-      let same = itself (cleared at (blanks bs)) in
-      let set : 0 < mask_l (map (λ m. m) (cleared at (blanks bs))) = omega (arith, some, ap mask_l same) in
-      let few : length (cleared at (blanks bs)) ≤ 64 = omega (arith, size) in
-      ap (λ (k : ℕ). count_trailing_zeros 64 k) (sym (ap mask_l same)) ∙ trailing_mask_l (λ (m : Bool). m) 64 (cleared at (blanks bs)) few set
+      let same = itself (cleared_front at (blanks bs)) in
+      let set : 0 < mask_l (map (λ m. m) (cleared_front at (blanks bs))) = omega (arith, some, ap mask_l same) in
+      let few : length (cleared_front at (blanks bs)) ≤ 64 = omega (arith, size) in
+      ap (λ (k : ℕ). count_trailing_zeros 64 k) (sym (ap mask_l same)) ∙ trailing_mask_l (λ (m : Bool). m) 64 (cleared_front at (blanks bs)) few set
 
-  inside : 0 < ends → unset (cleared at (blanks bs)) < 64
-  inside some = omega (arith, some_set (cleared at (blanks bs)) some, size)
+  inside : 0 < ends → unset (cleared_front at (blanks bs)) < 64
+  inside some = omega (arith, some_set (cleared_front at (blanks bs)) some, size)
 
   -- the lowest bit is the next blank, from the place on
   blank_ahead : 0 < ends → (count_trailing_zeros 64 ends < 64) × NextBlank (take 64 bs) at (count_trailing_zeros 64 ends)
   blank_ahead some =
-      let k = unset (cleared at (blanks bs)) in
+      let k = unset (cleared_front at (blanks bs)) in
       let within : k < length (take 64 bs) = omega (arith, inside some, wide) in
       rw (lowest some) (inside some, next_blank (take 64 bs) at within)
 
   -- and the others are those behind it
-  next_ends : 0 < ends → bit_and ends (ends - 1) ≡ mask_l (cleared (count_trailing_zeros 64 ends + 1) (blanks bs))
+  next_ends : 0 < ends → bit_and ends (ends - 1) ≡ mask_l (cleared_front (count_trailing_zeros 64 ends + 1) (blanks bs))
   next_ends some =
-      let k = unset (cleared at (blanks bs)) in
+      let k = unset (cleared_front at (blanks bs)) in
       let ahead = (next_blank (take 64 bs) at (omega (arith, inside some, wide))).behind in
       let le : at ≤ k + 1 = omega (arith, ahead) in
-      without_lowest (cleared at (blanks bs)) some
+      without_lowest (cleared_front at (blanks bs)) some
       ∙ ap mask_l (cleared-cleared (k + 1) at (blanks bs) le)
-      ∙ ap (λ (n : ℕ). mask_l (cleared (n + 1) (blanks bs))) (sym (lowest some))
+      ∙ ap (λ (n : ℕ). mask_l (cleared_front (n + 1) (blanks bs))) (sym (lowest some))
 
 -- the next byte that ends a word, from a place on, by the bits of those from there on
 pub record NextEnd (bs : List ℕ) (at ends : ℕ) : Type 0 where
   pub behind : at ≤ count_trailing_zeros 64 ends
   pub few : count_trailing_zeros 64 ends < 64
-  pub word : list_all is_grid_word (take (count_trailing_zeros 64 ends - at) (drop at bs)) ≡ true
+  pub word : list_all is_word_byte (take (count_trailing_zeros 64 ends - at) (drop at bs)) ≡ true
   pub blank : is_space (get_or bs (count_trailing_zeros 64 ends) 0) ≡ true
-  pub next : bit_and ends (ends - 1) ≡ mask_l (cleared (count_trailing_zeros 64 ends + 1) (blanks bs))
+  pub next : bit_and ends (ends - 1) ≡ mask_l (cleared_front (count_trailing_zeros 64 ends + 1) (blanks bs))
 
-pub next_end : (bs : List ℕ) (at e : ℕ) → 64 ≤ length bs → 0 < e → e ≡ mask_l (cleared at (blanks bs)) → NextEnd bs at e
+pub next_end : (bs : List ℕ) (at e : ℕ) → 64 ≤ length bs → 0 < e → e ≡ mask_l (cleared_front at (blanks bs))
+    → NextEnd bs at e
 next_end bs at e held some is =
-    let set : 0 < mask_l (cleared at (blanks bs)) = omega (arith, is, some) in
-    let k = count_trailing_zeros 64 (mask_l (cleared at (blanks bs))) in
+    let set : 0 < mask_l (cleared_front at (blanks bs)) = omega (arith, is, some) in
+    let k = count_trailing_zeros 64 (mask_l (cleared_front at (blanks bs))) in
     let ahead = blank_ahead bs held at set in
     let within : at ≤ 64 = omega (arith, ahead.0, ahead.1.behind) in
     let all : 64 ≡ at + (64 - at) = omega arith in
@@ -188,7 +189,7 @@ next_end bs at e held some is =
     rw is (record {
       behind = ahead.1.behind;
       few = ahead.0;
-      word = ap (list_all is_grid_word) (sym front) ∙ ahead.1.word;
+      word = ap (list_all is_word_byte) (sym front) ∙ ahead.1.word;
       blank = ap is_space (sym (get_or-take 64 bs k 0 ahead.0)) ∙ ahead.1.blank;
       next = next_ends bs held at set;
     })

@@ -4,9 +4,9 @@ use Rattle.std.specs.Prelude.{◌==◌, ◌&&◌, neg_ℤ, slice_index_or, if◌
 use Rattle.std.specs.List.{list_all}
 use Rattle.std.proofs.lemmas.Bool.Decides.{nat_tests}
 use Rattle.cell_core.specs.Grid.{CellValue}
-use Rattle.cell_ascii_meaning.specs.GridTokens.{is_space, is_grid_word, word_from}
+use Rattle.cell_ascii_meaning.specs.GridTokens.{is_space, is_word_byte, word_from}
 use Rattle.cell_ascii_meaning.specs.EdgeNumbers.{is_digit, value_of_digits, digits_of, whole_number}
-use Rattle.cell_ascii_meaning.specs.Header.{Header}
+use Rattle.cell_ascii_meaning.specs.Header.{HeaderValue}
 use Rattle.cell_ascii_meaning.specs.CellTexts.{cell_from, cell_of_word, after_start, cell_after_word, after_cell, at_of}
 use Rattle.cell_ascii_held.specs.HeldCells.{HoldsCell, HoldsWord, IsNumeral, held_word}
 use Rattle.std.proofs.lemmas.List.{take-append-drop, take-take, get_or-take}
@@ -19,7 +19,7 @@ pub both : (a b : Bool) → (a && b) ≡ true → (a ≡ true) × (b ≡ true)
 both true b e = (refl, e)
 both false b e = cc
 
-pub no_space : (b : ℕ) → is_grid_word b ≡ true → is_space b ≡ false
+pub no_space : (b : ℕ) → is_word_byte b ≡ true → is_space b ≡ false
 no_space b e = by (is_space b) e
   where
     by : (s : Bool) → not s ≡ true → s ≡ false
@@ -27,13 +27,13 @@ no_space b e = by (is_space b) e
     by false e = refl
 
 -- a word that ends, whatever stood in front
-pub word_ahead : (line : ℕ) (front word : List ℕ) (e : ℕ) (bs : List ℕ) (f : Bool) → list_all is_grid_word word ≡ true → length front + length word ≤ 64 → is_space e ≡ true
+pub word_ahead : (line : ℕ) (front word : List ℕ) (e : ℕ) (bs : List ℕ) (f : Bool) → list_all is_word_byte word ≡ true → length front + length word ≤ 64 → is_space e ≡ true
     → word_from line front (record { bytes = word ++ e ∷ bs; fails = f }) ≡ Ok (front ++ word, record { bytes = e ∷ bs; fails = f })
 word_ahead line front [] e bs f w short space =
     let low : length front ≤ 64 = omega arith in
     word-stops line front low e bs f space ∙ ap (λ (x : List ℕ). Ok (x, record { bytes = e ∷ bs; fails = f })) (sym (append-nil front))
 word_ahead line front (b ∷ word) e bs f w short space =
-    let parts = both (is_grid_word b) (list_all is_grid_word word) w in
+    let parts = both (is_word_byte b) (list_all is_word_byte word) w in
     let low : length front ≤ 64 = omega arith in
     let longer : length (front ++ b ∷ []) + length word ≤ 64 = omega (arith, length-append front (b ∷ [])) in
     word-more line front low b (word ++ e ∷ bs) f (no_space b parts.0)
@@ -41,13 +41,13 @@ word_ahead line front (b ∷ word) e bs f w short space =
     ∙ ap (λ (x : List ℕ). Ok (x, record { bytes = e ∷ bs; fails = f })) (append_assoc front (b ∷ []) word)
 
 -- behind a space
-reads_word : (h : Header) (a : ℕ) (word : List ℕ) (e : ℕ) (bs : List ℕ) (f : Bool) (v : CellValue)
-    → list_all is_grid_word (a ∷ word) ≡ true → length word < 64 → is_space e ≡ true → cell_of_word h (a ∷ word) ≡ Ok v
+reads_word : (h : HeaderValue) (a : ℕ) (word : List ℕ) (e : ℕ) (bs : List ℕ) (f : Bool) (v : CellValue)
+    → list_all is_word_byte (a ∷ word) ≡ true → length word < 64 → is_space e ≡ true → cell_of_word h (a ∷ word) ≡ Ok v
     → (line run : ℕ) → run < 1048576
     → cell_from h (at_of line run (record { bytes = 32 ∷ a ∷ (word ++ e ∷ bs); fails = f })) ≡ Ok (v, at_of line 0 (record { bytes = e ∷ bs; fails = f }))
 unfolding cell_from
 reads_word h a word e bs f v w short space cell line run room =
-    let parts = both (is_grid_word a) (list_all is_grid_word word) w in
+    let parts = both (is_word_byte a) (list_all is_word_byte word) w in
     let low : run ≤ 1048576 = omega arith in
     let lower : run + 1 ≤ 1048576 = omega arith in
     let count : 0 + length (a ∷ word) ≤ 64 = omega arith in
@@ -57,10 +57,10 @@ reads_word h a word e bs f v w short space cell line run room =
     ∙ ap (cell_after_word h line) (word_ahead line [] (a ∷ word) e bs f w count space)
     ∙ ap (after_cell line (record { bytes = e ∷ bs; fails = f })) cell
 
-digit_word : (b : ℕ) → is_digit b ≡ true → is_grid_word b ≡ true
+digit_word : (b : ℕ) → is_digit b ≡ true → is_word_byte b ≡ true
 digit_word b e = grind (arith, nat_tests)
 
-digits_word : (bs : List ℕ) → list_all is_digit bs ≡ true → list_all is_grid_word bs ≡ true
+digits_word : (bs : List ℕ) → list_all is_digit bs ≡ true → list_all is_word_byte bs ≡ true
 digits_word [] e = refl
 digits_word (b ∷ bs) e =
     let parts = both (is_digit b) (list_all is_digit bs) e in
@@ -82,8 +82,8 @@ cut_at : (xs : List ℕ) (i : ℕ) → i < length xs → xs ≡ take i xs ++ sli
 cut_at xs i l = let e : drop i xs ≡ slice_index_or xs i 0 ∷ drop (i + 1) xs = rw add-one (drop-cons xs i 0 l) in sym (take-append-drop i xs) ∙ ap (λ (ys : List ℕ). take i xs ++ ys) e
 
 -- a word behind a space, up to a place
-holds_whole : (bs rest : List ℕ) (n : ℕ) → bs ≡ 32 ∷ rest → 0 < n → n ≤ 64 → n < length rest → list_all is_grid_word (take n rest) ≡ true → is_space (slice_index_or rest n 0) ≡ true
-    → (h : Header) (v : CellValue) → cell_of_word h (held_word bs (n + 1)) ≡ Ok v → HoldsCell h bs v (n + 1)
+holds_whole : (bs rest : List ℕ) (n : ℕ) → bs ≡ 32 ∷ rest → 0 < n → n ≤ 64 → n < length rest → list_all is_word_byte (take n rest) ≡ true → is_space (slice_index_or rest n 0) ≡ true
+    → (h : HeaderValue) (v : CellValue) → cell_of_word h (held_word bs (n + 1)) ≡ Ok v → HoldsCell h bs v (n + 1)
 holds_whole bs [] n e some most l word space = absurd (omega arith)
 holds_whole bs (a ∷ rest) zero e some most l word space = absurd (omega arith)
 holds_whole bs (a ∷ rest) (suc n) e some most l word space = λ h v cell line run room c.
@@ -99,7 +99,7 @@ holds_whole bs (a ∷ rest) (suc n) e some most l word space = λ h v cell line 
     rw (e, count, whole, left) (reads_word h a (take n rest) byte more c.fails v word short space same line run room)
 
 -- the same, whatever stands behind the byte that ends it
-pub holds_word : (bs rest : List ℕ) (n : ℕ) → bs ≡ 32 ∷ rest → 0 < n → n ≤ 64 → n < length rest → list_all is_grid_word (take n rest) ≡ true → is_space (slice_index_or rest n 0) ≡ true → HoldsWord bs (n + 1)
+pub holds_word : (bs rest : List ℕ) (n : ℕ) → bs ≡ 32 ∷ rest → 0 < n → n ≤ 64 → n < length rest → list_all is_word_byte (take n rest) ≡ true → is_space (slice_index_or rest n 0) ≡ true → HoldsWord bs (n + 1)
 holds_word bs rest n e some most l word space = λ h v cell.
     let front = take (n + 1) rest in
     let count : n + 1 + 1 ≡ suc (n + 1) = omega arith in
@@ -112,7 +112,7 @@ holds_word bs rest n e some most l word space = λ h v cell.
     let same_byte : slice_index_or front n 0 ≡ slice_index_or rest n 0 = get_or-take (n + 1) rest n 0 here in
     let after : List ℕ → List ℕ = λ l. take (n + 1 - 1) (drop 1 l) in
     let same : held_word (take (n + 1 + 1) bs) (n + 1) ≡ held_word bs (n + 1) = ap after cut ∙ ap (λ (k : ℕ). take k front) minus ∙ same_word ∙ sym (ap (λ (k : ℕ). take k rest) minus) ∙ sym (ap after e) in
-    holds_whole (take (n + 1 + 1) bs) front n cut some most within (ap (list_all is_grid_word) same_word ∙ word) (ap is_space same_byte ∙ space) h v (ap (cell_of_word h) same ∙ cell)
+    holds_whole (take (n + 1 + 1) bs) front n cut some most within (ap (list_all is_word_byte) same_word ∙ word) (ap is_space same_byte ∙ space) h v (ap (cell_of_word h) same ∙ cell)
 
 -- digits behind a space
 pub holds_positive : (bs rest : List ℕ) (value n : ℕ) → bs ≡ 32 ∷ rest → IsNumeral rest value n → HoldsWord bs (n + 1)
@@ -124,7 +124,7 @@ holds_negative bs rest value n e is =
     let next : n + 1 ≡ suc n = omega arith in
     let count : n + 1 + 1 ≡ n + 2 = omega arith in
     let within : n + 1 < length (45 ∷ rest) = omega (arith, is.within) in
-    let word : list_all is_grid_word (take (n + 1) (45 ∷ rest)) ≡ true = rw next (digits_word (take n rest) is.digits) in
+    let word : list_all is_word_byte (take (n + 1) (45 ∷ rest)) ≡ true = rw next (digits_word (take n rest) is.digits) in
     let ends : is_space (slice_index_or (45 ∷ rest) (n + 1) 0) ≡ true = rw next is.ends in
     rw (← count) (holds_word bs (45 ∷ rest) (n + 1) e (omega arith) (omega (arith, is.few)) within word ends)
 

@@ -6,7 +6,7 @@ use Rattle.std.proofs.lemmas.List.{drop_all, drop-append-le, drop-drop, take-app
 use Rattle.cell_core_devices.specs.Device.{Coming}
 use Rattle.cell_core.specs.Grid.{CellValue}
 use Rattle.cell_ascii_scanner.specs.Ahead.{before_coming}
-use Rattle.cell_ascii_meaning.specs.Header.{◌>>=◌, Header}
+use Rattle.cell_ascii_meaning.specs.Header.{◌>>=◌, HeaderValue}
 use Rattle.cell_ascii_meaning.specs.CellTexts.{Reading, cell_from, at_of, many}
 use Rattle.cell_ascii_held.specs.HeldCells.{HoldsCell, HoldsCells, run_after}
 use Rattle.cell_ascii_held.proofs.ManyLemmas.{many_more, many_add, snoc, with_last, glue, and_then}
@@ -18,7 +18,7 @@ run-below run (suc count) below = omega arith
 run-none : (run count : ℕ) → run_after run (count + 1) ≡ 0
 run-none run count = let e : count + 1 ≡ suc count = omega arith in ap (run_after run) e
 
-module _ (h : Header) (bs : List ℕ) where
+module _ (h : HeaderValue) (bs : List ℕ) where
   pub HoldsCells-none : HoldsCells h bs [] 0 0
   HoldsCells-none = λ line run below c. refl
 
@@ -47,7 +47,7 @@ module _ (h : Header) (bs : List ℕ) where
       ∙ ap (λ (rest : List ℕ). Ok (cells ++ others, at_of line (run_after run (count + more)) (before_coming rest c))) (drop-drop m n bs)
 
 -- what the next cells say of all that is to come
-pub cells_held : (h : Header) (line run : ℕ) (bs : List ℕ) (rest : Option Coming) (cells : List CellValue) (count n : ℕ) → run < 1048576 → 0 < count → HoldsCells h bs cells count n
+pub cells_held : (h : HeaderValue) (line run : ℕ) (bs : List ℕ) (rest : Option Coming) (cells : List CellValue) (count n : ℕ) → run < 1048576 → 0 < count → HoldsCells h bs cells count n
     → option_map (λ c. many (cell_from h) count (at_of line run c)) (option_map (before_coming bs) rest) ≡ option_map (λ d. Ok (cells, at_of line 0 d)) (option_map (before_coming (drop n bs)) rest)
 cells_held h line run bs None cells count n below some held = refl
 cells_held h line run bs (Some c) cells zero n below some held = absurd (omega arith)

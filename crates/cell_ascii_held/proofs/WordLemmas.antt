@@ -9,8 +9,8 @@ use Rattle.std.proofs.lemmas.List.Sums.{sum_by-append}
 use Rattle.cell_core_devices.specs.Device.{Coming}
 use Rattle.cell_core.specs.Grid.{CellValue}
 use Rattle.cell_ascii_scanner.specs.Ahead.{before_coming}
-use Rattle.cell_ascii_meaning.specs.GridTokens.{is_space, is_grid_word, newlines, grid_start}
-use Rattle.cell_ascii_meaning.specs.Header.{◌>>=◌, Header}
+use Rattle.cell_ascii_meaning.specs.GridTokens.{is_space, is_word_byte, newlines, grid_start}
+use Rattle.cell_ascii_meaning.specs.Header.{◌>>=◌, HeaderValue}
 use Rattle.cell_ascii_meaning.specs.CellTexts.{Reading, cell_from, cell_of_word, after_start, cell_after_word, after_cell, at_of, many}
 use Rattle.cell_ascii_held.specs.HeldCells.{HoldsCells, run_after}
 use Rattle.cell_ascii_held.specs.TableWords.{HoldsLines}
@@ -40,13 +40,13 @@ gap_passed line run (b ∷ gap) rest f blank room =
     ∙ ap₂ (λ (l : ℕ) (r : ℕ). grid_start l r (record { bytes = rest; fails = f })) lines count
 
 -- a word behind them
-reads_next : (h : Header) (gap word : List ℕ) (e : ℕ) (bs : List ℕ) (f : Bool) (v : CellValue)
-    → list_all is_space gap ≡ true → length gap ≤ 64 → 0 < length word → length word ≤ 64 → list_all is_grid_word word ≡ true → is_space e ≡ true → cell_of_word h word ≡ Ok v
+reads_next : (h : HeaderValue) (gap word : List ℕ) (e : ℕ) (bs : List ℕ) (f : Bool) (v : CellValue)
+    → list_all is_space gap ≡ true → length gap ≤ 64 → 0 < length word → length word ≤ 64 → list_all is_word_byte word ≡ true → is_space e ≡ true → cell_of_word h word ≡ Ok v
     → (line : ℕ) → cell_from h (at_of line 0 (record { bytes = gap ++ (word ++ e ∷ bs); fails = f })) ≡ Ok (v, at_of (line + newlines gap) 0 (record { bytes = e ∷ bs; fails = f }))
 unfolding cell_from
 reads_next h gap [] e bs f v blank few some short w space cell line = absurd (omega arith)
 reads_next h gap (a ∷ word) e bs f v blank few some short w space cell line =
-    let parts = both (is_grid_word a) (list_all is_grid_word word) w in
+    let parts = both (is_word_byte a) (list_all is_word_byte word) w in
     let room : 0 + length gap ≤ 1048576 = omega arith in
     let count : 0 + length (a ∷ word) ≤ 64 = omega arith in
     let there = line + newlines gap in
@@ -55,8 +55,8 @@ reads_next h gap (a ∷ word) e bs f v blank few some short w space cell line =
     ∙ ap (after_cell there (record { bytes = e ∷ bs; fails = f })) cell
 
 -- the same in a list of bytes: a gap, a word and a byte that ends it
-next_cell : (h : Header) (bs : List ℕ) (g n : ℕ) (v : CellValue)
-    → list_all is_space (take g bs) ≡ true → g ≤ 64 → 0 < n → n ≤ 64 → g + n < length bs → list_all is_grid_word (take n (drop g bs)) ≡ true → is_space (get_or bs (g + n) 0) ≡ true
+next_cell : (h : HeaderValue) (bs : List ℕ) (g n : ℕ) (v : CellValue)
+    → list_all is_space (take g bs) ≡ true → g ≤ 64 → 0 < n → n ≤ 64 → g + n < length bs → list_all is_word_byte (take n (drop g bs)) ≡ true → is_space (get_or bs (g + n) 0) ≡ true
     → cell_of_word h (take n (drop g bs)) ≡ Ok v
     → (line : ℕ) (c : Coming) → cell_from h (at_of line 0 (before_coming bs c)) ≡ Ok (v, at_of (line + newlines (take g bs)) 0 (before_coming (drop (g + n) bs) c))
 next_cell h bs g n v blank few some short within word space cell line c =
@@ -77,7 +77,7 @@ next_cell h bs g n v blank few some short within word space cell line c =
     ∙ reads_next h gap w e more c.fails v blank size-gap filled fits word space cell line
     ∙ ap (λ (l : List ℕ). Ok (v, at_of (line + newlines gap) 0 (record { bytes = l ++ c.bytes; fails = c.fails }))) (sym behind)
 
-module _ (h : Header) (bs : List ℕ) where
+module _ (h : HeaderValue) (bs : List ℕ) where
   pub HoldsLines-none : HoldsLines h bs [] 0 0 0
   HoldsLines-none = λ line c. let same : line ≡ line + 0 = omega arith in ap (λ (l : ℕ). Ok ([], at_of l 0 (before_coming bs c))) same
 
@@ -116,10 +116,10 @@ module _ (h : Header) (bs : List ℕ) where
       held line 0 low c ∙ ap₂ (λ (l : ℕ) (r : ℕ). Ok (cells, at_of l r (before_coming (drop n bs) c))) same (run-none count)
 
 -- no line feed stands in a word
-word_feeds : (word : List ℕ) → list_all is_grid_word word ≡ true → newlines word ≡ 0
+word_feeds : (word : List ℕ) → list_all is_word_byte word ≡ true → newlines word ≡ 0
 word_feeds [] w = refl
 word_feeds (b ∷ word) w =
-    let parts = both (is_grid_word b) (list_all is_grid_word word) w in
+    let parts = both (is_word_byte b) (list_all is_word_byte word) w in
     let none : ◌≡◌ {A = ℕ} (cond (b == 10) 1 0) 0 = by (b == 10) (no_feed (b == 32 || b == 9) (b == 13) (b == 10) (no_space b parts.0)) in
     omega (arith, none, newlines-append (b ∷ []) word, word_feeds word parts.1)
   where
@@ -155,8 +155,8 @@ gap-one bs at within blank =
     gap-more bs at at (omega arith) within (ap (λ (k : ℕ). list_all is_space (take k (drop at bs))) none) blank
 
 -- one word more
-pub word-more : (h : Header) (bs : List ℕ) (cells : List CellValue) (count last at end : ℕ) (v : CellValue)
-    → last ≤ at → at < end → end < 64 → end < length bs → list_all is_space (take (at - last) (drop last bs)) ≡ true → list_all is_grid_word (take (end - at) (drop at bs)) ≡ true
+pub word-more : (h : HeaderValue) (bs : List ℕ) (cells : List CellValue) (count last at end : ℕ) (v : CellValue)
+    → last ≤ at → at < end → end < 64 → end < length bs → list_all is_space (take (at - last) (drop last bs)) ≡ true → list_all is_word_byte (take (end - at) (drop at bs)) ≡ true
     → is_space (get_or bs end 0) ≡ true → cell_of_word h (take (end - at) (drop at bs)) ≡ Ok v → HoldsLines h bs cells count last (newlines (take last bs))
     → HoldsLines h bs (cells ++ v ∷ []) (count + 1) end (newlines (take end bs))
 word-more h bs cells count last at end v le lower few within gap word blank cell held =
@@ -168,7 +168,7 @@ word-more h bs cells count last at end v le lower few within gap word blank cell
     let later : drop g rest ≡ drop at bs = drop-drop g last bs ∙ ap (λ (k : ℕ). drop k bs) place in
     let inside : g + n < length rest = omega (arith, length-drop last bs) in
     let ends : is_space (get_or rest (g + n) 0) ≡ true = ap is_space (get_or-drop last bs (g + n) 0 ∙ ap (λ (k : ℕ). get_or bs k 0) sum) ∙ blank in
-    let w : list_all is_grid_word (take n (drop g rest)) ≡ true = ap (λ (l : List ℕ). list_all is_grid_word (take n l)) later ∙ word in
+    let w : list_all is_word_byte (take n (drop g rest)) ≡ true = ap (λ (l : List ℕ). list_all is_word_byte (take n l)) later ∙ word in
     let is : cell_of_word h (take n (drop g rest)) ≡ Ok v = ap (λ (l : List ℕ). cell_of_word h (take n l)) later ∙ cell in
     let few-blanks : g ≤ 64 = omega arith in
     let some : 0 < n = omega arith in
@@ -181,7 +181,7 @@ word-more h bs cells count last at end v le lower few within gap word blank cell
     rw (sum, lines) at (lines-more h bs cells count last (newlines (take last bs)) v (g + n) (newlines (take g rest)) held next)
 
 -- what the next cells say of all that is to come
-pub lines_held : (h : Header) (line lines : ℕ) (bs : List ℕ) (rest : Option Coming) (cells : List CellValue) (count n : ℕ) → HoldsLines h bs cells count n lines
+pub lines_held : (h : HeaderValue) (line lines : ℕ) (bs : List ℕ) (rest : Option Coming) (cells : List CellValue) (count n : ℕ) → HoldsLines h bs cells count n lines
     → option_map (λ c. many (cell_from h) count (at_of line 0 c)) (option_map (before_coming bs) rest) ≡ option_map (λ d. Ok (cells, at_of (line + lines) 0 d)) (option_map (before_coming (drop n bs)) rest)
 lines_held h line lines bs None cells count n held = refl
 lines_held h line lines bs (Some c) cells count n held = ap Some (held line c)

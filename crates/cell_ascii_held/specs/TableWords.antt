@@ -5,20 +5,20 @@ use Rattle.cell_core_devices.specs.Device.{Coming}
 use Rattle.cell_core.specs.Grid.{CellValue}
 use Rattle.cell_ascii_scanner.specs.Ahead.{before_coming}
 use Rattle.cell_ascii_meaning.specs.GridTokens.{is_line_feed, is_space}
-use Rattle.cell_ascii_meaning.specs.Header.{Header}
+use Rattle.cell_ascii_meaning.specs.Header.{HeaderValue}
 use Rattle.cell_ascii_meaning.specs.CellTexts.{cell_from, cell_of_word, at_of, many}
-use Rattle.cell_ascii_held.specs.declared.word_table.Entry.{Entry}
+use Rattle.cell_ascii_held.specs.declared.word_table.WordEntry.{WordEntry}
 
 -- the bytes that a number of 64 bits keeps at its upper end, so many of them
 abbrev pub kept_bytes : ℕ → ℕ → List ℕ
 kept_bytes key size = digits_l 256 size (key / 2 ^ (64 - 8 * size))
 
 -- an entry is free, or has the cell that the word of its bytes denotes
-abbrev pub IsEntry : Header → Entry → Type 0
+abbrev pub IsEntry : HeaderValue → WordEntry → Type 0
 IsEntry h e = 0 < e.size → cell_of_word h (kept_bytes e.key e.size) ≡ Ok e.cell
 
 -- a row has the cell of a word at a place
-pub record IsCellPut (h : Header) (word : List ℕ) (i : ℕ) (old new : List CellValue) : Type 0 where
+pub record IsCellPut (h : HeaderValue) (word : List ℕ) (i : ℕ) (old new : List CellValue) : Type 0 where
   pub cell : CellValue
   pub is : cell_of_word h word ≡ Ok cell
   pub row : new ≡ slice_set old i cell
@@ -32,12 +32,12 @@ abbrev pub feeds : List ℕ → List Bool
 feeds bs = map is_line_feed (take 64 bs)
 
 -- the first n are false
-abbrev pub cleared : ℕ → List Bool → List Bool
-cleared zero ms = ms
-cleared (suc n) [] = []
-cleared (suc n) (m ∷ ms) = false ∷ cleared n ms
+abbrev pub cleared_front : ℕ → List Bool → List Bool
+cleared_front zero ms = ms
+cleared_front (suc n) [] = []
+cleared_front (suc n) (m ∷ ms) = false ∷ cleared_front n ms
 
 -- whatever comes behind these bytes, the next cells are these, so many of them, and take the first n bytes and so many lines
-abbrev pub HoldsLines : Header → List ℕ → List CellValue → ℕ → ℕ → ℕ → Type 0
+abbrev pub HoldsLines : HeaderValue → List ℕ → List CellValue → ℕ → ℕ → ℕ → Type 0
 HoldsLines h bs cells count n lines = (line : ℕ) (c : Coming)
     → many (cell_from h) count (at_of line 0 (before_coming bs c)) ≡ Ok (cells, at_of (line + lines) 0 (before_coming (drop n bs) c))

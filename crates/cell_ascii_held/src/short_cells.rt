@@ -136,7 +136,7 @@ fn word_in(held: &[u8]) -> Option<usize>
 
 // The cell of the number that stands before the byte at place n, and that place.
 #[inline(always)]
-fn cell_of_number(held: &[u8], header: &Header, number: i64, n: usize) -> Option<(Cell, usize)>
+fn held_number_cell(held: &[u8], header: &Header, number: i64, n: usize) -> Option<(Cell, usize)>
     requires word { HoldsWord held.now n }
     requires number { whole_number (held_word held.now n) ≡ Some number }
     requires within { (0 < n) × (n ≤ length held.now) }
@@ -149,14 +149,14 @@ fn cell_of_number(held: &[u8], header: &Header, number: i64, n: usize) -> Option
     }
 }
 
-// The same as `cell_in`, where no short number stands.
+// The same as `held_cell`, where no short number stands.
 #[inline(never)]
 fn other_cell_in(held: &[u8], header: &Header) -> Option<(Cell, usize)>
     ensures cell { IfSome result (λ r. HoldsFront header.now held.now r.0 r.1) }
     ensures within { IfSome result (λ r. (0 < r.1) × (r.1 ≤ length held.now)) }
 {
     if let Some((number, n)) = number_in(held) {
-        return cell_of_number(held, header, number, n);
+        return held_number_cell(held, header, number, n);
     }
     let n = word_in(held)?;
     match header.cell_of_word(&held[1..n]) {
@@ -168,12 +168,12 @@ fn other_cell_in(held: &[u8], header: &Header) -> Option<(Cell, usize)>
 // The cell of a space and a word that ends among the bytes held, and how many of them it takes.
 // None where another form stands, or a word that is no cell.
 #[inline(always)]
-fn cell_in(held: &[u8], header: &Header) -> Option<(Cell, usize)>
+fn held_cell(held: &[u8], header: &Header) -> Option<(Cell, usize)>
     ensures cell { IfSome result (λ r. HoldsFront header.now held.now r.0 r.1) }
     ensures within { IfSome result (λ r. (0 < r.1) × (r.1 ≤ length held.now)) }
 {
     match short_number_in(held) {
-        Some((number, n)) => cell_of_number(held, header, number, n),
+        Some((number, n)) => held_number_cell(held, header, number, n),
         None => other_cell_in(held, header),
     }
 }
@@ -276,7 +276,7 @@ fn repeated_cells_in(held: &[u8], header: &Header, row: &mut [Cell]) -> (usize, 
     let mut passed = 0;
     let mut credit = MOST_CREDIT;
     'words: while i < row.len() && credit > 0 {
-        let Some(found) = cell_in(&held[passed..], header) else {
+        let Some(found) = held_cell(&held[passed..], header) else {
             return (i, passed);
         };
         let more = times_again(&held[passed..], found.1).min(row.len() - i - 1);
@@ -300,7 +300,7 @@ fn single_cells_in(held: &[u8], header: &Header, row: &mut [Cell]) -> (usize, us
 {
     let mut passed = 0;
     for i in 0..row.len() {
-        let Some(found) = cell_in(&held[passed..], header) else {
+        let Some(found) = held_cell(&held[passed..], header) else {
             return (i, passed);
         };
         row[i] = found.0;
@@ -316,7 +316,8 @@ fn sought_cells_in(
     row: &mut [Cell],
     pace: &mut Pace,
 ) -> (usize, usize, u64)
-    ensures cells { HoldsLines words.old held.now (take result.0 row.new) result.0 result.1 result.2 }
+    ensures cells { HoldsLines words.old held.now (take result.0 row.new)
+        result.0 result.1 result.2 }
     ensures count { result.0 ≤ length row.old }
     ensures within { result.1 ≤ length held.now }
     ensures among { result.2 ≤ result.1 }
@@ -357,7 +358,8 @@ fn each_cell_in(
     row: &mut [Cell],
     pace: &mut Pace,
 ) -> (usize, usize, u64)
-    ensures cells { HoldsLines words.old held.now (take result.0 row.new) result.0 result.1 result.2 }
+    ensures cells { HoldsLines words.old held.now (take result.0 row.new)
+        result.0 result.1 result.2 }
     ensures count { result.0 ≤ length row.old }
     ensures within { result.1 ≤ length held.now }
     ensures among { result.2 ≤ result.1 }
@@ -384,7 +386,8 @@ fn next_cells_in(
     row: &mut [Cell],
     pace: &mut Pace,
 ) -> (usize, usize, u64)
-    ensures cells { HoldsLines words.old held.now (take result.0 row.new) result.0 result.1 result.2 }
+    ensures cells { HoldsLines words.old held.now (take result.0 row.new)
+        result.0 result.1 result.2 }
     ensures count { result.0 ≤ length row.old }
     ensures within { result.1 ≤ length held.now }
     ensures among { result.2 ≤ result.1 }
@@ -405,7 +408,8 @@ fn some_cells_in(
     row: &mut [Cell],
     pace: &mut Pace,
 ) -> (usize, usize, u64)
-    ensures cells { HoldsLines words.old held.now (take result.0 row.new) result.0 result.1 result.2 }
+    ensures cells { HoldsLines words.old held.now (take result.0 row.new)
+        result.0 result.1 result.2 }
     ensures count { result.0 ≤ length row.old }
     ensures within { result.1 ≤ length held.now }
     ensures among { result.2 ≤ result.1 }
@@ -437,7 +441,8 @@ pub fn cells_in(
     row: &mut [Cell],
     pace: &mut Pace,
 ) -> (usize, usize, u64)
-    ensures cells { HoldsLines words.old held.now (take result.0 row.new) result.0 result.1 result.2 }
+    ensures cells { HoldsLines words.old held.now (take result.0 row.new)
+        result.0 result.1 result.2 }
     ensures count { result.0 ≤ length row.old }
     ensures within { result.1 ≤ length held.now }
     ensures lines { result.2 ≤ result.0 * 64 }

@@ -32,7 +32,7 @@ const LEAST_HELD: usize = 72;
 
 // A word that was read, by its bytes, and its cell. It is free where it has no bytes.
 #[derive(Clone, Copy)]
-struct Entry {
+struct WordEntry {
     key: u64,
     size: u32,
     cell: Cell,
@@ -82,7 +82,7 @@ fn next_bits(bits: u64) -> u64
 
 // The first bytes of a word, as the upper bytes of a number.
 #[inline(always)]
-fn key_of(bytes: &[u8], size: usize) -> u64
+fn word_key(bytes: &[u8], size: usize) -> u64
     requires some { 0 < size }
     requires few { size ≤ 8 }
     requires held { 8 ≤ length bytes.now }
@@ -94,7 +94,7 @@ fn key_of(bytes: &[u8], size: usize) -> u64
 
 // The place of a word among those that are kept.
 #[inline(always)]
-fn place_of(key: u64) -> usize
+fn word_place(key: u64) -> usize
     ensures { result < 4096 }
 {
     (key.wrapping_mul(0x9E37_79B9_7F4A_7C15) >> (64 - PLACE_BITS)) as usize
@@ -120,7 +120,7 @@ fn value_of(digits: &[u8]) -> Option<u32>
 
 // The number that a word of one to nine digits is, behind a minus or not.
 #[inline(always)]
-fn number_of(word: &[u8]) -> Option<i64>
+fn word_number(word: &[u8]) -> Option<i64>
     ensures { IfSome result (λ number. whole_number word.now ≡ Some number) }
 {
     if let [b'-', digits @ ..] = word {
@@ -134,7 +134,7 @@ fn number_of(word: &[u8]) -> Option<i64>
 fn read_word(word: &[u8], header: &Header) -> Option<Cell>
     ensures { IfSome result (λ v. cell_of_word header.now word.now ≡ Ok v) }
 {
-    let cell = match number_of(word) {
+    let cell = match word_number(word) {
         Some(number) => header.cell_of_number(word, number),
         None => header.cell_of_word(word),
     };
@@ -142,7 +142,7 @@ fn read_word(word: &[u8], header: &Header) -> Option<Cell>
 }
 
 // Keeps the cell of a word, in the place of another, where the word is short.
-fn keep(bytes: &[u8], size: usize, cell: Cell, header: &Header, entries: &mut [Entry])
+fn keep_word(bytes: &[u8], size: usize, cell: Cell, header: &Header, entries: &mut [WordEntry])
     requires some { 0 < size }
     requires held { 8 ≤ length bytes.now }
     requires cell { cell_of_word header.now (take size bytes.now) ≡ Ok cell }
@@ -153,8 +153,8 @@ fn keep(bytes: &[u8], size: usize, cell: Cell, header: &Header, entries: &mut [E
     if size > MOST_KEPT {
         return;
     }
-    let key = key_of(bytes, size);
-    entries[place_of(key)] = Entry {
+    let key = word_key(bytes, size);
+    entries[word_place(key)] = WordEntry {
         key,
         size: size as u32,
         cell,
@@ -168,7 +168,7 @@ fn read_cell(
     bytes: &[u8],
     size: usize,
     header: &Header,
-    entries: &mut [Entry],
+    entries: &mut [WordEntry],
     row: &mut [Cell],
     i: usize,
     missed: &mut usize,
@@ -187,7 +187,7 @@ fn read_cell(
     let Some(cell) = read_word(&bytes[..size], header) else {
         return false;
     };
-    keep(bytes, size, cell, header, entries);
+    keep_word(bytes, size, cell, header, entries);
     row[i] = cell;
     true
 }
@@ -198,7 +198,7 @@ fn put_cell(
     bytes: &[u8],
     size: usize,
     header: &Header,
-    entries: &mut [Entry],
+    entries: &mut [WordEntry],
     row: &mut [Cell],
     i: usize,
     missed: &mut usize,
@@ -214,8 +214,8 @@ fn put_cell(
     ensures known { All (IsEntry header.now) entries.new }
 {
     if size <= MOST_KEPT {
-        let key = key_of(bytes, size);
-        let entry = entries[place_of(key)];
+        let key = word_key(bytes, size);
+        let entry = entries[word_place(key)];
         if entry.key == key && entry.size as usize == size {
             row[i] = entry.cell;
             return true;
@@ -230,14 +230,15 @@ fn put_cell(
 fn block_cells_in(
     held: &[u8],
     header: &Header,
-    entries: &mut [Entry],
+    entries: &mut [WordEntry],
     row: &mut [Cell],
     missed: &mut usize,
 ) -> (usize, usize)
     requires held { 72 ≤ length held.now }
     requires room { length entries.old ≡ 4096 }
     requires known { All (IsEntry header.now) entries.old }
-    ensures cells { HoldsLines header.now held.now (take result.0 row.new) result.0 result.1 (newlines (take result.1 held.now)) }
+    ensures cells { HoldsLines header.now held.now (take result.0 row.new) result.0 result.1
+        (newlines (take result.1 held.now)) }
     ensures count { result.0 ≤ length row.old }
     ensures within { result.1 < 64 }
     ensures rest { drop result.0 row.new ≡ drop result.0 row.old }
@@ -267,16 +268,16 @@ fn block_cells_in(
 #[derive(Drop)]
 pub struct WordTable {
     header: Header,
-    entries: Vec<Entry>,
+    entries: Vec<WordEntry>,
 }
 
 impl Model for WordTable {
     ghost use Rattle.std.specs.Prelude.{◌≡◌, length};
     ghost use Rattle.std.specs.List.{All};
-    ghost use Rattle.cell_ascii_meaning.specs.Header.{Header};
+    ghost use Rattle.cell_ascii_meaning.specs.Header.{HeaderValue};
     ghost use Rattle.cell_ascii_held.specs.TableWords.{IsEntry};
 
-    ghost Value = { Header };
+    ghost Value = { HeaderValue };
 
     ghost view = { λ t. t.header };
 
@@ -291,13 +292,14 @@ impl Model for WordTable {
 fn table_cells_in(
     held: &[u8],
     header: &Header,
-    entries: &mut [Entry],
+    entries: &mut [WordEntry],
     row: &mut [Cell],
     missed: &mut usize,
 ) -> (usize, usize, u64)
     requires room { length entries.old ≡ 4096 }
     requires known { All (IsEntry header.now) entries.old }
-    ensures cells { HoldsLines header.now held.now (take result.0 row.new) result.0 result.1 result.2 }
+    ensures cells { HoldsLines header.now held.now (take result.0 row.new)
+        result.0 result.1 result.2 }
     ensures count { result.0 ≤ length row.old }
     ensures within { result.1 ≤ length held.now }
     ensures among { result.2 ≤ result.1 }
@@ -326,7 +328,7 @@ impl WordTable {
     pub fn new(alloc: Global, header: Header) -> Result<WordTable, Memory>
         ensures { IfOk result (λ t. t ≡ header) }
     {
-        let free = Entry {
+        let free = WordEntry {
             key: 0,
             size: 0,
             cell: Cell::null(),
@@ -351,7 +353,8 @@ impl WordTable {
         row: &mut [Cell],
         missed: &mut usize,
     ) -> (usize, usize, u64)
-        ensures cells { HoldsLines self.old held.now (take result.0 row.new) result.0 result.1 result.2 }
+        ensures cells { HoldsLines self.old held.now (take result.0 row.new)
+            result.0 result.1 result.2 }
         ensures count { result.0 ≤ length row.old }
         ensures within { result.1 ≤ length held.now }
         ensures among { result.2 ≤ result.1 }

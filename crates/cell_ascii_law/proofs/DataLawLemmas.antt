@@ -4,7 +4,7 @@ use Rattle.std.specs.Option.{option_and_then}
 use Rattle.std.specs.List.{flat_map}
 use Rattle.cell_core.specs.Grid.{CellValue, Grid, no_labels}
 use Rattle.cell_ascii_meaning.specs.GridTokens.{Start, Begins, is_space, grid_start}
-use Rattle.cell_ascii_meaning.specs.Header.{At, Header, ◌>>=◌}
+use Rattle.cell_ascii_meaning.specs.Header.{At, HeaderValue, ◌>>=◌}
 use Rattle.cell_ascii_meaning.specs.CellTexts.{Reading, at_of, after_cell, cell_after_word, after_start, cell_of_word, cell_from, many, end_of, data_from}
 use Rattle.cell_ascii_meaning.specs.declared.grid_fault.GridKind.{GridKind}
 use Rattle.cell_ascii_meaning.specs.declared.grid_fault.GridFault.{GridFault}
@@ -50,7 +50,7 @@ abbrev pub taken_cell : List (List ℕ) → Result CellValue GridKind → Option
 taken_cell words (Ok v) = Some (v, words)
 taken_cell words (Err kind) = None
 
-abbrev pub take_cell : Header → Taking CellValue
+abbrev pub take_cell : HeaderValue → Taking CellValue
 take_cell h [] = None
 take_cell h (word ∷ words) = taken_cell words (cell_of_word h word)
 
@@ -58,14 +58,14 @@ abbrev pub take_many : {X : Type 0} → Taking X → ℕ → Taking (List X)
 take_many one zero words = Some ([], words)
 take_many one (suc n) words = then_words (λ x ws. then_words (λ y vs. Some (x ∷ y, vs)) (take_many one n ws)) (one words)
 
-abbrev pub whole_grid : Header → List (List CellValue) → Grid
+abbrev pub whole_grid : HeaderValue → List (List CellValue) → Grid
 whole_grid h rows = record { region = h.region; rows = rows; labels = no_labels }
 
-abbrev pub take_end : Header → List (List CellValue) → List (List ℕ) → Option Grid
+abbrev pub take_end : HeaderValue → List (List CellValue) → List (List ℕ) → Option Grid
 take_end h rows [] = Some (whole_grid h rows)
 take_end h rows (word ∷ words) = None
 
-abbrev pub take_grid : Header → List (List ℕ) → Option Grid
+abbrev pub take_grid : HeaderValue → List (List ℕ) → Option Grid
 take_grid h words = then_words (take_end h) (take_many (take_many (take_cell h) h.region.cols) h.region.rows words)
 
 -- from any place where no word waits, F accepts what G makes of the words
@@ -119,7 +119,7 @@ module _ {X : Type 0} (one : At → Reading X) (takes : Taking X) (keeps : Keeps
   many_follow (suc n) words at o some first = many_first n (many_keeps n) words at o first
 
 -- The next cell.
-module _ (h : Header) (F : CellValue → At → Result Grid GridFault) (G : CellValue → List (List ℕ) → Option Grid) (agree : Agree F G) where
+module _ (h : HeaderValue) (F : CellValue → At → Result Grid GridFault) (G : CellValue → List (List ℕ) → Option Grid) (agree : Agree F G) where
   cell_after : (line : ℕ) (bs : List ℕ) (f : Bool) (words : Lines → List (List ℕ)) → ((ls : Lines) → words ls ≡ all_words ls) → (r : Result CellValue GridKind)
       → accepted (after_cell line (coming bs f) r >>= (λ x. F x.0 x.1)) ≡ option_and_then (λ ls. then_words G (taken_cell (words ls) r)) (lex 0 [] bs f)
   cell_after line bs f words same (Ok v) = agree v line 0 bs f (omega arith) ∙ then_agree (λ ls. G v (all_words ls)) (λ ls. G v (words ls)) (λ ls. ap (G v) (sym (same ls))) (lex 0 [] bs f)
@@ -143,18 +143,18 @@ module _ (h : Header) (F : CellValue → At → Result Grid GridFault) (G : Cell
   cell_first w line run bs f = cell_after line bs f all_words (λ ls. refl) (cell_of_word h w)
 
 -- The end of the data.
-abbrev pub read_end : Header → List (List CellValue) → At → Result Grid GridFault
+abbrev pub read_end : HeaderValue → List (List CellValue) → At → Result Grid GridFault
 read_end h rows at = end_of (grid_start at.line at.run at.coming) >>= (λ _. Ok (whole_grid h rows))
 
-end_agrees : (h : Header) → Agree (read_end h) (take_end h)
+end_agrees : (h : HeaderValue) → Agree (read_end h) (take_end h)
 end_agrees h rows line run bs f low = before_word (λ ls. take_end h rows (all_words ls)) (λ ls. refl) (λ s. accepted (end_of s >>= (λ _. Ok (whole_grid h rows)))) (λ e. refl) (λ l. refl)
     (λ l b cs g word. no_word (λ ls. take_end h rows (all_words ls)) (λ x xs ls. refl) b cs g word) bs f line run low
 
 -- the reading of the whole data
-abbrev pub read_grid : Header → At → Result Grid GridFault
+abbrev pub read_grid : HeaderValue → At → Result Grid GridFault
 read_grid h at = data_from h at >>= (λ rows. Ok (whole_grid h rows))
 
-pub read_grid_is : (h : Header) (at : At) → read_grid h at ≡ (many (many (cell_from h) h.region.cols) h.region.rows at >>= (λ x. read_end h x.0 x.1))
+pub read_grid_is : (h : HeaderValue) (at : At) → read_grid h at ≡ (many (many (cell_from h) h.region.cols) h.region.rows at >>= (λ x. read_end h x.0 x.1))
 read_grid_is h at = by (many (many (cell_from h) h.region.cols) h.region.rows at)
   where
     last : (rows : List (List CellValue)) (u : Result (Unit {0}) GridFault) → ((u >>= (λ _. Ok rows)) >>= (λ rows. Ok (whole_grid h rows))) ≡ (u >>= (λ _. Ok (whole_grid h rows)))
@@ -165,7 +165,7 @@ read_grid_is h at = by (many (many (cell_from h) h.region.cols) h.region.rows at
     by (Ok x) = last x.0 (end_of (grid_start x.1.line x.1.run x.1.coming))
     by (Err e) = refl
 
-module _ (h : Header) (rows : 0 < h.region.rows) (cols : 0 < h.region.cols) where
+module _ (h : HeaderValue) (rows : 0 < h.region.rows) (cols : 0 < h.region.cols) where
   row_keeps : Keeps (many (cell_from h) h.region.cols) (take_many (take_cell h) h.region.cols)
   row_keeps line run bs f low = many_follow (cell_from h) (take_cell h) (λ l r cs g lo F G agree. cell_keeps h F G agree l r cs g lo) h.region.cols all_words (at_of line run (coming bs f)) (lex run [] bs f) cols (λ F G agree. cell_keeps h F G agree line run bs f low)
 

@@ -6,7 +6,7 @@ use Rattle.std.specs.List.{All}
 use Rattle.std.proofs.lemmas.List.{nil_from_length}
 use Rattle.std.proofs.lemmas.List.Elements.{All-nil, All-cons, All-head, All-tail}
 use Rattle.cell_core.specs.Grid.{CellValue, Grid}
-use Rattle.cell_ascii_meaning.specs.Header.{Header}
+use Rattle.cell_ascii_meaning.specs.Header.{HeaderValue}
 use Rattle.cell_ascii_meaning.specs.CellTexts.{cell_of_word}
 use Rattle.cell_ascii_meaning.specs.GridText.{DenoteCells}
 use Rattle.cell_ascii_meaning.specs.declared.grid_fault.GridKind.{GridKind}
@@ -20,7 +20,7 @@ get-drop zero xs i = ap (slice_get xs) (omega arith)
 get-drop (suc n) [] i = refl
 get-drop (suc n) (x ∷ xs) i = get-drop n xs i ∙ (let e : suc (n + i) ≡ suc n + i = omega arith in ap (slice_get (x ∷ xs)) e)
 
-module _ (h : Header) where
+module _ (h : HeaderValue) where
   abbrev Denotes : Words → ℕ → CellValue → Type 0
   Denotes words i v = option_map (cell_of_word h) (slice_get words i) ≡ Some (Ok v)
 

@@ -6,7 +6,7 @@ use Rattle.cell_core.specs.Grid.{Grid}
 use Rattle.cell_ascii_meaning.specs.Header.{no_keys}
 use Rattle.cell_ascii_meaning.specs.CellTexts.{grid_of}
 use Rattle.cell_ascii_meaning.specs.GridText.{line_words, Denotes}
-use Rattle.cell_ascii_law.specs.GridLaw.{ReadingAgrees}
+use Rattle.cell_ascii_law.specs.GridLaw.{GridReadingAgrees}
 use Rattle.cell_ascii_meaning.specs.declared.grid_fault.GridFault.{GridFault}
 use Rattle.cell_ascii_law.proofs.LexemeLemmas.{Lines, lex}
 use Rattle.cell_ascii_law.proofs.DataLawLemmas.{accepted}
@@ -32,5 +32,5 @@ denoted : (c : Coming) (m : Grid) → Denotes c m → grid_of c ≡ Ok m
 denoted c m is = is_accepted (grid_of c) m (text_is c.bytes c.fails ∙ ap (λ (f : Bool). option_and_then (take_text no_keys) (lex 0 [] c.bytes f)) is.ends
     ∙ ap (option_and_then (take_text no_keys)) (within_limits c.bytes is.limits) ∙ text_taken (line_words c.bytes) is.said m is.header is.cells is.region is.labels)
 
-pub reading_agrees : ReadingAgrees
+pub reading_agrees : GridReadingAgrees
 reading_agrees c m = (read c m, denoted c m)

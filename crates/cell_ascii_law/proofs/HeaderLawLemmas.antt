@@ -6,10 +6,10 @@ use Rattle.cell_core_devices.specs.Device.{Coming}
 use Rattle.cell_core.specs.Grid.{Grid}
 use Rattle.cell_ascii_meaning.specs.GridTokens.{Begins, is_space, grid_start, word_from}
 use Rattle.cell_ascii_meaning.specs.KeyNames.{header_key_of}
-use Rattle.cell_ascii_meaning.specs.Header.{Header, Opened, Keys, no_keys, with_header_key, header_of, is_colon, has_colon, Gap, Word, Feed, Last, Fault, gap_of, value_from, LineEnd, line_end, at_line, key_line, header_ended, opened, after_line, line_from, header_from, ◌>>=◌}
+use Rattle.cell_ascii_meaning.specs.Header.{HeaderValue, OpenedText, KeyValues, no_keys, with_header_key, header_of, is_colon, has_colon, Gap, Word, Feed, Last, Fault, gap_of, value_from, LineEnd, line_end, at_line, key_line, header_ended, opened_text, after_line, line_from, header_from, ◌>>=◌}
 use Rattle.cell_ascii_meaning.specs.CellTexts.{grid_of}
 use Rattle.cell_ascii_meaning.specs.GridText.{is_token, key_text, line_values}
-use Rattle.cell_ascii_meaning.specs.declared.header_key.Key.{Key}
+use Rattle.cell_ascii_meaning.specs.declared.header_key.HeaderKey.{HeaderKey}
 use Rattle.cell_ascii_meaning.specs.declared.grid_fault.GridKind.{GridKind}
 use Rattle.cell_ascii_meaning.specs.declared.grid_fault.GridKind.TheVariants.{BadHeader}
 use Rattle.cell_ascii_meaning.specs.declared.grid_fault.GridFault.{GridFault}
@@ -18,59 +18,59 @@ use Rattle.cell_ascii_law.proofs.DataLawLemmas.{accepted, all_words, words_by_fi
 use Rattle.cell_ascii_law.proofs.KeyLawLemmas.{open_keys, key_known, header_given, sides}
 
 -- The map that the words of each line denote.
-abbrev pub at_header : Result Header GridKind → List (List ℕ) → Option Grid
+abbrev pub at_header : Result HeaderValue GridKind → List (List ℕ) → Option Grid
 at_header (Ok h) words = take_grid h words
 at_header (Err kind) words = None
 
-abbrev pub take_data : Keys → List (List ℕ) → Option Grid
+abbrev pub take_data : KeyValues → List (List ℕ) → Option Grid
 take_data keys words = at_header (header_of keys) words
 
 -- the keys with that of a header line, which has one value
-abbrev pub with_values : Keys → Option Key → List (List ℕ) → Result Keys GridKind
+abbrev pub with_values : KeyValues → Option HeaderKey → List (List ℕ) → Result KeyValues GridKind
 with_values keys key [] = Err BadHeader
 with_values keys key (value ∷ []) = with_header_key keys key value
 with_values keys key (value ∷ other ∷ more) = Err BadHeader
 
-abbrev pub with_line : Keys → List (List ℕ) → Result Keys GridKind
+abbrev pub with_line : KeyValues → List (List ℕ) → Result KeyValues GridKind
 with_line keys line = with_values keys (header_key_of (key_text line)) (line_values line)
 
-abbrev pub after_key : {Y : Type 0} → Result Keys GridKind → (Keys → Option Y) → Option Y
+abbrev pub after_key : {Y : Type 0} → Result KeyValues GridKind → (KeyValues → Option Y) → Option Y
 after_key (Ok keys) rest = rest keys
 after_key (Err kind) rest = None
 
 -- the header lines, and then what is taken of the words of the data
-abbrev pub take_by : {Y : Type 0} → (Keys → List (List ℕ) → Option Y) → Keys → Lines → Option Y
+abbrev pub take_by : {Y : Type 0} → (KeyValues → List (List ℕ) → Option Y) → KeyValues → Lines → Option Y
 take_by take keys [] = take keys []
 take_by take keys ([] ∷ ls) = take_by take keys ls
 take_by take keys ((w ∷ ws) ∷ ls) =
     if has_colon w then after_key (with_line keys (w ∷ ws)) (λ k. take_by take k ls) else take keys
     (w ∷ (ws ++ all_words ls))
 
-abbrev pub take_text : Keys → Lines → Option Grid
+abbrev pub take_text : KeyValues → Lines → Option Grid
 take_text = take_by take_data
 
 -- the data of an opened text
-abbrev pub read_opened : Opened → Result Grid GridFault
+abbrev pub read_opened : OpenedText → Result Grid GridFault
 read_opened o = read_grid o.header o.at
 
 -- The data, from its first word on, or none.
-module _ (keys : Keys) (line : ℕ) where
-  opened_by : Option (List ℕ) → Coming → Result Header GridKind → Option Grid
+module _ (keys : KeyValues) (line : ℕ) where
+  opened_by : Option (List ℕ) → Coming → Result HeaderValue GridKind → Option Grid
   opened_by pending c r = accepted ((at_line line r >>= (λ h. Ok (record { header = h; at = record { pending = pending; line = line; run = 0; coming = c } }))) >>= read_opened)
 
-  opened_first : (w : List ℕ) (bs : List ℕ) (f : Bool) → accepted (opened keys line (Some w) (coming bs f) >>= read_opened) ≡ option_and_then (λ ls. take_data keys (w ∷ all_words ls)) (lex 0 [] bs f)
+  opened_first : (w : List ℕ) (bs : List ℕ) (f : Bool) → accepted (opened_text keys line (Some w) (coming bs f) >>= read_opened) ≡ option_and_then (λ ls. take_data keys (w ∷ all_words ls)) (lex 0 [] bs f)
   unfolding opened_by
   opened_first w bs f = by (header_of keys) refl
     where
-      by : (r : Result Header GridKind) → header_of keys ≡ r → opened_by (Some w) (coming bs f) r ≡ option_and_then (λ ls. at_header r (w ∷ all_words ls)) (lex 0 [] bs f)
+      by : (r : Result HeaderValue GridKind) → header_of keys ≡ r → opened_by (Some w) (coming bs f) r ≡ option_and_then (λ ls. at_header r (w ∷ all_words ls)) (lex 0 [] bs f)
       by (Ok h) e = let good = sides h.region (header_given keys h e).good in grid_first h good.0 good.1 w line bs f
       by (Err kind) e = sym (then_none (lex 0 [] bs f))
 
-  opened_none : accepted (opened keys line None header_ended >>= read_opened) ≡ take_data keys []
+  opened_none : accepted (opened_text keys line None header_ended >>= read_opened) ≡ take_data keys []
   unfolding opened_by
   opened_none = by (header_of keys) refl
     where
-      by : (r : Result Header GridKind) → header_of keys ≡ r → opened_by None header_ended r ≡ at_header r []
+      by : (r : Result HeaderValue GridKind) → header_of keys ≡ r → opened_by None header_ended r ≡ at_header r []
       by (Ok h) e = let good = sides h.region (header_given keys h e).good in grid_none h good.0 good.1 line
       by (Err kind) e = refl
 
@@ -91,23 +91,25 @@ value_is line c = by (gap_of line 0 c) refl
     by (Fault f) e = rw e
 
 -- A header line behind its first word, where `rest` reads the lines behind it.
-module _ (rest : Keys → ℕ → ℕ → Coming → Result Opened GridFault) (line : ℕ) (keys : Keys) (key : Option Key)
-    (follows : (more : Keys) → open_keys more < open_keys keys → (l run : ℕ) (bs : List ℕ) (f : Bool) → run ≤ 1048576 → accepted (rest more l run (coming bs f) >>= read_opened) ≡ option_and_then (take_text more) (lex run [] bs f)) where
+module _ (rest : KeyValues → ℕ → ℕ → Coming → Result OpenedText GridFault) (line : ℕ) (keys : KeyValues)
+    (key : Option HeaderKey)
+    (follows : (more : KeyValues) → open_keys more < open_keys keys → (l run : ℕ) (bs : List ℕ) (f : Bool) → run ≤ 1048576 → accepted (rest more l run (coming bs f) >>= read_opened) ≡ option_and_then (take_text more) (lex run [] bs f)) where
   -- what is accepted from the end of the value on
-  abbrev closed : LineEnd → Result Keys GridKind → Option Grid
+  abbrev closed : LineEnd → Result KeyValues GridKind → Option Grid
   closed end r = accepted (((at_line line r >>= (λ more. Ok (more, end))) >>= after_line rest line) >>= read_opened)
 
   abbrev from_end : List ℕ → Result LineEnd GridFault → Option Grid
   from_end value r = accepted (((r >>= (λ end. at_line line (with_header_key keys key value) >>= (λ more. Ok (more, end)))) >>= after_line rest line) >>= read_opened)
 
-  fewer : (value : List ℕ) (more : Keys) → with_header_key keys key value ≡ Ok more → open_keys more < open_keys keys
+  fewer : (value : List ℕ) (more : KeyValues) → with_header_key keys key value ≡ Ok more
+      → open_keys more < open_keys keys
   fewer value more e = let g = (key_known keys key value more e).2.fewer in omega arith
 
-  closed_none : (r : Result Keys GridKind) → closed None r ≡ after_key r (λ k. take_text k [])
+  closed_none : (r : Result KeyValues GridKind) → closed None r ≡ after_key r (λ k. take_text k [])
   closed_none (Ok more) = opened_none more line
   closed_none (Err kind) = refl
 
-  closed_some : (value : List ℕ) (r : Result Keys GridKind) → with_header_key keys key value ≡ r → (run : ℕ) (bs : List ℕ) (f : Bool) → run ≤ 1048576
+  closed_some : (value : List ℕ) (r : Result KeyValues GridKind) → with_header_key keys key value ≡ r → (run : ℕ) (bs : List ℕ) (f : Bool) → run ≤ 1048576
       → closed (Some (run, coming bs f)) r ≡ option_and_then (λ ls. after_key r (λ k. take_text k ls)) (lex run [] bs f)
   closed_some value (Ok more) e run bs f low = follows more (fewer value more e) (line + 1) run bs f low
   closed_some value (Err kind) e run bs f low = sym (then_none (lex run [] bs f))
@@ -136,24 +138,24 @@ module _ (rest : Keys → ℕ → ℕ → Coming → Result Opened GridFault) (l
       goes ls = taken (filter is_token ([] ∷ first_line ls)) ls
 
 -- what is accepted from the first word of a line on
-abbrev from_word : (Keys → ℕ → ℕ → Coming → Result Opened GridFault) → Keys → ℕ → Result (List ℕ × Coming) GridFault → Option Grid
-from_word rest keys line r = accepted ((r >>= (λ w. if has_colon w.0 then key_line line keys w.0 w.1 >>= after_line rest line else opened keys line (Some w.0) w.1)) >>= read_opened)
+abbrev from_word : (KeyValues → ℕ → ℕ → Coming → Result OpenedText GridFault) → KeyValues → ℕ → Result (List ℕ × Coming) GridFault → Option Grid
+from_word rest keys line r = accepted ((r >>= (λ w. if has_colon w.0 then key_line line keys w.0 w.1 >>= after_line rest line else opened_text keys line (Some w.0) w.1)) >>= read_opened)
 
 -- the reading of a text from a line on
-pub header_is : (fuel : ℕ) (keys : Keys) → open_keys keys < fuel → (line run : ℕ) (bs : List ℕ) (f : Bool) → run ≤ 1048576
+pub header_is : (fuel : ℕ) (keys : KeyValues) → open_keys keys < fuel → (line run : ℕ) (bs : List ℕ) (f : Bool) → run ≤ 1048576
     → accepted (header_from fuel keys line run (coming bs f) >>= read_opened) ≡ option_and_then (take_text keys) (lex run [] bs f)
 unfolding header_from
 header_is zero keys few line run bs f low = absurd (omega arith)
 header_is (suc fuel) keys few line run bs f low = by (λ more less l r cs g lo. header_is fuel more (omega arith) l r cs g lo)
   where
-    rest : Keys → ℕ → ℕ → Coming → Result Opened GridFault
+    rest : KeyValues → ℕ → ℕ → Coming → Result OpenedText GridFault
     rest k l r d = header_from fuel k l r d
 
-    by : ((more : Keys) → open_keys more < open_keys keys → (l r : ℕ) (cs : List ℕ) (g : Bool) → r ≤ 1048576 → accepted (rest more l r (coming cs g) >>= read_opened) ≡ option_and_then (take_text more) (lex r [] cs g))
+    by : ((more : KeyValues) → open_keys more < open_keys keys → (l r : ℕ) (cs : List ℕ) (g : Bool) → r ≤ 1048576 → accepted (rest more l r (coming cs g) >>= read_opened) ≡ option_and_then (take_text more) (lex r [] cs g))
         → accepted (line_from rest keys (grid_start line run (coming bs f)) >>= read_opened) ≡ option_and_then (take_text keys) (lex run [] bs f)
     by follows = before_word (take_text keys) (λ ls. refl) (λ s. accepted (line_from rest keys s >>= read_opened)) (λ e. refl) (λ l. opened_none keys l) begins bs f line run low
       where
-        first : (l x : ℕ) (xs ds : List ℕ) (h t : Bool) → accepted ((if t then key_line l keys (x ∷ xs) (coming ds h) >>= after_line rest l else opened keys l (Some (x ∷ xs)) (coming ds h)) >>= read_opened)
+        first : (l x : ℕ) (xs ds : List ℕ) (h t : Bool) → accepted ((if t then key_line l keys (x ∷ xs) (coming ds h) >>= after_line rest l else opened_text keys l (Some (x ∷ xs)) (coming ds h)) >>= read_opened)
             ≡ option_and_then (λ ls. if t then after_key (with_line keys ((x ∷ xs) ∷ first_line ls)) (λ k. take_text k (rest_lines ls)) else take_data keys ((x ∷ xs) ∷ (first_line ls ++ all_words (rest_lines ls)))) (lex 0 [] ds h)
         first l x xs ds h true = line_is rest l keys (header_key_of (before_first is_colon (x ∷ xs))) follows (after_first is_colon (x ∷ xs)) ds h
         first l x xs ds h false = opened_first keys l (x ∷ xs) ds h ∙ then_agree (λ ls. take_data keys ((x ∷ xs) ∷ all_words ls)) (λ ls. take_data keys ((x ∷ xs) ∷ (first_line ls ++ all_words (rest_lines ls))))

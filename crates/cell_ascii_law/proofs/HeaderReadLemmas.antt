@@ -5,9 +5,9 @@ use Rattle.std.proofs.lemmas.Bool.{cases_Bool, cases_lt}
 use Rattle.cell_core_devices.specs.Device.{Coming}
 use Rattle.cell_ascii_meaning.specs.GridTokens.{Start, Begins, Ends, Stops, grid_start, is_space, grid_fault, word_from}
 use Rattle.cell_ascii_meaning.specs.KeyNames.{header_key_of}
-use Rattle.cell_ascii_meaning.specs.Header.{Header, Opened, Keys, no_keys, with_header_key, header_of, is_colon, has_colon, Gap, Word, Feed, Last, Fault, gap_of, value_from, LineEnd, line_end, at_line, key_line, header_ended, opened, At, after_line, line_from, header_from, ◌>>=◌}
+use Rattle.cell_ascii_meaning.specs.Header.{HeaderValue, OpenedText, KeyValues, no_keys, with_header_key, header_of, is_colon, has_colon, Gap, Word, Feed, Last, Fault, gap_of, value_from, LineEnd, line_end, at_line, key_line, header_ended, opened_text, At, after_line, line_from, header_from, ◌>>=◌}
 use Rattle.cell_ascii_meaning.specs.GridText.{is_token, line_words, header_lines, IsHeader}
-use Rattle.cell_ascii_meaning.specs.declared.header_key.Key.{Key}
+use Rattle.cell_ascii_meaning.specs.declared.header_key.HeaderKey.{HeaderKey}
 use Rattle.cell_ascii_meaning.specs.declared.grid_fault.GridKind.{GridKind}
 use Rattle.cell_ascii_meaning.specs.declared.grid_fault.GridKind.TheVariants.{Read, ReaderStuck, LongToken}
 use Rattle.cell_ascii_meaning.specs.declared.grid_fault.GridFault.{GridFault}
@@ -124,55 +124,56 @@ module _ {Y : Type 0} (y : Y) (G : Lines → Option Y) where
             (sym (ap k (gap-stuck line run low b bs f space blank full) ∙ fails (grid_fault ReaderStuck line)) ∙ e)
 
 -- the header that is read
-abbrev said : Result Opened GridFault → Option Header
+abbrev said : Result OpenedText GridFault → Option HeaderValue
 said (Ok o) = Some o.header
 said (Err e) = None
 
-abbrev given_header : Result Header GridKind → Option Header
+abbrev given_header : Result HeaderValue GridKind → Option HeaderValue
 given_header (Ok h) = Some h
 given_header (Err kind) = None
 
 -- the header of the keys, whatever the words of the data are
-abbrev pub take_header : Keys → List (List ℕ) → Option Header
+abbrev pub take_header : KeyValues → List (List ℕ) → Option HeaderValue
 take_header keys words = given_header (header_of keys)
 
-abbrev take_lines : Keys → Lines → Option Header
+abbrev take_lines : KeyValues → Lines → Option HeaderValue
 take_lines = take_by take_header
 
-opened_said : (keys : Keys) (line : ℕ) (pending : Option (List ℕ)) (c : Coming)
-    → said (opened keys line pending c) ≡ given_header (header_of keys)
+opened_said : (keys : KeyValues) (line : ℕ) (pending : Option (List ℕ)) (c : Coming)
+    → said (opened_text keys line pending c) ≡ given_header (header_of keys)
 opened_said keys line pending c = by (header_of keys)
   where
     place : At
     place = record { pending = pending; line = line; run = 0; coming = c }
 
-    by : (r : Result Header GridKind)
+    by : (r : Result HeaderValue GridKind)
         → said (at_line line r >>= (λ h. Ok (record { header = h; at = place }))) ≡ given_header r
     by (Ok h) = refl
     by (Err kind) = refl
 
 -- A header line behind its first word, where `rest` reads the lines behind it.
-module _ (h : Header) (rest : Keys → ℕ → ℕ → Coming → Result Opened GridFault) (line : ℕ) (keys : Keys)
-    (key : Option Key)
-    (follows : (more : Keys) (l run : ℕ) (bs : List ℕ) (f : Bool) → run ≤ 1048576
+module _ (h : HeaderValue) (rest : KeyValues → ℕ → ℕ → Coming → Result OpenedText GridFault) (line : ℕ)
+    (keys : KeyValues)
+    (key : Option HeaderKey)
+    (follows : (more : KeyValues) (l run : ℕ) (bs : List ℕ) (f : Bool) → run ≤ 1048576
     → said (rest more l run (coming bs f)) ≡ Some h → take_lines more (line_words bs) ≡ Some h) where
-  abbrev closed : LineEnd → Result Keys GridKind → Option Header
+  abbrev closed : LineEnd → Result KeyValues GridKind → Option HeaderValue
   closed end r = said ((at_line line r >>= (λ more. Ok (more, end))) >>= after_line rest line)
 
-  closed_none : (r : Result Keys GridKind) → closed None r ≡ after_key r (λ k. take_lines k [])
+  closed_none : (r : Result KeyValues GridKind) → closed None r ≡ after_key r (λ k. take_lines k [])
   closed_none (Ok more) = opened_said more line None header_ended
   closed_none (Err kind) = refl
 
-  closed_some : (r : Result Keys GridKind) (run : ℕ) (bs : List ℕ) (f : Bool) → run ≤ 1048576
+  closed_some : (r : Result KeyValues GridKind) (run : ℕ) (bs : List ℕ) (f : Bool) → run ≤ 1048576
       → closed (Some (run, coming bs f)) r ≡ Some h
       → after_key r (λ k. take_lines k (line_words bs)) ≡ Some h
   closed_some (Ok more) run bs f low e = follows more (line + 1) run bs f low e
   closed_some (Err kind) run bs f low e = none_some h e
 
-  abbrev taken : List (List ℕ) → Lines → Option Header
+  abbrev taken : List (List ℕ) → Lines → Option HeaderValue
   taken vs ls = after_key (with_values keys key vs) (λ k. take_lines k (rest_lines ls))
 
-  abbrev from_end : List ℕ → Result LineEnd GridFault → Option Header
+  abbrev from_end : List ℕ → Result LineEnd GridFault → Option HeaderValue
   from_end value r =
       said ((r >>= (λ end. at_line line (with_header_key keys key value) >>= (λ more. Ok (more, end))))
       >>= after_line rest line)
@@ -185,7 +186,7 @@ module _ (h : Header) (rest : Keys → ℕ → ℕ → Coming → Result Opened 
       (λ e. sym (closed_none (with_header_key keys key value)) ∙ e) (λ b cs g word e. none_some h e)
       (λ run cs g low e. closed_some (with_header_key keys key value) run cs g low e) bs f 0 (omega arith)
 
-  abbrev from_value : Result (List ℕ × Coming) GridFault → Option Header
+  abbrev from_value : Result (List ℕ × Coming) GridFault → Option HeaderValue
   from_value r =
       said ((r >>= (λ value. line_end line (gap_of line 0 value.1)
       >>= (λ end. at_line line (with_header_key keys key value.0) >>= (λ more. Ok (more, end)))))
@@ -203,23 +204,25 @@ module _ (h : Header) (rest : Keys → ℕ → ℕ → Coming → Result Opened 
       (λ run cs g low e. none_some h e) bs f 0 (omega arith) (sym (ap from_value (value_is line (coming bs f))) ∙ e)
 
 -- what is said from the first word of a line on
-abbrev said_word : (Keys → ℕ → ℕ → Coming → Result Opened GridFault) → Keys → ℕ → Result (List ℕ × Coming) GridFault
-    → Option Header
+abbrev said_word : (KeyValues → ℕ → ℕ → Coming → Result OpenedText GridFault) → KeyValues → ℕ
+    → Result (List ℕ × Coming) GridFault
+    → Option HeaderValue
 said_word rest keys line r =
     said (r >>= (λ w. if has_colon w.0 then key_line line keys w.0 w.1 >>= after_line rest line
-    else opened keys line (Some w.0) w.1))
+    else opened_text keys line (Some w.0) w.1))
 
-header_said : (h : Header) (fuel : ℕ) (keys : Keys) (line run : ℕ) (bs : List ℕ) (f : Bool) → run ≤ 1048576
+header_said : (h : HeaderValue) (fuel : ℕ) (keys : KeyValues) (line run : ℕ) (bs : List ℕ) (f : Bool) → run ≤ 1048576
     → said (header_from fuel keys line run (coming bs f)) ≡ Some h → take_lines keys (line_words bs) ≡ Some h
 unfolding header_from
 header_said h zero keys line run bs f low e = none_some h e
 header_said h (suc fuel) keys line run bs f low e =
     by (λ more l r cs g lo said_so. header_said h fuel more l r cs g lo said_so) e
   where
-    rest : Keys → ℕ → ℕ → Coming → Result Opened GridFault
+    rest : KeyValues → ℕ → ℕ → Coming → Result OpenedText GridFault
     rest k l r d = header_from fuel k l r d
 
-    by : ((more : Keys) (l r : ℕ) (cs : List ℕ) (g : Bool) → r ≤ 1048576 → said (rest more l r (coming cs g)) ≡ Some h
+    by : ((more : KeyValues) (l r : ℕ) (cs : List ℕ) (g : Bool) → r ≤ 1048576
+        → said (rest more l r (coming cs g)) ≡ Some h
         → take_lines more (line_words cs) ≡ Some h)
         → said (line_from rest keys (grid_start line run (coming bs f))) ≡ Some h
         → take_lines keys (line_words bs) ≡ Some h
@@ -229,7 +232,7 @@ header_said h (suc fuel) keys line run bs f low e =
       where
         first : (l x : ℕ) (xs ds : List ℕ) (g t : Bool)
             → said (if t then key_line l keys (x ∷ xs) (coming ds g) >>= after_line rest l
-            else opened keys l (Some (x ∷ xs)) (coming ds g)) ≡ Some h
+            else opened_text keys l (Some (x ∷ xs)) (coming ds g)) ≡ Some h
             → (if t then after_key (with_line keys ((x ∷ xs) ∷ first_line (line_words ds)))
             (λ k. take_lines k (rest_lines (line_words ds)))
             else given_header (header_of keys)) ≡ Some h
@@ -246,17 +249,18 @@ header_said h (suc fuel) keys line run bs f low e =
             (λ x xs ds k. first l x xs ds k (has_colon (x ∷ xs))) b cs g word
 
 -- the header that the lines give is that of their header lines
-lines_say : (ls : Lines) (h : Header) → take_lines no_keys ls ≡ Some h → IsHeader (header_lines ls) h
+lines_say : (ls : Lines) (h : HeaderValue) → take_lines no_keys ls ≡ Some h → IsHeader (header_lines ls) h
 lines_say ls h e = by (with_lines no_keys (header_lines ls)) refl (sym (text_parts take_header ls no_keys) ∙ e)
   where
-    last : (k : Keys) → with_lines no_keys (header_lines ls) ≡ Ok k → (r : Result Header GridKind) → header_of k ≡ r
+    last : (k : KeyValues) → with_lines no_keys (header_lines ls) ≡ Ok k → (r : Result HeaderValue GridKind)
+        → header_of k ≡ r
         → given_header r ≡ Some h → IsHeader (header_lines ls) h
     last k is (Err kind) given e = none_some h e
     last k is (Ok g) given e =
         let same : g ≡ h = cc in
         subst (IsHeader (header_lines ls)) same (header_read (header_lines ls) k g is (header_given k g given))
 
-    by : (r : Result Keys GridKind) → with_lines no_keys (header_lines ls) ≡ r
+    by : (r : Result KeyValues GridKind) → with_lines no_keys (header_lines ls) ≡ r
         → after_key r (λ k. given_header (header_of k)) ≡ Some h
         → IsHeader (header_lines ls) h
     by (Err kind) is e = none_some h e

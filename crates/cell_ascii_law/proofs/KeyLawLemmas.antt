@@ -7,11 +7,11 @@ use Rattle.cell_core_values.specs.Region.{RegionValue, region_fault, is_side, is
 use Rattle.cell_core_values.specs.declared.region.RegionFault.{RegionFault}
 use Rattle.cell_core_values.specs.declared.region.RegionFault.TheVariants.{BadExtent, BadRows, BadCols, TooManyCells}
 use Rattle.cell_ascii_meaning.specs.EdgeNumbers.{coordinate, side, whole_in_range}
-use Rattle.cell_ascii_meaning.specs.Header.{Keys, Header, header_of_keys, given, with_header_key, header_of, has_colon, is_int, usual_null, usual_multiplier}
+use Rattle.cell_ascii_meaning.specs.Header.{KeyValues, HeaderValue, header_of_keys, value_given, with_header_key, header_of, has_colon, is_int, usual_null, usual_multiplier}
 use Rattle.cell_ascii_meaning.specs.GridText.{null_text, int_type}
 use Rattle.cell_ascii_meaning.specs.declared.grid_fault.GridKind.TheVariants.{BadHeader, TwiceKey, BadType}
-use Rattle.cell_ascii_meaning.specs.declared.header_key.Key.{Key}
-use Rattle.cell_ascii_meaning.specs.declared.header_key.Key.TheVariants.{North, South, East, West, Rows, Cols, Null, CellType, Multiplier}
+use Rattle.cell_ascii_meaning.specs.declared.header_key.HeaderKey.{HeaderKey}
+use Rattle.cell_ascii_meaning.specs.declared.header_key.HeaderKey.TheVariants.{North, South, East, West, Rows, Cols, Null, CellType, Multiplier}
 
 -- the value of a key
 pub data Value : Type 0 where
@@ -24,7 +24,7 @@ stood true = Some tt
 stood false = None
 
 -- what stands for a key
-abbrev pub held : Keys → Key → Option Value
+abbrev pub held : KeyValues → HeaderKey → Option Value
 held k North = option_map Number k.north
 held k South = option_map Number k.south
 held k East = option_map Number k.east
@@ -36,7 +36,7 @@ held k CellType = option_map (λ _. Text []) (stood k.kind)
 held k Multiplier = option_map Number k.multiplier
 
 -- what a value gives a key
-abbrev pub number_of : Key → List ℕ → Option Value
+abbrev pub number_of : HeaderKey → List ℕ → Option Value
 number_of North value = option_map Number (coordinate value)
 number_of South value = option_map Number (coordinate value)
 number_of East value = option_map Number (coordinate value)
@@ -52,34 +52,34 @@ open_one None = 1
 open_one (Some x) = 0
 
 -- how many keys did not stand yet
-abbrev pub open_keys : Keys → ℕ
+abbrev pub open_keys : KeyValues → ℕ
 open_keys k = open_one k.north + open_one k.south + open_one k.east + open_one k.west + open_one k.rows + open_one k.cols + open_one k.null + open_one (stood k.kind) + open_one k.multiplier
 
-given_is : {X : Type 0} (o value : Option X) (keep : X → Keys) (k : Keys) → given o value keep ≡ Ok k → (o ≡ None) × (x : X) × (value ≡ Some x) × (keep x ≡ k)
+given_is : {X : Type 0} (o value : Option X) (keep : X → KeyValues) (k : KeyValues) → value_given o value keep ≡ Ok k → (o ≡ None) × (x : X) × (value ≡ Some x) × (keep x ≡ k)
 given_is (Some old) value keep k e = cc
 given_is None None keep k e = cc
 given_is None (Some x) keep k e = (refl, x, refl, cc)
 
 -- k is a with one key more, whose value gives a number
-pub record IsGiven (a : Keys) (q : Key) (value : List ℕ) (k : Keys) : Type 0 where
+pub record IsGiven (a : KeyValues) (q : HeaderKey) (value : List ℕ) (k : KeyValues) : Type 0 where
   pub free : held a q ≡ None
   pub number : is_some (number_of q value) ≡ true
   pub kept : held k q ≡ number_of q value
-  pub others : (p : Key) → (p ≡ q → ⊥) → held k p ≡ held a p
+  pub others : (p : HeaderKey) → (p ≡ q → ⊥) → held k p ≡ held a p
   pub fewer : suc (open_keys k) ≡ open_keys a
 
-pub key_given : (a : Keys) (q : Key) (value : List ℕ) (k : Keys) → with_header_key a (Some q) value ≡ Ok k → IsGiven a q value k
+pub key_given : (a : KeyValues) (q : HeaderKey) (value : List ℕ) (k : KeyValues) → with_header_key a (Some q) value ≡ Ok k → IsGiven a q value k
 key_given a North value k e =
     let g = given_is a.north (coordinate value) (λ x. record a { north = Some x }) k e in
     record {
       free = ap (option_map Number) g.0;
       number = ap (λ (o : Option ℤ). is_some (option_map Number o)) g.2;
-      kept = ap (λ (m : Keys). option_map Number m.north) (sym g.3) ∙ ap (option_map Number) (sym g.2);
-      others = λ p d. ap (λ (m : Keys). held m p) (sym g.3) ∙ by g.1 p d;
-      fewer = ap (λ (m : Keys). suc (open_keys m)) (sym g.3) ∙ (let o = ap open_one g.0 in omega arith);
+      kept = ap (λ (m : KeyValues). option_map Number m.north) (sym g.3) ∙ ap (option_map Number) (sym g.2);
+      others = λ p d. ap (λ (m : KeyValues). held m p) (sym g.3) ∙ by g.1 p d;
+      fewer = ap (λ (m : KeyValues). suc (open_keys m)) (sym g.3) ∙ (let o = ap open_one g.0 in omega arith);
     }
   where
-    by : (x : ℤ) (p : Key) → (p ≡ North → ⊥) → held (record a { north = Some x }) p ≡ held a p
+    by : (x : ℤ) (p : HeaderKey) → (p ≡ North → ⊥) → held (record a { north = Some x }) p ≡ held a p
     by x North d = absurd (d refl)
     by x _ d = refl
 key_given a South value k e =
@@ -87,12 +87,12 @@ key_given a South value k e =
     record {
       free = ap (option_map Number) g.0;
       number = ap (λ (o : Option ℤ). is_some (option_map Number o)) g.2;
-      kept = ap (λ (m : Keys). option_map Number m.south) (sym g.3) ∙ ap (option_map Number) (sym g.2);
-      others = λ p d. ap (λ (m : Keys). held m p) (sym g.3) ∙ by g.1 p d;
-      fewer = ap (λ (m : Keys). suc (open_keys m)) (sym g.3) ∙ (let o = ap open_one g.0 in omega arith);
+      kept = ap (λ (m : KeyValues). option_map Number m.south) (sym g.3) ∙ ap (option_map Number) (sym g.2);
+      others = λ p d. ap (λ (m : KeyValues). held m p) (sym g.3) ∙ by g.1 p d;
+      fewer = ap (λ (m : KeyValues). suc (open_keys m)) (sym g.3) ∙ (let o = ap open_one g.0 in omega arith);
     }
   where
-    by : (x : ℤ) (p : Key) → (p ≡ South → ⊥) → held (record a { south = Some x }) p ≡ held a p
+    by : (x : ℤ) (p : HeaderKey) → (p ≡ South → ⊥) → held (record a { south = Some x }) p ≡ held a p
     by x South d = absurd (d refl)
     by x _ d = refl
 key_given a East value k e =
@@ -100,12 +100,12 @@ key_given a East value k e =
     record {
       free = ap (option_map Number) g.0;
       number = ap (λ (o : Option ℤ). is_some (option_map Number o)) g.2;
-      kept = ap (λ (m : Keys). option_map Number m.east) (sym g.3) ∙ ap (option_map Number) (sym g.2);
-      others = λ p d. ap (λ (m : Keys). held m p) (sym g.3) ∙ by g.1 p d;
-      fewer = ap (λ (m : Keys). suc (open_keys m)) (sym g.3) ∙ (let o = ap open_one g.0 in omega arith);
+      kept = ap (λ (m : KeyValues). option_map Number m.east) (sym g.3) ∙ ap (option_map Number) (sym g.2);
+      others = λ p d. ap (λ (m : KeyValues). held m p) (sym g.3) ∙ by g.1 p d;
+      fewer = ap (λ (m : KeyValues). suc (open_keys m)) (sym g.3) ∙ (let o = ap open_one g.0 in omega arith);
     }
   where
-    by : (x : ℤ) (p : Key) → (p ≡ East → ⊥) → held (record a { east = Some x }) p ≡ held a p
+    by : (x : ℤ) (p : HeaderKey) → (p ≡ East → ⊥) → held (record a { east = Some x }) p ≡ held a p
     by x East d = absurd (d refl)
     by x _ d = refl
 key_given a West value k e =
@@ -113,12 +113,12 @@ key_given a West value k e =
     record {
       free = ap (option_map Number) g.0;
       number = ap (λ (o : Option ℤ). is_some (option_map Number o)) g.2;
-      kept = ap (λ (m : Keys). option_map Number m.west) (sym g.3) ∙ ap (option_map Number) (sym g.2);
-      others = λ p d. ap (λ (m : Keys). held m p) (sym g.3) ∙ by g.1 p d;
-      fewer = ap (λ (m : Keys). suc (open_keys m)) (sym g.3) ∙ (let o = ap open_one g.0 in omega arith);
+      kept = ap (λ (m : KeyValues). option_map Number m.west) (sym g.3) ∙ ap (option_map Number) (sym g.2);
+      others = λ p d. ap (λ (m : KeyValues). held m p) (sym g.3) ∙ by g.1 p d;
+      fewer = ap (λ (m : KeyValues). suc (open_keys m)) (sym g.3) ∙ (let o = ap open_one g.0 in omega arith);
     }
   where
-    by : (x : ℤ) (p : Key) → (p ≡ West → ⊥) → held (record a { west = Some x }) p ≡ held a p
+    by : (x : ℤ) (p : HeaderKey) → (p ≡ West → ⊥) → held (record a { west = Some x }) p ≡ held a p
     by x West d = absurd (d refl)
     by x _ d = refl
 key_given a Rows value k e =
@@ -126,12 +126,12 @@ key_given a Rows value k e =
     record {
       free = ap (option_map Count) g.0;
       number = ap (λ (o : Option ℕ). is_some (option_map Count o)) g.2;
-      kept = ap (λ (m : Keys). option_map Count m.rows) (sym g.3) ∙ ap (option_map Count) (sym g.2);
-      others = λ p d. ap (λ (m : Keys). held m p) (sym g.3) ∙ by g.1 p d;
-      fewer = ap (λ (m : Keys). suc (open_keys m)) (sym g.3) ∙ (let o = ap open_one g.0 in omega arith);
+      kept = ap (λ (m : KeyValues). option_map Count m.rows) (sym g.3) ∙ ap (option_map Count) (sym g.2);
+      others = λ p d. ap (λ (m : KeyValues). held m p) (sym g.3) ∙ by g.1 p d;
+      fewer = ap (λ (m : KeyValues). suc (open_keys m)) (sym g.3) ∙ (let o = ap open_one g.0 in omega arith);
     }
   where
-    by : (x : ℕ) (p : Key) → (p ≡ Rows → ⊥) → held (record a { rows = Some x }) p ≡ held a p
+    by : (x : ℕ) (p : HeaderKey) → (p ≡ Rows → ⊥) → held (record a { rows = Some x }) p ≡ held a p
     by x Rows d = absurd (d refl)
     by x _ d = refl
 key_given a Cols value k e =
@@ -139,21 +139,21 @@ key_given a Cols value k e =
     record {
       free = ap (option_map Count) g.0;
       number = ap (λ (o : Option ℕ). is_some (option_map Count o)) g.2;
-      kept = ap (λ (m : Keys). option_map Count m.cols) (sym g.3) ∙ ap (option_map Count) (sym g.2);
-      others = λ p d. ap (λ (m : Keys). held m p) (sym g.3) ∙ by g.1 p d;
-      fewer = ap (λ (m : Keys). suc (open_keys m)) (sym g.3) ∙ (let o = ap open_one g.0 in omega arith);
+      kept = ap (λ (m : KeyValues). option_map Count m.cols) (sym g.3) ∙ ap (option_map Count) (sym g.2);
+      others = λ p d. ap (λ (m : KeyValues). held m p) (sym g.3) ∙ by g.1 p d;
+      fewer = ap (λ (m : KeyValues). suc (open_keys m)) (sym g.3) ∙ (let o = ap open_one g.0 in omega arith);
     }
   where
-    by : (x : ℕ) (p : Key) → (p ≡ Cols → ⊥) → held (record a { cols = Some x }) p ≡ held a p
+    by : (x : ℕ) (p : HeaderKey) → (p ≡ Cols → ⊥) → held (record a { cols = Some x }) p ≡ held a p
     by x Cols d = absurd (d refl)
     by x _ d = refl
 key_given a Null value k e = by (has_colon value) refl e
   where
-    others : (x : List ℕ) (p : Key) → (p ≡ Null → ⊥) → held (record a { null = Some x }) p ≡ held a p
+    others : (x : List ℕ) (p : HeaderKey) → (p ≡ Null → ⊥) → held (record a { null = Some x }) p ≡ held a p
     others x Null d = absurd (d refl)
     others x _ d = refl
 
-    by : (t : Bool) → has_colon value ≡ t → (if t then Err BadHeader else given a.null (Some value) (λ x. record a { null = Some x })) ≡ Ok k → IsGiven a Null value k
+    by : (t : Bool) → has_colon value ≡ t → (if t then Err BadHeader else value_given a.null (Some value) (λ x. record a { null = Some x })) ≡ Ok k → IsGiven a Null value k
     by true is e = cc
     by false is e =
         let g = given_is a.null (Some value) (λ x. record a { null = Some x }) k e in
@@ -161,13 +161,13 @@ key_given a Null value k e = by (has_colon value) refl e
         record {
           free = ap (option_map Text) g.0;
           number = ap (λ (o : Option (List ℕ)). is_some (option_map Text o)) read;
-          kept = ap (λ (m : Keys). option_map Text m.null) (sym g.3) ∙ ap (option_map Text) (sym read);
-          others = λ p d. ap (λ (m : Keys). held m p) (sym g.3) ∙ others g.1 p d;
-          fewer = ap (λ (m : Keys). suc (open_keys m)) (sym g.3) ∙ (let o = ap open_one g.0 in omega arith);
+          kept = ap (λ (m : KeyValues). option_map Text m.null) (sym g.3) ∙ ap (option_map Text) (sym read);
+          others = λ p d. ap (λ (m : KeyValues). held m p) (sym g.3) ∙ others g.1 p d;
+          fewer = ap (λ (m : KeyValues). suc (open_keys m)) (sym g.3) ∙ (let o = ap open_one g.0 in omega arith);
         }
 key_given a CellType value k e = by a.kind (is_int value) refl refl e
   where
-    others : (p : Key) → (p ≡ CellType → ⊥) → held (record a { kind = true }) p ≡ held a p
+    others : (p : HeaderKey) → (p ≡ CellType → ⊥) → held (record a { kind = true }) p ≡ held a p
     others CellType d = absurd (d refl)
     others _ d = refl
 
@@ -180,33 +180,33 @@ key_given a CellType value k e = by a.kind (is_int value) refl refl e
         record {
           free = ap (λ (t : Bool). option_map (λ _. Text []) (stood t)) stands;
           number = ap (λ (o : Option (Unit {0})). is_some (option_map (λ _. Text []) o)) read;
-          kept = ap (λ (m : Keys). option_map (λ _. Text []) (stood m.kind)) (sym same) ∙ ap (option_map (λ _. Text [])) (sym read);
-          others = λ p d. ap (λ (m : Keys). held m p) (sym same) ∙ others p d;
-          fewer = ap (λ (m : Keys). suc (open_keys m)) (sym same) ∙ (let o = ap (λ (t : Bool). open_one (stood t)) stands in omega arith);
+          kept = ap (λ (m : KeyValues). option_map (λ _. Text []) (stood m.kind)) (sym same) ∙ ap (option_map (λ _. Text [])) (sym read);
+          others = λ p d. ap (λ (m : KeyValues). held m p) (sym same) ∙ others p d;
+          fewer = ap (λ (m : KeyValues). suc (open_keys m)) (sym same) ∙ (let o = ap (λ (t : Bool). open_one (stood t)) stands in omega arith);
         }
 key_given a Multiplier value k e =
     let g = given_is a.multiplier (whole_in_range value) (λ x. record a { multiplier = Some x }) k e in
     record {
       free = ap (option_map Number) g.0;
       number = ap (λ (o : Option ℤ). is_some (option_map Number o)) g.2;
-      kept = ap (λ (m : Keys). option_map Number m.multiplier) (sym g.3) ∙ ap (option_map Number) (sym g.2);
-      others = λ p d. ap (λ (m : Keys). held m p) (sym g.3) ∙ by g.1 p d;
-      fewer = ap (λ (m : Keys). suc (open_keys m)) (sym g.3) ∙ (let o = ap open_one g.0 in omega arith);
+      kept = ap (λ (m : KeyValues). option_map Number m.multiplier) (sym g.3) ∙ ap (option_map Number) (sym g.2);
+      others = λ p d. ap (λ (m : KeyValues). held m p) (sym g.3) ∙ by g.1 p d;
+      fewer = ap (λ (m : KeyValues). suc (open_keys m)) (sym g.3) ∙ (let o = ap open_one g.0 in omega arith);
     }
   where
-    by : (x : ℤ) (p : Key) → (p ≡ Multiplier → ⊥) → held (record a { multiplier = Some x }) p ≡ held a p
+    by : (x : ℤ) (p : HeaderKey) → (p ≡ Multiplier → ⊥) → held (record a { multiplier = Some x }) p ≡ held a p
     by x Multiplier d = absurd (d refl)
     by x _ d = refl
 
-pub key_known : (a : Keys) (key : Option Key) (value : List ℕ) (k : Keys) → with_header_key a key value ≡ Ok k → (q : Key) × (key ≡ Some q) × IsGiven a q value k
+pub key_known : (a : KeyValues) (key : Option HeaderKey) (value : List ℕ) (k : KeyValues) → with_header_key a key value ≡ Ok k → (q : HeaderKey) × (key ≡ Some q) × IsGiven a q value k
 key_known a None value k e = cc
 key_known a (Some q) value k e = (q, refl, key_given a q value k e)
 
 -- a key that did not stand is taken, where its value gives a number
-pub key_taken : (a : Keys) (q : Key) (value : List ℕ) → held a q ≡ None → is_some (number_of q value) ≡ true → (k : Keys) × (with_header_key a (Some q) value ≡ Ok k)
+pub key_taken : (a : KeyValues) (q : HeaderKey) (value : List ℕ) → held a q ≡ None → is_some (number_of q value) ≡ true → (k : KeyValues) × (with_header_key a (Some q) value ≡ Ok k)
 key_taken a q value = by q
   where
-    takes : {X : Type 0} (o number : Option X) (keep : X → Keys) → o ≡ None → is_some number ≡ true → (k : Keys) × (given o number keep ≡ Ok k)
+    takes : {X : Type 0} (o number : Option X) (keep : X → KeyValues) → o ≡ None → is_some number ≡ true → (k : KeyValues) × (value_given o number keep ≡ Ok k)
     takes (Some x) number keep e s = cc
     takes None None keep e s = cc
     takes None (Some x) keep e s = (keep x, refl)
@@ -219,16 +219,16 @@ key_taken a q value = by q
     wrapped wrap None e = e
     wrapped wrap (Some x) e = refl
 
-    texted : (t : Bool) → has_colon value ≡ t → option_map Text a.null ≡ None → is_some (option_map Text (if t then None else Some value)) ≡ true → (k : Keys) × ((if t then Err BadHeader else given a.null (Some value) (λ x. record a { null = Some x })) ≡ Ok k)
+    texted : (t : Bool) → has_colon value ≡ t → option_map Text a.null ≡ None → is_some (option_map Text (if t then None else Some value)) ≡ true → (k : KeyValues) × ((if t then Err BadHeader else value_given a.null (Some value) (λ x. record a { null = Some x })) ≡ Ok k)
     texted true is e s = cc
     texted false is e s = takes a.null (Some value) (λ x. record a { null = Some x }) (free Text a.null e) refl
 
-    typed : (t u : Bool) → option_map (λ _. Text []) (stood t) ≡ None → is_some (option_map (λ _. Text []) (if u then Some (tt {0}) else None)) ≡ true → (k : Keys) × ((if t then Err TwiceKey else (if u then Ok (record a { kind = true }) else Err BadType)) ≡ Ok k)
+    typed : (t u : Bool) → option_map (λ _. Text []) (stood t) ≡ None → is_some (option_map (λ _. Text []) (if u then Some (tt {0}) else None)) ≡ true → (k : KeyValues) × ((if t then Err TwiceKey else (if u then Ok (record a { kind = true }) else Err BadType)) ≡ Ok k)
     typed true u e s = cc
     typed false false e s = cc
     typed false true e s = (record a { kind = true }, refl)
 
-    by : (q : Key) → held a q ≡ None → is_some (number_of q value) ≡ true → (k : Keys) × (with_header_key a (Some q) value ≡ Ok k)
+    by : (q : HeaderKey) → held a q ≡ None → is_some (number_of q value) ≡ true → (k : KeyValues) × (with_header_key a (Some q) value ≡ Ok k)
     by North e s = takes a.north (coordinate value) (λ x. record a { north = Some x }) (free Number a.north e) (wrapped Number (coordinate value) s)
     by South e s = takes a.south (coordinate value) (λ x. record a { south = Some x }) (free Number a.south e) (wrapped Number (coordinate value) s)
     by East e s = takes a.east (coordinate value) (λ x. record a { east = Some x }) (free Number a.east e) (wrapped Number (coordinate value) s)
@@ -240,7 +240,7 @@ key_taken a q value = by q
     by Multiplier e s = takes a.multiplier (whole_in_range value) (λ x. record a { multiplier = Some x }) (free Number a.multiplier e) (wrapped Number (whole_in_range value) s)
 
 -- the keys are those of a header, whose region is a good one
-pub record IsHeaderOf (k : Keys) (h : Header) : Type 0 where
+pub record IsHeaderOf (k : KeyValues) (h : HeaderValue) : Type 0 where
   pub north : k.north ≡ Some h.region.north
   pub south : k.south ≡ Some h.region.south
   pub east : k.east ≡ Some h.region.east
@@ -261,32 +261,33 @@ same_region e r g = by (is_rectangle e) (is_side e.rows) (is_side e.cols) (is_co
     by true true true false g = cc
     by true true true true g = cc
 
-abbrev headed : Keys → RegionValue → Header
+abbrev headed : KeyValues → RegionValue → HeaderValue
 headed k x = record { region = x; null_text = unwrap_or k.null usual_null; multiplier = unwrap_or k.multiplier usual_multiplier }
 
-good_region : (k : Keys) (x : RegionValue) (h : Header) (f : Result RegionValue RegionFault) → region_fault x ≡ f → header_of_keys k f ≡ Ok h → (headed k x ≡ h) × (region_fault x ≡ Ok x)
+good_region : (k : KeyValues) (x : RegionValue) (h : HeaderValue) (f : Result RegionValue RegionFault) → region_fault x ≡ f → header_of_keys k f ≡ Ok h → (headed k x ≡ h) × (region_fault x ≡ Ok x)
 good_region k x h (Err f) e j = cc
 good_region k x h (Ok y) e j =
     let same = same_region x y e in
     let p : headed k y ≡ h = cc in
     (ap (headed k) same ∙ p, e ∙ ap Ok (sym same))
 
-abbrev with_six : Keys → Option ℤ → Option ℤ → Option ℤ → Option ℤ → Option ℕ → Option ℕ → Keys
+abbrev with_six : KeyValues → Option ℤ → Option ℤ → Option ℤ → Option ℤ → Option ℕ → Option ℕ → KeyValues
 with_six k n s e w r c = record k { north = n; south = s; east = e; west = w; rows = r; cols = c }
 
-pub header_given : (k : Keys) (h : Header) → header_of k ≡ Ok h → IsHeaderOf k h
+pub header_given : (k : KeyValues) (h : HeaderValue) → header_of k ≡ Ok h → IsHeaderOf k h
 header_given k h e = by k.north k.south k.east k.west k.rows k.cols e
   where
     by : (n s e w : Option ℤ) (r c : Option ℕ) → header_of (with_six k n s e w r c) ≡ Ok h → IsHeaderOf (with_six k n s e w r c) h
     by (Some n) (Some s) (Some e) (Some w) (Some r) (Some c) j =
         let x : RegionValue = record { north = n; south = s; east = e; west = w; rows = r; cols = c } in
         let good = good_region k x h (region_fault x) refl j in
-        subst (λ (g : Header). IsHeaderOf (with_six k (Some n) (Some s) (Some e) (Some w) (Some r) (Some c)) g) good.0
+        subst (λ (g : HeaderValue). IsHeaderOf
+        (with_six k (Some n) (Some s) (Some e) (Some w) (Some r) (Some c)) g) good.0
         (record { north = refl; south = refl; east = refl; west = refl; rows = refl; cols = refl; null = refl; multiplier = refl; good = good.1 })
     by n s e w r c j = cc
 
 -- and the keys of a header with a good region give it
-pub header_kept : (k : Keys) (h : Header) → IsHeaderOf k h → header_of k ≡ Ok h
+pub header_kept : (k : KeyValues) (h : HeaderValue) → IsHeaderOf k h → header_of k ≡ Ok h
 header_kept k h is = (λ i. header_of (record k { north = is.north i; south = is.south i; east = is.east i; west = is.west i; rows = is.rows i; cols = is.cols i })) ∙ ap (header_of_keys k) is.good
     ∙ (λ i. Ok (record { region = h.region; null_text = is.null i; multiplier = is.multiplier i }))
 

@@ -7,7 +7,7 @@ use Rattle.std.proofs.lemmas.Bool.{cases_Bool, cases_lt}
 use Rattle.std.proofs.lemmas.Bool.Decides.{nat_tests}
 use Rattle.std.specs.Prelude.{nat_lt}
 use Rattle.cell_core_devices.specs.Device.{Coming}
-use Rattle.cell_ascii_meaning.specs.GridTokens.{Start, Begins, Ends, Stops, grid_start, start_at, is_space, is_grid_word, newlines, grid_fault, word_from, word_end}
+use Rattle.cell_ascii_meaning.specs.GridTokens.{Start, Begins, Ends, Stops, grid_start, start_at, is_space, is_word_byte, newlines, grid_fault, word_from, word_end}
 use Rattle.cell_ascii_meaning.specs.Header.{Gap, Word, Feed, Last, Fault, gap_of, gap_at, is_grid_blank}
 use Rattle.cell_ascii_meaning.specs.declared.grid_fault.GridKind.TheVariants.{Read, ReaderStuck, LongToken}
 use Rattle.cell_ascii_meaning.specs.declared.grid_fault.GridFault.{GridFault}
@@ -129,8 +129,8 @@ module _ (line : ℕ) (front : List ℕ) (short : length front ≤ 64) where
   pub word-more : (b : ℕ) (bs : List ℕ) (f : Bool) → is_space b ≡ false → word_from line front (coming (b ∷ bs) f) ≡ word_from line (front ++ b ∷ []) (coming bs f)
   unfolding word_from
   word-more b bs f word =
-      let more = prefix_len is_grid_word bs in
-      let longer : prefix_len is_grid_word (b ∷ bs) ≡ suc more = ap (λ (t : Bool). cond (not t) (1 + more) 0) word ∙ omega arith in
+      let more = prefix_len is_word_byte bs in
+      let longer : prefix_len is_word_byte (b ∷ bs) ≡ suc more = ap (λ (t : Bool). cond (not t) (1 + more) 0) word ∙ omega arith in
       let count : length front + suc more ≡ length (front ++ b ∷ []) + more = omega (arith, length-append front (b ∷ [])) in
       let whole : front ++ (b ∷ take more bs) ≡ (front ++ b ∷ []) ++ take more bs = sym (append_assoc front (b ∷ []) (take more bs)) in
       ap (λ (n : ℕ). if nat_lt 64 (length front + n) then Err (grid_fault LongToken line) else word_end line (front ++ take n (b ∷ bs)) (drop n (b ∷ bs)) f) longer

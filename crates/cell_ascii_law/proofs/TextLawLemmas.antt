@@ -9,10 +9,10 @@ use Rattle.std.proofs.lemmas.List.Elements.{All-nil, All-cons, All-head, All-tai
 use Rattle.cell_core.specs.Grid.{Grid, no_labels}
 use Rattle.cell_ascii_meaning.specs.EdgeNumbers.{coordinate, side, whole_in_range}
 use Rattle.cell_ascii_meaning.specs.KeyNames.{header_key_of}
-use Rattle.cell_ascii_meaning.specs.Header.{Header, Keys, no_keys, with_header_key, header_of, has_colon, usual_null, usual_multiplier}
+use Rattle.cell_ascii_meaning.specs.Header.{HeaderValue, KeyValues, no_keys, with_header_key, header_of, has_colon, usual_null, usual_multiplier}
 use Rattle.cell_ascii_meaning.specs.GridText.{is_data_line, is_header_line, header_lines, data_words, key_text, line_values, value_of, IsHeader, DenoteCells, read_or, null_text, int_type}
-use Rattle.cell_ascii_meaning.specs.declared.header_key.Key.{Key}
-use Rattle.cell_ascii_meaning.specs.declared.header_key.Key.TheVariants.{North, South, East, West, Rows, Cols, Null, CellType, Multiplier}
+use Rattle.cell_ascii_meaning.specs.declared.header_key.HeaderKey.{HeaderKey}
+use Rattle.cell_ascii_meaning.specs.declared.header_key.HeaderKey.TheVariants.{North, South, East, West, Rows, Cols, Null, CellType, Multiplier}
 use Rattle.cell_ascii_meaning.specs.declared.grid_fault.GridKind.{GridKind}
 use Rattle.cell_ascii_law.proofs.LexemeLemmas.{Lines}
 use Rattle.cell_ascii_law.proofs.DataLawLemmas.{all_words, whole_grid}
@@ -21,11 +21,11 @@ use Rattle.cell_ascii_law.proofs.KeyLawLemmas.{Value, Number, Count, Text, held,
 use Rattle.cell_ascii_law.proofs.GridCellLemmas.{cells_read, cells_taken}
 
 -- The header lines, and then the words of the data.
-abbrev pub then_keys : Result Keys GridKind → (Keys → Result Keys GridKind) → Result Keys GridKind
+abbrev pub then_keys : Result KeyValues GridKind → (KeyValues → Result KeyValues GridKind) → Result KeyValues GridKind
 then_keys (Ok keys) rest = rest keys
 then_keys (Err kind) rest = Err kind
 
-abbrev pub with_lines : Keys → Lines → Result Keys GridKind
+abbrev pub with_lines : KeyValues → Lines → Result KeyValues GridKind
 with_lines keys [] = Ok keys
 with_lines keys (l ∷ ls) = then_keys (with_line keys l) (λ k. with_lines k ls)
 
@@ -35,7 +35,7 @@ no_data l = not (is_data_line l)
 one_more : (n : ℕ) → 1 + n ≡ suc n
 one_more n = omega arith
 
-pub text_parts : {Y : Type 0} (take_words : Keys → List (List ℕ) → Option Y) (ls : Lines) (keys : Keys)
+pub text_parts : {Y : Type 0} (take_words : KeyValues → List (List ℕ) → Option Y) (ls : Lines) (keys : KeyValues)
     → take_by take_words keys ls ≡ after_key (with_lines keys (header_lines ls)) (λ k. take_words k (data_words ls))
 text_parts take_words [] keys = refl
 text_parts take_words ([] ∷ ls) keys =
@@ -43,8 +43,8 @@ text_parts take_words ([] ∷ ls) keys =
     ∙ ap (λ (n : ℕ). after_key (with_lines keys (filter is_header_line (take n ([] ∷ ls)))) (λ k. take_words k (flat_map (λ l. l) (drop n ([] ∷ ls))))) (sym (one_more (prefix_len no_data ls)))
 text_parts take_words ((w ∷ ws) ∷ ls) keys = by (has_colon w) refl (text_parts take_words ls)
   where
-    keyed : (r : Result Keys GridKind)
-        → ((k : Keys) → take_by take_words k ls ≡ after_key (with_lines k (header_lines ls))
+    keyed : (r : Result KeyValues GridKind)
+        → ((k : KeyValues) → take_by take_words k ls ≡ after_key (with_lines k (header_lines ls))
         (λ k. take_words k (data_words ls)))
         → after_key r (λ k. take_by take_words k ls) ≡ after_key (then_keys r (λ k. with_lines k (header_lines ls)))
         (λ k. take_words k (data_words ls))
@@ -52,7 +52,7 @@ text_parts take_words ((w ∷ ws) ∷ ls) keys = by (has_colon w) refl (text_par
     keyed (Err kind) on = refl
 
     by : (t : Bool) → has_colon w ≡ t
-        → ((k : Keys) → take_by take_words k ls ≡ after_key (with_lines k (header_lines ls))
+        → ((k : KeyValues) → take_by take_words k ls ≡ after_key (with_lines k (header_lines ls))
         (λ k. take_words k (data_words ls)))
         → (if t then after_key (with_line keys (w ∷ ws)) (λ k. take_by take_words k ls) else take_words keys
         (w ∷ (ws ++ all_words ls)))
@@ -63,7 +63,7 @@ text_parts take_words ((w ∷ ws) ∷ ls) keys = by (has_colon w) refl (text_par
         ∙ ap (λ (n : ℕ). after_key (with_lines keys (filter is_header_line (take n ((w ∷ ws) ∷ ls)))) (λ k. take_words k (flat_map (λ l. l) (drop n ((w ∷ ws) ∷ ls))))) (sym (one_more (prefix_len no_data ls)))
 
 -- The keys by their names.
-abbrev pub name_of : Key → List ℕ
+abbrev pub name_of : HeaderKey → List ℕ
 name_of North = codes "north"
 name_of South = codes "south"
 name_of East = codes "east"
@@ -74,7 +74,7 @@ name_of Null = codes "null"
 name_of CellType = codes "type"
 name_of Multiplier = codes "multiplier"
 
-key_named : (q : Key) → header_key_of (name_of q) ≡ Some q
+key_named : (q : HeaderKey) → header_key_of (name_of q) ≡ Some q
 key_named North = refl
 key_named South = refl
 key_named East = refl
@@ -85,10 +85,10 @@ key_named Null = refl
 key_named CellType = refl
 key_named Multiplier = refl
 
-pub name_is : (t : List ℕ) (q : Key) → header_key_of t ≡ Some q → t ≡ name_of q
+pub name_is : (t : List ℕ) (q : HeaderKey) → header_key_of t ≡ Some q → t ≡ name_of q
 name_is t q k = by (bytes_eq t (codes "north")) (bytes_eq t (codes "south")) (bytes_eq t (codes "east")) (bytes_eq t (codes "west")) (bytes_eq t (codes "rows")) (bytes_eq t (codes "cols")) (bytes_eq t (codes "null")) (bytes_eq t (codes "type")) (bytes_eq t (codes "multiplier")) refl refl refl refl refl refl refl refl refl k
   where
-    named : (p : Key) → bytes_eq t (name_of p) ≡ true → Some p ≡ Some q → t ≡ name_of q
+    named : (p : HeaderKey) → bytes_eq t (name_of p) ≡ true → Some p ≡ Some q → t ≡ name_of q
     named p e same = (bytes_eq-Decides t (name_of p)).0 e ∙ (let s : p ≡ q = cc in ap name_of s)
 
     by : (a b c d e f g h i : Bool) → bytes_eq t (codes "north") ≡ a → bytes_eq t (codes "south") ≡ b → bytes_eq t (codes "east") ≡ c → bytes_eq t (codes "west") ≡ d → bytes_eq t (codes "rows") ≡ e → bytes_eq t (codes "cols") ≡ f → bytes_eq t (codes "null") ≡ g → bytes_eq t (codes "type") ≡ h → bytes_eq t (codes "multiplier") ≡ i
@@ -105,44 +105,44 @@ name_is t q k = by (bytes_eq t (codes "north")) (bytes_eq t (codes "south")) (by
     by false false false false false false false false false _ _ _ _ _ _ _ _ _ k = cc
 
 -- a line has the key p
-abbrev pub has_key : Key → List (List ℕ) → Bool
+abbrev pub has_key : HeaderKey → List (List ℕ) → Bool
 has_key p l = bytes_eq (name_of p) (key_text l)
 
-has_its_key : (l : List (List ℕ)) (q : Key) → header_key_of (key_text l) ≡ Some q → has_key q l ≡ true
+has_its_key : (l : List (List ℕ)) (q : HeaderKey) → header_key_of (key_text l) ≡ Some q → has_key q l ≡ true
 has_its_key l q e = (bytes_eq-Decides (name_of q) (key_text l)).1 (sym (name_is (key_text l) q e))
 
-only_its_key : (l : List (List ℕ)) (q p : Key) → header_key_of (key_text l) ≡ Some q → has_key p l ≡ true → p ≡ q
+only_its_key : (l : List (List ℕ)) (q p : HeaderKey) → header_key_of (key_text l) ≡ Some q → has_key p l ≡ true → p ≡ q
 only_its_key l q p e has =
     let same : name_of p ≡ key_text l = (bytes_eq-Decides (name_of p) (key_text l)).0 has in
     let some : Some p ≡ Some q = sym (key_named p) ∙ ap header_key_of same ∙ e in
     cc
 
 -- it has the key p, or its own is another
-key_cases : (l : List (List ℕ)) (q p : Key) → header_key_of (key_text l) ≡ Some q → (p ≡ q) ⊎ ((has_key p l ≡ false) × (p ≡ q → ⊥))
+key_cases : (l : List (List ℕ)) (q p : HeaderKey) → header_key_of (key_text l) ≡ Some q → (p ≡ q) ⊎ ((has_key p l ≡ false) × (p ≡ q → ⊥))
 key_cases l q p e = by (cases_Bool (has_key p l))
   where
     by : (has_key p l ≡ true) ⊎ (has_key p l ≡ false) → (p ≡ q) ⊎ ((has_key p l ≡ false) × (p ≡ q → ⊥))
     by (inl has) = inl (only_its_key l q p e has)
-    by (inr other) = inr (other, λ same. both_ways (has_key p l) other (ap (λ (k : Key). has_key k l) same ∙ has_its_key l q e))
+    by (inr other) = inr (other, λ same. both_ways (has_key p l) other (ap (λ (k : HeaderKey). has_key k l) same ∙ has_its_key l q e))
 
 -- the first line with a key, and the number of its first value
-abbrev pub line_of : Key → Lines → Option (List (List ℕ))
+abbrev pub line_of : HeaderKey → Lines → Option (List (List ℕ))
 line_of p ls = find (has_key p) ls
 
-abbrev pub number_in : Key → Option (List (List ℕ)) → Option Value
+abbrev pub number_in : HeaderKey → Option (List (List ℕ)) → Option Value
 number_in p o = option_and_then (number_of p) (option_and_then (λ l. slice_get (line_values l) 0) o)
 
-abbrev pub looked_up : Key → Lines → Option Value
+abbrev pub looked_up : HeaderKey → Lines → Option Value
 looked_up p ls = number_in p (line_of p ls)
 
-line_first : (l : List (List ℕ)) (ls : Lines) (q : Key) → header_key_of (key_text l) ≡ Some q → line_of q (l ∷ ls) ≡ Some l
+line_first : (l : List (List ℕ)) (ls : Lines) (q : HeaderKey) → header_key_of (key_text l) ≡ Some q → line_of q (l ∷ ls) ≡ Some l
 line_first l ls q e = ap (λ (t : Bool). cond t (Some l) (line_of q ls)) (has_its_key l q e)
 
-line_later : (l : List (List ℕ)) (ls : Lines) (p : Key) → has_key p l ≡ false → line_of p (l ∷ ls) ≡ line_of p ls
+line_later : (l : List (List ℕ)) (ls : Lines) (p : HeaderKey) → has_key p l ≡ false → line_of p (l ∷ ls) ≡ line_of p ls
 line_later l ls p e = ap (λ (t : Bool). cond t (Some l) (line_of p ls)) e
 
 -- no line has a key exactly where it is not found
-none_found : (t : List ℕ) (p : Key) → t ≡ name_of p → (ls : Lines) → line_of p ls ≡ None → AllByRecursion (λ y. bytes_eq t y ≡ false) (map key_text ls)
+none_found : (t : List ℕ) (p : HeaderKey) → t ≡ name_of p → (ls : Lines) → line_of p ls ≡ None → AllByRecursion (λ y. bytes_eq t y ≡ false) (map key_text ls)
 none_found t p is [] e = tt
 none_found t p is (l ∷ ls) e = by (cases_Bool (has_key p l)) (none_found t p is ls)
   where
@@ -150,21 +150,21 @@ none_found t p is (l ∷ ls) e = by (cases_Bool (has_key p l)) (none_found t p i
     by (inl has) on = let f : Some l ≡ None = sym (ap (λ (t : Bool). cond t (Some l) (line_of p ls)) has) ∙ e in absurd cc
     by (inr other) on = (ap (λ (u : List ℕ). bytes_eq u (key_text l)) is ∙ other, on (sym (line_later l ls p other) ∙ e))
 
-not_found : (t : List ℕ) (p : Key) → t ≡ name_of p → (ls : Lines) → AllByRecursion (λ y. bytes_eq t y ≡ false) (map key_text ls) → line_of p ls ≡ None
+not_found : (t : List ℕ) (p : HeaderKey) → t ≡ name_of p → (ls : Lines) → AllByRecursion (λ y. bytes_eq t y ≡ false) (map key_text ls) → line_of p ls ≡ None
 not_found t p is [] all = refl
 not_found t p is (l ∷ ls) all = line_later l ls p (ap (λ (u : List ℕ). bytes_eq u (key_text l)) (sym is) ∙ all.0) ∙ not_found t p is ls all.1
 
 -- What the keys of the header lines are, beside those that stood before.
-pub record IsTaken (a k : Keys) (ls : Lines) : Type 0 where
+pub record IsTaken (a k : KeyValues) (ls : Lines) : Type 0 where
   pub one_value : All (λ l. length (line_values l) ≡ 1) ls
   pub known : All (λ l. IsSome (header_key_of (key_text l))) ls
   pub once : IsDistinct bytes_eq (map key_text ls)
-  pub looked : (p : Key) → held a p ≡ None → held k p ≡ looked_up p ls
-  pub stands : (p : Key) → held a p ≡ None → is_some (held k p) ≡ is_some (line_of p ls)
-  pub good : (p : Key) → held a p ≡ None → (v : List ℕ) → value_of (name_of p) ls ≡ Some v → is_some (number_of p v) ≡ true
-  pub stood : (p : Key) (x : Value) → held a p ≡ Some x → (line_of p ls ≡ None) × (held k p ≡ Some x)
+  pub looked : (p : HeaderKey) → held a p ≡ None → held k p ≡ looked_up p ls
+  pub stands : (p : HeaderKey) → held a p ≡ None → is_some (held k p) ≡ is_some (line_of p ls)
+  pub good : (p : HeaderKey) → held a p ≡ None → (v : List ℕ) → value_of (name_of p) ls ≡ Some v → is_some (number_of p v) ≡ true
+  pub stood : (p : HeaderKey) (x : Value) → held a p ≡ Some x → (line_of p ls ≡ None) × (held k p ≡ Some x)
 
-valued : (a : Keys) (key : Option Key) (vs : List (List ℕ)) (k : Keys) → with_values a key vs ≡ Ok k → (v : List ℕ) × (vs ≡ v ∷ []) × (with_header_key a key v ≡ Ok k)
+valued : (a : KeyValues) (key : Option HeaderKey) (vs : List (List ℕ)) (k : KeyValues) → with_values a key vs ≡ Ok k → (v : List ℕ) × (vs ≡ v ∷ []) × (with_header_key a key v ≡ Ok k)
 valued a key [] k e = cc
 valued a key (v ∷ []) k e = (v, refl, e)
 valued a key (v ∷ w ∷ vs) k e = cc
@@ -182,18 +182,19 @@ numbered (Some x) e = (x, refl)
 abbrev pub value_at : Option (List (List ℕ)) → Option (List ℕ)
 value_at o = option_and_then (λ l. slice_get (line_values l) 0) o
 
-value_first : (l : List (List ℕ)) (ls : Lines) (q : Key) (v : List ℕ) → header_key_of (key_text l) ≡ Some q → line_values l ≡ v ∷ [] → value_of (name_of q) (l ∷ ls) ≡ Some v
+value_first : (l : List (List ℕ)) (ls : Lines) (q : HeaderKey) (v : List ℕ) → header_key_of (key_text l) ≡ Some q → line_values l ≡ v ∷ [] → value_of (name_of q) (l ∷ ls) ≡ Some v
 value_first l ls q v is one = ap value_at (line_first l ls q is) ∙ ap (λ (vs : List (List ℕ)). slice_get vs 0) one
 
-number_first : (l : List (List ℕ)) (ls : Lines) (q : Key) (v : List ℕ) → header_key_of (key_text l) ≡ Some q → line_values l ≡ v ∷ [] → looked_up q (l ∷ ls) ≡ number_of q v
+number_first : (l : List (List ℕ)) (ls : Lines) (q : HeaderKey) (v : List ℕ) → header_key_of (key_text l) ≡ Some q → line_values l ≡ v ∷ [] → looked_up q (l ∷ ls) ≡ number_of q v
 number_first l ls q v is one = ap (number_in q) (line_first l ls q is) ∙ ap (λ (vs : List (List ℕ)). option_and_then (number_of q) (slice_get vs 0)) one
 
-pub line_then : (a b k : Keys) (l : List (List ℕ)) (ls : Lines) → with_line a l ≡ Ok b → with_lines b ls ≡ Ok k → with_lines a (l ∷ ls) ≡ Ok k
-line_then a b k l ls first rest = ap (λ (r : Result Keys GridKind). then_keys r (λ k. with_lines k ls)) first ∙ rest
+pub line_then : (a b k : KeyValues) (l : List (List ℕ)) (ls : Lines) → with_line a l ≡ Ok b → with_lines b ls ≡ Ok k → with_lines a (l ∷ ls) ≡ Ok k
+line_then a b k l ls first rest =
+    ap (λ (r : Result KeyValues GridKind). then_keys r (λ k. with_lines k ls)) first ∙ rest
 
 -- a line whose key is q, with the one value v, between a and b
-module _ (a b : Keys) (l : List (List ℕ)) (ls : Lines) (q : Key) (v : List ℕ) (is : header_key_of (key_text l) ≡ Some q) (one : line_values l ≡ v ∷ []) (given : IsGiven a q v b) where
-  taken_more : (k : Keys) → IsTaken b k ls → IsTaken a k (l ∷ ls)
+module _ (a b : KeyValues) (l : List (List ℕ)) (ls : Lines) (q : HeaderKey) (v : List ℕ) (is : header_key_of (key_text l) ≡ Some q) (one : line_values l ≡ v ∷ []) (given : IsGiven a q v b) where
+  taken_more : (k : KeyValues) → IsTaken b k ls → IsTaken a k (l ∷ ls)
   unfolding IsDistinct
   taken_more k are = record {
     one_value = All-cons (λ l. length (line_values l) ≡ 1) l ls (ap length one) are.one_value;
@@ -211,42 +212,42 @@ module _ (a b : Keys) (l : List (List ℕ)) (ls : Lines) (q : Key) (v : List ℕ
       own : (line_of q ls ≡ None) × (held k q ≡ Some number.0)
       own = are.stood q number.0 (given.kept ∙ number.1)
 
-      looked : (p : Key) → held a p ≡ None → (p ≡ q) ⊎ ((has_key p l ≡ false) × (p ≡ q → ⊥)) → held k p ≡ looked_up p (l ∷ ls)
-      looked p free (inl same) = subst (λ (r : Key). held k r ≡ looked_up r (l ∷ ls)) (sym same) (own.1 ∙ sym number.1 ∙ sym (number_first l ls q v is one))
+      looked : (p : HeaderKey) → held a p ≡ None → (p ≡ q) ⊎ ((has_key p l ≡ false) × (p ≡ q → ⊥)) → held k p ≡ looked_up p (l ∷ ls)
+      looked p free (inl same) = subst (λ (r : HeaderKey). held k r ≡ looked_up r (l ∷ ls)) (sym same) (own.1 ∙ sym number.1 ∙ sym (number_first l ls q v is one))
       looked p free (inr other) = are.looked p (given.others p other.1 ∙ free) ∙ ap (number_in p) (sym (line_later l ls p other.0))
 
-      stands : (p : Key) → held a p ≡ None → (p ≡ q) ⊎ ((has_key p l ≡ false) × (p ≡ q → ⊥)) → is_some (held k p) ≡ is_some (line_of p (l ∷ ls))
-      stands p free (inl same) = (λ i. is_some (held k (same i))) ∙ ap is_some (own.1 ∙ sym number.1) ∙ given.number ∙ ap is_some (sym (line_first l ls q is)) ∙ ap (λ (r : Key). is_some (line_of r (l ∷ ls))) (sym same)
+      stands : (p : HeaderKey) → held a p ≡ None → (p ≡ q) ⊎ ((has_key p l ≡ false) × (p ≡ q → ⊥)) → is_some (held k p) ≡ is_some (line_of p (l ∷ ls))
+      stands p free (inl same) = (λ i. is_some (held k (same i))) ∙ ap is_some (own.1 ∙ sym number.1) ∙ given.number ∙ ap is_some (sym (line_first l ls q is)) ∙ ap (λ (r : HeaderKey). is_some (line_of r (l ∷ ls))) (sym same)
       stands p free (inr other) = are.stands p (given.others p other.1 ∙ free) ∙ ap is_some (sym (line_later l ls p other.0))
 
-      good : (p : Key) → held a p ≡ None → (u : List ℕ) → value_of (name_of p) (l ∷ ls) ≡ Some u → (p ≡ q) ⊎ ((has_key p l ≡ false) × (p ≡ q → ⊥)) → is_some (number_of p u) ≡ true
+      good : (p : HeaderKey) → held a p ≡ None → (u : List ℕ) → value_of (name_of p) (l ∷ ls) ≡ Some u → (p ≡ q) ⊎ ((has_key p l ≡ false) × (p ≡ q → ⊥)) → is_some (number_of p u) ≡ true
       good p free u e (inl same) =
-          let first : Some v ≡ Some u = sym (value_first l ls q v is one) ∙ ap (λ (r : Key). value_of (name_of r) (l ∷ ls)) (sym same) ∙ e in
+          let first : Some v ≡ Some u = sym (value_first l ls q v is one) ∙ ap (λ (r : HeaderKey). value_of (name_of r) (l ∷ ls)) (sym same) ∙ e in
           let one_text : v ≡ u = cc in
           (λ i. is_some (number_of (same i) (sym one_text i))) ∙ given.number
       good p free u e (inr other) = are.good p (given.others p other.1 ∙ free) u (ap value_at (sym (line_later l ls p other.0)) ∙ e)
 
-      stood : (p : Key) (x : Value) → held a p ≡ Some x → (p ≡ q) ⊎ ((has_key p l ≡ false) × (p ≡ q → ⊥)) → (line_of p (l ∷ ls) ≡ None) × (held k p ≡ Some x)
+      stood : (p : HeaderKey) (x : Value) → held a p ≡ Some x → (p ≡ q) ⊎ ((has_key p l ≡ false) × (p ≡ q → ⊥)) → (line_of p (l ∷ ls) ≡ None) × (held k p ≡ Some x)
       stood p x e (inl same) = let f : Some x ≡ None = sym e ∙ ap (held a) same ∙ given.free in absurd cc
       stood p x e (inr other) = let s = are.stood p x (given.others p other.1 ∙ e) in (line_later l ls p other.0 ∙ s.0, s.1)
 
-pub lines_taken : (ls : Lines) (a k : Keys) → with_lines a ls ≡ Ok k → IsTaken a k ls
+pub lines_taken : (ls : Lines) (a k : KeyValues) → with_lines a ls ≡ Ok k → IsTaken a k ls
 unfolding IsDistinct
 lines_taken [] a k e = record {
   one_value = All-nil (λ l. length (line_values l) ≡ 1);
   known = All-nil (λ l. IsSome (header_key_of (key_text l)));
   once = tt;
-  looked = λ p free. ap (λ (m : Keys). held m p) (sym same) ∙ free;
-  stands = λ p free. ap is_some (ap (λ (m : Keys). held m p) (sym same) ∙ free);
+  looked = λ p free. ap (λ (m : KeyValues). held m p) (sym same) ∙ free;
+  stands = λ p free. ap is_some (ap (λ (m : KeyValues). held m p) (sym same) ∙ free);
   good = λ p free v e. cc;
-  stood = λ p x e. (refl, ap (λ (m : Keys). held m p) (sym same) ∙ e);
+  stood = λ p x e. (refl, ap (λ (m : KeyValues). held m p) (sym same) ∙ e);
 }
   where
     same : a ≡ k
     same = cc
 lines_taken (l ∷ ls) a k e = by (with_line a l) refl (lines_taken ls) e
   where
-    by : (r : Result Keys GridKind) → with_line a l ≡ r → ((b m : Keys) → with_lines b ls ≡ Ok m → IsTaken b m ls) → then_keys r (λ k. with_lines k ls) ≡ Ok k → IsTaken a k (l ∷ ls)
+    by : (r : Result KeyValues GridKind) → with_line a l ≡ r → ((b m : KeyValues) → with_lines b ls ≡ Ok m → IsTaken b m ls) → then_keys r (λ k. with_lines k ls) ≡ Ok k → IsTaken a k (l ∷ ls)
     by (Err kind) is on e = cc
     by (Ok b) is on e =
         let v = valued a (header_key_of (key_text l)) (line_values l) b is in
@@ -254,18 +255,18 @@ lines_taken (l ∷ ls) a k e = by (with_line a l) refl (lines_taken ls) e
         taken_more a b l ls q.0 v.0 q.1 v.1 q.2 k (on b k e)
 
 -- What header lines need to be taken, beside the keys that stood before.
-record IsReady (a : Keys) (ls : Lines) : Type 0 where
+record IsReady (a : KeyValues) (ls : Lines) : Type 0 where
   one_value : All (λ l. length (line_values l) ≡ 1) ls
   known : All (λ l. IsSome (header_key_of (key_text l))) ls
   once : IsDistinct bytes_eq (map key_text ls)
-  looked : (p : Key) → held a p ≡ None → (v : List ℕ) → value_of (name_of p) ls ≡ Some v → is_some (number_of p v) ≡ true
-  stood : (p : Key) (x : Value) → held a p ≡ Some x → line_of p ls ≡ None
+  looked : (p : HeaderKey) → held a p ≡ None → (v : List ℕ) → value_of (name_of p) ls ≡ Some v → is_some (number_of p v) ≡ true
+  stood : (p : HeaderKey) (x : Value) → held a p ≡ Some x → line_of p ls ≡ None
 
-known_key : (o : Option Key) → is_some o ≡ true → (q : Key) × (o ≡ Some q)
+known_key : (o : Option HeaderKey) → is_some o ≡ true → (q : HeaderKey) × (o ≡ Some q)
 known_key None e = cc
 known_key (Some q) e = (q, refl)
 
-module _ (a b : Keys) (l : List (List ℕ)) (ls : Lines) (q : Key) (v : List ℕ) (is : header_key_of (key_text l) ≡ Some q) (one : line_values l ≡ v ∷ []) (given : IsGiven a q v b) where
+module _ (a b : KeyValues) (l : List (List ℕ)) (ls : Lines) (q : HeaderKey) (v : List ℕ) (is : header_key_of (key_text l) ≡ Some q) (one : line_values l ≡ v ∷ []) (given : IsGiven a q v b) where
   ready_more : IsReady a (l ∷ ls) → IsReady b ls
   unfolding IsDistinct
   ready_more are = record {
@@ -279,25 +280,25 @@ module _ (a b : Keys) (l : List (List ℕ)) (ls : Lines) (q : Key) (v : List ℕ
       number : (x : Value) × (number_of q v ≡ Some x)
       number = numbered (number_of q v) given.number
 
-      looked : (p : Key) → held b p ≡ None → (u : List ℕ) → value_of (name_of p) ls ≡ Some u → (p ≡ q) ⊎ ((has_key p l ≡ false) × (p ≡ q → ⊥)) → is_some (number_of p u) ≡ true
+      looked : (p : HeaderKey) → held b p ≡ None → (u : List ℕ) → value_of (name_of p) ls ≡ Some u → (p ≡ q) ⊎ ((has_key p l ≡ false) × (p ≡ q → ⊥)) → is_some (number_of p u) ≡ true
       looked p free u e (inl same) = let f : None ≡ Some number.0 = sym free ∙ ap (held b) same ∙ given.kept ∙ number.1 in absurd cc
       looked p free u e (inr other) = are.looked p (sym (given.others p other.1) ∙ free) u (ap value_at (line_later l ls p other.0) ∙ e)
 
-      stood : (p : Key) (x : Value) → held b p ≡ Some x → (p ≡ q) ⊎ ((has_key p l ≡ false) × (p ≡ q → ⊥)) → line_of p ls ≡ None
-      stood p x e (inl same) = subst (λ (r : Key). line_of r ls ≡ None) (sym same) (not_found (key_text l) q (name_is (key_text l) q is) ls are.once.0)
+      stood : (p : HeaderKey) (x : Value) → held b p ≡ Some x → (p ≡ q) ⊎ ((has_key p l ≡ false) × (p ≡ q → ⊥)) → line_of p ls ≡ None
+      stood p x e (inl same) = subst (λ (r : HeaderKey). line_of r ls ≡ None) (sym same) (not_found (key_text l) q (name_is (key_text l) q is) ls are.once.0)
       stood p x e (inr other) = sym (line_later l ls p other.0) ∙ are.stood p x (sym (given.others p other.1) ∙ e)
 
-lines_ready : (ls : Lines) (a : Keys) → IsReady a ls → (k : Keys) × (with_lines a ls ≡ Ok k)
+lines_ready : (ls : Lines) (a : KeyValues) → IsReady a ls → (k : KeyValues) × (with_lines a ls ≡ Ok k)
 lines_ready [] a are = (a, refl)
 lines_ready (l ∷ ls) a are = by (held a q.0) refl (lines_ready ls)
   where
-    q : (q : Key) × (header_key_of (key_text l) ≡ Some q)
+    q : (q : HeaderKey) × (header_key_of (key_text l) ≡ Some q)
     q = known_key (header_key_of (key_text l)) (All-head (λ l. IsSome (header_key_of (key_text l))) l ls are.known)
 
     v : (v : List ℕ) × (line_values l ≡ v ∷ [])
     v = lengths_one (line_values l) (All-head (λ l. length (line_values l) ≡ 1) l ls are.one_value)
 
-    by : (o : Option Value) → held a q.0 ≡ o → ((b : Keys) → IsReady b ls → (k : Keys) × (with_lines b ls ≡ Ok k)) → (k : Keys) × (with_lines a (l ∷ ls) ≡ Ok k)
+    by : (o : Option Value) → held a q.0 ≡ o → ((b : KeyValues) → IsReady b ls → (k : KeyValues) × (with_lines b ls ≡ Ok k)) → (k : KeyValues) × (with_lines a (l ∷ ls) ≡ Ok k)
     by (Some x) free on = let f : Some l ≡ None = sym (line_first l ls q.0 q.1) ∙ are.stood q.0 x free in absurd cc
     by None free on =
         let b = key_taken a q.0 v.0 free (are.looked q.0 free v.0 (value_first l ls q.0 v.0 q.1 v.1)) in
@@ -348,7 +349,8 @@ module _ {X : Type 0} (wrap : X → Value) (same : (x y : X) → wrap x ≡ wrap
       by (Some y) s e = ap Some e
 
 -- header lines whose keys are those of a header are that header
-pub header_read : (ls : Lines) (k : Keys) (h : Header) → with_lines no_keys ls ≡ Ok k → IsHeaderOf k h → IsHeader ls h
+pub header_read : (ls : Lines) (k : KeyValues) (h : HeaderValue) → with_lines no_keys ls ≡ Ok k → IsHeaderOf k h
+    → IsHeader ls h
 header_read ls k h e is = record {
   one_value = are.one_value;
   known = are.known;
@@ -376,7 +378,8 @@ header_read ls k h e is = record {
     by None good = refl
     by (Some v) good = typed (int_type v) (good v refl)
 
-header_taken : (ls : Lines) (h : Header) → IsHeader ls h → (k : Keys) × (with_lines no_keys ls ≡ Ok k) × IsHeaderOf k h
+header_taken : (ls : Lines) (h : HeaderValue) → IsHeader ls h
+    → (k : KeyValues) × (with_lines no_keys ls ≡ Ok k) × IsHeaderOf k h
 header_taken ls h is = (
   taken.0,
   taken.1,
@@ -393,7 +396,7 @@ header_taken ls h is = (
   },
 )
   where
-    none : (p : Key) → held no_keys p ≡ None
+    none : (p : HeaderKey) → held no_keys p ≡ None
     none North = refl
     none South = refl
     none East = refl
@@ -407,7 +410,7 @@ header_taken ls h is = (
     typed : (o : Option (List ℕ)) → read_or int_type tt o ≡ Some tt → (v : List ℕ) → o ≡ Some v → is_some (number_of CellType v) ≡ true
     typed o e v is = ap (λ (r : Option (Unit {0})). is_some (option_map (λ _. Text []) r)) (ap (read_or int_type tt) (sym is) ∙ e)
 
-    looked : (p : Key) (v : List ℕ) → value_of (name_of p) ls ≡ Some v → is_some (number_of p v) ≡ true
+    looked : (p : HeaderKey) (v : List ℕ) → value_of (name_of p) ls ≡ Some v → is_some (number_of p v) ≡ true
     looked North = good_value Number same_number coordinate (value_of (codes "north") ls) h.region.north is.north
     looked South = good_value Number same_number coordinate (value_of (codes "south") ls) h.region.south is.south
     looked East = good_value Number same_number coordinate (value_of (codes "east") ls) h.region.east is.east
@@ -418,30 +421,30 @@ header_taken ls h is = (
     looked CellType = typed (value_of (codes "type") ls) is.int
     looked Multiplier = good_or Number same_number whole_in_range usual_multiplier (value_of (codes "multiplier") ls) h.multiplier is.multiplier
 
-    taken : (k : Keys) × (with_lines no_keys ls ≡ Ok k)
+    taken : (k : KeyValues) × (with_lines no_keys ls ≡ Ok k)
     taken = lines_ready ls no_keys (record { one_value = is.one_value; known = is.known; once = is.once; looked = λ p free v e. looked p v e; stood = λ p x e. (let f = none p in cc) })
 
     are : IsTaken no_keys taken.0 ls
     are = lines_taken ls no_keys taken.0 taken.1
 
 -- What the words of the lines denote is a map with that header and those cells.
-pub text_read : (ls : Lines) (m : Grid) → take_text no_keys ls ≡ Some m → (h : Header) × IsHeader (header_lines ls) h × DenoteCells h (data_words ls) m × (m ≡ whole_grid h m.rows)
+pub text_read : (ls : Lines) (m : Grid) → take_text no_keys ls ≡ Some m → (h : HeaderValue) × IsHeader (header_lines ls) h × DenoteCells h (data_words ls) m × (m ≡ whole_grid h m.rows)
 text_read ls m e = by (with_lines no_keys (header_lines ls)) refl (sym (text_parts take_data ls no_keys) ∙ e)
   where
-    last : (k : Keys) → with_lines no_keys (header_lines ls) ≡ Ok k → (r : Result Header GridKind) → header_of k ≡ r → at_header r (data_words ls) ≡ Some m
-        → (h : Header) × IsHeader (header_lines ls) h × DenoteCells h (data_words ls) m × (m ≡ whole_grid h m.rows)
+    last : (k : KeyValues) → with_lines no_keys (header_lines ls) ≡ Ok k → (r : Result HeaderValue GridKind) → header_of k ≡ r → at_header r (data_words ls) ≡ Some m
+        → (h : HeaderValue) × IsHeader (header_lines ls) h × DenoteCells h (data_words ls) m × (m ≡ whole_grid h m.rows)
     last k is (Err kind) given e = cc
     last k is (Ok h) given e = let cells = cells_read h (data_words ls) m e in (h, header_read (header_lines ls) k h is (header_given k h given), cells.1, cells.0)
 
-    by : (r : Result Keys GridKind) → with_lines no_keys (header_lines ls) ≡ r → after_key r (λ k. take_data k (data_words ls)) ≡ Some m
-        → (h : Header) × IsHeader (header_lines ls) h × DenoteCells h (data_words ls) m × (m ≡ whole_grid h m.rows)
+    by : (r : Result KeyValues GridKind) → with_lines no_keys (header_lines ls) ≡ r → after_key r (λ k. take_data k (data_words ls)) ≡ Some m
+        → (h : HeaderValue) × IsHeader (header_lines ls) h × DenoteCells h (data_words ls) m × (m ≡ whole_grid h m.rows)
     by (Err kind) is e = cc
     by (Ok k) is e = last k is (header_of k) refl e
 
-pub text_taken : (ls : Lines) (h : Header) (m : Grid) → IsHeader (header_lines ls) h → DenoteCells h (data_words ls) m → m.region ≡ h.region → m.labels ≡ no_labels → take_text no_keys ls ≡ Some m
+pub text_taken : (ls : Lines) (h : HeaderValue) (m : Grid) → IsHeader (header_lines ls) h → DenoteCells h (data_words ls) m → m.region ≡ h.region → m.labels ≡ no_labels → take_text no_keys ls ≡ Some m
 text_taken ls h m header cells region labels =
     let k = header_taken (header_lines ls) h header in
     text_parts take_data ls no_keys
-    ∙ ap (λ (r : Result Keys GridKind). after_key r (λ k. take_data k (data_words ls))) k.1
-    ∙ ap (λ (r : Result Header GridKind). at_header r (data_words ls)) (header_kept k.0 h k.2)
+    ∙ ap (λ (r : Result KeyValues GridKind). after_key r (λ k. take_data k (data_words ls))) k.1
+    ∙ ap (λ (r : Result HeaderValue GridKind). at_header r (data_words ls)) (header_kept k.0 h k.2)
     ∙ cells_taken h (data_words ls) m cells ∙ (λ i. Some (record { region = sym region i; rows = m.rows; labels = sym labels i }))

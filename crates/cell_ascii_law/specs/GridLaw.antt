@@ -4,14 +4,14 @@ use Rattle.cell_core_devices.specs.Device.{Coming}
 use Rattle.cell_core.specs.Grid.{Grid}
 use Rattle.cell_ascii_meaning.specs.CellTexts.{grid_of}
 use Rattle.cell_ascii_meaning.specs.GridText.{Denotes, IsHeader, header_lines, line_words}
-use Rattle.cell_ascii_meaning.specs.Header.{Opened, header_of_text}
+use Rattle.cell_ascii_meaning.specs.Header.{OpenedText, header_of_text}
 
 -- what is read of a text is a map exactly where the text denotes that map
-abbrev pub ReadingAgrees : Type 0
-ReadingAgrees = (c : Coming) (m : Grid) → (grid_of c ≡ Ok m) ↔ Denotes c m
+abbrev pub GridReadingAgrees : Type 0
+GridReadingAgrees = (c : Coming) (m : Grid) → (grid_of c ≡ Ok m) ↔ Denotes c m
 
 -- the header that is read of a text is the one that its header lines say, whatever the data are
 abbrev pub HeadersAgree : Type 0
 HeadersAgree =
-    (c : Coming) (o : Opened) → header_of_text c ≡ Ok o
+    (c : Coming) (o : OpenedText) → header_of_text c ≡ Ok o
     → IsHeader (header_lines (line_words c.bytes)) o.header

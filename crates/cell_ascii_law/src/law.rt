@@ -1,11 +1,11 @@
 //! What the reading of a grid text means.
 
-ghost use Rattle.cell_ascii_law.specs.GridLaw.{HeadersAgree, ReadingAgrees};
+ghost use Rattle.cell_ascii_law.specs.GridLaw.{HeadersAgree, GridReadingAgrees};
 
 /// The reading of a text gives a map exactly where the text denotes that map
 /// (r.in.ascii manual: header lines, then the cells row by row).
-pub fn reading_denotes()
-    ensures { ReadingAgrees }
+pub fn grid_reading_denotes()
+    ensures { GridReadingAgrees }
 {}
 
 /// The header that is read of a text is the one that its header lines say, also where the data are

@@ -2,14 +2,14 @@
 use Rattle.std.proofs.Common.{◌≡◌, ◌↔◌, Bool, true, false, [], Option, Some, refl, ap, sym, ◌∙◌, arith, Result, Ok, Err, ◌⊎◌, inl, inr}
 use Rattle.cell_core_devices.specs.Device.{Coming}
 use Rattle.cell_core.specs.Grid.{Grid}
-use Rattle.cell_ascii_meaning.specs.Header.{Opened, no_keys, header_of_text, ◌>>=◌}
+use Rattle.cell_ascii_meaning.specs.Header.{OpenedText, no_keys, header_of_text, ◌>>=◌}
 use Rattle.cell_ascii_meaning.specs.GridTokens.{grid_start}
 use Rattle.cell_ascii_meaning.specs.CellTexts.{cell_from, many, end_of, grid_of}
 use Rattle.cell_ascii_meaning.specs.RowPlaces.{cells_fault, end_fault}
 use Rattle.cell_ascii_law_faults.proofs.PlaceKeptLemmas.{header_kept, cells_kept}
 use Rattle.cell_ascii_law_faults.proofs.RowPlaceLemmas.{cells_told, end_told}
 use Rattle.cell_ascii_meaning.specs.FaultPlaces.{first_told, text_fault, opening_fault}
-use Rattle.cell_ascii_law_faults.specs.FaultLaw.{OpeningKeepsPlaces, CellsKeepPlaces, OpeningAgrees, CellsAgree, EndAgrees, FaultsAgree, TextsAreJudged, IsMapText, IsFaultText}
+use Rattle.cell_ascii_law_faults.specs.FaultLaw.{OpeningKeepsPlaces, CellsKeepPlaces, OpeningAgrees, CellsAgree, EndAgrees, FaultsAgree, GridTextsAreJudged, IsMapText, IsFaultText}
 use Rattle.cell_ascii_meaning.specs.declared.grid_fault.GridFault.{GridFault}
 use Rattle.cell_ascii_law_faults.proofs.SeenLemmas.{first_is}
 use Rattle.cell_ascii_law_faults.proofs.PlaceDataLemmas.{fault_in}
@@ -27,7 +27,7 @@ fault_is : (c : Coming) → fault_in (grid_of c) ≡ text_fault c
 unfolding grid_of
 fault_is c = by (header_of_text c) ∙ told_is true c
   where
-    by : (r : Result Opened GridFault) → fault_in (r >>= read_opened) ≡ fault_after true r
+    by : (r : Result OpenedText GridFault) → fault_in (r >>= read_opened) ≡ fault_after true r
     by (Ok o) = refl
     by (Err e) = refl
 
@@ -35,7 +35,7 @@ fault_is c = by (header_of_text c) ∙ told_is true c
 opening_is : (c : Coming) → fault_in (header_of_text c) ≡ opening_fault c
 opening_is c = by (header_of_text c) ∙ told_is false c
   where
-    by : (r : Result Opened GridFault) → fault_in r ≡ fault_after false r
+    by : (r : Result OpenedText GridFault) → fault_in r ≡ fault_after false r
     by (Ok o) = refl
     by (Err e) = refl
 
@@ -59,7 +59,7 @@ end_agrees at f is none = is_told (end_of (grid_start at.line at.run at.coming))
 pub faults_agree : FaultsAgree
 faults_agree c f = is_told (grid_of c) (text_fault c) (fault_is c) f
 
-pub texts_are_judged : TextsAreJudged
+pub texts_are_judged : GridTextsAreJudged
 texts_are_judged c = by (grid_of c) refl
   where
     by : (r : Result Grid GridFault) → grid_of c ≡ r → IsMapText c ⊎ IsFaultText c

@@ -6,8 +6,8 @@ use Rattle.std.specs.List.{filter, list_any, prefix_len}
 use Rattle.std.proofs.lemmas.Bool.{cases_Bool}
 use Rattle.std.proofs.lemmas.Bool.Decides.{nat_tests}
 use Rattle.cell_core.specs.Grid.{CellValue, Grid}
-use Rattle.cell_ascii_meaning.specs.GridTokens.{Start, Begins, Ends, is_space, is_grid_word, grid_fault, grid_start}
-use Rattle.cell_ascii_meaning.specs.Header.{At, Header, header_of, has_colon, ◌>>=◌}
+use Rattle.cell_ascii_meaning.specs.GridTokens.{Start, Begins, Ends, is_space, is_word_byte, grid_fault, grid_start}
+use Rattle.cell_ascii_meaning.specs.Header.{At, HeaderValue, header_of, has_colon, ◌>>=◌}
 use Rattle.cell_ascii_meaning.specs.CellTexts.{Reading, at_of, after_cell, cell_after_word, after_start, cell_of_word, cell_from, many, end_of}
 use Rattle.cell_ascii_meaning.specs.KeyNames.{header_key_of}
 use Rattle.cell_ascii_meaning.specs.GridText.{is_token, is_data_line, is_header_line, header_lines, data_words, key_text, line_values}
@@ -104,7 +104,7 @@ has_data-append (k ∷ ls) l = by (is_data_line k) (has_data-append ls l)
     by false on = on
 
 -- A place in the data, where n of its words have ended.
-pub record IsData (h : Header) (n : ℕ) (ls : Lines) (ws : List (List ℕ)) : Type 0 where
+pub record IsData (h : HeaderValue) (n : ℕ) (ls : Lines) (ws : List (List ℕ)) : Type 0 where
   pub header : header_in (ls ++ ws ∷ []) ≡ Ok h
   pub count : length (data_words (ls ++ ws ∷ [])) ≡ n
   pub begun : (has_data ls ≡ true) ⊎ ((has_data ls ≡ false) × (is_data_line ws ≡ true))
@@ -117,7 +117,7 @@ not_both (w ∷ ws) e = by (has_colon w) e
     by true e = cc
     by false e = refl
 
-module _ (h : Header) (n : ℕ) (ls : Lines) (ws : List (List ℕ)) (is : IsData h n ls ws) where
+module _ (h : HeaderValue) (n : ℕ) (ls : Lines) (ws : List (List ℕ)) (is : IsData h n ls ws) where
   begun_now : has_data (ls ++ ws ∷ []) ≡ true
   begun_now = has_data-append ls ws ∙ by is.begun
     where
@@ -180,7 +180,7 @@ no_matter : (t : Bool) → ◌≡◌ {A = Option GridKind} (if t then None else 
 no_matter true = refl
 no_matter false = refl
 
-abbrev data_told : ℕ → List ℕ → Header → List (List ℕ) → FaultPlace → Option GridKind
+abbrev data_told : ℕ → List ℕ → HeaderValue → List (List ℕ) → FaultPlace → Option GridKind
 data_told gap token h words place =
     long_token token place
     or stuck gap place
@@ -189,10 +189,10 @@ data_told gap token h words place =
     or too_many (Ok h) words token place
     or read_fails place
 
-module _ (h : Header) (gap : ℕ) (token : List ℕ) (inside : Bool) (ls : Lines) (line : List (List ℕ)) (header : Result Header GridKind) (words : List (List ℕ)) (out : inside ≡ false) (is : header ≡ Ok h) where
+module _ (h : HeaderValue) (gap : ℕ) (token : List ℕ) (inside : Bool) (ls : Lines) (line : List (List ℕ)) (header : Result HeaderValue GridKind) (words : List (List ℕ)) (out : inside ≡ false) (is : header ≡ Ok h) where
   no_second : (place : FaultPlace) → second_value inside line token place ≡ None
-  no_second (Byte b) = (λ i. when (((is_grid_word b && is_empty token) && out i) && not (is_empty (line_values line))) BadHeader)
-      ∙ (λ i. when (and_never (is_grid_word b && is_empty token) i && not (is_empty (line_values line))) BadHeader)
+  no_second (Byte b) = (λ i. when (((is_word_byte b && is_empty token) && out i) && not (is_empty (line_values line))) BadHeader)
+      ∙ (λ i. when (and_never (is_word_byte b && is_empty token) i && not (is_empty (line_values line))) BadHeader)
   no_second End = refl
   no_second Fails = refl
 
@@ -215,7 +215,7 @@ module _ (h : Header) (gap : ℕ) (token : List ℕ) (inside : Bool) (ls : Lines
       or too_many (is i) words token place
       or read_fails place
 
-module _ (h : Header) (gap : ℕ) (words : List (List ℕ)) where
+module _ (h : HeaderValue) (gap : ℕ) (words : List (List ℕ)) where
   word_silent : (b : ℕ) → is_space b ≡ false → length words < h.region.rows * h.region.cols → data_told gap [] h words (Byte b) ≡ None
   word_silent b word fewer = let t : nat_le (h.region.rows * h.region.cols) (length words) ≡ false = grind (arith, nat_tests) in rw (word, t)
 
@@ -228,7 +228,7 @@ module _ (h : Header) (gap : ℕ) (words : List (List ℕ)) where
   end_all : length words ≡ h.region.rows * h.region.cols → data_told gap [] h words End ≡ None
   end_all all = let t : nat_lt (length words) (h.region.rows * h.region.cols) ≡ false = grind (arith, nat_tests) in rw t
 
-module _ (h : Header) (x : ℕ) (xs : List ℕ) where
+module _ (h : HeaderValue) (x : ℕ) (xs : List ℕ) where
   no_cell : (words : List (List ℕ)) (kind : GridKind) → 0 < length words → cell_of_word h (x ∷ xs) ≡ Err kind → (place : FaultPlace) → ends_token place ≡ true → data_told 0 (x ∷ xs) h words place ≡ Some kind
   no_cell [] kind some e place ends = absurd (omega arith)
   no_cell (w ∷ ws) kind some e (Byte b) space = rw (space, e)
@@ -259,7 +259,7 @@ row_fits : (rows cols : ℕ) → 0 < rows → 0 + cols * 1 ≤ rows * cols
 row_fits zero cols some = absurd (omega arith)
 row_fits (suc rows) cols some = let e : suc rows * cols ≡ cols + rows * cols = omega arith in rw (once cols) (omega arith)
 
-module _ (h : Header) where
+module _ (h : HeaderValue) where
   abbrev cells : ℕ
   cells = h.region.rows * h.region.cols
 
@@ -393,12 +393,12 @@ module _ (h : Header) where
       at = record { pending = Some (x ∷ xs); line = line; run = 0; coming = coming bs f }
 
 -- Behind the first token of the data the opening of a text tells nothing.
-module _ (gap : ℕ) (inside : Bool) (ls : Lines) (line : List (List ℕ)) (header : Result Header GridKind) (words : List (List ℕ)) where
+module _ (gap : ℕ) (inside : Bool) (ls : Lines) (line : List (List ℕ)) (header : Result HeaderValue GridKind) (words : List (List ℕ)) where
   behind_silent : (token : List ℕ) → is_opening words token ≡ false → (place : FaultPlace) → opening_table gap token inside ls line header words place ≡ None
   behind_silent token e place = ap (λ (t : Bool). if t then header_rows gap token inside ls line header words place else None) e
 
   -- nor at its end, where the header is one
-  opened_silent : (h : Header) (x : ℕ) (xs : List ℕ) → gap ≡ 0 → inside ≡ false → header ≡ Ok h → (place : FaultPlace) → ends_token place ≡ true → opening_table gap (x ∷ xs) inside ls line header words place ≡ None
+  opened_silent : (h : HeaderValue) (x : ℕ) (xs : List ℕ) → gap ≡ 0 → inside ≡ false → header ≡ Ok h → (place : FaultPlace) → ends_token place ≡ true → opening_table gap (x ∷ xs) inside ls line header words place ≡ None
   opened_silent h x xs start out is place ends = ap (λ (o : Option GridKind). if is_opening words (x ∷ xs) then o else None) (rows place ends) ∙ no_matter (is_opening words (x ∷ xs))
     where
       rows : (place : FaultPlace) → ends_token place ≡ true → header_rows gap (x ∷ xs) inside ls line header words place ≡ None
@@ -406,7 +406,7 @@ module _ (gap : ℕ) (inside : Bool) (ls : Lines) (line : List (List ℕ)) (head
       rows End ends = (λ i. no_line h gap (x ∷ xs) inside ls line header words out is End i or no_header h gap (x ∷ xs) inside ls line header words out is End i or None)
       rows Fails ends = cc
 
-module _ (h : Header) where
+module _ (h : HeaderValue) where
   not_opening : (n : ℕ) (ls : Lines) (ws : List (List ℕ)) (t : List ℕ) → IsData h n ls ws → 0 < n → is_opening (data_words (ls ++ with_token ws t ∷ [])) t ≡ false
   not_opening n ls ws [] is some = by (data_words (ls ++ ws ∷ [])) is.count
     where

@@ -8,11 +8,11 @@ use Rattle.std.proofs.lemmas.Bool.Decides.{nat_tests}
 use Rattle.cell_core_devices.specs.Device.{Coming}
 use Rattle.cell_ascii_meaning.specs.GridTokens.{Begins, is_space, grid_fault, grid_start, word_from}
 use Rattle.cell_ascii_meaning.specs.KeyNames.{header_key_of}
-use Rattle.cell_ascii_meaning.specs.Header.{At, Header, Opened, Keys, no_keys, with_header_key, header_of, is_colon, has_colon, Gap, Word, Feed, Last, Fault, gap_of, value_from, LineEnd, line_end, at_line, key_line, header_ended, opened, after_line, line_from, header_from, ◌>>=◌}
+use Rattle.cell_ascii_meaning.specs.Header.{At, HeaderValue, OpenedText, KeyValues, no_keys, with_header_key, header_of, is_colon, has_colon, Gap, Word, Feed, Last, Fault, gap_of, value_from, LineEnd, line_end, at_line, key_line, header_ended, opened_text, after_line, line_from, header_from, ◌>>=◌}
 use Rattle.cell_ascii_meaning.specs.CellTexts.{Reading, at_of, after_start, cell_from, many}
 use Rattle.cell_ascii_meaning.specs.GridText.{is_token, is_data_line, is_header_line, header_lines, data_words, key_text, line_values}
 use Rattle.cell_ascii_meaning.specs.FaultPlaces.{FaultPlace, Byte, End, Fails, ends_token, ends_line, is_empty, when, in_header_line, line_fault, has_key_of, header_line_ends, header_ends, cell_fault, has_all, too_few, keys_of, header_in, why_not, is_opening, header_rows, ◌or◌}
-use Rattle.cell_ascii_meaning.specs.declared.header_key.Key.{Key}
+use Rattle.cell_ascii_meaning.specs.declared.header_key.HeaderKey.{HeaderKey}
 use Rattle.cell_ascii_meaning.specs.declared.grid_fault.GridKind.{GridKind}
 use Rattle.cell_ascii_meaning.specs.declared.grid_fault.GridKind.TheVariants.{BadHeader, TooFew}
 use Rattle.cell_ascii_meaning.specs.declared.grid_fault.GridFault.{GridFault}
@@ -27,7 +27,7 @@ use Rattle.cell_ascii_law_faults.proofs.PlaceDataLemmas.{heads, has_data, heads_
 use Rattle.cell_ascii_law_faults.proofs.PlaceKeyLemmas.{keys_taken, line_told, no_value_told, lines_more}
 
 -- What the table tells in the header, where the words before a place are any.
-no_cells : (header : Result Header GridKind) (token : List ℕ) → cell_fault header [] token ≡ None
+no_cells : (header : Result HeaderValue GridKind) (token : List ℕ) → cell_fault header [] token ≡ None
 no_cells (Ok h) token = refl
 no_cells (Err kind) token = refl
 
@@ -44,7 +44,7 @@ judged_one : (w : Bool) (words : List (List ℕ)) (v : List ℕ) (x : ℕ) (xs :
 judged_one true words v x xs one = refl
 judged_one false words v x xs one = ap (λ (ws : List (List ℕ)). is_opening ws (x ∷ xs)) one
 
-module _ (gap : ℕ) (inside : Bool) (ls : Lines) (line : List (List ℕ)) (header : Result Header GridKind) (words : List (List ℕ)) where
+module _ (gap : ℕ) (inside : Bool) (ls : Lines) (line : List (List ℕ)) (header : Result HeaderValue GridKind) (words : List (List ℕ)) where
   -- the first byte of a word, where no value stands
   first_silent : (w : Bool) (b : ℕ) → words ≡ [] → is_space b ≡ false → line_values line ≡ [] → has_all header words ≡ false → table_of w gap [] inside ls line header words (Byte b) ≡ None
   first_silent w b nil word none few = by w inside (judged_none w words [] nil)
@@ -149,13 +149,13 @@ product zero cols r c = absurd (omega arith)
 product (suc rows) zero r c = absurd (omega arith)
 product (suc rows) (suc cols) r c = let e : suc rows * suc cols ≡ suc cols + rows * suc cols = omega arith in omega arith
 
-some_cells : (k : Keys) (h : Header) → header_of k ≡ Ok h → 0 < h.region.rows * h.region.cols
+some_cells : (k : KeyValues) (h : HeaderValue) → header_of k ≡ Ok h → 0 < h.region.rows * h.region.cols
 some_cells k h e = let s = sides h.region (header_given k h e).good in product h.region.rows h.region.cols s.0 s.1
 
-none_all : (k : Keys) (words : List (List ℕ)) → words ≡ [] → has_all (header_of k) words ≡ false
+none_all : (k : KeyValues) (words : List (List ℕ)) → words ≡ [] → has_all (header_of k) words ≡ false
 none_all k words none = ap (has_all (header_of k)) none ∙ by (header_of k) refl
   where
-    by : (r : Result Header GridKind) → header_of k ≡ r → has_all r [] ≡ false
+    by : (r : Result HeaderValue GridKind) → header_of k ≡ r → has_all r [] ≡ false
     by (Err kind) e = refl
     by (Ok h) e = let some = some_cells k h e in let t : nat_le (h.region.rows * h.region.cols) 0 ≡ false = grind (arith, nat_tests) in t
 
@@ -164,7 +164,8 @@ many_err : {X : Type 0} (one : At → Reading X) (n : ℕ) (at : At) (e : GridFa
 many_err one zero at e some is = absurd (omega arith)
 many_err one (suc n) at e some is = ap (λ r. r >>= (λ x. many one n x.1 >>= (λ y. Ok (x.0 ∷ y.0, y.1)))) is
 
-no_cell_left : (h : Header) (line : ℕ) → cell_from h (at_of line 0 (coming [] false)) ≡ Err (grid_fault TooFew line)
+no_cell_left : (h : HeaderValue) (line : ℕ)
+    → cell_from h (at_of line 0 (coming [] false)) ≡ Err (grid_fault TooFew line)
 unfolding cell_from
 no_cell_left h line = ap (after_start h) (start-ends line 0 (omega arith))
 
@@ -173,17 +174,17 @@ abbrev after_by : Bool → Option GridFault → Option GridFault
 after_by true o = o
 after_by false o = None
 
-abbrev pub fault_after : Bool → Result Opened GridFault → Option GridFault
+abbrev pub fault_after : Bool → Result OpenedText GridFault → Option GridFault
 fault_after w (Err e) = Some e
 fault_after w (Ok o) = after_by w (fault_in (read_opened o))
 
 module _ (whole : Bool) where
-  module _ (line : ℕ) (keys : Keys) where
-    ends_by : Result Header GridKind → Option GridFault
+  module _ (line : ℕ) (keys : KeyValues) where
+    ends_by : Result HeaderValue GridKind → Option GridFault
     ends_by r = fault_after whole ((at_line line r >>= (λ h. Ok (record { header = h; at = record { pending = None; line = line; run = 0; coming = header_ended } }))))
 
     end_is : (gap : ℕ) (ls : Lines) (ws : List (List ℕ)) → data_words (ls ++ ws ∷ []) ≡ [] → header_in (ls ++ ws ∷ []) ≡ header_of keys → header_line_ends (in_header_line ls ws) ls ws End ≡ None
-        → fault_after whole (opened keys line None header_ended) ≡ tells (table_of whole) (at_seen line gap ls ws []) End
+        → fault_after whole (opened_text keys line None header_ended) ≡ tells (table_of whole) (at_seen line gap ls ws []) End
     unfolding ends_by
     end_is gap ls ws none header silent = by (header_of keys) refl
         ∙ sym (ap (option_map (λ kind. grid_fault kind line)) (end_told gap (in_header_line ls ws) ls ws (header_in (ls ++ ws ∷ [])) (data_words (ls ++ ws ∷ [])) whole none ∙ (λ i. silent i or header_ends (header i) (none i) [] End or few_by whole (too_few (header i) (none i) End) or None)))
@@ -192,7 +193,7 @@ module _ (whole : Bool) where
         last true t o few is = is ∙ ap (λ (u : Bool). option_map (λ kind. grid_fault kind line) (when u TooFew or None)) (sym few)
         last false t o few is = refl
 
-        by : (r : Result Header GridKind) → header_of keys ≡ r → ends_by r ≡ option_map (λ kind. grid_fault kind line) (why_not r or few_by whole (too_few r [] End) or None)
+        by : (r : Result HeaderValue GridKind) → header_of keys ≡ r → ends_by r ≡ option_map (λ kind. grid_fault kind line) (why_not r or few_by whole (too_few r [] End) or None)
         by (Err kind) e = refl
         by (Ok h) e =
             let s = sides h.region (header_given keys h e).good in
@@ -202,7 +203,7 @@ module _ (whole : Bool) where
             (many_err (many (cell_from h) h.region.cols) h.region.rows (at_of line 0 (coming [] false)) (grid_fault TooFew line) s.0 (many_err (cell_from h) h.region.cols (at_of line 0 (coming [] false)) (grid_fault TooFew line) s.1 (no_cell_left h line)))))
 
   -- The data from the end of its first word on, or no header.
-  module _ (line : ℕ) (keys : Keys) (ls : Lines) (no : has_data ls ≡ false) (taken : with_lines no_keys (heads ls) ≡ Ok keys) (x : ℕ) (xs : List ℕ) (word : is_data_line ((x ∷ xs) ∷ []) ≡ true) where
+  module _ (line : ℕ) (keys : KeyValues) (ls : Lines) (no : has_data ls ≡ false) (taken : with_lines no_keys (heads ls) ≡ Ok keys) (x : ℕ) (xs : List ℕ) (word : is_data_line ((x ∷ xs) ∷ []) ≡ true) where
     abbrev first_line : Lines
     first_line = ls ++ ((x ∷ xs) ∷ []) ∷ []
 
@@ -216,10 +217,10 @@ module _ (whole : Bool) where
     outside_now : in_header_line ls ((x ∷ xs) ∷ []) ≡ false
     outside_now = (λ i. not (no i) && no_data_not ((x ∷ xs) ∷ []) word i)
 
-    opens_by : List ℕ → Bool → Result Header GridKind → Option GridFault
+    opens_by : List ℕ → Bool → Result HeaderValue GridKind → Option GridFault
     opens_by bs f r = fault_after whole ((at_line line r >>= (λ h. Ok (record { header = h; at = record { pending = Some (x ∷ xs); line = line; run = 0; coming = coming bs f } }))))
 
-    data_is : (bs : List ℕ) (f : Bool) → IsAfterWord bs f → fault_after whole (opened keys line (Some (x ∷ xs)) (coming bs f)) ≡ scan (table_of whole) (at_seen line 0 ls [] (x ∷ xs)) bs f
+    data_is : (bs : List ℕ) (f : Bool) → IsAfterWord bs f → fault_after whole (opened_text keys line (Some (x ∷ xs)) (coming bs f)) ≡ scan (table_of whole) (at_seen line 0 ls [] (x ∷ xs)) bs f
     unfolding opens_by
     data_is bs f after = by (header_of keys) refl
       where
@@ -232,12 +233,12 @@ module _ (whole : Bool) where
         told kind e [] false after = bad kind e End refl
         told kind e (b ∷ cs) g space = one_told whole (at_seen line 0 ls [] (x ∷ xs)) b cs g (grid_fault kind line) (bad kind e (Byte b) space)
 
-        opens : (w : Bool) (h : Header) → 0 < h.region.rows → 0 < h.region.cols → IsData h 1 ls ((x ∷ xs) ∷ [])
+        opens : (w : Bool) (h : HeaderValue) → 0 < h.region.rows → 0 < h.region.cols → IsData h 1 ls ((x ∷ xs) ∷ [])
             → after_by w (fault_in (read_opened (record { header = h; at = record { pending = Some (x ∷ xs); line = line; run = 0; coming = coming bs f } }))) ≡ scan (table_of w) (at_seen line 0 ls [] (x ∷ xs)) bs f
         opens true h rows cols is = data_first h rows cols line ls x xs bs f after is
         opens false h rows cols is = sym (opening_first h line ls x xs bs f after is)
 
-        by : (r : Result Header GridKind) → header_of keys ≡ r → opens_by bs f r ≡ scan (table_of whole) (at_seen line 0 ls [] (x ∷ xs)) bs f
+        by : (r : Result HeaderValue GridKind) → header_of keys ≡ r → opens_by bs f r ≡ scan (table_of whole) (at_seen line 0 ls [] (x ∷ xs)) bs f
         by (Err kind) e = sym (told kind e bs f after)
         by (Ok h) e =
             let s = sides h.region (header_given keys h e).good in
@@ -245,25 +246,25 @@ module _ (whole : Bool) where
 
   -- A header line behind its first word, where `rest` reads the lines behind it.
   -- where a line begins, after lines whose keys were taken
-  abbrev pub IsStart : Keys → Lines → List (List ℕ) → Type 0
+  abbrev pub IsStart : KeyValues → Lines → List (List ℕ) → Type 0
   IsStart keys ls [] = (has_data ls ≡ false) × (with_lines no_keys (heads ls) ≡ Ok keys)
   IsStart keys ls (w ∷ ws) = ⊥
 
   -- from the beginning of a line on, the reading tells what the places tell
-  abbrev Follows : (Keys → ℕ → ℕ → Coming → Result Opened GridFault) → Keys → Type 0
-  Follows rest keys = (more : Keys) → open_keys more < open_keys keys → (ls : Lines) → IsStart more ls [] → (line run : ℕ) (bs : List ℕ) (f : Bool) → run ≤ 1048576
+  abbrev Follows : (KeyValues → ℕ → ℕ → Coming → Result OpenedText GridFault) → KeyValues → Type 0
+  Follows rest keys = (more : KeyValues) → open_keys more < open_keys keys → (ls : Lines) → IsStart more ls [] → (line run : ℕ) (bs : List ℕ) (f : Bool) → run ≤ 1048576
       → fault_after whole (rest more line run (coming bs f)) ≡ scan (table_of whole) (at_seen line run ls [] []) bs f
 
-  module _ (rest : Keys → ℕ → ℕ → Coming → Result Opened GridFault) (line : ℕ) (keys : Keys) (ls : Lines) (no : has_data ls ≡ false) (taken : with_lines no_keys (heads ls) ≡ Ok keys) (follows : Follows rest keys) where
-    abbrev closed : LineEnd → Result Keys GridKind → Option GridFault
+  module _ (rest : KeyValues → ℕ → ℕ → Coming → Result OpenedText GridFault) (line : ℕ) (keys : KeyValues) (ls : Lines) (no : has_data ls ≡ false) (taken : with_lines no_keys (heads ls) ≡ Ok keys) (follows : Follows rest keys) where
+    abbrev closed : LineEnd → Result KeyValues GridKind → Option GridFault
     closed end r = fault_after whole (((at_line line r >>= (λ more. Ok (more, end))) >>= after_line rest line))
 
-    abbrev from_end : Option Key → List ℕ → Result LineEnd GridFault → Option GridFault
+    abbrev from_end : Option HeaderKey → List ℕ → Result LineEnd GridFault → Option GridFault
     from_end key value r = fault_after whole (((r >>= (λ end. at_line line (with_header_key keys key value) >>= (λ more. Ok (more, end)))) >>= after_line rest line))
 
     -- a line with its one value
     module _ (ws : List (List ℕ)) (head : is_header_line ws ≡ true) (v : List ℕ) (one : line_values ws ≡ v ∷ []) where
-      abbrev key : Option Key
+      abbrev key : Option HeaderKey
       key = header_key_of (key_text ws)
 
       abbrev line_now : Lines
@@ -275,19 +276,19 @@ module _ (whole : Bool) where
       at_end : (place : FaultPlace) → ends_line place ≡ true → header_line_ends (in_header_line ls ws) ls ws place ≡ why_not (with_header_key keys key v)
       at_end place ends = (λ i. if ends i && inside_is ls no ws head i then line_fault (has_key_of ws (header_lines ls)) key (line_values ws) else None) ∙ line_why
 
-      starts : (more : Keys) → with_header_key keys key v ≡ Ok more → IsStart more line_now []
+      starts : (more : KeyValues) → with_header_key keys key v ≡ Ok more → IsStart more line_now []
       starts more e = (data_none ls no ws head, ap (with_lines no_keys) (heads_next ls no ws head) ∙ lines_more (heads ls) keys more ws v taken one e)
 
-      header_next : (more : Keys) → with_header_key keys key v ≡ Ok more → header_in line_now ≡ header_of more
+      header_next : (more : KeyValues) → with_header_key keys key v ≡ Ok more → header_in line_now ≡ header_of more
       header_next more e = ap (λ (hs : Lines). header_of (keys_of hs)) (heads_with ls no ws head) ∙ ap header_of (keys_taken (heads ls ++ ws ∷ []) more (lines_more (heads ls) keys more ws v taken one e))
 
-      fewer : (more : Keys) → with_header_key keys key v ≡ Ok more → open_keys more < open_keys keys
+      fewer : (more : KeyValues) → with_header_key keys key v ≡ Ok more → open_keys more < open_keys keys
       fewer more e = let g = (key_known keys key v more e).2.fewer in omega arith
 
       last : (gap : ℕ) → closed None (with_header_key keys key v) ≡ tells (table_of whole) (at_seen line gap ls ws []) End
       last gap = by (with_header_key keys key v) refl
         where
-          by : (r : Result Keys GridKind) → with_header_key keys key v ≡ r → closed None r ≡ tells (table_of whole) (at_seen line gap ls ws []) End
+          by : (r : Result KeyValues GridKind) → with_header_key keys key v ≡ r → closed None r ≡ tells (table_of whole) (at_seen line gap ls ws []) End
           by (Err kind) e = sym (ap (option_map (λ kind. grid_fault kind line)) (end_told gap (in_header_line ls ws) ls ws (header_in line_now) (data_words line_now) whole (words_none ls no ws head)
               ∙ (λ i. (at_end End refl ∙ ap why_not e) i or header_ends (header_in line_now) (data_words line_now) [] End or few_by whole (too_few (header_in line_now) (data_words line_now) End) or None)))
           by (Ok more) e = end_is line more gap ls ws (words_none ls no ws head) (header_next more e) (at_end End refl ∙ ap why_not e)
@@ -302,7 +303,7 @@ module _ (whole : Bool) where
       feeds : (gap b : ℕ) (bs : List ℕ) (f : Bool) → (b == 10) ≡ true → gap < 1048576 → closed (Some (gap + 1, coming bs f)) (with_header_key keys key v) ≡ scan (table_of whole) (at_seen line gap ls ws []) (b ∷ bs) f
       feeds gap b bs f feed room = by (with_header_key keys key v) refl
         where
-          by : (r : Result Keys GridKind) → with_header_key keys key v ≡ r → closed (Some (gap + 1, coming bs f)) r ≡ scan (table_of whole) (at_seen line gap ls ws []) (b ∷ bs) f
+          by : (r : Result KeyValues GridKind) → with_header_key keys key v ≡ r → closed (Some (gap + 1, coming bs f)) r ≡ scan (table_of whole) (at_seen line gap ls ws []) (b ∷ bs) f
           by (Err kind) e = sym (one_told whole (at_seen line gap ls ws []) b bs f (grid_fault kind line) (fed_told gap b feed room ∙ ap (λ r. option_map (λ kind. grid_fault kind line) (why_not r or None)) e))
           by (Ok more) e = follows more (fewer more e) line_now (starts more e) (line + 1) (gap + 1) bs f (omega arith)
               ∙ sym (one_silent whole (at_seen line gap ls ws []) (at_seen (line + 1) (gap + 1) line_now [] []) b bs f (fed_told gap b feed room ∙ ap (λ r. option_map (λ kind. grid_fault kind line) (why_not r or None)) e) (step_feed (at_seen line gap ls ws []) b feed))
@@ -310,12 +311,12 @@ module _ (whole : Bool) where
       value_end : (bs : List ℕ) (f : Bool) → from_end key v (line_end line (gap_of line 0 (coming bs f))) ≡ scan (table_of whole) (at_seen line 0 ls ws []) bs f
       value_end bs f = before_gap whole line ls ws (λ gap. from_end key v (line_end line gap)) (λ e. refl) (judged_none whole (data_words line_now) [] (words_none ls no ws head)) last second feeds bs f 0 (omega arith)
 
-    abbrev from_value : Option Key → Result (List ℕ × Coming) GridFault → Option GridFault
+    abbrev from_value : Option HeaderKey → Result (List ℕ × Coming) GridFault → Option GridFault
     from_value key r = fault_after whole (((r >>= (λ value. line_end line (gap_of line 0 value.1) >>= (λ end. at_line line (with_header_key keys key value.0) >>= (λ more. Ok (more, end))))) >>= after_line rest line))
 
     -- a line with its first word
     module _ (w : List ℕ) (head : has_colon w ≡ true) where
-      abbrev w_key : Option Key
+      abbrev w_key : Option HeaderKey
       w_key = header_key_of (before_first is_colon w)
 
       abbrev w_lines : Lines
@@ -363,17 +364,17 @@ module _ (whole : Bool) where
           by [] e = no_value e bs f
 
   -- what is told from the end of the first word of a line on
-  abbrev from_word : (Keys → ℕ → ℕ → Coming → Result Opened GridFault) → Keys → ℕ → Result (List ℕ × Coming) GridFault → Option GridFault
-  from_word rest keys line r = fault_after whole ((r >>= (λ w. if has_colon w.0 then key_line line keys w.0 w.1 >>= after_line rest line else opened keys line (Some w.0) w.1)))
+  abbrev from_word : (KeyValues → ℕ → ℕ → Coming → Result OpenedText GridFault) → KeyValues → ℕ → Result (List ℕ × Coming) GridFault → Option GridFault
+  from_word rest keys line r = fault_after whole ((r >>= (λ w. if has_colon w.0 then key_line line keys w.0 w.1 >>= after_line rest line else opened_text keys line (Some w.0) w.1)))
 
   -- the reading of a text from a line on
-  pub header_is : (fuel : ℕ) (keys : Keys) → open_keys keys < fuel → (ls : Lines) → IsStart keys ls [] → (line run : ℕ) (bs : List ℕ) (f : Bool) → run ≤ 1048576
+  pub header_is : (fuel : ℕ) (keys : KeyValues) → open_keys keys < fuel → (ls : Lines) → IsStart keys ls [] → (line run : ℕ) (bs : List ℕ) (f : Bool) → run ≤ 1048576
       → fault_after whole (header_from fuel keys line run (coming bs f)) ≡ scan (table_of whole) (at_seen line run ls [] []) bs f
   unfolding header_from
   header_is zero keys few ls is line run bs f low = absurd (omega arith)
   header_is (suc fuel) keys few ls is line run bs f low = by (λ more less ms start l r cs g lo. header_is fuel more (omega arith) ms start l r cs g lo)
     where
-      rest : Keys → ℕ → ℕ → Coming → Result Opened GridFault
+      rest : KeyValues → ℕ → ℕ → Coming → Result OpenedText GridFault
       rest k l r d = header_from fuel k l r d
 
       fed : (ms : Lines) (vs : List (List ℕ)) → IsStart keys ms vs → IsStart keys (ms ++ vs ∷ []) []
@@ -399,7 +400,7 @@ module _ (whole : Bool) where
       header_now : (ms : Lines) → IsStart keys ms [] → header_in (ms ++ [] ∷ []) ≡ header_of keys
       header_now ms start = ap (λ (hs : Lines). header_of (keys_of hs)) (heads_blank ms start.0) ∙ ap header_of (keys_taken (heads ms) keys start.1)
 
-      ends : (ms : Lines) (vs : List (List ℕ)) → IsStart keys ms vs → (l g : ℕ) → fault_after whole (opened keys l None header_ended) ≡ scan (table_of whole) (at_seen l g ms vs []) [] false
+      ends : (ms : Lines) (vs : List (List ℕ)) → IsStart keys ms vs → (l g : ℕ) → fault_after whole (opened_text keys l None header_ended) ≡ scan (table_of whole) (at_seen l g ms vs []) [] false
       ends ms [] start l g = end_is l keys g ms [] (words_blank ms start.0) (header_now ms start)
           (λ i. if outside ms [] start i then line_fault (has_key_of [] (header_lines ms)) (header_key_of (key_text [])) (line_values []) else None)
       ends ms (v ∷ vs) start l g = absurd start
@@ -408,7 +409,7 @@ module _ (whole : Bool) where
       by follows = before_word whole (IsStart keys) fed outside judge (λ s. fault_after whole (line_from rest keys s)) (λ e. refl) begins ends bs f line run ls [] is low
         where
           first : (ms : Lines) → IsStart keys ms [] → (l x : ℕ) (xs ds : List ℕ) (h : Bool) → IsAfterWord ds h → (t : Bool) → has_colon (x ∷ xs) ≡ t
-              → fault_after whole ((if t then key_line l keys (x ∷ xs) (coming ds h) >>= after_line rest l else opened keys l (Some (x ∷ xs)) (coming ds h))) ≡ scan (table_of whole) (at_seen l 0 ms [] (x ∷ xs)) ds h
+              → fault_after whole ((if t then key_line l keys (x ∷ xs) (coming ds h) >>= after_line rest l else opened_text keys l (Some (x ∷ xs)) (coming ds h))) ≡ scan (table_of whole) (at_seen l 0 ms [] (x ∷ xs)) ds h
           first ms start l x xs ds h after true e = line_is rest l keys ms start.0 start.1 follows (x ∷ xs) e ds h
               ∙ sym (settled whole l ms [] x xs (λ place stop. ap (option_map (λ kind. grid_fault kind l)) (word_told 0 (in_header_line ms ((x ∷ xs) ∷ [])) ms ((x ∷ xs) ∷ []) (header_in (ms ++ ((x ∷ xs) ∷ []) ∷ [])) (data_words (ms ++ ((x ∷ xs) ∷ []) ∷ [])) whole x xs (words_none ms start.0 ((x ∷ xs) ∷ []) e) place stop)) ds h after)
           first ms start l x xs ds h after false e = data_is l keys ms start.0 start.1 x xs (ap not e) ds h after

@@ -5,8 +5,8 @@ use Rattle.std.proofs.lemmas.Bool.{cases_Bool, cases_lt}
 use Rattle.std.proofs.lemmas.Bool.Decides.{nat_tests}
 use Rattle.cell_core_devices.specs.Device.{Coming}
 use Rattle.cell_core.specs.Grid.{CellValue}
-use Rattle.cell_ascii_meaning.specs.GridTokens.{Start, Begins, Ends, Stops, is_space, is_grid_word, newlines, grid_fault, grid_start, word_from}
-use Rattle.cell_ascii_meaning.specs.Header.{At, Header, Opened, Keys, header_of, has_colon, LineEnd, at_line, key_line, header_ended, opened, after_line, line_from, header_from, ◌>>=◌}
+use Rattle.cell_ascii_meaning.specs.GridTokens.{Start, Begins, Ends, Stops, is_space, is_word_byte, newlines, grid_fault, grid_start, word_from}
+use Rattle.cell_ascii_meaning.specs.Header.{At, HeaderValue, OpenedText, KeyValues, header_of, has_colon, LineEnd, at_line, key_line, header_ended, opened_text, after_line, line_from, header_from, ◌>>=◌}
 use Rattle.cell_ascii_meaning.specs.CellTexts.{Reading, at_of, after_cell, cell_after_word, after_start, cell_of_word, cell_from, many}
 use Rattle.cell_ascii_meaning.specs.GridText.{is_token}
 use Rattle.cell_ascii_meaning.specs.RowPlaces.{is_apart, IsPlaceOf}
@@ -22,7 +22,7 @@ IsFresh at = IsPlaceOf at × (at.pending ≡ None)
 fresh : (line : ℕ) (c : Coming) → IsFresh (at_of line 0 c)
 fresh line c = (record { low = omega arith; token = tt; whole = tt; apart = tt; fresh = tt }, refl)
 
-module _ (h : Header) where
+module _ (h : HeaderValue) where
   from_cell : (line : ℕ) (c : Coming) (r : Result CellValue GridKind) (y : CellValue × At) → after_cell line c r ≡ Ok y → IsFresh y.1
   from_cell line c (Err kind) y e = cc
   from_cell line c (Ok v) y e = let p : ◌≡◌ {A = CellValue × At} (v, at_of line 0 c) y = cc in subst (λ (z : CellValue × At). IsFresh z.1) p (fresh line c)
@@ -92,17 +92,17 @@ start_far line run c m d far e = let s : grid_start line run c ≡ Stops (grid_f
 
 -- A word, and what comes after it.
 abbrev IsWord : List ℕ × Coming → Type 0
-IsWord y = (is_token y.0 ≡ true) × (list_all is_grid_word y.0 ≡ true) × (is_apart y.1 ≡ true)
+IsWord y = (is_token y.0 ≡ true) × (list_all is_word_byte y.0 ≡ true) × (is_apart y.1 ≡ true)
 
-all_more : (w : List ℕ) (b : ℕ) → list_all is_grid_word w ≡ true → is_space b ≡ false → list_all is_grid_word (w ++ b ∷ []) ≡ true
+all_more : (w : List ℕ) (b : ℕ) → list_all is_word_byte w ≡ true → is_space b ≡ false → list_all is_word_byte (w ++ b ∷ []) ≡ true
 all_more [] b all word = rw word
-all_more (x ∷ w) b all word = by (is_grid_word x) (all_more w b) all
+all_more (x ∷ w) b all word = by (is_word_byte x) (all_more w b) all
   where
-    by : (t : Bool) → (list_all is_grid_word w ≡ true → is_space b ≡ false → list_all is_grid_word (w ++ b ∷ []) ≡ true) → (t && list_all is_grid_word w) ≡ true → (t && list_all is_grid_word (w ++ b ∷ [])) ≡ true
+    by : (t : Bool) → (list_all is_word_byte w ≡ true → is_space b ≡ false → list_all is_word_byte (w ++ b ∷ []) ≡ true) → (t && list_all is_word_byte w) ≡ true → (t && list_all is_word_byte (w ++ b ∷ [])) ≡ true
     by true on e = on e word
     by false on e = e
 
-word_kept : (bs : List ℕ) (f : Bool) (line x : ℕ) (xs : List ℕ) (y : List ℕ × Coming) → length (x ∷ xs) ≤ 64 → list_all is_grid_word (x ∷ xs) ≡ true → word_from line (x ∷ xs) (coming bs f) ≡ Ok y → IsWord y
+word_kept : (bs : List ℕ) (f : Bool) (line x : ℕ) (xs : List ℕ) (y : List ℕ × Coming) → length (x ∷ xs) ≤ 64 → list_all is_word_byte (x ∷ xs) ≡ true → word_from line (x ∷ xs) (coming bs f) ≡ Ok y → IsWord y
 word_kept [] false line x xs y short all e =
     let s = word-ends line (x ∷ xs) short in
     let p : ◌≡◌ {A = List ℕ × Coming} (x ∷ xs, coming [] false) y = cc in
@@ -110,7 +110,7 @@ word_kept [] false line x xs y short all e =
 word_kept [] true line x xs y short all e = let s = word-fails line (x ∷ xs) short in absurd cc
 word_kept (b ∷ bs) f line x xs y short all e = by (word_kept bs f line x (xs ++ b ∷ []) y) (cases_Bool (is_space b)) (cases_lt (length (x ∷ xs)) 64)
   where
-    by : (length (x ∷ (xs ++ b ∷ [])) ≤ 64 → list_all is_grid_word (x ∷ (xs ++ b ∷ [])) ≡ true → word_from line (x ∷ (xs ++ b ∷ [])) (coming bs f) ≡ Ok y → IsWord y) → (is_space b ≡ true) ⊎ (is_space b ≡ false) → (length (x ∷ xs) < 64) ⊎ (64 ≤ length (x ∷ xs)) → IsWord y
+    by : (length (x ∷ (xs ++ b ∷ [])) ≤ 64 → list_all is_word_byte (x ∷ (xs ++ b ∷ [])) ≡ true → word_from line (x ∷ (xs ++ b ∷ [])) (coming bs f) ≡ Ok y → IsWord y) → (is_space b ≡ true) ⊎ (is_space b ≡ false) → (length (x ∷ xs) < 64) ⊎ (64 ≤ length (x ∷ xs)) → IsWord y
     by on (inl space) _ =
         let s = word-stops line (x ∷ xs) short b bs f space in
         let p : ◌≡◌ {A = List ℕ × Coming} (x ∷ xs, coming (b ∷ bs) f) y = cc in
@@ -126,22 +126,22 @@ first_word line c y starts e = by c.bytes starts e
     by (b ∷ bs) word e = word_kept bs c.fails line b [] y (omega arith) (all_more [] b refl word) (sym (word-more line [] (omega arith) b bs c.fails word) ∙ e)
 
 -- The header.
-opened_kept : (keys : Keys) (line : ℕ) (pending : Option (List ℕ)) (c : Coming) (o : Opened) → IsPlaceOf (record { pending = pending; line = line; run = 0; coming = c }) → opened keys line pending c ≡ Ok o → IsPlaceOf o.at
+opened_kept : (keys : KeyValues) (line : ℕ) (pending : Option (List ℕ)) (c : Coming) (o : OpenedText) → IsPlaceOf (record { pending = pending; line = line; run = 0; coming = c }) → opened_text keys line pending c ≡ Ok o → IsPlaceOf o.at
 opened_kept keys line pending c o is e = by (header_of keys) e
   where
-    by : (r : Result Header GridKind) → (at_line line r >>= (λ h. Ok (record { header = h; at = record { pending = pending; line = line; run = 0; coming = c } }))) ≡ Ok o → IsPlaceOf o.at
+    by : (r : Result HeaderValue GridKind) → (at_line line r >>= (λ h. Ok (record { header = h; at = record { pending = pending; line = line; run = 0; coming = c } }))) ≡ Ok o → IsPlaceOf o.at
     by (Err kind) e = cc
-    by (Ok h) e = let p : ◌≡◌ {A = Opened} (record { header = h; at = record { pending = pending; line = line; run = 0; coming = c } }) o = cc in subst (λ (z : Opened). IsPlaceOf z.at) p is
+    by (Ok h) e = let p : ◌≡◌ {A = OpenedText} (record { header = h; at = record { pending = pending; line = line; run = 0; coming = c } }) o = cc in subst (λ (z : OpenedText). IsPlaceOf z.at) p is
 
 waits : (line : ℕ) (y : List ℕ × Coming) → IsWord y → IsPlaceOf (record { pending = Some y.0; line = line; run = 0; coming = y.1 })
 waits line y is = record { low = omega arith; token = is.0; whole = is.1; apart = is.2; fresh = refl }
 
-pub header_kept : (fuel : ℕ) (keys : Keys) (line run : ℕ) (c : Coming) (o : Opened) → header_from fuel keys line run c ≡ Ok o → IsPlaceOf o.at
+pub header_kept : (fuel : ℕ) (keys : KeyValues) (line run : ℕ) (c : Coming) (o : OpenedText) → header_from fuel keys line run c ≡ Ok o → IsPlaceOf o.at
 unfolding header_from
 header_kept zero keys line run c o e = cc
 header_kept (suc fuel) keys line run c o e = by (grid_start line run c) refl (λ k l r d. header_kept fuel k l r d o) e
   where
-    rest : Keys → ℕ → ℕ → Coming → Result Opened GridFault
+    rest : KeyValues → ℕ → ℕ → Coming → Result OpenedText GridFault
     rest k l r d = header_from fuel k l r d
 
     starts : (m : ℕ) (d : Coming) → grid_start line run c ≡ Begins m d → Starts d.bytes
@@ -151,24 +151,24 @@ header_kept (suc fuel) keys line run c o e = by (grid_start line run c) refl (λ
         near (inl far) = absurd (start_far line run c m d far is)
         near (inr low) = start_kept c.bytes c.fails line run m d low is
 
-    keyed : (l : ℕ) (r : Result (Keys × LineEnd) GridFault) → ((k : Keys) (l r : ℕ) (d : Coming) → rest k l r d ≡ Ok o → IsPlaceOf o.at) → (r >>= after_line rest l) ≡ Ok o → IsPlaceOf o.at
+    keyed : (l : ℕ) (r : Result (KeyValues × LineEnd) GridFault) → ((k : KeyValues) (l r : ℕ) (d : Coming) → rest k l r d ≡ Ok o → IsPlaceOf o.at) → (r >>= after_line rest l) ≡ Ok o → IsPlaceOf o.at
     keyed l (Err f) on e = cc
     keyed l (Ok x) on e = ends x.0 x.1 e
       where
-        ends : (k : Keys) (end : LineEnd) → after_line rest l (k, end) ≡ Ok o → IsPlaceOf o.at
+        ends : (k : KeyValues) (end : LineEnd) → after_line rest l (k, end) ≡ Ok o → IsPlaceOf o.at
         ends k None e = opened_kept k l None header_ended o (fresh l header_ended).0 e
         ends k (Some x) e = on k (l + 1) x.0 x.1 e
 
-    worded : (l : ℕ) (w : List ℕ × Coming) → IsWord w → (t : Bool) → ((k : Keys) (l r : ℕ) (d : Coming) → rest k l r d ≡ Ok o → IsPlaceOf o.at) → (if t then key_line l keys w.0 w.1 >>= after_line rest l else opened keys l (Some w.0) w.1) ≡ Ok o → IsPlaceOf o.at
+    worded : (l : ℕ) (w : List ℕ × Coming) → IsWord w → (t : Bool) → ((k : KeyValues) (l r : ℕ) (d : Coming) → rest k l r d ≡ Ok o → IsPlaceOf o.at) → (if t then key_line l keys w.0 w.1 >>= after_line rest l else opened_text keys l (Some w.0) w.1) ≡ Ok o → IsPlaceOf o.at
     worded l w is true on e = keyed l (key_line l keys w.0 w.1) on e
     worded l w is false on e = opened_kept keys l (Some w.0) w.1 o (waits l w is) e
 
-    from : (l : ℕ) (r : Result (List ℕ × Coming) GridFault) → ((w : List ℕ × Coming) → r ≡ Ok w → IsWord w) → ((k : Keys) (l r : ℕ) (d : Coming) → rest k l r d ≡ Ok o → IsPlaceOf o.at)
-        → (r >>= (λ w. if has_colon w.0 then key_line l keys w.0 w.1 >>= after_line rest l else opened keys l (Some w.0) w.1)) ≡ Ok o → IsPlaceOf o.at
+    from : (l : ℕ) (r : Result (List ℕ × Coming) GridFault) → ((w : List ℕ × Coming) → r ≡ Ok w → IsWord w) → ((k : KeyValues) (l r : ℕ) (d : Coming) → rest k l r d ≡ Ok o → IsPlaceOf o.at)
+        → (r >>= (λ w. if has_colon w.0 then key_line l keys w.0 w.1 >>= after_line rest l else opened_text keys l (Some w.0) w.1)) ≡ Ok o → IsPlaceOf o.at
     from l (Err f) is on e = cc
     from l (Ok w) is on e = worded l w (is w refl) (has_colon w.0) on e
 
-    by : (s : Start) → grid_start line run c ≡ s → ((k : Keys) (l r : ℕ) (d : Coming) → rest k l r d ≡ Ok o → IsPlaceOf o.at) → line_from rest keys s ≡ Ok o → IsPlaceOf o.at
+    by : (s : Start) → grid_start line run c ≡ s → ((k : KeyValues) (l r : ℕ) (d : Coming) → rest k l r d ≡ Ok o → IsPlaceOf o.at) → line_from rest keys s ≡ Ok o → IsPlaceOf o.at
     by (Stops f) is on e = cc
     by (Ends l) is on e = opened_kept keys l None header_ended o (fresh l header_ended).0 e
     by (Begins l d) is on e = from l (word_from l [] d) (λ w. first_word l d w (starts l d is)) on e

@@ -5,11 +5,11 @@ use Rattle.std.specs.Option.{option_map, option_and_then}
 use Rattle.std.specs.List.{find, list_any}
 use Rattle.cell_ascii_meaning.specs.EdgeNumbers.{coordinate, side, whole_in_range}
 use Rattle.cell_ascii_meaning.specs.KeyNames.{header_key_of}
-use Rattle.cell_ascii_meaning.specs.Header.{Keys, no_keys, given, with_header_key, has_colon, is_int}
+use Rattle.cell_ascii_meaning.specs.Header.{KeyValues, no_keys, value_given, with_header_key, has_colon, is_int}
 use Rattle.cell_ascii_meaning.specs.GridText.{key_text, line_values, value_of, null_text}
 use Rattle.cell_ascii_meaning.specs.FaultPlaces.{when, unless, line_fault, has_key_of, keys_of, why_not, ◌or◌}
-use Rattle.cell_ascii_meaning.specs.declared.header_key.Key.{Key}
-use Rattle.cell_ascii_meaning.specs.declared.header_key.Key.TheVariants.{North, South, East, West, Rows, Cols, Null, CellType, Multiplier}
+use Rattle.cell_ascii_meaning.specs.declared.header_key.HeaderKey.{HeaderKey}
+use Rattle.cell_ascii_meaning.specs.declared.header_key.HeaderKey.TheVariants.{North, South, East, West, Rows, Cols, Null, CellType, Multiplier}
 use Rattle.cell_ascii_meaning.specs.declared.grid_fault.GridKind.{GridKind}
 use Rattle.cell_ascii_meaning.specs.declared.grid_fault.GridKind.TheVariants.{BadHeader, TwiceKey, BadNumber, BadType}
 use Rattle.cell_ascii_law.proofs.LexemeLemmas.{Lines}
@@ -17,7 +17,7 @@ use Rattle.cell_ascii_law.proofs.HeaderLawLemmas.{with_line, with_values}
 use Rattle.cell_ascii_law.proofs.KeyLawLemmas.{Value, Number, Count, Text, stood, held, number_of}
 use Rattle.cell_ascii_law.proofs.TextLawLemmas.{then_keys, with_lines, name_is, has_key, IsTaken, lines_taken, line_then, same_number, same_count, same_text, unwrapped}
 
-none_held : (p : Key) → held no_keys p ≡ None
+none_held : (p : HeaderKey) → held no_keys p ≡ None
 none_held North = refl
 none_held South = refl
 none_held East = refl
@@ -35,7 +35,7 @@ kind_is (Some v) true e good = refl
 kind_is (Some v) false e good = let f : false ≡ true = ap is_some e ∙ good v refl in cc
 
 -- the keys that were taken are those that the lines give
-pub keys_taken : (hs : Lines) (k : Keys) → with_lines no_keys hs ≡ Ok k → keys_of hs ≡ k
+pub keys_taken : (hs : Lines) (k : KeyValues) → with_lines no_keys hs ≡ Ok k → keys_of hs ≡ k
 keys_taken hs k e = λ i. record {
   north = sym (unwrapped Number same_number coordinate k.north (value_of (codes "north") hs) (are.looked North refl)) i;
   south = sym (unwrapped Number same_number coordinate k.south (value_of (codes "south") hs) (are.looked South refl)) i;
@@ -60,16 +60,16 @@ some_found p (x ∷ xs) = by (p x) (some_found p xs)
     by false on = on
 
 -- a key stands already where an earlier line has it
-twice_is : (hs : Lines) (k : Keys) (l : List (List ℕ)) (q : Key) → with_lines no_keys hs ≡ Ok k → header_key_of (key_text l) ≡ Some q → has_key_of l hs ≡ is_some (held k q)
+twice_is : (hs : Lines) (k : KeyValues) (l : List (List ℕ)) (q : HeaderKey) → with_lines no_keys hs ≡ Ok k → header_key_of (key_text l) ≡ Some q → has_key_of l hs ≡ is_some (held k q)
 twice_is hs k l q e is = ap (λ (t : List ℕ). list_any (λ m. bytes_eq t (key_text m)) hs) (name_is (key_text l) q is) ∙ sym (some_found (has_key q) hs) ∙ sym ((lines_taken hs no_keys k e).stands q (none_held q))
 
-given_told : {X : Type 0} (wrap : X → Value) (o value : Option X) (keep : X → Keys) → why_not (given o value keep) ≡ (when (is_some (option_map wrap o)) TwiceKey or unless value BadNumber)
+given_told : {X : Type 0} (wrap : X → Value) (o value : Option X) (keep : X → KeyValues) → why_not (value_given o value keep) ≡ (when (is_some (option_map wrap o)) TwiceKey or unless value BadNumber)
 given_told wrap (Some old) value keep = refl
 given_told wrap None None keep = refl
 given_told wrap None (Some x) keep = refl
 
 -- why a key is not taken
-key_told : (a : Keys) (v : List ℕ) (q : Key) → line_fault (is_some (held a q)) (Some q) (v ∷ []) ≡ why_not (with_header_key a (Some q) v)
+key_told : (a : KeyValues) (v : List ℕ) (q : HeaderKey) → line_fault (is_some (held a q)) (Some q) (v ∷ []) ≡ why_not (with_header_key a (Some q) v)
 key_told a v North = sym (given_told Number a.north (coordinate v) (λ x. record a { north = Some x }))
 key_told a v South = sym (given_told Number a.south (coordinate v) (λ x. record a { south = Some x }))
 key_told a v East = sym (given_told Number a.east (coordinate v) (λ x. record a { east = Some x }))
@@ -78,7 +78,7 @@ key_told a v Rows = sym (given_told Count a.rows (side v) (λ x. record a { rows
 key_told a v Cols = sym (given_told Count a.cols (side v) (λ x. record a { cols = Some x }))
 key_told a v Null = by (has_colon v) a.null
   where
-    by : (t : Bool) (o : Option (List ℕ)) → (unless (if t then None else Some v) BadHeader or when (is_some (option_map Text o)) TwiceKey or None) ≡ why_not (if t then Err BadHeader else given o (Some v) (λ x. record a { null = Some x }))
+    by : (t : Bool) (o : Option (List ℕ)) → (unless (if t then None else Some v) BadHeader or when (is_some (option_map Text o)) TwiceKey or None) ≡ why_not (if t then Err BadHeader else value_given o (Some v) (λ x. record a { null = Some x }))
     by true o = refl
     by false (Some old) = refl
     by false None = refl
@@ -91,26 +91,26 @@ key_told a v CellType = by a.kind (is_int v)
 key_told a v Multiplier = sym (given_told Number a.multiplier (whole_in_range v) (λ x. record a { multiplier = Some x }))
 
 -- what the end of a line with one value tells is why its key is not taken
-pub line_told : (hs : Lines) (k : Keys) (l : List (List ℕ)) (v : List ℕ) → with_lines no_keys hs ≡ Ok k → line_values l ≡ v ∷ [] → line_fault (has_key_of l hs) (header_key_of (key_text l)) (line_values l) ≡ why_not (with_header_key k (header_key_of (key_text l)) v)
+pub line_told : (hs : Lines) (k : KeyValues) (l : List (List ℕ)) (v : List ℕ) → with_lines no_keys hs ≡ Ok k → line_values l ≡ v ∷ [] → line_fault (has_key_of l hs) (header_key_of (key_text l)) (line_values l) ≡ why_not (with_header_key k (header_key_of (key_text l)) v)
 line_told hs k l v e one = ap (line_fault (has_key_of l hs) (header_key_of (key_text l))) one ∙ by (header_key_of (key_text l)) refl
   where
-    by : (o : Option Key) → header_key_of (key_text l) ≡ o → line_fault (has_key_of l hs) o (v ∷ []) ≡ why_not (with_header_key k o v)
+    by : (o : Option HeaderKey) → header_key_of (key_text l) ≡ o → line_fault (has_key_of l hs) o (v ∷ []) ≡ why_not (with_header_key k o v)
     by None is = refl
     by (Some q) is = ap (λ (t : Bool). line_fault t (Some q) (v ∷ [])) (twice_is hs k l q e is) ∙ key_told k v q
 
 -- a line without a value tells so
-pub no_value_told : (t : Bool) (o : Option Key) → line_fault t o [] ≡ Some BadHeader
+pub no_value_told : (t : Bool) (o : Option HeaderKey) → line_fault t o [] ≡ Some BadHeader
 no_value_told t None = refl
 no_value_told t (Some q) = refl
 
 -- a line more
-lines_then : (hs : Lines) (a k m : Keys) (l : List (List ℕ)) → with_lines a hs ≡ Ok k → with_line k l ≡ Ok m → with_lines a (hs ++ l ∷ []) ≡ Ok m
-lines_then [] a k m l e next = let same : a ≡ k = cc in ap (λ (b : Keys). then_keys (with_line b l) (λ k. Ok k)) same ∙ ap (λ r. then_keys r (λ k. Ok k)) next
+lines_then : (hs : Lines) (a k m : KeyValues) (l : List (List ℕ)) → with_lines a hs ≡ Ok k → with_line k l ≡ Ok m → with_lines a (hs ++ l ∷ []) ≡ Ok m
+lines_then [] a k m l e next = let same : a ≡ k = cc in ap (λ (b : KeyValues). then_keys (with_line b l) (λ k. Ok k)) same ∙ ap (λ r. then_keys r (λ k. Ok k)) next
 lines_then (h ∷ hs) a k m l e next = by (with_line a h) refl e (lines_then hs)
   where
-    by : (r : Result Keys GridKind) → with_line a h ≡ r → then_keys r (λ b. with_lines b hs) ≡ Ok k → ((a k m : Keys) (l : List (List ℕ)) → with_lines a hs ≡ Ok k → with_line k l ≡ Ok m → with_lines a (hs ++ l ∷ []) ≡ Ok m) → with_lines a (h ∷ (hs ++ l ∷ [])) ≡ Ok m
+    by : (r : Result KeyValues GridKind) → with_line a h ≡ r → then_keys r (λ b. with_lines b hs) ≡ Ok k → ((a k m : KeyValues) (l : List (List ℕ)) → with_lines a hs ≡ Ok k → with_line k l ≡ Ok m → with_lines a (hs ++ l ∷ []) ≡ Ok m) → with_lines a (h ∷ (hs ++ l ∷ [])) ≡ Ok m
     by (Err kind) is e on = cc
     by (Ok b) is e on = line_then a b m h (hs ++ l ∷ []) is (on b k m l e next)
 
-pub lines_more : (hs : Lines) (k m : Keys) (l : List (List ℕ)) (v : List ℕ) → with_lines no_keys hs ≡ Ok k → line_values l ≡ v ∷ [] → with_header_key k (header_key_of (key_text l)) v ≡ Ok m → with_lines no_keys (hs ++ l ∷ []) ≡ Ok m
+pub lines_more : (hs : Lines) (k m : KeyValues) (l : List (List ℕ)) (v : List ℕ) → with_lines no_keys hs ≡ Ok k → line_values l ≡ v ∷ [] → with_header_key k (header_key_of (key_text l)) v ≡ Ok m → with_lines no_keys (hs ++ l ∷ []) ≡ Ok m
 lines_more hs k m l v e one next = lines_then hs no_keys k m l e (ap (with_values k (header_key_of (key_text l))) one ∙ next)

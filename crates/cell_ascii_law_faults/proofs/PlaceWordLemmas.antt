@@ -5,7 +5,7 @@ use Rattle.std.proofs.lemmas.Bool.{cases_Bool, cases_lt}
 use Rattle.std.proofs.lemmas.Bool.Decides.{nat_tests}
 use Rattle.cell_core_devices.specs.Device.{Coming}
 use Rattle.cell_ascii_meaning.specs.GridTokens.{Start, Begins, Ends, Stops, grid_start, is_space, grid_fault, word_from}
-use Rattle.cell_ascii_meaning.specs.Header.{Header, Gap, Word, Feed, Last, Fault, gap_of}
+use Rattle.cell_ascii_meaning.specs.Header.{HeaderValue, Gap, Word, Feed, Last, Fault, gap_of}
 use Rattle.cell_ascii_meaning.specs.GridText.{data_words}
 use Rattle.cell_ascii_meaning.specs.FaultPlaces.{FaultPlace, Byte, End, Fails, ends_token, in_header_line, header_in, Table, whole_table, opening_table, is_opening, ◌or◌}
 use Rattle.cell_ascii_meaning.specs.declared.grid_fault.GridKind.{GridKind}
@@ -39,7 +39,7 @@ IsAfterWord [] f = f ≡ false
 IsAfterWord (b ∷ bs) f = is_space b ≡ true
 
 -- What the table tells at one byte, where the words before it are any.
-module _ (gap : ℕ) (inside : Bool) (ls : Lines) (line : List (List ℕ)) (header : Result Header GridKind) (words : List (List ℕ)) (b : ℕ) where
+module _ (gap : ℕ) (inside : Bool) (ls : Lines) (line : List (List ℕ)) (header : Result HeaderValue GridKind) (words : List (List ℕ)) (b : ℕ) where
   blank_silent : (w : Bool) → judged w words [] ≡ true → is_space b ≡ true → (b == 10) ≡ false → gap < 1048576 → table_of w gap [] inside ls line header words (Byte b) ≡ None
   blank_silent true j space blank room = let t : (gap == 1048576) ≡ false = grind (arith, nat_tests) in rw (space, blank, t)
   blank_silent false j space blank room = let t : (gap == 1048576) ≡ false = grind (arith, nat_tests) in rw (j, space, blank, t)
@@ -67,7 +67,7 @@ module _ (gap : ℕ) (inside : Bool) (ls : Lines) (line : List (List ℕ)) (head
   more_long true x xs j word long = rw (word, sym long)
   more_long false x xs j word long = rw (j, word, sym long)
 
-fails_told : (w : Bool) (gap : ℕ) (token : List ℕ) (inside : Bool) (ls : Lines) (line : List (List ℕ)) (header : Result Header GridKind) (words : List (List ℕ)) → judged w words token ≡ true → table_of w gap token inside ls line header words Fails ≡ Some Read
+fails_told : (w : Bool) (gap : ℕ) (token : List ℕ) (inside : Bool) (ls : Lines) (line : List (List ℕ)) (header : Result HeaderValue GridKind) (words : List (List ℕ)) → judged w words token ≡ true → table_of w gap token inside ls line header words Fails ≡ Some Read
 fails_told true gap token inside ls line header words j = refl
 fails_told false gap token inside ls line header words j = rw j
 

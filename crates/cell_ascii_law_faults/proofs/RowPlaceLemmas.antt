@@ -7,8 +7,8 @@ use Rattle.std.proofs.lemmas.Bool.{cases_Bool, cases_lt, and_parts}
 use Rattle.std.proofs.lemmas.Bool.Decides.{nat_tests}
 use Rattle.cell_core_devices.specs.Device.{Coming}
 use Rattle.cell_core.specs.Grid.{CellValue}
-use Rattle.cell_ascii_meaning.specs.GridTokens.{Start, Begins, Ends, Stops, is_space, is_grid_word, grid_fault, grid_start, word_from}
-use Rattle.cell_ascii_meaning.specs.Header.{At, Header, ◌>>=◌}
+use Rattle.cell_ascii_meaning.specs.GridTokens.{Start, Begins, Ends, Stops, is_space, is_word_byte, grid_fault, grid_start, word_from}
+use Rattle.cell_ascii_meaning.specs.Header.{At, HeaderValue, ◌>>=◌}
 use Rattle.cell_ascii_meaning.specs.CellTexts.{Reading, at_of, after_cell, cell_after_word, after_start, cell_of_word, cell_from, many, end_of}
 use Rattle.cell_ascii_meaning.specs.FaultPlaces.{FaultPlace, Byte, End, Fails, ends_token, ◌or◌}
 use Rattle.cell_ascii_meaning.specs.RowPlaces.{RowTable, ends_early, cell_rows, is_within, cells_table, end_table, is_apart, cells_fault, end_fault, IsPlaceOf}
@@ -110,7 +110,7 @@ module _ (table : RowTable) (ws : List (List ℕ)) (line x : ℕ) (xs : List ℕ
       step = step_space (row_seen line 0 ws (x ∷ xs)) b space ∙ sym (step_space (row_seen line 0 (ws ++ (x ∷ xs) ∷ []) []) b space)
 
 -- The table of cells.
-module _ (h : Header) (count : ℕ) where
+module _ (h : HeaderValue) (count : ℕ) where
   abbrev table : RowTable
   table = cells_table h count
 
@@ -266,9 +266,9 @@ module _ (h : Header) (count : ℕ) where
   cells_with zero all line x xs bs f after = sym (nothing bs f line 0 [] (x ∷ xs) (omega arith))
   cells_with (suc m) all line x xs bs f after = word_done m [] (omega arith) line x xs (cells_are m ((x ∷ xs) ∷ []) (omega arith)) bs f after
 
-free_word : (w : List ℕ) → list_all is_grid_word w ≡ true → IsFree is_space w
+free_word : (w : List ℕ) → list_all is_word_byte w ≡ true → IsFree is_space w
 free_word [] e = tt
-free_word (b ∷ w) e = let p = and_parts (is_grid_word b) (list_all is_grid_word w) e in (by (is_space b) p.0, free_word w p.1)
+free_word (b ∷ w) e = let p = and_parts (is_word_byte b) (list_all is_word_byte w) e in (by (is_space b) p.0, free_word w p.1)
   where
     by : (t : Bool) → not t ≡ true → t ≡ false
     by true e = cc
@@ -280,7 +280,7 @@ after_word_is [] false e = refl
 after_word_is (b ∷ bs) f e = e
 
 -- what the next cells tell from a place
-pub cells_told : (h : Header) (count : ℕ) (at : At) → IsPlaceOf at → fault_in (many (cell_from h) count at) ≡ cells_fault h count at
+pub cells_told : (h : HeaderValue) (count : ℕ) (at : At) → IsPlaceOf at → fault_in (many (cell_from h) count at) ≡ cells_fault h count at
 cells_told h count at is = by at.pending is
   where
     by : (o : Option (List ℕ)) → IsPlaceOf ((record at { pending = o })) → fault_in (many (cell_from h) count ((record at { pending = o }))) ≡ cells_fault h count ((record at { pending = o }))

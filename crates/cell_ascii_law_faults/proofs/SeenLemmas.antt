@@ -7,7 +7,7 @@ use Rattle.std.proofs.lemmas.List.{reverse-append}
 use Rattle.std.proofs.lemmas.List.Sums.{sum_by-append, fold-append}
 use Rattle.cell_ascii_meaning.specs.GridTokens.{is_space, grid_fault}
 use Rattle.cell_ascii_meaning.specs.GridText.{line_words, grid_words_of}
-use Rattle.cell_ascii_meaning.specs.FaultPlaces.{FaultPlace, Byte, End, Fails, last_token, front_of, line_of_place, gap_of_place, token_at_place, Table, kind_at, ◌or◌, told, first_told}
+use Rattle.cell_ascii_meaning.specs.FaultPlaces.{FaultPlace, Byte, End, Fails, last_token, front_of, line_of_place, gap_of_place, token_at_place, Table, kind_at, ◌or◌, told_fault, first_told}
 use Rattle.cell_ascii_meaning.specs.declared.grid_fault.GridFault.{GridFault}
 use Rattle.cell_ascii_law.proofs.LexemeLemmas.{Lines, put_token, opening, no_feed}
 use Rattle.cell_ascii_law.proofs.LimitLawLemmas.{IsFree, free_more, IsMade, split_made, onto, split_free, lines_alone, lines_space}
@@ -169,7 +169,7 @@ scan table s (b ∷ bs) fails = tells table s (Byte b) or scan table (step s b) 
 abbrev pub seen : List ℕ → Seen
 seen before = at_seen (line_of_place before) (gap_of_place before) (tracked before).earlier (tracked before).words (tracked before).token
 
-told_is : (table : Table) (before : List ℕ) (place : FaultPlace) → told table before place ≡ tells table (seen before) place
+told_is : (table : Table) (before : List ℕ) (place : FaultPlace) → told_fault table before place ≡ tells table (seen before) place
 told_is table before place = λ i. option_map (λ kind. grid_fault kind (line_of_place before)) (kind_at table (gap_of_place before) (token_is before i) (front i) (last i) (lines_are before i) place)
   where
     front : front_of (line_words before) ≡ (tracked before).earlier

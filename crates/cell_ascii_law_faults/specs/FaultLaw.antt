@@ -3,7 +3,7 @@ use Rattle.std.specs.Prelude.{ℕ, ◌≡◌, ◌<◌, List, ◌↔◌, ◌⊎�
 use Rattle.cell_core_devices.specs.Device.{Coming}
 use Rattle.cell_core.specs.Grid.{CellValue, Grid}
 use Rattle.cell_ascii_meaning.specs.GridTokens.{grid_start}
-use Rattle.cell_ascii_meaning.specs.Header.{At, Header, Opened, header_of_text}
+use Rattle.cell_ascii_meaning.specs.Header.{At, HeaderValue, OpenedText, header_of_text}
 use Rattle.cell_ascii_meaning.specs.CellTexts.{cell_from, many, end_of, grid_of}
 use Rattle.cell_ascii_meaning.specs.GridText.{Denotes}
 use Rattle.cell_ascii_meaning.specs.FaultPlaces.{text_fault, opening_fault}
@@ -20,7 +20,7 @@ OpeningAgrees = (c : Coming) (f : GridFault) → (header_of_text c ≡ Err f) �
 
 -- from a place behind the header on, the next cells are read with a fault exactly where a place up to the end of the last of them tells it
 abbrev pub CellsAgree : Type 0
-CellsAgree = (h : Header) (count : ℕ) (at : At) (f : GridFault) → IsPlaceOf at → (many (cell_from h) count at ≡ Err f) ↔ (cells_fault h count at ≡ Some f)
+CellsAgree = (h : HeaderValue) (count : ℕ) (at : At) (f : GridFault) → IsPlaceOf at → (many (cell_from h) count at ≡ Err f) ↔ (cells_fault h count at ≡ Some f)
 
 -- and the end exactly where a place up to a first byte of a token tells it
 abbrev pub EndAgrees : Type 0
@@ -28,11 +28,11 @@ EndAgrees = (at : At) (f : GridFault) → IsPlaceOf at → at.pending ≡ None �
 
 -- the opening of a text ends at a place
 abbrev pub OpeningKeepsPlaces : Type 0
-OpeningKeepsPlaces = (c : Coming) (o : Opened) → header_of_text c ≡ Ok o → IsPlaceOf o.at
+OpeningKeepsPlaces = (c : Coming) (o : OpenedText) → header_of_text c ≡ Ok o → IsPlaceOf o.at
 
 -- and so do cells, where no token waits behind them
 abbrev pub CellsKeepPlaces : Type 0
-CellsKeepPlaces = (h : Header) (count : ℕ) (at : At) (x : List CellValue × At) → IsPlaceOf at → many (cell_from h) count at ≡ Ok x → IsPlaceOf x.1 × (0 < count → x.1.pending ≡ None)
+CellsKeepPlaces = (h : HeaderValue) (count : ℕ) (at : At) (x : List CellValue × At) → IsPlaceOf at → many (cell_from h) count at ≡ Ok x → IsPlaceOf x.1 × (0 < count → x.1.pending ≡ None)
 
 -- a text denotes a map and no place tells a fault
 pub record IsMapText (c : Coming) : Type 0 where
@@ -48,5 +48,5 @@ pub record IsFaultText (c : Coming) : Type 0 where
   pub none : (map : Grid) → Denotes c map → ⊥
 
 -- each text is one or the other
-abbrev pub TextsAreJudged : Type 0
-TextsAreJudged = (c : Coming) → IsMapText c ⊎ IsFaultText c
+abbrev pub GridTextsAreJudged : Type 0
+GridTextsAreJudged = (c : Coming) → IsMapText c ⊎ IsFaultText c

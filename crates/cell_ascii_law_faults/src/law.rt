@@ -1,6 +1,6 @@
 //! Which fault the reading of a grid text tells.
 
-ghost use Rattle.cell_ascii_law_faults.specs.FaultLaw.{CellsAgree, CellsKeepPlaces, EndAgrees, FaultsAgree, OpeningAgrees, OpeningKeepsPlaces, TextsAreJudged};
+ghost use Rattle.cell_ascii_law_faults.specs.FaultLaw.{CellsAgree, CellsKeepPlaces, EndAgrees, FaultsAgree, OpeningAgrees, OpeningKeepsPlaces, GridTextsAreJudged};
 
 /// The reading of a text gives a fault exactly where the first byte or end that tells one
 /// tells that fault, with its line.
@@ -33,6 +33,6 @@ pub fn places_are_kept()
 {}
 
 /// A text denotes one map and tells no fault, or tells one fault and denotes no map.
-pub fn texts_are_judged()
-    ensures { TextsAreJudged }
+pub fn grid_texts_are_judged()
+    ensures { GridTextsAreJudged }
 {}

@@ -5,7 +5,7 @@ use Rattle.std.specs.List.{flat_map}
 use Rattle.cell_core.specs.Grid.{Grid, no_labels}
 use Rattle.cell_core_values.specs.declared.region.RegionFault.TheVariants.{BadExtent, BadRows}
 use Rattle.cell_ascii_meaning.specs.GridTokens.{grid_start, word_from, grid_fault}
-use Rattle.cell_ascii_meaning.specs.Header.{At, Header, header_from, gap_of}
+use Rattle.cell_ascii_meaning.specs.Header.{At, HeaderValue, header_from, gap_of}
 use Rattle.cell_ascii_meaning.specs.CellTexts.{cell_from, grid_of}
 use Rattle.cell_ascii_meaning.specs.GridText.{Denotes}
 use Rattle.cell_ascii_meaning.specs.RowPlaces.{cells_fault, end_fault}
@@ -165,7 +165,7 @@ widest = refl
 abbrev behind : Option (List ℕ) → List ℕ → Bool → At
 behind pending bs fails = record { pending = pending; line = 8; run = 0; coming = record { bytes = bs; fails = fails } }
 
-abbrev head : Header
+abbrev head : HeaderValue
 head = record { region = record { north = pos 3; south = pos 0; east = pos 3; west = pos 0; rows = 1; cols = 3 }; null_text = codes "*"; multiplier = pos 1 }
 
 cells_few : cells_fault head 3 (behind (Some (codes "1")) (codes " 2") false) ≡ Some (grid_fault TooFew 8)

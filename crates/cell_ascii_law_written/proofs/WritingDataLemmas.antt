@@ -9,7 +9,7 @@ use Rattle.std.proofs.lemmas.List.Elements.{All-head, All-tail}
 use Rattle.cell_core.specs.Grid.{CellValue}
 use Rattle.cell_core_values.proofs.NameLemmas.{bytes_eq-differ}
 use Rattle.cell_ascii_meaning.specs.EdgeNumbers.{whole_number, is_in_range}
-use Rattle.cell_ascii_meaning.specs.Header.{Header, usual_multiplier}
+use Rattle.cell_ascii_meaning.specs.Header.{HeaderValue, usual_multiplier}
 use Rattle.cell_ascii_meaning.specs.CellTexts.{cell_of_number, cell_of_word}
 use Rattle.cell_core.specs.Text.{cell_text}
 use Rattle.cell_ascii_meaning.specs.declared.grid_fault.GridKind.TheVariants.{CellRange}
@@ -17,7 +17,7 @@ use Rattle.cell_ascii_law.proofs.LexemeLemmas.{Lines}
 use Rattle.cell_ascii_law.proofs.DataLawLemmas.{all_words, then_words, taken_cell, take_cell, take_many}
 use Rattle.cell_ascii_law_written.proofs.WritingNumberLemmas.{whole_back, in_range_low}
 
-module _ (h : Header) (once : h.multiplier ≡ usual_multiplier) where
+module _ (h : HeaderValue) (once : h.multiplier ≡ usual_multiplier) where
   -- a category in range, that is not written as the null text
   abbrev pub IsGood : CellValue → Type 0
   IsGood cell = IfSome cell (λ category. IsTrue (is_in_range category)) × IfSome cell (λ category. signed_decimal category ≢ h.null_text)

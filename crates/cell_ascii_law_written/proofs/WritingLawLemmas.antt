@@ -6,7 +6,7 @@ use Rattle.std.specs.List.{All, flat_map}
 use Rattle.std.proofs.lemmas.List.Elements.{All-head, All-map}
 use Rattle.cell_core.specs.Grid.{CellValue, Grid}
 use Rattle.cell_ascii_meaning.specs.EdgeNumbers.{is_in_range}
-use Rattle.cell_ascii_meaning.specs.Header.{Keys, no_keys}
+use Rattle.cell_ascii_meaning.specs.Header.{KeyValues, no_keys}
 use Rattle.cell_ascii_meaning.specs.CellTexts.{grid_of}
 use Rattle.cell_core.specs.Text.{cell_text}
 use Rattle.cell_ascii_meaning.specs.Writing.{row_text, grid_text, IsNullText}
@@ -39,13 +39,13 @@ module _ (null_text : List ℕ) (is : IsNullText null_text) where
       adds_tokens (cell_text null_text cell) (words_of_row row) (All-map IsToken (cell_text null_text) (cell ∷ row) (λ k d within. (cell_value (get_or (cell ∷ row) k d) (ranged k d within)).token))
 
   -- the first line of the data begins it
-  data_begins : (keys : Keys) (row : List CellValue) (ls : Lines) → 0 < length row → All IsRanged row → take_text keys (words_of_row row ∷ ls) ≡ take_data keys (all_words (words_of_row row ∷ ls))
+  data_begins : (keys : KeyValues) (row : List CellValue) (ls : Lines) → 0 < length row → All IsRanged row → take_text keys (words_of_row row ∷ ls) ≡ take_data keys (all_words (words_of_row row ∷ ls))
   data_begins keys [] ls some ranged = absurd (omega arith)
   data_begins keys (cell ∷ row) ls some ranged =
       let words = words_of_row (cell ∷ row) in
       ap (λ t. if t then after_key (with_line keys words) (λ k. take_text k ls) else take_data keys (all_words (words ∷ ls))) (cell_value cell (All-head IsRanged cell row ranged)).colon
 
-  rows_begin : (keys : Keys) (rows : List (List CellValue)) → 0 < length rows → All (λ row. 0 < length row) rows → All (All IsRanged) rows
+  rows_begin : (keys : KeyValues) (rows : List (List CellValue)) → 0 < length rows → All (λ row. 0 < length row) rows → All (All IsRanged) rows
       → take_text keys (map words_of_row rows ++ [] ∷ []) ≡ take_data keys (all_words (map words_of_row rows ++ [] ∷ []))
   rows_begin keys [] some wide ranged = absurd (omega arith)
   rows_begin keys (row ∷ rows) some wide ranged = data_begins keys row (map words_of_row rows ++ [] ∷ []) (All-head (λ r. 0 < length r) row rows wide) (All-head (All IsRanged) row rows ranged)

@@ -4,16 +4,16 @@ use Rattle.std.specs.Option.{option_map}
 use Rattle.std.specs.List.{list_all, join_with_byte, flat_map, All}
 use Rattle.std.proofs.lemmas.Bool.{and_parts}
 use Rattle.std.proofs.lemmas.List.Elements.{All-head, All-tail}
-use Rattle.cell_ascii_meaning.specs.GridTokens.{is_space, is_grid_word}
+use Rattle.cell_ascii_meaning.specs.GridTokens.{is_space, is_word_byte}
 use Rattle.cell_ascii_law.proofs.LexemeLemmas.{Lines, put, put_token, opening, lex, lex-space, lex-word}
 
 -- a word within the limits
 pub record IsToken (w : List ℕ) : Type 0 where
   pub some : 0 < length w
   pub most : length w ≤ 64
-  pub word : list_all is_grid_word w ≡ true
+  pub word : list_all is_word_byte w ≡ true
 
-not_space : (b : ℕ) → is_grid_word b ≡ true → is_space b ≡ false
+not_space : (b : ℕ) → is_word_byte b ≡ true → is_space b ≡ false
 not_space b e = by (is_space b) e
   where
     by : (t : Bool) → not t ≡ true → t ≡ false
@@ -28,10 +28,10 @@ pub lexes_end : Lexes [] ([] ∷ [])
 lexes_end run low = refl
 
 module _ (rest : List ℕ) where
-  token_more : (front w : List ℕ) → list_all is_grid_word w ≡ true → length front + length w ≤ 64 → lex 0 front (w ++ rest) false ≡ lex 0 (front ++ w) rest false
+  token_more : (front w : List ℕ) → list_all is_word_byte w ≡ true → length front + length w ≤ 64 → lex 0 front (w ++ rest) false ≡ lex 0 (front ++ w) rest false
   token_more front [] word short = ap (λ l. lex 0 l rest false) (sym (append-nil front))
   token_more front (b ∷ w) word short =
-      let parts = and_parts (is_grid_word b) (list_all is_grid_word w) word in
+      let parts = and_parts (is_word_byte b) (list_all is_word_byte w) word in
       lex-word 0 front b (w ++ rest) false (not_space b parts.0) (omega arith)
       ∙ token_more (front ++ b ∷ []) w parts.1 (omega (arith, length-append front (b ∷ [])))
       ∙ ap (λ l. lex 0 l rest false) (append_assoc front (b ∷ []) w)
@@ -39,7 +39,7 @@ module _ (rest : List ℕ) where
   token_first : (run : ℕ) (w : List ℕ) → IsToken w → lex run [] (w ++ rest) false ≡ lex 0 w rest false
   token_first run [] is = absurd (let h = is.some in omega arith)
   token_first run (b ∷ w) is =
-      let parts = and_parts (is_grid_word b) (list_all is_grid_word w) is.word in
+      let parts = and_parts (is_word_byte b) (list_all is_word_byte w) is.word in
       let most = is.most in
       lex-word run [] b (w ++ rest) false (not_space b parts.0) (omega arith) ∙ token_more (b ∷ []) w parts.1 (omega arith)
 

@@ -6,7 +6,7 @@ use Rattle.std.proofs.lemmas.Bool.{and_parts}
 use Rattle.std.proofs.lemmas.Bool.Decides.{nat_tests}
 use Rattle.std.proofs.lemmas.Fmt.{length-decimal-le}
 use Rattle.std.proofs.lemmas.List.Folds.{list_all-append}
-use Rattle.cell_ascii_meaning.specs.GridTokens.{is_grid_word}
+use Rattle.cell_ascii_meaning.specs.GridTokens.{is_word_byte}
 use Rattle.cell_ascii_meaning.specs.EdgeNumbers.{is_digit}
 use Rattle.cell_ascii_meaning.specs.Header.{has_colon, is_colon}
 use Rattle.cell_ascii_meaning.specs.Writing.{without_zeros, fraction_text, units_text, coordinate_text, IsNullText}
@@ -23,13 +23,13 @@ pub record IsValue (w : List ℕ) : Type 0 where
   pub token : IsToken w
   pub colon : has_colon w ≡ false
 
-mark_is : (b : ℕ) → is_mark b ≡ true → (is_grid_word b ≡ true) × (is_colon b ≡ false)
+mark_is : (b : ℕ) → is_mark b ≡ true → (is_word_byte b ≡ true) × (is_colon b ≡ false)
 mark_is b e = (grind (arith, nat_tests), grind (arith, nat_tests))
 
 digit_mark : (b : ℕ) → is_digit b ≡ true → is_mark b ≡ true
 digit_mark b e = rw e refl
 
-marks_are : (w : List ℕ) → list_all is_mark w ≡ true → (list_all is_grid_word w ≡ true) × (has_colon w ≡ false)
+marks_are : (w : List ℕ) → list_all is_mark w ≡ true → (list_all is_word_byte w ≡ true) × (has_colon w ≡ false)
 marks_are [] e = (refl, refl)
 marks_are (b ∷ w) e =
     let parts = and_parts (is_mark b) (list_all is_mark w) e in

@@ -4,7 +4,7 @@ use Rattle.std.specs.Prelude.{ℕ, zero, suc, List, [], ◌∷◌, Option, Some,
 use Rattle.cell_core_devices.specs.Device.{Coming}
 use Rattle.cell_core.specs.Grid.{CellValue, Grid, no_labels}
 use Rattle.cell_ascii_meaning.specs.GridTokens.{Start, Begins, Ends, Stops, grid_start, word_from, grid_fault}
-use Rattle.cell_ascii_meaning.specs.Header.{At, Header, header_of_text, ◌>>=◌}
+use Rattle.cell_ascii_meaning.specs.Header.{At, HeaderValue, header_of_text, ◌>>=◌}
 use Rattle.cell_ascii_meaning.specs.declared.grid_fault.GridKind.{GridKind}
 use Rattle.cell_ascii_meaning.specs.declared.grid_fault.GridKind.TheVariants.{TooFew, TooMany}
 use Rattle.cell_ascii_meaning.specs.declared.grid_fault.GridFault.{GridFault}
@@ -23,18 +23,18 @@ after_cell line c (Ok v) = Ok (v, at_of line 0 c)
 after_cell line c (Err kind) = Err (grid_fault kind line)
 
 -- the cell of a word that begins at a line, or the first fault of the word or of the cell
-abbrev pub cell_after_word : Header → ℕ → Result (List ℕ × Coming) GridFault → Reading CellValue
+abbrev pub cell_after_word : HeaderValue → ℕ → Result (List ℕ × Coming) GridFault → Reading CellValue
 cell_after_word h line (Ok x) = after_cell line x.1 (cell_of_word h x.0)
 cell_after_word h line (Err f) = Err f
 
 -- the cell of the next word, or why none begins
-abbrev pub after_start : Header → Start → Reading CellValue
+abbrev pub after_start : HeaderValue → Start → Reading CellValue
 after_start h (Begins line c) = cell_after_word h line (word_from line [] c)
 after_start h (Ends line) = Err (grid_fault TooFew line)
 after_start h (Stops f) = Err f
 
 -- the next cell, of the word that waits, else of the next word
-unfoldable pub cell_from : Header → At → Reading CellValue
+unfoldable pub cell_from : HeaderValue → At → Reading CellValue
 cell_from h at = next at.pending
   where
     next : Option (List ℕ) → Reading CellValue
@@ -53,7 +53,7 @@ end_of (Ends line) = Ok tt
 end_of (Stops f) = Err f
 
 -- the rows of a grid, and then the end
-abbrev pub data_from : Header → At → Result (List (List CellValue)) GridFault
+abbrev pub data_from : HeaderValue → At → Result (List (List CellValue)) GridFault
 data_from h at =
     many (many (cell_from h) h.region.cols) h.region.rows at >>= (λ x. end_of (grid_start x.1.line x.1.run x.1.coming) >>= (λ _. Ok x.0))
 

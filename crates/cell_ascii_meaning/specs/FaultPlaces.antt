@@ -4,14 +4,14 @@ use Rattle.std.specs.List.{slice_split, suffix_len, list_any}
 use Rattle.std.specs.Option.{option_map, option_and_then}
 use Rattle.cell_core_devices.specs.Device.{Coming}
 use Rattle.cell_ascii_meaning.specs.GridWords.{is_line_feed}
-use Rattle.cell_ascii_meaning.specs.GridTokens.{is_space, is_grid_word, newlines, grid_fault}
+use Rattle.cell_ascii_meaning.specs.GridTokens.{is_space, is_word_byte, newlines, grid_fault}
 use Rattle.cell_ascii_meaning.specs.EdgeNumbers.{coordinate, side, whole_in_range}
 use Rattle.cell_ascii_meaning.specs.KeyNames.{header_key_of}
-use Rattle.cell_ascii_meaning.specs.Header.{Keys, Header, header_of}
+use Rattle.cell_ascii_meaning.specs.Header.{KeyValues, HeaderValue, header_of}
 use Rattle.cell_ascii_meaning.specs.CellTexts.{cell_of_word}
 use Rattle.cell_ascii_meaning.specs.GridText.{is_token, line_words, is_data_line, is_header_line, header_lines, data_words, key_text, line_values, value_of, null_text, int_type}
-use Rattle.cell_ascii_meaning.specs.declared.header_key.Key.{Key}
-use Rattle.cell_ascii_meaning.specs.declared.header_key.Key.TheVariants.{North, South, East, West, Rows, Cols, Null, CellType, Multiplier}
+use Rattle.cell_ascii_meaning.specs.declared.header_key.HeaderKey.{HeaderKey}
+use Rattle.cell_ascii_meaning.specs.declared.header_key.HeaderKey.TheVariants.{North, South, East, West, Rows, Cols, Null, CellType, Multiplier}
 use Rattle.cell_ascii_meaning.specs.declared.grid_fault.GridKind.{GridKind}
 use Rattle.cell_ascii_meaning.specs.declared.grid_fault.GridKind.TheVariants.{BadHeader, TwiceKey, BadNumber, BadType, LongToken, ReaderStuck, TooFew, TooMany, Read}
 use Rattle.cell_ascii_meaning.specs.declared.grid_fault.GridFault.{GridFault}
@@ -91,7 +91,7 @@ None or other = other
 
 -- the 65th byte of a token
 abbrev pub long_token : List ℕ → FaultPlace → Option GridKind
-long_token token (Byte b) = when (is_grid_word b && length token == 64) LongToken
+long_token token (Byte b) = when (is_word_byte b && length token == 64) LongToken
 long_token token End = None
 long_token token Fails = None
 
@@ -107,17 +107,17 @@ in_header_line earlier line = not (list_any is_data_line earlier) && is_header_l
 
 -- the first byte of a second value
 abbrev pub second_value : Bool → List (List ℕ) → List ℕ → FaultPlace → Option GridKind
-second_value inside line token (Byte b) = when (((is_grid_word b && is_empty token) && inside) && not (is_empty (line_values line))) BadHeader
+second_value inside line token (Byte b) = when (((is_word_byte b && is_empty token) && inside) && not (is_empty (line_values line))) BadHeader
 second_value inside line token End = None
 second_value inside line token Fails = None
 
 -- a null text with a colon
-abbrev pub bad_null : Key → List ℕ → Option GridKind
+abbrev pub bad_null : HeaderKey → List ℕ → Option GridKind
 bad_null Null value = unless (null_text value) BadHeader
 bad_null other value = None
 
 -- a value that its key does not allow
-abbrev pub bad_value : Key → List ℕ → Option GridKind
+abbrev pub bad_value : HeaderKey → List ℕ → Option GridKind
 bad_value North value = unless (coordinate value) BadNumber
 bad_value South value = unless (coordinate value) BadNumber
 bad_value East value = unless (coordinate value) BadNumber
@@ -129,7 +129,7 @@ bad_value CellType value = unless (int_type value) BadType
 bad_value Multiplier value = unless (whole_in_range value) BadNumber
 
 -- an unknown key, no value, or a null text with a colon; a key twice; a bad value
-abbrev pub line_fault : Bool → Option Key → List (List ℕ) → Option GridKind
+abbrev pub line_fault : Bool → Option HeaderKey → List (List ℕ) → Option GridKind
 line_fault twice None line_values = Some BadHeader
 line_fault twice (Some key) [] = Some BadHeader
 line_fault twice (Some key) (value ∷ line_values) = bad_null key value or when twice TwiceKey or bad_value key value
@@ -144,7 +144,7 @@ header_line_ends inside earlier line place =
     if ends_line place && inside then line_fault (has_key_of line (header_lines earlier)) (header_key_of (key_text line)) (line_values line) else None
 
 -- what header lines give their keys
-abbrev pub keys_of : List (List (List ℕ)) → Keys
+abbrev pub keys_of : List (List (List ℕ)) → KeyValues
 keys_of lines = record {
   north = option_and_then coordinate (value_of (codes "north") lines);
   south = option_and_then coordinate (value_of (codes "south") lines);
@@ -158,7 +158,7 @@ keys_of lines = record {
 }
 
 -- the header of lines, or why it is none
-abbrev pub header_in : List (List (List ℕ)) → Result Header GridKind
+abbrev pub header_in : List (List (List ℕ)) → Result HeaderValue GridKind
 header_in lines = header_of (keys_of (header_lines lines))
 
 -- the fault of an answer
@@ -167,39 +167,39 @@ why_not (Ok x) = None
 why_not (Err kind) = Some kind
 
 -- the end of the first token of the data, or the end before any
-abbrev pub header_ends : Result Header GridKind → List (List ℕ) → List ℕ → FaultPlace → Option GridKind
+abbrev pub header_ends : Result HeaderValue GridKind → List (List ℕ) → List ℕ → FaultPlace → Option GridKind
 header_ends header words token place =
     if (is_end_of_words place && is_empty words) || ((ends_token place && is_token token) && length words == 1) then why_not header else None
 
 -- why a token of the data is no cell, where the header is a good one
-abbrev pub cell_fault : Result Header GridKind → List (List ℕ) → List ℕ → Option GridKind
+abbrev pub cell_fault : Result HeaderValue GridKind → List (List ℕ) → List ℕ → Option GridKind
 cell_fault (Err kind) words token = None
 cell_fault (Ok h) [] token = None
 cell_fault (Ok h) (word ∷ words) token = why_not (cell_of_word h token)
 
 -- the end of a token of the data
-abbrev pub bad_cell : Result Header GridKind → List (List ℕ) → List ℕ → FaultPlace → Option GridKind
+abbrev pub bad_cell : Result HeaderValue GridKind → List (List ℕ) → List ℕ → FaultPlace → Option GridKind
 bad_cell header words token place = if ends_token place && is_token token then cell_fault header words token else None
 
 -- fewer words than the region of a good header has cells
-abbrev pub has_fewer : Result Header GridKind → List (List ℕ) → Bool
+abbrev pub has_fewer : Result HeaderValue GridKind → List (List ℕ) → Bool
 has_fewer (Err kind) words = false
 has_fewer (Ok h) words = nat_lt (length words) (h.region.rows * h.region.cols)
 
 -- as many words as the region of a good header has cells, or more
-abbrev pub has_all : Result Header GridKind → List (List ℕ) → Bool
+abbrev pub has_all : Result HeaderValue GridKind → List (List ℕ) → Bool
 has_all (Err kind) words = false
 has_all (Ok h) words = nat_le (h.region.rows * h.region.cols) (length words)
 
 -- the end before the last cell
-abbrev pub too_few : Result Header GridKind → List (List ℕ) → FaultPlace → Option GridKind
+abbrev pub too_few : Result HeaderValue GridKind → List (List ℕ) → FaultPlace → Option GridKind
 too_few header words (Byte b) = None
 too_few header words End = when (has_fewer header words) TooFew
 too_few header words Fails = None
 
 -- the first byte of a token after the last cell
-abbrev pub too_many : Result Header GridKind → List (List ℕ) → List ℕ → FaultPlace → Option GridKind
-too_many header words token (Byte b) = when ((is_grid_word b && is_empty token) && has_all header words) TooMany
+abbrev pub too_many : Result HeaderValue GridKind → List (List ℕ) → List ℕ → FaultPlace → Option GridKind
+too_many header words token (Byte b) = when ((is_word_byte b && is_empty token) && has_all header words) TooMany
 too_many header words token End = None
 too_many header words token Fails = None
 
@@ -211,7 +211,7 @@ read_fails Fails = Some Read
 
 -- what a table tells of a place: after a gap and a token that goes on, inside a header line or not, after the words of each line before, those of its own line, the header, and the words of the data
 abbrev pub Table : Type 0
-Table = ℕ → List ℕ → Bool → List (List (List ℕ)) → List (List ℕ) → Result Header GridKind → List (List ℕ) → FaultPlace → Option GridKind
+Table = ℕ → List ℕ → Bool → List (List (List ℕ)) → List (List ℕ) → Result HeaderValue GridKind → List (List ℕ) → FaultPlace → Option GridKind
 
 -- The table: a place that stands in several rows is judged by them from the top.
 abbrev pub whole_table : Table
@@ -249,15 +249,15 @@ abbrev pub kind_at : Table → ℕ → List ℕ → List (List (List ℕ)) → L
 kind_at table gap token earlier line lines place = table gap token (in_header_line earlier line) earlier line (header_in lines) (data_words lines) place
 
 -- what a place tells, after the bytes before it; a token holds no line feed, so the line where it begins is that of its end
-abbrev pub told : Table → List ℕ → FaultPlace → Option GridFault
-told table before place = option_map (λ kind. grid_fault kind (line_of_place before))
+abbrev pub told_fault : Table → List ℕ → FaultPlace → Option GridFault
+told_fault table before place = option_map (λ kind. grid_fault kind (line_of_place before))
     (kind_at table (gap_of_place before) (token_at_place before) (front_of (line_words before)) (last_token (line_words before)) (line_words before) place)
 
 -- the first fault that is told, where some bytes were passed and the rest comes
 abbrev pub first_told : Table → List ℕ → List ℕ → Bool → Option GridFault
-first_told table before [] false = told table before End
-first_told table before [] true = told table before Fails
-first_told table before (b ∷ bs) fails = told table before (Byte b) or first_told table (before ++ b ∷ []) bs fails
+first_told table before [] false = told_fault table before End
+first_told table before [] true = told_fault table before Fails
+first_told table before (b ∷ bs) fails = told_fault table before (Byte b) or first_told table (before ++ b ∷ []) bs fails
 
 -- the fault of a text
 abbrev pub text_fault : Coming → Option GridFault

@@ -7,7 +7,7 @@ use Rattle.cell_core_values.specs.Region.{region_fault}
 use Rattle.cell_core.specs.Grid.{Grid, IsFilled, cell_at, no_labels}
 use Rattle.cell_ascii_meaning.specs.EdgeNumbers.{coordinate, side, whole_in_range}
 use Rattle.cell_ascii_meaning.specs.KeyNames.{header_key_of}
-use Rattle.cell_ascii_meaning.specs.GridWords.{is_line_feed, Header, is_space, is_colon, has_colon, is_int, usual_null, usual_multiplier, cell_of_word}
+use Rattle.cell_ascii_meaning.specs.GridWords.{is_line_feed, HeaderValue, is_space, is_colon, has_colon, is_int, usual_null, usual_multiplier, cell_of_word}
 
 -- the lines of a text, parted by line feeds
 abbrev pub lines_of : List ℕ → List (List ℕ)
@@ -72,7 +72,7 @@ abbrev pub int_type : List ℕ → Option (Unit {0})
 int_type value = if is_int value then Some tt else None
 
 -- header lines with one value each, of known keys, each key once, that say what `h` holds
-pub record IsHeader (lines : List (List (List ℕ))) (h : Header) : Type 0 where
+pub record IsHeader (lines : List (List (List ℕ))) (h : HeaderValue) : Type 0 where
   pub one_value : All (λ l. length (line_values l) ≡ 1) lines
   pub known : All (λ l. IsSome (header_key_of (key_text l))) lines
   pub once : IsDistinct bytes_eq (map key_text lines)
@@ -88,7 +88,7 @@ pub record IsHeader (lines : List (List (List ℕ))) (h : Header) : Type 0 where
   pub good : region_fault h.region ≡ Ok h.region
 
 -- word number r * cols + c denotes the cell at row r and column c, and there are no more words
-pub record DenoteCells (h : Header) (words : List (List ℕ)) (grid : Grid) : Type 0 where
+pub record DenoteCells (h : HeaderValue) (words : List (List ℕ)) (grid : Grid) : Type 0 where
   pub count : length words ≡ h.region.rows * h.region.cols
   pub shape : IsFilled h.region grid.rows
   pub each : (r c : ℕ) → r < h.region.rows → c < h.region.cols
@@ -101,7 +101,7 @@ pub record IsWithinLimits (text : List ℕ) : Type 0 where
 
 -- the bytes of a source that ends denote a map
 pub record Denotes (c : Coming) (grid : Grid) : Type 0 where
-  pub said : Header
+  pub said : HeaderValue
   pub ends : c.fails ≡ false
   pub limits : IsWithinLimits c.bytes
   pub header : IsHeader (header_lines (line_words c.bytes)) said

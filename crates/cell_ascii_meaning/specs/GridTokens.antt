@@ -8,8 +8,8 @@ use Rattle.cell_ascii_meaning.specs.declared.grid_fault.GridKind.TheVariants.{Re
 use Rattle.cell_ascii_meaning.specs.declared.grid_fault.GridFault.{GridFault}
 
 -- a byte that is neither a blank nor a line feed
-abbrev pub is_grid_word : ℕ → Bool
-is_grid_word b = not (is_space b)
+abbrev pub is_word_byte : ℕ → Bool
+is_word_byte b = not (is_space b)
 
 -- the number of line feeds
 abbrev pub newlines : List ℕ → ℕ
@@ -47,6 +47,6 @@ word_end line word (b ∷ bs) fails = Ok (word, record { bytes = b ∷ bs; fails
 -- the word that goes on after `front`, and what comes after it
 unfoldable pub word_from : ℕ → List ℕ → Coming → Result (List ℕ × Coming) GridFault
 word_from line front c =
-    let more = prefix_len is_grid_word c.bytes in
+    let more = prefix_len is_word_byte c.bytes in
     if nat_lt 64 (length front + more) then Err (grid_fault LongToken line)
     else word_end line (front ++ take more c.bytes) (drop more c.bytes) c.fails

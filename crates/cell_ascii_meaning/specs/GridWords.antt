@@ -29,7 +29,7 @@ abbrev pub is_int : List ℕ → Bool
 is_int value = bytes_eq value (codes "int")
 
 -- what the header says of the cells
-pub record Header : Type 0 where
+pub record HeaderValue : Type 0 where
   pub region : RegionValue
   pub null_text : List ℕ
   pub multiplier : ℤ
@@ -49,5 +49,5 @@ cell_of_number multiplier (Some n) =
     if is_in_range n then (if is_in_range (n *ℤ multiplier) then Ok (Some (n *ℤ multiplier)) else Err CellRange) else Err CellRange
 
 -- the cell that a word denotes: null where it is the null text, else a number
-abbrev pub cell_of_word : Header → List ℕ → Result CellValue GridKind
+abbrev pub cell_of_word : HeaderValue → List ℕ → Result CellValue GridKind
 cell_of_word h word = if bytes_eq word h.null_text then Ok None else cell_of_number h.multiplier (whole_number word)

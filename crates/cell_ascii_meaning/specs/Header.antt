@@ -1,6 +1,6 @@
 -- The header of a grid text, from the bytes to come: key lines, up to the end of the first word of the data (r.in.ascii manual; the limits are the profile's).
 pub use Rattle.cell_core_text.specs.Answers.{◌>>=◌}
-pub use Rattle.cell_ascii_meaning.specs.GridWords.{is_line_feed, Header, is_colon, has_colon, is_int, usual_null, usual_multiplier}
+pub use Rattle.cell_ascii_meaning.specs.GridWords.{is_line_feed, HeaderValue, is_colon, has_colon, is_int, usual_null, usual_multiplier}
 use Rattle.std.specs.Prelude.{ℕ, ℤ, zero, suc, ◌+◌, Bool, true, false, ◌&&◌, ◌==◌, not, nat_lt, List, [], ◌∷◌, drop, Option, Some, None, Result, Ok, Err, if◌then◌else◌, unwrap_or}
 use Rattle.std.specs.List.{prefix_len, before_first, after_first}
 use Rattle.cell_core_devices.specs.Device.{Coming}
@@ -9,14 +9,14 @@ use Rattle.cell_core_values.specs.declared.region.RegionFault.{RegionFault}
 use Rattle.cell_ascii_meaning.specs.GridTokens.{is_space, Start, Begins, Ends, Stops, grid_start, word_from, grid_fault}
 use Rattle.cell_ascii_meaning.specs.EdgeNumbers.{coordinate, side, whole_in_range}
 use Rattle.cell_ascii_meaning.specs.KeyNames.{header_key_of}
-use Rattle.cell_ascii_meaning.specs.declared.header_key.Key.{Key}
-use Rattle.cell_ascii_meaning.specs.declared.header_key.Key.TheVariants.{North, South, East, West, Rows, Cols, Null, CellType, Multiplier}
+use Rattle.cell_ascii_meaning.specs.declared.header_key.HeaderKey.{HeaderKey}
+use Rattle.cell_ascii_meaning.specs.declared.header_key.HeaderKey.TheVariants.{North, South, East, West, Rows, Cols, Null, CellType, Multiplier}
 use Rattle.cell_ascii_meaning.specs.declared.grid_fault.GridKind.{GridKind}
 use Rattle.cell_ascii_meaning.specs.declared.grid_fault.GridKind.TheVariants.{BadHeader, TwiceKey, MissingKey, BadNumber, BadType, Region, Read, ReaderStuck}
 use Rattle.cell_ascii_meaning.specs.declared.grid_fault.GridFault.{GridFault}
 
 -- the keys that stood so far, each with its value; of the type only that it stood
-pub record Keys : Type 0 where
+pub record KeyValues : Type 0 where
   pub north : Option ℤ
   pub south : Option ℤ
   pub east : Option ℤ
@@ -28,38 +28,38 @@ pub record Keys : Type 0 where
   pub multiplier : Option ℤ
 
 -- no key stood so far
-abbrev pub no_keys : Keys
+abbrev pub no_keys : KeyValues
 no_keys = record { north = None; south = None; east = None; west = None; rows = None; cols = None; null = None; kind = false; multiplier = None }
 
 -- a key is given once, and its value is a good one
-abbrev pub given : {X : Type 0} → Option X → Option X → (X → Keys) → Result Keys GridKind
-given (Some old) value keep = Err TwiceKey
-given None None keep = Err BadNumber
-given None (Some x) keep = Ok (keep x)
+abbrev pub value_given : {X : Type 0} → Option X → Option X → (X → KeyValues) → Result KeyValues GridKind
+value_given (Some old) value keep = Err TwiceKey
+value_given None None keep = Err BadNumber
+value_given None (Some x) keep = Ok (keep x)
 
 -- the keys with one more
-abbrev pub with_header_key : Keys → Option Key → List ℕ → Result Keys GridKind
+abbrev pub with_header_key : KeyValues → Option HeaderKey → List ℕ → Result KeyValues GridKind
 with_header_key keys None value = Err BadHeader
-with_header_key keys (Some North) value = given keys.north (coordinate value) (λ x. record keys { north = Some x })
-with_header_key keys (Some South) value = given keys.south (coordinate value) (λ x. record keys { south = Some x })
-with_header_key keys (Some East) value = given keys.east (coordinate value) (λ x. record keys { east = Some x })
-with_header_key keys (Some West) value = given keys.west (coordinate value) (λ x. record keys { west = Some x })
-with_header_key keys (Some Rows) value = given keys.rows (side value) (λ x. record keys { rows = Some x })
-with_header_key keys (Some Cols) value = given keys.cols (side value) (λ x. record keys { cols = Some x })
-with_header_key keys (Some Null) value = if has_colon value then Err BadHeader else given keys.null (Some value) (λ x. record keys { null = Some x })
+with_header_key keys (Some North) value = value_given keys.north (coordinate value) (λ x. record keys { north = Some x })
+with_header_key keys (Some South) value = value_given keys.south (coordinate value) (λ x. record keys { south = Some x })
+with_header_key keys (Some East) value = value_given keys.east (coordinate value) (λ x. record keys { east = Some x })
+with_header_key keys (Some West) value = value_given keys.west (coordinate value) (λ x. record keys { west = Some x })
+with_header_key keys (Some Rows) value = value_given keys.rows (side value) (λ x. record keys { rows = Some x })
+with_header_key keys (Some Cols) value = value_given keys.cols (side value) (λ x. record keys { cols = Some x })
+with_header_key keys (Some Null) value = if has_colon value then Err BadHeader else value_given keys.null (Some value) (λ x. record keys { null = Some x })
 with_header_key keys (Some CellType) value = if keys.kind then Err TwiceKey else (if is_int value then Ok (record keys { kind = true }) else Err BadType)
-with_header_key keys (Some Multiplier) value = given keys.multiplier (whole_in_range value) (λ x. record keys { multiplier = Some x })
+with_header_key keys (Some Multiplier) value = value_given keys.multiplier (whole_in_range value) (λ x. record keys { multiplier = Some x })
 
 -- the header of the keys over their region, or why the six numbers are no region
-abbrev pub header_of_keys : Keys → Result RegionValue RegionFault → Result Header GridKind
+abbrev pub header_of_keys : KeyValues → Result RegionValue RegionFault → Result HeaderValue GridKind
 header_of_keys keys (Ok region) = Ok (record { region = region; null_text = unwrap_or keys.null usual_null; multiplier = unwrap_or keys.multiplier usual_multiplier })
 header_of_keys keys (Err f) = Err (Region f)
 
 -- the header that the keys give
-abbrev pub header_of : Keys → Result Header GridKind
+abbrev pub header_of : KeyValues → Result HeaderValue GridKind
 header_of keys = all keys.north keys.south keys.east keys.west keys.rows keys.cols
   where
-    all : Option ℤ → Option ℤ → Option ℤ → Option ℤ → Option ℕ → Option ℕ → Result Header GridKind
+    all : Option ℤ → Option ℤ → Option ℤ → Option ℤ → Option ℕ → Option ℕ → Result HeaderValue GridKind
     all (Some n) (Some s) (Some e) (Some w) (Some r) (Some c) = header_of_keys keys (region_fault (record { north = n; south = s; east = e; west = w; rows = r; cols = c }))
     all n s e w r c = Err MissingKey
 
@@ -117,7 +117,7 @@ at_line line (Ok x) = Ok x
 at_line line (Err kind) = Err (grid_fault kind line)
 
 -- a header line behind its first word: the keys with its own, and where it ends
-abbrev pub key_line : ℕ → Keys → List ℕ → Coming → Result (Keys × LineEnd) GridFault
+abbrev pub key_line : ℕ → KeyValues → List ℕ → Coming → Result (KeyValues × LineEnd) GridFault
 key_line line keys word c =
     value_from line (after_first is_colon word) c
     >>= (λ value. line_end line (gap_of line 0 value.1)
@@ -132,8 +132,8 @@ pub record At : Type 0 where
   pub coming : Coming
 
 -- the header, and where the data begins
-pub record Opened : Type 0 where
-  pub header : Header
+pub record OpenedText : Type 0 where
+  pub header : HeaderValue
   pub at : At
 
 -- nothing is left of a text
@@ -141,28 +141,28 @@ abbrev pub header_ended : Coming
 header_ended = record { bytes = []; fails = false }
 
 -- the header of the keys and where the data begins, or why they give no header, told at the line
-abbrev pub opened : Keys → ℕ → Option (List ℕ) → Coming → Result Opened GridFault
-opened keys line pending c =
+abbrev pub opened_text : KeyValues → ℕ → Option (List ℕ) → Coming → Result OpenedText GridFault
+opened_text keys line pending c =
     at_line line (header_of keys) >>= (λ h. Ok (record { header = h; at = record { pending = pending; line = line; run = 0; coming = c } }))
 
 -- after a header line: `rest` reads the lines behind it
-abbrev pub after_line : (Keys → ℕ → ℕ → Coming → Result Opened GridFault) → ℕ → Keys × LineEnd → Result Opened GridFault
-after_line rest line (keys, None) = opened keys line None header_ended
+abbrev pub after_line : (KeyValues → ℕ → ℕ → Coming → Result OpenedText GridFault) → ℕ → KeyValues × LineEnd → Result OpenedText GridFault
+after_line rest line (keys, None) = opened_text keys line None header_ended
 after_line rest line (keys, Some (run, c)) = rest keys (line + 1) run c
 
 -- a line from its first word on: a header line where the word has a colon, else the data
-abbrev pub line_from : (Keys → ℕ → ℕ → Coming → Result Opened GridFault) → Keys → Start → Result Opened GridFault
+abbrev pub line_from : (KeyValues → ℕ → ℕ → Coming → Result OpenedText GridFault) → KeyValues → Start → Result OpenedText GridFault
 line_from rest keys (Stops f) = Err f
-line_from rest keys (Ends line) = opened keys line None header_ended
+line_from rest keys (Ends line) = opened_text keys line None header_ended
 line_from rest keys (Begins line c) =
     word_from line [] c
-    >>= (λ w. if has_colon w.0 then key_line line keys w.0 w.1 >>= after_line rest line else opened keys line (Some w.0) w.1)
+    >>= (λ w. if has_colon w.0 then key_line line keys w.0 w.1 >>= after_line rest line else opened_text keys line (Some w.0) w.1)
 
 -- The header from a line on. Each header line gives a key that did not stand, so fuel for one line more than there are keys is enough.
-unfoldable pub header_from : ℕ → Keys → ℕ → ℕ → Coming → Result Opened GridFault
+unfoldable pub header_from : ℕ → KeyValues → ℕ → ℕ → Coming → Result OpenedText GridFault
 header_from zero keys line run c = Err (grid_fault BadHeader line)
 header_from (suc fuel) keys line run c = line_from (λ k l r d. header_from fuel k l r d) keys (grid_start line run c)
 
 -- the header of a text: nine keys at most, and the line after them
-abbrev pub header_of_text : Coming → Result Opened GridFault
+abbrev pub header_of_text : Coming → Result OpenedText GridFault
 header_of_text c = header_from 10 no_keys 1 0 c

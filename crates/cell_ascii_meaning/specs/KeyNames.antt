@@ -1,10 +1,10 @@
 -- The names of the keys (r.in.ascii manual).
 use Rattle.std.specs.Prelude.{ℕ, List, Option, Some, None, if◌then◌else◌, codes, bytes_eq}
-use Rattle.cell_ascii_meaning.specs.declared.header_key.Key.{Key}
-use Rattle.cell_ascii_meaning.specs.declared.header_key.Key.TheVariants.{North, South, East, West, Rows, Cols, Null, CellType, Multiplier}
+use Rattle.cell_ascii_meaning.specs.declared.header_key.HeaderKey.{HeaderKey}
+use Rattle.cell_ascii_meaning.specs.declared.header_key.HeaderKey.TheVariants.{North, South, East, West, Rows, Cols, Null, CellType, Multiplier}
 
 -- the key of a name, if it is the name of one
-abbrev pub header_key_of : List ℕ → Option Key
+abbrev pub header_key_of : List ℕ → Option HeaderKey
 header_key_of name =
     if bytes_eq name (codes "north") then Some North
     else (if bytes_eq name (codes "south") then Some South

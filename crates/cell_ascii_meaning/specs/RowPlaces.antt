@@ -3,8 +3,8 @@ use Rattle.std.specs.Prelude.{ℕ, ◌+◌, ◌≡◌, ◌≤◌, Bool, true, fa
 use Rattle.std.specs.List.{list_all}
 use Rattle.std.specs.Option.{option_map, unwrap_or}
 use Rattle.cell_core_devices.specs.Device.{Coming}
-use Rattle.cell_ascii_meaning.specs.GridTokens.{is_space, is_grid_word, newlines, grid_fault}
-use Rattle.cell_ascii_meaning.specs.Header.{Header, At}
+use Rattle.cell_ascii_meaning.specs.GridTokens.{is_space, is_word_byte, newlines, grid_fault}
+use Rattle.cell_ascii_meaning.specs.Header.{HeaderValue, At}
 use Rattle.cell_ascii_meaning.specs.GridText.{is_token, grid_words_of}
 use Rattle.cell_ascii_meaning.specs.FaultPlaces.{FaultPlace, Byte, End, Fails, is_empty, gap_of_place, token_at_place, when, ◌or◌, long_token, stuck, bad_cell, read_fails}
 use Rattle.cell_ascii_meaning.specs.declared.grid_fault.GridKind.{GridKind}
@@ -23,12 +23,12 @@ ends_early count words Fails = None
 
 -- the first byte of a token
 abbrev pub token_begins : List ℕ → FaultPlace → Option GridKind
-token_begins token (Byte b) = when (is_grid_word b && is_empty token) TooMany
+token_begins token (Byte b) = when (is_word_byte b && is_empty token) TooMany
 token_begins token End = None
 token_begins token Fails = None
 
 -- the rows about cells
-abbrev pub cell_rows : Header → ℕ → RowTable
+abbrev pub cell_rows : HeaderValue → ℕ → RowTable
 cell_rows h count gap token words place =
     long_token token place
     or stuck gap place
@@ -41,7 +41,7 @@ abbrev pub is_within : ℕ → List (List ℕ) → List ℕ → Bool
 is_within count words token = nat_lt (length words) count || (is_token token && length words == count)
 
 -- what the next cells tell, and nothing behind them
-abbrev pub cells_table : Header → ℕ → RowTable
+abbrev pub cells_table : HeaderValue → ℕ → RowTable
 cells_table h count gap token words place = if is_within count words token then cell_rows h count gap token words place else None
 
 -- what is told behind the last cell
@@ -64,7 +64,7 @@ first_behind table at before [] true = told_behind table at before Fails
 first_behind table at before (b ∷ bs) fails = told_behind table at before (Byte b) or first_behind table at (before ++ b ∷ []) bs fails
 
 -- the fault of the next cells
-abbrev pub cells_fault : Header → ℕ → At → Option GridFault
+abbrev pub cells_fault : HeaderValue → ℕ → At → Option GridFault
 cells_fault h count at = first_behind (cells_table h count) at [] at.coming.bytes at.coming.fails
 
 -- the fault of the end
@@ -83,6 +83,6 @@ is_apart c = apart c.bytes c.fails
 pub record IsPlaceOf (at : At) : Type 0 where
   pub low : at.run ≤ 1048576
   pub token : IfSome at.pending (λ w. IsTrue (is_token w))
-  pub whole : IfSome at.pending (λ w. IsTrue (list_all is_grid_word w))
+  pub whole : IfSome at.pending (λ w. IsTrue (list_all is_word_byte w))
   pub apart : IfSome at.pending (λ w. IsTrue (is_apart at.coming))
   pub fresh : IfSome at.pending (λ w. at.run ≡ 0)

@@ -5,7 +5,7 @@ use Rattle.cell_core_values.specs.Letters.{byte}
 use Rattle.cell_core_values.specs.Region.{RegionValue}
 use Rattle.cell_core.specs.Grid.{CellValue, Grid}
 use Rattle.cell_core.specs.Text.{cell_text}
-use Rattle.cell_ascii_meaning.specs.GridTokens.{is_grid_word}
+use Rattle.cell_ascii_meaning.specs.GridTokens.{is_word_byte}
 use Rattle.cell_ascii_meaning.specs.Header.{has_colon, usual_null}
 
 -- digits without the zeros at their end
@@ -55,5 +55,5 @@ grid_text null_text m = region_text m.region ++ null_line null_text ++ flat_map 
 pub record IsNullText (null_text : List ℕ) : Type 0 where
   pub some : 1 ≤ length null_text
   pub most : length null_text ≤ 64
-  pub word : IsTrue (list_all is_grid_word null_text)
+  pub word : IsTrue (list_all is_word_byte null_text)
   pub colon : has_colon null_text ≡ false

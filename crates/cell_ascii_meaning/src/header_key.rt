@@ -2,7 +2,7 @@
 
 /// A key of a header line.
 #[derive(Clone, Copy, Debug, PartialEq, Eq)]
-pub enum Key {
+pub enum HeaderKey {
     North,
     South,
     East,

@@ -7,7 +7,7 @@ use Rattle.std.specs.Prelude.{nat_lt}
 use Rattle.std.proofs.lemmas.Bool.Decides.{nat_tests}
 use Rattle.cell_core_devices.specs.Device.{Coming}
 use Rattle.cell_ascii_scanner.specs.Ahead.{Ahead, bytes_to_come, before_coming, IsAtEnd}
-use Rattle.cell_ascii_meaning.specs.GridTokens.{Start, Begins, Ends, Stops, grid_start, start_at, is_space, is_grid_word, newlines, grid_fault, word_from, word_end}
+use Rattle.cell_ascii_meaning.specs.GridTokens.{Start, Begins, Ends, Stops, grid_start, start_at, is_space, is_word_byte, newlines, grid_fault, word_from, word_end}
 use Rattle.cell_ascii_meaning.specs.declared.grid_fault.GridKind.TheVariants.{Read, ReaderStuck, LongToken}
 
 -- a list with a first byte
@@ -103,8 +103,8 @@ module _ (line : ℕ) (front : List ℕ) (short : length front ≤ 64) where
   pub word-more : (b : ℕ) (bs : List ℕ) (f : Bool) → is_space b ≡ false → word_from line front (record { bytes = b ∷ bs; fails = f }) ≡ word_from line (front ++ b ∷ []) (record { bytes = bs; fails = f })
   unfolding word_from
   word-more b bs f word =
-      let more = prefix_len is_grid_word bs in
-      let longer : prefix_len is_grid_word (b ∷ bs) ≡ suc more = ap (λ (t : Bool). cond (not t) (1 + more) 0) word ∙ omega arith in
+      let more = prefix_len is_word_byte bs in
+      let longer : prefix_len is_word_byte (b ∷ bs) ≡ suc more = ap (λ (t : Bool). cond (not t) (1 + more) 0) word ∙ omega arith in
       let count : length front + suc more ≡ length (front ++ b ∷ []) + more = omega (arith, length-append front (b ∷ [])) in
       let whole : front ++ (b ∷ take more bs) ≡ (front ++ b ∷ []) ++ take more bs = sym (append_assoc front (b ∷ []) (take more bs)) in
       ap (λ (n : ℕ). if nat_lt 64 (length front + n) then Err (grid_fault LongToken line) else word_end line (front ++ take n (b ∷ bs)) (drop n (b ∷ bs)) f) longer

@@ -52,7 +52,12 @@ impl<R: Source> Input<R> {
     pub fn new(alloc: Global, source: R) -> Result<Input<R>, Memory>
     where
         R: Drop,
-        ensures { IfOk result (λ i. i ≡ record { held = []; rest = R.coming source; ended = false; heard = heard_first (R.asked source) }) }
+        ensures { IfOk result (λ i. i ≡ record {
+          held = [];
+          rest = R.coming source;
+          ended = false;
+          heard = heard_first (R.asked source);
+        }) }
     {
         let buffer = vec![in alloc; 0u8; BLOCK]?;
         Ok(Input {
@@ -102,7 +107,7 @@ impl<R: Source> Input<R> {
     }
 
     /// The bytes that are held.
-    pub fn held(&self) -> &[u8]
+    pub fn held_bytes(&self) -> &[u8]
         ensures { result.now ≡ self.now.held }
     {
         &self.buffer[self.at..self.filled]
@@ -117,7 +122,7 @@ impl<R: Source> Input<R> {
     }
 
     /// Passes the byte that `peek` gave.
-    pub fn advance(&mut self)
+    pub fn pass_byte(&mut self)
         requires { 0 < length self.old.held }
         ensures held { self.new.held ≡ drop 1 self.old.held }
         ensures rest { self.new.rest ≡ self.old.rest }

@@ -45,7 +45,7 @@ pub fn is_space(b: u8) -> bool
 
 // What a step came to.
 #[derive(Clone, Copy)]
-enum Step {
+enum ScanStep {
     Blank,
     Feed,
     Word,
@@ -94,11 +94,13 @@ impl<R: Source> Scanner<R> {
     }
 
     // Passes one blank or line feed, where one comes.
-    fn step(&mut self) -> Result<Step, GridFault>
+    fn step(&mut self) -> Result<ScanStep, GridFault>
         requires room { self.old.line + 1048576 < 2 ^ 64 + self.old.run }
         requires run { self.old.run ≤ 1048576 }
-        ensures starts { option_map (grid_start self.old.line self.old.run) (bytes_to_come self.old.ahead)
-            ≡ option_map (start_step result self.new.line self.new.run) (bytes_to_come self.new.ahead) }
+        ensures starts { option_map (grid_start self.old.line self.old.run)
+            (bytes_to_come self.old.ahead)
+            ≡ option_map (start_step result self.new.line self.new.run)
+            (bytes_to_come self.new.ahead) }
         ensures gap { option_map (gap_of self.old.line self.old.run) (bytes_to_come self.old.ahead)
             ≡ option_map (gap_step result self.new.line self.new.run) (bytes_to_come self.new.ahead) }
         ensures line { self.new.line ≡ line_step result self.old.line }
@@ -106,17 +108,17 @@ impl<R: Source> Scanner<R> {
         ensures run { self.new.run ≤ 1048576 }
         ensures further { self.old.run ≤ self.new.run }
         ensures word { self.new.word ≡ self.old.word }
-        ensures blank { result ≡ Ok Step.Blank → self.new.run ≡ self.old.run + 1 }
-        ensures feed { result ≡ Ok Step.Feed → self.new.run ≡ self.old.run + 1 }
-        ensures end { result ≡ Ok Step.End → IsAtEnd false (bytes_to_come self.new.ahead) }
+        ensures blank { result ≡ Ok ScanStep.Blank → self.new.run ≡ self.old.run + 1 }
+        ensures feed { result ≡ Ok ScanStep.Feed → self.new.run ≡ self.old.run + 1 }
+        ensures end { result ≡ Ok ScanStep.End → IsAtEnd false (bytes_to_come self.new.ahead) }
         ensures kind { IfErr result (λ f. IsOfText f.kind) }
         ensures heard { self.new.ahead.heard ≡ hears (tells_read result) self.old.ahead.heard }
     {
         let Some(b) = self.peek()? else {
-            return Ok(Step::End);
+            return Ok(ScanStep::End);
         };
         if !is_space(b) {
-            return Ok(Step::Word);
+            return Ok(ScanStep::Word);
         }
         if self.run >= 1048576 {
             return Err(GridFault {
@@ -124,20 +126,21 @@ impl<R: Source> Scanner<R> {
                 line: self.line,
             });
         }
-        self.input.advance();
+        self.input.pass_byte();
         self.run += 1;
         if b == b'\n' {
             self.line += 1;
-            return Ok(Step::Feed);
+            return Ok(ScanStep::Feed);
         }
-        Ok(Step::Blank)
+        Ok(ScanStep::Blank)
     }
 
     /// Passes blanks and line feeds.
     pub fn skip_spaces(&mut self) -> Result<Next, GridFault>
         requires room { self.old.line + 1048576 < 2 ^ 64 }
         requires run { self.old.run ≤ 1048576 }
-        ensures starts { option_map (grid_start self.old.line self.old.run) (bytes_to_come self.old.ahead)
+        ensures starts { option_map (grid_start self.old.line self.old.run)
+            (bytes_to_come self.old.ahead)
             ≡ option_map (start_seen result self.new.line) (bytes_to_come self.new.ahead) }
         ensures lines { self.new.line ≤ self.old.line + 1048576 }
         ensures run { self.new.run ≤ 1048576 }
@@ -149,10 +152,10 @@ impl<R: Source> Scanner<R> {
     {
         'spaces: loop {
             match self.step() {
-                Ok(Step::Blank) => {}
-                Ok(Step::Feed) => {}
-                Ok(Step::Word) => return Ok(Next::Word),
-                Ok(Step::End) => return Ok(Next::End),
+                Ok(ScanStep::Blank) => {}
+                Ok(ScanStep::Feed) => {}
+                Ok(ScanStep::Word) => return Ok(Next::Word),
+                Ok(ScanStep::End) => return Ok(Next::End),
                 Err(fault) => return Err(fault),
             }
         }
@@ -173,10 +176,10 @@ impl<R: Source> Scanner<R> {
     {
         'blanks: loop {
             match self.step() {
-                Ok(Step::Blank) => {}
-                Ok(Step::Feed) => return Ok(InLine::Feed),
-                Ok(Step::Word) => return Ok(InLine::Word),
-                Ok(Step::End) => return Ok(InLine::End),
+                Ok(ScanStep::Blank) => {}
+                Ok(ScanStep::Feed) => return Ok(InLine::Feed),
+                Ok(ScanStep::Word) => return Ok(InLine::Word),
+                Ok(ScanStep::End) => return Ok(InLine::End),
                 Err(fault) => return Err(fault),
             }
         }
@@ -185,8 +188,10 @@ impl<R: Source> Scanner<R> {
     // Takes one byte of a word, where one comes.
     fn grow(&mut self) -> Result<bool, GridFault>
         requires { length self.old.word ≤ 64 }
-        ensures word { option_map (word_from self.old.line self.old.word) (bytes_to_come self.old.ahead)
-            ≡ option_map (part_seen result self.new.line self.new.word) (bytes_to_come self.new.ahead) }
+        ensures word { option_map (word_from self.old.line self.old.word)
+            (bytes_to_come self.old.ahead)
+            ≡ option_map (part_seen result self.new.line self.new.word)
+            (bytes_to_come self.new.ahead) }
         ensures line { self.new.line ≡ self.old.line }
         ensures run { self.new.run ≡ self.old.run }
         ensures short { length self.new.word ≤ 64 }
@@ -206,7 +211,7 @@ impl<R: Source> Scanner<R> {
                 line: self.line,
             });
         }
-        self.input.advance();
+        self.input.pass_byte();
         self.word[self.len] = b;
         self.len += 1;
         Ok(true)
@@ -240,10 +245,10 @@ impl<R: Source> Scanner<R> {
     }
 
     /// The bytes that are held.
-    pub fn held(&self) -> &[u8]
+    pub fn held_bytes(&self) -> &[u8]
         ensures { result.now ≡ self.now.ahead.held }
     {
-        self.input.held()
+        self.input.held_bytes()
     }
 
     /// Whether no blank was passed since the last word.
@@ -264,7 +269,10 @@ impl<R: Source> Scanner<R> {
     /// Passes held bytes that end with a word.
     pub fn pass(&mut self, n: usize)
         requires { n ≤ length self.old.ahead.held }
-        ensures { self.new ≡ record self.old { run = 0; ahead = record self.old.ahead { held = drop n self.old.ahead.held } } }
+        ensures { self.new ≡ record self.old {
+          run = 0;
+          ahead = record self.old.ahead { held = drop n self.old.ahead.held };
+        } }
     {
         self.run = 0;
         self.input.pass(n);
@@ -293,7 +301,17 @@ impl<R: Source> Scanner<R> {
     pub fn new(alloc: Global, source: R) -> Result<Scanner<R>, Memory>
     where
         R: Drop,
-        ensures { IfOk result (λ s. s ≡ record { line = 1; run = 0; word = []; ahead = record { held = []; rest = R.coming source; ended = false; heard = heard_first (R.asked source) } }) }
+        ensures { IfOk result (λ s. s ≡ record {
+          line = 1;
+          run = 0;
+          word = [];
+          ahead = record {
+            held = [];
+            rest = R.coming source;
+            ended = false;
+            heard = heard_first (R.asked source);
+          };
+        }) }
     {
         let input = Input::new(alloc, source)?;
         Ok(Scanner {

@@ -115,7 +115,7 @@ impl<'a> Source for Counting<'a> {
 
     fn take(&mut self, buf: &mut [u8]) -> Result<usize, DeviceFault> {
         let answer = self.give(buf);
-        self.asked = self.asked.after(answer);
+        self.asked = self.asked.after_answer(answer);
         answer
     }
 }

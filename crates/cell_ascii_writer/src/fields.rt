@@ -5,7 +5,7 @@ ghost use Rattle.std.specs.List.{All};
 ghost use Rattle.cell_core.specs.Text.{cell_text};
 ghost use Rattle.cell_ascii_writer.specs.Fields.{IsField, IsFieldOf, low_bytes};
 
-use crate::writer::spaced;
+use crate::writer::field_of_text;
 use cell_core::cell::Cell;
 use itoa::Buffer;
 use std::simd::prelude::*;
@@ -45,7 +45,7 @@ pub(crate) fn free_field() -> Field
 
 // The place of a cell's field among those that are kept.
 #[inline(always)]
-fn place_of(cell: Cell) -> usize
+fn field_place(cell: Cell) -> usize
     ensures { result < 1024 }
 {
     let number = cell.get().unwrap_or(i32::MIN);
@@ -58,7 +58,7 @@ fn field_with(text: &[u8]) -> (u64, u32)
     ensures size { result.1 ≡ length text.now + 1 }
     ensures text { low_bytes result.0 result.1 ≡ codes " " ++ text.now }
 {
-    let field = spaced(text);
+    let field = field_of_text(text);
     let [bytes] = u64x1::from_le_bytes(u8x8::from_slice(&field)).to_array();
     (bytes, text.len() as u32 + 1)
 }
@@ -92,7 +92,7 @@ pub(crate) fn new_field(cell: Cell, null_text: &[u8], fields: &mut [Field]) -> O
     ensures known { All (IsField null_text.now) fields.new }
 {
     let (bytes, size) = made_field(cell, null_text)?;
-    fields[place_of(cell)] = Field { bytes, size, cell };
+    fields[field_place(cell)] = Field { bytes, size, cell };
     Some((bytes, size))
 }
 
@@ -103,14 +103,15 @@ pub(crate) fn field_at(cell: Cell, null_text: &[u8], fields: &[Field]) -> Field
     requires known { All (IsField null_text.now) fields.now }
     ensures { IsField null_text.now result }
 {
-    fields[place_of(cell)]
+    fields[field_place(cell)]
 }
 
 // Writes the lowest bytes of a number into a line from a place on. Eight are written, however many belong to it.
 #[inline(always)]
 pub(crate) fn put_field(line: &mut [u8], at: usize, bytes: u64)
     requires { at + 8 ≤ length line.old }
-    ensures { (size : ℕ) → size ≤ 8 → take (at + size) line.new ≡ take at line.old ++ low_bytes bytes size }
+    ensures { (size : ℕ) → size ≤ 8
+        → take (at + size) line.new ≡ take at line.old ++ low_bytes bytes size }
 {
     u64x1::from_array([bytes])
         .to_le_bytes()

@@ -12,7 +12,7 @@ ghost use Rattle.cell_ascii_writer.specs.Fields.{IsField, AppendsBut, low_bytes}
 ghost use Rattle.cell_ascii_writer.specs.WrittenRuns.{spaced_cells, joined_cells, times};
 
 use crate::fields::{FIELDS, Field, field_at, free_field, new_field, put_field};
-use cell_core::block::Block;
+use cell_core::block::OutputBlock;
 use cell_core::cell::Cell;
 use cell_core::map::CellMap;
 use cell_core::printed_cell::write_cell;
@@ -61,7 +61,7 @@ fn eight_digits(buffer: &mut Buffer, part: u64) -> &[u8]
 }
 
 // Writes a point and the eight digits of a part, without the zeros at their end, or nothing where it is 0.
-fn write_fraction<W: Sink>(out: &mut W, block: &mut Block, part: u64)
+fn write_fraction<W: Sink>(out: &mut W, block: &mut OutputBlock, part: u64)
     requires { part < 100000000 }
     ensures { Appends W.taken W.faults out.old block.old (fraction_text part) out.new block.new }
 {
@@ -73,7 +73,7 @@ fn write_fraction<W: Sink>(out: &mut W, block: &mut Block, part: u64)
 }
 
 // Writes a number of units that is not negative.
-fn write_units<W: Sink>(out: &mut W, block: &mut Block, units: u64)
+fn write_units<W: Sink>(out: &mut W, block: &mut OutputBlock, units: u64)
     ensures { Appends W.taken W.faults out.old block.old (units_text units) out.new block.new }
 {
     block.push(out, Buffer::new().format(units / UNIT).as_bytes());
@@ -81,7 +81,7 @@ fn write_units<W: Sink>(out: &mut W, block: &mut Block, units: u64)
 }
 
 // Writes a coordinate, in units of 10^-8.
-fn write_coordinate<W: Sink>(out: &mut W, block: &mut Block, units: i64)
+fn write_coordinate<W: Sink>(out: &mut W, block: &mut OutputBlock, units: i64)
     ensures { Appends W.taken W.faults out.old block.old (coordinate_text units) out.new block.new }
 {
     if units < 0 {
@@ -91,7 +91,7 @@ fn write_coordinate<W: Sink>(out: &mut W, block: &mut Block, units: i64)
 }
 
 // Writes a key and what parts it from its value.
-fn write_key<W: Sink>(out: &mut W, block: &mut Block, key: &[u8])
+fn write_key<W: Sink>(out: &mut W, block: &mut OutputBlock, key: &[u8])
     ensures { Appends W.taken W.faults out.old block.old (key.now ++ codes ": ") out.new block.new }
 {
     block.push(out, key);
@@ -99,8 +99,9 @@ fn write_key<W: Sink>(out: &mut W, block: &mut Block, key: &[u8])
 }
 
 // Writes the header line of an edge, in units of 10^-8.
-fn write_edge<W: Sink>(out: &mut W, block: &mut Block, key: &[u8], edge: i64)
-    ensures { Appends W.taken W.faults out.old block.old (line_of_key key.now (coordinate_text edge)) out.new block.new }
+fn write_edge<W: Sink>(out: &mut W, block: &mut OutputBlock, key: &[u8], edge: i64)
+    ensures { Appends W.taken W.faults out.old block.old
+        (line_of_key key.now (coordinate_text edge)) out.new block.new }
 {
     write_key(out, block, key);
     write_coordinate(out, block, edge);
@@ -108,8 +109,9 @@ fn write_edge<W: Sink>(out: &mut W, block: &mut Block, key: &[u8], edge: i64)
 }
 
 // Writes a header line.
-fn write_line<W: Sink>(out: &mut W, block: &mut Block, key: &[u8], value: &[u8])
-    ensures { Appends W.taken W.faults out.old block.old (line_of_key key.now value.now) out.new block.new }
+fn write_line<W: Sink>(out: &mut W, block: &mut OutputBlock, key: &[u8], value: &[u8])
+    ensures { Appends W.taken W.faults out.old block.old (line_of_key key.now value.now)
+        out.new block.new }
 {
     write_key(out, block, key);
     block.push(out, value);
@@ -117,14 +119,15 @@ fn write_line<W: Sink>(out: &mut W, block: &mut Block, key: &[u8], value: &[u8])
 }
 
 // Writes the header line of a number of rows or columns.
-fn write_side<W: Sink>(out: &mut W, block: &mut Block, key: &[u8], count: u32)
-    ensures { Appends W.taken W.faults out.old block.old (line_of_key key.now (decimal count)) out.new block.new }
+fn write_side<W: Sink>(out: &mut W, block: &mut OutputBlock, key: &[u8], count: u32)
+    ensures { Appends W.taken W.faults out.old block.old (line_of_key key.now (decimal count))
+        out.new block.new }
 {
     write_line(out, block, key, Buffer::new().format(count).as_bytes());
 }
 
 // Writes the six lines of a region.
-fn write_region<W: Sink>(out: &mut W, block: &mut Block, region: Region)
+fn write_region<W: Sink>(out: &mut W, block: &mut OutputBlock, region: Region)
     ensures { Appends W.taken W.faults out.old block.old (region_text region) out.new block.new }
 {
     write_edge(out, block, b"north", region.north());
@@ -136,8 +139,9 @@ fn write_region<W: Sink>(out: &mut W, block: &mut Block, region: Region)
 }
 
 // Writes the line of the null text, where that is not the usual one.
-fn write_null_line<W: Sink>(out: &mut W, block: &mut Block, null_text: &[u8])
-    ensures { Appends W.taken W.faults out.old block.old (null_line null_text.now) out.new block.new }
+fn write_null_line<W: Sink>(out: &mut W, block: &mut OutputBlock, null_text: &[u8])
+    ensures { Appends W.taken W.faults out.old block.old (null_line null_text.now)
+        out.new block.new }
 {
     if null_text == b"*".as_slice() {
         return;
@@ -146,7 +150,7 @@ fn write_null_line<W: Sink>(out: &mut W, block: &mut Block, null_text: &[u8])
 }
 
 // A space and a text, with spaces after them.
-pub(crate) fn spaced(text: &[u8]) -> [u8; FIELD]
+pub(crate) fn field_of_text(text: &[u8]) -> [u8; FIELD]
     requires { length text.now ≤ 64 }
     ensures { take (length text.now + 1) result ≡ codes " " ++ text.now }
 {
@@ -157,7 +161,7 @@ pub(crate) fn spaced(text: &[u8]) -> [u8; FIELD]
 
 // Writes a field, so many times. It is inlined, so that a field of a known length is copied without a call.
 #[inline(always)]
-fn write_copies<W: Sink>(out: &mut W, block: &mut Block, field: &[u8], count: u32)
+fn write_copies<W: Sink>(out: &mut W, block: &mut OutputBlock, field: &[u8], count: u32)
     ensures { Appends W.taken W.faults out.old block.old (times count field.now) out.new block.new }
 {
     for _ in 0..count {
@@ -166,18 +170,26 @@ fn write_copies<W: Sink>(out: &mut W, block: &mut Block, field: &[u8], count: u3
 }
 
 // Writes a space and a text, so many times.
-fn write_times<W: Sink>(out: &mut W, block: &mut Block, text: &[u8], count: u32)
+fn write_times<W: Sink>(out: &mut W, block: &mut OutputBlock, text: &[u8], count: u32)
     requires { length text.now ≤ 64 }
-    ensures { Appends W.taken W.faults out.old block.old (times count (codes " " ++ text.now)) out.new block.new }
+    ensures { Appends W.taken W.faults out.old block.old (times count (codes " " ++ text.now))
+        out.new block.new }
 {
-    let bytes = spaced(text);
+    let bytes = field_of_text(text);
     write_copies(out, block, &bytes[..text.len() + 1], count);
 }
 
 // Writes a space and the cell of a run, as often as it stands there, straight into the block. Its text is made once.
-fn write_long_run<W: Sink>(out: &mut W, block: &mut Block, cell: Cell, count: u32, null_text: &[u8])
+fn write_long_run<W: Sink>(
+    out: &mut W,
+    block: &mut OutputBlock,
+    cell: Cell,
+    count: u32,
+    null_text: &[u8],
+)
     requires { length null_text.now ≤ 64 }
-    ensures { Appends W.taken W.faults out.old block.old (spaced_cells null_text.now (replicate count cell)) out.new block.new }
+    ensures { Appends W.taken W.faults out.old block.old
+        (spaced_cells null_text.now (replicate count cell)) out.new block.new }
 {
     match cell.get() {
         None => write_times(out, block, null_text, count),
@@ -187,7 +199,7 @@ fn write_long_run<W: Sink>(out: &mut W, block: &mut Block, cell: Cell, count: u3
 
 // Pushes the bytes of a line up to a place. It is not inlined, as it would take registers from the loops over cells.
 #[inline(never)]
-fn push_line<W: Sink>(out: &mut W, block: &mut Block, line: &[u8], end: usize)
+fn push_line<W: Sink>(out: &mut W, block: &mut OutputBlock, line: &[u8], end: usize)
     requires { end ≤ length line.now }
     ensures { Appends W.taken W.faults out.old block.old (take end line.now) out.new block.new }
 {
@@ -196,10 +208,11 @@ fn push_line<W: Sink>(out: &mut W, block: &mut Block, line: &[u8], end: usize)
 
 // The same where no field has room behind them. Returns where the bytes end that are left.
 #[inline(always)]
-fn make_room<W: Sink>(out: &mut W, block: &mut Block, line: &[u8], end: usize) -> usize
+fn make_room<W: Sink>(out: &mut W, block: &mut OutputBlock, line: &[u8], end: usize) -> usize
     requires room { length line.now ≡ 1024 }
     requires within { end ≤ 1024 }
-    ensures text { AppendsBut W.taken W.faults out.old block.old (take end line.now) (take result line.now) out.new block.new }
+    ensures text { AppendsBut W.taken W.faults out.old block.old (take end line.now)
+        (take result line.now) out.new block.new }
     ensures within { result ≤ 1016 }
 {
     if end <= LINE - MOST_FIELD {
@@ -214,7 +227,7 @@ fn make_room<W: Sink>(out: &mut W, block: &mut Block, line: &[u8], end: usize) -
 #[inline(always)]
 fn write_field<W: Sink>(
     out: &mut W,
-    block: &mut Block,
+    block: &mut OutputBlock,
     line: &mut [u8],
     start: usize,
     field: (u64, u32),
@@ -223,7 +236,9 @@ fn write_field<W: Sink>(
     requires room { length line.old ≡ 1024 }
     requires within { start ≤ 1024 }
     requires few { field.1 ≤ 8 }
-    ensures text { AppendsBut W.taken W.faults out.old block.old (take start line.old ++ times count (low_bytes field.0 field.1)) (take result line.new) out.new block.new }
+    ensures text { AppendsBut W.taken W.faults out.old block.old
+        (take start line.old ++ times count (low_bytes field.0 field.1)) (take result line.new)
+        out.new block.new }
     ensures within { result ≤ 1024 }
 {
     let mut end = start;
@@ -239,7 +254,7 @@ fn write_field<W: Sink>(
 #[inline(never)]
 fn write_new_run<W: Sink>(
     out: &mut W,
-    block: &mut Block,
+    block: &mut OutputBlock,
     fields: &mut [Field],
     line: &mut [u8],
     start: usize,
@@ -251,7 +266,9 @@ fn write_new_run<W: Sink>(
     requires known { All (IsField null_text.now) fields.old }
     requires room { length line.old ≡ 1024 }
     requires within { start ≤ 1024 }
-    ensures text { AppendsBut W.taken W.faults out.old block.old (take start line.old ++ spaced_cells null_text.now (replicate run.1 run.0)) (take result line.new) out.new block.new }
+    ensures text { AppendsBut W.taken W.faults out.old block.old
+        (take start line.old ++ spaced_cells null_text.now (replicate run.1 run.0))
+        (take result line.new) out.new block.new }
     ensures within { result ≤ 1024 }
     ensures known { All (IsField null_text.now) fields.new }
 {
@@ -267,7 +284,7 @@ fn write_new_run<W: Sink>(
 #[inline(always)]
 fn write_run<W: Sink>(
     out: &mut W,
-    block: &mut Block,
+    block: &mut OutputBlock,
     fields: &mut [Field],
     line: &mut [u8],
     start: usize,
@@ -279,7 +296,9 @@ fn write_run<W: Sink>(
     requires known { All (IsField null_text.now) fields.old }
     requires room { length line.old ≡ 1024 }
     requires within { start ≤ 1024 }
-    ensures text { AppendsBut W.taken W.faults out.old block.old (take start line.old ++ spaced_cells null_text.now (replicate run.1 run.0)) (take result line.new) out.new block.new }
+    ensures text { AppendsBut W.taken W.faults out.old block.old
+        (take start line.old ++ spaced_cells null_text.now (replicate run.1 run.0))
+        (take result line.new) out.new block.new }
     ensures within { result ≤ 1024 }
     ensures known { All (IsField null_text.now) fields.new }
 {
@@ -293,7 +312,7 @@ fn write_run<W: Sink>(
 // Writes a space and a cell for each cell of the runs, behind the bytes of a line that are still to be pushed.
 fn write_runs<W: Sink>(
     out: &mut W,
-    block: &mut Block,
+    block: &mut OutputBlock,
     fields: &mut [Field],
     line: &mut [u8],
     start: usize,
@@ -305,7 +324,9 @@ fn write_runs<W: Sink>(
     requires known { All (IsField null_text.now) fields.old }
     requires room { length line.old ≡ 1024 }
     requires within { start ≤ 1024 }
-    ensures text { Appends W.taken W.faults out.old block.old (take start line.old ++ spaced_cells null_text.now (written_out runs.entry)) out.new block.new }
+    ensures text { Appends W.taken W.faults out.old block.old
+        (take start line.old ++ spaced_cells null_text.now (written_out runs.entry))
+        out.new block.new }
     ensures known { All (IsField null_text.now) fields.new }
 {
     let mut end = start;
@@ -316,9 +337,9 @@ fn write_runs<W: Sink>(
 }
 
 // Writes the cells of the runs of a row, with a space between each two.
-fn write_cells<W: Sink>(
+fn write_row_cells<W: Sink>(
     out: &mut W,
-    block: &mut Block,
+    block: &mut OutputBlock,
     fields: &mut [Field],
     line: &mut [u8],
     runs: Runs<'_>,
@@ -329,7 +350,8 @@ fn write_cells<W: Sink>(
     requires kept { length fields.old ≡ 1024 }
     requires known { All (IsField null_text.now) fields.old }
     requires room { length line.old ≡ 1024 }
-    ensures text { Appends W.taken W.faults out.old block.old (joined_cells null_text.now (written_out runs.entry)) out.new block.new }
+    ensures text { Appends W.taken W.faults out.old block.old
+        (joined_cells null_text.now (written_out runs.entry)) out.new block.new }
     ensures known { All (IsField null_text.now) fields.new }
 {
     let mut others = runs;
@@ -343,9 +365,9 @@ fn write_cells<W: Sink>(
 }
 
 // Writes the line of a row.
-fn write_row<W: Sink>(
+fn write_grid_row<W: Sink>(
     out: &mut W,
-    block: &mut Block,
+    block: &mut OutputBlock,
     fields: &mut [Field],
     line: &mut [u8],
     map: &CellMap,
@@ -357,17 +379,19 @@ fn write_row<W: Sink>(
     requires kept { length fields.old ≡ 1024 }
     requires known { All (IsField null_text.now) fields.old }
     requires room { length line.old ≡ 1024 }
-    ensures text { Appends W.taken W.faults out.old block.old (row_text null_text.now (row_at map.now row)) out.new block.new }
+    ensures text { Appends W.taken W.faults out.old block.old
+        (row_text null_text.now (row_at map.now row)) out.new block.new }
     ensures known { All (IsField null_text.now) fields.new }
 {
-    write_cells(out, block, fields, line, map.runs(row), null_text);
+    write_row_cells(out, block, fields, line, map.runs(row), null_text);
     block.push(out, b"\n");
 }
 
 // Writes the lines of all rows.
-fn write_rows<W: Sink>(out: &mut W, block: &mut Block, map: &CellMap, null_text: &[u8])
+fn write_rows<W: Sink>(out: &mut W, block: &mut OutputBlock, map: &CellMap, null_text: &[u8])
     requires { length null_text.now ≤ 64 }
-    ensures { Appends W.taken W.faults out.old block.old (flat_map (row_text null_text.now) map.now.rows) out.new block.new }
+    ensures { Appends W.taken W.faults out.old block.old
+        (flat_map (row_text null_text.now) map.now.rows) out.new block.new }
 {
     let mut fields = [free_field(); FIELDS];
     let mut line = [0u8; LINE];
@@ -375,7 +399,7 @@ fn write_rows<W: Sink>(out: &mut W, block: &mut Block, map: &CellMap, null_text:
         if block.has_failed() {
             return;
         }
-        write_row(out, block, &mut fields, &mut line, map, row, null_text);
+        write_grid_row(out, block, &mut fields, &mut line, map, row, null_text);
     }
 }
 
@@ -385,9 +409,10 @@ fn write_rows<W: Sink>(out: &mut W, block: &mut Block, map: &CellMap, null_text:
 /// line for each row, with one space between the cells (r.out.ascii manual). A coordinate is
 /// printed exactly, a category in decimal, and null as the null text: 1 to 64 bytes, none of them
 /// a blank, a line feed or a colon (profile). Takes no memory. After a refused put nothing more is written.
-pub fn write_grid<W: Sink>(out: &mut W, block: &mut Block, map: &CellMap, null_text: &[u8])
+pub fn write_grid<W: Sink>(out: &mut W, block: &mut OutputBlock, map: &CellMap, null_text: &[u8])
     requires { length null_text.now ≤ 64 }
-    ensures { Appends W.taken W.faults out.old block.old (grid_text null_text.now map.now) out.new block.new }
+    ensures { Appends W.taken W.faults out.old block.old (grid_text null_text.now map.now)
+        out.new block.new }
 {
     write_region(out, block, map.region());
     write_null_line(out, block, null_text);
@@ -412,15 +437,18 @@ fn region_is_short(region: Region)
 /// [`WriteFault`] where the sink fails: exactly the first `written` bytes of the text went out, and not all of it.
 pub fn write_map<W: Sink>(map: &CellMap, null_text: &[u8], out: &mut W) -> Result<u64, WriteFault>
     requires null { IsNullText null_text.now }
-    ensures ok { OnOk result (W.taken out.new ≡ append_known (W.taken out.old) (grid_text null_text.now map.now)) }
+    ensures ok { OnOk result
+        (W.taken out.new ≡ append_known (W.taken out.old) (grid_text null_text.now map.now)) }
     ensures length { IfOk result (λ n. n ≡ length (grid_text null_text.now map.now)) }
-    ensures err { IfErr result (λ fault. W.taken out.new ≡ append_known (W.taken out.old) (take fault.written (grid_text null_text.now map.now))) }
-    ensures short { IfErr result (λ fault. fault.written < length (grid_text null_text.now map.now)) }
+    ensures err { IfErr result (λ fault. W.taken out.new
+        ≡ append_known (W.taken out.old) (take fault.written (grid_text null_text.now map.now))) }
+    ensures short { IfErr result (λ fault. fault.written
+        < length (grid_text null_text.now map.now)) }
     ensures faults { W.faults out.new ≡ after_put (W.faults out.old) (is_err result) }
 {
     region_is_short(map.region());
     map.cells_are_in_range();
-    let mut block = Block::new();
+    let mut block = OutputBlock::new();
     write_grid(out, &mut block, map, null_text);
     block.empty(out);
     match block.outcome() {

@@ -9,7 +9,7 @@ use Rattle.cell_calc_steps.specs.declared.step.Step.{Step}
 use Rattle.cell_calc.specs.declared.strip.Operand.{Operand}
 use Rattle.cell_calc.specs.declared.strip.Strip.{Strip}
 use Rattle.cell_calc.specs.Window.{Window}
-use Rattle.cell_calc.specs.parts.Operands.{operand_at, cells_at, seen, spot_at}
+use Rattle.cell_calc.specs.parts.Operands.{operand_at, cells_at, seen_cell, spot_at}
 use Rattle.cell_calc_steps.specs.Postfix.{arity, values_after, AreEnough}
 use Rattle.cell_calc_rows.specs.RowValues.{at, column}
 use Rattle.cell_calc_steps.proofs.PostfixLemmas.{one_step}
@@ -70,12 +70,12 @@ enough_more steps i d old new o lt h is =
 -- one step more along a strip
 pub step_more : (windows : List Window) (strip : Strip) (steps : List (Step ℕ)) (i c : ℕ) (d : Step ℕ) (old new : List Operand) (o : Operand) (end : List CellValue)
     → i < length steps → arity (get_or steps i d) ≤ length old → new ≡ take (length old - arity (get_or steps i d)) old ++ o ∷ []
-    → operand_at windows strip c o ≡ seen windows (spot_at strip c) (get_or steps i d) (cells_at windows strip c (drop (length old - arity (get_or steps i d)) old))
-    → values_after (seen windows (spot_at strip c)) (drop i steps) (cells_at windows strip c old) ≡ end
-    → values_after (seen windows (spot_at strip c)) (drop (i + 1) steps) (cells_at windows strip c new) ≡ end
+    → operand_at windows strip c o ≡ seen_cell windows (spot_at strip c) (get_or steps i d) (cells_at windows strip c (drop (length old - arity (get_or steps i d)) old))
+    → values_after (seen_cell windows (spot_at strip c)) (drop i steps) (cells_at windows strip c old) ≡ end
+    → values_after (seen_cell windows (spot_at strip c)) (drop (i + 1) steps) (cells_at windows strip c new) ≡ end
 step_more windows strip steps i c d old new o end lt le is made before =
     let f = λ (p : Operand). operand_at windows strip c p in
-    let g = λ (s : Step ℕ) (xs : List CellValue). seen windows (spot_at strip c) s xs in
+    let g = λ (s : Step ℕ) (xs : List CellValue). seen_cell windows (spot_at strip c) s xs in
     let s = get_or steps i d in
     let n = length old - arity s in
     let split : map f old ≡ map f (take n old) ++ map f (drop n old) = ap (λ l. map f l) (sym (take-append-drop n old)) ∙ map-append f (take n old) (drop n old) in
@@ -88,10 +88,10 @@ step_more windows strip steps i c d old new o end lt le is made before =
 
 -- the value of the only operand that is left
 pub end_value : (windows : List Window) (strip : Strip) (steps : List (Step ℕ)) (i c : ℕ) (old : List Operand) (o : Operand) (end : List CellValue)
-    → drop i steps ≡ [] → old ≡ o ∷ [] → values_after (seen windows (spot_at strip c)) (drop i steps) (cells_at windows strip c old) ≡ end
+    → drop i steps ≡ [] → old ≡ o ∷ [] → values_after (seen_cell windows (spot_at strip c)) (drop i steps) (cells_at windows strip c old) ≡ end
     → operand_at windows strip c o ∷ [] ≡ end
 end_value windows strip steps i c old o end none only is =
-    let g = λ (s : Step ℕ) (xs : List CellValue). seen windows (spot_at strip c) s xs in
+    let g = λ (s : Step ℕ) (xs : List CellValue). seen_cell windows (spot_at strip c) s xs in
     ap (λ l. values_after g l (operand_at windows strip c o ∷ [])) (sym none)
     ∙ ap (λ l. values_after g (drop i steps) (cells_at windows strip c l)) (sym only) ∙ is
 

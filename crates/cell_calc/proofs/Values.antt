@@ -9,11 +9,11 @@ use Rattle.cell_calc_steps.specs.declared.step.Step.{Step}
 use Rattle.cell_calc_steps.specs.declared.step.Step.TheVariants as step
 use Rattle.cell_calc_binding.specs.Formula.{Formula, Formulas, NoTrees, Then}
 use Rattle.cell_calc_binding.specs.Reach.{IsProper, top_at, up_at, down_at, top_of, up_of, down_of}
-use Rattle.cell_calc_operators.specs.Applied.{Spot, applied, call_result, negated, inverted}
+use Rattle.cell_calc_operators.specs.Applied.{Spot, operator_value, call_result, negated_cell, inverted_cell}
 use Rattle.cell_calc_operators.specs.Offsets.{cell_in, item_at, row_of}
 use Rattle.cell_calc_binding.specs.Value.{value, argument_values}
 use Rattle.cell_calc.specs.Window.{Window, IsWindowOf, Reaches, IsOver, HasReach}
-use Rattle.cell_calc.specs.parts.Operands.{IsReadyStep, seen}
+use Rattle.cell_calc.specs.parts.Operands.{IsReadyStep, seen_cell}
 use Rattle.cell_calc_steps.specs.Postfix.{postfix, arity, values_after}
 use Rattle.cell_calc_binding.specs.parts.TreeSteps.{IsProperStep}
 use Rattle.cell_calc.specs.parts.WindowsOver.{IsInReach, row_below}
@@ -25,9 +25,9 @@ use Rattle.cell_calc_binding.proofs.Steps.{proper_steps, below_greatest, top-pos
 abbrev over_maps : List Grid → Spot → Step ℕ → List CellValue → CellValue
 over_maps maps s (step.Number n) xs = Some (pos n)
 over_maps maps s (step.Map i down right) xs = cell_in (slice_get maps i) (pos s.row +ℤ down) (pos s.col +ℤ right)
-over_maps maps s step.Negated xs = negated (slice_index_or xs 0 None)
-over_maps maps s step.Not xs = inverted (slice_index_or xs 0 None)
-over_maps maps s (step.Binary op) xs = applied op (slice_index_or xs 0 None) (slice_index_or xs 1 None)
+over_maps maps s step.Negated xs = negated_cell (slice_index_or xs 0 None)
+over_maps maps s step.Not xs = inverted_cell (slice_index_or xs 0 None)
+over_maps maps s (step.Binary op) xs = operator_value op (slice_index_or xs 0 None) (slice_index_or xs 1 None)
 over_maps maps s (step.Call f n) xs = call_result f s xs
 
 values-listed : (maps : List Grid) (s : Spot) (xs : Formulas) → map (λ a. value a maps s) (listed xs) ≡ argument_values xs maps s
@@ -116,7 +116,7 @@ over_window row c down right (Some w) (Some m) over h =
 
 same_step : (windows : List Window) (maps : List Grid) (s : Spot) (t : Step ℕ)
     → ((i : ℕ) (down right : ℤ) → t ≡ step.Map i down right → IsOver (slice_get windows i) (slice_get maps i) × HasReach s.row (up_by down) (down_by down) (slice_get windows i))
-    → (xs : List CellValue) → seen windows s t xs ≡ over_maps maps s t xs
+    → (xs : List CellValue) → seen_cell windows s t xs ≡ over_maps maps s t xs
 same_step windows maps s (step.Number n) reach xs = refl
 same_step windows maps s (step.Map i down right) reach xs =
     let there = reach i down right refl in
@@ -138,9 +138,9 @@ after_same {X} g h (s ∷ steps) all xs =
 -- the value of an expression from windows that are of the maps
 pub value_seen : (f : Formula) (windows : List Window) (maps : List Grid) (s : Spot)
     → ((i : ℕ) → i < top_of f → HasReach s.row (up_of i f) (down_of i f) (slice_get windows i))
-    → ((i : ℕ) → i < top_of f → IsOver (slice_get windows i) (slice_get maps i)) → values_after (seen windows s) (postfix f) [] ≡ value f maps s ∷ []
+    → ((i : ℕ) → i < top_of f → IsOver (slice_get windows i) (slice_get maps i)) → values_after (seen_cell windows s) (postfix f) [] ≡ value f maps s ∷ []
 value_seen f windows maps s h over =
-    after_same (seen windows s) (over_maps maps s) (postfix f)
+    after_same (seen_cell windows s) (over_maps maps s) (postfix f)
     (λ k d lt xs. same_step windows maps s (get_or (postfix f) k d)
     (λ i down right is. let there = has_reach f s.row windows h k d lt i down right is in (over i there.0, there.1)) xs) []
     ∙ value_after maps s f

@@ -3,14 +3,14 @@
 ghost use Rattle.std.specs.Prelude.{◌≡◌, ◌≤◌, [], ◌∷◌, length, map, All, IfOk, OnOk};
 ghost use Rattle.cell_calc_operators.specs.Applied.{call_result};
 ghost use Rattle.cell_calc.specs.parts.Operands.{IsStrip, IsReadyStep, IsOperandReady, AtColumns};
-ghost use Rattle.cell_calc.specs.parts.Operands.{top_operands, lower_operands, operand_at, cells_at, seen, spot_at};
+ghost use Rattle.cell_calc.specs.parts.Operands.{top_operands, lower_operands, operand_at, cells_at, seen_cell, spot_at};
 ghost use Rattle.cell_calc_steps.specs.Postfix.{arity, values_after, AreEnough};
 ghost use Rattle.cell_calc_rows.specs.RowValues.{at, column};
 
-use crate::operand::{chosen, joined, popped, row_of, taken};
+use crate::operand::{binary_value, choice_value, pop_operand, row_of, spare_row};
 use crate::strip::{Operand, Spare, Strip};
 use crate::window::RowWindow;
-use cell_calc_rows::calls::call;
+use cell_calc_rows::calls::call_values;
 use cell_calc_rows::rows;
 use cell_calc_steps::step::Step;
 use cell_calc_tokens::function::Function;
@@ -32,20 +32,20 @@ pub(crate) fn along(
     requires enough { AreEnough steps.now 0 }
     ensures width { IfOk result (λ row. length row.items ≡ strip.now.width) }
     ensures each { IfOk result (λ row. AtColumns strip.now (λ c. at row.items c ∷ []
-        ≡ values_after (seen windows.now (spot_at strip.now c)) steps.now [])) }
+        ≡ values_after (seen_cell windows.now (spot_at strip.now c)) steps.now [])) }
 {
     operands.clear();
     for step in steps {
-        let operand = made(alloc, *step, operands, strip, windows, spare)?;
+        let operand = step_value(alloc, *step, operands, strip, windows, spare)?;
         operands.push(operand)?;
     }
-    let last = popped(operands);
+    let last = pop_operand(operands);
     let row = row_of(alloc, last, strip, windows, &mut spare.free)?;
     Ok(row)
 }
 
 // What a step makes of the last operands.
-fn made(
+fn step_value(
     alloc: Global,
     step: Step<usize>,
     operands: &mut Vec<Operand>,
@@ -57,10 +57,11 @@ fn made(
     requires step { IsReadyStep windows.now step }
     requires enough { arity step ≤ length operands.old.items }
     requires ready { All (IsOperandReady windows.now strip.now) operands.old.items }
-    ensures rest { OnOk result (operands.new.items ≡ lower_operands (arity step) operands.old.items) }
+    ensures rest { OnOk result
+        (operands.new.items ≡ lower_operands (arity step) operands.old.items) }
     ensures ready { IfOk result (λ o. IsOperandReady windows.now strip.now o) }
     ensures each { IfOk result (λ o. AtColumns strip.now (λ c. operand_at windows.now strip.now c o
-        ≡ seen windows.now (spot_at strip.now c) step
+        ≡ seen_cell windows.now (spot_at strip.now c) step
         (cells_at windows.now strip.now c (top_operands (arity step) operands.old.items)))) }
 {
     match step {
@@ -71,19 +72,31 @@ fn made(
             right,
         }),
         Step::Negated => {
-            let mut row = row_of(alloc, popped(operands), strip, windows, &mut spare.free)?;
+            let mut row = row_of(
+                alloc,
+                pop_operand(operands),
+                strip,
+                windows,
+                &mut spare.free,
+            )?;
             rows::negate(row.as_mut_slice());
             Ok(Operand::Row(row))
         }
         Step::Not => {
-            let mut row = row_of(alloc, popped(operands), strip, windows, &mut spare.free)?;
+            let mut row = row_of(
+                alloc,
+                pop_operand(operands),
+                strip,
+                windows,
+                &mut spare.free,
+            )?;
             rows::invert(row.as_mut_slice());
             Ok(Operand::Row(row))
         }
         Step::Binary(operator) => {
-            let right = popped(operands);
-            let left = popped(operands);
-            let row = joined(
+            let right = pop_operand(operands);
+            let left = pop_operand(operands);
+            let row = binary_value(
                 alloc,
                 operator,
                 left,
@@ -95,14 +108,14 @@ fn made(
             Ok(Operand::Row(row))
         }
         Step::Call(function, count) => {
-            let row = called(alloc, function, count, operands, strip, windows, spare)?;
+            let row = call_value(alloc, function, count, operands, strip, windows, spare)?;
             Ok(Operand::Row(row))
         }
     }
 }
 
 // The values of a function of the last operands, so many. The argument of a function that takes one is changed where it is.
-fn called(
+fn call_value(
     alloc: Global,
     function: Function,
     count: usize,
@@ -122,25 +135,43 @@ fn called(
 {
     match (function, count) {
         (Function::If, 1) => {
-            let mut row = row_of(alloc, popped(operands), strip, windows, &mut spare.free)?;
-            rows::truth(row.as_mut_slice());
+            let mut row = row_of(
+                alloc,
+                pop_operand(operands),
+                strip,
+                windows,
+                &mut spare.free,
+            )?;
+            rows::one_or_zero(row.as_mut_slice());
             Ok(row)
         }
         (Function::IsNull, 1) => {
-            let mut row = row_of(alloc, popped(operands), strip, windows, &mut spare.free)?;
+            let mut row = row_of(
+                alloc,
+                pop_operand(operands),
+                strip,
+                windows,
+                &mut spare.free,
+            )?;
             rows::nullness(row.as_mut_slice());
             Ok(row)
         }
         (Function::Abs, 1) => {
-            let mut row = row_of(alloc, popped(operands), strip, windows, &mut spare.free)?;
+            let mut row = row_of(
+                alloc,
+                pop_operand(operands),
+                strip,
+                windows,
+                &mut spare.free,
+            )?;
             rows::size(row.as_mut_slice());
             Ok(row)
         }
         (Function::If, 3) => {
-            let no = popped(operands);
-            let yes = popped(operands);
-            let condition = popped(operands);
-            chosen(alloc, condition, yes, no, strip, windows, &mut spare.free)
+            let no = pop_operand(operands);
+            let yes = pop_operand(operands);
+            let condition = pop_operand(operands);
+            choice_value(alloc, condition, yes, no, strip, windows, &mut spare.free)
         }
         _ => by_rows(alloc, function, count, operands, strip, windows, spare),
     }
@@ -165,12 +196,12 @@ fn by_rows(
         ≡ call_result function (spot_at strip.now c)
         (cells_at windows.now strip.now c (top_operands count operands.old.items)))) }
 {
-    gather(alloc, count, operands, strip, windows, spare)?;
+    gather_arguments(alloc, count, operands, strip, windows, spare)?;
     let (number, from, width) = (strip.row, strip.from, strip.width);
-    let mut row = taken(alloc, width, &mut spare.free)?;
+    let mut row = spare_row(alloc, width, &mut spare.free)?;
     let arguments = spare.arguments.as_slice();
     let cells = row.as_mut_slice();
-    call(
+    call_values(
         alloc,
         function,
         strip.region,
@@ -184,7 +215,7 @@ fn by_rows(
 }
 
 // Moves the last operands, so many, to the arguments of a call, as rows.
-fn gather(
+fn gather_arguments(
     alloc: Global,
     count: usize,
     operands: &mut Vec<Operand>,
@@ -204,7 +235,13 @@ fn gather(
 {
     spare.arguments.clear();
     'operands: for _ in 0..count {
-        let row = row_of(alloc, popped(operands), strip, windows, &mut spare.free)?;
+        let row = row_of(
+            alloc,
+            pop_operand(operands),
+            strip,
+            windows,
+            &mut spare.free,
+        )?;
         spare.arguments.push(row)?;
     }
     // the last one came first

@@ -1,8 +1,8 @@
 //! Operands of the steps of an expression, along strips.
 
 ghost use Rattle.std.specs.Prelude.{◌≡◌, ◌<◌, ◌++◌, [], ◌∷◌, ℕ, length, slice_get, IfOk, OnOk};
-ghost use Rattle.cell_calc_operators.specs.Applied.{applied};
-ghost use Rattle.cell_calc_operators.specs.CellOperators.{chosen};
+ghost use Rattle.cell_calc_operators.specs.Applied.{operator_value};
+ghost use Rattle.cell_calc_operators.specs.CellOperators.{chosen_cell};
 ghost use Rattle.cell_calc.specs.parts.Operands.{IsStrip, IsOperandReady, AtColumns, operand_at};
 ghost use Rattle.cell_calc.specs.parts.WindowsOver.{IsInReach, row_below};
 ghost use Rattle.cell_calc_rows.specs.RowValues.{at};
@@ -17,7 +17,7 @@ use cell_core::memory::Memory;
 use std::alloc::Global;
 
 /// The last operand.
-pub(crate) fn popped(operands: &mut Vec<Operand>) -> Operand
+pub(crate) fn pop_operand(operands: &mut Vec<Operand>) -> Operand
     requires { 0 < length operands.old.items }
     ensures { operands.old.items ≡ operands.new.items ++ result ∷ [] }
 {
@@ -25,7 +25,7 @@ pub(crate) fn popped(operands: &mut Vec<Operand>) -> Operand
 }
 
 /// A row of so many cells, whatever they are: one that is free, or a new one.
-pub(crate) fn taken(
+pub(crate) fn spare_row(
     alloc: Global,
     width: usize,
     free: &mut Vec<Vec<Cell>>,
@@ -67,12 +67,12 @@ pub(crate) fn row_of(
     match operand {
         Operand::Row(row) => Ok(row),
         Operand::Number(n) => {
-            let mut row = taken(alloc, width, free)?;
+            let mut row = spare_row(alloc, width, free)?;
             rows::fill(row.as_mut_slice(), cell_operators::number(n));
             Ok(row)
         }
         Operand::Map { place, down, right } => {
-            let mut row = taken(alloc, width, free)?;
+            let mut row = spare_row(alloc, width, free)?;
             let source = window_row(windows, place, down);
             rows::shift(source, from, right, row.as_mut_slice());
             Ok(row)
@@ -81,7 +81,7 @@ pub(crate) fn row_of(
 }
 
 /// The values of an operator, in a row that may be written over.
-pub(crate) fn joined(
+pub(crate) fn binary_value(
     alloc: Global,
     operator: Operator,
     left: Operand,
@@ -95,17 +95,17 @@ pub(crate) fn joined(
     requires right { IsOperandReady windows.now strip.now right }
     ensures width { IfOk result (λ row. length row.items ≡ strip.now.width) }
     ensures each { IfOk result (λ row. AtColumns strip.now (λ c. at row.items c
-        ≡ applied operator (operand_at windows.now strip.now c left)
+        ≡ operator_value operator (operand_at windows.now strip.now c left)
         (operand_at windows.now strip.now c right))) }
 {
     let mut row = row_of(alloc, left, strip, windows, free)?;
-    apply(operator, right, strip, windows, row.as_mut_slice(), free)?;
+    apply_to_operands(operator, right, strip, windows, row.as_mut_slice(), free)?;
     Ok(row)
 }
 
 // Applies an operator to the cells of a row, which are its left operands. The right ones need no row of their own where they
 // are a number, or lie in the row of a map; else their row is free afterwards.
-fn apply(
+fn apply_to_operands(
     operator: Operator,
     right: Operand,
     strip: &Strip,
@@ -118,7 +118,7 @@ fn apply(
     requires width { length row.old ≡ strip.now.width }
     ensures width { length row.new ≡ strip.now.width }
     ensures each { OnOk result (AtColumns strip.now (λ c. at row.new c
-        ≡ applied operator (at row.old c) (operand_at windows.now strip.now c right))) }
+        ≡ operator_value operator (at row.old c) (operand_at windows.now strip.now c right))) }
 {
     let from = strip.from;
     match right {
@@ -132,7 +132,7 @@ fn apply(
             Ok(())
         }
         Operand::Row(others) => {
-            rows::apply(operator, row, others.as_slice());
+            rows::apply_operator(operator, row, others.as_slice());
             free.push(others)?;
             Ok(())
         }
@@ -141,7 +141,7 @@ fn apply(
 
 /// The values of `if` of three arguments. The first choice needs no row of its own where it is a number, or lies in the row of
 /// a map.
-pub(crate) fn chosen(
+pub(crate) fn choice_value(
     alloc: Global,
     condition: Operand,
     yes: Operand,
@@ -156,19 +156,19 @@ pub(crate) fn chosen(
     requires no { IsOperandReady windows.now strip.now no }
     ensures width { IfOk result (λ row. length row.items ≡ strip.now.width) }
     ensures each { IfOk result (λ row. AtColumns strip.now (λ c. at row.items c
-        ≡ chosen (operand_at windows.now strip.now c condition)
+        ≡ chosen_cell (operand_at windows.now strip.now c condition)
         (operand_at windows.now strip.now c yes) (operand_at windows.now strip.now c no))) }
 {
     let mut row = row_of(alloc, no, strip, windows, free)?;
     let conditions = row_of(alloc, condition, strip, windows, free)?;
     let others = conditions.as_slice();
-    choose(alloc, yes, strip, windows, others, row.as_mut_slice(), free)?;
+    choose_operands(alloc, yes, strip, windows, others, row.as_mut_slice(), free)?;
     free.push(conditions)?;
     Ok(row)
 }
 
 // Puts the cells of an operand into a row where conditions hold.
-fn choose(
+fn choose_operands(
     alloc: Global,
     yes: Operand,
     strip: &Strip,
@@ -183,7 +183,7 @@ fn choose(
     requires conditions { length conditions.now ≡ strip.now.width }
     ensures width { length row.new ≡ strip.now.width }
     ensures each { OnOk result (AtColumns strip.now (λ c. at row.new c
-        ≡ chosen (at conditions.now c) (operand_at windows.now strip.now c yes) (at row.old c))) }
+        ≡ chosen_cell (at conditions.now c) (operand_at windows.now strip.now c yes) (at row.old c))) }
 {
     let (from, width) = (strip.from, strip.width);
     match yes {
@@ -216,7 +216,7 @@ fn choose_row(
     requires conditions { length conditions.now ≡ length row.old }
     ensures width { length row.new ≡ length row.old }
     ensures each { (c : ℕ) → c < length row.old
-        → at row.new c ≡ chosen (at conditions.now c) (at others.items c) (at row.old c) }
+        → at row.new c ≡ chosen_cell (at conditions.now c) (at others.items c) (at row.old c) }
 {
     rows::choose(row, conditions, others.as_slice());
     free.push(others)?;

@@ -8,7 +8,7 @@ ghost use Rattle.cell_calc_steps.specs.Postfix.{values_after, AreEnough};
 ghost use Rattle.cell_calc_binding.specs.Reach.{top_of, up_of, down_of};
 ghost use Rattle.cell_calc_binding.specs.Value.{value};
 ghost use Rattle.cell_calc.specs.Window.{IsOver, HasReach};
-ghost use Rattle.cell_calc.specs.parts.Operands.{IsReadyStep, seen};
+ghost use Rattle.cell_calc.specs.parts.Operands.{IsReadyStep, seen_cell};
 
 use crate::along::along;
 use crate::strip::{Spare, Strip};
@@ -36,7 +36,7 @@ fn along_row(
     requires enough { AreEnough steps.now 0 }
     ensures width { IfOk result (λ cells. length cells.items ≡ region.cols) }
     ensures each { IfOk result (λ cells. (c : ℕ) → c < region.cols
-        → at cells.items c ∷ [] ≡ values_after (seen windows.now (spot region row c)) steps.now []) }
+        → at cells.items c ∷ [] ≡ values_after (seen_cell windows.now (spot region row c)) steps.now []) }
 {
     let cols = region.cols() as usize;
     let mut cells = Vec::with_capacity(alloc, cols)?;

@@ -6,7 +6,7 @@ ghost use Rattle.cell_calc_operators.specs.Offsets.{row_of, cell_at_offset, item
 ghost use Rattle.cell_calc.specs.Window.{IsWindowOf, Reaches};
 ghost use Rattle.cell_calc.specs.parts.WindowsOver.{row_below};
 
-use crate::window_rows::Held;
+use crate::window_rows::WindowRows;
 use cell_core::cell::Cell;
 use cell_core::map::CellMap;
 use cell_core::memory::Memory;
@@ -20,7 +20,7 @@ pub struct RowWindow {
     below: u32,
     centre: u32,
     rows: u32,
-    held: Held,
+    held: WindowRows,
 }
 
 impl Model for RowWindow {
@@ -57,7 +57,7 @@ impl RowWindow {
     {
         let region = map.region();
         let capacity = above as usize + below as usize + 1;
-        let mut held = Held::new(alloc, capacity, region.cols())?;
+        let mut held = WindowRows::new(alloc, capacity, region.cols())?;
         for r in 0..below + 1 {
             held.take_in(map, r as u64);
         }
@@ -118,7 +118,7 @@ impl RowWindow {
             → result.now ≡ row_of m (pos self.now.centre +ℤ down) }
     {
         let first = self.centre.saturating_sub(self.above);
-        match place_of(self.centre, first, down) {
+        match row_place(self.centre, first, down) {
             Some(i) => self.held.row(i),
             None => &[],
         }
@@ -126,7 +126,7 @@ impl RowWindow {
 }
 
 // The place of the row so many below a centre, from a first row on.
-fn place_of(centre: u32, first: u32, down: i32) -> Option<usize>
+fn row_place(centre: u32, first: u32, down: i32) -> Option<usize>
     ensures some { IfSome result (λ i. pos (first + i) ≡ pos centre +ℤ down) }
     ensures none { IfNone result ((pos centre +ℤ down) <ℤ pos first) }
 {

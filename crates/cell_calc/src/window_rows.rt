@@ -13,17 +13,17 @@ use std::marker::Model;
 
 /// Rows of one width in a ring, and as many more that wait in a second one.
 #[derive(Drop)]
-pub(crate) struct Held {
+pub(crate) struct WindowRows {
     cols: u32,
     rows: HeapCircularBuffer<Vec<Cell>>,
     waiting: HeapCircularBuffer<Vec<Cell>>,
 }
 
-impl Model for Held {
+impl Model for WindowRows {
     ghost use Rattle.std.specs.Prelude.{map, length, All, ◌≡◌, ◌≤◌, ◌<◌, ◌+◌};
-    ghost use Rattle.cell_calc.specs.parts.WindowRows.{Kept, kept_code};
+    ghost use Rattle.cell_calc.specs.parts.WindowRows.{WindowKeeps, kept_code};
 
-    ghost Value = { Kept };
+    ghost Value = { WindowKeeps };
 
     ghost coded = { kept_code };
 
@@ -37,20 +37,20 @@ impl Model for Held {
     } };
 }
 
-impl Held {
+impl WindowRows {
     /// So many rows, all waiting.
-    pub(crate) fn new(alloc: Global, count: usize, cols: u32) -> Result<Held, Memory>
+    pub(crate) fn new(alloc: Global, count: usize, cols: u32) -> Result<WindowRows, Memory>
         ensures { IfOk result (λ h. h ≡ record { cols = cols; rows = []; free = count }) }
     {
         let rows = HeapCircularBuffer::with_capacity(alloc, count)?;
         let mut waiting = HeapCircularBuffer::with_capacity(alloc, count)?;
         for _ in 0..count {
-            put(
+            put_row_last(
                 &mut waiting,
                 Vec::from_elem(alloc, Cell::null(), cols as usize)?,
             );
         }
-        Ok(Held {
+        Ok(WindowRows {
             cols,
             rows,
             waiting,
@@ -76,7 +76,7 @@ impl Held {
     {
         if above <= centre {
             if let Some(row) = self.rows.pop_front() {
-                put(&mut self.waiting, row);
+                put_row_last(&mut self.waiting, row);
             }
         }
     }
@@ -91,14 +91,14 @@ impl Held {
     {
         if row < map.region().rows() as u64 {
             if let Some(cells) = self.waiting.pop_front() {
-                put(&mut self.rows, copied(map, row as u32, cells));
+                put_row_last(&mut self.rows, row_copy(map, row as u32, cells));
             }
         }
     }
 }
 
 // Puts a row last in a ring that has room.
-fn put(ring: &mut HeapCircularBuffer<Vec<Cell>>, row: Vec<Cell>)
+fn put_row_last(ring: &mut HeapCircularBuffer<Vec<Cell>>, row: Vec<Cell>)
     requires { length ring.old.items < ring.old.capacity }
     ensures { ring.new ≡ buffer (ring.old.items ++ row ∷ []) ring.old.capacity }
 {
@@ -106,7 +106,7 @@ fn put(ring: &mut HeapCircularBuffer<Vec<Cell>>, row: Vec<Cell>)
 }
 
 // A row of a map, written over another row.
-fn copied(map: &CellMap, row: u32, mut cells: Vec<Cell>) -> Vec<Cell>
+fn row_copy(map: &CellMap, row: u32, mut cells: Vec<Cell>) -> Vec<Cell>
     requires row_in_range { row < map.now.region.rows }
     requires width { length cells.items ≡ map.now.region.cols }
     ensures { result.items ≡ row_at map.now row }

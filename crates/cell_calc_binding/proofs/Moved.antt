@@ -9,7 +9,7 @@ use Rattle.cell_calc_steps.specs.declared.step.Step.{Step}
 use Rattle.cell_calc_steps.specs.declared.step.Step.TheVariants as step
 use Rattle.cell_calc_binding.specs.Compact.{ArePicked}
 use Rattle.cell_calc_binding.specs.Formula.{Formula, Number, Map, Negated, Not, Binary, Call, Formulas, NoTrees, Then, count}
-use Rattle.cell_calc_operators.specs.Applied.{Spot, applied, call_result, negated, inverted}
+use Rattle.cell_calc_operators.specs.Applied.{Spot, operator_value, call_result, negated_cell, inverted_cell}
 use Rattle.cell_calc_operators.specs.Offsets.{cell_in}
 use Rattle.cell_calc_binding.specs.Value.{value, argument_values}
 use Rattle.cell_calc_steps.specs.Postfix.{postfix, postfix_all, step_over}
@@ -33,15 +33,15 @@ mutual
       ap (λ m. cell_in m (pos s.row +ℤ down) (pos s.col +ℤ right))
       (are (index_in places i) i (index_there places i (All-head (IsListed places) (step.Map i down right) [] all)))
   value-moved places maps picked are s (Negated a) all =
-      ap (λ v. negated v) (value-moved places maps picked are s a (front (IsListed places) (postfix a) (step.Negated ∷ []) all))
+      ap (λ v. negated_cell v) (value-moved places maps picked are s a (front (IsListed places) (postfix a) (step.Negated ∷ []) all))
   value-moved places maps picked are s (Not a) all =
-      ap (λ v. inverted v) (value-moved places maps picked are s a (front (IsListed places) (postfix a) (step.Not ∷ []) all))
+      ap (λ v. inverted_cell v) (value-moved places maps picked are s a (front (IsListed places) (postfix a) (step.Not ∷ []) all))
   value-moved places maps picked are s (Binary op a b) all =
       let first = value-moved places maps picked are s a (front (IsListed places) (postfix a) (postfix b ++ step.Binary op ∷ []) all) in
       let second =
       value-moved places maps picked are s b
       (front (IsListed places) (postfix b) (step.Binary op ∷ []) (back (IsListed places) (postfix a) (postfix b ++ step.Binary op ∷ []) all)) in
-      ap (λ v. applied op v (value (with_leaves (index_in places) b) picked s)) first ∙ ap (λ v. applied op (value a maps s) v) second
+      ap (λ v. operator_value op v (value (with_leaves (index_in places) b) picked s)) first ∙ ap (λ v. operator_value op (value a maps s) v) second
   value-moved places maps picked are s (Call f xs) all =
       ap (λ vs. call_result f s vs) (values-moved places maps picked are s xs (front (IsListed places) (postfix_all xs) (step.Call f (count xs) ∷ []) all))
 

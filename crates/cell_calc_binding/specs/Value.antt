@@ -1,7 +1,7 @@
 -- The value of an expression at a cell (r.mapcalc manual; cells outside the region are the profile's).
 use Rattle.std.specs.Prelude.{pos, ◌+ℤ◌, List, [], ◌∷◌, Some, slice_get}
 use Rattle.cell_core.specs.Grid.{Grid, CellValue}
-use Rattle.cell_calc_operators.specs.Applied.{Spot, negated, inverted, applied, call_result}
+use Rattle.cell_calc_operators.specs.Applied.{Spot, negated_cell, inverted_cell, operator_value, call_result}
 use Rattle.cell_calc_operators.specs.Offsets.{cell_in}
 use Rattle.cell_calc_binding.specs.Formula.{Formula, Number, Map, Negated, Not, Binary, Call, Formulas, NoTrees, Then}
 
@@ -10,9 +10,9 @@ abbrev mutual
   pub value : Formula → List Grid → Spot → CellValue
   value (Number n) maps s = Some (pos n)
   value (Map i down right) maps s = cell_in (slice_get maps i) (pos s.row +ℤ down) (pos s.col +ℤ right)
-  value (Negated a) maps s = negated (value a maps s)
-  value (Not a) maps s = inverted (value a maps s)
-  value (Binary op a b) maps s = applied op (value a maps s) (value b maps s)
+  value (Negated a) maps s = negated_cell (value a maps s)
+  value (Not a) maps s = inverted_cell (value a maps s)
+  value (Binary op a b) maps s = operator_value op (value a maps s) (value b maps s)
   value (Call f xs) maps s = call_result f s (argument_values xs maps s)
 
   -- those of arguments, in order

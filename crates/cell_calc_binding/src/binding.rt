@@ -24,7 +24,7 @@ fn place_in(map: &MapName, names: &Names) -> usize
 }
 
 // The same step with its name replaced by its place.
-fn placed(step: &Step<MapName>, names: &Names) -> Step<usize>
+fn step_over_place(step: &Step<MapName>, names: &Names) -> Step<usize>
     ensures { result ≡ step_over (place_in names.now) step.now }
 {
     match step {
@@ -41,7 +41,7 @@ fn placed(step: &Step<MapName>, names: &Names) -> Step<usize>
     }
 }
 
-fn all_placed(
+fn steps_over_places(
     alloc: Global,
     steps: &[Step<MapName>],
     names: &Names,
@@ -50,7 +50,7 @@ fn all_placed(
 {
     let mut found = Vec::with_capacity(alloc, steps.len())?;
     for step in steps {
-        found.push(placed(step, names))?;
+        found.push(step_over_place(step, names))?;
     }
     Ok(found)
 }
@@ -64,7 +64,8 @@ fn all_placed(
 pub fn resolve(alloc: Global, expr: &Expr, names: &Names) -> Result<Bound, CalcFault>
     ensures ok { IfOk result (λ bound. bound ≡ with_places names.now expr.now) }
     ensures known { OnOk result (first_unknown names.now expr.now ≡ None) }
-    ensures unknown { IfSome (first_unknown names.now expr.now) (λ column. IsErrOf result (record { kind = CalcKind.UnknownMap; column = column })) }
+    ensures unknown { IfSome (first_unknown names.now expr.now)
+        (λ column. IsErrOf result (record { kind = CalcKind.UnknownMap; column = column })) }
     ensures err { IfErr result (λ fault. IsBindingFault names.now expr.now fault) }
 {
     if let Some(column) = expr.first_unknown(names) {
@@ -74,7 +75,7 @@ pub fn resolve(alloc: Global, expr: &Expr, names: &Names) -> Result<Bound, CalcF
         });
     }
     let _count = names.len();
-    match all_placed(alloc, expr.steps(), names) {
+    match steps_over_places(alloc, expr.steps(), names) {
         Ok(steps) => Ok(Bound { steps }),
         Err(_) => Err(CalcFault {
             kind: CalcKind::Memory,

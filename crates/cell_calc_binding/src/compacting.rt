@@ -16,7 +16,7 @@ use cell_core::memory::Memory;
 use std::alloc::Global;
 
 // Where a place stands in a list: past its end, if it does not.
-fn found(places: &[usize], place: usize) -> usize
+fn listed_place(places: &[usize], place: usize) -> usize
     ensures { result ≡ index_in places.now place }
 {
     for (k, known) in places.iter().enumerate() {
@@ -28,14 +28,17 @@ fn found(places: &[usize], place: usize) -> usize
 }
 
 // Where a place stands in a list: last, if it was not there.
-fn listed(places: &mut Vec<usize>, place: usize) -> Result<usize, Memory>
+fn place_or_new(places: &mut Vec<usize>, place: usize) -> Result<usize, Memory>
     ensures there { IfOk result (λ k. k ≡ index_in places.new.items place) }
-    ensures count { IfOk result (λ k. length places.new.items ≡ max (length places.old.items) (k + 1)) }
-    ensures kept { (i : ℕ) → index_in places.old.items i < length places.old.items → index_in places.new.items i ≡ index_in places.old.items i }
+    ensures count { IfOk result (λ k. length places.new.items
+        ≡ max (length places.old.items) (k + 1)) }
+    ensures kept { (i : ℕ) → index_in places.old.items i < length places.old.items
+        → index_in places.new.items i ≡ index_in places.old.items i }
     ensures distinct { AreDistinctPlaces places.old.items → AreDistinctPlaces places.new.items }
-    ensures read { (f : Formula) → ReadsMap place f → AreMapsRead places.old.items f → AreMapsRead places.new.items f }
+    ensures read { (f : Formula) → ReadsMap place f → AreMapsRead places.old.items f
+        → AreMapsRead places.new.items f }
 {
-    let k = found(places.as_slice(), place);
+    let k = listed_place(places.as_slice(), place);
     if k < places.len() {
         return Ok(k);
     }
@@ -44,17 +47,20 @@ fn listed(places: &mut Vec<usize>, place: usize) -> Result<usize, Memory>
 }
 
 // A step over the places in a list, to which the one that it reads is added.
-fn moved(step: Step<usize>, places: &mut Vec<usize>) -> Result<Step<usize>, Memory>
+fn step_over_new_place(step: Step<usize>, places: &mut Vec<usize>) -> Result<Step<usize>, Memory>
     ensures step { IfOk result (λ s. s ≡ step_over (index_in places.new.items) step) }
     ensures listed { IfOk result (λ _. IsListed places.new.items step) }
-    ensures count { IfOk result (λ s. length places.new.items ≡ max (length places.old.items) (at_step top_at 0 s)) }
-    ensures kept { (i : ℕ) → index_in places.old.items i < length places.old.items → index_in places.new.items i ≡ index_in places.old.items i }
+    ensures count { IfOk result (λ s. length places.new.items
+        ≡ max (length places.old.items) (at_step top_at 0 s)) }
+    ensures kept { (i : ℕ) → index_in places.old.items i < length places.old.items
+        → index_in places.new.items i ≡ index_in places.old.items i }
     ensures distinct { AreDistinctPlaces places.old.items → AreDistinctPlaces places.new.items }
-    ensures read { (f : Formula) → ((i : ℕ) → ReadsPlace i step → ReadsMap i f) → AreMapsRead places.old.items f → AreMapsRead places.new.items f }
+    ensures read { (f : Formula) → ((i : ℕ) → ReadsPlace i step → ReadsMap i f)
+        → AreMapsRead places.old.items f → AreMapsRead places.new.items f }
 {
     match step {
         Step::Map { leaf, down, right } => Ok(Step::Map {
-            leaf: listed(places, leaf)?,
+            leaf: place_or_new(places, leaf)?,
             down,
             right,
         }),
@@ -63,17 +69,21 @@ fn moved(step: Step<usize>, places: &mut Vec<usize>) -> Result<Step<usize>, Memo
 }
 
 // Steps over a list of just the places that they read, and that list.
-fn compacted(alloc: Global, steps: &[Step<usize>]) -> Result<(Vec<Step<usize>>, Vec<usize>), Memory>
+fn steps_over_read_maps(
+    alloc: Global,
+    steps: &[Step<usize>],
+) -> Result<(Vec<Step<usize>>, Vec<usize>), Memory>
     ensures steps { IfOk result (λ r. r.0.items ≡ map (step_over (index_in r.1.items)) steps.now) }
     ensures listed { IfOk result (λ r. All (IsListed r.1.items) steps.now) }
     ensures count { IfOk result (λ r. length r.1.items ≡ fold_steps top_at 0 max r.0.items) }
     ensures distinct { IfOk result (λ r. AreDistinctPlaces r.1.items) }
-    ensures read { IfOk result (λ r. (f : Formula) → All (λ s. (i : ℕ) → ReadsPlace i s → ReadsMap i f) steps.now → AreMapsRead r.1.items f) }
+    ensures read { IfOk result (λ r. (f : Formula)
+        → All (λ s. (i : ℕ) → ReadsPlace i s → ReadsMap i f) steps.now → AreMapsRead r.1.items f) }
 {
     let mut places = Vec::new(alloc);
     let mut others = Vec::with_capacity(alloc, steps.len())?;
     for step in steps {
-        let other = moved(*step, &mut places)?;
+        let other = step_over_new_place(*step, &mut places)?;
         others.push(other)?;
     }
     Ok((others, places))
@@ -85,14 +95,16 @@ impl Bound {
     /// # Errors
     ///
     /// [`Memory`] where memory was refused.
-    pub fn compacted(&self, alloc: Global) -> Result<(Bound, Vec<usize>), Memory>
-        ensures value { IfOk result (λ r. (maps picked : List Grid) → ArePicked r.1.items maps picked → (s : Spot) → value r.0 picked s ≡ value self.now maps s) }
+    pub fn over_read_maps(&self, alloc: Global) -> Result<(Bound, Vec<usize>), Memory>
+        ensures value { IfOk result (λ r. (maps picked : List Grid)
+            → ArePicked r.1.items maps picked → (s : Spot)
+            → value r.0 picked s ≡ value self.now maps s) }
         ensures top { IfOk result (λ r. top_of r.0 ≡ length r.1.items) }
         ensures read { IfOk result (λ r. AreMapsRead r.1.items self.now) }
         ensures distinct { IfOk result (λ r. AreDistinctPlaces r.1.items) }
         ensures within { IfOk result (λ r. All (λ i. i < top_of self.now) r.1.items) }
     {
-        let (steps, places) = compacted(alloc, self.steps.as_slice())?;
+        let (steps, places) = steps_over_read_maps(alloc, self.steps.as_slice())?;
         Ok((Bound { steps }, places))
     }
 }

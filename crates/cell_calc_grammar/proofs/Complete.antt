@@ -16,7 +16,7 @@ use Rattle.cell_calc_grammar.specs.Grammar as grammar
 use Rattle.cell_calc_grammar.specs.Grammar.{IsOffset, AreOffsets, Stands, IsExpression, AreCalled, AreArguments, below, joined, choice}
 use Rattle.cell_calc_tokens.specs.Operator.{operator_of, level_of, top}
 use Rattle.cell_calc_grammar.specs.TokensRead as reading
-use Rattle.cell_calc_grammar.specs.TokensRead.{PartOfExpression, read_then, offset, to_bracket, Outcome, Got, GotAll, Stops, State, Operand, Whole, More, Expression, Choice, AfterQuestion, Called, Arguments, Onward, below_level, next, IsNot, IsAlone, BeginsNone, negate, invert, close, join, choose, move, call_judged, call, add, GrammarReads, nothing, whole, stopped, done, more, expression, unread, unchosen, asked, unasked, no_colon, otherwise, arguments, halted, unended}
+use Rattle.cell_calc_grammar.specs.TokensRead.{PartOfExpression, read_then, offset, to_bracket, ReadOutcome, Got, GotAll, Stops, State, Operand, Whole, More, Expression, Choice, AfterQuestion, Called, Arguments, Onward, below_level, next, IsNot, IsAlone, BeginsNone, negate, invert, close, join, choose, move, call_judged, call, add, GrammarReads, nothing, whole, stopped, done, more, expression, unread, unchosen, asked, unasked, no_colon, otherwise, arguments, halted, unended}
 use Rattle.cell_calc_grammar.specs.Term.{Term, Number, Map, Binary, Call, Terms, NoTrees, Then, count, map_name}
 use Rattle.cell_calc_tokens.specs.Token.{name_at, sign_at, head}
 
@@ -28,7 +28,7 @@ no_some : {A B : Type 0} (x : Option A) (a : A) → x ≡ None → x ≡ Some a 
 no_some x a e e' = let h : ⊥ = cc in absurd h
 
 -- reading has one outcome
-pub one_outcome : {s : State} {o p : Outcome} → GrammarReads s o → GrammarReads s p → o ≡ p
+pub one_outcome : {s : State} {o p : ReadOutcome} → GrammarReads s o → GrammarReads s p → o ≡ p
 one_outcome reading.number reading.number = refl
 one_outcome (reading.map n) (reading.map n') = refl
 one_outcome (reading.map n) reading.moved = absurd (n.1 refl)
@@ -101,12 +101,12 @@ stops_not : {A : Type 0} (kind : CalcKind) (ts rest : List Placed) (a : Term) �
 stops_not kind ts rest a e = let h : ⊥ = cc in absurd h
 
 -- at a level above, reading goes on
-widen_more : {k : ℕ} {o o' p : Outcome} {a : Term} {rest : List Placed} → GrammarReads (More k o) o' → o' ≡ Got a rest → GrammarReads (More (suc k) (Got a rest)) p → GrammarReads (More (suc k) o) p
+widen_more : {k : ℕ} {o o' p : ReadOutcome} {a : Term} {rest : List Placed} → GrammarReads (More k o) o' → o' ≡ Got a rest → GrammarReads (More (suc k) (Got a rest)) p → GrammarReads (More (suc k) o) p
 widen_more stopped w m = stops_not _ _ _ _ w
 widen_more {k = k} {p = p} (done e) w m = subst (λ o. GrammarReads (More (suc k) o) p) (sym w) m
 widen_more {k = k} (more {s = s} op e r n) w m = more op (below_up k (operator_of s.token) op e) r (widen_more n w m)
 
-widen : {k : ℕ} {ts : List Placed} {o' p : Outcome} {a : Term} {rest : List Placed} → GrammarReads (Whole k ts) o' → o' ≡ Got a rest → GrammarReads (More (suc k) (Got a rest)) p → GrammarReads (Whole (suc k) ts) p
+widen : {k : ℕ} {ts : List Placed} {o' p : ReadOutcome} {a : Term} {rest : List Placed} → GrammarReads (Whole k ts) o' → o' ≡ Got a rest → GrammarReads (More (suc k) (Got a rest)) p → GrammarReads (Whole (suc k) ts) p
 widen (whole r n) w m = whole r (widen_more n w m)
 
 -- what follows does not go on with an expression of the level, nor with a name
@@ -116,7 +116,7 @@ Follows k rest = (next k rest ≡ None) × IsAlone (head rest)
 -- where the tokens of an expression are read, the machine then goes on from the expression
 abbrev pub IsRead : ℕ → List Placed → Term → Type 0
 IsRead zero ts a = (rest : List Placed) → IsAlone (head rest) → GrammarReads (Operand (ts ++ rest)) (Got a rest)
-IsRead (suc k) ts a = (rest : List Placed) (o : Outcome) → Follows k rest → GrammarReads (More (suc k) (Got a rest)) o → GrammarReads (Whole (suc k) (ts ++ rest)) o
+IsRead (suc k) ts a = (rest : List Placed) (o : ReadOutcome) → Follows k rest → GrammarReads (More (suc k) (Got a rest)) o → GrammarReads (Whole (suc k) (ts ++ rest)) o
 
 -- an expression is read, where what follows does not go on with it
 abbrev IsAllRead : List Placed → Term → Type 0
@@ -277,7 +277,7 @@ mutual
 pub read_all : (ts : List Placed) (a : Term) → IsExpression ts a → GrammarReads (Expression ts) (Got a [])
 read_all ts a s = subst (λ l. GrammarReads (Expression l) (Got a [])) (append-nil ts) (is_all_read s [] end_follows.0 end_follows.1)
 
-abbrev term_of : Outcome → Term
+abbrev term_of : ReadOutcome → Term
 term_of (Got a rest) = a
 term_of (GotAll xs rest) = Number 0
 term_of (Stops kind rest) = Number 0

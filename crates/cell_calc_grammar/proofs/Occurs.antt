@@ -11,14 +11,14 @@ use Rattle.cell_calc_tokens.specs.Operator.{operator_of}
 use Rattle.cell_calc_grammar.specs.Grammar as grammar
 use Rattle.cell_calc_grammar.specs.Grammar.{IsOffset, AreOffsets}
 use Rattle.cell_calc_grammar.specs.TokensRead as reading
-use Rattle.cell_calc_grammar.specs.TokensRead.{PartOfExpression, tail, read_then, distance_at, distance, offset_signed, offset_at, offset, comma_at, bracket_at, to_bracket, Outcome, Got, GotAll, Stops, State, Operand, Whole, More, Expression, Choice, AfterQuestion, Called, Arguments, Onward, next, after_bracket, close, join, choose, move, call_judged, call, add, GrammarReads, nothing, whole, stopped, done, more, expression, unread, unchosen, asked, unasked, no_colon, otherwise, arguments, halted, unended}
+use Rattle.cell_calc_grammar.specs.TokensRead.{PartOfExpression, tail, read_then, distance_at, distance, offset_signed, offset_at, offset, comma_at, bracket_at, to_bracket, ReadOutcome, Got, GotAll, Stops, State, Operand, Whole, More, Expression, Choice, AfterQuestion, Called, Arguments, Onward, next, after_bracket, close, join, choose, move, call_judged, call, add, GrammarReads, nothing, whole, stopped, done, more, expression, unread, unchosen, asked, unasked, no_colon, otherwise, arguments, halted, unended}
 use Rattle.cell_calc_grammar.specs.Term.{Term, count}
 use Rattle.cell_calc_tokens.specs.Token.{token_number_at, name_at, sign_at, head}
 use Rattle.cell_calc_grammar.proofs.Sound.{below_some, front_is, Signed, unsigned, minus, plus, NoOffsets, first, no_comma, second, no_bracket, IsPart, AreBoth, offsets_part, both_parts, sound}
 use Rattle.cell_calc_grammar.proofs.Splits.{Stays, in_first, in_second, stays, not_nothing}
 
 -- what is left of the tokens
-abbrev pub left : Outcome → List Placed
+abbrev pub left : ReadOutcome → List Placed
 left (Got a rest) = rest
 left (GotAll xs rest) = rest
 left (Stops kind rest) = rest
@@ -36,18 +36,18 @@ tokens (Arguments ts) = ts
 tokens (Onward o) = left o
 
 -- the tokens are read as an operand, and where that stops, so does the outcome
-abbrev pub Found : List Placed → Outcome → Type 0
+abbrev pub Found : List Placed → ReadOutcome → Type 0
 Found us o =
-    (q : Outcome) × GrammarReads (Operand us) q
+    (q : ReadOutcome) × GrammarReads (Operand us) q
     × ((kind : CalcKind) (rest : List Placed) → q ≡ Stops kind rest → o ≡ Stops kind rest)
 
 -- so it is with each name before what is left
-abbrev FindsNames : (before rest : List Placed) → Outcome → Type 0
+abbrev FindsNames : (before rest : List Placed) → ReadOutcome → Type 0
 FindsNames before rest o =
     (b mid : List Placed) (name : List ℕ) (c : ℕ) → before ≡ b ++ name_at name c ∷ mid
     → Found (name_at name c ∷ (mid ++ rest)) o
 
-pub record Finds (ts rest : List Placed) (o : Outcome) : Type 0 where
+pub record Finds (ts rest : List Placed) (o : ReadOutcome) : Type 0 where
   pub before : List Placed
   pub all : ts ≡ before ++ rest
   pub finds : (b mid : List Placed) (name : List ℕ) (c : ℕ) → before ≡ b ++ name_at name c ∷ mid → Found (name_at name c ∷ (mid ++ rest)) o
@@ -56,15 +56,15 @@ abbrev IsNoName : Token → Type 0
 IsNoName (token.Name n) = ⊥
 IsNoName _ = Unit {0}
 
-abbrev IsNoStop : Outcome → Type 0
+abbrev IsNoStop : ReadOutcome → Type 0
 IsNoStop (Stops kind rest) = ⊥
 IsNoStop _ = Unit {0}
 
-finds_nothing : {ts : List Placed} {o : Outcome} → Finds ts ts o
+finds_nothing : {ts : List Placed} {o : ReadOutcome} → Finds ts ts o
 finds_nothing =
     record { before = []; all = refl; finds = λ b mid name c e. absurd (not_nothing b (name_at name c) mid e) }
 
-finds_after : (s : Placed) (l rest : List Placed) (o : Outcome) → IsNoName s.token → FindsNames l rest o
+finds_after : (s : Placed) (l rest : List Placed) (o : ReadOutcome) → IsNoName s.token → FindsNames l rest o
     → FindsNames (s ∷ l) rest o
 finds_after s l rest o n f [] mid name c e =
     let same : s ≡ name_at name c = cc in
@@ -73,13 +73,13 @@ finds_after s l rest o n f (x ∷ b) mid name c e =
     let same : l ≡ b ++ name_at name c ∷ mid = cc in
     f b mid name c same
 
-finds_next : (s : Placed) {ts rest : List Placed} {o : Outcome} → IsNoName s.token → Finds ts rest o
+finds_next : (s : Placed) {ts rest : List Placed} {o : ReadOutcome} → IsNoName s.token → Finds ts rest o
     → Finds (s ∷ ts) rest o
 finds_next s {rest = rest} {o = o} n w =
     record { before = s ∷ w.before; all = ap (λ l. s ∷ l) w.all; finds = finds_after s w.before rest o n w.finds }
 
 -- an outcome that is no stop says nothing of the names
-finds_any : {ts rest : List Placed} (o : Outcome) {p : Outcome} → IsNoStop o → Finds ts rest o → Finds ts rest p
+finds_any : {ts rest : List Placed} (o : ReadOutcome) {p : ReadOutcome} → IsNoStop o → Finds ts rest o → Finds ts rest p
 finds_any o n f = record {
   before = f.before;
   all = f.all;
@@ -88,7 +88,7 @@ finds_any o n f = record {
       (g.0, g.1, λ kind us h. absurd (subst IsNoStop (g.2 kind us h) n));
 }
 
-finds_then : {ts us rest : List Placed} {o : Outcome} → Finds ts us o → Finds us rest o → Finds ts rest o
+finds_then : {ts us rest : List Placed} {o : ReadOutcome} → Finds ts us o → Finds us rest o → Finds ts rest o
 finds_then {rest = rest} {o = o} f g = record {
   before = f.before ++ g.before;
   all = both_parts f.before g.before rest f.all g.all;
@@ -103,7 +103,8 @@ finds_then {rest = rest} {o = o} f g = record {
     go b mid name c (in_second m e h) = g.finds m mid name c e
 
 -- the first of the tokens is a name, which the outcome is read of
-finds_self : (s : Placed) {ts rest : List Placed} {o : Outcome} → GrammarReads (Operand (s ∷ ts)) o → Finds ts rest o
+finds_self : (s : Placed) {ts rest : List Placed} {o : ReadOutcome} → GrammarReads (Operand (s ∷ ts)) o
+    → Finds ts rest o
     → Finds (s ∷ ts) rest o
 finds_self s {ts = ts} {rest = rest} {o = o} r w =
     record { before = s ∷ w.before; all = ap (λ l. s ∷ l) w.all; finds = go }
@@ -127,7 +128,7 @@ no_names_append : (ts us : List Placed) → AreNoNames ts → AreNoNames us → 
 no_names_append [] us h g = g
 no_names_append (s ∷ ts) us h g = (h.0, no_names_append ts us h.1 g)
 
-finds_no_names : (front : List Placed) {ts rest : List Placed} {o : Outcome} → ts ≡ front ++ rest → AreNoNames front
+finds_no_names : (front : List Placed) {ts rest : List Placed} {o : ReadOutcome} → ts ≡ front ++ rest → AreNoNames front
     → Finds ts rest o
 finds_no_names front {rest = rest} {o = o} e h = record { before = front; all = e; finds = go front h }
   where
@@ -158,7 +159,7 @@ offsets_names (grammar.offsets {ts = ts} {us = us} c d h g) =
     no_names_append ts (sign_at Comma c ∷ (us ++ sign_at CloseBracket d ∷ [])) (offset_names h)
     (tt, no_names_append us (sign_at CloseBracket d ∷ []) (offset_names g) (tt, tt))
 
-abbrev pub FindsOf : List Placed → Outcome → Type 0
+abbrev pub FindsOf : List Placed → ReadOutcome → Type 0
 FindsOf ts o = Finds ts (left o) o
 
 finds_moved : (name : List ℕ) (c d : ℕ) (ts : List Placed) (p : PartOfExpression (ℤ × ℤ))
@@ -183,7 +184,7 @@ no_name : (t : Token) (op : Operator) → operator_of t ≡ Some op → IsNoName
 no_name (token.Name n) op e = let h : ⊥ = cc in absurd h
 no_name _ op e = tt
 
-pub find : {s : State} {o : Outcome} → GrammarReads s o → FindsOf (tokens s) o
+pub find : {s : State} {o : ReadOutcome} → GrammarReads s o → FindsOf (tokens s) o
 find (reading.number {n = n} {c = c}) = finds_next (token_number_at n c) tt finds_nothing
 find (reading.map {name = name} {c = c} f) = finds_self (name_at name c) (reading.map f) finds_nothing
 find (reading.moved {name = name} {c = c} {d = d} {ts = ts}) =

@@ -12,7 +12,7 @@ use Rattle.cell_calc_tokens.specs.declared.token.Token.TheVariants as token
 use Rattle.cell_calc_tokens.specs.Function.{accepts}
 use Rattle.cell_calc_tokens.specs.Operator.{operator_of, level_of, top}
 use Rattle.cell_calc_grammar.specs.TokensRead as reading
-use Rattle.cell_calc_grammar.specs.TokensRead.{PartOfExpression, tail, read_then, distance_at, distance, offset_signed, offset_at, offset, comma_at, bracket_at, to_bracket, Outcome, Got, GotAll, Stops, State, Operand, Whole, More, Expression, Choice, AfterQuestion, Called, Arguments, Onward, below_level, next, IsNot, IsAlone, BeginsNone, after_bracket, close, join, choose, move, call_judged, call, add, GrammarReads, nothing, whole, stopped, done, more, expression, unread, unchosen, asked, unasked, no_colon, otherwise, arguments, halted, unended}
+use Rattle.cell_calc_grammar.specs.TokensRead.{PartOfExpression, tail, read_then, distance_at, distance, offset_signed, offset_at, offset, comma_at, bracket_at, to_bracket, ReadOutcome, Got, GotAll, Stops, State, Operand, Whole, More, Expression, Choice, AfterQuestion, Called, Arguments, Onward, below_level, next, IsNot, IsAlone, BeginsNone, after_bracket, close, join, choose, move, call_judged, call, add, GrammarReads, nothing, whole, stopped, done, more, expression, unread, unchosen, asked, unasked, no_colon, otherwise, arguments, halted, unended}
 use Rattle.cell_calc_grammar.specs.Shape.{shape_of, shape}
 use Rattle.cell_calc_grammar.specs.Term.{Term, count}
 use Rattle.cell_calc_tokens.specs.Token.{token_number_at, name_at, sign_at, head}
@@ -118,23 +118,23 @@ offsets_refused st {rest = rest} (no_bracket {front = front} {mid = mid} c o i n
     subst (Refuses (head rest)) (sym (comma_makes st c mid o ∙ second_makes st i)) (bracket_refused st (head rest) n)
 
 -- what holds of the place that the tokens are walked to, by the outcome
-abbrev pub Ends : List Frame → Outcome → Option Place → Type 0
+abbrev pub Ends : List Frame → ReadOutcome → Option Place → Type 0
 Ends st (Got a rest) p = GoesAs st (head rest) p
 Ends st (GotAll xs rest) p = p ≡ Some (After st)
 Ends st (Stops kind rest) p = kind ≡ Expected → Refuses (head rest) p
 
 -- the next token after an expression neither joins nor asks
-abbrev pub EndsQuiet : Outcome → Type 0
+abbrev pub EndsQuiet : ReadOutcome → Type 0
 EndsQuiet (Got a rest) = IsQuiet (head rest)
 EndsQuiet _ = Unit {0}
 
 -- it does not join
-abbrev EndsWhole : Outcome → Type 0
+abbrev EndsWhole : ReadOutcome → Type 0
 EndsWhole (Got a rest) = next top rest ≡ None
 EndsWhole _ = Unit {0}
 
 -- the tokens that are read are walked, and where more is expected the next one cannot come
-abbrev pub IsWalked : State → Outcome → Type 0
+abbrev pub IsWalked : State → ReadOutcome → Type 0
 IsWalked (Operand ts) o = (st : List Frame) → Walks (Ends st o) (Some (place.Operand st)) ts (left o)
 IsWalked (Whole k ts) o = (st : List Frame) → Walks (Ends st o) (Some (place.Operand st)) ts (left o)
 IsWalked (More k o) p = (st : List Frame) (q : Option Place) → Ends st o q → Walks (Ends st p) q (left o) (left p)
@@ -252,7 +252,7 @@ quiet : (ts : List Placed) → next top ts ≡ None → IsNot Question (head ts)
 quiet [] e n = tt
 quiet (s ∷ ts) e n = (none_joins (operator_of s.token) e, n)
 
-ends_whole : (ts : List Placed) (o : Outcome) → IsSound (Whole top ts) o → EndsWhole o
+ends_whole : (ts : List Placed) (o : ReadOutcome) → IsSound (Whole top ts) o → EndsWhole o
 ends_whole ts (Got a rest) h = h.3
 ends_whole ts (GotAll xs rest) h = tt
 ends_whole ts (Stops kind rest) h = tt
@@ -281,7 +281,7 @@ opened_refused st kind ts rest n w = go w.before w.all w.ends
         let same = opened_as st s.token (subst (λ l. IsNot CloseParenthesis (head l)) e n) in
         record { before = s ∷ before; all = e; ends = subst (λ q. Ends st (Stops kind rest) (walk q (shape before))) (sym same) r }
 
-pub walked : {s : State} {o : Outcome} → GrammarReads s o → IsWalked s o
+pub walked : {s : State} {o : ReadOutcome} → GrammarReads s o → IsWalked s o
 walked (reading.number {n = n} {c = c} {ts = ts}) = λ st.
     walks_next (token_number_at n c) (walks_here (after_goes st (head ts)))
 walked (reading.map {name = name} {c = c} {ts = ts} f) = λ st.

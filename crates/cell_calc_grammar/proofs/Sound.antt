@@ -14,7 +14,7 @@ use Rattle.cell_calc_grammar.specs.Grammar as grammar
 use Rattle.cell_calc_grammar.specs.Grammar.{IsOffset, AreOffsets, Stands, IsExpression, AreCalled, AreArguments, below, joined, choice}
 use Rattle.cell_calc_tokens.specs.Operator.{operator_of, level_of, top}
 use Rattle.cell_calc_grammar.specs.TokensRead as reading
-use Rattle.cell_calc_grammar.specs.TokensRead.{PartOfExpression, tail, read_then, distance_at, distance, offset_signed, offset_at, offset, comma_at, bracket_at, to_bracket, Outcome, Got, GotAll, Stops, State, Operand, Whole, More, Expression, Choice, AfterQuestion, Called, Arguments, Onward, below_level, next, IsNot, IsAlone, BeginsNone, negate, invert, after_bracket, close, join, choose, move, call_judged, call, add, GrammarReads, nothing, whole, stopped, done, more, expression, unread, unchosen, asked, unasked, no_colon, otherwise, arguments, halted, unended}
+use Rattle.cell_calc_grammar.specs.TokensRead.{PartOfExpression, tail, read_then, distance_at, distance, offset_signed, offset_at, offset, comma_at, bracket_at, to_bracket, ReadOutcome, Got, GotAll, Stops, State, Operand, Whole, More, Expression, Choice, AfterQuestion, Called, Arguments, Onward, below_level, next, IsNot, IsAlone, BeginsNone, negate, invert, after_bracket, close, join, choose, move, call_judged, call, add, GrammarReads, nothing, whole, stopped, done, more, expression, unread, unchosen, asked, unasked, no_colon, otherwise, arguments, halted, unended}
 use Rattle.cell_calc_grammar.specs.Term.{Term, Binary, count}
 use Rattle.cell_calc_tokens.specs.Token.{token_number_at, name_at, sign_at, head}
 
@@ -200,7 +200,7 @@ offsets_part ts =
         ([], refl, subst (λ l. NoOffsets Expected l us) (sym (append-nil front)) stop)
 
 -- after what was read: a fault goes on
-abbrev pub mapped : (Term → Term) → Outcome → Outcome
+abbrev pub mapped : (Term → Term) → ReadOutcome → ReadOutcome
 mapped f (Got a rest) = Got (f a) rest
 mapped f (GotAll xs rest) = Stops Expected rest
 mapped f (Stops kind rest) = Stops kind rest
@@ -209,7 +209,7 @@ mapped f (Stops kind rest) = Stops kind rest
 abbrev Fronts : ℕ → List Placed → Term → List Placed → Type 0
 Fronts k ts a rest = (front : List Placed) × (ts ≡ front ++ rest) × Stands k front a × (next k rest ≡ None)
 
-abbrev pub IsSound : State → Outcome → Type 0
+abbrev pub IsSound : State → ReadOutcome → Type 0
 IsSound s (Stops kind rest) = Unit {0}
 IsSound (Operand ts) (Got a rest) = Fronts zero ts a rest
 IsSound (Whole k ts) (Got a rest) = Fronts k ts a rest
@@ -251,7 +251,7 @@ sound_closed c ts a rest (Some (token.Sign CloseParenthesis)) e h =
     (_, ap (λ l. sign_at OpenParenthesis c ∷ l) all, grammar.inside f.0 h.2, next_zero (tail rest))
 sound_closed c ts a rest _ e h = tt
 
-pub sound : {s : State} {o : Outcome} → GrammarReads s o → IsSound s o
+pub sound : {s : State} {o : ReadOutcome} → GrammarReads s o → IsSound s o
 sound (reading.number {n = n} {c = c} {ts = ts}) = (token_number_at n c ∷ [], refl, grammar.number, next_zero ts)
 sound (reading.map {name = name} {c = c} {ts = ts} f) = (name_at name c ∷ [], refl, grammar.map, next_zero ts)
 sound (reading.moved {name = name} {c = c} {d = d} {ts = ts}) =

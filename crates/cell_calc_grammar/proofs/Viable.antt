@@ -15,7 +15,7 @@ use Rattle.cell_calc_grammar.specs.Grammar as grammar
 use Rattle.cell_calc_grammar.specs.Grammar.{IsOffset, AreOffsets, Stands, IsExpression, AreCalled, AreArguments, below, joined, choice}
 use Rattle.cell_calc_tokens.specs.Operator.{level_of, top}
 use Rattle.cell_calc_grammar.specs.TokensRead as reading
-use Rattle.cell_calc_grammar.specs.TokensRead.{PartOfExpression, tail, read_then, distance_at, distance, offset_signed, offset_at, offset, comma_at, bracket_at, to_bracket, Outcome, Got, GotAll, Stops, State, Operand, Whole, More, Expression, Choice, AfterQuestion, Called, Arguments, Onward, below_level, next, after_bracket, close, join, choose, move, call_judged, call, add, GrammarReads, nothing, whole, stopped, more, expression, unread, asked, unasked, no_colon, otherwise, arguments, halted, unended}
+use Rattle.cell_calc_grammar.specs.TokensRead.{PartOfExpression, tail, read_then, distance_at, distance, offset_signed, offset_at, offset, comma_at, bracket_at, to_bracket, ReadOutcome, Got, GotAll, Stops, State, Operand, Whole, More, Expression, Choice, AfterQuestion, Called, Arguments, Onward, below_level, next, after_bracket, close, join, choose, move, call_judged, call, add, GrammarReads, nothing, whole, stopped, more, expression, unread, asked, unasked, no_colon, otherwise, arguments, halted, unended}
 use Rattle.cell_calc_grammar.specs.Shape.{shape}
 use Rattle.cell_calc_grammar.specs.Tree.{Tree}
 use Rattle.cell_calc_grammar.specs.Term.{Term, Terms, NoTrees, Negated, Not, count, map_name}
@@ -153,7 +153,7 @@ abbrev SomeArguments : List Placed → Type 0
 SomeArguments l = (xs : Terms) × AreArguments l xs
 
 -- what can be read of the state can go on
-abbrev pub IsViable : State → Outcome → Type 0
+abbrev pub IsViable : State → ReadOutcome → Type 0
 IsViable s (Got a rest) = Unit {0}
 IsViable s (GotAll xs rest) = Unit {0}
 IsViable (Operand ts) (Stops kind rest) = Viable (SomeOf zero) ts kind rest
@@ -245,7 +245,7 @@ viable_closed c ts a rest _ h =
     viable_front (SomeOf zero) opens (sign_at CloseParenthesis 0 ∷ []) (ap (λ l. sign_at OpenParenthesis c ∷ l) h.1)
     (closing c 0 h.0 (a, h.2))
 
-pub viable : {s : State} {o : Outcome} → GrammarReads s o → IsViable s o
+pub viable : {s : State} {o : ReadOutcome} → GrammarReads s o → IsViable s o
 viable (reading.moved {name = name} {c = c} {d = d} {ts = ts}) =
     viable_moved name c d ts (reading.offsets ts) (offsets_part ts)
 viable (reading.unknown {name = name} {c = c} {d = d} {ts = ts} e) =

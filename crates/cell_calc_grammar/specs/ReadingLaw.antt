@@ -2,19 +2,19 @@
 use Rattle.std.specs.Prelude.{◌≡◌, List, []}
 use Rattle.cell_calc_tokens.specs.declared.token.Placed.{Placed}
 use Rattle.cell_calc_grammar.specs.Grammar.{IsExpression}
-use Rattle.cell_calc_grammar.specs.TokensRead.{Expression, Got, Outcome, GrammarReads, State}
+use Rattle.cell_calc_grammar.specs.TokensRead.{Expression, Got, ReadOutcome, GrammarReads, State}
 use Rattle.cell_calc_grammar.specs.Term.{Term}
 
 -- tokens are read to their end as an expression exactly where they stand for it
-abbrev pub ReadingAgrees : Type 0
-ReadingAgrees =
+abbrev pub ExpressionReadingAgrees : Type 0
+ExpressionReadingAgrees =
     (ts : List Placed) (a : Term)
     → (GrammarReads (Expression ts) (Got a []) → IsExpression ts a)
     × (IsExpression ts a → GrammarReads (Expression ts) (Got a []))
 
 -- what is read of a state is one outcome at most
 abbrev pub OneReading : Type 0
-OneReading = (s : State) (o p : Outcome) → GrammarReads s o → GrammarReads s p → o ≡ p
+OneReading = (s : State) (o p : ReadOutcome) → GrammarReads s o → GrammarReads s p → o ≡ p
 
 -- tokens stand for one expression at most
 abbrev pub OneExpression : Type 0

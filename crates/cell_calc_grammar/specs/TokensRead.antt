@@ -73,22 +73,22 @@ abbrev pub offsets : List Placed → PartOfExpression (ℤ × ℤ)
 offsets ts = read_then (offset ts) (λ down us. read_then (comma_at (head us) us) (λ _ vs. to_bracket down vs))
 
 -- an expression or arguments and what is left, or a fault and the tokens from where it is told
-pub data Outcome : Type 0 where
-  Got : (a : Term) (rest : List Placed) → Outcome
-  GotAll : (xs : Terms) (rest : List Placed) → Outcome
-  Stops : (kind : CalcKind) (rest : List Placed) → Outcome
+pub data ReadOutcome : Type 0 where
+  Got : (a : Term) (rest : List Placed) → ReadOutcome
+  GotAll : (xs : Terms) (rest : List Placed) → ReadOutcome
+  Stops : (kind : CalcKind) (rest : List Placed) → ReadOutcome
 
 -- what is to be read, or what goes on after what was read
 pub data State : Type 0 where
   Operand : (ts : List Placed) → State
   Whole : (k : ℕ) (ts : List Placed) → State
-  More : (k : ℕ) (sofar : Outcome) → State
+  More : (k : ℕ) (sofar : ReadOutcome) → State
   Expression : (ts : List Placed) → State
-  Choice : (sofar : Outcome) → State
-  AfterQuestion : (x : Term) (sofar : Outcome) → State
+  Choice : (sofar : ReadOutcome) → State
+  AfterQuestion : (x : Term) (sofar : ReadOutcome) → State
   Called : (ts : List Placed) → State
   Arguments : (ts : List Placed) → State
-  Onward : (argument : Outcome) → State
+  Onward : (argument : ReadOutcome) → State
 
 -- the operator, if it is one of a level below
 abbrev pub below_level : ℕ → Option Operator → Option Operator
@@ -126,92 +126,92 @@ BeginsNone (Some (token.Sign OpenParenthesis)) = ⊥
 BeginsNone _ = Unit {0}
 
 -- after a unary minus
-abbrev pub negate : Outcome → Outcome
+abbrev pub negate : ReadOutcome → ReadOutcome
 negate (Got a rest) = Got (Negated a) rest
 negate (GotAll xs rest) = Stops Expected rest
 negate (Stops kind rest) = Stops kind rest
 
 -- after a unary `!`
-abbrev pub invert : Outcome → Outcome
+abbrev pub invert : ReadOutcome → ReadOutcome
 invert (Got a rest) = Got (Not a) rest
 invert (GotAll xs rest) = Stops Expected rest
 invert (Stops kind rest) = Stops kind rest
 
 -- an expression in parentheses, by the token that follows it
-abbrev pub after_bracket : Option Token → Term → List Placed → Outcome
+abbrev pub after_bracket : Option Token → Term → List Placed → ReadOutcome
 after_bracket (Some (token.Sign CloseParenthesis)) a rest = Got a (tail rest)
 after_bracket _ a rest = Stops Expected rest
 
 -- after what stands in parentheses
-abbrev pub close : Outcome → Outcome
+abbrev pub close : ReadOutcome → ReadOutcome
 close (Got a rest) = after_bracket (head rest) a rest
 close (GotAll xs rest) = Stops Expected rest
 close (Stops kind rest) = Stops kind rest
 
 -- after an operator and its left operand
-abbrev pub join : Operator → Term → Outcome → Outcome
+abbrev pub join : Operator → Term → ReadOutcome → ReadOutcome
 join op a (Got b rest) = Got (Binary op a b) rest
 join op a (GotAll xs rest) = Stops Expected rest
 join op a (Stops kind rest) = Stops kind rest
 
 -- after a condition, what is chosen where it holds, and the colon
-abbrev pub choose : Term → Term → Outcome → Outcome
+abbrev pub choose : Term → Term → ReadOutcome → ReadOutcome
 choose x a (Got b rest) = Got (Call If (Then x (Then a (Then b NoTrees)))) rest
 choose x a (GotAll xs rest) = Stops Expected rest
 choose x a (Stops kind rest) = Stops kind rest
 
 -- a map with its offsets
-abbrev pub move : List ℕ → ℕ → PartOfExpression (ℤ × ℤ) → Outcome
+abbrev pub move : List ℕ → ℕ → PartOfExpression (ℤ × ℤ) → ReadOutcome
 move name c (Ok x) = Got (Map (map_name name c) x.0.0 x.0.1) x.1
 move name c (Err e) = Stops e.0 e.1
 
 -- a call that begins there, if its function takes so many arguments
-abbrev pub call_judged : Bool → Function → Terms → (from rest : List Placed) → Outcome
+abbrev pub call_judged : Bool → Function → Terms → (from rest : List Placed) → ReadOutcome
 call_judged b f xs from rest = cond b (Got (Call f xs) rest) (Stops BadArguments from)
 
 -- after a function's name and the opening parenthesis, from where it begins
-abbrev pub call : Function → List Placed → Outcome → Outcome
+abbrev pub call : Function → List Placed → ReadOutcome → ReadOutcome
 call f from (Got a rest) = Stops Expected rest
 call f from (GotAll xs rest) = call_judged (accepts f (count xs)) f xs from rest
 call f from (Stops kind rest) = Stops kind rest
 
 -- after an argument and a comma
-abbrev pub add : Term → Outcome → Outcome
+abbrev pub add : Term → ReadOutcome → ReadOutcome
 add a (Got b rest) = Stops Expected rest
 add a (GotAll xs rest) = GotAll (Then a xs) rest
 add a (Stops kind rest) = Stops kind rest
 
 -- one rule for each step: what is read of a state
-pub data GrammarReads : State → Outcome → Type 0 where
+pub data GrammarReads : State → ReadOutcome → Type 0 where
   number : {n c : ℕ} {ts : List Placed} → GrammarReads (Operand (token_number_at n c ∷ ts)) (Got (Number n) ts)
   map : {name : List ℕ} {c : ℕ} {ts : List Placed} → IsAlone (head ts) → GrammarReads (Operand (name_at name c ∷ ts)) (Got (Map (map_name name c) (pos 0) (pos 0)) ts)
   moved : {name : List ℕ} {c d : ℕ} {ts : List Placed} → GrammarReads (Operand (name_at name c ∷ sign_at OpenBracket d ∷ ts)) (move name c (offsets ts))
   unknown : {name : List ℕ} {c d : ℕ} {ts : List Placed} → function_of name ≡ None
       → GrammarReads (Operand (name_at name c ∷ sign_at OpenParenthesis d ∷ ts)) (Stops UnknownFunction (name_at name c ∷ sign_at OpenParenthesis d ∷ ts))
-  called : {name : List ℕ} {c d : ℕ} {ts : List Placed} {o : Outcome} (f : Function) → function_of name ≡ Some f → GrammarReads (Called ts) o
+  called : {name : List ℕ} {c d : ℕ} {ts : List Placed} {o : ReadOutcome} (f : Function) → function_of name ≡ Some f → GrammarReads (Called ts) o
       → GrammarReads (Operand (name_at name c ∷ sign_at OpenParenthesis d ∷ ts)) (call f (name_at name c ∷ sign_at OpenParenthesis d ∷ ts) o)
-  negated : {c : ℕ} {ts : List Placed} {o : Outcome} → GrammarReads (Operand ts) o → GrammarReads (Operand (sign_at Minus c ∷ ts)) (negate o)
-  not : {c : ℕ} {ts : List Placed} {o : Outcome} → GrammarReads (Operand ts) o → GrammarReads (Operand (sign_at Exclamation c ∷ ts)) (invert o)
-  inside : {c : ℕ} {ts : List Placed} {o : Outcome} → GrammarReads (Expression ts) o → GrammarReads (Operand (sign_at OpenParenthesis c ∷ ts)) (close o)
+  negated : {c : ℕ} {ts : List Placed} {o : ReadOutcome} → GrammarReads (Operand ts) o → GrammarReads (Operand (sign_at Minus c ∷ ts)) (negate o)
+  not : {c : ℕ} {ts : List Placed} {o : ReadOutcome} → GrammarReads (Operand ts) o → GrammarReads (Operand (sign_at Exclamation c ∷ ts)) (invert o)
+  inside : {c : ℕ} {ts : List Placed} {o : ReadOutcome} → GrammarReads (Expression ts) o → GrammarReads (Operand (sign_at OpenParenthesis c ∷ ts)) (close o)
   nothing : {ts : List Placed} → BeginsNone (head ts) → GrammarReads (Operand ts) (Stops Expected ts)
-  whole : {k : ℕ} {ts : List Placed} {o p : Outcome} → GrammarReads (Operand ts) o → GrammarReads (More k o) p → GrammarReads (Whole k ts) p
+  whole : {k : ℕ} {ts : List Placed} {o p : ReadOutcome} → GrammarReads (Operand ts) o → GrammarReads (More k o) p → GrammarReads (Whole k ts) p
   stopped : {k : ℕ} {kind : CalcKind} {ts : List Placed} → GrammarReads (More k (Stops kind ts)) (Stops kind ts)
   done : {k : ℕ} {ts : List Placed} {a : Term} → next k ts ≡ None → GrammarReads (More k (Got a ts)) (Got a ts)
-  more : {k : ℕ} {s : Placed} {ts : List Placed} {a : Term} {o p : Outcome} (op : Operator) → next k (s ∷ ts) ≡ Some op
+  more : {k : ℕ} {s : Placed} {ts : List Placed} {a : Term} {o p : ReadOutcome} (op : Operator) → next k (s ∷ ts) ≡ Some op
       → GrammarReads (Whole (level_of op) ts) o → GrammarReads (More k (join op a o)) p → GrammarReads (More k (Got a (s ∷ ts))) p
-  expression : {ts : List Placed} {o p : Outcome} → GrammarReads (Whole top ts) o → GrammarReads (Choice o) p → GrammarReads (Expression ts) p
+  expression : {ts : List Placed} {o p : ReadOutcome} → GrammarReads (Whole top ts) o → GrammarReads (Choice o) p → GrammarReads (Expression ts) p
   unread : {kind : CalcKind} {ts : List Placed} → GrammarReads (Choice (Stops kind ts)) (Stops kind ts)
   unchosen : {a : Term} {ts : List Placed} → IsNot Question (head ts) → GrammarReads (Choice (Got a ts)) (Got a ts)
-  asked : {c : ℕ} {x : Term} {ts : List Placed} {o p : Outcome} → GrammarReads (Expression ts) o → GrammarReads (AfterQuestion x o) p
+  asked : {c : ℕ} {x : Term} {ts : List Placed} {o p : ReadOutcome} → GrammarReads (Expression ts) o → GrammarReads (AfterQuestion x o) p
       → GrammarReads (Choice (Got x (sign_at Question c ∷ ts))) p
   unasked : {x : Term} {kind : CalcKind} {ts : List Placed} → GrammarReads (AfterQuestion x (Stops kind ts)) (Stops kind ts)
   no_colon : {x a : Term} {ts : List Placed} → IsNot Colon (head ts) → GrammarReads (AfterQuestion x (Got a ts)) (Stops Expected ts)
-  otherwise : {c : ℕ} {x a : Term} {ts : List Placed} {o : Outcome} → GrammarReads (Expression ts) o
+  otherwise : {c : ℕ} {x a : Term} {ts : List Placed} {o : ReadOutcome} → GrammarReads (Expression ts) o
       → GrammarReads (AfterQuestion x (Got a (sign_at Colon c ∷ ts))) (choose x a o)
   none : {c : ℕ} {ts : List Placed} → GrammarReads (Called (sign_at CloseParenthesis c ∷ ts)) (GotAll NoTrees ts)
-  some : {ts : List Placed} {o : Outcome} → IsNot CloseParenthesis (head ts) → GrammarReads (Arguments ts) o → GrammarReads (Called ts) o
-  arguments : {ts : List Placed} {o p : Outcome} → GrammarReads (Expression ts) o → GrammarReads (Onward o) p → GrammarReads (Arguments ts) p
+  some : {ts : List Placed} {o : ReadOutcome} → IsNot CloseParenthesis (head ts) → GrammarReads (Arguments ts) o → GrammarReads (Called ts) o
+  arguments : {ts : List Placed} {o p : ReadOutcome} → GrammarReads (Expression ts) o → GrammarReads (Onward o) p → GrammarReads (Arguments ts) p
   halted : {kind : CalcKind} {ts : List Placed} → GrammarReads (Onward (Stops kind ts)) (Stops kind ts)
   last : {c : ℕ} {a : Term} {ts : List Placed} → GrammarReads (Onward (Got a (sign_at CloseParenthesis c ∷ ts))) (GotAll (Then a NoTrees) ts)
-  another : {c : ℕ} {a : Term} {ts : List Placed} {o : Outcome} → GrammarReads (Arguments ts) o → GrammarReads (Onward (Got a (sign_at Comma c ∷ ts))) (add a o)
+  another : {c : ℕ} {a : Term} {ts : List Placed} {o : ReadOutcome} → GrammarReads (Arguments ts) o → GrammarReads (Onward (Got a (sign_at Comma c ∷ ts))) (add a o)
   unended : {a : Term} {ts : List Placed} → IsNot CloseParenthesis (head ts) → IsNot Comma (head ts) → GrammarReads (Onward (Got a ts)) (Stops Expected ts)

@@ -1,10 +1,10 @@
 //! What the reading of tokens means.
 
-ghost use Rattle.cell_calc_grammar.specs.ReadingLaw.{OneExpression, OneReading, ReadingAgrees};
+ghost use Rattle.cell_calc_grammar.specs.ReadingLaw.{OneExpression, OneReading, ExpressionReadingAgrees};
 
 /// Reading ends with an expression exactly where the tokens stand for it (r.mapcalc manual).
-pub fn reading_denotes()
-    ensures { ReadingAgrees }
+pub fn expression_reading_denotes()
+    ensures { ExpressionReadingAgrees }
 {}
 
 /// Reading has one outcome at most.

@@ -18,7 +18,7 @@ use Rattle.cell_calc_grammar.specs.Grammar.{AreCalled, AreArguments}
 use Rattle.cell_calc_language.specs.GrammarFault as grammar_fault
 use Rattle.cell_calc_language.specs.GrammarFault.{IsOffsetSign, IsBeforeNumber, CanGoOn, Tells, TellsNone}
 use Rattle.cell_calc_grammar.specs.TokensRead as reading
-use Rattle.cell_calc_grammar.specs.TokensRead.{offset, Outcome, Got, GotAll, Stops, State, Operand, Called, move, call_judged, GrammarReads}
+use Rattle.cell_calc_grammar.specs.TokensRead.{offset, ReadOutcome, Got, GotAll, Stops, State, Operand, Called, move, call_judged, GrammarReads}
 use Rattle.cell_calc_grammar.specs.Shape.{shape_of, shape}
 use Rattle.cell_calc_grammar.specs.Term.{Terms, count}
 use Rattle.cell_calc_tokens.specs.Token.{token_number_at, name_at, sign_at}
@@ -165,7 +165,7 @@ stop_kind : (k k' : CalcKind) (r r' : List Placed) → Stops k r ≡ Stops k' r'
 stop_kind k k' r r' e = cc
 
 -- none ends in what is read before the outcome, where this goes on with more
-none_before : {s : State} {o : Outcome} (r : GrammarReads s o) (extra more : List Placed) → left o ≡ extra ++ more → ((rest : List Placed) → o ≡ Stops BadOffset rest → extra ≡ [])
+none_before : {s : State} {o : ReadOutcome} (r : GrammarReads s o) (extra more : List Placed) → left o ≡ extra ++ more → ((rest : List Placed) → o ≡ Stops BadOffset rest → extra ≡ [])
     → (kind : CalcKind) (ts : List Placed) (bad : Bad kind ts) (front m mid : List Placed) → (find r).before ≡ front ++ name_at bad.name bad.column ∷ m → bad.ends ++ mid ≡ m ++ extra → ⊥
 none_before {s = s} {o = o} r extra more e far kind ts bad front m mid f g =
     let w = find r in
@@ -185,7 +185,7 @@ none_before {s = s} {o = o} r extra more e far kind ts bad front m mid f g =
         not_longer x (y ++ mid) (left o) (ap left is ∙ h ∙ ap (λ l. x ∷ (y ++ (mid ++ l))) (sym all) ∙ ap (λ l. x ∷ l) (sym (append_assoc y mid (left o))))
 
 -- after a name and the sign of assignment, with more after what is read
-pub none_in_assignment : {s : State} {o : Outcome} (name : List ℕ) (c d : ℕ) (r : GrammarReads s o) (extra more : List Placed) → left o ≡ extra ++ more → ((rest : List Placed) → o ≡ Stops BadOffset rest → extra ≡ []) → HasNoBad extra
+pub none_in_assignment : {s : State} {o : ReadOutcome} (name : List ℕ) (c d : ℕ) (r : GrammarReads s o) (extra more : List Placed) → left o ≡ extra ++ more → ((rest : List Placed) → o ≡ Stops BadOffset rest → extra ≡ []) → HasNoBad extra
     → HasNoBad (name_at name c ∷ sign_at Assign d ∷ ((find r).before ++ extra))
 none_in_assignment name c d r extra more e far free kind ts bad [] mid f =
     let g : sign_at Assign d ∷ ((find r).before ++ extra) ≡ bad.ends ++ mid = cc in

@@ -6,8 +6,8 @@ use Rattle.cell_calc_language.specs.declared.assignment.Assignment.{Assignment}
 use Rattle.cell_calc_tokens.specs.declared.calc_fault.CalcFault.{CalcFault}
 use Rattle.cell_calc_tokens.specs.declared.calc_fault.CalcKind.{CalcKind}
 use Rattle.cell_calc_tokens.specs.declared.calc_fault.CalcKind.TheVariants.{Expected, UnknownFunction, Arguments as BadArguments, BadOffset}
-use Rattle.cell_calc_language.specs.declared.token_parsing.Stop.{Stop}
-use Rattle.cell_calc_language.specs.declared.token_parsing.Stop.TheVariants.{Memory, At}
+use Rattle.cell_calc_language.specs.declared.token_parsing.ParseStop.{ParseStop}
+use Rattle.cell_calc_language.specs.declared.token_parsing.ParseStop.TheVariants.{Memory, At}
 use Rattle.cell_calc_tokens.specs.declared.token.Placed.{Placed}
 use Rattle.cell_calc_tokens.specs.declared.token.Sign.TheVariants.{OpenParenthesis, CloseParenthesis, Assign}
 use Rattle.cell_calc_tokens.specs.declared.token.Token.{Token}
@@ -17,7 +17,7 @@ use Rattle.cell_calc_grammar.specs.Grammar as grammar
 use Rattle.cell_calc_grammar.specs.Grammar.{IsExpression}
 use Rattle.cell_calc_language.specs.GrammarFault as grammar_fault
 use Rattle.cell_calc_language.specs.GrammarFault.{IsOffsetSign, IsBeforeNumber, IsInBrackets, CanGoOn, Tells, column_of, IsNone, IsGrammarFault, IsFaultOf, IsTextFault}
-use Rattle.cell_calc_grammar.specs.TokensRead.{Outcome, Got, Stops, Expression, IsNot, GrammarReads, tail}
+use Rattle.cell_calc_grammar.specs.TokensRead.{ReadOutcome, Got, Stops, Expression, IsNot, GrammarReads, tail}
 use Rattle.cell_calc_grammar.specs.Shape.{shape_of, shape}
 use Rattle.cell_calc_language.specs.Stopping.{ParserStopsAt, FollowsSign, fault_of_stop}
 use Rattle.cell_calc_grammar.specs.Tree.{Tree}
@@ -113,10 +113,10 @@ no_assign end name c (t ∷ rest) n =
     refused _ n = refl
 
 -- reading did not end with an expression at the end
-abbrev IsNoEnd : Outcome → Type 0
+abbrev IsNoEnd : ReadOutcome → Type 0
 IsNoEnd o = (a : Term) → o ≡ Got a [] → ⊥
 
-no_expression : (ts : List Placed) (o : Outcome) → GrammarReads (Expression ts) o → IsNoEnd o → (a : Term) → IsExpression ts a → ⊥
+no_expression : (ts : List Placed) (o : ReadOutcome) → GrammarReads (Expression ts) o → IsNoEnd o → (a : Term) → IsExpression ts a → ⊥
 no_expression ts o r n a h = n a (one_outcome r (read_all ts a h))
 
 -- the next token cannot come after those of an expression
@@ -293,7 +293,7 @@ fault_no_assign end ts s rest name e f n =
     let same : ts ≡ name_at name at.0 ∷ rest = at.1 ∙ ap (λ l. name_at name at.0 ∷ tail l) e in
     inr (subst (λ l. IsGrammarFault end l (token_fault Expected (column_of end rest))) (sym same) (no_assign end name at.0 rest n))
 
-pub fault_stops : (end : ℕ) (name : List ℕ) (ts us : List Placed) (stop : Stop) → Begins name ts us → ParserStopsAt (Expression us) stop → IsFaultOf end ts (fault_of_stop end stop)
+pub fault_stops : (end : ℕ) (name : List ℕ) (ts us : List Placed) (stop : ParseStop) → Begins name ts us → ParserStopsAt (Expression us) stop → IsFaultOf end ts (fault_of_stop end stop)
 fault_stops end name ts us Memory h r = inl refl
 fault_stops end name ts us (At kind rest) h r =
     let b = begins_is name ts us h in

@@ -8,8 +8,8 @@ use Rattle.cell_calc_tokens.specs.declared.calc_fault.CalcKind.TheVariants.{Expe
 use Rattle.cell_calc_tokens.specs.declared.function.Function.{Function}
 use Rattle.cell_calc_tokens.specs.declared.function.Function.TheVariants.{If}
 use Rattle.cell_calc_tokens.specs.declared.operator.Operator.{Operator}
-use Rattle.cell_calc_language.specs.declared.token_parsing.Stop.{Stop}
-use Rattle.cell_calc_language.specs.declared.token_parsing.Stop.TheVariants.{Memory, At}
+use Rattle.cell_calc_language.specs.declared.token_parsing.ParseStop.{ParseStop}
+use Rattle.cell_calc_language.specs.declared.token_parsing.ParseStop.TheVariants.{Memory, At}
 use Rattle.cell_calc_language.specs.declared.expression_reader.Frame.{Frame}
 use Rattle.cell_calc_language.specs.declared.expression_reader.Frame.TheVariants as frame
 use Rattle.cell_calc_grammar.specs.declared.map_name.MapName.{MapName}
@@ -24,7 +24,7 @@ use Rattle.cell_calc_tokens.specs.Function.{function_of, accepts}
 use Rattle.cell_calc_tokens.specs.Operator.{level_of}
 use Rattle.cell_calc_steps.specs.Postfix.{postfix, postfix_all}
 use Rattle.cell_calc_grammar.specs.TokensRead as reading
-use Rattle.cell_calc_grammar.specs.TokensRead.{PartOfExpression, tail, Outcome, Got, GotAll, Stops, State, Operand, More, Expression, Choice, AfterQuestion, Called, Onward, next, GoesOn, IsNot, BeginsNone, negate, invert, after_bracket, close, join, choose, move, call_judged, call, add, GrammarReads, nothing, whole, stopped, done, expression, unread, unchosen, unasked, no_colon, otherwise, arguments, halted, unended}
+use Rattle.cell_calc_grammar.specs.TokensRead.{PartOfExpression, tail, ReadOutcome, Got, GotAll, Stops, State, Operand, More, Expression, Choice, AfterQuestion, Called, Onward, next, GoesOn, IsNot, BeginsNone, negate, invert, after_bracket, close, join, choose, move, call_judged, call, add, GrammarReads, nothing, whole, stopped, done, expression, unread, unchosen, unasked, no_colon, otherwise, arguments, halted, unended}
 use Rattle.cell_calc_language.specs.Stopping.{ParserStopsAt, IsPartStop, FollowsSign, IsCallOf}
 use Rattle.cell_calc_grammar.specs.Term.{Term, Number, Map, Negated, Not, Binary, Call, Terms, NoTrees, Then, count, map_name}
 use Rattle.cell_calc_tokens.specs.Token.{token_number_at, name_at, sign_at, head}
@@ -114,7 +114,7 @@ module _ (s : State) (fs : List Frame) (steps : List (Step MapName)) (name copy 
       → IsReadExpression s fs (steps ++ step.Map (map_name copy c) down right ∷ []) rest
   map_moved us rest down right h e a p = operand_read s fs steps (name_at name c ∷ ts) (Map (map_name copy c) down right) rest h (rw e (map_reads name c ts us a (Ok ((down, right), rest)) p))
 
-  pub map_stops : (us : List Placed) (e : Stop) → Awaits s fs steps (Operand (name_at name c ∷ ts)) → FollowsSign OpenBracket ts us → IsPartStop (reading.offsets us) e → ParserStopsAt s e
+  pub map_stops : (us : List Placed) (e : ParseStop) → Awaits s fs steps (Operand (name_at name c ∷ ts)) → FollowsSign OpenBracket ts us → IsPartStop (reading.offsets us) e → ParserStopsAt s e
   map_stops us Memory h a p = tt
   map_stops us (At kind rest) h a p = stops_at s fs steps (name_at name c ∷ ts) kind rest.now h (map_reads name c ts us a (Err (kind, rest.now)) p)
 
@@ -123,7 +123,7 @@ module _ (s : State) (fs : List Frame) (steps : List (Step MapName)) (name : Lis
   pub unknown_call : function_of name ≡ None → GrammarReads s (Stops UnknownFunction from.now)
   unknown_call e = stops_at s fs steps from.now UnknownFunction from.now h (subst (λ l. GrammarReads (Operand l) (Stops UnknownFunction l)) (sym (call_is name from.now us a).2) (reading.unknown e))
 
-  call_reads : (f : Function) (o : Outcome) → function_of name ≡ Some f → GrammarReads (Called us) o → GrammarReads (Operand from.now) (call f from.now o)
+  call_reads : (f : Function) (o : ReadOutcome) → function_of name ≡ Some f → GrammarReads (Called us) o → GrammarReads (Operand from.now) (call f from.now o)
   call_reads f o e r = subst (λ l. GrammarReads (Operand l) (call f l o)) (sym (call_is name from.now us a).2) (reading.called f e r)
 
   -- without arguments
@@ -141,7 +141,7 @@ module _ (s : State) (fs : List Frame) (steps : List (Step MapName)) (name : Lis
   pub first_argument : (f : Function) → function_of name ≡ Some f → IsNot CloseParenthesis (head us) → Awaits s (frame.Call f from 0 ∷ fs) steps (Expression us)
   first_argument f e n = λ o r. (NoTrees, steps, sym (append-nil steps), refl, λ p m. h (call f from.now p) (call_reads f p e (reading.some n (arguments r m))))
 
-more_reads : (k : ℕ) (ts : List Placed) (a : Term) (op : Operator) (rest : List Placed) (o p : Outcome) → GoesOn k ts op rest → GrammarReads (reading.Whole (level_of op) rest) o → GrammarReads (More k (join op a o)) p → GrammarReads (More k (Got a ts)) p
+more_reads : (k : ℕ) (ts : List Placed) (a : Term) (op : Operator) (rest : List Placed) (o p : ReadOutcome) → GoesOn k ts op rest → GrammarReads (reading.Whole (level_of op) rest) o → GrammarReads (More k (join op a o)) p → GrammarReads (More k (Got a ts)) p
 more_reads k [] a op rest o p g r m = let h : ⊥ = cc (g.1) in absurd h
 more_reads k (s ∷ ts) a op rest o p g r m = reading.more op g.1 (subst (λ l. GrammarReads (reading.Whole (level_of op) l) o) (sym g.0) r) m
 
@@ -210,7 +210,7 @@ unfolding with_last
 postfix_with_last NoTrees b = append-nil (postfix b)
 postfix_with_last (Then a xs) b = ap (λ l. postfix a ++ l) (postfix_with_last xs b) ∙ sym (append_assoc (postfix a) (postfix_all xs) (postfix b))
 
-add_with_last : (xs : Terms) (b : Term) (o : Outcome) → add_all xs (add b o) ≡ add_all (with_last xs b) o
+add_with_last : (xs : Terms) (b : Term) (o : ReadOutcome) → add_all xs (add b o) ≡ add_all (with_last xs b) o
 unfolding with_last
 add_with_last NoTrees b o = refl
 add_with_last (Then a xs) b o = ap (add a) (add_with_last xs b o)

@@ -3,8 +3,8 @@ use Rattle.std.specs.Borrow.{Bor}
 use Rattle.std.specs.Prelude.{MatchResult, Ok, Result, ◌≡◌, ℕ, List, Some, Err}
 use Rattle.cell_calc_tokens.specs.declared.calc_fault.CalcFault.{CalcFault}
 use Rattle.cell_calc_tokens.specs.declared.calc_fault.CalcKind.TheVariants as kind
-use Rattle.cell_calc_language.specs.declared.token_parsing.Stop.{Stop}
-use Rattle.cell_calc_language.specs.declared.token_parsing.Stop.TheVariants.{Memory, At}
+use Rattle.cell_calc_language.specs.declared.token_parsing.ParseStop.{ParseStop}
+use Rattle.cell_calc_language.specs.declared.token_parsing.ParseStop.TheVariants.{Memory, At}
 use Rattle.cell_calc_tokens.specs.declared.token.Placed.{Placed}
 use Rattle.cell_calc_tokens.specs.declared.token.Sign.{Sign}
 use Rattle.cell_calc_tokens.specs.declared.token.Sign.TheVariants.{OpenParenthesis}
@@ -14,17 +14,17 @@ use Rattle.cell_calc_grammar.specs.TokensRead.{State, Stops, GrammarReads, PartO
 use Rattle.cell_calc_tokens.specs.Token.{head}
 
 -- reading stops there, if memory lasts
-abbrev pub ParserStopsAt : State → Stop → Type 0
+abbrev pub ParserStopsAt : State → ParseStop → Type 0
 ParserStopsAt s Memory = Unit {0}
 ParserStopsAt s (At kind rest) = GrammarReads s (Stops kind rest.now)
 
 -- the part is that stop
-abbrev pub IsPartStop : {A : Type 0} → PartOfExpression A → Stop → Type 0
+abbrev pub IsPartStop : {A : Type 0} → PartOfExpression A → ParseStop → Type 0
 IsPartStop p Memory = ⊥
 IsPartStop p (At kind rest) = p ≡ Err (kind, rest.now)
 
 -- the code answers with what is read of the part, or stops where it does
-abbrev pub IsPartRead : {A : Type 0} → PartOfExpression A → Result (A × Bor (List Placed)) Stop → Type 0
+abbrev pub IsPartRead : {A : Type 0} → PartOfExpression A → Result (A × Bor (List Placed)) ParseStop → Type 0
 IsPartRead p r = MatchResult r (λ x. p ≡ Ok (x.0, x.1.now)) (λ e. IsPartStop p e)
 
 -- the sign is at the front, before the rest
@@ -36,6 +36,6 @@ abbrev pub IsCallOf : List ℕ → List Placed → List Placed → Type 0
 IsCallOf name ts rest = (head ts ≡ Some (token.Name name)) × FollowsSign OpenParenthesis (tail ts) rest
 
 -- the fault of a stop
-abbrev pub fault_of_stop : (end : ℕ) → Stop → CalcFault
+abbrev pub fault_of_stop : (end : ℕ) → ParseStop → CalcFault
 fault_of_stop end Memory = record { kind = kind.Memory; column = 0 }
 fault_of_stop end (At kind rest) = record { kind = kind; column = column_of end rest.now }

@@ -11,13 +11,13 @@ first_column None b = b
 first_column (Some c) b = Some c
 
 -- the column of a name that has no place
-abbrev pub unplaced : Option ℕ → ℕ → Option ℕ
-unplaced None c = Some c
-unplaced (Some i) c = None
+abbrev pub unplaced_column : Option ℕ → ℕ → Option ℕ
+unplaced_column None c = Some c
+unplaced_column (Some i) c = None
 
 -- the column of a map name that is not among the names
 abbrev pub unknown_at : List (List ℕ) → MapName → ℤ → ℤ → Option ℕ
-unknown_at names m down right = unplaced (place_of m.name names) m.column
+unknown_at names m down right = unplaced_column (place_of m.name names) m.column
 
 -- the column of the first map name that is not among the names
 abbrev pub first_unknown : List (List ℕ) → Term → Option ℕ

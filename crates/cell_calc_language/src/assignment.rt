@@ -39,5 +39,6 @@ pub fn parse(alloc: Global, text: &[u8]) -> Result<Assignment, CalcFault>
 
 /// A list of tokens stands for no second assignment.
 pub fn one_assignment()
-    ensures { (ts : List Placed) (a b : Assignment) → IsAssignment ts a → IsAssignment ts b → a ≡ b }
+    ensures { (ts : List Placed) (a b : Assignment) → IsAssignment ts a → IsAssignment ts b
+        → a ≡ b }
 {}

@@ -1,7 +1,7 @@
 //! Expressions, read with a stack of the reader's own.
 
 ghost use Rattle.std.specs.Prelude.{◌≡◌, ◌<◌, ◌≤◌, ◌+◌, ◌*◌, ◌++◌, [], ◌∷◌, length, vec_len, IfOk, IfErr};
-ghost use Rattle.cell_calc_language.specs.declared.token_parsing.Stop.TheVariants.{Memory};
+ghost use Rattle.cell_calc_language.specs.declared.token_parsing.ParseStop.TheVariants.{Memory};
 ghost use Rattle.cell_calc_language.specs.declared.expression_reader.Frame.TheVariants as frame;
 ghost use Rattle.cell_calc_tokens.specs.declared.token.Sign.TheVariants.{OpenParenthesis};
 ghost use Rattle.cell_calc_steps.specs.Postfix.{postfix};
@@ -11,7 +11,7 @@ ghost use Rattle.cell_calc_tokens.specs.Token.{head, name_at};
 ghost use Rattle.cell_calc_steps.specs.Postfix.{tree_of};
 ghost use Rattle.cell_calc_language.specs.parts.Waiting.{IsAwaited, IsResumed, IsReadExpression, Goes, waiting, latest_first, turn_tokens, work};
 
-use crate::token_parsing::{Stop, after_sign, copied, first, next, offsets};
+use crate::token_parsing::{ParseStop, after_sign, first_token, name_copy, next_operator, offsets};
 use cell_calc_grammar::map_name::MapName;
 use cell_calc_steps::step::Step;
 use cell_calc_tokens::calc_fault::CalcKind;
@@ -62,105 +62,118 @@ struct Reader<'a> {
     steps: Vec<Step<MapName>>,
 }
 
-fn push<'a>(frames: &mut Vec<Frame<'a>>, frame: Frame<'a>) -> Result<(), Stop<'a>>
-    ensures ok { IfOk result (λ _. latest_first frames.new.items ≡ frame.entry ∷ latest_first frames.old.items) }
+fn push_frame<'a>(frames: &mut Vec<Frame<'a>>, frame: Frame<'a>) -> Result<(), ParseStop<'a>>
+    ensures ok { IfOk result (λ _. latest_first frames.new.items
+        ≡ frame.entry ∷ latest_first frames.old.items) }
     ensures len { IfOk result (λ _. vec_len frames.new ≡ vec_len frames.old + 1) }
     ensures err { IfErr result (λ e. e ≡ Memory) }
 {
     match frames.push(frame) {
         Ok(()) => Ok(()),
-        Err(_) => Err(Stop::Memory),
+        Err(_) => Err(ParseStop::Memory),
     }
 }
 
-fn put<'a>(steps: &mut Vec<Step<MapName>>, step: Step<MapName>) -> Result<(), Stop<'a>>
+fn push_step<'a>(steps: &mut Vec<Step<MapName>>, step: Step<MapName>) -> Result<(), ParseStop<'a>>
     ensures ok { IfOk result (λ _. steps.new.items ≡ steps.old.items ++ step ∷ []) }
     ensures err { IfErr result (λ e. e ≡ Memory) }
 {
     match steps.push(step) {
         Ok(()) => Ok(()),
-        Err(_) => Err(Stop::Memory),
+        Err(_) => Err(ParseStop::Memory),
     }
 }
 
 impl<'a> Reader<'a> {
     // An expression begins.
-    fn enter(&mut self, tokens: &'a [Placed]) -> Result<Turn<'a>, Stop<'a>>
-        ensures goes { (s : State) → IsAwaited s self.old (Expression tokens.now) → Goes s self.new result }
-        ensures lighter { IfOk result (λ turn. work (turn_tokens turn) self.new ≤ work tokens.now self.old + 2) }
+    fn enter(&mut self, tokens: &'a [Placed]) -> Result<Turn<'a>, ParseStop<'a>>
+        ensures goes { (s : State) → IsAwaited s self.old (Expression tokens.now)
+            → Goes s self.new result }
+        ensures lighter { IfOk result (λ turn. work (turn_tokens turn) self.new
+            ≤ work tokens.now self.old + 2) }
     {
-        push(&mut self.frames, Frame::Choice)?;
-        push(&mut self.frames, Frame::Level(TOP_LEVEL))?;
+        push_frame(&mut self.frames, Frame::Choice)?;
+        push_frame(&mut self.frames, Frame::Level(TOP_LEVEL))?;
         Ok(Turn::Operand(tokens))
     }
 
     // What is being read ends with the step.
-    fn end(&mut self, step: Step<MapName>, tokens: &'a [Placed]) -> Result<Turn<'a>, Stop<'a>>
-        ensures goes { (s : State) → IsReadExpression s (waiting self.old) (self.old.steps.items ++ step ∷ []) tokens.now → Goes s self.new result }
-        ensures lighter { IfOk result (λ turn. work (turn_tokens turn) self.new ≤ work tokens.now self.old) }
+    fn end(&mut self, step: Step<MapName>, tokens: &'a [Placed]) -> Result<Turn<'a>, ParseStop<'a>>
+        ensures goes { (s : State)
+            → IsReadExpression s (waiting self.old) (self.old.steps.items ++ step ∷ []) tokens.now
+            → Goes s self.new result }
+        ensures lighter { IfOk result (λ turn. work (turn_tokens turn) self.new
+            ≤ work tokens.now self.old) }
     {
-        put(&mut self.steps, step)?;
+        push_step(&mut self.steps, step)?;
         Ok(Turn::After(tokens))
     }
 
-    fn operand(&mut self, alloc: Global, tokens: &'a [Placed]) -> Result<Turn<'a>, Stop<'a>>
-        ensures goes { (s : State) → IsAwaited s self.old (Operand tokens.now) → Goes s self.new result }
-        ensures lighter { IfOk result (λ turn. work (turn_tokens turn) self.new < work tokens.now self.old) }
+    fn operand(&mut self, alloc: Global, tokens: &'a [Placed]) -> Result<Turn<'a>, ParseStop<'a>>
+        ensures goes { (s : State) → IsAwaited s self.old (Operand tokens.now)
+            → Goes s self.new result }
+        ensures lighter { IfOk result (λ turn. work (turn_tokens turn) self.new
+            < work tokens.now self.old) }
     {
-        let Some((placed, rest)) = first(tokens) else {
-            return Err(Stop::At(CalcKind::Expected, tokens));
+        let Some((placed, rest)) = first_token(tokens) else {
+            return Err(ParseStop::At(CalcKind::Expected, tokens));
         };
         match &placed.token {
             Token::Number(n) => self.end(Step::Number(*n), rest),
             Token::Name(name) => match after_sign(Sign::OpenParenthesis, rest) {
-                Some(inside) => self.call(name, tokens, inside),
-                None => self.map(alloc, name, placed.column, rest),
+                Some(inside) => self.read_call(name, tokens, inside),
+                None => self.read_map_operand(alloc, name, placed.column, rest),
             },
-            Token::Sign(sign) => self.signed(*sign, tokens, rest),
+            Token::Sign(sign) => self.read_signed(*sign, tokens, rest),
         }
     }
 
     // An operand that begins with a sign, or none.
-    fn signed(
+    fn read_signed(
         &mut self,
         sign: Sign,
         tokens: &'a [Placed],
         rest: &'a [Placed],
-    ) -> Result<Turn<'a>, Stop<'a>>
+    ) -> Result<Turn<'a>, ParseStop<'a>>
         requires { FollowsSign sign tokens.now rest.now }
-        ensures goes { (s : State) → IsAwaited s self.old (Operand tokens.now) → Goes s self.new result }
-        ensures lighter { IfOk result (λ turn. work (turn_tokens turn) self.new ≤ work rest.now self.old + 3) }
+        ensures goes { (s : State) → IsAwaited s self.old (Operand tokens.now)
+            → Goes s self.new result }
+        ensures lighter { IfOk result (λ turn. work (turn_tokens turn) self.new
+            ≤ work rest.now self.old + 3) }
     {
         match sign {
             Sign::Minus => {
-                push(&mut self.frames, Frame::Negated)?;
+                push_frame(&mut self.frames, Frame::Negated)?;
                 Ok(Turn::Operand(rest))
             }
             Sign::Exclamation => {
-                push(&mut self.frames, Frame::Not)?;
+                push_frame(&mut self.frames, Frame::Not)?;
                 Ok(Turn::Operand(rest))
             }
             Sign::OpenParenthesis => {
-                push(&mut self.frames, Frame::Parenthesis)?;
+                push_frame(&mut self.frames, Frame::Parenthesis)?;
                 self.enter(rest)
             }
-            _ => Err(Stop::At(CalcKind::Expected, tokens)),
+            _ => Err(ParseStop::At(CalcKind::Expected, tokens)),
         }
     }
 
     // A map with its offsets, if they follow its name.
-    fn map(
+    fn read_map_operand(
         &mut self,
         alloc: Global,
         name: &Name,
         column: u32,
         tokens: &'a [Placed],
-    ) -> Result<Turn<'a>, Stop<'a>>
+    ) -> Result<Turn<'a>, ParseStop<'a>>
         requires { IsNot OpenParenthesis (head tokens.now) }
-        ensures goes { (s : State) → IsAwaited s self.old (Operand (name_at name.now column ∷ tokens.now)) → Goes s self.new result }
-        ensures lighter { IfOk result (λ turn. work (turn_tokens turn) self.new ≤ work tokens.now self.old) }
+        ensures goes { (s : State)
+            → IsAwaited s self.old (Operand (name_at name.now column ∷ tokens.now))
+            → Goes s self.new result }
+        ensures lighter { IfOk result (λ turn. work (turn_tokens turn) self.new
+            ≤ work tokens.now self.old) }
     {
-        let name = copied(alloc, name)?;
+        let name = name_copy(alloc, name)?;
         let leaf = MapName { name, column };
         let Some(after) = after_sign(Sign::OpenBracket, tokens) else {
             let map = Step::Map {
@@ -176,25 +189,27 @@ impl<'a> Reader<'a> {
     }
 
     // A call, from its name; the opening parenthesis stands before what is inside.
-    fn call(
+    fn read_call(
         &mut self,
         name: &Name,
         tokens: &'a [Placed],
         inside: &'a [Placed],
-    ) -> Result<Turn<'a>, Stop<'a>>
+    ) -> Result<Turn<'a>, ParseStop<'a>>
         requires { IsCallOf name.now tokens.now inside.now }
-        ensures goes { (s : State) → IsAwaited s self.old (Operand tokens.now) → Goes s self.new result }
-        ensures lighter { IfOk result (λ turn. work (turn_tokens turn) self.new ≤ work inside.now self.old + 3) }
+        ensures goes { (s : State) → IsAwaited s self.old (Operand tokens.now)
+            → Goes s self.new result }
+        ensures lighter { IfOk result (λ turn. work (turn_tokens turn) self.new
+            ≤ work inside.now self.old + 3) }
     {
         let Some(function) = function_of(name.bytes()) else {
-            return Err(Stop::At(CalcKind::UnknownFunction, tokens));
+            return Err(ParseStop::At(CalcKind::UnknownFunction, tokens));
         };
         match after_sign(Sign::CloseParenthesis, inside) {
             Some(rest) => {
                 if accepts(function, 0) {
                     self.end(Step::Call(function, 0), rest)
                 } else {
-                    Err(Stop::At(CalcKind::Arguments, tokens))
+                    Err(ParseStop::At(CalcKind::Arguments, tokens))
                 }
             }
             None => {
@@ -203,23 +218,25 @@ impl<'a> Reader<'a> {
                     from: tokens,
                     count: 0,
                 };
-                push(&mut self.frames, waits)?;
+                push_frame(&mut self.frames, waits)?;
                 self.enter(inside)
             }
         }
     }
 
     // The frame that waited for what has been read goes on.
-    fn resume(&mut self, frame: Frame<'a>, tokens: &'a [Placed]) -> Result<Turn<'a>, Stop<'a>>
-        ensures goes { (s : State) → IsResumed s self.old frame.entry tokens.now → Goes s self.new result }
-        ensures lighter { IfOk result (λ turn. work (turn_tokens turn) self.new ≤ work tokens.now self.old) }
+    fn resume(&mut self, frame: Frame<'a>, tokens: &'a [Placed]) -> Result<Turn<'a>, ParseStop<'a>>
+        ensures goes { (s : State) → IsResumed s self.old frame.entry tokens.now
+            → Goes s self.new result }
+        ensures lighter { IfOk result (λ turn. work (turn_tokens turn) self.new
+            ≤ work tokens.now self.old) }
     {
         match frame {
             Frame::Negated => self.end(Step::Negated, tokens),
             Frame::Not => self.end(Step::Not, tokens),
             Frame::Level(level) => self.level(level, tokens),
             Frame::Joined(level, operator) => {
-                put(&mut self.steps, Step::Binary(operator))?;
+                push_step(&mut self.steps, Step::Binary(operator))?;
                 self.level(level, tokens)
             }
             Frame::Choice => self.choice(tokens),
@@ -227,7 +244,7 @@ impl<'a> Reader<'a> {
             Frame::AfterColon => self.end(Step::Call(Function::If, 3), tokens),
             Frame::Parenthesis => match after_sign(Sign::CloseParenthesis, tokens) {
                 Some(rest) => Ok(Turn::After(rest)),
-                None => Err(Stop::At(CalcKind::Expected, tokens)),
+                None => Err(ParseStop::At(CalcKind::Expected, tokens)),
             },
             Frame::Call {
                 function,
@@ -238,39 +255,45 @@ impl<'a> Reader<'a> {
     }
 
     // After an expression of the level, which an operator may join to another.
-    fn level(&mut self, level: u32, tokens: &'a [Placed]) -> Result<Turn<'a>, Stop<'a>>
-        ensures goes { (s : State) → IsResumed s self.old (frame.Level level) tokens.now → Goes s self.new result }
-        ensures lighter { IfOk result (λ turn. work (turn_tokens turn) self.new ≤ work tokens.now self.old) }
+    fn level(&mut self, level: u32, tokens: &'a [Placed]) -> Result<Turn<'a>, ParseStop<'a>>
+        ensures goes { (s : State) → IsResumed s self.old (frame.Level level) tokens.now
+            → Goes s self.new result }
+        ensures lighter { IfOk result (λ turn. work (turn_tokens turn) self.new
+            ≤ work tokens.now self.old) }
     {
-        let Some((operator, rest)) = next(level, tokens) else {
+        let Some((operator, rest)) = next_operator(level, tokens) else {
             return Ok(Turn::After(tokens));
         };
-        push(&mut self.frames, Frame::Joined(level, operator))?;
-        push(&mut self.frames, Frame::Level(level_of(operator)))?;
+        push_frame(&mut self.frames, Frame::Joined(level, operator))?;
+        push_frame(&mut self.frames, Frame::Level(level_of(operator)))?;
         Ok(Turn::Operand(rest))
     }
 
     // After a condition, or an expression that is none.
-    fn choice(&mut self, tokens: &'a [Placed]) -> Result<Turn<'a>, Stop<'a>>
-        ensures goes { (s : State) → IsResumed s self.old frame.Choice tokens.now → Goes s self.new result }
-        ensures lighter { IfOk result (λ turn. work (turn_tokens turn) self.new ≤ work tokens.now self.old) }
+    fn choice(&mut self, tokens: &'a [Placed]) -> Result<Turn<'a>, ParseStop<'a>>
+        ensures goes { (s : State) → IsResumed s self.old frame.Choice tokens.now
+            → Goes s self.new result }
+        ensures lighter { IfOk result (λ turn. work (turn_tokens turn) self.new
+            ≤ work tokens.now self.old) }
     {
         let Some(rest) = after_sign(Sign::Question, tokens) else {
             return Ok(Turn::After(tokens));
         };
-        push(&mut self.frames, Frame::AfterQuestion)?;
+        push_frame(&mut self.frames, Frame::AfterQuestion)?;
         self.enter(rest)
     }
 
     // After what is chosen where the condition holds.
-    fn otherwise(&mut self, tokens: &'a [Placed]) -> Result<Turn<'a>, Stop<'a>>
-        ensures goes { (s : State) → IsResumed s self.old frame.AfterQuestion tokens.now → Goes s self.new result }
-        ensures lighter { IfOk result (λ turn. work (turn_tokens turn) self.new ≤ work tokens.now self.old) }
+    fn otherwise(&mut self, tokens: &'a [Placed]) -> Result<Turn<'a>, ParseStop<'a>>
+        ensures goes { (s : State) → IsResumed s self.old frame.AfterQuestion tokens.now
+            → Goes s self.new result }
+        ensures lighter { IfOk result (λ turn. work (turn_tokens turn) self.new
+            ≤ work tokens.now self.old) }
     {
         let Some(rest) = after_sign(Sign::Colon, tokens) else {
-            return Err(Stop::At(CalcKind::Expected, tokens));
+            return Err(ParseStop::At(CalcKind::Expected, tokens));
         };
-        push(&mut self.frames, Frame::AfterColon)?;
+        push_frame(&mut self.frames, Frame::AfterColon)?;
         self.enter(rest)
     }
 
@@ -281,24 +304,27 @@ impl<'a> Reader<'a> {
         from: &'a [Placed],
         before: usize,
         tokens: &'a [Placed],
-    ) -> Result<Turn<'a>, Stop<'a>>
-        ensures goes { (s : State) → IsResumed s self.old (frame.Call function from.entry before) tokens.now → Goes s self.new result }
-        ensures lighter { IfOk result (λ turn. work (turn_tokens turn) self.new ≤ work tokens.now self.old) }
+    ) -> Result<Turn<'a>, ParseStop<'a>>
+        ensures goes { (s : State)
+            → IsResumed s self.old (frame.Call function from.entry before) tokens.now
+            → Goes s self.new result }
+        ensures lighter { IfOk result (λ turn. work (turn_tokens turn) self.new
+            ≤ work tokens.now self.old) }
     {
         // Each argument took a step, so that memory ends before the count does.
         let Some(count) = before.checked_add(1) else {
-            return Err(Stop::Memory);
+            return Err(ParseStop::Memory);
         };
         if let Some(rest) = after_sign(Sign::CloseParenthesis, tokens) {
             if accepts(function, count) {
                 return self.end(Step::Call(function, count), rest);
             }
-            return Err(Stop::At(CalcKind::Arguments, from));
+            return Err(ParseStop::At(CalcKind::Arguments, from));
         }
         let Some(rest) = after_sign(Sign::Comma, tokens) else {
-            return Err(Stop::At(CalcKind::Expected, tokens));
+            return Err(ParseStop::At(CalcKind::Expected, tokens));
         };
-        push(
+        push_frame(
             &mut self.frames,
             Frame::Call {
                 function,
@@ -314,8 +340,9 @@ impl<'a> Reader<'a> {
 pub(crate) fn expression<'a>(
     alloc: Global,
     tokens: &'a [Placed],
-) -> Result<(Vec<Step<MapName>>, &'a [Placed]), Stop<'a>>
-    ensures ok { IfOk result (λ x. GrammarReads (Expression tokens.now) (Got (tree_of x.0.items) x.1.now)) }
+) -> Result<(Vec<Step<MapName>>, &'a [Placed]), ParseStop<'a>>
+    ensures ok { IfOk result
+        (λ x. GrammarReads (Expression tokens.now) (Got (tree_of x.0.items) x.1.now)) }
     ensures steps { IfOk result (λ x. x.0.items ≡ postfix (tree_of x.0.items)) }
     ensures err { IfErr result (λ e. ParserStopsAt (Expression tokens.now) e) }
 {

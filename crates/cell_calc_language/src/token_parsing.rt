@@ -2,7 +2,7 @@
 
 ghost use Rattle.std.specs.Prelude.{◌≡◌, ◌<◌, ◌≤◌, [], ◌∷◌, None, length, IfOk, IfErr, IfSome, IfNone};
 ghost use Rattle.cell_calc_language.specs.declared.assignment.Assignment.{Assignment};
-ghost use Rattle.cell_calc_language.specs.declared.token_parsing.Stop.TheVariants.{Memory};
+ghost use Rattle.cell_calc_language.specs.declared.token_parsing.ParseStop.TheVariants.{Memory};
 ghost use Rattle.cell_calc_language.specs.Assignment.{IsAssignment};
 ghost use Rattle.cell_calc_language.specs.GrammarFault.{IsFaultOf, column_of};
 ghost use Rattle.cell_calc_grammar.specs.TokensRead.{next, offset, distance, offsets, GoesOn, IsNot};
@@ -20,7 +20,7 @@ use std::alloc::Global;
 
 /// Why reading stops.
 #[derive(Clone, Copy)]
-pub(crate) enum Stop<'a> {
+pub(crate) enum ParseStop<'a> {
     Memory,
     /// A fault, and the tokens from where it is reported.
     At(CalcKind, &'a [Placed]),
@@ -35,15 +35,15 @@ fn column_of(end: u32, tokens: &[Placed]) -> u32
     }
 }
 
-fn fault_of(end: u32, stop: Stop) -> CalcFault
+fn fault_of(end: u32, stop: ParseStop) -> CalcFault
     ensures { result ≡ fault_of_stop end stop.entry }
 {
     match stop {
-        Stop::Memory => CalcFault {
+        ParseStop::Memory => CalcFault {
             kind: CalcKind::Memory,
             column: 0,
         },
-        Stop::At(kind, rest) => CalcFault {
+        ParseStop::At(kind, rest) => CalcFault {
             kind,
             column: column_of(end, rest),
         },
@@ -51,7 +51,7 @@ fn fault_of(end: u32, stop: Stop) -> CalcFault
 }
 
 // The first token, and those after it.
-pub(crate) fn first<'a>(tokens: &'a [Placed]) -> Option<(&'a Placed, &'a [Placed])>
+pub(crate) fn first_token<'a>(tokens: &'a [Placed]) -> Option<(&'a Placed, &'a [Placed])>
     ensures some { IfSome result (λ x. tokens.now ≡ x.0.now ∷ x.1.now) }
     ensures none { IfNone result (tokens.now ≡ []) }
 {
@@ -67,7 +67,7 @@ pub(crate) fn after_sign<'a>(sign: Sign, tokens: &'a [Placed]) -> Option<&'a [Pl
     ensures none { IfNone result (IsNot sign (head tokens.now)) }
     ensures shorter { IfSome result (λ rest. length rest.now < length tokens.now) }
 {
-    let (placed, rest) = first(tokens)?;
+    let (placed, rest) = first_token(tokens)?;
     match &placed.token {
         Token::Sign(found) if *found == sign => Some(rest),
         _ => None,
@@ -75,12 +75,15 @@ pub(crate) fn after_sign<'a>(sign: Sign, tokens: &'a [Placed]) -> Option<&'a [Pl
 }
 
 // The operator at the front and what comes after it, if an expression of the level goes on with it.
-pub(crate) fn next<'a>(level: u32, tokens: &'a [Placed]) -> Option<(Operator, &'a [Placed])>
+pub(crate) fn next_operator<'a>(
+    level: u32,
+    tokens: &'a [Placed],
+) -> Option<(Operator, &'a [Placed])>
     ensures some { IfSome result (λ x. GoesOn level tokens.now x.0 x.1.now) }
     ensures none { IfNone result (next level tokens.now ≡ None) }
     ensures shorter { IfSome result (λ x. length x.1.now < length tokens.now) }
 {
-    let (placed, rest) = first(tokens)?;
+    let (placed, rest) = first_token(tokens)?;
     let operator = operator_of(&placed.token)?;
     if level_of(operator) < level {
         Some((operator, rest))
@@ -89,64 +92,64 @@ pub(crate) fn next<'a>(level: u32, tokens: &'a [Placed]) -> Option<(Operator, &'
     }
 }
 
-pub(crate) fn copied<'a>(alloc: Global, name: &Name) -> Result<Name, Stop<'a>>
+pub(crate) fn name_copy<'a>(alloc: Global, name: &Name) -> Result<Name, ParseStop<'a>>
     ensures ok { IfOk result (λ copy. copy ≡ name.now) }
     ensures err { IfErr result (λ e. e ≡ Memory) }
 {
     match name.copy(alloc) {
         Ok(copy) => Ok(copy),
-        Err(_) => Err(Stop::Memory),
+        Err(_) => Err(ParseStop::Memory),
     }
 }
 
-fn distance<'a>(tokens: &'a [Placed]) -> Result<(u32, &'a [Placed]), Stop<'a>>
+fn read_distance<'a>(tokens: &'a [Placed]) -> Result<(u32, &'a [Placed]), ParseStop<'a>>
     ensures told { IsPartRead (distance tokens.now) result }
     ensures near { IfOk result (λ x. x.0 ≤ 255) }
     ensures shorter { IfOk result (λ x. length x.1.now < length tokens.now) }
 {
-    let Some((placed, rest)) = first(tokens) else {
-        return Err(Stop::At(CalcKind::Expected, tokens));
+    let Some((placed, rest)) = first_token(tokens) else {
+        return Err(ParseStop::At(CalcKind::Expected, tokens));
     };
     match &placed.token {
         Token::Number(n) => {
             if *n <= 255 {
                 Ok((*n, rest))
             } else {
-                Err(Stop::At(CalcKind::BadOffset, tokens))
+                Err(ParseStop::At(CalcKind::BadOffset, tokens))
             }
         }
-        _ => Err(Stop::At(CalcKind::Expected, tokens)),
+        _ => Err(ParseStop::At(CalcKind::Expected, tokens)),
     }
 }
 
-fn offset<'a>(tokens: &'a [Placed]) -> Result<(i32, &'a [Placed]), Stop<'a>>
+fn read_offset<'a>(tokens: &'a [Placed]) -> Result<(i32, &'a [Placed]), ParseStop<'a>>
     ensures told { IsPartRead (offset tokens.now) result }
     ensures shorter { IfOk result (λ x. length x.1.now < length tokens.now) }
 {
     if let Some(after) = after_sign(Sign::Minus, tokens) {
-        let (n, rest) = distance(after)?;
+        let (n, rest) = read_distance(after)?;
         return Ok((-(n as i32), rest));
     }
     if let Some(after) = after_sign(Sign::Plus, tokens) {
-        let (n, rest) = distance(after)?;
+        let (n, rest) = read_distance(after)?;
         return Ok((n as i32, rest));
     }
-    let (n, rest) = distance(tokens)?;
+    let (n, rest) = read_distance(tokens)?;
     Ok((n as i32, rest))
 }
 
 // Both offsets and the closing bracket.
-pub(crate) fn offsets<'a>(tokens: &'a [Placed]) -> Result<((i32, i32), &'a [Placed]), Stop<'a>>
+pub(crate) fn offsets<'a>(tokens: &'a [Placed]) -> Result<((i32, i32), &'a [Placed]), ParseStop<'a>>
     ensures told { IsPartRead (offsets tokens.now) result }
     ensures shorter { IfOk result (λ x. length x.1.now < length tokens.now) }
 {
-    let (down, rest) = offset(tokens)?;
+    let (down, rest) = read_offset(tokens)?;
     let Some(after) = after_sign(Sign::Comma, rest) else {
-        return Err(Stop::At(CalcKind::Expected, rest));
+        return Err(ParseStop::At(CalcKind::Expected, rest));
     };
-    let (right, rest) = offset(after)?;
+    let (right, rest) = read_offset(after)?;
     let Some(after) = after_sign(Sign::CloseBracket, rest) else {
-        return Err(Stop::At(CalcKind::Expected, rest));
+        return Err(ParseStop::At(CalcKind::Expected, rest));
     };
     Ok(((down, right), after))
 }
@@ -162,16 +165,16 @@ pub(crate) fn assignment(
     ensures only { IfOk result (λ a. (b : Assignment) → IsAssignment tokens.now b → b ≡ a) }
     ensures fault { IfErr result (λ fault. IsFaultOf end tokens.now fault) }
 {
-    let Some((placed, rest)) = first(tokens) else {
-        return Err(fault_of(end, Stop::At(CalcKind::Expected, tokens)));
+    let Some((placed, rest)) = first_token(tokens) else {
+        return Err(fault_of(end, ParseStop::At(CalcKind::Expected, tokens)));
     };
     let Token::Name(name) = &placed.token else {
-        return Err(fault_of(end, Stop::At(CalcKind::Expected, tokens)));
+        return Err(fault_of(end, ParseStop::At(CalcKind::Expected, tokens)));
     };
     let Some(after) = after_sign(Sign::Assign, rest) else {
-        return Err(fault_of(end, Stop::At(CalcKind::Expected, rest)));
+        return Err(fault_of(end, ParseStop::At(CalcKind::Expected, rest)));
     };
-    let target = match copied(alloc, name) {
+    let target = match name_copy(alloc, name) {
         Ok(target) => target,
         Err(stop) => return Err(fault_of(end, stop)),
     };
@@ -179,11 +182,11 @@ pub(crate) fn assignment(
         Ok(read) => read,
         Err(stop) => return Err(fault_of(end, stop)),
     };
-    match first(left) {
+    match first_token(left) {
         None => Ok(Assignment {
             target,
             expr: Expr { steps },
         }),
-        Some(_) => Err(fault_of(end, Stop::At(CalcKind::Expected, left))),
+        Some(_) => Err(fault_of(end, ParseStop::At(CalcKind::Expected, left))),
     }
 }

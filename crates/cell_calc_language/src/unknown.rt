@@ -9,7 +9,7 @@ use cell_calc_steps::step::Step;
 use cell_core_values::name::Names;
 
 // The column of a map name that has no place among the names.
-fn unplaced(step: &Step<MapName>, names: &Names) -> Option<u32>
+fn unplaced_column(step: &Step<MapName>, names: &Names) -> Option<u32>
     ensures { result ≡ at_step (unknown_at names.now) None step.now }
 {
     let Step::Map { leaf, .. } = step else {
@@ -26,7 +26,7 @@ pub(crate) fn first_unplaced(steps: &[Step<MapName>], names: &Names) -> Option<u
     ensures { result ≡ fold_steps (unknown_at names.now) None first_column steps.now }
 {
     for step in steps {
-        if let Some(column) = unplaced(step, names) {
+        if let Some(column) = unplaced_column(step, names) {
             return Some(column);
         }
     }

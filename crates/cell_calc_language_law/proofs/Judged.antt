@@ -11,7 +11,7 @@ use Rattle.cell_calc_tokens.specs.declared.token.Token.TheVariants as token
 use Rattle.cell_calc_language.specs.Assignment.{IsAssignment}
 use Rattle.cell_calc_grammar.specs.Grammar.{AreCalled}
 use Rattle.cell_calc_language.specs.GrammarFault.{column_of, IsUnknown, IsMiscounted, IsFar, Tells, IsGrammarFault}
-use Rattle.cell_calc_grammar.specs.TokensRead.{Outcome, Got, GotAll, Stops, Expression, IsNot, GrammarReads, tail}
+use Rattle.cell_calc_grammar.specs.TokensRead.{ReadOutcome, Got, GotAll, Stops, Expression, IsNot, GrammarReads, tail}
 use Rattle.cell_calc_grammar.specs.Term.{Terms}
 use Rattle.cell_calc_tokens.specs.Token.{token_number_at, name_at, sign_at, head}
 use Rattle.cell_calc_tokens.specs.Tokens.{token_fault}
@@ -137,7 +137,7 @@ one_fault end ts f g (inr (e, can, none), _) (inr (e', can', none'), _) = e ∙ 
 abbrev pub IsJudged : ℕ → List Placed → Type 0
 IsJudged end ts = ((a : Assignment) × IsAssignment ts a) ⊎ ((told : CalcFault) × IsGrammarFault end ts told)
 
-judged_read : (end : ℕ) (name : List ℕ) (c d : ℕ) (us : List Placed) (o : Outcome) → GrammarReads (Expression us) o → IsJudged end (name_at name c ∷ sign_at Assign d ∷ us)
+judged_read : (end : ℕ) (name : List ℕ) (c d : ℕ) (us : List Placed) (o : ReadOutcome) → GrammarReads (Expression us) o → IsJudged end (name_at name c ∷ sign_at Assign d ∷ us)
 judged_read end name c d us (Got a []) r =
     let x : Assignment = record { target = name; expr = a } in
     inl (x, (c, d, us, refl, sound_all us a r))

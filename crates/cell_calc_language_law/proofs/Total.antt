@@ -11,14 +11,14 @@ use Rattle.cell_calc_tokens.specs.declared.token.Token.TheVariants as token
 use Rattle.cell_calc_tokens.specs.Function.{function_of, accepts}
 use Rattle.cell_calc_tokens.specs.Operator.{level_of, top}
 use Rattle.cell_calc_grammar.specs.TokensRead as reading
-use Rattle.cell_calc_grammar.specs.TokensRead.{PartOfExpression, tail, Outcome, Got, GotAll, Stops, State, Operand, Whole, More, Expression, Choice, AfterQuestion, Called, Arguments, Onward, next, IsNot, IsAlone, BeginsNone, negate, invert, after_bracket, close, join, choose, move, call_judged, call, add, GrammarReads, nothing, whole, stopped, done, more, expression, unread, unchosen, asked, unasked, no_colon, otherwise, arguments, halted, unended}
+use Rattle.cell_calc_grammar.specs.TokensRead.{PartOfExpression, tail, ReadOutcome, Got, GotAll, Stops, State, Operand, Whole, More, Expression, Choice, AfterQuestion, Called, Arguments, Onward, next, IsNot, IsAlone, BeginsNone, negate, invert, after_bracket, close, join, choose, move, call_judged, call, add, GrammarReads, nothing, whole, stopped, done, more, expression, unread, unchosen, asked, unasked, no_colon, otherwise, arguments, halted, unended}
 use Rattle.cell_calc_grammar.specs.Term.{Term, Terms}
 use Rattle.cell_calc_tokens.specs.Token.{name_at, sign_at, head}
 use Rattle.cell_calc_grammar.proofs.Occurs.{left, tokens, find}
 use Rattle.cell_calc_grammar.proofs.Sound.{IsSound, sound}
 
 -- an expression, or a stop
-abbrev IsTerm : Outcome → Type 0
+abbrev IsTerm : ReadOutcome → Type 0
 IsTerm (GotAll xs rest) = ⊥
 IsTerm _ = Unit {0}
 
@@ -31,25 +31,26 @@ Starts (Onward o) = IsTerm o
 Starts _ = Unit {0}
 
 abbrev Total : State → Type 0
-Total s = (o : Outcome) × GrammarReads s o
+Total s = (o : ReadOutcome) × GrammarReads s o
 
 -- states of fewer tokens are read
 abbrev Totals : ℕ → Type 0
 Totals n = (s : State) → Starts s → length (tokens s) < n → Total s
 
-is_term : {s : State} {o : Outcome} → ((xs : Terms) (rest : List Placed) → IsSound s (GotAll xs rest) → ⊥)
+is_term : {s : State} {o : ReadOutcome} → ((xs : Terms) (rest : List Placed) → IsSound s (GotAll xs rest) → ⊥)
     → GrammarReads s o → IsTerm o
 is_term {o = Got a rest} n r = tt
 is_term {o = GotAll xs rest} n r = n xs rest (sound r)
 is_term {o = Stops kind rest} n r = tt
 
-joined_term : (op : Operator) (a : Term) (o : Outcome) → IsTerm o → IsTerm (join op a o) × (left (join op a o) ≡ left o)
+joined_term : (op : Operator) (a : Term) (o : ReadOutcome) → IsTerm o
+    → IsTerm (join op a o) × (left (join op a o) ≡ left o)
 joined_term op a (Got b rest) i = (tt, refl)
 joined_term op a (GotAll xs rest) i = absurd i
 joined_term op a (Stops kind rest) i = (tt, refl)
 
 -- no more is left than there was
-not_longer : {s : State} {o : Outcome} → GrammarReads s o → length (left o) ≤ length (tokens s)
+not_longer : {s : State} {o : ReadOutcome} → GrammarReads s o → length (left o) ≤ length (tokens s)
 not_longer {s = s} {o = o} r =
     let w = find r in
     let all : length (tokens s) ≡ length (w.before ++ left o) = ap length w.all in
@@ -102,7 +103,7 @@ module _ (n : ℕ) (t : Totals n) where
       let y = t (More k (join op a x.0)) j.0 (omega arith) in
       (_, more op e x.1 y.1)
 
-  more_total : (k : ℕ) (o : Outcome) → IsTerm o → length (left o) < suc n → Total (More k o)
+  more_total : (k : ℕ) (o : ReadOutcome) → IsTerm o → length (left o) < suc n → Total (More k o)
   more_total k (Stops kind us) i h = (_, stopped)
   more_total k (GotAll xs us) i h = absurd i
   more_total k (Got a []) i h = (_, done refl)
@@ -120,7 +121,7 @@ module _ (n : ℕ) (t : Totals n) where
   colon_at x a (token.Sign Colon) c us h = let y = t (Expression us) tt h in (_, otherwise y.1)
   colon_at x a _ c us h = (_, no_colon (λ k. cc))
 
-  after_question_total : (x : Term) (o : Outcome) → IsTerm o → length (left o) < suc n → Total (AfterQuestion x o)
+  after_question_total : (x : Term) (o : ReadOutcome) → IsTerm o → length (left o) < suc n → Total (AfterQuestion x o)
   after_question_total x (Stops kind us) i h = (_, unasked)
   after_question_total x (GotAll xs us) i h = absurd i
   after_question_total x (Got a []) i h = (_, no_colon (λ k. cc))
@@ -135,7 +136,7 @@ module _ (n : ℕ) (t : Totals n) where
       (_, asked x.1 y.1)
   question_at a _ c us h = (_, unchosen (λ k. cc))
 
-  choice_total : (o : Outcome) → IsTerm o → length (left o) < suc n → Total (Choice o)
+  choice_total : (o : ReadOutcome) → IsTerm o → length (left o) < suc n → Total (Choice o)
   choice_total (Stops kind us) i h = (_, unread)
   choice_total (GotAll xs us) i h = absurd i
   choice_total (Got a []) i h = (_, unchosen (λ k. cc))
@@ -154,7 +155,7 @@ module _ (n : ℕ) (t : Totals n) where
   comma_at a (token.Sign Comma) c us h = let x = t (Arguments us) tt h in (_, reading.another x.1)
   comma_at a _ c us h = (_, unended (λ k. cc) (λ k. cc))
 
-  onward_total : (o : Outcome) → IsTerm o → length (left o) < suc n → Total (Onward o)
+  onward_total : (o : ReadOutcome) → IsTerm o → length (left o) < suc n → Total (Onward o)
   onward_total (Stops kind us) i h = (_, halted)
   onward_total (GotAll xs us) i h = absurd i
   onward_total (Got a []) i h = (_, unended (λ k. cc) (λ k. cc))
@@ -189,5 +190,5 @@ totals (suc n) (Arguments ts) i h = arguments_total n (totals n) ts h
 totals (suc n) (Onward o) i h = onward_total n (totals n) o i h
 
 -- each list of tokens is read
-pub read_somehow : (ts : List Placed) → (o : Outcome) × GrammarReads (Expression ts) o
+pub read_somehow : (ts : List Placed) → (o : ReadOutcome) × GrammarReads (Expression ts) o
 read_somehow ts = totals (suc (length ts)) (Expression ts) tt (omega arith)

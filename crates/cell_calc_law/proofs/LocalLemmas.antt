@@ -7,7 +7,7 @@ use Rattle.std.proofs.lemmas.Bool.{eqb-true, eq-eqb}
 use Rattle.cell_core.specs.Grid.{Grid, CellValue, cell_at}
 use Rattle.cell_calc_tokens.specs.declared.function.Function.{Function}
 use Rattle.cell_calc_tokens.specs.declared.function.Function.TheVariants as function
-use Rattle.cell_calc_operators.specs.Applied.{Spot, negated, inverted, applied, call_result}
+use Rattle.cell_calc_operators.specs.Applied.{Spot, negated_cell, inverted_cell, operator_value, call_result}
 use Rattle.cell_calc_operators.specs.Offsets.{cell_in}
 use Rattle.cell_calc_binding.specs.Compact.{ReadsMap, AreReading}
 use Rattle.cell_calc_binding.specs.Formula as formula
@@ -77,9 +77,9 @@ abbrev mutual
   given_by : Formula → List ℕ → Combination → CellValue
   given_by (formula.Number n) picks k = Some (pos n)
   given_by (Map i down right) picks k = picked picks k i
-  given_by (formula.Negated a) picks k = negated (given_by a picks k)
-  given_by (formula.Not a) picks k = inverted (given_by a picks k)
-  given_by (formula.Binary op a b) picks k = applied op (given_by a picks k) (given_by b picks k)
+  given_by (formula.Negated a) picks k = negated_cell (given_by a picks k)
+  given_by (formula.Not a) picks k = inverted_cell (given_by a picks k)
+  given_by (formula.Binary op a b) picks k = operator_value op (given_by a picks k) (given_by b picks k)
   given_by (formula.Call f xs) picks k = call_result f nowhere (all_given xs picks k)
 
   all_given : Formulas → List ℕ → Combination → List CellValue
@@ -105,11 +105,11 @@ module _ (picks : List ℕ) (maps : List Grid) (s : Spot) where
     goes (formula.Number n) local reads = refl
     goes (Map i down right) local reads =
         value-here maps i down right s local.0 local.1 ∙ sym (picked-is maps s.row s.col i picks (reads i refl))
-    goes (formula.Negated a) local reads = ap negated (goes a local reads)
-    goes (formula.Not a) local reads = ap inverted (goes a local reads)
+    goes (formula.Negated a) local reads = ap negated_cell (goes a local reads)
+    goes (formula.Not a) local reads = ap inverted_cell (goes a local reads)
     goes (formula.Binary op a b) local reads =
-        ap (λ x. applied op x (value b maps s)) (goes a local.0 (λ place h. reads place (inl h)))
-        ∙ ap (λ y. applied op (given_by a picks k) y) (goes b local.1 (λ place h. reads place (inr h)))
+        ap (λ x. operator_value op x (value b maps s)) (goes a local.0 (λ place h. reads place (inl h)))
+        ∙ ap (λ y. operator_value op (given_by a picks k) y) (goes b local.1 (λ place h. reads place (inr h)))
     goes (formula.Call f xs) local reads =
         ap (call_result f s) (all-go xs local.1 reads) ∙ call-anywhere f s nowhere (all_given xs picks k) local.0
 

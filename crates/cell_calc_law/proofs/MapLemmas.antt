@@ -7,7 +7,7 @@ use Rattle.cell_core_values.specs.Region.{RegionValue}
 use Rattle.cell_core.specs.Grid.{Grid, CellValue, IsFilled, cell_at}
 use Rattle.cell_core.specs.Shelf.{ShelfValue}
 use Rattle.cell_calc_operators.specs.Applied.{spot}
-use Rattle.cell_calc_operators.specs.CellOperators.{chosen, truth, is_null}
+use Rattle.cell_calc_operators.specs.CellOperators.{chosen_cell, truth, is_null}
 use Rattle.cell_calc_binding.specs.Formula.{Formula, Map}
 use Rattle.cell_calc_binding.specs.Value.{value}
 use Rattle.rcell_making.specs.Making.{AreValues}
@@ -56,7 +56,7 @@ one-map-of-values f g shelf x y are_x are_y same =
     are_x.cells r c r_lt c_lt ∙ same r c r_lt c_lt ∙ sym (are_y.cells r c r_lt c_lt)))
     (are_x.labels ∙ sym are_y.labels)
 
-either : (v : CellValue) → chosen (truth (is_null v)) v v ≡ v
+either : (v : CellValue) → chosen_cell (truth (is_null v)) v v ≡ v
 either None = refl
 either (Some n) = refl
 

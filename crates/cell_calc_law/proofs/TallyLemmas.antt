@@ -10,20 +10,20 @@ use Rattle.std.specs.FinMap.Entries.{find, is_sorted, below_all}
 use Rattle.std.proofs.lemmas.List.Sums.{sum_by-append}
 use Rattle.cell_stats_combinations.specs.declared.skip.Skip.TheVariants.{Nothing}
 use Rattle.cell_stats_combinations.specs.Combinations.{Combination, combination_cmp}
-use Rattle.cell_stats_combinations.specs.LeftOut.{kept}
+use Rattle.cell_stats_combinations.specs.LeftOut.{kept_cells}
 use Rattle.cell_stats_combinations.proofs.OrderLemmas.{combination_cmp-total, combination_cmp-exact, is_equal}
 use Rattle.cell_stats_counts.specs.Counts.{count_of}
 use Rattle.cell_stats.specs.CategoryTables.{Pairs, table_of}
 use Rattle.cell_stats.proofs.SortedLemmas.{both_true, is_less}
 use Rattle.cell_stats.proofs.TableLemmas.{IsTally, IsFound-from, counts_of-IsTally, count_cons, found}
 
-pub kept-nothing : (cells : List Combination) → kept Nothing cells ≡ cells
+pub kept-nothing : (cells : List Combination) → kept_cells Nothing cells ≡ cells
 kept-nothing [] = refl
 kept-nothing (k ∷ cells) = ap (λ (l : List Combination). k ∷ l) (kept-nothing cells)
 
 pub whole-tally : (cells : List Combination) → IsTally cells (table_of Nothing cells)
 whole-tally cells =
-    let kept_cells = counts_of-IsTally (kept Nothing cells) in
+    let kept_cells = counts_of-IsTally (kept_cells Nothing cells) in
     subst (λ (l : List Combination). IsTally l (table_of Nothing cells)) (kept-nothing cells) kept_cells
 
 -- ---- each cell is counted by one entry

@@ -4,7 +4,7 @@ use Rattle.cell_calc_operators.specs.Applied.{spot}
 use Rattle.cell_calc_binding.specs.Value.{value}
 use Rattle.cell_tiles_law.specs.ReachParts.{reach_of, spot_in}
 use Rattle.cell_tiles_law.proofs.ReachLemmas.{its-reach-is-enough}
-use Rattle.cell_calc_law.specs.TileLaw.{haloed, TilesMakeTheMap}
+use Rattle.cell_calc_law.specs.TileLaw.{haloed_rectangle, TilesMakeTheMap}
 
 inside : (total first n up down i rows : ℕ)
     → rows ≡ min total (first + n + down) - (first - up) → first + n ≤ total → first ≤ i → i < first + n
@@ -13,7 +13,7 @@ inside total first n up down i rows is fits from to = omega (arith, fits, from, 
 
 pub tiles-make-the-map : TilesMakeTheMap
 tiles-make-the-map f whole tile r is no_rows no_cols x y are_x are_y row col holds =
-    let h = haloed f whole r in
+    let h = haloed_rectangle f whole r in
     let reach = reach_of f in
     let row_in = inside whole.region.rows r.top r.rows reach.up reach.down row tile.region.rows is.rows in
     let col_in = inside whole.region.cols r.left r.cols reach.left reach.right col tile.region.cols is.cols in

@@ -6,7 +6,8 @@ use Rattle.std.specs.Int.{CanDivide, IsNonZero}
 use Rattle.std.specs.Int.RustNames.{int_div, int_rem}
 use Rattle.std.specs.Option.{SomeIff}
 use Rattle.std.specs.Prelude.{if◌then◌else◌}
-use Rattle.cell_calc_operators.specs.CellOperators.{fit, of_one, is_zero, is_category}
+use Rattle.cell_calc_operators.specs.CellOperators.{fit, of_one, is_zero}
+use Rattle.cell_core_values.specs.Cell.{is_category}
 
 -- a category fits
 category_fits : (n : ℤ) → is_category n ≡ true → FitsSigned w32 n

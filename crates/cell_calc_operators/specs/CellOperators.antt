@@ -2,12 +2,8 @@
 use Rattle.std.specs.Prelude.{ℕ, ℤ, pos, negsuc, int_le, Bool, true, false, not, ◌&&◌, ◌||◌, ◌==◌, nat_le, List, [], ◌∷◌, Some, None, slice_index_or, length, ◌-◌, if◌then◌else◌, filter, fold, count_by}
 use Rattle.std.specs.Int.{int_min, int_max}
 use Rattle.std.specs.List.{list_any, list_all}
-use Rattle.cell_core_values.specs.Cell.{cell_eq}
+use Rattle.cell_core_values.specs.Cell.{cell_eq, is_category}
 use Rattle.cell_core.specs.Grid.{CellValue}
-
--- in the range of the categories
-abbrev pub is_category : ℤ → Bool
-is_category n = int_le (negsuc 2147483646) n && int_le n (pos 2147483647)
 
 -- a result outside it is null
 abbrev pub fit : ℤ → CellValue
@@ -57,9 +53,9 @@ abbrev pub known_or : CellValue → CellValue → CellValue
 known_or a b = if is_true a || is_true b then Some (pos 1) else (if is_null a || is_null b then None else Some (pos 0))
 
 -- null if the condition is null; the first where it is not 0, else the second
-abbrev pub chosen : CellValue → CellValue → CellValue → CellValue
-chosen None a b = None
-chosen (Some x) a b = if is_zero x then b else a
+abbrev pub chosen_cell : CellValue → CellValue → CellValue → CellValue
+chosen_cell None a b = None
+chosen_cell (Some x) a b = if is_zero x then b else a
 
 -- the lesser of two, and the greater; null if one is null
 abbrev pub lesser : CellValue → CellValue → CellValue
@@ -78,8 +74,8 @@ greatest_cell [] = None
 greatest_cell (a ∷ xs) = fold greater a xs
 
 -- those that are not null
-abbrev pub known : List CellValue → List CellValue
-known xs = filter (λ a. not (is_null a)) xs
+abbrev pub known_cells : List CellValue → List CellValue
+known_cells xs = filter (λ a. not (is_null a)) xs
 
 -- how often a value occurs
 abbrev pub occurrences : CellValue → List CellValue → ℕ
@@ -108,7 +104,7 @@ last_argument xs = slice_index_or xs (length xs - 1) None
 
 -- if(x) is as if(x,1,0), and if(x,a) as if(x,a,0)
 abbrev pub if_of : List CellValue → CellValue
-if_of (x ∷ []) = chosen x (Some (pos 1)) (Some (pos 0))
-if_of (x ∷ a ∷ []) = chosen x a (Some (pos 0))
-if_of (x ∷ a ∷ b ∷ []) = chosen x a b
+if_of (x ∷ []) = chosen_cell x (Some (pos 1)) (Some (pos 0))
+if_of (x ∷ a ∷ []) = chosen_cell x a (Some (pos 0))
+if_of (x ∷ a ∷ b ∷ []) = chosen_cell x a b
 if_of _ = None

@@ -1,8 +1,8 @@
 //! What operators and functions do with cells.
 
 ghost use Rattle.std.specs.Prelude.{◌≡◌, pos, ◌+ℤ◌, ◌-ℤ◌, ◌*ℤ◌, ◌≤ℤ◌, ◌≤◌, Some, negsuc, neg_ℤ, int_div, unsigned_abs, false};
-ghost use Rattle.cell_calc_operators.specs.CellOperators.{fit, truth, chosen, lesser, greater, is_zero, is_false, is_true, is_null, known_and, known_or, of_one};
-ghost use Rattle.cell_calc_operators.specs.Applied.{negated, inverted, size_of, applied};
+ghost use Rattle.cell_calc_operators.specs.CellOperators.{fit, truth, chosen_cell, lesser, greater, is_zero, is_false, is_true, is_null, known_and, known_or, of_one};
+ghost use Rattle.cell_calc_operators.specs.Applied.{negated_cell, inverted_cell, size_of, operator_value};
 ghost use Rattle.cell_calc_operators.specs.Joins.{known_lesser, known_greater};
 ghost use Rattle.cell_calc_tokens.specs.declared.operator.Operator.TheVariants as operator;
 
@@ -31,7 +31,7 @@ pub fn number(number: u32) -> Cell
 
 /// A result that was found, null where none was.
 #[inline(always)]
-fn found(number: Option<i32>) -> Cell
+fn cell_or_null(number: Option<i32>) -> Cell
     ensures { result ≡ of_one (λ n. fit n) number }
 {
     match number {
@@ -116,7 +116,7 @@ fn difference_of(x: i32, y: i32) -> Cell
 fn product_of(x: i32, y: i32) -> Cell
     ensures { result ≡ fit (x *ℤ y) }
 {
-    found(x.checked_mul(y))
+    cell_or_null(x.checked_mul(y))
 }
 
 #[inline(always)]
@@ -124,7 +124,7 @@ fn quotient_of(x: i32, y: i32) -> Cell
     requires { is_zero y ≡ false }
     ensures { result ≡ fit (int_div x y) }
 {
-    found(x.checked_div(y))
+    cell_or_null(x.checked_div(y))
 }
 
 #[inline(always)]
@@ -133,13 +133,13 @@ fn remainder_of(x: i32, y: i32) -> Cell
     requires divisor { is_zero y ≡ false }
     ensures { result ≡ fit (x -ℤ (y *ℤ int_div x y)) }
 {
-    found(x.checked_rem(y))
+    cell_or_null(x.checked_rem(y))
 }
 
 /// `a + b`; null where one of them is null, or the sum is out of range (profile).
 #[inline(always)]
 pub fn sum(a: Cell, b: Cell) -> Cell
-    ensures { result ≡ applied operator.Plus a b }
+    ensures { result ≡ operator_value operator.Plus a b }
 {
     match (a.get(), b.get()) {
         (Some(x), Some(y)) => sum_of(x, y),
@@ -150,7 +150,7 @@ pub fn sum(a: Cell, b: Cell) -> Cell
 /// `a - b`; null where one of them is null, or the difference is out of range (profile).
 #[inline(always)]
 pub fn difference(a: Cell, b: Cell) -> Cell
-    ensures { result ≡ applied operator.Minus a b }
+    ensures { result ≡ operator_value operator.Minus a b }
 {
     match (a.get(), b.get()) {
         (Some(x), Some(y)) => difference_of(x, y),
@@ -161,7 +161,7 @@ pub fn difference(a: Cell, b: Cell) -> Cell
 /// `a * b`; null where one of them is null, or the product is out of range (profile).
 #[inline(always)]
 pub fn product(a: Cell, b: Cell) -> Cell
-    ensures { result ≡ applied operator.Times a b }
+    ensures { result ≡ operator_value operator.Times a b }
 {
     match (a.get(), b.get()) {
         (Some(x), Some(y)) => product_of(x, y),
@@ -172,7 +172,7 @@ pub fn product(a: Cell, b: Cell) -> Cell
 /// `a / b`, cut off towards zero; null where one of them is null, or `b` is 0 (GRASS manual: r.mapcalc).
 #[inline(always)]
 pub fn quotient(a: Cell, b: Cell) -> Cell
-    ensures { result ≡ applied operator.Divide a b }
+    ensures { result ≡ operator_value operator.Divide a b }
 {
     match (a.get(), b.get()) {
         (Some(x), Some(y)) => {
@@ -189,7 +189,7 @@ pub fn quotient(a: Cell, b: Cell) -> Cell
 /// `a % b`, with the sign of `a`; null where one of them is null, or `b` is 0 (profile).
 #[inline(always)]
 pub fn remainder(a: Cell, b: Cell) -> Cell
-    ensures { result ≡ applied operator.Modulo a b }
+    ensures { result ≡ operator_value operator.Modulo a b }
 {
     match (a.get(), b.get()) {
         (Some(x), Some(y)) => {
@@ -206,7 +206,7 @@ pub fn remainder(a: Cell, b: Cell) -> Cell
 /// `a < b` as 1 or 0; null where one of them is null.
 #[inline(always)]
 pub fn less(a: Cell, b: Cell) -> Cell
-    ensures { result ≡ applied operator.Less a b }
+    ensures { result ≡ operator_value operator.Less a b }
 {
     match (a.get(), b.get()) {
         (Some(x), Some(y)) => truth(x < y),
@@ -217,7 +217,7 @@ pub fn less(a: Cell, b: Cell) -> Cell
 /// `a <= b` as 1 or 0; null where one of them is null.
 #[inline(always)]
 pub fn less_equal(a: Cell, b: Cell) -> Cell
-    ensures { result ≡ applied operator.LessEqual a b }
+    ensures { result ≡ operator_value operator.LessEqual a b }
 {
     match (a.get(), b.get()) {
         (Some(x), Some(y)) => truth(x <= y),
@@ -228,7 +228,7 @@ pub fn less_equal(a: Cell, b: Cell) -> Cell
 /// `a > b` as 1 or 0; null where one of them is null.
 #[inline(always)]
 pub fn greater(a: Cell, b: Cell) -> Cell
-    ensures { result ≡ applied operator.Greater a b }
+    ensures { result ≡ operator_value operator.Greater a b }
 {
     match (a.get(), b.get()) {
         (Some(x), Some(y)) => truth(x > y),
@@ -239,7 +239,7 @@ pub fn greater(a: Cell, b: Cell) -> Cell
 /// `a >= b` as 1 or 0; null where one of them is null.
 #[inline(always)]
 pub fn greater_equal(a: Cell, b: Cell) -> Cell
-    ensures { result ≡ applied operator.GreaterEqual a b }
+    ensures { result ≡ operator_value operator.GreaterEqual a b }
 {
     match (a.get(), b.get()) {
         (Some(x), Some(y)) => truth(x >= y),
@@ -250,7 +250,7 @@ pub fn greater_equal(a: Cell, b: Cell) -> Cell
 /// `a == b` as 1 or 0; null where one of them is null.
 #[inline(always)]
 pub fn equal(a: Cell, b: Cell) -> Cell
-    ensures { result ≡ applied operator.Equal a b }
+    ensures { result ≡ operator_value operator.Equal a b }
 {
     match (a.get(), b.get()) {
         (Some(x), Some(y)) => truth(x == y),
@@ -261,7 +261,7 @@ pub fn equal(a: Cell, b: Cell) -> Cell
 /// `a != b` as 1 or 0; null where one of them is null.
 #[inline(always)]
 pub fn not_equal(a: Cell, b: Cell) -> Cell
-    ensures { result ≡ applied operator.NotEqual a b }
+    ensures { result ≡ operator_value operator.NotEqual a b }
 {
     match (a.get(), b.get()) {
         (Some(x), Some(y)) => truth(x != y),
@@ -272,7 +272,7 @@ pub fn not_equal(a: Cell, b: Cell) -> Cell
 /// `a && b` as 1 or 0; null where one of them is null.
 #[inline(always)]
 pub fn and(a: Cell, b: Cell) -> Cell
-    ensures { result ≡ applied operator.And a b }
+    ensures { result ≡ operator_value operator.And a b }
 {
     match (a.get(), b.get()) {
         (Some(x), Some(y)) => truth(!is_zero(x) && !is_zero(y)),
@@ -283,7 +283,7 @@ pub fn and(a: Cell, b: Cell) -> Cell
 /// `a || b` as 1 or 0; null where one of them is null.
 #[inline(always)]
 pub fn or(a: Cell, b: Cell) -> Cell
-    ensures { result ≡ applied operator.Or a b }
+    ensures { result ≡ operator_value operator.Or a b }
 {
     match (a.get(), b.get()) {
         (Some(x), Some(y)) => truth(!is_zero(x) || !is_zero(y)),
@@ -316,7 +316,7 @@ pub fn larger(a: Cell, b: Cell) -> Cell
 /// `a &&& b`: 0 where one of them is 0, whatever the other is; else as `a && b` (GRASS manual: r.mapcalc).
 #[inline(always)]
 pub fn known_and(a: Cell, b: Cell) -> Cell
-    ensures { result ≡ applied operator.KnownAnd a b }
+    ensures { result ≡ operator_value operator.KnownAnd a b }
 {
     if is_false(a) || is_false(b) {
         return fit(0);
@@ -330,7 +330,7 @@ pub fn known_and(a: Cell, b: Cell) -> Cell
 /// `a ||| b`: 1 where one of them is neither null nor 0, whatever the other is; else as `a || b` (GRASS manual: r.mapcalc).
 #[inline(always)]
 pub fn known_or(a: Cell, b: Cell) -> Cell
-    ensures { result ≡ applied operator.KnownOr a b }
+    ensures { result ≡ operator_value operator.KnownOr a b }
 {
     if is_true(a) || is_true(b) {
         return fit(1);
@@ -372,19 +372,19 @@ pub fn known_larger(a: Cell, b: Cell) -> Cell
 /// `-a`; null where `a` is null.
 #[tactic(auto, using(crate::proofs::Fit::fit_checked))]
 #[inline(always)]
-pub fn negated(a: Cell) -> Cell
-    ensures { result ≡ negated a }
+pub fn negated_cell(a: Cell) -> Cell
+    ensures { result ≡ negated_cell a }
 {
     match a.get() {
-        Some(x) => found(x.checked_neg()),
+        Some(x) => cell_or_null(x.checked_neg()),
         None => Cell::null(),
     }
 }
 
 /// `!a`: 1 where `a` is 0, 0 where it is another number, null where it is null.
 #[inline(always)]
-pub fn inverted(a: Cell) -> Cell
-    ensures { result ≡ inverted a }
+pub fn inverted_cell(a: Cell) -> Cell
+    ensures { result ≡ inverted_cell a }
 {
     match a.get() {
         Some(x) => truth(is_zero(x)),
@@ -399,15 +399,15 @@ pub fn size(a: Cell) -> Cell
     ensures { result ≡ size_of a }
 {
     match a.get() {
-        Some(x) => found(x.checked_abs()),
+        Some(x) => cell_or_null(x.checked_abs()),
         None => Cell::null(),
     }
 }
 
 /// `if(condition, yes, no)`: `no` where the condition is 0, `yes` where it is another number, null where it is null.
 #[inline(always)]
-pub fn chosen(condition: Cell, yes: Cell, no: Cell) -> Cell
-    ensures { result ≡ chosen condition yes no }
+pub fn chosen_cell(condition: Cell, yes: Cell, no: Cell) -> Cell
+    ensures { result ≡ chosen_cell condition yes no }
 {
     match condition.get() {
         Some(x) => { if is_zero(x) { no } else { yes } }

@@ -6,7 +6,7 @@ use Rattle.std.proofs.lemmas.List.{length-map, take_all}
 use Rattle.std.proofs.lemmas.List.Sums.{fold_more}
 use Rattle.cell_core.specs.Grid.{CellValue}
 use Rattle.cell_calc_rows.specs.RowValues.{at, column}
-use Rattle.cell_calc_operators.specs.CellOperators.{lesser, greater, least, greatest_cell, known, last_argument}
+use Rattle.cell_calc_operators.specs.CellOperators.{lesser, greater, least, greatest_cell, known_cells, last_argument}
 use Rattle.cell_calc_operators.specs.Joins.{known_lesser, known_greater}
 
 -- so many arguments, so many cells
@@ -89,22 +89,22 @@ greatest_all f (y ∷ ys) i k first start r some is from le e =
     ∙ ap (λ s. fold greater (at s k) (column k (map f ys))) (from ∙ ap f is)
 
 -- the least and the greatest of those that are known, one by one
-lesser_from : (v : ℤ) (xs : List CellValue) → fold known_lesser (Some v) xs ≡ fold lesser (Some v) (known xs)
+lesser_from : (v : ℤ) (xs : List CellValue) → fold known_lesser (Some v) xs ≡ fold lesser (Some v) (known_cells xs)
 lesser_from v [] = refl
 lesser_from v (None ∷ xs) = lesser_from v xs
 lesser_from v (Some w ∷ xs) = lesser_from (int_min v w) xs
 
-pub known_least_is : (xs : List CellValue) → fold known_lesser None xs ≡ least (known xs)
+pub known_least_is : (xs : List CellValue) → fold known_lesser None xs ≡ least (known_cells xs)
 known_least_is [] = refl
 known_least_is (None ∷ xs) = known_least_is xs
 known_least_is (Some w ∷ xs) = lesser_from w xs
 
-greater_from : (v : ℤ) (xs : List CellValue) → fold known_greater (Some v) xs ≡ fold greater (Some v) (known xs)
+greater_from : (v : ℤ) (xs : List CellValue) → fold known_greater (Some v) xs ≡ fold greater (Some v) (known_cells xs)
 greater_from v [] = refl
 greater_from v (None ∷ xs) = greater_from v xs
 greater_from v (Some w ∷ xs) = greater_from (int_max v w) xs
 
-pub known_greatest_is : (xs : List CellValue) → fold known_greater None xs ≡ greatest_cell (known xs)
+pub known_greatest_is : (xs : List CellValue) → fold known_greater None xs ≡ greatest_cell (known_cells xs)
 known_greatest_is [] = refl
 known_greatest_is (None ∷ xs) = known_greatest_is xs
 known_greatest_is (Some w ∷ xs) = greater_from w xs

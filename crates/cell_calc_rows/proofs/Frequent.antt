@@ -13,7 +13,7 @@ use Rattle.std.proofs.lemmas.List.Sorted.{sum_by-IsPermutation, All-permutation,
 use Rattle.std.proofs.lemmas.List.Sums.{sum_by_push, sum_by-cons, list_all-from_AllPass, length-filter, count_by-le-length}
 use Rattle.cell_core_values.specs.Cell.{cell_cmp, cell_eq, cell_eq-Decides}
 use Rattle.cell_core.specs.Grid.{CellValue}
-use Rattle.cell_calc_operators.specs.CellOperators.{lesser, least, known, is_null, occurrences, is_most_frequent, most_frequent, mode}
+use Rattle.cell_calc_operators.specs.CellOperators.{lesser, least, known_cells, is_null, occurrences, is_most_frequent, most_frequent, mode}
 use Rattle.cell_calc_rows.specs.parts.Modes.{IsLongestRun, HaveLongest}
 use Rattle.cell_calc_rows.specs.RowValues.{at, column}
 use Rattle.cell_calc_rows.proofs.Columns.{column_item, column_length, whole}
@@ -137,10 +137,10 @@ longest_more : (cells : List CellValue) (best : CellValue) (most : ℕ) (last : 
     → HaveLongest cells best most last run → is_null y ≡ false → is_lt (cell_cmp y last) ≡ false
     → n ≡ (if cell_eq y last then run else 0) + 1
     → HaveLongest (cells ++ y ∷ []) (if nat_lt most n then y else best) (max most n) y n
-longest_more cells None most last run y n is known order e = absurd is
-longest_more cells (Some b) most None run y n is known order e = absurd is
-longest_more cells (Some b) most (Some u) run None n is known order e = absurd (true≢false known)
-longest_more cells (Some b) most (Some u) run (Some v) n is known order e = by_case (nat_lt most n) refl
+longest_more cells None most last run y n is known_cells order e = absurd is
+longest_more cells (Some b) most None run y n is known_cells order e = absurd is
+longest_more cells (Some b) most (Some u) run None n is known_cells order e = absurd (true≢false known_cells)
+longest_more cells (Some b) most (Some u) run (Some v) n is known_cells order e = by_case (nat_lt most n) refl
   where
     counted : occurrences (Some v) (cells ++ Some v ∷ []) ≡ n
     counted = next_run cells b most u run v n is (not_below v u order) e
@@ -157,9 +157,10 @@ longest_more cells (Some b) most (Some u) run (Some v) n is known order e = by_c
 
 -- the first one
 pub longest_first : (cells : List CellValue) → 0 < length cells → All (λ cell. is_null cell ≡ false) cells → HaveLongest (take 1 cells) (at cells 0) 1 (at cells 0) 1
-longest_first [] some known = absurd (let no : ⊥ = omega arith in no)
-longest_first (None ∷ cells) some known = absurd (true≢false (All-head (λ cell. is_null cell ≡ false) None cells known))
-longest_first (Some v ∷ cells) some known = record {
+longest_first [] some known_cells = absurd (let no : ⊥ = omega arith in no)
+longest_first (None ∷ cells) some known_cells =
+    absurd (true≢false (All-head (λ cell. is_null cell ≡ false) None cells known_cells))
+longest_first (Some v ∷ cells) some known_cells = record {
   within = λ w. by_order w v (λ h. let k = other_more w v [] (less_differ w v h) in omega (arith, k))
       (λ h. let k : occurrences (Some w) (Some v ∷ []) ≡ 1 = subst (λ x. occurrences (Some x) (Some v ∷ []) ≡ 1) (sym h) (same_more v []) in omega (arith, k))
       (λ h. let k = other_more w v [] (greater_differ w v h) in omega (arith, k));
@@ -176,12 +177,12 @@ pub longest_step : (cells : List CellValue) (i : ℕ) (best : CellValue) (most r
     → HaveLongest (take i cells) best most (at cells (i - 1)) run
     → cell ≡ at cells i → last ≡ at cells (i - 1) → n ≡ (if cell_eq cell last then run else 0) + 1
     → HaveLongest (take (i + 1) cells) (if nat_lt most n then cell else best) (max most n) (at cells (i + 1 - 1)) n
-longest_step cells i best most run n cell last some within known sorted is cell_is last_is e =
+longest_step cells i best most run n cell last some within known_cells sorted is cell_is last_is e =
     let order : is_lt (cell_cmp (at cells i) (at cells (i - 1))) ≡ false =
     subst (λ k. is_lt (cell_cmp (at cells k) (at cells (i - 1))) ≡ false) (omega arith) (sorted (i - 1) None (omega arith) (omega arith)) in
     let here : i + 1 - 1 ≡ i = omega arith in
     let more = longest_more (take i cells) best most (at cells (i - 1)) run (at cells i) n is
-    (All-get_or (λ cell. is_null cell ≡ false) cells i None within known) order
+    (All-get_or (λ cell. is_null cell ≡ false) cells i None within known_cells) order
     (e ∙ ap (λ x. (if cell_eq x last then run else 0) + 1) cell_is ∙ ap (λ x. (if cell_eq (at cells i) x then run else 0) + 1) last_is) in
     rw (here, cell_is, take_more cells i None within) more
 
@@ -334,14 +335,15 @@ none_of cells (x ∷ xs) empty moved = let long = length_permutation (x ∷ xs) 
 -- one more argument's category is kept, null is not
 pub gather_step : {V : Type 0} (f : V → List CellValue) (args : List V) (i k count n : ℕ) (x : V) (row : List CellValue) (cell : CellValue) (cells : List CellValue)
     → i < length args → x ≡ get_or args i x → row ≡ f x → cell ≡ at row k → count < length cells
-    → take count cells ≡ known (take i (column k (map f args))) → n ≡ (if is_null cell then 0 else 1)
-    → take (count + n) (set cells count cell) ≡ known (take (i + 1) (column k (map f args)))
+    → take count cells ≡ known_cells (take i (column k (map f args))) → n ≡ (if is_null cell then 0 else 1)
+    → take (count + n) (set cells count cell) ≡ known_cells (take (i + 1) (column k (map f args)))
 gather_step f args i k count n x row cell cells lt is slice cell_is room so_far n_is =
     kept cell n_is
-    ∙ ap (λ l. l ++ known (cell ∷ [])) so_far
+    ∙ ap (λ l. l ++ known_cells (cell ∷ [])) so_far
     ∙ sym (filter-append (λ a. not (is_null a)) (take i col) (cell ∷ []))
-    ∙ ap (λ v. known (take i col ++ v ∷ [])) (cell_is ∙ ap (λ o. at o k) slice ∙ sym (column_item f args i k x lt is))
-    ∙ ap known (sym (take_more col i None within))
+    ∙ ap (λ v. known_cells (take i col ++ v ∷ []))
+    (cell_is ∙ ap (λ o. at o k) slice ∙ sym (column_item f args i k x lt is))
+    ∙ ap known_cells (sym (take_more col i None within))
   where
     col : List CellValue
     col = column k (map f args)
@@ -349,7 +351,7 @@ gather_step f args i k count n x row cell cells lt is slice cell_is room so_far 
     within : i < length (column k (map f args))
     within = rw (column_length f args k) lt
 
-    kept : (v : CellValue) → n ≡ (if is_null v then 0 else 1) → take (count + n) (set cells count v) ≡ take count cells ++ known (v ∷ [])
+    kept : (v : CellValue) → n ≡ (if is_null v then 0 else 1) → take (count + n) (set cells count v) ≡ take count cells ++ known_cells (v ∷ [])
     kept None e =
         let same : count + n ≡ count = omega (arith, e) in
         ap (λ m. take m (set cells count None)) same ∙ take-set cells count None ∙ sym (append-nil (take count cells))
@@ -357,36 +359,37 @@ gather_step f args i k count n x row cell cells lt is slice cell_is room so_far 
 
 -- all categories of a column
 pub gathered : {V : Type 0} (f : V → List CellValue) (args : List V) (i k : ℕ) (cells : List CellValue)
-    → length args ≤ i → cells ≡ known (take i (column k (map f args))) → cells ≡ known (column k (map f args))
-gathered f args i k cells le is = is ∙ ap known (whole f args i k le)
+    → length args ≤ i → cells ≡ known_cells (take i (column k (map f args)))
+    → cells ≡ known_cells (column k (map f args))
+gathered f args i k cells le is = is ∙ ap known_cells (whole f args i k le)
 
-pub all_known : (xs : List CellValue) → All (λ cell. is_null cell ≡ false) (known xs)
+pub all_known : (xs : List CellValue) → All (λ cell. is_null cell ≡ false) (known_cells xs)
 all_known [] = All-nil (λ cell. is_null cell ≡ false)
 all_known (None ∷ xs) = all_known xs
-all_known (Some v ∷ xs) = All-cons (λ cell. is_null cell ≡ false) (Some v) (known xs) refl (all_known xs)
+all_known (Some v ∷ xs) = All-cons (λ cell. is_null cell ≡ false) (Some v) (known_cells xs) refl (all_known xs)
 
-few_known : (xs : List CellValue) → length (known xs) ≤ length xs
+few_known : (xs : List CellValue) → length (known_cells xs) ≤ length xs
 few_known xs = let e = length-filter (λ a. not (is_null a)) xs in let b = count_by-le-length (λ a. not (is_null a)) xs in omega (arith, e, b)
 
-has_null : (xs : List CellValue) → length (known xs) < length xs → list_any is_null xs ≡ true
+has_null : (xs : List CellValue) → length (known_cells xs) < length xs → list_any is_null xs ≡ true
 has_null [] h = absurd (let no : ⊥ = omega (arith, h) in no)
 has_null (None ∷ xs) h = refl
 has_null (Some v ∷ xs) h = has_null xs (omega (arith, h))
 
-no_null : (xs : List CellValue) → length xs ≤ length (known xs) → list_any is_null xs ≡ false
+no_null : (xs : List CellValue) → length xs ≤ length (known_cells xs) → list_any is_null xs ≡ false
 no_null [] h = refl
 no_null (None ∷ xs) h = let few = few_known xs in absurd (let no : ⊥ = omega (arith, h, few) in no)
 no_null (Some v ∷ xs) h = no_null xs (omega (arith, h))
 
 -- where none is null, all are known
-all_are_known : (xs : List CellValue) → list_any is_null xs ≡ false → known xs ≡ xs
+all_are_known : (xs : List CellValue) → list_any is_null xs ≡ false → known_cells xs ≡ xs
 all_are_known [] h = refl
 all_are_known (None ∷ xs) h = cc
 all_are_known (Some v ∷ xs) h = ap (λ l. Some v ∷ l) (all_are_known xs h)
 
 -- the mode where a category is missing, and where none is
 pub null_mode : {V : Type 0} (f : V → List CellValue) (args : List V) (k count : ℕ) (cells : List CellValue)
-    → take count cells ≡ known (column k (map f args)) → count ≤ length cells → count < length args → None ≡ mode (column k (map f args))
+    → take count cells ≡ known_cells (column k (map f args)) → count ≤ length cells → count < length args → None ≡ mode (column k (map f args))
 null_mode f args k count cells is room few =
     let long : length (take count cells) ≡ count = length-take-le count cells room in
     let same = ap (λ l. length l) is in
@@ -394,7 +397,7 @@ null_mode f args k count cells is room few =
     rw (has_null (column k (map f args)) (omega (arith, long, same, all, few))) refl
 
 pub known_mode : {V : Type 0} (f : V → List CellValue) (args : List V) (k count : ℕ) (cells : List CellValue) (v : CellValue)
-    → take count cells ≡ known (column k (map f args)) → count ≤ length cells → length args ≤ count → v ≡ most_frequent (take count cells) → v ≡ mode (column k (map f args))
+    → take count cells ≡ known_cells (column k (map f args)) → count ≤ length cells → length args ≤ count → v ≡ most_frequent (take count cells) → v ≡ mode (column k (map f args))
 known_mode f args k count cells v is room enough e =
     let long : length (take count cells) ≡ count = length-take-le count cells room in
     let same = ap (λ l. length l) is in

@@ -5,7 +5,7 @@ use Rattle.std.proofs.lemmas.List.{get_or-drop, get_or-take, get_or_append_left,
 use Rattle.std.proofs.lemmas.Int.{ints}
 use Rattle.cell_core.specs.Grid.{CellValue}
 use Rattle.cell_calc_tokens.specs.declared.operator.Operator.{Operator}
-use Rattle.cell_calc_operators.specs.Applied.{applied}
+use Rattle.cell_calc_operators.specs.Applied.{operator_value}
 use Rattle.cell_calc_operators.specs.Offsets.{item_at}
 use Rattle.cell_calc_rows.specs.RowValues.{at}
 
@@ -53,28 +53,29 @@ pub beside : (op : Operator) (old others source lo mo ro l m r part : List CellV
     → blank ≡ None → gap ≡ None → lo ≡ take before old → others ≡ drop before old → mo ≡ take count others → ro ≡ drop count others
     → length lo ≡ before → length others + before ≡ length old → length mo ≡ count → length ro + count ≡ length others
     → length l ≡ length lo → length m ≡ length mo → length r ≡ length ro → part ≡ take count (drop first source)
-    → ((c : ℕ) → c < length lo → at l c ≡ applied op (at lo c) blank)
-    → ((c : ℕ) → c < length mo → at m c ≡ applied op (at mo c) (at part c))
-    → ((c : ℕ) → c < length ro → at r c ≡ applied op (at ro c) gap)
+    → ((c : ℕ) → c < length lo → at l c ≡ operator_value op (at lo c) blank)
+    → ((c : ℕ) → c < length mo → at m c ≡ operator_value op (at mo c) (at part c))
+    → ((c : ℕ) → c < length ro → at r c ≡ operator_value op (at ro c) gap)
     → ((c : ℕ) → c < before → (pos (from + c) +ℤ right) <ℤ pos 0)
     → (0 < count → pos first ≡ pos (from + before) +ℤ right)
     → ((c : ℕ) → before + count ≤ c → c < length old → pos (length source) ≤ℤ (pos (from + c) +ℤ right))
-    → (c : ℕ) → c < length old → at (l ++ (m ++ r)) c ≡ applied op (at old c) (item_at None source (pos (from + c) +ℤ right))
+    → (c : ℕ) → c < length old → at (l ++ (m ++ r)) c ≡ operator_value op (at old c) (item_at None source (pos (from + c) +ℤ right))
 beside op old others source lo mo ro l m r part from before first count right blank gap is_blank is_gap lo_is others_is mo_is ro_is
     lo_len others_len mo_len ro_len l_len m_len r_len part_is on_left on_middle on_right left_out place right_out c lt =
-    three_parts (λ i v. v ≡ applied op (at old i) (item_at None source (pos (from + i) +ℤ right))) before count l m r (l_len ∙ lo_len) (m_len ∙ mo_len)
+    three_parts (λ i v. v ≡ operator_value op (at old i) (item_at None source (pos (from + i) +ℤ right))) before count l m r (l_len ∙ lo_len) (m_len ∙ mo_len)
     (λ i li.
     on_left i (omega (arith, lo_len, li))
-    ∙ ap (λ v. applied op (at lo i) v) (is_blank ∙ sym (left_of source (pos (from + i) +ℤ right) (left_out i li)))
-    ∙ ap (λ v. applied op v (item_at None source (pos (from + i) +ℤ right))) (ap (λ xs. at xs i) lo_is ∙ get_or-take before old i None li))
+    ∙ ap (λ v. operator_value op (at lo i) v)
+    (is_blank ∙ sym (left_of source (pos (from + i) +ℤ right) (left_out i li)))
+    ∙ ap (λ v. operator_value op v (item_at None source (pos (from + i) +ℤ right))) (ap (λ xs. at xs i) lo_is ∙ get_or-take before old i None li))
     (λ i li.
     let there : from + before + i ≡ from + (before + i) = omega arith in
     on_middle i (omega (arith, mo_len, li))
-    ∙ ap (λ v. applied op (at mo i) v) (part_at source part first count (from + before) i right part_is (place (omega (arith, li))) li ∙ ap (λ n. item_at None source (pos n +ℤ right)) there)
-    ∙ ap (λ v. applied op v (item_at None source (pos (from + (before + i)) +ℤ right))) (ap (λ xs. at xs i) mo_is ∙ get_or-take count others i None li ∙ ap (λ xs. at xs i) others_is ∙ get_or-drop before old i None))
+    ∙ ap (λ v. operator_value op (at mo i) v) (part_at source part first count (from + before) i right part_is (place (omega (arith, li))) li ∙ ap (λ n. item_at None source (pos n +ℤ right)) there)
+    ∙ ap (λ v. operator_value op v (item_at None source (pos (from + (before + i)) +ℤ right))) (ap (λ xs. at xs i) mo_is ∙ get_or-take count others i None li ∙ ap (λ xs. at xs i) others_is ∙ get_or-drop before old i None))
     (λ i li.
     let outside = right_out (before + (count + i)) (omega arith) (omega (arith, others_len, ro_len, r_len, li)) in
     on_right i (omega (arith, r_len, li))
-    ∙ ap (λ v. applied op (at ro i) v) (is_gap ∙ sym (right_of source (pos (from + (before + (count + i))) +ℤ right) outside))
-    ∙ ap (λ v. applied op v (item_at None source (pos (from + (before + (count + i))) +ℤ right))) (ap (λ xs. at xs i) ro_is ∙ get_or-drop count others i None ∙ ap (λ xs. at xs (count + i)) others_is ∙ get_or-drop before old (count + i) None))
+    ∙ ap (λ v. operator_value op (at ro i) v) (is_gap ∙ sym (right_of source (pos (from + (before + (count + i))) +ℤ right) outside))
+    ∙ ap (λ v. operator_value op v (item_at None source (pos (from + (before + (count + i))) +ℤ right))) (ap (λ xs. at xs i) ro_is ∙ get_or-drop count others i None ∙ ap (λ xs. at xs (count + i)) others_is ∙ get_or-drop before old (count + i) None))
     c (omega (arith, others_len, ro_len, r_len, lt))

@@ -1,7 +1,7 @@
 //! What functions do with rows of arguments.
 
 ghost use Rattle.std.specs.Prelude.{◌≡◌, ◌≤◌, ◌<◌, ◌+◌, ℕ, length, map, All, OnOk};
-ghost use Rattle.cell_calc_operators.specs.CellOperators.{if_of, least, greatest_cell, known, first_known, last_argument, truth, is_null};
+ghost use Rattle.cell_calc_operators.specs.CellOperators.{if_of, least, greatest_cell, known_cells, first_known, last_argument, truth, is_null};
 ghost use Rattle.cell_calc_operators.specs.Applied.{spot, size_of, call_result};
 ghost use Rattle.cell_calc_rows.specs.RowValues.{at, column};
 
@@ -13,15 +13,16 @@ use cell_core::memory::Memory;
 use cell_core::region::Region;
 use std::alloc::Global;
 
-fn choose(arguments: &[Vec<Cell>], row: &mut [Cell])
+fn choose_call(arguments: &[Vec<Cell>], row: &mut [Cell])
     requires { All (λ cells. length cells.items ≡ length row.old) arguments.now }
     ensures width { length row.new ≡ length row.old }
-    ensures each { (c : ℕ) → c < length row.old → at row.new c ≡ if_of (column c (map (λ cells. cells.items) arguments.now)) }
+    ensures each { (c : ℕ) → c < length row.old
+        → at row.new c ≡ if_of (column c (map (λ cells. cells.items) arguments.now)) }
 {
     match arguments {
         [x] => {
             row.copy_from_slice(x.as_slice());
-            rows::truth(row);
+            rows::one_or_zero(row);
         }
         [x, a] => {
             row.copy_from_slice(x.as_slice());
@@ -38,7 +39,8 @@ fn choose(arguments: &[Vec<Cell>], row: &mut [Cell])
 fn least(arguments: &[Vec<Cell>], row: &mut [Cell])
     requires { All (λ cells. length cells.items ≡ length row.old) arguments.now }
     ensures width { length row.new ≡ length row.old }
-    ensures each { (c : ℕ) → c < length row.old → at row.new c ≡ least (column c (map (λ cells. cells.items) arguments.now)) }
+    ensures each { (c : ℕ) → c < length row.old
+        → at row.new c ≡ least (column c (map (λ cells. cells.items) arguments.now)) }
 {
     let [first, others @ ..] = arguments else {
         rows::fill(row, Cell::null());
@@ -53,7 +55,8 @@ fn least(arguments: &[Vec<Cell>], row: &mut [Cell])
 fn greatest(arguments: &[Vec<Cell>], row: &mut [Cell])
     requires { All (λ cells. length cells.items ≡ length row.old) arguments.now }
     ensures width { length row.new ≡ length row.old }
-    ensures each { (c : ℕ) → c < length row.old → at row.new c ≡ greatest_cell (column c (map (λ cells. cells.items) arguments.now)) }
+    ensures each { (c : ℕ) → c < length row.old
+        → at row.new c ≡ greatest_cell (column c (map (λ cells. cells.items) arguments.now)) }
 {
     let [first, others @ ..] = arguments else {
         rows::fill(row, Cell::null());
@@ -68,7 +71,8 @@ fn greatest(arguments: &[Vec<Cell>], row: &mut [Cell])
 fn known_least(arguments: &[Vec<Cell>], row: &mut [Cell])
     requires { All (λ cells. length cells.items ≡ length row.old) arguments.now }
     ensures width { length row.new ≡ length row.old }
-    ensures each { (c : ℕ) → c < length row.old → at row.new c ≡ least (known (column c (map (λ cells. cells.items) arguments.now))) }
+    ensures each { (c : ℕ) → c < length row.old
+        → at row.new c ≡ least (known_cells (column c (map (λ cells. cells.items) arguments.now))) }
 {
     rows::fill(row, Cell::null());
     for other in arguments {
@@ -79,7 +83,9 @@ fn known_least(arguments: &[Vec<Cell>], row: &mut [Cell])
 fn known_greatest(arguments: &[Vec<Cell>], row: &mut [Cell])
     requires { All (λ cells. length cells.items ≡ length row.old) arguments.now }
     ensures width { length row.new ≡ length row.old }
-    ensures each { (c : ℕ) → c < length row.old → at row.new c ≡ greatest_cell (known (column c (map (λ cells. cells.items) arguments.now))) }
+    ensures each { (c : ℕ) → c < length row.old
+        → at row.new c
+        ≡ greatest_cell (known_cells (column c (map (λ cells. cells.items) arguments.now))) }
 {
     rows::fill(row, Cell::null());
     for other in arguments {
@@ -90,7 +96,8 @@ fn known_greatest(arguments: &[Vec<Cell>], row: &mut [Cell])
 fn last(arguments: &[Vec<Cell>], row: &mut [Cell])
     requires { All (λ cells. length cells.items ≡ length row.old) arguments.now }
     ensures width { length row.new ≡ length row.old }
-    ensures each { (c : ℕ) → c < length row.old → at row.new c ≡ last_argument (column c (map (λ cells. cells.items) arguments.now)) }
+    ensures each { (c : ℕ) → c < length row.old
+        → at row.new c ≡ last_argument (column c (map (λ cells. cells.items) arguments.now)) }
 {
     match arguments {
         [.., x] => row.copy_from_slice(x.as_slice()),
@@ -98,10 +105,11 @@ fn last(arguments: &[Vec<Cell>], row: &mut [Cell])
     }
 }
 
-fn first(arguments: &[Vec<Cell>], row: &mut [Cell])
+fn copy_first_argument(arguments: &[Vec<Cell>], row: &mut [Cell])
     requires { All (λ cells. length cells.items ≡ length row.old) arguments.now }
     ensures width { length row.new ≡ length row.old }
-    ensures each { (c : ℕ) → c < length row.old → at row.new c ≡ first_known (column c (map (λ cells. cells.items) arguments.now)) }
+    ensures each { (c : ℕ) → c < length row.old
+        → at row.new c ≡ first_known (column c (map (λ cells. cells.items) arguments.now)) }
 {
     match arguments {
         [x, ..] => row.copy_from_slice(x.as_slice()),
@@ -112,23 +120,27 @@ fn first(arguments: &[Vec<Cell>], row: &mut [Cell])
 fn nullness(arguments: &[Vec<Cell>], row: &mut [Cell])
     requires { All (λ cells. length cells.items ≡ length row.old) arguments.now }
     ensures width { length row.new ≡ length row.old }
-    ensures each { (c : ℕ) → c < length row.old → at row.new c ≡ truth (is_null (first_known (column c (map (λ cells. cells.items) arguments.now)))) }
+    ensures each { (c : ℕ) → c < length row.old
+        → at row.new c
+        ≡ truth (is_null (first_known (column c (map (λ cells. cells.items) arguments.now)))) }
 {
-    first(arguments, row);
+    copy_first_argument(arguments, row);
     rows::nullness(row);
 }
 
 fn size(arguments: &[Vec<Cell>], row: &mut [Cell])
     requires { All (λ cells. length cells.items ≡ length row.old) arguments.now }
     ensures width { length row.new ≡ length row.old }
-    ensures each { (c : ℕ) → c < length row.old → at row.new c ≡ size_of (first_known (column c (map (λ cells. cells.items) arguments.now))) }
+    ensures each { (c : ℕ) → c < length row.old
+        → at row.new c
+        ≡ size_of (first_known (column c (map (λ cells. cells.items) arguments.now))) }
 {
-    first(arguments, row);
+    copy_first_argument(arguments, row);
     rows::size(row);
 }
 
 /// The values of a function along a strip, of those of its arguments.
-pub fn call(
+pub fn call_values(
     alloc: Global,
     function: Function,
     region: Region,
@@ -141,11 +153,14 @@ pub fn call(
     requires width { from + length row.old ≤ region.cols }
     requires widths { All (λ cells. length cells.items ≡ length row.old) arguments.now }
     ensures width { length row.new ≡ length row.old }
-    ensures each { OnOk result ((c : ℕ) → c < length row.old → at row.new c ≡ call_result function (spot region number (from + c)) (column c (map (λ cells. cells.items) arguments.now))) }
+    ensures each { OnOk result ((c : ℕ) → c < length row.old
+        → at row.new c
+        ≡ call_result function (spot region number (from + c))
+        (column c (map (λ cells. cells.items) arguments.now))) }
 {
     let (count, width) = (region.rows(), region.cols());
     match function {
-        Function::If => choose(arguments, row),
+        Function::If => choose_call(arguments, row),
         Function::IsNull => nullness(arguments, row),
         Function::Null => rows::fill(row, Cell::null()),
         Function::Abs => size(arguments, row),

@@ -4,7 +4,7 @@
 ghost use Rattle.std.specs.Prelude.{◌≡◌, ◌≤◌, ◌<◌, ◌+◌, ℕ, List, length, map, take, All, IsPermutation, IsSorted, OnOk, nat_lt, if◌then◌else◌, false};
 ghost use Rattle.cell_core_values.specs.Cell.{cell_cmp, cell_eq};
 ghost use Rattle.cell_core.specs.Grid.{CellValue};
-ghost use Rattle.cell_calc_operators.specs.CellOperators.{most_frequent, mode, known, is_null};
+ghost use Rattle.cell_calc_operators.specs.CellOperators.{most_frequent, mode, known_cells, is_null};
 ghost use Rattle.cell_calc_rows.specs.RowValues.{at, column};
 
 use cell_calc_operators::cell_operators::is_null;
@@ -12,7 +12,7 @@ use cell_core::cell::Cell;
 use cell_core::memory::Memory;
 use std::alloc::Global;
 
-fn at(cells: &[Cell], c: usize) -> Cell
+fn argument_at(cells: &[Cell], c: usize) -> Cell
     requires { c < length cells.now }
     ensures { result ≡ at cells.now c }
 {
@@ -20,31 +20,32 @@ fn at(cells: &[Cell], c: usize) -> Cell
 }
 
 // 1 for a category, 0 for null.
-fn counted(cell: Cell) -> usize
+fn category_count(cell: Cell) -> usize
     ensures { result ≡ (if is_null cell then 0 else 1) }
 {
     if is_null(cell) { 0 } else { 1 }
 }
 
 // Puts the categories of a column before all else, and counts them.
-fn gather(arguments: &[Vec<Cell>], c: usize, cells: &mut [Cell]) -> usize
+fn gather_column(arguments: &[Vec<Cell>], c: usize, cells: &mut [Cell]) -> usize
     requires column { All (λ row. c < length row.items) arguments.now }
     requires room { length cells.old ≡ length arguments.now }
     ensures length { length cells.new ≡ length cells.old }
     ensures count { result ≤ length cells.old }
-    ensures known { take result cells.new ≡ known (column c (map (λ row. row.items) arguments.now)) }
+    ensures known { take result cells.new
+        ≡ known_cells (column c (map (λ row. row.items) arguments.now)) }
 {
     let mut count = 0;
     for other in arguments {
-        let cell = at(other.as_slice(), c);
+        let cell = argument_at(other.as_slice(), c);
         cells[count] = cell;
-        count += counted(cell);
+        count += category_count(cell);
     }
     count
 }
 
 // How long a run is before a cell that follows its last one.
-fn continued(run: usize, last: Cell, cell: Cell) -> usize
+fn longer_run(run: usize, last: Cell, cell: Cell) -> usize
     ensures { result ≡ (if cell_eq cell last then run else 0) }
 {
     if cell == last { run } else { 0 }
@@ -66,12 +67,12 @@ fn longest_run(cells: &[Cell]) -> Cell
     if cells.is_empty() {
         return Cell::null();
     }
-    let mut best = at(cells, 0);
+    let mut best = argument_at(cells, 0);
     let mut most = 1;
     let mut run = 1;
     for i in 1..cells.len() {
-        let cell = at(cells, i);
-        run = continued(run, at(cells, i - 1), cell) + 1;
+        let cell = argument_at(cells, i);
+        run = longer_run(run, argument_at(cells, i - 1), cell) + 1;
         best = longer(best, most, cell, run);
         most = most.max(run);
     }
@@ -90,9 +91,10 @@ fn known_mode_at(arguments: &[Vec<Cell>], c: usize, cells: &mut [Cell]) -> Cell
     requires column { All (λ row. c < length row.items) arguments.now }
     requires room { length cells.old ≡ length arguments.now }
     ensures room { length cells.new ≡ length cells.old }
-    ensures mode { result ≡ most_frequent (known (column c (map (λ row. row.items) arguments.now))) }
+    ensures mode { result
+        ≡ most_frequent (known_cells (column c (map (λ row. row.items) arguments.now))) }
 {
-    let count = gather(arguments, c, cells);
+    let count = gather_column(arguments, c, cells);
     most_frequent(&mut cells[..count])
 }
 
@@ -102,7 +104,7 @@ fn mode_at(arguments: &[Vec<Cell>], c: usize, cells: &mut [Cell]) -> Cell
     ensures room { length cells.new ≡ length cells.old }
     ensures mode { result ≡ mode (column c (map (λ row. row.items) arguments.now)) }
 {
-    let count = gather(arguments, c, cells);
+    let count = gather_column(arguments, c, cells);
     if count < arguments.len() {
         return Cell::null();
     }
@@ -113,7 +115,8 @@ fn mode_at(arguments: &[Vec<Cell>], c: usize, cells: &mut [Cell]) -> Cell
 pub(crate) fn mode(alloc: Global, arguments: &[Vec<Cell>], row: &mut [Cell]) -> Result<(), Memory>
     requires { All (λ cells. length cells.items ≡ length row.old) arguments.now }
     ensures width { length row.new ≡ length row.old }
-    ensures each { OnOk result ((c : ℕ) → c < length row.old → at row.new c ≡ mode (column c (map (λ cells. cells.items) arguments.now))) }
+    ensures each { OnOk result ((c : ℕ) → c < length row.old
+        → at row.new c ≡ mode (column c (map (λ cells. cells.items) arguments.now))) }
 {
     let mut spare = Vec::from_elem(alloc, Cell::null(), arguments.len())?;
     let cells = spare.as_mut_slice();
@@ -131,7 +134,9 @@ pub(crate) fn known_mode(
 ) -> Result<(), Memory>
     requires { All (λ cells. length cells.items ≡ length row.old) arguments.now }
     ensures width { length row.new ≡ length row.old }
-    ensures each { OnOk result ((c : ℕ) → c < length row.old → at row.new c ≡ most_frequent (known (column c (map (λ cells. cells.items) arguments.now)))) }
+    ensures each { OnOk result ((c : ℕ) → c < length row.old
+        → at row.new c
+        ≡ most_frequent (known_cells (column c (map (λ cells. cells.items) arguments.now)))) }
 {
     let mut spare = Vec::from_elem(alloc, Cell::null(), arguments.len())?;
     let cells = spare.as_mut_slice();

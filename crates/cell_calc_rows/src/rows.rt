@@ -1,8 +1,8 @@
 //! Rows of cells.
 
 ghost use Rattle.std.specs.Prelude.{◌≡◌, ◌≤◌, ◌<◌, ◌≤ℤ◌, ◌<ℤ◌, ℕ, pos, length, None, Some, IfSome, ◌+ℤ◌, ◌+◌};
-ghost use Rattle.cell_calc_operators.specs.CellOperators.{chosen, truth, is_null, lesser, greater};
-ghost use Rattle.cell_calc_operators.specs.Applied.{applied, size_of, negated, inverted};
+ghost use Rattle.cell_calc_operators.specs.CellOperators.{chosen_cell, truth, is_null, lesser, greater};
+ghost use Rattle.cell_calc_operators.specs.Applied.{operator_value, size_of, negated_cell, inverted_cell};
 ghost use Rattle.cell_calc_operators.specs.Offsets.{item_at};
 ghost use Rattle.cell_calc_operators.specs.Joins.{known_lesser, known_greater};
 ghost use Rattle.cell_calc_rows.specs.RowValues.{at};
@@ -37,7 +37,8 @@ pub(crate) fn combine<F: Fn(Cell, Cell) -> Cell>(row: &mut [Cell], other: &[Cell
     requires callable { F.IsAlwaysCallable f }
     requires width { length other.now ≡ length row.old }
     ensures width { length row.new ≡ length row.old }
-    ensures each { (c : ℕ) → c < length row.old → F.post f (at row.old c) (at other.now c) (at row.new c) }
+    ensures each { (c : ℕ) → c < length row.old
+        → F.post f (at row.old c) (at other.now c) (at row.new c) }
 {
     for i in 0..row.len() {
         row[i] = f(row[i], other[i]);
@@ -60,10 +61,11 @@ pub fn choose(row: &mut [Cell], conditions: &[Cell], yes: &[Cell])
     requires width_conditions { length conditions.now ≡ length row.old }
     requires width_yes { length yes.now ≡ length row.old }
     ensures width { length row.new ≡ length row.old }
-    ensures each { (c : ℕ) → c < length row.old → at row.new c ≡ chosen (at conditions.now c) (at yes.now c) (at row.old c) }
+    ensures each { (c : ℕ) → c < length row.old
+        → at row.new c ≡ chosen_cell (at conditions.now c) (at yes.now c) (at row.old c) }
 {
     for i in 0..row.len() {
-        row[i] = cell_operators::chosen(conditions[i], yes[i], row[i]);
+        row[i] = cell_operators::chosen_cell(conditions[i], yes[i], row[i]);
     }
 }
 
@@ -71,10 +73,11 @@ pub fn choose(row: &mut [Cell], conditions: &[Cell], yes: &[Cell])
 pub fn choose_one(row: &mut [Cell], conditions: &[Cell], yes: Cell)
     requires width { length conditions.now ≡ length row.old }
     ensures width { length row.new ≡ length row.old }
-    ensures each { (c : ℕ) → c < length row.old → at row.new c ≡ chosen (at conditions.now c) yes (at row.old c) }
+    ensures each { (c : ℕ) → c < length row.old
+        → at row.new c ≡ chosen_cell (at conditions.now c) yes (at row.old c) }
 {
     for i in 0..row.len() {
-        row[i] = cell_operators::chosen(conditions[i], yes, row[i]);
+        row[i] = cell_operators::chosen_cell(conditions[i], yes, row[i]);
     }
 }
 
@@ -119,7 +122,7 @@ fn from_left(source: &[Cell], skip: usize, row: &mut [Cell])
 }
 
 // The column that is so many columns to the right of another; below 0 it lies before the row.
-fn moved(from: usize, right: i32) -> i64
+fn shifted_column(from: usize, right: i32) -> i64
     requires { from ≤ 65535 }
     ensures { result ≡ pos from +ℤ right }
 {
@@ -130,9 +133,10 @@ fn moved(from: usize, right: i32) -> i64
 pub fn inside<'a>(source: &'a [Cell], from: usize, right: i32, width: usize) -> Option<&'a [Cell]>
     requires { from ≤ 65535 }
     ensures width { IfSome result (λ part. length part.now ≡ width) }
-    ensures each { IfSome result (λ part. (c : ℕ) → c < width → at part.now c ≡ item_at None source.now (pos (from + c) +ℤ right)) }
+    ensures each { IfSome result (λ part. (c : ℕ) → c < width
+        → at part.now c ≡ item_at None source.now (pos (from + c) +ℤ right)) }
 {
-    let skip = moved(from, right);
+    let skip = shifted_column(from, right);
     if skip < 0 {
         return None;
     }
@@ -147,7 +151,8 @@ pub fn inside<'a>(source: &'a [Cell], from: usize, right: i32, width: usize) -> 
 pub fn shift(source: &[Cell], from: usize, right: i32, row: &mut [Cell])
     requires { from ≤ 65535 }
     ensures width { length row.new ≡ length row.old }
-    ensures each { (c : ℕ) → c < length row.old → at row.new c ≡ item_at None source.now (pos (from + c) +ℤ right) }
+    ensures each { (c : ℕ) → c < length row.old
+        → at row.new c ≡ item_at None source.now (pos (from + c) +ℤ right) }
 {
     match inside(source, from, right, row.len()) {
         Some(part) => row.copy_from_slice(part),
@@ -159,10 +164,11 @@ pub fn shift(source: &[Cell], from: usize, right: i32, row: &mut [Cell])
 fn shift_over_the_edge(source: &[Cell], from: usize, right: i32, row: &mut [Cell])
     requires { from ≤ 65535 }
     ensures width { length row.new ≡ length row.old }
-    ensures each { (c : ℕ) → c < length row.old → at row.new c ≡ item_at None source.now (pos (from + c) +ℤ right) }
+    ensures each { (c : ℕ) → c < length row.old
+        → at row.new c ≡ item_at None source.now (pos (from + c) +ℤ right) }
 {
     fill(row, Cell::null());
-    let skip = moved(from, right);
+    let skip = shifted_column(from, right);
     if skip >= 0 {
         from_right(source, skip as usize, row);
     } else {
@@ -189,34 +195,36 @@ pub fn size(row: &mut [Cell])
 /// `-` of each cell of a row, in place.
 pub fn negate(row: &mut [Cell])
     ensures width { length row.new ≡ length row.old }
-    ensures each { (c : ℕ) → c < length row.old → at row.new c ≡ negated (at row.old c) }
+    ensures each { (c : ℕ) → c < length row.old → at row.new c ≡ negated_cell (at row.old c) }
 {
-    each(row, cell_operators::negated);
+    each(row, cell_operators::negated_cell);
 }
 
 /// `!` of each cell of a row, in place.
 pub fn invert(row: &mut [Cell])
     ensures width { length row.new ≡ length row.old }
-    ensures each { (c : ℕ) → c < length row.old → at row.new c ≡ inverted (at row.old c) }
+    ensures each { (c : ℕ) → c < length row.old → at row.new c ≡ inverted_cell (at row.old c) }
 {
-    each(row, cell_operators::inverted);
+    each(row, cell_operators::inverted_cell);
 }
 
 /// `if(a)` of each cell of a row, in place: 1 where it is neither null nor 0.
-pub fn truth(row: &mut [Cell])
+pub fn one_or_zero(row: &mut [Cell])
     ensures width { length row.new ≡ length row.old }
-    ensures each { (c : ℕ) → c < length row.old → at row.new c ≡ chosen (at row.old c) (Some (pos 1)) (Some (pos 0)) }
+    ensures each { (c : ℕ) → c < length row.old
+        → at row.new c ≡ chosen_cell (at row.old c) (Some (pos 1)) (Some (pos 0)) }
 {
     let (yes, no) = (cell_operators::truth(true), cell_operators::truth(false));
     for i in 0..row.len() {
-        row[i] = cell_operators::chosen(row[i], yes, no);
+        row[i] = cell_operators::chosen_cell(row[i], yes, no);
     }
 }
 
 pub(crate) fn lesser(row: &mut [Cell], other: &[Cell])
     requires width { length other.now ≡ length row.old }
     ensures width { length row.new ≡ length row.old }
-    ensures each { (c : ℕ) → c < length row.old → at row.new c ≡ lesser (at row.old c) (at other.now c) }
+    ensures each { (c : ℕ) → c < length row.old
+        → at row.new c ≡ lesser (at row.old c) (at other.now c) }
 {
     combine(row, other, cell_operators::lesser);
 }
@@ -224,7 +232,8 @@ pub(crate) fn lesser(row: &mut [Cell], other: &[Cell])
 pub(crate) fn larger(row: &mut [Cell], other: &[Cell])
     requires width { length other.now ≡ length row.old }
     ensures width { length row.new ≡ length row.old }
-    ensures each { (c : ℕ) → c < length row.old → at row.new c ≡ greater (at row.old c) (at other.now c) }
+    ensures each { (c : ℕ) → c < length row.old
+        → at row.new c ≡ greater (at row.old c) (at other.now c) }
 {
     combine(row, other, cell_operators::larger);
 }
@@ -232,7 +241,8 @@ pub(crate) fn larger(row: &mut [Cell], other: &[Cell])
 pub(crate) fn known_lesser(row: &mut [Cell], other: &[Cell])
     requires width { length other.now ≡ length row.old }
     ensures width { length row.new ≡ length row.old }
-    ensures each { (c : ℕ) → c < length row.old → at row.new c ≡ known_lesser (at row.old c) (at other.now c) }
+    ensures each { (c : ℕ) → c < length row.old
+        → at row.new c ≡ known_lesser (at row.old c) (at other.now c) }
 {
     combine(row, other, cell_operators::known_lesser);
 }
@@ -240,7 +250,8 @@ pub(crate) fn known_lesser(row: &mut [Cell], other: &[Cell])
 pub(crate) fn known_larger(row: &mut [Cell], other: &[Cell])
     requires width { length other.now ≡ length row.old }
     ensures width { length row.new ≡ length row.old }
-    ensures each { (c : ℕ) → c < length row.old → at row.new c ≡ known_greater (at row.old c) (at other.now c) }
+    ensures each { (c : ℕ) → c < length row.old
+        → at row.new c ≡ known_greater (at row.old c) (at other.now c) }
 {
     combine(row, other, cell_operators::known_larger);
 }
@@ -248,19 +259,21 @@ pub(crate) fn known_larger(row: &mut [Cell], other: &[Cell])
 pub(crate) fn choose_or_zero(row: &mut [Cell], other: &[Cell])
     requires width { length other.now ≡ length row.old }
     ensures width { length row.new ≡ length row.old }
-    ensures each { (c : ℕ) → c < length row.old → at row.new c ≡ chosen (at row.old c) (at other.now c) (Some (pos 0)) }
+    ensures each { (c : ℕ) → c < length row.old
+        → at row.new c ≡ chosen_cell (at row.old c) (at other.now c) (Some (pos 0)) }
 {
     let no = cell_operators::truth(false);
     for i in 0..row.len() {
-        row[i] = cell_operators::chosen(row[i], other[i], no);
+        row[i] = cell_operators::chosen_cell(row[i], other[i], no);
     }
 }
 
 /// The values of an operator along a row, which holds its left operands.
-pub fn apply(operator: Operator, row: &mut [Cell], other: &[Cell])
+pub fn apply_operator(operator: Operator, row: &mut [Cell], other: &[Cell])
     requires width { length other.now ≡ length row.old }
     ensures width { length row.new ≡ length row.old }
-    ensures each { (c : ℕ) → c < length row.old → at row.new c ≡ applied operator (at row.old c) (at other.now c) }
+    ensures each { (c : ℕ) → c < length row.old
+        → at row.new c ≡ operator_value operator (at row.old c) (at other.now c) }
 {
     match operator {
         Operator::Times => combine(row, other, cell_operators::product),
@@ -284,7 +297,8 @@ pub fn apply(operator: Operator, row: &mut [Cell], other: &[Cell])
 /// The values of an operator along a row, which holds its left operands; the right one is the same cell everywhere.
 pub fn apply_one(operator: Operator, row: &mut [Cell], b: Cell)
     ensures width { length row.new ≡ length row.old }
-    ensures each { (c : ℕ) → c < length row.old → at row.new c ≡ applied operator (at row.old c) b }
+    ensures each { (c : ℕ) → c < length row.old
+        → at row.new c ≡ operator_value operator (at row.old c) b }
 {
     match operator {
         Operator::Times => combine_one(row, b, cell_operators::product),
@@ -321,9 +335,10 @@ fn overlap_of(cells: usize, right: i32, from: usize, width: usize) -> Overlap
     ensures row { result.first + result.count ≤ cells }
     ensures before { (c : ℕ) → c < result.before → (pos (from + c) +ℤ right) <ℤ pos 0 }
     ensures first { 0 < result.count → pos result.first ≡ pos (from + result.before) +ℤ right }
-    ensures after { (c : ℕ) → result.before + result.count ≤ c → c < width → pos cells ≤ℤ (pos (from + c) +ℤ right) }
+    ensures after { (c : ℕ) → result.before + result.count ≤ c → c < width
+        → pos cells ≤ℤ (pos (from + c) +ℤ right) }
 {
-    let skip = moved(from, right);
+    let skip = shifted_column(from, right);
     if skip < 0 {
         let before = (-skip as usize).min(width);
         let count = cells.min(width - before);
@@ -348,13 +363,16 @@ fn overlap_of(cells: usize, right: i32, from: usize, width: usize) -> Overlap
 pub fn apply_shifted(operator: Operator, row: &mut [Cell], source: &[Cell], right: i32, from: usize)
     requires { from ≤ 65535 }
     ensures width { length row.new ≡ length row.old }
-    ensures each { (c : ℕ) → c < length row.old → at row.new c ≡ applied operator (at row.old c) (item_at None source.now (pos (from + c) +ℤ right)) }
+    ensures each { (c : ℕ) → c < length row.old
+        → at row.new c
+        ≡ operator_value operator (at row.old c)
+        (item_at None source.now (pos (from + c) +ℤ right)) }
 {
     let overlap = overlap_of(source.len(), right, from, row.len());
     let part = &source[overlap.first..overlap.first + overlap.count];
     let (left, others) = row.split_at_mut(overlap.before);
     let (middle, after) = others.split_at_mut(overlap.count);
     apply_one(operator, left, Cell::null());
-    apply(operator, middle, part);
+    apply_operator(operator, middle, part);
     apply_one(operator, after, Cell::null());
 }

@@ -2,7 +2,7 @@
 use Rattle.std.specs.Prelude.{◌≤◌, ◌+ℤ◌, ℕ, pos, List, Some, None, slice_get, slice_index_or}
 use Rattle.cell_core.specs.Grid.{Grid, CellValue}
 use Rattle.cell_calc_binding.specs.Binding.{place_in}
-use Rattle.cell_calc_operators.specs.Applied.{Spot, negated, inverted, applied, call_result}
+use Rattle.cell_calc_operators.specs.Applied.{Spot, negated_cell, inverted_cell, operator_value, call_result}
 use Rattle.cell_calc_operators.specs.Offsets.{cell_in}
 use Rattle.cell_calc_grammar.specs.declared.map_name.MapName.{MapName}
 use Rattle.cell_calc_steps.specs.declared.step.Step.{Step}
@@ -12,9 +12,9 @@ use Rattle.cell_calc_steps.specs.declared.step.Step.TheVariants.{Number, Map, Ne
 abbrev pub step_value : List (List ℕ) → List Grid → Spot → Step MapName → List CellValue → CellValue
 step_value names maps s (Number n) xs = Some (pos n)
 step_value names maps s (Map m down right) xs = cell_in (slice_get maps (place_in names m)) (pos s.row +ℤ down) (pos s.col +ℤ right)
-step_value names maps s Negated xs = negated (slice_index_or xs 0 None)
-step_value names maps s Not xs = inverted (slice_index_or xs 0 None)
-step_value names maps s (Binary op) xs = applied op (slice_index_or xs 0 None) (slice_index_or xs 1 None)
+step_value names maps s Negated xs = negated_cell (slice_index_or xs 0 None)
+step_value names maps s Not xs = inverted_cell (slice_index_or xs 0 None)
+step_value names maps s (Binary op) xs = operator_value op (slice_index_or xs 0 None) (slice_index_or xs 1 None)
 step_value names maps s (Call f n) xs = call_result f s xs
 
 -- a number is a category

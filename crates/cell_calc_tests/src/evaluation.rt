@@ -37,7 +37,8 @@ fn moved(
 fn open(alloc: Global, bound: &Bound, shelf: &Shelf, row: u32) -> Result<Vec<RowWindow>, Memory>
     requires maps { top_of bound.now ≤ length shelf.now.maps }
     requires row { row < shelf.now.region.rows }
-    ensures { IfOk result (λ windows. (i : ℕ) → i < top_of bound.now → HasReach row (up_of i bound.now) (down_of i bound.now) (slice_get windows.items i)) }
+    ensures { IfOk result (λ windows. (i : ℕ) → i < top_of bound.now
+        → HasReach row (up_of i bound.now) (down_of i bound.now) (slice_get windows.items i)) }
 {
     let mut windows = Vec::new(alloc);
     for i in 0..bound.top() {

@@ -170,7 +170,7 @@ fn not_whole(bytes: &[u8]) -> CalcKind
     }
 }
 
-fn number_of(digits: &[u8], column: u32) -> Result<Token, CalcFault>
+fn number_token(digits: &[u8], column: u32) -> Result<Token, CalcFault>
     ensures { result ≡ token_number column digits.now }
 {
     let value = value_of_digits(digits);
@@ -190,7 +190,7 @@ fn mark_of(bytes: &[u8], column: u32) -> Result<Token, CalcFault>
     }
 }
 
-fn name_of(alloc: Global, bytes: &[u8], column: u32) -> Result<Token, CalcFault>
+fn name_token(alloc: Global, bytes: &[u8], column: u32) -> Result<Token, CalcFault>
     requires starts { starts_name bytes.now ≡ true }
     requires all { list_all is_name_byte bytes.now ≡ true }
     ensures ok { IfOk result (λ token. token_name column bytes.now ≡ Ok token) }
@@ -210,9 +210,9 @@ fn word_of(alloc: Global, bytes: &[u8], column: u32) -> Result<Token, CalcFault>
     ensures err { IfErr result (λ told. IsTokenFault (word_of column bytes.now) told) }
 {
     if starts_name(bytes) {
-        name_of(alloc, bytes, column)
+        name_token(alloc, bytes, column)
     } else if are_digits(bytes) {
-        number_of(bytes, column)
+        number_token(bytes, column)
     } else {
         Err(fault(not_whole(bytes), column))
     }
@@ -231,8 +231,11 @@ fn token_of(alloc: Global, bytes: &[u8], column: u32) -> Result<Token, CalcFault
 
 // The token of a piece, where so many stand before it.
 fn next_token(alloc: Global, count: usize, bytes: &[u8], column: u32) -> Result<Placed, CalcFault>
-    ensures ok { IfOk result (λ token. next_token count (record { column = column; bytes = bytes.now }) ≡ Ok token) }
-    ensures err { IfErr result (λ told. IsTokenFault (next_token count (record { column = column; bytes = bytes.now })) told) }
+    ensures ok { IfOk result (λ token. next_token count
+        (record { column = column; bytes = bytes.now })
+        ≡ Ok token) }
+    ensures err { IfErr result (λ told. IsTokenFault
+        (next_token count (record { column = column; bytes = bytes.now })) told) }
 {
     if count >= TOKEN_LIMIT {
         return Err(fault(CalcKind::TooLong, column));

@@ -9,7 +9,7 @@ use Rattle.std.specs.Cmp.{int_cmp_total}
 use Rattle.std.proofs.lemmas.List.{take_more, reverse-append}
 use Rattle.std.proofs.lemmas.List.Elements.{filter_map-append}
 use Rattle.cell_core.specs.Grid.{Grid}
-use Rattle.cell_cats.specs.Rule.{RuleValue, last_such, labelled, is_category, labels, label_of}
+use Rattle.cell_cats.specs.Rule.{RuleValue, last_such, labelled_category, is_this_category, labels, label_of}
 use Rattle.cell_cats.specs.Reclass.{label_entry, labels_of}
 
 -- with one entry more, or none
@@ -31,20 +31,21 @@ labels_of-more xs i d r h is =
     ap labels_of (take_more xs i d h) ∙ labels_of-push (take i xs) (get_or xs i d) ∙ ap (λ rule. with_entry (label_entry rule) (labels_of (take i xs))) (sym is)
 
 -- a rule that labels a category
-labels_of-some : (xs : List RuleValue) (i : ℕ) (d r : RuleValue) (k : ℤ) → i < length xs → r ≡ get_or xs i d → Some k ≡ labelled r
+labels_of-some : (xs : List RuleValue) (i : ℕ) (d r : RuleValue) (k : ℤ) → i < length xs → r ≡ get_or xs i d → Some k ≡ labelled_category r
     → insert (labels_of (take i xs)) k r.label ≡ labels_of (take (i + 1) xs)
 labels_of-some xs i d r k h is e =
     ap (λ o. with_entry (option_map (λ c. (c, r.label)) o) (labels_of (take i xs))) e ∙ sym (labels_of-more xs i d r h is)
 
 -- a rule that labels none
-labels_of-none : (xs : List RuleValue) (i : ℕ) (d r : RuleValue) → i < length xs → r ≡ get_or xs i d → None ≡ labelled r
+labels_of-none : (xs : List RuleValue) (i : ℕ) (d r : RuleValue) → i < length xs → r ≡ get_or xs i d
+    → None ≡ labelled_category r
     → labels_of (take i xs) ≡ labels_of (take (i + 1) xs)
 labels_of-none xs i d r h is e =
     ap (λ o. with_entry (option_map (λ c. (c, r.label)) o) (labels_of (take i xs))) e ∙ sym (labels_of-more xs i d r h is)
 
 module _ (given : Grid) (xs : List RuleValue) (i : ℕ) (d r : RuleValue) (within : i < length xs) (is : r ≡ get_or xs i d) (old : Grid) (so_far : old ≡ record given { labels = labels_of (take i xs) }) where
   -- a map with a label more
-  pub labels-some : (k : ℤ) (text : List ℕ) (new : Grid) → Some k ≡ labelled r → text ≡ r.label → new ≡ record old { labels = insert old.labels k text }
+  pub labels-some : (k : ℤ) (text : List ℕ) (new : Grid) → Some k ≡ labelled_category r → text ≡ r.label → new ≡ record old { labels = insert old.labels k text }
       → new ≡ record given { labels = labels_of (take (i + 1) xs) }
   labels-some k text new e same set =
       set ∙ ap (λ (m : Grid). record m { labels = insert m.labels k text }) so_far
@@ -52,7 +53,7 @@ module _ (given : Grid) (xs : List RuleValue) (i : ℕ) (d r : RuleValue) (withi
       ∙ ap (λ ls. record given { labels = ls }) (labels_of-some xs i d r k within is e)
 
   -- the map as it is
-  pub labels-none : None ≡ labelled r → old ≡ record given { labels = labels_of (take (i + 1) xs) }
+  pub labels-none : None ≡ labelled_category r → old ≡ record given { labels = labels_of (take (i + 1) xs) }
   labels-none e = so_far ∙ ap (λ ls. record given { labels = ls }) (labels_of-none xs i d r within is e)
 
 -- the first of two lists that has the key
@@ -73,15 +74,15 @@ label_where r b = option_map (λ rule. rule.label) (cond b (Some r) None)
 
 -- one rule
 find-one : (k : ℤ) (r : RuleValue) → find int_cmp k (filter_map label_entry (r ∷ [])) ≡ label_where r (labels k r)
-find-one k r = by (labelled r)
+find-one k r = by (labelled_category r)
   where
     one : (c : ℤ) (b : Bool) → cond b (Some r.label) None ≡ label_where r b
     one c true = refl
     one c false = refl
 
-    by : (o : Option ℤ) → find int_cmp k (cons_option (option_map (λ c. (c, r.label)) o) []) ≡ label_where r (is_category k o)
+    by : (o : Option ℤ) → find int_cmp k (cons_option (option_map (λ c. (c, r.label)) o) []) ≡ label_where r (is_this_category k o)
     by None = refl
-    by (Some c) = one c (is_category k (Some c))
+    by (Some c) = one c (is_this_category k (Some c))
 
 -- all rules: the last stands first
 find-reversed : (k : ℤ) (rules : List RuleValue) → find int_cmp k (filter_map label_entry (reverse rules)) ≡ label_of rules k

@@ -12,7 +12,7 @@ use Rattle.std.specs.Option.{option_or}
 use Rattle.std.proofs.lemmas.List.{take_more}
 use Rattle.std.proofs.lemmas.List.Folds.{list_any-append}
 use Rattle.cell_cats.specs.Rule.{RuleValue, is_in_ends, lists, last_output}
-use Rattle.cell_cats.specs.parts.Pieces.{IsOutputAt, AreOutputs, HaveOutputs, painted, ruled}
+use Rattle.cell_cats.specs.parts.Pieces.{IsOutputAt, AreOutputs, HaveOutputs, painted_outputs, ruled_outputs}
 use Rattle.cell_cats.specs.declared.pieces.Pieces.{Pieces}
 use Rattle.cell_cats.proofs.RuleLemmas.{listed, left_out}
 use Rattle.cell_cats.specs.declared.rule.Output.{Output}
@@ -103,10 +103,10 @@ pub range-painted : (old new : ℤ → Option (Option Output)) (outputs : ℤ �
     → from ≤ℤ to → ((x : ℤ) → from ≤ℤ x → x ≤ℤ to → is_in_ends ends x ≡ true) → ((x : ℤ) → x <ℤ from → is_in_ends ends x ≡ false) → ((x : ℤ) → to <ℤ x → is_in_ends ends x ≡ false)
     → old (to +ℤ pos 1) ≡ Some after → new from ≡ Some (Some output)
     → ((q : ℤ) → q <ℤ from → new q ≡ old q) → ((q : ℤ) → to <ℤ q → new q ≡ old q) → ((q : ℤ) → from <ℤ q → q ≤ℤ to → new q ≡ None)
-    → AreOutputs outputs old → AreOutputs (painted ends output outputs) new
+    → AreOutputs outputs old → AreOutputs (painted_outputs ends output outputs) new
 range-painted old new outputs ends output from to after order within under over next at below above cleared all x low =
     let s = all x low in
-    let kept : is_in_ends ends x ≡ false → outputs x ≡ painted ends output outputs x = λ e. sym (ap (λ (b : Bool). if b then Some output else outputs x) e) in
+    let kept : is_in_ends ends x ≡ false → outputs x ≡ painted_outputs ends output outputs x = λ e. sym (ap (λ (b : Bool). if b then Some output else outputs x) e) in
     by_lt_z x from
     (λ h. moved (kept (under x h)) (record {
       start = s.start;
@@ -148,7 +148,7 @@ pub painted-over : (old cut_off cleared new : ℤ → Option (Option Output)) (o
     → cut_off next ≡ Some (outputs next) → ((q : ℤ) → is_eq (int_cmp next q) ≡ false → cut_off q ≡ old q)
     → ((q : ℤ) → q <ℤ from → cleared q ≡ cut_off q) → ((q : ℤ) → to <ℤ q → cleared q ≡ cut_off q) → ((q : ℤ) → from ≤ℤ q → q ≤ℤ to → cleared q ≡ None)
     → new from ≡ Some (Some output) → ((q : ℤ) → is_eq (int_cmp from q) ≡ false → new q ≡ cleared q)
-    → AreOutputs outputs old → AreOutputs (painted ends output outputs) new
+    → AreOutputs outputs old → AreOutputs (painted_outputs ends output outputs) new
 painted-over old cut_off cleared new outputs ends output from to next least most after low at others before beyond within begins rest all =
     range-painted cut_off new outputs ends output from to (outputs next) (omega (arith, ints, clamps))
     (λ x h k. inside ends.0 ends.1 from to x least most h k) (λ x h. under ends.0 ends.1 from x least h) (λ x h. over ends.0 ends.1 to x most h)
@@ -170,7 +170,7 @@ either false false u v = refl
 
 -- a range more of a rule
 pub range-more : (ranges : List (ℤ × ℤ)) (i : ℕ) (d : ℤ × ℤ) (output : Output) (outputs : ℤ → Option Output) (x : ℤ) → i < length ranges
-    → painted (get_or ranges i d) output (λ y. if list_any (λ ends. is_in_ends ends y) (take i ranges) then Some output else outputs y) x
+    → painted_outputs (get_or ranges i d) output (λ y. if list_any (λ ends. is_in_ends ends y) (take i ranges) then Some output else outputs y) x
     ≡ (if list_any (λ ends. is_in_ends ends x) (take (i + 1) ranges) then Some output else outputs x)
 range-more ranges i d output outputs x h =
     either (list_any (λ ends. is_in_ends ends x) (take i ranges)) (is_in_ends (get_or ranges i d) x) (Some output) (outputs x)
@@ -179,7 +179,7 @@ range-more ranges i d output outputs x h =
 
 -- a rule more
 pub rule-more : (rules : List RuleValue) (i : ℕ) (d rule : RuleValue) (star : Option Output) (x : ℤ) → i < length rules → rule ≡ get_or rules i d
-    → ruled rule (λ y. option_or (last_output (lists y) (take i rules)) star) x ≡ option_or (last_output (lists x) (take (i + 1) rules)) star
+    → ruled_outputs rule (λ y. option_or (last_output (lists y) (take i rules)) star) x ≡ option_or (last_output (lists x) (take (i + 1) rules)) star
 rule-more rules i d rule star x h is = go (lists x rule) refl
   where
     go : (b : Bool) → b ≡ lists x rule → (if b then Some rule.output else option_or (last_output (lists x) (take i rules)) star) ≡ option_or (last_output (lists x) (take (i + 1) rules)) star

@@ -5,7 +5,7 @@ use Rattle.std.specs.Prelude.{◌||◌, bytes_eq}
 use Rattle.std.specs.Option.{option_map, ok_or}
 use Rattle.cell_core_text.specs.Answers.{◌>>=◌}
 use Rattle.std.specs.Cmp.Lexicographic.{bytes_decides}
-use Rattle.cell_core_text.specs.Blanks.{trimmed}
+use Rattle.cell_core_text.specs.Blanks.{trimmed_text}
 use Rattle.cell_core_text.specs.WholeNumbers.{whole_in_range}
 use Rattle.cell_core_text.specs.Words.{list_words_of, pair_of}
 use Rattle.cell_cats.specs.Rule.{RuleValue}
@@ -99,32 +99,33 @@ record Taken (line : List ℕ) (rule : RuleValue) : Type 0 where
   pair : pair_of line ≡ Some (left, right)
   side : Left
   side_is : left_side (list_words_of left) ≡ Some side
-  fits : is_output (is_star_left side) (output_word (trimmed right)) ≡ true
+  fits : is_output (is_star_left side) (output_word (trimmed_text right)) ≡ true
   listed : Option (List (ℤ × ℤ))
   listed_is : listed_of_line side ≡ Some listed
   output : Output
-  output_is : output_of (output_word (trimmed right)) ≡ Some output
-  whole : record { listed = listed; output = output; label = label_of_right (trimmed right) } ≡ rule
+  output_is : output_of (output_word (trimmed_text right)) ≡ Some output
+  whole : record { listed = listed; output = output; label = label_of_right (trimmed_text right) } ≡ rule
 
 module _ (line : List ℕ) (rule : RuleValue) where
   at_side : (left right : List ℕ) → pair_of line ≡ Some (left, right) → (side : Left)
       → left_side (list_words_of left) ≡ Some side
-      → of_shape (trimmed right) side ≡ Ok rule → Taken line rule
+      → of_shape (trimmed_text right) side ≡ Ok rule → Taken line rule
   at_side left right pair side is e =
-      by (is_output (is_star_left side) (output_word (trimmed right))) (listed_of_line side)
-      (output_of (output_word (trimmed right))) refl refl refl e
+      by (is_output (is_star_left side) (output_word (trimmed_text right))) (listed_of_line side)
+      (output_of (output_word (trimmed_text right))) refl refl refl e
     where
       by : (fits : Bool) (listed : Option (Option (List (ℤ × ℤ)))) (output : Option Output)
-          → is_output (is_star_left side) (output_word (trimmed right)) ≡ fits
-          → listed_of_line side ≡ listed → output_of (output_word (trimmed right)) ≡ output
+          → is_output (is_star_left side) (output_word (trimmed_text right)) ≡ fits
+          → listed_of_line side ≡ listed → output_of (output_word (trimmed_text right)) ≡ output
           → cond fits (ok_or listed BadNumber >>= λ l. ok_or output BadNumber >>= λ o. Ok
-          (record { listed = l; output = o; label = label_of_right (trimmed right) })) (Err BadRule)
+          (record { listed = l; output = o; label = label_of_right (trimmed_text right) })) (Err BadRule)
           ≡ Ok rule → Taken line rule
       by false listed output f l o h = cc
       by true None output f l o h = cc
       by true (Some listed) None f l o h = cc
       by true (Some listed) (Some output) f l o h =
-          let same : record { listed = listed; output = output; label = label_of_right (trimmed right) } ≡ rule = cc in
+          let same : record { listed = listed; output = output; label = label_of_right (trimmed_text right) } ≡ rule =
+          cc in
           record {
             left = left;
             right = right;
@@ -141,23 +142,23 @@ module _ (line : List ℕ) (rule : RuleValue) where
 
   at_sides : (left right : List ℕ) → pair_of line ≡ Some (left, right) → (side : Option Left)
       → left_side (list_words_of left) ≡ side
-      → (ok_or side BadRule >>= of_shape (trimmed right)) ≡ Ok rule → Taken line rule
+      → (ok_or side BadRule >>= of_shape (trimmed_text right)) ≡ Ok rule → Taken line rule
   at_sides left right pair None is e = cc
   at_sides left right pair (Some side) is e = at_side left right pair side is e
 
   at_line : (sides : Option (List ℕ × List ℕ)) → pair_of line ≡ sides
       → (ok_or sides BadRule >>= λ sides. ok_or (left_side (list_words_of sides.0)) BadRule >>= λ left. of_shape
-      (trimmed sides.1) left) ≡ Ok rule → Taken line rule
+      (trimmed_text sides.1) left) ≡ Ok rule → Taken line rule
   at_line None pair e = cc
   at_line (Some (left, right)) pair e = at_sides left right pair (left_side (list_words_of left)) refl e
 
   -- a line that was read spells its rule
-  pub rule-sound : is_skipped (trimmed line) ≡ false → trimmed line ≢ codes "end" → rule_of line ≡ Ok rule
+  pub rule-sound : is_skipped (trimmed_text line) ≡ false → trimmed_text line ≢ codes "end" → rule_of line ≡ Ok rule
       → SpellsRule line rule
   rule-sound not_skipped not_end e =
       let t = at_line (pair_of line) refl e in
       let s = sides-sound line t.left t.right t.pair in
-      let output = output-sound (output_word (trimmed t.right)) t.output t.output_is in
+      let output = output-sound (output_word (trimmed_text t.right)) t.output t.output_is in
       subst (SpellsRule line) t.whole (record {
         not_skipped = not_skipped;
         not_end = not_end;
@@ -169,7 +170,7 @@ module _ (line : List ℕ) (rule : RuleValue) where
             (record { side = t.side; is = t.side_is; read = t.listed_is });
         output = output;
         kept = λ same. star-lists t.side t.listed t.listed_is
-            (kept-star (is_star_left t.side) (output_word (trimmed t.right)) t.output output t.fits same);
+            (kept-star (is_star_left t.side) (output_word (trimmed_text t.right)) t.output output t.fits same);
         label = refl;
       })
 
@@ -177,7 +178,7 @@ module _ (line : List ℕ) (rule : RuleValue) where
   pub rule-complete : SpellsRule line rule → rule_of line ≡ Ok rule
   rule-complete s =
       let l = listed-complete (list_words_of s.left) rule.listed s.listed in
-      let o = output-complete (is_star_left l.side) (output_word (trimmed s.right)) rule.output s.output
+      let o = output-complete (is_star_left l.side) (output_word (trimmed_text s.right)) rule.output s.output
       (λ same. lists-star l.side rule.listed l.read (s.kept same)) in
       let pair : pair_of line ≡ Some (s.left, s.right) = ap pair_of s.sides ∙ sides-complete s.left s.right s.before in
       rw (pair, l.is, o.1, l.read, o.0, s.label) refl
@@ -188,12 +189,12 @@ last-same (z ∷ xs) x y e = last-same xs x y cc
 
 pub rules-are-read : RulesAreRead
 rules-are-read rules line rule = (
-  λ e. by (is_skipped (trimmed line)) (bytes_eq (trimmed line) (codes "end")) (rule_of line) refl refl refl e,
+  λ e. by (is_skipped (trimmed_text line)) (bytes_eq (trimmed_text line) (codes "end")) (rule_of line) refl refl refl e,
   complete,
 )
   where
-    by : (skipped end : Bool) (read : Result RuleValue RuleFault) → is_skipped (trimmed line) ≡ skipped
-        → bytes_eq (trimmed line) (codes "end") ≡ end → rule_of line ≡ read
+    by : (skipped end : Bool) (read : Result RuleValue RuleFault) → is_skipped (trimmed_text line) ≡ skipped
+        → bytes_eq (trimmed_text line) (codes "end") ≡ end → rule_of line ≡ read
         → cond {A = Result (LineKind
         × List RuleValue) RuleFault} skipped (Ok (Skipped, rules))
         (cond end (Ok (End, rules)) (read >>= λ rule. Ok (Rule, rules ++ rule ∷ [])))
@@ -208,20 +209,21 @@ rules-are-read rules line rule = (
     by false false (Ok other) s n r h =
         let same : ◌≡◌ {A = LineKind × List RuleValue} (Rule, rules ++ other ∷ []) (Rule, rules ++ rule ∷ []) = cc in
         let one : other ≡ rule = last-same rules other rule (ap (λ p. p.1) same) in
-        let inside : trimmed line ≢ codes "end" = λ e. let t : bytes_eq (trimmed line) (codes "end") ≡ true =
-        (bytes_decides (trimmed line) (codes "end")).1 e in cc in
+        let inside : trimmed_text line ≢ codes "end" = λ e. let t : bytes_eq (trimmed_text line) (codes "end") ≡ true =
+        (bytes_decides (trimmed_text line) (codes "end")).1 e in cc in
         rule-sound line rule s inside (r ∙ ap Ok one)
 
-    apart : trimmed line ≢ codes "end" → bytes_eq (trimmed line) (codes "end") ≡ false
-    apart other = at (bytes_eq (trimmed line) (codes "end")) refl
+    apart : trimmed_text line ≢ codes "end" → bytes_eq (trimmed_text line) (codes "end") ≡ false
+    apart other = at (bytes_eq (trimmed_text line) (codes "end")) refl
       where
-        at : (end : Bool) → bytes_eq (trimmed line) (codes "end") ≡ end → bytes_eq (trimmed line) (codes "end") ≡ false
-        at true e = absurd (other ((bytes_decides (trimmed line) (codes "end")).0 e))
+        at : (end : Bool) → bytes_eq (trimmed_text line) (codes "end") ≡ end
+            → bytes_eq (trimmed_text line) (codes "end") ≡ false
+        at true e = absurd (other ((bytes_decides (trimmed_text line) (codes "end")).0 e))
         at false e = e
 
     complete : SpellsRule line rule
         → cond {A = Result (LineKind
-        × List RuleValue) RuleFault} (is_skipped (trimmed line)) (Ok (Skipped, rules))
-        (cond (bytes_eq (trimmed line) (codes "end")) (Ok (End, rules))
+        × List RuleValue) RuleFault} (is_skipped (trimmed_text line)) (Ok (Skipped, rules))
+        (cond (bytes_eq (trimmed_text line) (codes "end")) (Ok (End, rules))
         (rule_of line >>= λ rule. Ok (Rule, rules ++ rule ∷ []))) ≡ Ok (Rule, rules ++ rule ∷ [])
     complete s = rw (s.not_skipped, apart s.not_end, rule-complete line rule s) refl

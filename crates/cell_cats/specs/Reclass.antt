@@ -5,7 +5,7 @@ use Rattle.std.specs.Option.{option_map}
 use Rattle.std.specs.FinMap.{FinMap, from_entries}
 use Rattle.std.specs.Ordering.{int_cmp}
 use Rattle.cell_core.specs.Grid.{CellValue, Grid}
-use Rattle.cell_cats.specs.Rule.{RuleValue, new_category, labelled}
+use Rattle.cell_cats.specs.Rule.{RuleValue, new_category, labelled_category}
 
 -- each cell by its new category
 abbrev pub new_row : List RuleValue → List CellValue → List CellValue
@@ -16,12 +16,12 @@ new_rows rules rows = map (new_row rules) rows
 
 -- the category that a rule labels, with its label
 abbrev pub label_entry : RuleValue → Option (ℤ × List ℕ)
-label_entry rule = option_map (λ k. (k, rule.label)) (labelled rule)
+label_entry rule = option_map (λ k. (k, rule.label)) (labelled_category rule)
 
 -- the labels of rules: of two of one category that of the later rule, since `from_entries` keeps the first entry
 abbrev pub labels_of : List RuleValue → FinMap int_cmp (List ℕ)
 labels_of rules = from_entries (filter_map label_entry (reverse rules))
 
 -- the map by rules: its region, its rows cell by cell, the labels of the rules and no others
-abbrev pub reclassed : List RuleValue → Grid → Grid
-reclassed rules given = record { region = given.region; rows = new_rows rules given.rows; labels = labels_of rules }
+abbrev pub reclassed_map : List RuleValue → Grid → Grid
+reclassed_map rules given = record { region = given.region; rows = new_rows rules given.rows; labels = labels_of rules }

@@ -64,17 +64,17 @@ category_of Same = None
 category_of (To cell) = cell
 
 -- the category that a rule labels: that of its output, where it has a label
-abbrev pub labelled : RuleValue → Option ℤ
-labelled rule = if length rule.label == 0 then None else category_of rule.output
+abbrev pub labelled_category : RuleValue → Option ℤ
+labelled_category rule = if length rule.label == 0 then None else category_of rule.output
 
 -- it is this category
-abbrev pub is_category : ℤ → Option ℤ → Bool
-is_category k None = false
-is_category k (Some c) = int_eq k c
+abbrev pub is_this_category : ℤ → Option ℤ → Bool
+is_this_category k None = false
+is_this_category k (Some c) = int_eq k c
 
 -- the rule labels the category
 abbrev pub labels : ℤ → RuleValue → Bool
-labels k rule = is_category k (labelled rule)
+labels k rule = is_this_category k (labelled_category rule)
 
 -- the label of a category: that of the last rule that labels it
 abbrev pub label_of : List RuleValue → ℤ → Option (List ℕ)

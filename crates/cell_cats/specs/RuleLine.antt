@@ -2,7 +2,7 @@
 use Rattle.std.specs.Prelude.{ℕ, ℤ, ◌≡◌, ◌≢◌, ◌<◌, ◌⊎◌, ◌==◌, Bool, true, false, List, [], ◌∷◌, ◌++◌, length, Option, Some, None, codes}
 use Rattle.std.specs.List.{before_first, after_first, list_any}
 use Rattle.cell_core_values.specs.Letters.{byte}
-use Rattle.cell_core_text.specs.Blanks.{is_blank, trimmed}
+use Rattle.cell_core_text.specs.Blanks.{is_blank, trimmed_text}
 use Rattle.cell_core_text.specs.WholeNumbers.{whole_in_range}
 use Rattle.cell_core_text.specs.Words.{is_equals, list_words_of}
 use Rattle.cell_cats.specs.Rule.{RuleValue}
@@ -40,17 +40,17 @@ output_word right = before_first is_blank right
 
 -- what stands after its first word
 abbrev pub label_of_right : List ℕ → List ℕ
-label_of_right right = trimmed (after_first is_blank right)
+label_of_right right = trimmed_text (after_first is_blank right)
 
 -- a line that spells a rule by what stands left and right of its first equals sign; `*` is an output only where the left is `*`
 pub record SpellsRule (line : List ℕ) (rule : RuleValue) : Type 0 where
-  pub not_skipped : is_skipped (trimmed line) ≡ false
-  pub not_end : trimmed line ≢ codes "end"
+  pub not_skipped : is_skipped (trimmed_text line) ≡ false
+  pub not_end : trimmed_text line ≢ codes "end"
   pub left : List ℕ
   pub right : List ℕ
   pub sides : line ≡ left ++ (codes "=" ++ right)
   pub before : list_any is_equals left ≡ false
   pub listed : SpellsListed (list_words_of left) rule.listed
-  pub output : SpellsOutput (output_word (trimmed right)) rule.output
+  pub output : SpellsOutput (output_word (trimmed_text right)) rule.output
   pub kept : rule.output ≡ Same → rule.listed ≡ None
-  pub label : label_of_right (trimmed right) ≡ rule.label
+  pub label : label_of_right (trimmed_text right) ≡ rule.label

@@ -2,7 +2,7 @@
 use Rattle.std.specs.Prelude.{ℕ, ℤ, Bool, true, false, not, ◌&&◌, ◌||◌, ◌≡◌, ◌↔◌, List, [], ◌∷◌, ◌++◌, Option, Some, None, Result, Ok, Err, if◌then◌else◌, bytes_eq, codes}
 use Rattle.std.specs.Option.{option_map, option_and_then, ok_or}
 use Rattle.cell_core_text.specs.Answers.{◌>>=◌}
-use Rattle.cell_core_text.specs.Blanks.{trimmed}
+use Rattle.cell_core_text.specs.Blanks.{trimmed_text}
 use Rattle.cell_core_text.specs.WholeNumbers.{whole_in_range}
 use Rattle.cell_core_text.specs.Words.{is_word, list_words_of, pair_of}
 use Rattle.cell_cats.specs.Rule.{RuleValue}
@@ -99,13 +99,13 @@ of_shape right left = if is_output (is_star_left left) (output_word right) then 
 -- the rule that a line spells: its shape is judged before its numbers
 abbrev pub rule_of : List ℕ → Result RuleValue RuleFault
 rule_of line =
-    ok_or (pair_of line) BadRule >>= λ sides. ok_or (left_side (list_words_of sides.0)) BadRule >>= λ left. of_shape (trimmed sides.1) left
+    ok_or (pair_of line) BadRule >>= λ sides. ok_or (left_side (list_words_of sides.0)) BadRule >>= λ left. of_shape (trimmed_text sides.1) left
 
 -- what kind of line it is, and the rules with it
 abbrev pub with_line : List RuleValue → List ℕ → Result (LineKind × List RuleValue) RuleFault
 with_line rules line =
-    if is_skipped (trimmed line) then Ok (Skipped, rules)
-    else (if bytes_eq (trimmed line) (codes "end") then Ok (End, rules) else (rule_of line >>= λ rule. Ok (Rule, rules ++ rule ∷ [])))
+    if is_skipped (trimmed_text line) then Ok (Skipped, rules)
+    else (if bytes_eq (trimmed_text line) (codes "end") then Ok (End, rules) else (rule_of line >>= λ rule. Ok (Rule, rules ++ rule ∷ [])))
 
 -- a line is read as one more rule exactly where it spells that rule
 abbrev pub RulesAreRead : Type 0

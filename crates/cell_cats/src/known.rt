@@ -21,7 +21,7 @@ pub(crate) struct Known {
 }
 
 // The place of a cell among so many.
-fn place_of(cell: Cell, places: usize) -> usize
+fn category_place(cell: Cell, places: usize) -> usize
     requires { 0 < places }
     ensures { result < places }
 {
@@ -49,10 +49,12 @@ pub(crate) fn only_null(alloc: Global) -> Result<Vec<Known>, Memory>
 // The new category of a cell, which is known from then on.
 pub(crate) fn look_up(pieces: &Pieces, known: &mut [Known], cell: Cell) -> Cell
     requires some { 0 < length known.old }
-    ensures value { (rules : List RuleValue) → AreOfRules rules pieces.now → AreRight rules known.old → result ≡ new_category rules cell }
-    ensures right { (rules : List RuleValue) → AreOfRules rules pieces.now → AreRight rules known.old → AreRight rules known.new }
+    ensures value { (rules : List RuleValue) → AreOfRules rules pieces.now
+        → AreRight rules known.old → result ≡ new_category rules cell }
+    ensures right { (rules : List RuleValue) → AreOfRules rules pieces.now
+        → AreRight rules known.old → AreRight rules known.new }
 {
-    let at = place_of(cell, known.len());
+    let at = category_place(cell, known.len());
     let found = known[at];
     if found.cell == cell {
         return found.reclassed;

@@ -12,7 +12,7 @@ ghost use Rattle.cell_cats.specs.declared.rules.RuleFault.TheVariants.{BadRule, 
 use crate::rule::{Output, Rule};
 use crate::rules::RuleFault;
 use cell_core::cell::Cell;
-use cell_core_text::blanks::{around_blank, trimmed};
+use cell_core_text::blanks::{around_blank, trimmed_text};
 use cell_core_text::whole_numbers::whole_in_range;
 use cell_core_text::words::{list_words_of, pair_of};
 use std::alloc::Global;
@@ -33,13 +33,13 @@ fn is_thru(word: &[u8]) -> bool
     word == b"thru".as_slice()
 }
 
-fn is_star(word: &[u8]) -> bool
+fn is_star_word(word: &[u8]) -> bool
     ensures { result ≡ is_star word.now }
 {
     word == b"*".as_slice()
 }
 
-fn is_null(word: &[u8]) -> bool
+fn is_null_word(word: &[u8]) -> bool
     ensures { result ≡ is_null_word word.now }
 {
     word == b"NULL".as_slice() || word == b"null".as_slice()
@@ -49,7 +49,7 @@ fn is_null(word: &[u8]) -> bool
 fn is_end(word: &[u8]) -> bool
     ensures { result ≡ is_end word.now }
 {
-    !is_thru(word) && !is_star(word)
+    !is_thru(word) && !is_star_word(word)
 }
 
 // Whether both words stand for numbers.
@@ -101,7 +101,8 @@ fn range_of(a: &[u8], b: &[u8]) -> Option<(i32, i32)>
 
 // The ranges of items.
 fn ranges_of(alloc: Global, items: &[(&[u8], &[u8])]) -> Result<Vec<(i32, i32)>, RuleFault>
-    ensures { Answers RuleFault.Memory (λ ranges. ranges.items) result (ok_or (ranges_of (pairs items.now)) BadNumber) }
+    ensures { Answers RuleFault.Memory (λ ranges. ranges.items) result
+        (ok_or (ranges_of (pairs items.now)) BadNumber) }
 {
     let mut ranges = Vec::new(alloc);
     for item in items {
@@ -118,10 +119,10 @@ fn ranges_of(alloc: Global, items: &[(&[u8], &[u8])]) -> Result<Vec<(i32, i32)>,
 fn output_of(word: &[u8]) -> Option<Output>
     ensures { result ≡ output_of word.now }
 {
-    if is_null(word) {
+    if is_null_word(word) {
         return Some(Output::To(Cell::null()));
     }
-    if is_star(word) {
+    if is_star_word(word) {
         return Some(Output::Same);
     }
     let category = whole_in_range(word)?;
@@ -133,14 +134,14 @@ fn output_of(word: &[u8]) -> Option<Output>
 fn is_output(star: bool, word: &[u8]) -> bool
     ensures { result ≡ is_output star word.now }
 {
-    !word.is_empty() && !is_thru(word) && (star || !is_star(word))
+    !word.is_empty() && !is_thru(word) && (star || !is_star_word(word))
 }
 
 fn is_lone_star(words: &[&[u8]]) -> bool
     ensures { result ≡ is_lone_star (texts words.now) }
 {
     match words {
-        [word] => is_star(*word),
+        [word] => is_star_word(*word),
         _ => false,
     }
 }
@@ -192,7 +193,7 @@ pub fn rule_of(alloc: Global, line: &[u8]) -> Result<Rule, RuleFault>
     let Some((left, right)) = pair_of(line) else {
         return Err(RuleFault::BadRule);
     };
-    let (word, label) = around_blank(trimmed(right));
+    let (word, label) = around_blank(trimmed_text(right));
     let words = list_words_of(alloc, left)?;
     let left = left_of(alloc, &words)?;
     if !is_output(left.is_none(), word) {
@@ -202,6 +203,6 @@ pub fn rule_of(alloc: Global, line: &[u8]) -> Result<Rule, RuleFault>
     let Some(output) = output_of(word) else {
         return Err(RuleFault::BadNumber);
     };
-    let label = Vec::from_slice(alloc, trimmed(label))?;
+    let label = Vec::from_slice(alloc, trimmed_text(label))?;
     Ok(Rule::new(listed, output, label))
 }

@@ -5,7 +5,7 @@ ghost use Rattle.std.specs.Prelude.{◌≡◌, ℤ, negsuc, ◌≤ℤ◌, ◌<�
 ghost use Rattle.std.specs.BTreeMap.{get};
 ghost use Rattle.std.specs.Ordering.{int_cmp};
 ghost use Rattle.cell_cats.specs.Rule.{RuleValue, new_category, outcome};
-ghost use Rattle.cell_cats.specs.parts.Pieces.{HaveOutputs, AreOfRules, painted, ruled};
+ghost use Rattle.cell_cats.specs.parts.Pieces.{HaveOutputs, AreOfRules, painted_outputs, ruled_outputs};
 
 use crate::rule::{Output, Rule};
 use crate::rules::Rules;
@@ -25,9 +25,9 @@ impl Pieces {
     pub(crate) fn of_rules(alloc: Global, rules: &Rules) -> Result<Pieces, Memory>
         ensures { IfOk result (λ pieces. AreOfRules rules.now pieces) }
     {
-        let mut pieces = Pieces::whole(alloc, rules.starred())?;
+        let mut pieces = Pieces::whole(alloc, rules.star_output())?;
         for rule in rules.as_slice() {
-            pieces.add(rule)?;
+            pieces.add_output_of_rule(rule)?;
         }
         Ok(pieces)
     }
@@ -42,8 +42,9 @@ impl Pieces {
     }
 
     // Gives the output of a rule to the categories that it lists.
-    fn add(&mut self, rule: &Rule) -> Result<(), Memory>
-        ensures { OnOk result ((outputs : ℤ → Option Output) → HaveOutputs outputs self.old → HaveOutputs (ruled rule.now outputs) self.new) }
+    fn add_output_of_rule(&mut self, rule: &Rule) -> Result<(), Memory>
+        ensures { OnOk result ((outputs : ℤ → Option Output) → HaveOutputs outputs self.old
+            → HaveOutputs (ruled_outputs rule.now outputs) self.new) }
     {
         for ends in rule.ranges() {
             self.paint(*ends, rule.output())?;
@@ -54,11 +55,12 @@ impl Pieces {
     // Gives an output to the categories of a range. Each beginning in it is taken out, once for all: so the ranges take
     // n log n steps, whatever they are.
     fn paint(&mut self, ends: (i32, i32), output: Output) -> Result<(), Memory>
-        ensures { OnOk result ((outputs : ℤ → Option Output) → HaveOutputs outputs self.old → HaveOutputs (painted ends output outputs) self.new) }
+        ensures { OnOk result ((outputs : ℤ → Option Output) → HaveOutputs outputs self.old
+            → HaveOutputs (painted_outputs ends output outputs) self.new) }
     {
         let from = i64::from(ends.0.min(ends.1));
         let to = i64::from(ends.0.max(ends.1));
-        let after = self.at(to + 1);
+        let after = self.output_at_place(to + 1);
         self.starts.insert(to + 1, after)?;
         self.clear(from, to);
         self.starts.insert(from, Some(output))?;
@@ -68,8 +70,10 @@ impl Pieces {
     // Takes out what begins from one place up to another.
     fn clear(&mut self, from: i64, to: i64)
         requires { from ≤ℤ to }
-        ensures before { (q : ℤ) → q <ℤ from → get int_cmp self.new.starts q ≡ get int_cmp self.old.starts q }
-        ensures after { (q : ℤ) → to <ℤ q → get int_cmp self.new.starts q ≡ get int_cmp self.old.starts q }
+        ensures before { (q : ℤ) → q <ℤ from
+            → get int_cmp self.new.starts q ≡ get int_cmp self.old.starts q }
+        ensures after { (q : ℤ) → to <ℤ q
+            → get int_cmp self.new.starts q ≡ get int_cmp self.old.starts q }
         ensures cleared { (q : ℤ) → from ≤ℤ q → q ≤ℤ to → get int_cmp self.new.starts q ≡ None }
     {
         while let Some((start, _)) = self.starts.range(from..=to).next() {
@@ -79,9 +83,10 @@ impl Pieces {
     }
 
     // The output at a place.
-    fn at(&self, place: i64) -> Option<Output>
+    fn output_at_place(&self, place: i64) -> Option<Output>
         requires { negsuc 2147483647 ≤ℤ place }
-        ensures { (outputs : ℤ → Option Output) → HaveOutputs outputs self.now → result ≡ outputs place }
+        ensures { (outputs : ℤ → Option Output) → HaveOutputs outputs self.now
+            → result ≡ outputs place }
     {
         match self.starts.range(..=place).next_back() {
             Some((_, output)) => *output,
@@ -91,12 +96,13 @@ impl Pieces {
 
     // The new category of a cell.
     pub(crate) fn apply(&self, cell: Cell) -> Cell
-        ensures { (rules : List RuleValue) → AreOfRules rules self.now → result ≡ new_category rules cell }
+        ensures { (rules : List RuleValue) → AreOfRules rules self.now
+            → result ≡ new_category rules cell }
     {
         let Some(x) = cell.get() else {
             return Cell::null();
         };
-        match self.at(i64::from(x)) {
+        match self.output_at_place(i64::from(x)) {
             Some(output) => output.of(cell),
             None => Cell::null(),
         }

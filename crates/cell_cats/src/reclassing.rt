@@ -5,7 +5,7 @@ ghost use Rattle.std.specs.FinMap.{get};
 ghost use Rattle.cell_core.specs.Grid.{no_labels};
 ghost use Rattle.cell_core.specs.Runs.{written_out};
 ghost use Rattle.cell_cats.specs.Rule.{RuleValue, label_of};
-ghost use Rattle.cell_cats.specs.Reclass.{new_row, labels_of, reclassed};
+ghost use Rattle.cell_cats.specs.Reclass.{new_row, labels_of, reclassed_map};
 ghost use Rattle.cell_cats.specs.parts.KnownCategories.{AreRight};
 ghost use Rattle.cell_cats.specs.parts.Pieces.{AreOfRules};
 
@@ -22,8 +22,10 @@ use std::alloc::Global;
 fn write_new(pieces: &Pieces, known: &mut [Known], runs: Runs<'_>, row: &mut [Cell])
     requires width { length row.old ≡ length (written_out runs) }
     requires some { 0 < length known.old }
-    ensures row { (rules : List RuleValue) → AreOfRules rules pieces.now → AreRight rules known.old → row.new ≡ new_row rules (written_out runs.entry) }
-    ensures right { (rules : List RuleValue) → AreOfRules rules pieces.now → AreRight rules known.old → AreRight rules known.new }
+    ensures row { (rules : List RuleValue) → AreOfRules rules pieces.now → AreRight rules known.old
+        → row.new ≡ new_row rules (written_out runs.entry) }
+    ensures right { (rules : List RuleValue) → AreOfRules rules pieces.now
+        → AreRight rules known.old → AreRight rules known.new }
 {
     let mut at = 0;
     for (cell, count) in runs {
@@ -38,7 +40,7 @@ fn set_labels(rules: &Rules, made: &mut CellMap) -> Result<(), Memory>
     ensures { OnOk result (made.new ≡ record made.old { labels = labels_of rules.now }) }
 {
     for rule in rules.as_slice() {
-        if let Some(category) = rule.labelled() {
+        if let Some(category) = rule.labelled_category() {
             made.set_label(category, rule.label())?;
         }
     }
@@ -52,7 +54,7 @@ fn set_labels(rules: &Rules, made: &mut CellMap) -> Result<(), Memory>
 ///
 /// [`Memory`] where memory was refused.
 pub fn reclass(alloc: Global, given: &CellMap, rules: &Rules) -> Result<CellMap, Memory>
-    ensures made { IfOk result (λ made. made ≡ reclassed rules.now given.now) }
+    ensures made { IfOk result (λ made. made ≡ reclassed_map rules.now given.now) }
     ensures labels { IfOk result (λ made. (k : ℤ) → get made.labels k ≡ label_of rules.now k) }
 {
     let region = given.region();

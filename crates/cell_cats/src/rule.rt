@@ -3,7 +3,7 @@
 ghost use Rattle.std.specs.Prelude.{◌≡◌, ◌≢◌, ℤ, Some, IfSome};
 ghost use Rattle.std.specs.List.{list_any};
 ghost use Rattle.std.specs.Option.{option_map};
-ghost use Rattle.cell_cats.specs.Rule.{is_in_ends, lists, is_star_rule, outcome, labelled};
+ghost use Rattle.cell_cats.specs.Rule.{is_in_ends, lists, is_star_rule, outcome, labelled_category};
 
 use cell_core::cell::Cell;
 use std::marker::Model;
@@ -56,7 +56,11 @@ fn is_between(ends: (i32, i32), x: i32) -> bool
 impl Rule {
     /// A rule of these parts.
     pub fn new(listed: Option<Vec<(i32, i32)>>, output: Output, label: Vec<u8>) -> Rule
-        ensures { result ≡ record { listed = option_map (λ ranges. ranges.items) listed; output = output; label = label.items } }
+        ensures { result ≡ record {
+          listed = option_map (λ ranges. ranges.items) listed;
+          output = output;
+          label = label.items;
+        } }
     {
         Rule {
             listed,
@@ -104,8 +108,8 @@ impl Rule {
     }
 
     /// The category that it labels.
-    pub fn labelled(&self) -> Option<i32>
-        ensures value { result ≡ labelled self.now }
+    pub fn labelled_category(&self) -> Option<i32>
+        ensures value { result ≡ labelled_category self.now }
         ensures range { IfSome result (λ category. category ≢ i32.MIN) }
     {
         if self.label.is_empty() {

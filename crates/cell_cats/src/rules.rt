@@ -10,7 +10,7 @@ use crate::line::{is_skipped, rule_of};
 use crate::rule::{Output, Rule};
 use cell_core::cell::Cell;
 use cell_core::memory::Memory;
-use cell_core_text::blanks::trimmed;
+use cell_core_text::blanks::trimmed_text;
 use std::alloc::{AllocError, AllocFailed, Global};
 use std::marker::Model;
 
@@ -97,7 +97,7 @@ impl Rules {
     }
 
     // The output of the last rule of `*`.
-    pub(crate) fn starred(&self) -> Option<Output>
+    pub(crate) fn star_output(&self) -> Option<Output>
         ensures { result ≡ last_output is_star_rule self.now }
     {
         let mut starred = None;
@@ -119,7 +119,7 @@ impl Rules {
                 listing = Some(rule.output());
             }
         }
-        listing.or(self.starred())
+        listing.or(self.star_output())
     }
 
     /// The new category of a cell.
@@ -149,10 +149,11 @@ impl Rules {
     /// [`RuleFault::BadRule`] where it has not the shape of a rule, else [`RuleFault::BadNumber`] where a number is bad,
     /// [`RuleFault::Memory`] where memory was refused. The rules are unchanged, and further lines may be added.
     pub fn add_line(&mut self, line: &[u8]) -> Result<LineKind, RuleFault>
-        ensures said { Answers RuleFault.Memory (λ kind. (kind, self.new)) result (with_line self.old line.now) }
+        ensures said { Answers RuleFault.Memory (λ kind. (kind, self.new)) result
+            (with_line self.old line.now) }
         ensures unchanged { OnErr result (self.new ≡ self.old) }
     {
-        let text = trimmed(line);
+        let text = trimmed_text(line);
         if is_skipped(text) {
             return Ok(LineKind::Skipped);
         }

@@ -28,9 +28,9 @@ fn number_label(table: &mut [u32], place: u32, count: u32) -> u32
     requires few { count ≤ place }
     ensures ready { CanNumber (place + 1) table.new }
     ensures few { result ≤ place + 1 }
-    ensures numbered { (j : Joining) (m : Grid) (labels : List ℕ) (open_of : ℕ → ℕ) →
-        AreSound j m labels open_of →
-        AreNumbered j m labels open_of place table.old count → AreNumbered j m labels open_of (place + 1) table.new result }
+    ensures numbered { (j : Joining) (m : Grid) (labels : List ℕ) (open_of : ℕ → ℕ)
+        → AreSound j m labels open_of → AreNumbered j m labels open_of place table.old count
+        → AreNumbered j m labels open_of (place + 1) table.new result }
 {
     let label = table[place as usize];
     if label == place {
@@ -72,10 +72,18 @@ fn number_cell(number: u32) -> Cell
 // The number of a cell: one that it shares with its neighbours, or else that of the next label.
 fn number_of_cell(joining: Joining, cell: Cell, near: &Near, table: &[u32], next: &mut usize) -> u32
     ensures null { cell ≡ None → result ≡ 2147483648 }
-    ensures number { (m : Grid) (r c : ℕ) (v : ℤ) (labels : List ℕ) (h : AreLabels joining m labels) → cell ≡ Some v → cell_at_spot m (position r c) ≡ Some v → r < m.region.rows → c < m.region.cols → next.old ≡ starts joining m (r * m.region.cols + c) → IsNumbered joining m labels h table.now →
-        AreNear m (r * m.region.cols + c) (area_number_at joining m labels h) r c near.now → result ≡ area_number_at joining m labels h (position r c) }
-    ensures next { (m : Grid) (r c : ℕ) (labels : List ℕ) (h : AreLabels joining m labels) → cell ≡ cell_at_spot m (position r c) → r < m.region.rows → c < m.region.cols → next.old ≡ starts joining m (r * m.region.cols + c) → IsNumbered joining m labels h table.now →
-        AreNear m (r * m.region.cols + c) (area_number_at joining m labels h) r c near.now → next.new ≡ starts joining m (r * m.region.cols + (c + 1)) }
+    ensures number { (m : Grid) (r c : ℕ) (v : ℤ) (labels : List ℕ) (h : AreLabels joining m labels)
+        → cell ≡ Some v → cell_at_spot m (position r c) ≡ Some v → r < m.region.rows
+        → c < m.region.cols → next.old ≡ starts joining m (r * m.region.cols + c)
+        → IsNumbered joining m labels h table.now
+        → AreNear m (r * m.region.cols + c) (area_number_at joining m labels h) r c near.now
+        → result ≡ area_number_at joining m labels h (position r c) }
+    ensures next { (m : Grid) (r c : ℕ) (labels : List ℕ) (h : AreLabels joining m labels)
+        → cell ≡ cell_at_spot m (position r c) → r < m.region.rows → c < m.region.cols
+        → next.old ≡ starts joining m (r * m.region.cols + c)
+        → IsNumbered joining m labels h table.now
+        → AreNear m (r * m.region.cols + c) (area_number_at joining m labels h) r c near.now
+        → next.new ≡ starts joining m (r * m.region.cols + (c + 1)) }
 {
     if !cell.get().is_some() {
         return NO_NUMBER;
@@ -107,14 +115,20 @@ fn number_row(
     requires row { row < map.now.region.rows }
     requires wide { length cells.old ≡ map.now.region.cols }
     requires long { length line.old ≡ map.now.region.cols + 1 }
-    ensures numbers { (labels : List ℕ) (h : AreLabels joining map.now labels) → IsNumbered joining map.now labels h table.now → HaveNumbers joining map.now labels h first line.old row 0 → HaveNumbers joining map.now labels h result line.new (row + 1) 0 }
-    ensures cells { (labels : List ℕ) (h : AreLabels joining map.now labels) → IsNumbered joining map.now labels h table.now → HaveNumbers joining map.now labels h first line.old row 0 → AreWritten joining map.now labels h row map.now.region.cols cells.new }
+    ensures numbers { (labels : List ℕ) (h : AreLabels joining map.now labels)
+        → IsNumbered joining map.now labels h table.now
+        → HaveNumbers joining map.now labels h first line.old row 0
+        → HaveNumbers joining map.now labels h result line.new (row + 1) 0 }
+    ensures cells { (labels : List ℕ) (h : AreLabels joining map.now labels)
+        → IsNumbered joining map.now labels h table.now
+        → HaveNumbers joining map.now labels h first line.old row 0
+        → AreWritten joining map.now labels h row map.now.region.cols cells.new }
 {
     map.copy_row(row, cells);
     let mut next = first;
     let mut near = Near::at_the_edge();
     for col in 0..cells.len() {
-        near = near.moved(line, col);
+        near = near.at_next_column(line, col);
         let cell = cells[col];
         near.left = Labelled {
             cell,

@@ -27,7 +27,8 @@ pub fn join_labels(table: &mut [u32], one: u32, other: u32)
     requires one_inside { one < length table.old }
     requires other_inside { other < length table.old }
     ensures down { PointDown table.new }
-    ensures tells { (open_of : ℕ → ℕ) → TellsOpen table.old open_of → TellsOpen table.new (after_join open_of one other) }
+    ensures tells { (open_of : ℕ → ℕ) → TellsOpen table.old open_of
+        → TellsOpen table.new (after_join open_of one other) }
 {
     let first = open_label(table, one);
     let second = open_label(table, other);

@@ -59,7 +59,7 @@ impl Near {
     // The neighbours of the cell at a column, of those in hand at the one before it, which itself stands on the left by now,
     // and of the line.
     #[inline(always)]
-    pub(crate) fn moved(self, line: &[Labelled], col: usize) -> Near
+    pub(crate) fn at_next_column(self, line: &[Labelled], col: usize) -> Near
         requires { col + 1 < length line.now }
         ensures { result ≡ near_at line.now col self }
     {
@@ -84,10 +84,16 @@ fn shared_by_edges(table: &mut [u32], cell: Cell, near: &Near) -> Option<u32>
     requires inside { AreInside (length table.old) near.now }
     ensures down { PointDown table.new }
     ensures kept { result ≡ None → table.new ≡ table.old }
-    ensures shares { IfSome result (λ label. (m : Grid) (r c : ℕ) (v : ℤ) (labels : List ℕ) (open_of : ℕ → ℕ) → cell ≡ Some v → cell_at_spot m (position r c) ≡ Some v → AreNear m (length labels) (area_label_at m labels) r c near.now →
-        AreRowsRead Edges m table.old labels open_of → Shares Edges m table.new labels open_of r c v label) }
-    ensures none { result ≡ None → (m : Grid) (r c : ℕ) (v : ℤ) (count : ℕ) (label_of : Position → ℕ) → cell ≡ Some v → AreNear m count label_of r c near.now →
-        (q : Position) → IsEarlier Edges r c q → cell_at_spot m q ≡ Some v → ⊥ }
+    ensures shares { IfSome result (λ label. (m : Grid) (r c : ℕ) (v : ℤ) (labels : List ℕ)
+        (open_of : ℕ → ℕ)
+        → cell ≡ Some v → cell_at_spot m (position r c) ≡ Some v
+        → AreNear m (length labels) (area_label_at m labels) r c near.now
+        → AreRowsRead Edges m table.old labels open_of
+        → Shares Edges m table.new labels open_of r c v label) }
+    ensures none { result ≡ None
+        → (m : Grid) (r c : ℕ) (v : ℤ) (count : ℕ) (label_of : Position → ℕ) → cell ≡ Some v
+        → AreNear m count label_of r c near.now → (q : Position) → IsEarlier Edges r c q
+        → cell_at_spot m q ≡ Some v → ⊥ }
 {
     if near.left.cell != cell {
         return if near.above.cell == cell {
@@ -110,10 +116,16 @@ fn shared_by_corners(table: &mut [u32], cell: Cell, near: &Near) -> Option<u32>
     requires inside { AreInside (length table.old) near.now }
     ensures down { PointDown table.new }
     ensures kept { result ≡ None → table.new ≡ table.old }
-    ensures shares { IfSome result (λ label. (m : Grid) (r c : ℕ) (v : ℤ) (labels : List ℕ) (open_of : ℕ → ℕ) → cell ≡ Some v → cell_at_spot m (position r c) ≡ Some v → AreNear m (length labels) (area_label_at m labels) r c near.now →
-        AreRowsRead EdgesAndCorners m table.old labels open_of → Shares EdgesAndCorners m table.new labels open_of r c v label) }
-    ensures none { result ≡ None → (m : Grid) (r c : ℕ) (v : ℤ) (count : ℕ) (label_of : Position → ℕ) → cell ≡ Some v → AreNear m count label_of r c near.now →
-        (q : Position) → IsEarlier EdgesAndCorners r c q → cell_at_spot m q ≡ Some v → ⊥ }
+    ensures shares { IfSome result (λ label. (m : Grid) (r c : ℕ) (v : ℤ) (labels : List ℕ)
+        (open_of : ℕ → ℕ)
+        → cell ≡ Some v → cell_at_spot m (position r c) ≡ Some v
+        → AreNear m (length labels) (area_label_at m labels) r c near.now
+        → AreRowsRead EdgesAndCorners m table.old labels open_of
+        → Shares EdgesAndCorners m table.new labels open_of r c v label) }
+    ensures none { result ≡ None
+        → (m : Grid) (r c : ℕ) (v : ℤ) (count : ℕ) (label_of : Position → ℕ) → cell ≡ Some v
+        → AreNear m count label_of r c near.now → (q : Position) → IsEarlier EdgesAndCorners r c q
+        → cell_at_spot m q ≡ Some v → ⊥ }
 {
     if near.above.cell == cell {
         return Some(near.above.label);
@@ -134,9 +146,15 @@ fn shared_at_corners(table: &mut [u32], cell: Cell, near: &Near) -> Option<u32>
     requires inside { AreInside (length table.old) near.now }
     ensures down { PointDown table.new }
     ensures kept { result ≡ None → table.new ≡ table.old }
-    ensures shares { IfSome result (λ label. (m : Grid) (r c : ℕ) (v : ℤ) (labels : List ℕ) (open_of : ℕ → ℕ) → cell ≡ Some v → cell_at_spot m (position r c) ≡ Some v → AreNear m (length labels) (area_label_at m labels) r c near.now →
-        ((q : Position) → IsLeft r c q ⊎ IsAbove r c q → cell_at_spot m q ≡ Some v → ⊥) → AreRowsRead EdgesAndCorners m table.old labels open_of → Shares EdgesAndCorners m table.new labels open_of r c v label) }
-    ensures none { result ≡ None → (near.now.upper_left.cell ≢ cell) × (near.now.upper_right.cell ≢ cell) }
+    ensures shares { IfSome result (λ label. (m : Grid) (r c : ℕ) (v : ℤ) (labels : List ℕ)
+        (open_of : ℕ → ℕ)
+        → cell ≡ Some v → cell_at_spot m (position r c) ≡ Some v
+        → AreNear m (length labels) (area_label_at m labels) r c near.now
+        → ((q : Position) → IsLeft r c q ⊎ IsAbove r c q → cell_at_spot m q ≡ Some v → ⊥)
+        → AreRowsRead EdgesAndCorners m table.old labels open_of
+        → Shares EdgesAndCorners m table.new labels open_of r c v label) }
+    ensures none { result ≡ None
+        → (near.now.upper_left.cell ≢ cell) × (near.now.upper_right.cell ≢ cell) }
 {
     if near.upper_left.cell != cell {
         return if near.upper_right.cell == cell {
@@ -158,10 +176,16 @@ fn shared_label(table: &mut [u32], joining: Joining, cell: Cell, near: &Near) ->
     requires inside { AreInside (length table.old) near.now }
     ensures down { PointDown table.new }
     ensures kept { result ≡ None → table.new ≡ table.old }
-    ensures shares { IfSome result (λ label. (m : Grid) (r c : ℕ) (v : ℤ) (labels : List ℕ) (open_of : ℕ → ℕ) → cell ≡ Some v → cell_at_spot m (position r c) ≡ Some v → AreNear m (length labels) (area_label_at m labels) r c near.now →
-        AreRowsRead joining m table.old labels open_of → Shares joining m table.new labels open_of r c v label) }
-    ensures none { result ≡ None → (m : Grid) (r c : ℕ) (v : ℤ) (count : ℕ) (label_of : Position → ℕ) → cell ≡ Some v → AreNear m count label_of r c near.now →
-        (q : Position) → IsEarlier joining r c q → cell_at_spot m q ≡ Some v → ⊥ }
+    ensures shares { IfSome result (λ label. (m : Grid) (r c : ℕ) (v : ℤ) (labels : List ℕ)
+        (open_of : ℕ → ℕ)
+        → cell ≡ Some v → cell_at_spot m (position r c) ≡ Some v
+        → AreNear m (length labels) (area_label_at m labels) r c near.now
+        → AreRowsRead joining m table.old labels open_of
+        → Shares joining m table.new labels open_of r c v label) }
+    ensures none { result ≡ None
+        → (m : Grid) (r c : ℕ) (v : ℤ) (count : ℕ) (label_of : Position → ℕ) → cell ≡ Some v
+        → AreNear m count label_of r c near.now → (q : Position) → IsEarlier joining r c q
+        → cell_at_spot m q ≡ Some v → ⊥ }
 {
     match joining {
         Joining::Edges => shared_by_edges(table, cell, near),
@@ -181,8 +205,12 @@ pub(crate) fn label_cell(
     requires short { length table.old.items < 2 ^ 31 }
     ensures down { IfOk result (λ label. PointDown table.new.items) }
     ensures long { IfOk result (λ label. length table.new.items ≤ length table.old.items + 1) }
-    ensures read { IfOk result (λ label. (m : Grid) (r c : ℕ) (labels : List ℕ) → cell ≡ cell_at_spot m (position r c) → c < m.region.cols → length labels ≡ r * m.region.cols + c → AreNear m (length labels) (area_label_at m labels) r c near.now →
-        HasRead joining m table.old.items labels → HasRead joining m table.new.items (labels ++ label ∷ [])) }
+    ensures read { IfOk result (λ label. (m : Grid) (r c : ℕ) (labels : List ℕ)
+        → cell ≡ cell_at_spot m (position r c) → c < m.region.cols
+        → length labels ≡ r * m.region.cols + c
+        → AreNear m (length labels) (area_label_at m labels) r c near.now
+        → HasRead joining m table.old.items labels
+        → HasRead joining m table.new.items (labels ++ label ∷ [])) }
 {
     if !cell.get().is_some() {
         return Ok(0);
@@ -197,10 +225,15 @@ pub(crate) fn label_cell(
 
 // The label or number of a neighbour of a cell's category, if there is one. Null is taken for a category.
 pub(crate) fn known_label(joining: Joining, cell: Cell, near: &Near) -> Option<u32>
-    ensures some { IfSome result (λ label. (m : Grid) (r c : ℕ) (v : ℤ) (count : ℕ) (label_of : Position → ℕ) → cell ≡ Some v → AreNear m count label_of r c near.now →
-        (q : Position) × IsEarlier joining r c q × (cell_at_spot m q ≡ Some v) × (label ≡ label_of q)) }
-    ensures none { result ≡ None → (m : Grid) (r c : ℕ) (v : ℤ) (count : ℕ) (label_of : Position → ℕ) → cell ≡ Some v → AreNear m count label_of r c near.now →
-        (q : Position) → IsEarlier joining r c q → cell_at_spot m q ≡ Some v → ⊥ }
+    ensures some { IfSome result (λ label. (m : Grid) (r c : ℕ) (v : ℤ) (count : ℕ)
+        (label_of : Position → ℕ)
+        → cell ≡ Some v → AreNear m count label_of r c near.now
+        → (q : Position) × IsEarlier joining r c q × (cell_at_spot m q ≡ Some v)
+        × (label ≡ label_of q)) }
+    ensures none { result ≡ None
+        → (m : Grid) (r c : ℕ) (v : ℤ) (count : ℕ) (label_of : Position → ℕ) → cell ≡ Some v
+        → AreNear m count label_of r c near.now → (q : Position) → IsEarlier joining r c q
+        → cell_at_spot m q ≡ Some v → ⊥ }
 {
     if near.left.cell == cell {
         return Some(near.left.label);

@@ -37,13 +37,14 @@ fn label_row(
     requires short { length table.old.items + map.now.region.cols < 2 ^ 31 }
     requires read { HaveCells joining map.now table.old.items line.old row 0 }
     ensures down { OnOk result (PointDown table.new.items) }
-    ensures long { OnOk result (length table.new.items ≤ length table.old.items + map.now.region.cols) }
+    ensures long { OnOk result
+        (length table.new.items ≤ length table.old.items + map.now.region.cols) }
     ensures read { OnOk result (HaveCells joining map.now table.new.items line.new (row + 1) 0) }
 {
     map.copy_row(row, cells);
     let mut near = Near::at_the_edge();
     for col in 0..cells.len() {
-        near = near.moved(line, col);
+        near = near.at_next_column(line, col);
         let cell = cells[col];
         let label = label_cell(table, joining, cell, &near)?;
         near.left = Labelled { cell, label };

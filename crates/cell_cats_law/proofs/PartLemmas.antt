@@ -9,7 +9,7 @@ use Rattle.std.proofs.lemmas.List.{take-map, drop-map}
 use Rattle.cell_core.specs.Grid.{Grid, CellValue}
 use Rattle.cell_core.specs.Text.{cell_text}
 use Rattle.cell_cats.specs.Rule.{RuleValue, new_category}
-use Rattle.cell_cats.specs.Reclass.{reclassed, new_row, new_rows, labels_of}
+use Rattle.cell_cats.specs.Reclass.{reclassed_map, new_row, new_rows, labels_of}
 use Rattle.cell_stats.specs.TableText.{FormatValue, cell_fields, label_of_cell, line_text, count_fields}
 use Rattle.cell_tiles_law.specs.Parts.{Rectangle, cut_out}
 use Rattle.cell_cats_law.specs.PartLaw.{
@@ -52,13 +52,13 @@ module _ (rules : List RuleValue) (r : Rectangle) where
 
 pub reclassed-parts-are-parts : ReclassedPartsAreParts
 reclassed-parts-are-parts rules r whole part cut =
-    map-map (λ m. m.rows) (reclassed rules) part
+    map-map (λ m. m.rows) (reclassed_map rules) part
     ∙ sym (map-map (new_rows rules) (λ m. m.rows) part)
     ∙ ap (map (new_rows rules)) cut
     ∙ map-map (new_rows rules) (λ m. cut_out r m.rows) whole
     ∙ map-same (λ m. new_rows rules (cut_out r m.rows)) (λ m. cut_out r (new_rows rules m.rows))
     (λ m. rows-turned rules r m.rows) whole
-    ∙ sym (map-map (λ m. cut_out r m.rows) (reclassed rules) whole)
+    ∙ sym (map-map (λ m. cut_out r m.rows) (reclassed_map rules) whole)
 
 -- ---- labels
 
@@ -73,9 +73,9 @@ same-labels rules r whole part cut =
 
 pub reclassed-parts-have-the-labels : ReclassedPartsHaveTheLabels
 reclassed-parts-have-the-labels rules r whole part cut =
-    map-map (λ m. m.labels) (reclassed rules) part
+    map-map (λ m. m.labels) (reclassed_map rules) part
     ∙ same-labels rules r whole part cut
-    ∙ sym (map-map (λ m. m.labels) (reclassed rules) whole)
+    ∙ sym (map-map (λ m. m.labels) (reclassed_map rules) whole)
 
 abbrev label-in : CellValue → Labels → List ℕ
 label-in None labels = codes "no data"

@@ -2,7 +2,7 @@
 use Rattle.std.specs.Prelude.{ℕ, ◌≡◌, List, map}
 use Rattle.cell_core.specs.Grid.{Grid}
 use Rattle.cell_cats.specs.Rule.{RuleValue}
-use Rattle.cell_cats.specs.Reclass.{reclassed}
+use Rattle.cell_cats.specs.Reclass.{reclassed_map}
 use Rattle.cell_stats.specs.CategoryTables.{Pairs}
 use Rattle.cell_stats.specs.TableText.{FormatValue, table_text}
 use Rattle.cell_tiles_law.specs.Parts.{Rectangle, AreCutOut}
@@ -14,12 +14,12 @@ HaveTheLabels whole part = map (λ m. m.labels) part ≡ map (λ m. m.labels) wh
 -- whatever rectangle is cut out of maps, by rules it is what is cut out of the maps by rules
 abbrev pub ReclassedPartsAreParts : Type 0
 ReclassedPartsAreParts = (rules : List RuleValue) (r : Rectangle) (whole part : List Grid)
-    → AreCutOut r whole part → AreCutOut r (map (reclassed rules) whole) (map (reclassed rules) part)
+    → AreCutOut r whole part → AreCutOut r (map (reclassed_map rules) whole) (map (reclassed_map rules) part)
 
 -- and it has the labels of the maps by rules
 abbrev pub ReclassedPartsHaveTheLabels : Type 0
 ReclassedPartsHaveTheLabels = (rules : List RuleValue) (r : Rectangle) (whole part : List Grid)
-    → AreCutOut r whole part → HaveTheLabels (map (reclassed rules) whole) (map (reclassed rules) part)
+    → AreCutOut r whole part → HaveTheLabels (map (reclassed_map rules) whole) (map (reclassed_map rules) part)
 
 -- where parts have the labels of the whole, a table is printed over them as over the whole
 abbrev pub PartsPrintTheWhole : Type 0

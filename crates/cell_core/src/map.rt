@@ -104,7 +104,8 @@ impl CellMap {
     /// [`Memory`] where memory was refused: nothing is changed.
     pub fn set_label(&mut self, category: i32, text: &[u8]) -> Result<(), Memory>
         requires { category ≢ i32.MIN }
-        ensures ok { OnOk result (self.new ≡ record self.old { labels = insert self.old.labels category text.now }) }
+        ensures ok { OnOk result
+            (self.new ≡ record self.old { labels = insert self.old.labels category text.now }) }
         ensures err { OnErr result (self.new ≡ self.old) }
     {
         let label = Vec::from_slice(self.alloc, text)?;
@@ -159,7 +160,8 @@ impl MapBuilder {
     pub fn push_row(&mut self, row: &[Cell]) -> Result<(), Memory>
         requires width { length row.now ≡ self.old.region.cols }
         requires room { length self.old.rows < self.old.region.rows }
-        ensures ok { OnOk result (self.new ≡ record self.old { rows = self.old.rows ++ row.now ∷ [] }) }
+        ensures ok { OnOk result
+            (self.new ≡ record self.old { rows = self.old.rows ++ row.now ∷ [] }) }
         ensures err { OnErr result (self.new ≡ self.old) }
     {
         let row = Row::of(self.alloc, row)?;

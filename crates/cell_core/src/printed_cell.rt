@@ -4,14 +4,15 @@ ghost use Rattle.std.specs.Prelude.{[]};
 ghost use Rattle.cell_core_devices.specs.Blocks.{Appends};
 ghost use Rattle.cell_core.specs.Text.{cell_text};
 
-use cell_core_devices::block::Block;
+use cell_core_devices::block::OutputBlock;
 use cell_core_devices::sink::Sink;
 use cell_core_values::cell::Cell;
 use itoa::Buffer;
 
 /// Writes a cell: its category in decimal, or the null text. Takes no memory.
-pub fn write_cell<W: Sink>(out: &mut W, block: &mut Block, cell: Cell, null_text: &[u8])
-    ensures { Appends W.taken W.faults out.old block.old (cell_text null_text.now cell) out.new block.new }
+pub fn write_cell<W: Sink>(out: &mut W, block: &mut OutputBlock, cell: Cell, null_text: &[u8])
+    ensures { Appends W.taken W.faults out.old block.old (cell_text null_text.now cell)
+        out.new block.new }
 {
     match cell.get() {
         None => block.push(out, null_text),

@@ -4,7 +4,7 @@ ghost use Rattle.std.specs.Prelude.{◌≡◌, ◌<◌, ◌^◌, length, All, No
 ghost use Rattle.cell_core_values.specs.Cell.{IsCell};
 ghost use Rattle.cell_core.specs.Runs.{AreRuns, written_out};
 
-use crate::runs::{Runs, cell_in, count_runs, runs_of, write_out};
+use crate::runs::{Runs, cell_of_runs, number_of_runs, runs_of, write_out};
 use cell_core_values::cell::Cell;
 use cell_core_values::memory::Memory;
 use std::alloc::Global;
@@ -16,12 +16,12 @@ const CELLS_A_RUN: usize = 2;
 /// A row of cells, kept in the form that takes less memory.
 #[derive(Debug, Drop)]
 pub(crate) struct Row {
-    kept: Kept,
+    kept: RowForm,
 }
 
 /// A row as its runs, or as its cells where most runs are short.
 #[derive(Debug, Drop)]
-enum Kept {
+enum RowForm {
     Runs(Vec<(Cell, u32)>),
     Cells(Vec<Cell>),
 }
@@ -45,11 +45,11 @@ impl Row {
         ensures value { IfOk result (λ row. row ≡ cells.now) }
         ensures cells { IfOk result (λ row. All IsCell row) }
     {
-        let count = count_runs(cells);
+        let count = number_of_runs(cells);
         let kept = if count <= cells.len() / CELLS_A_RUN {
-            Kept::Runs(runs_of(alloc, cells, count)?)
+            RowForm::Runs(runs_of(alloc, cells, count)?)
         } else {
-            Kept::Cells(Vec::from_slice(alloc, cells)?)
+            RowForm::Cells(Vec::from_slice(alloc, cells)?)
         };
         Ok(Row { kept })
     }
@@ -59,8 +59,8 @@ impl Row {
         ensures { result ≡ slice_index_or self.now col None }
     {
         match &self.kept {
-            Kept::Runs(runs) => cell_in(runs, col),
-            Kept::Cells(cells) => match cells.get(col as usize) {
+            RowForm::Runs(runs) => cell_of_runs(runs, col),
+            RowForm::Cells(cells) => match cells.get(col as usize) {
                 Some(cell) => *cell,
                 None => Cell::null(),
             },
@@ -73,8 +73,8 @@ impl Row {
         ensures { cells.new ≡ self.now }
     {
         match &self.kept {
-            Kept::Runs(runs) => write_out(runs, cells),
-            Kept::Cells(kept) => cells.copy_from_slice(kept),
+            RowForm::Runs(runs) => write_out(runs, cells),
+            RowForm::Cells(kept) => cells.copy_from_slice(kept),
         }
     }
 
@@ -84,8 +84,8 @@ impl Row {
         ensures runs { AreRuns result }
     {
         match &self.kept {
-            Kept::Runs(runs) => Runs::over(runs),
-            Kept::Cells(cells) => Runs::of_cells(cells),
+            RowForm::Runs(runs) => Runs::over(runs),
+            RowForm::Cells(cells) => Runs::of_cells(cells),
         }
     }
 }

@@ -25,7 +25,7 @@ fn category_of(cell: Cell) -> Option<i32>
 }
 
 // How many runs a row has. Its cells are null or categories.
-pub(crate) fn count_runs(row: &[Cell]) -> usize
+pub(crate) fn number_of_runs(row: &[Cell]) -> usize
     requires { length row.now < 2 ^ 32 }
     ensures count { result ≡ length (runs_in row.now) }
     ensures cells { All IsCell row.now }
@@ -83,7 +83,9 @@ fn push_block(
 ) -> Result<(Cell, u32), Memory>
     requires size { length block.now ≡ 64 }
     requires room { run.1 + 64 < 2 ^ 32 }
-    ensures runs { IfOk result (λ last. (more : List CellValue) → runs.new.items ++ runs_from last more ≡ runs.old.items ++ runs_from run (block.now ++ more)) }
+    ensures runs { IfOk result (λ last. (more : List CellValue)
+        → runs.new.items ++ runs_from last more
+        ≡ runs.old.items ++ runs_from run (block.now ++ more)) }
     ensures count { IfOk result (λ last. last.1 ≤ run.1 + 64) }
 {
     let mut cell = run.0;
@@ -146,7 +148,7 @@ pub(crate) fn runs_of(
 }
 
 // The cell at a column of the row that the runs make, or null after its end.
-pub(crate) fn cell_in(runs: &[(Cell, u32)], col: u32) -> Cell
+pub(crate) fn cell_of_runs(runs: &[(Cell, u32)], col: u32) -> Cell
     ensures { result ≡ slice_index_or (written_out runs.now) col None }
 {
     let mut left = col;
@@ -163,7 +165,8 @@ pub(crate) fn cell_in(runs: &[(Cell, u32)], col: u32) -> Cell
 #[inline]
 pub fn fill_run(cells: &mut [Cell], at: usize, run: (Cell, u32))
     requires { at + run.1 ≤ length cells.old }
-    ensures { cells.new ≡ take at cells.old ++ replicate run.1 run.0 ++ drop (at + run.1) cells.old }
+    ensures { cells.new
+        ≡ take at cells.old ++ replicate run.1 run.0 ++ drop (at + run.1) cells.old }
 {
     cells[at..at + run.1 as usize].fill(run.0);
 }
@@ -237,7 +240,7 @@ impl<'a> Runs<'a> {
     {
         match &self.rest {
             Rest::Runs(runs) => runs.len(),
-            Rest::Cells(cells) => count_runs(cells),
+            Rest::Cells(cells) => number_of_runs(cells),
         }
     }
 

@@ -3,7 +3,7 @@ use Rattle.std.proofs.Common.{◌≡◌, ◌∙◌, ℕ, ◌+◌, ◌<◌, Bool,
 use Rattle.std.specs.Prelude.{is_err}
 use Rattle.std.proofs.lemmas.List.{take-append-drop}
 use Rattle.cell_core_devices.specs.Device.{Faults, after_put, append_known}
-use Rattle.cell_core_devices.specs.Blocks.{BlockValue, IsRest, Appended, Appends, capped_count, settled}
+use Rattle.cell_core_devices.specs.Blocks.{BlockValue, IsRest, Appended, Appends, capped_count, settled_block}
 use Rattle.cell_core_devices.specs.declared.sink.WriteFault.{WriteFault}
 use Rattle.cell_core_devices.proofs.DeviceLemmas.{append_known-append}
 
@@ -92,7 +92,7 @@ module _ {before now : Option (List ℕ)} {start faults : Faults} {all : List �
 
     settled_put : (put : Result Unit WriteFault) (text bytes : List ℕ) (next : Option (List ℕ)) (after : Faults) → p.front ++ bytes ≡ all ++ text
         → OnOk put (next ≡ append_known now bytes) → IfErr put (λ f. f.written < length bytes) → IfErr put (λ f. next ≡ append_known now (take f.written bytes)) → after ≡ after_put faults (is_err put)
-        → Appended before start (all ++ text) next after (settled block put (length bytes))
+        → Appended before start (all ++ text) next after (settled_block block put (length bytes))
     settled_put (Ok done) text bytes next after parts ok within err same = rw (ok, same) (put_all text bytes parts)
     settled_put (Err fault) text bytes next after parts ok within err same = rw (err, same) (put_some text bytes fault.written within parts)
 
@@ -116,7 +116,7 @@ module _ {S : Type 0} {taken : S → Option (List ℕ)} {faults : S → Faults} 
   -- what was held is put
   pub appends_held : (put : Result Unit WriteFault) (next : S) → block.failed ≡ false → OnOk put (taken next ≡ append_known (taken old) block.held) → IfErr put (λ f. f.written < length block.held)
       → IfErr put (λ f. taken next ≡ append_known (taken old) (take f.written block.held)) → faults next ≡ after_put (faults old) (is_err put)
-      → Appends taken faults old block [] next (settled block put (length block.held))
+      → Appends taken faults old block [] next (settled_block block put (length block.held))
   appends_held put next good ok within err same = record {
     adds = λ before start all p. settled_put p good put [] block.held _ _ (held_all p good ∙ sym (append-nil all)) ok within err same;
   }
@@ -124,7 +124,7 @@ module _ {S : Type 0} {taken : S → Option (List ℕ)} {faults : S → Faults} 
   -- bytes are put past a block that holds nothing
   pub appends_put : (put : Result Unit WriteFault) (bytes : List ℕ) (next : S) → block.failed ≡ false → block.held ≡ [] → OnOk put (taken next ≡ append_known (taken old) bytes) → IfErr put (λ f. f.written < length bytes)
       → IfErr put (λ f. taken next ≡ append_known (taken old) (take f.written bytes)) → faults next ≡ after_put (faults old) (is_err put)
-      → Appends taken faults old block bytes next (settled block put (length bytes))
+      → Appends taken faults old block bytes next (settled_block block put (length bytes))
   appends_put put bytes next good none ok within err same = record {
     adds = λ before start all p.
         let front : p.front ≡ all = sym (append-nil p.front) ∙ ap (λ (l : List ℕ). p.front ++ l) (sym none) ∙ held_all p good in

@@ -42,9 +42,9 @@ pub record Appends {S : Type 0} (taken : S → Option (List ℕ)) (faults : S �
   pub adds : (before : Option (List ℕ)) (start : Faults) (all : List ℕ) → Appended before start all (taken old) (faults old) block → Appended before start (all ++ text) (taken now) (faults now) new
 
 -- a block of whose bytes all were put, or the first of them until a put was refused
-abbrev pub settled : BlockValue → Result Unit WriteFault → ℕ → BlockValue
-settled block (Ok done) all = record { held = []; written = capped_count (block.written + all); failed = false }
-settled block (Err fault) all = record { held = []; written = capped_count (block.written + fault.written); failed = true }
+abbrev pub settled_block : BlockValue → Result Unit WriteFault → ℕ → BlockValue
+settled_block block (Ok done) all = record { held = []; written = capped_count (block.written + all); failed = false }
+settled_block block (Err fault) all = record { held = []; written = capped_count (block.written + fault.written); failed = true }
 
 -- the fault of a block, if it failed
 abbrev pub fault_if : Bool → ℕ → Result Unit WriteFault

@@ -3,7 +3,7 @@
 
 ghost use Rattle.std.specs.Prelude.{◌≡◌, ℕ, ◌+◌, ◌≤◌, List, [], ◌++◌, length, take, Option, false};
 ghost use Rattle.cell_core_devices.specs.Device.{Faults};
-ghost use Rattle.cell_core_devices.specs.Blocks.{BlockValue, room, Appended, Appends, empty_block, settled, fault_if};
+ghost use Rattle.cell_core_devices.specs.Blocks.{BlockValue, room, Appended, Appends, empty_block, settled_block, fault_if};
 
 use crate::sink::{Sink, WriteFault, put_bytes};
 use std::marker::Model;
@@ -15,14 +15,14 @@ const ROOM: usize = 4096;
 ///
 /// It takes no memory. After a refused put nothing more is put.
 #[derive(Drop)]
-pub struct Block {
+pub struct OutputBlock {
     bytes: [u8; ROOM],
     len: usize,
     written: u64,
     failed: bool,
 }
 
-impl Model for Block {
+impl Model for OutputBlock {
     ghost use Rattle.std.specs.Prelude.{◌≤◌, take};
     ghost use Rattle.cell_core_devices.specs.Blocks.{BlockValue, room};
 
@@ -33,13 +33,14 @@ impl Model for Block {
     ghost invariant = { λ block. block.len ≤ room };
 }
 
-impl Block {
+impl OutputBlock {
     /// A block through which nothing was written.
-    pub fn new() -> Block
+    pub fn new() -> OutputBlock
         ensures value { result ≡ empty_block }
-        ensures nothing { (before : Option (List ℕ)) (start : Faults) → Appended before start [] before start result }
+        ensures nothing { (before : Option (List ℕ)) (start : Faults)
+            → Appended before start [] before start result }
     {
-        Block {
+        OutputBlock {
             bytes: [0; ROOM],
             len: 0,
             written: 0,
@@ -93,9 +94,13 @@ impl Block {
     }
 
     // Holds the bytes.
-    fn keep(&mut self, bytes: &[u8])
+    fn hold_bytes(&mut self, bytes: &[u8])
         requires { length self.old.held + length bytes.now ≤ room }
-        ensures { self.new ≡ record { held = self.old.held ++ bytes.now; written = self.old.written; failed = self.old.failed } }
+        ensures { self.new ≡ record {
+          held = self.old.held ++ bytes.now;
+          written = self.old.written;
+          failed = self.old.failed;
+        } }
     {
         let end = self.len + bytes.len();
         self.bytes[self.len..end].copy_from_slice(bytes);
@@ -105,7 +110,7 @@ impl Block {
     // Holds nothing, after so many bytes were put or a put was refused.
     fn settle(&mut self, put: Result<(), WriteFault>, all: u64)
         requires { self.old.failed ≡ false }
-        ensures { self.new ≡ settled self.old put all }
+        ensures { self.new ≡ settled_block self.old put all }
     {
         let taken = match put {
             Ok(()) => all,
@@ -154,7 +159,7 @@ impl Block {
             self.put_long(out, bytes);
             return;
         }
-        self.keep(bytes);
+        self.hold_bytes(bytes);
     }
 
     /// Gathers the bytes, of any number, and puts on the sink what does not fit the block, unless it refused a put.
@@ -166,6 +171,6 @@ impl Block {
             self.push_past(out, bytes);
             return;
         }
-        self.keep(bytes);
+        self.hold_bytes(bytes);
     }
 }

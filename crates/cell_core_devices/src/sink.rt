@@ -23,7 +23,8 @@ pub trait Sink {
     fn put(&mut self, bytes: &[u8]) -> Result<usize, DeviceFault>
         requires { 0 < length bytes.now }
         ensures count { IfOk result (λ n. (0 < n) × (n ≤ length bytes.now)) }
-        ensures ok { IfOk result (λ n. taken self.new ≡ append_known (taken self.old) (take n bytes.now)) }
+        ensures ok { IfOk result (λ n. taken self.new
+            ≡ append_known (taken self.old) (take n bytes.now)) }
         ensures err { OnErr result (taken self.new ≡ taken self.old) }
         ensures faults { faults self.new ≡ after_put (faults self.old) (is_err result) };
 
@@ -53,7 +54,8 @@ pub struct WriteFault {
 pub fn put_bytes<W: Sink>(out: &mut W, bytes: &[u8]) -> Result<(), WriteFault>
     ensures ok { OnOk result (W.taken out.new ≡ append_known (W.taken out.old) bytes.now) }
     ensures within { IfErr result (λ fault. fault.written < length bytes.now) }
-    ensures err { IfErr result (λ fault. W.taken out.new ≡ append_known (W.taken out.old) (take fault.written bytes.now)) }
+    ensures err { IfErr result (λ fault. W.taken out.new
+        ≡ append_known (W.taken out.old) (take fault.written bytes.now)) }
     ensures faults { W.faults out.new ≡ after_put (W.faults out.old) (is_err result) }
     ensures empty { bytes.now ≡ [] → out.new ≡ out.old }
 {
@@ -113,7 +115,8 @@ impl<W: Write> Sink for WriteSink<W> {
         ensures count { IfOk result (λ n. (0 < n) × (n ≤ length bytes.now)) }
         ensures faults { self.new.1 ≡ after_put self.old.1 (is_err result) }
         // What the writer holds, where that is known, has grown by what was taken.
-        ensures written { WriteAppends (W.contents self.old.0) (W.contents self.new.0) result bytes.now }
+        ensures written { WriteAppends (W.contents self.old.0) (W.contents self.new.0)
+            result bytes.now }
     {
         match self.writer.write(bytes) {
             Ok(0) | Err(_) => {
@@ -165,7 +168,13 @@ impl MemorySink {
     /// flush fails or not. Takes no memory.
     pub fn new(room: Vec<u8>, piece: usize, flush_fails: bool) -> MemorySink
         requires { 0 < piece }
-        ensures { result ≡ record { bytes = []; faults = no_faults; room = length room.items; piece = piece; flush_fails = flush_fails } }
+        ensures { result ≡ record {
+          bytes = [];
+          faults = no_faults;
+          room = length room.items;
+          piece = piece;
+          flush_fails = flush_fails;
+        } }
     {
         MemorySink {
             room,
@@ -205,7 +214,8 @@ impl Sink for MemorySink {
     fn put(&mut self, bytes: &[u8]) -> Result<usize, DeviceFault>
         requires { 0 < length bytes.now }
         ensures count { IfOk result (λ n. (0 < n) × (n ≤ length bytes.now)) }
-        ensures moved { IfOk result (λ n. n ≡ moved_count (length bytes.now) self.old.piece self.old.room) }
+        ensures moved { IfOk result (λ n. n
+            ≡ moved_count (length bytes.now) self.old.piece self.old.room) }
         ensures full { OnErr result (self.old.room ≡ 0) }
         ensures taken { MatchResult result
             (λ n. self.new ≡ record self.old { bytes = self.old.bytes ++ take n bytes.now; room = self.old.room - n })
@@ -223,7 +233,8 @@ impl Sink for MemorySink {
 
     fn flush(&mut self) -> Result<(), DeviceFault>
         ensures fails { is_err result ≡ self.old.flush_fails }
-        ensures taken { self.new ≡ record self.old { faults = after_flush self.old.faults (is_err result) } }
+        ensures taken { self.new
+            ≡ record self.old { faults = after_flush self.old.faults (is_err result) } }
     {
         if self.flush_fails {
             self.unflushed = true;

@@ -23,7 +23,7 @@ pub enum Asked {
 
 impl Asked {
     /// How far it was asked after one more call, with this answer.
-    pub fn after(self, answer: Result<usize, DeviceFault>) -> Asked
+    pub fn after_answer(self, answer: Result<usize, DeviceFault>) -> Asked
         ensures { result ≡ after_take self answer }
     {
         match (self, answer) {
@@ -101,16 +101,17 @@ impl<R: Read> Source for ReadSource<R> {
         requires { 0 < length buf.old }
         ensures count { IfOk result (λ n. n ≤ length buf.new) }
         // What the reader has left, where that is known, has lost what was taken.
-        ensures read { ReadConsumes (R.remaining self.old.0) (R.remaining self.new.0) result buf.new }
+        ensures read { ReadConsumes (R.remaining self.old.0) (R.remaining self.new.0)
+            result buf.new }
         ensures asked { self.new.1 ≡ after_take self.old.1 result }
     {
         match self.reader.read(buf) {
             Ok(n) => {
-                self.asked = self.asked.after(Ok(n));
+                self.asked = self.asked.after_answer(Ok(n));
                 Ok(n)
             }
             Err(_) => {
-                self.asked = self.asked.after(Err(DeviceFault));
+                self.asked = self.asked.after_answer(Err(DeviceFault));
                 Err(DeviceFault)
             }
         }
@@ -143,7 +144,8 @@ impl MemorySource {
     /// ends. Takes no memory.
     pub fn new(bytes: Vec<u8>, piece: usize, fails: bool) -> MemorySource
         requires { 0 < piece }
-        ensures { result ≡ record { bytes = bytes.items; fails = fails; piece = piece; asked = Asked.Going } }
+        ensures { result
+            ≡ record { bytes = bytes.items; fails = fails; piece = piece; asked = Asked.Going } }
     {
         MemorySource {
             bytes,
@@ -167,25 +169,30 @@ impl Source for MemorySource {
     fn take(&mut self, buf: &mut [u8]) -> Result<usize, DeviceFault>
         requires { 0 < length buf.old }
         ensures count { IfOk result (λ n. n ≤ length buf.new) }
-        ensures bytes { Takes (Some (stored_coming self.old)) (Some (stored_coming self.new)) result buf.new }
-        ensures moved { IfOk result (λ n. n ≡ moved_count (length self.old.bytes) self.old.piece (length buf.old)) }
+        ensures bytes { Takes (Some (stored_coming self.old)) (Some (stored_coming self.new))
+            result buf.new }
+        ensures moved { IfOk result (λ n. n
+            ≡ moved_count (length self.old.bytes) self.old.piece (length buf.old)) }
         // After the bytes given the slice is as it was.
         ensures slice { IfOk result (λ n. buf.new ≡ take n self.old.bytes ++ drop n buf.old) }
         ensures unchanged { OnErr result (buf.new ≡ buf.old) }
         ensures rest { MatchResult result
-            (λ n. self.new ≡ record self.old { bytes = drop n self.old.bytes; asked = after_take self.old.asked result })
+            (λ n. self.new ≡ record self.old {
+              bytes = drop n self.old.bytes;
+              asked = after_take self.old.asked result;
+            })
             (λ _. self.new ≡ record self.old { asked = after_take self.old.asked result }) }
         ensures asked { self.new.asked ≡ after_take self.old.asked result }
     {
         let rest = &self.bytes[self.at..];
         if rest.is_empty() && self.fails {
-            self.asked = self.asked.after(Err(DeviceFault));
+            self.asked = self.asked.after_answer(Err(DeviceFault));
             return Err(DeviceFault);
         }
         let n = rest.len().min(self.piece).min(buf.len());
         buf[..n].copy_from_slice(&rest[..n]);
         self.at += n;
-        self.asked = self.asked.after(Ok(n));
+        self.asked = self.asked.after_answer(Ok(n));
         Ok(n)
     }
 }

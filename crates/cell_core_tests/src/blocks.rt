@@ -1,6 +1,6 @@
 //! Blocks: when what they gather goes out, and what a full sink leaves of it.
 
-use cell_core::block::Block;
+use cell_core::block::OutputBlock;
 use cell_core::device::DeviceFault;
 use cell_core::sink::{MemorySink, Sink, WriteFault};
 use std::alloc::Global;
@@ -9,7 +9,7 @@ use std::test::Fail;
 // Pushes so many bytes, all alike, and answers how many bytes the block counts and the sink has then.
 fn pushed(
     alloc: Global,
-    block: &mut Block,
+    block: &mut OutputBlock,
     sink: &mut MemorySink,
     byte: u8,
     count: usize,
@@ -71,7 +71,7 @@ const ENDS: [(usize, u8); 8] = [
 #[test]
 fn puts_out_what_is_more_than_a_block(rt: HostRuntime) -> Result<(), Fail> {
     let mut sink = MemorySink::new(vec![in rt.alloc(); 0u8; 10000]?, 7, false);
-    let mut block = Block::new();
+    let mut block = OutputBlock::new();
     for (byte, count, out) in PUSHES {
         let found = pushed(rt.alloc(), &mut block, &mut sink, byte, count)?;
         assert_eq!(rt; found, (out as u64, out), "{count} bytes {byte}");
@@ -91,7 +91,7 @@ fn puts_out_what_is_more_than_a_block(rt: HostRuntime) -> Result<(), Fail> {
 #[test]
 fn remembers_a_refused_put(rt: HostRuntime) -> Result<(), Fail> {
     let mut sink = MemorySink::new(vec![in rt.alloc(); 0u8; 4100]?, 4096, false);
-    let mut block = Block::new();
+    let mut block = OutputBlock::new();
     block.push(&mut sink, &[b'a'; 4000]);
     block.push(&mut sink, &[b'b'; 200]);
     assert!(rt; !block.has_failed());
@@ -111,7 +111,7 @@ fn puts_nothing_after_a_refused_put(rt: HostRuntime) -> Result<(), Fail> {
         calls: 0,
         refused: false,
     };
-    let mut block = Block::new();
+    let mut block = OutputBlock::new();
     block.push(&mut sink, b"a");
     block.empty(&mut sink);
     for length in [1, 4096, 5000] {
@@ -129,7 +129,7 @@ fn puts_nothing_after_a_refused_put(rt: HostRuntime) -> Result<(), Fail> {
 #[test]
 fn a_long_slice_that_is_cut_off_is_counted(rt: HostRuntime) -> Result<(), Fail> {
     let mut sink = MemorySink::new(vec![in rt.alloc(); 0u8; 5000]?, 1000, false);
-    let mut block = Block::new();
+    let mut block = OutputBlock::new();
     block.push(&mut sink, b"ab");
     block.push(&mut sink, &[b'c'; 6000]);
     assert_eq!(rt; block.outcome(), Err(WriteFault { written: 5000 }));

@@ -18,5 +18,5 @@ before_blanks [] = []
 before_blanks (b ∷ bs) = if list_all is_blank (b ∷ bs) then [] else b ∷ before_blanks bs
 
 -- without the blanks at its ends
-abbrev pub trimmed : List ℕ → List ℕ
-trimmed text = before_blanks (after_blanks text)
+abbrev pub trimmed_text : List ℕ → List ℕ
+trimmed_text text = before_blanks (after_blanks text)

@@ -2,7 +2,7 @@
 
 ghost use Rattle.std.specs.Prelude.{◌≡◌, ◌≤◌, length};
 ghost use Rattle.std.specs.List.{before_first, after_first};
-ghost use Rattle.cell_core_text.specs.Blanks.{is_blank, after_blanks, before_blanks, trimmed};
+ghost use Rattle.cell_core_text.specs.Blanks.{is_blank, after_blanks, before_blanks, trimmed_text};
 
 /// Whether a byte is a space, a tab or a carriage return. Takes no memory.
 pub fn is_blank(b: u8) -> bool
@@ -37,8 +37,8 @@ fn before_blanks<'a>(text: &'a [u8]) -> &'a [u8]
 }
 
 /// The text without the blanks at its ends. Takes no memory.
-pub fn trimmed<'a>(text: &'a [u8]) -> &'a [u8]
-    ensures { result.now ≡ trimmed text.now }
+pub fn trimmed_text<'a>(text: &'a [u8]) -> &'a [u8]
+    ensures { result.now ≡ trimmed_text text.now }
 {
     before_blanks(after_blanks(text))
 }

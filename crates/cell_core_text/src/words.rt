@@ -12,7 +12,8 @@ use std::alloc::{AllocError, Global};
 
 // The pieces between blanks, empty ones too.
 fn pieces_of<'a>(alloc: Global, line: &'a [u8]) -> Result<Vec<&'a [u8]>, AllocError>
-    ensures { IfOk result (λ pieces. map (λ w. w.now) pieces.items ≡ slice_split is_blank line.now) }
+    ensures { IfOk result (λ pieces. map (λ w. w.now) pieces.items
+        ≡ slice_split is_blank line.now) }
 {
     line.split(|b| is_blank(*b)).collect(alloc)
 }
@@ -25,14 +26,16 @@ fn is_list_gap(b: u8) -> bool
 
 // The pieces between blanks and commas, empty ones too.
 fn list_pieces_of<'a>(alloc: Global, line: &'a [u8]) -> Result<Vec<&'a [u8]>, AllocError>
-    ensures { IfOk result (λ pieces. map (λ w. w.now) pieces.items ≡ slice_split is_list_gap line.now) }
+    ensures { IfOk result (λ pieces. map (λ w. w.now) pieces.items
+        ≡ slice_split is_list_gap line.now) }
 {
     line.split(|b| is_list_gap(*b)).collect(alloc)
 }
 
 // The pieces that are not empty.
 fn words_among<'a>(alloc: Global, pieces: &[&'a [u8]]) -> Result<Vec<&'a [u8]>, Memory>
-    ensures { IfOk result (λ words. map (λ w. w.now) words.items ≡ filter is_word (map (λ w. w.now) pieces.now)) }
+    ensures { IfOk result (λ words. map (λ w. w.now) words.items
+        ≡ filter is_word (map (λ w. w.now) pieces.now)) }
 {
     let mut words = Vec::new(alloc);
     for piece in pieces {

@@ -1,6 +1,6 @@
 //! Blanks, words, parts and pairs.
 
-use cell_core_text::blanks::{after_blanks, around_blank, is_blank, trimmed};
+use cell_core_text::blanks::{after_blanks, around_blank, is_blank, trimmed_text};
 use cell_core_text::words::{list_words_of, pair_of, parts_of, words_of};
 use std::alloc::AllocGlobal;
 use std::process::Abort;
@@ -26,7 +26,7 @@ fn takes_blanks_from_both_ends(rt: HostRuntime) -> Result<(), Fail> {
     ];
     for (text, after, wanted) in table {
         assert_eq!(rt; after_blanks(text), after, "the text {text:?}");
-        assert_eq!(rt; trimmed(text), wanted, "the text {text:?}");
+        assert_eq!(rt; trimmed_text(text), wanted, "the text {text:?}");
     }
     Ok(())
 }

@@ -185,14 +185,14 @@ impl Names {
         ensures ok { OnOk result (self.new ≡ self.old ++ name ∷ []) }
         ensures err { OnErr result (self.new ≡ self.old) }
     {
-        match self.keep(name) {
+        match self.push_or_return(name) {
             Ok(()) => Ok(()),
             Err(_) => Err(Memory),
         }
     }
 
     /// Puts a name last that is not there yet, or gives it back where memory was refused.
-    pub fn keep(&mut self, name: Name) -> Result<(), Name>
+    pub fn push_or_return(&mut self, name: Name) -> Result<(), Name>
         requires { place_of name self.old ≡ None }
         ensures ok { OnOk result (self.new ≡ self.old ++ name ∷ []) }
         ensures err { OnErr result (self.new ≡ self.old) }

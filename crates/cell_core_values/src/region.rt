@@ -99,7 +99,15 @@ impl Region {
         rows: u32,
         cols: u32,
     ) -> Result<Region, RegionFault>
-        ensures { result ≡ region_fault (record { north = north; south = south; east = east; west = west; rows = rows; cols = cols }) }
+        ensures { result
+            ≡ region_fault (record {
+              north = north;
+              south = south;
+              east = east;
+              west = west;
+              rows = rows;
+              cols = cols;
+            }) }
     {
         if !is_above(north, south) || !is_above(east, west) {
             return Err(RegionFault::BadExtent);

@@ -7,7 +7,7 @@ use Rattle.std.specs.List.{flat_map, range_with_len}
 use Rattle.cell_core.specs.Grid.{Grid}
 use Rattle.cell_stats_combinations.specs.declared.skip.Skip.{Skip}
 use Rattle.cell_stats_combinations.specs.Combinations.{Combination, combination_at, row_combinations, all_combinations}
-use Rattle.cell_stats_combinations.specs.LeftOut.{kept, is_left_out}
+use Rattle.cell_stats_combinations.specs.LeftOut.{kept_cells, is_left_out}
 use Rattle.cell_stats.specs.TableText.{FormatValue, cell_line}
 use Rattle.cell_stats_counts.proofs.WalkLemmas.{stretch, kept-replicate, all_combinations_more}
 
@@ -21,17 +21,17 @@ range-append a (suc n) m =
 module _ (format : FormatValue) (maps : List Grid) (picks : List ℕ) (skip : Skip) where
   -- the lines of the cells that are kept
   abbrev pub lines : List Combination → List ℕ
-  lines cells = flat_map (cell_line format maps picks) (kept skip cells)
+  lines cells = flat_map (cell_line format maps picks) (kept_cells skip cells)
 
   pub lines-append : (xs ys : List Combination) → lines (xs ++ ys) ≡ lines xs ++ lines ys
-  lines-append xs ys = ap (flat_map (cell_line format maps picks)) (filter-append (λ k. not (is_left_out skip k)) xs ys) ∙ flat_map-append (cell_line format maps picks) (kept skip xs) (kept skip ys)
+  lines-append xs ys = ap (flat_map (cell_line format maps picks)) (filter-append (λ k. not (is_left_out skip k)) xs ys) ∙ flat_map-append (cell_line format maps picks) (kept_cells skip xs) (kept_cells skip ys)
 
   -- cells that are alike and left out have no line
   pub lines-left : (k : Combination) (n : ℕ) → is_left_out skip k ≡ true → lines (replicate n k) ≡ []
   lines-left k n left = ap (flat_map (cell_line format maps picks)) (kept-replicate skip k n true left)
 
   pub lines-kept : (k : Combination) (n : ℕ) → is_left_out skip k ≡ false → lines (replicate n k) ≡ flat_map (cell_line format maps picks) (replicate n k)
-  lines-kept k n kept = ap (flat_map (cell_line format maps picks)) (kept-replicate skip k n false kept)
+  lines-kept k n kept_cells = ap (flat_map (cell_line format maps picks)) (kept-replicate skip k n false kept_cells)
 
   -- a stretch more of a row
   pub lines-stretch : (row col n : ℕ) (k : Combination) → ((j : ℕ) → j < n → combination_at maps picks row (col + j) ≡ k) → lines (map (combination_at maps picks row) (range_with_len 0 (col + n))) ≡ lines (map (combination_at maps picks row) (range_with_len 0 col)) ++ lines (replicate n k)

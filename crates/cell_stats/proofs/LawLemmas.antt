@@ -14,7 +14,7 @@ use Rattle.cell_stats_combinations.specs.declared.skip.Skip.TheVariants.{Nothing
 use Rattle.cell_stats_combinations.specs.Combinations.{Combination, combination_cmp, all_combinations}
 use Rattle.cell_stats_counts.specs.Counts.{count_of}
 use Rattle.cell_stats.specs.CategoryTables.{Pairs, table_of}
-use Rattle.cell_stats_combinations.specs.LeftOut.{kept, is_left_out}
+use Rattle.cell_stats_combinations.specs.LeftOut.{kept_cells, is_left_out}
 use Rattle.cell_stats_combinations.proofs.OrderLemmas.{combination_cmp-total, combination_cmp-exact, is_equal}
 use Rattle.cell_stats.proofs.SortedLemmas.{both_true, is_less}
 use Rattle.cell_stats.proofs.TableLemmas.{T_from, from_T, IsTally, IsTally-from, IsFound-from, counts_of-IsTally, one_table, count_cons, count_kept, found, table_of-IsTable}
@@ -124,25 +124,25 @@ tally-sum cells es tally =
     get_or-any (x ∷ xs) zero d e h = refl
     get_or-any (x ∷ xs) (suc i) d e h = get_or-any xs i d e (omega (arith, h))
 
-kept-nothing : (cells : List Combination) → kept Nothing cells ≡ cells
+kept-nothing : (cells : List Combination) → kept_cells Nothing cells ≡ cells
 kept-nothing [] = refl
 kept-nothing (k ∷ cells) = ap (λ (l : List Combination). k ∷ l) (kept-nothing cells)
 
 pub counts-add-up : (maps : List Grid) (picks : List ℕ) (rows cols : ℕ) → sum_by (λ pair. pair.1) (table_of Nothing (all_combinations maps picks rows cols)) ≡ rows * cols
 counts-add-up maps picks rows cols =
     let cells = all_combinations maps picks rows cols in
-    tally-sum (kept Nothing cells) (table_of Nothing cells) (counts_of-IsTally (kept Nothing cells)) ∙ ap length (kept-nothing cells) ∙ length_all maps picks cols rows
+    tally-sum (kept_cells Nothing cells) (table_of Nothing cells) (counts_of-IsTally (kept_cells Nothing cells)) ∙ ap length (kept-nothing cells) ∙ length_all maps picks cols rows
 
 -- ---- what a rule leaves out
 
 pub table-skips : (skip : Skip) (cells : List Combination) → table_of skip cells ≡ filter (λ pair. not (is_left_out skip pair.0)) (table_of Nothing cells)
 table-skips skip cells =
-    let all = kept Nothing cells in
+    let all = kept_cells Nothing cells in
     let es = table_of Nothing cells in
     let p = λ (k : Combination). not (is_left_out skip k) in
     let table = IsFound-from all es (counts_of-IsTally all) in
-    one_table (kept skip cells) (table_of skip cells) (where_key combination_cmp p es) (counts_of-IsTally (kept skip cells))
-    (IsTally-from (kept skip cells) (where_key combination_cmp p es) (record {
+    one_table (kept_cells skip cells) (table_of skip cells) (where_key combination_cmp p es) (counts_of-IsTally (kept_cells skip cells))
+    (IsTally-from (kept_cells skip cells) (where_key combination_cmp p es) (record {
       sorted = from_T _ (is_sorted-where_key combination_cmp p es (T_from _ table.sorted));
       finds = λ k.
           find-where_key combination_cmp p k (λ x same. ap p (sym (combination_cmp-exact k x same))) es

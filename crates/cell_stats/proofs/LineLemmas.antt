@@ -7,31 +7,31 @@ use Rattle.std.proofs.lemmas.List.{get_or-drop}
 use Rattle.cell_core.specs.Grid.{Grid, CellValue}
 use Rattle.cell_core.specs.Text.{cell_text}
 use Rattle.cell_stats_combinations.specs.Combinations.{Combination}
-use Rattle.cell_stats.specs.parts.Preceded.{preceded, pick_text, next_text, others_text}
+use Rattle.cell_stats.specs.parts.Preceded.{preceded_texts, pick_text, next_text, others_text}
 use Rattle.cell_stats.specs.TableText.{FormatValue, cell_fields, combination_fields, count_fields, label_of_cell, pair_line}
 
 -- the first text, and each other one after the byte
-pub join-cons : (c : ℕ) (text : List ℕ) (texts : List (List ℕ)) → join_with_byte c (text ∷ texts) ≡ text ++ preceded c texts
+pub join-cons : (c : ℕ) (text : List ℕ) (texts : List (List ℕ)) → join_with_byte c (text ∷ texts) ≡ text ++ preceded_texts c texts
 join-cons c text [] = sym (append-nil text)
 join-cons c text (next ∷ texts) = ap (λ (l : List ℕ). text ++ (c ∷ l)) (join-cons c next texts)
 
 -- more texts follow, each after the byte
-pub join-more : (c : ℕ) (text : List ℕ) (texts more : List (List ℕ)) → join_with_byte c (text ∷ (texts ++ more)) ≡ join_with_byte c (text ∷ texts) ++ preceded c more
+pub join-more : (c : ℕ) (text : List ℕ) (texts more : List (List ℕ)) → join_with_byte c (text ∷ (texts ++ more)) ≡ join_with_byte c (text ∷ texts) ++ preceded_texts c more
 join-more c text texts more =
     join-cons c text (texts ++ more) ∙ ap (λ (l : List ℕ). text ++ l) (flat_map-append (λ (t : List ℕ). c ∷ t) texts more)
-    ∙ sym (append_assoc text (preceded c texts) (preceded c more)) ∙ ap (λ (l : List ℕ). l ++ preceded c more) (sym (join-cons c text texts))
+    ∙ sym (append_assoc text (preceded_texts c texts) (preceded_texts c more)) ∙ ap (λ (l : List ℕ). l ++ preceded_texts c more) (sym (join-cons c text texts))
 
 -- the fields of one map, each after the byte
-next_text-preceded : (format : FormatValue) (maps : List Grid) (p : ℕ × CellValue) → preceded format.separator (cell_fields format maps p.0 p.1) ≡ next_text format maps p
+next_text-preceded : (format : FormatValue) (maps : List Grid) (p : ℕ × CellValue) → preceded_texts format.separator (cell_fields format maps p.0 p.1) ≡ next_text format maps p
 next_text-preceded format maps p =
     ap (λ (l : List ℕ). format.separator ∷ l) (sym (join-cons format.separator (cell_text format.null_text p.1) (if format.labels then label_of_cell maps p.0 p.1 ∷ [] else [])))
 
 -- and those of several
-others-preceded : (format : FormatValue) (maps : List Grid) (ps : List (ℕ × CellValue)) → preceded format.separator (flat_map (λ p. cell_fields format maps p.0 p.1) ps) ≡ flat_map (next_text format maps) ps
+others-preceded : (format : FormatValue) (maps : List Grid) (ps : List (ℕ × CellValue)) → preceded_texts format.separator (flat_map (λ p. cell_fields format maps p.0 p.1) ps) ≡ flat_map (next_text format maps) ps
 others-preceded format maps [] = refl
 others-preceded format maps (p ∷ ps) =
     flat_map-append (λ (t : List ℕ). format.separator ∷ t) (cell_fields format maps p.0 p.1) (flat_map (λ p. cell_fields format maps p.0 p.1) ps)
-    ∙ ap (λ (l : List ℕ). l ++ preceded format.separator (flat_map (λ p. cell_fields format maps p.0 p.1) ps)) (next_text-preceded format maps p)
+    ∙ ap (λ (l : List ℕ). l ++ preceded_texts format.separator (flat_map (λ p. cell_fields format maps p.0 p.1) ps)) (next_text-preceded format maps p)
     ∙ ap (λ (l : List ℕ). next_text format maps p ++ l) (others-preceded format maps ps)
 
 -- the first map's cell, and then the others
@@ -43,7 +43,7 @@ combination-others format maps (p ∷ picks) (x ∷ k) d e some same =
     ∙ ap (λ (l : List ℕ). pick_text format maps p x ++ l) (others-preceded format maps (zip picks k))
 
 -- the fields of a combination, and more behind them
-pub line-more : (format : FormatValue) (maps : List Grid) (picks : List ℕ) (k : Combination) (more : List (List ℕ)) → 0 < length picks → length k ≡ length picks → join_with_byte format.separator (combination_fields format maps picks k ++ more) ≡ join_with_byte format.separator (combination_fields format maps picks k) ++ preceded format.separator more
+pub line-more : (format : FormatValue) (maps : List Grid) (picks : List ℕ) (k : Combination) (more : List (List ℕ)) → 0 < length picks → length k ≡ length picks → join_with_byte format.separator (combination_fields format maps picks k ++ more) ≡ join_with_byte format.separator (combination_fields format maps picks k) ++ preceded_texts format.separator more
 line-more format maps [] k more some same = absurd (omega arith)
 line-more format maps (p ∷ picks) [] more some same = absurd (omega arith)
 line-more format maps (p ∷ picks) (x ∷ k) more some same =
@@ -51,7 +51,7 @@ line-more format maps (p ∷ picks) (x ∷ k) more some same =
     join-more format.separator (cell_text format.null_text x) others more
 
 -- a cell, and its label behind it
-pub pick_text-label : (format : FormatValue) (maps : List Grid) (place : ℕ) (cell : CellValue) → cell_text format.null_text cell ++ preceded format.separator (if format.labels then label_of_cell maps place cell ∷ [] else []) ≡ pick_text format maps place cell
+pub pick_text-label : (format : FormatValue) (maps : List Grid) (place : ℕ) (cell : CellValue) → cell_text format.null_text cell ++ preceded_texts format.separator (if format.labels then label_of_cell maps place cell ∷ [] else []) ≡ pick_text format maps place cell
 pick_text-label format maps place cell = sym (join-cons format.separator (cell_text format.null_text cell) (if format.labels then label_of_cell maps place cell ∷ [] else []))
 
 pub pick_text-without : (format : FormatValue) (maps : List Grid) (place : ℕ) (cell : CellValue)
@@ -63,7 +63,7 @@ pick_text-without format maps place cell off =
 pub pick_text-with : (format : FormatValue) (maps : List Grid) (place : ℕ) (cell : CellValue) → format.labels ≡ true → cell_text format.null_text cell ++ (format.separator ∷ label_of_cell maps place cell) ≡ pick_text format maps place cell
 pick_text-with format maps place cell on =
     ap (λ (l : List ℕ). cell_text format.null_text cell ++ l) (sym (append-nil (format.separator ∷ label_of_cell maps place cell)))
-    ∙ ap (λ (b : Bool). cell_text format.null_text cell ++ preceded format.separator (if b then label_of_cell maps place cell ∷ [] else [])) (sym on) ∙ pick_text-label format maps place cell
+    ∙ ap (λ (b : Bool). cell_text format.null_text cell ++ preceded_texts format.separator (if b then label_of_cell maps place cell ∷ [] else [])) (sym on) ∙ pick_text-label format maps place cell
 
 module _ (picks : List ℕ) (k : Combination) (i : ℕ) (within : i < length picks) (same : length k ≡ length picks) where
   -- the pick and the cell at a place
@@ -97,5 +97,5 @@ combination-parts format maps picks k x is some same =
     ∙ sym (combination-others format maps picks k 0 x some same)
 
 -- the combination, the count and the line feed
-pub pair-parts : (format : FormatValue) (maps : List Grid) (picks : List ℕ) (k : Combination) (n : ℕ) → 0 < length picks → length k ≡ length picks → (join_with_byte format.separator (combination_fields format maps picks k) ++ preceded format.separator (count_fields format n)) ++ 10 ∷ [] ≡ pair_line format maps picks (k, n)
+pub pair-parts : (format : FormatValue) (maps : List Grid) (picks : List ℕ) (k : Combination) (n : ℕ) → 0 < length picks → length k ≡ length picks → (join_with_byte format.separator (combination_fields format maps picks k) ++ preceded_texts format.separator (count_fields format n)) ++ 10 ∷ [] ≡ pair_line format maps picks (k, n)
 pair-parts format maps picks k n some same = ap (λ (l : List ℕ). l ++ 10 ∷ []) (sym (line-more format maps picks k (count_fields format n) some same))

@@ -13,7 +13,7 @@ use Rattle.cell_stats_counts.specs.Counts.{count_of}
 use Rattle.cell_stats_counts.specs.Listed.{Counts, entry_of, listed_of, HasNoZero}
 use Rattle.cell_stats_combinations.specs.declared.skip.Skip.{Skip}
 use Rattle.cell_stats.specs.CategoryTables.{Pairs, IsTable, counts_of, table_of}
-use Rattle.cell_stats_combinations.specs.LeftOut.{kept, is_left_out}
+use Rattle.cell_stats_combinations.specs.LeftOut.{kept_cells, is_left_out}
 use Rattle.cell_stats_combinations.proofs.OrderLemmas.{combination_cmp-total, combination_cmp-exact, is_equal}
 use Rattle.cell_stats.proofs.SortedLemmas.{both_true, is_less, each_found}
 
@@ -159,14 +159,14 @@ counts_of-IsTally cells =
 
 -- ---- what is left out
 
-kept_out : (skip : Skip) (x : Combination) (cells : List Combination) → is_left_out skip x ≡ true → kept skip (x ∷ cells) ≡ kept skip cells
+kept_out : (skip : Skip) (x : Combination) (cells : List Combination) → is_left_out skip x ≡ true → kept_cells skip (x ∷ cells) ≡ kept_cells skip cells
 kept_out skip x cells l = rw l refl
 
-kept_in : (skip : Skip) (x : Combination) (cells : List Combination) → is_left_out skip x ≡ false → kept skip (x ∷ cells) ≡ x ∷ kept skip cells
+kept_in : (skip : Skip) (x : Combination) (cells : List Combination) → is_left_out skip x ≡ false → kept_cells skip (x ∷ cells) ≡ x ∷ kept_cells skip cells
 kept_in skip x cells l = rw l refl
 
 -- cells that are left out are not counted
-pub count_kept : (skip : Skip) (k : Combination) (cells : List Combination) → count_of k (kept skip cells) ≡ cond (is_left_out skip k) 0 (count_of k cells)
+pub count_kept : (skip : Skip) (k : Combination) (cells : List Combination) → count_of k (kept_cells skip cells) ≡ cond (is_left_out skip k) 0 (count_of k cells)
 count_kept skip k [] = nothing (is_left_out skip k)
   where
     nothing : (b : Bool) → ◌≡◌ {A = ℕ} 0 (cond b 0 0)
@@ -174,7 +174,7 @@ count_kept skip k [] = nothing (is_left_out skip k)
     nothing false = refl
 count_kept skip k (x ∷ cells) = by (is_left_out skip x) (eq_by_cmp combination_cmp k x) refl refl (count_kept skip k cells)
   where
-    by : (b e : Bool) → is_left_out skip x ≡ b → eq_by_cmp combination_cmp k x ≡ e → count_of k (kept skip cells) ≡ cond (is_left_out skip k) 0 (count_of k cells) → count_of k (kept skip (x ∷ cells)) ≡ cond (is_left_out skip k) 0 (count_of k (x ∷ cells))
+    by : (b e : Bool) → is_left_out skip x ≡ b → eq_by_cmp combination_cmp k x ≡ e → count_of k (kept_cells skip cells) ≡ cond (is_left_out skip k) 0 (count_of k cells) → count_of k (kept_cells skip (x ∷ cells)) ≡ cond (is_left_out skip k) 0 (count_of k (x ∷ cells))
     by true true l e on =
         let left : is_left_out skip k ≡ true = ap (is_left_out skip) (combination_cmp-exact k x (is_equal _ e)) ∙ l in
         ap (count_of k) (kept_out skip x cells l) ∙ on ∙ ap (λ b. cond b 0 (count_of k cells)) left ∙ ap (λ b. cond b 0 (count_of k (x ∷ cells))) (sym left)
@@ -182,26 +182,26 @@ count_kept skip k (x ∷ cells) = by (is_left_out skip x) (eq_by_cmp combination
         ap (count_of k) (kept_out skip x cells l) ∙ on ∙ ap (λ n. cond (is_left_out skip k) 0 n) (sym (count_cons k x cells ∙ ap (λ b. cond b 1 0 + count_of k cells) e ∙ zero-add (count_of k cells)))
     by false true l e on =
         let left : is_left_out skip k ≡ false = ap (is_left_out skip) (combination_cmp-exact k x (is_equal _ e)) ∙ l in
-        ap (count_of k) (kept_in skip x cells l) ∙ count_cons k x (kept skip cells) ∙ ap (λ n. cond (eq_by_cmp combination_cmp k x) 1 0 + n) (on ∙ ap (λ b. cond b 0 (count_of k cells)) left)
+        ap (count_of k) (kept_in skip x cells l) ∙ count_cons k x (kept_cells skip cells) ∙ ap (λ n. cond (eq_by_cmp combination_cmp k x) 1 0 + n) (on ∙ ap (λ b. cond b 0 (count_of k cells)) left)
         ∙ sym (count_cons k x cells) ∙ ap (λ b. cond b 0 (count_of k (x ∷ cells))) (sym left)
     by false false l e on =
-        ap (count_of k) (kept_in skip x cells l) ∙ count_cons k x (kept skip cells) ∙ ap (λ b. cond b 1 0 + count_of k (kept skip cells)) e ∙ zero-add _ ∙ on
+        ap (count_of k) (kept_in skip x cells l) ∙ count_cons k x (kept_cells skip cells) ∙ ap (λ b. cond b 1 0 + count_of k (kept_cells skip cells)) e ∙ zero-add _ ∙ on
         ∙ ap (λ n. cond (is_left_out skip k) 0 n) (sym (count_cons k x cells ∙ ap (λ b. cond b 1 0 + count_of k cells) e ∙ zero-add (count_of k cells)))
 
 module _ (skip : Skip) (cells : List Combination) (es : Pairs) where
   -- what stands in the table of the cells that are kept, and what in that of all
-  stands_kept : (b : Bool) (k : Combination) (n : ℕ) → is_left_out skip k ≡ b → ((0 < n) × (n ≡ count_of k (kept skip cells))) ↔ ((is_left_out skip k ≡ false) × ((0 < n) × (n ≡ count_of k cells)))
+  stands_kept : (b : Bool) (k : Combination) (n : ℕ) → is_left_out skip k ≡ b → ((0 < n) × (n ≡ count_of k (kept_cells skip cells))) ↔ ((is_left_out skip k ≡ false) × ((0 < n) × (n ≡ count_of k cells)))
   stands_kept true k n left = (
     λ h.
-        let none : count_of k (kept skip cells) ≡ 0 = count_kept skip k cells ∙ ap (λ b. cond b 0 (count_of k cells)) left in
+        let none : count_of k (kept_cells skip cells) ≡ 0 = count_kept skip k cells ∙ ap (λ b. cond b 0 (count_of k cells)) left in
         absurd (omega (arith, h.0, h.1)),
     λ h. let kept_too = h.0 in cc,
   )
   stands_kept false k n left =
-      let same : count_of k (kept skip cells) ≡ count_of k cells = count_kept skip k cells ∙ ap (λ b. cond b 0 (count_of k cells)) left in
+      let same : count_of k (kept_cells skip cells) ≡ count_of k cells = count_kept skip k cells ∙ ap (λ b. cond b 0 (count_of k cells)) left in
       (λ h. (left, (h.0, h.1 ∙ same)), λ h. (h.1.0, h.1.1 ∙ sym same))
 
-  pub IsTable-kept : IsTally (kept skip cells) es → IsTable skip cells es
+  pub IsTable-kept : IsTally (kept_cells skip cells) es → IsTable skip cells es
   IsTable-kept t = record {
     ascending = t.ascending;
     counted = λ k n.
@@ -210,7 +210,7 @@ module _ (skip : Skip) (cells : List Combination) (es : Pairs) where
         (λ c. s.0 (h.0 c), λ p. h.1 (s.1 p));
   }
 
-  pub kept-IsTable : IsTable skip cells es → IsTally (kept skip cells) es
+  pub kept-IsTable : IsTable skip cells es → IsTally (kept_cells skip cells) es
   kept-IsTable t = record {
     ascending = t.ascending;
     counted = λ k n.
@@ -220,10 +220,10 @@ module _ (skip : Skip) (cells : List Combination) (es : Pairs) where
   }
 
 pub table_of-IsTable : (skip : Skip) (cells : List Combination) → IsTable skip cells (table_of skip cells)
-table_of-IsTable skip cells = IsTable-kept skip cells _ (counts_of-IsTally (kept skip cells))
+table_of-IsTable skip cells = IsTable-kept skip cells _ (counts_of-IsTally (kept_cells skip cells))
 
 pub one_table_kept : (skip : Skip) (cells : List Combination) (a b : Pairs) → IsTable skip cells a → IsTable skip cells b → a ≡ b
-one_table_kept skip cells a b p q = one_table (kept skip cells) a b (kept-IsTable skip cells a p) (kept-IsTable skip cells b q)
+one_table_kept skip cells a b p q = one_table (kept_cells skip cells) a b (kept-IsTable skip cells a p) (kept-IsTable skip cells b q)
 
 pub table_is : (skip : Skip) (cells : List Combination) (es : Pairs) → IsTable skip cells es → es ≡ table_of skip cells
 table_is skip cells es table = one_table_kept skip cells es (table_of skip cells) table (table_of-IsTable skip cells)
@@ -257,9 +257,9 @@ find_listed k (e ∷ es) up zeros =
     added n m none = omega (arith, none)
 
 -- a list in order that has no count of nothing, and else the counts of cells, is their table
-pub IsTable-listed : (skip : Skip) (cells : List Combination) (es : Counts) → IsStrictlySortedBy combination_cmp (keys_of es) → ((k : Combination) → listed_of k es ≡ count_of k (kept skip cells)) → HasNoZero es → IsTable skip cells es
+pub IsTable-listed : (skip : Skip) (cells : List Combination) (es : Counts) → IsStrictlySortedBy combination_cmp (keys_of es) → ((k : Combination) → listed_of k es ≡ count_of k (kept_cells skip cells)) → HasNoZero es → IsTable skip cells es
 IsTable-listed skip cells es ascends counts zeros =
-    IsTable-kept skip cells es (IsTally-from (kept skip cells) es (record {
+    IsTable-kept skip cells es (IsTally-from (kept_cells skip cells) es (record {
       sorted = ascending_to es ascends;
       finds = λ k. find_listed k es ascends zeros ∙ ap found (counts k);
     }))

@@ -7,7 +7,7 @@ use Rattle.std.specs.Ordering.{is_lt}
 use Rattle.cell_stats_combinations.specs.declared.skip.Skip.{Skip}
 use Rattle.cell_stats_combinations.specs.Combinations.{Combination, combination_cmp}
 use Rattle.cell_stats_counts.specs.Counts.{count_of}
-use Rattle.cell_stats_combinations.specs.LeftOut.{is_left_out, kept}
+use Rattle.cell_stats_combinations.specs.LeftOut.{is_left_out, kept_cells}
 
 -- combinations with their counts
 abbrev pub Pairs : Type 0
@@ -24,7 +24,7 @@ counts_of cells = finmap.entries (finmap.from_entries {R = combination_cmp} (map
 
 -- the one table of the cells
 abbrev pub table_of : Skip → List Combination → Pairs
-table_of skip cells = counts_of (kept skip cells)
+table_of skip cells = counts_of (kept_cells skip cells)
 
 -- the pairs of a table whose combination is greater
 abbrev pub rest_after : Combination → Pairs → Pairs

@@ -8,7 +8,7 @@ use Rattle.cell_core.specs.Text.{cell_text}
 use Rattle.cell_stats_combinations.specs.declared.skip.Skip.{Skip}
 use Rattle.cell_stats_combinations.specs.Combinations.{Combination, all_combinations}
 use Rattle.cell_stats.specs.CategoryTables.{Pairs, rest_after}
-use Rattle.cell_stats_combinations.specs.LeftOut.{kept}
+use Rattle.cell_stats_combinations.specs.LeftOut.{kept_cells}
 
 -- the byte between two fields, the text of null, and whether labels and counts are printed
 pub record FormatValue : Type 0 where
@@ -61,4 +61,4 @@ table_text format maps picks pairs = flat_map (pair_line format maps picks) pair
 
 -- a line for each cell that is not left out, row by row from the top left
 abbrev pub cell_lines : FormatValue → Skip → List Grid → List ℕ → ℕ → ℕ → List ℕ
-cell_lines format skip maps picks rows cols = flat_map (cell_line format maps picks) (kept skip (all_combinations maps picks rows cols))
+cell_lines format skip maps picks rows cols = flat_map (cell_line format maps picks) (kept_cells skip (all_combinations maps picks rows cols))

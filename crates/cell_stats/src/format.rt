@@ -28,7 +28,12 @@ impl<'a> Model for Format<'a> {
 impl<'a> Format<'a> {
     /// A format of these four.
     pub fn new(separator: u8, null_text: &'a [u8], labels: bool, counts: bool) -> Format<'a>
-        ensures { result ≡ record { separator = separator; null_text = null_text.now; labels = labels; counts = counts } }
+        ensures { result ≡ record {
+          separator = separator;
+          null_text = null_text.now;
+          labels = labels;
+          counts = counts;
+        } }
     {
         Format {
             separator,

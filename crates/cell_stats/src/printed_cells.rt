@@ -4,12 +4,12 @@ ghost use Rattle.std.specs.Prelude.{◌≡◌, ◌<◌, ◌≤◌, [], All, leng
 ghost use Rattle.cell_core_devices.specs.Blocks.{Appends};
 ghost use Rattle.cell_core_values.specs.Region.{IsRegion};
 ghost use Rattle.cell_stats_combinations.specs.Combinations.{row_combinations};
-ghost use Rattle.cell_stats_combinations.specs.LeftOut.{kept};
+ghost use Rattle.cell_stats_combinations.specs.LeftOut.{kept_cells};
 ghost use Rattle.cell_stats.specs.TableText.{cell_line, cell_lines};
 
 use crate::format::Format;
 use crate::printing::write_cell_line;
-use cell_core::block::Block;
+use cell_core::block::OutputBlock;
 use cell_core::cell::Cell;
 use cell_core::memory::Memory;
 use cell_core::shelf::Shelf;
@@ -56,7 +56,7 @@ impl<'a> CellWalk<'a> {
 // Writes the lines of cells that are alike, or none where they are left out.
 fn write_lines<W: Sink>(
     out: &mut W,
-    block: &mut Block,
+    block: &mut OutputBlock,
     selection: Selection<'_, '_>,
     cells: &[Cell],
     count: u32,
@@ -65,7 +65,10 @@ fn write_lines<W: Sink>(
     requires picked { All (λ i. i < length selection.shelf.now.maps) selection.picks.now }
     requires some { 0 < length selection.picks.now }
     requires width { length cells.now ≡ length selection.picks.now }
-    ensures { Appends W.taken W.faults out.old block.old (flat_map (cell_line format.now selection.entry.shelf.now.maps selection.entry.picks.now) (kept selection.entry.skip (replicate count cells.now))) out.new block.new }
+    ensures { Appends W.taken W.faults out.old block.old
+        (flat_map (cell_line format.now selection.entry.shelf.now.maps selection.entry.picks.now)
+        (kept_cells selection.entry.skip (replicate count cells.now)))
+        out.new block.new }
 {
     if is_left_out(selection.skip, cells) {
         return;
@@ -76,9 +79,9 @@ fn write_lines<W: Sink>(
 }
 
 // Writes the lines of the cells of a row.
-fn write_row<'a, W: Sink>(
+fn write_cell_lines<'a, W: Sink>(
     out: &mut W,
-    block: &mut Block,
+    block: &mut OutputBlock,
     selection: Selection<'a, '_>,
     format: &Format,
     row: u32,
@@ -90,7 +93,12 @@ fn write_row<'a, W: Sink>(
     requires row_in_range { row < selection.shelf.now.region.rows }
     requires cursors { length cursors.old ≡ length selection.picks.now }
     requires cells { length cells.old ≡ length selection.picks.now }
-    ensures { Appends W.taken W.faults out.old block.old (flat_map (cell_line format.now selection.entry.shelf.now.maps selection.entry.picks.now) (kept selection.entry.skip (row_combinations selection.entry.shelf.now.maps selection.entry.picks.now selection.entry.shelf.now.region.cols row))) out.new block.new }
+    ensures { Appends W.taken W.faults out.old block.old
+        (flat_map (cell_line format.now selection.entry.shelf.now.maps selection.entry.picks.now)
+        (kept_cells selection.entry.skip
+        (row_combinations selection.entry.shelf.now.maps selection.entry.picks.now
+        selection.entry.shelf.now.region.cols row)))
+        out.new block.new }
 {
     let cols = selection.shelf.region().cols();
     restart_all(cursors, selection.shelf, selection.picks, row);
@@ -109,7 +117,7 @@ fn write_row<'a, W: Sink>(
 /// The text is gathered in the block, which goes on holding its last part. After a refused put nothing more is written.
 pub fn write_cells<'a, W: Sink>(
     out: &mut W,
-    block: &mut Block,
+    block: &mut OutputBlock,
     walk: CellWalk<'a>,
     shelf: &'a Shelf,
     picks: &[usize],
@@ -119,7 +127,10 @@ pub fn write_cells<'a, W: Sink>(
     requires picked { All (λ i. i < length shelf.now.maps) picks.now }
     requires some { 0 < length picks.now }
     requires width { walk ≡ length picks.now }
-    ensures { Appends W.taken W.faults out.old block.old (cell_lines format.now skip shelf.now.maps picks.now shelf.now.region.rows shelf.now.region.cols) out.new block.new }
+    ensures { Appends W.taken W.faults out.old block.old
+        (cell_lines format.now skip shelf.now.maps picks.now
+        shelf.now.region.rows shelf.now.region.cols)
+        out.new block.new }
 {
     let CellWalk {
         mut cursors,
@@ -132,6 +143,6 @@ pub fn write_cells<'a, W: Sink>(
         if block.has_failed() {
             return;
         }
-        write_row(out, block, selection, format, row, cursors, cells);
+        write_cell_lines(out, block, selection, format, row, cursors, cells);
     }
 }

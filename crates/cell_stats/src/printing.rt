@@ -5,11 +5,11 @@ ghost use Rattle.std.specs.List.{join_with_byte};
 ghost use Rattle.std.specs.Option.{option_map};
 ghost use Rattle.cell_core_devices.specs.Blocks.{Appends};
 ghost use Rattle.cell_stats.specs.TableText.{cell_line, combination_fields, count_fields, label_of_cell, pair_line, printed_pairs, table_text};
-ghost use Rattle.cell_stats.specs.parts.Preceded.{next_text, others_text, pick_text, preceded};
+ghost use Rattle.cell_stats.specs.parts.Preceded.{next_text, others_text, pick_text, preceded_texts};
 
 use crate::format::Format;
 use crate::table::Table;
-use cell_core::block::Block;
+use cell_core::block::OutputBlock;
 use cell_core::cell::Cell;
 use cell_core::printed_cell::write_cell;
 use cell_core::shelf::Shelf;
@@ -32,7 +32,7 @@ fn label_of<'a>(shelf: &'a Shelf, place: usize, cell: Cell) -> &'a [u8]
 }
 
 // Writes a separator and a field.
-fn write_next<W: Sink>(out: &mut W, block: &mut Block, separator: u8, field: &[u8])
+fn write_next<W: Sink>(out: &mut W, block: &mut OutputBlock, separator: u8, field: &[u8])
     ensures { Appends W.taken W.faults out.old block.old (separator ∷ field.now) out.new block.new }
 {
     block.push(out, &[separator]);
@@ -42,14 +42,15 @@ fn write_next<W: Sink>(out: &mut W, block: &mut Block, separator: u8, field: &[u
 // Writes a cell of a map, and its label with labels.
 fn write_pick<W: Sink>(
     out: &mut W,
-    block: &mut Block,
+    block: &mut OutputBlock,
     shelf: &Shelf,
     place: usize,
     cell: Cell,
     format: &Format,
 )
     requires { place < length shelf.now.maps }
-    ensures { Appends W.taken W.faults out.old block.old (pick_text format.now shelf.now.maps place cell) out.new block.new }
+    ensures { Appends W.taken W.faults out.old block.old
+        (pick_text format.now shelf.now.maps place cell) out.new block.new }
 {
     write_cell(out, block, cell, format.null_text());
     if !format.labels() {
@@ -61,14 +62,15 @@ fn write_pick<W: Sink>(
 // Writes a separator and a cell of a map, and its label with labels.
 fn write_next_pick<W: Sink>(
     out: &mut W,
-    block: &mut Block,
+    block: &mut OutputBlock,
     shelf: &Shelf,
     place: usize,
     cell: Cell,
     format: &Format,
 )
     requires { place < length shelf.now.maps }
-    ensures { Appends W.taken W.faults out.old block.old (next_text format.now shelf.now.maps (place, cell)) out.new block.new }
+    ensures { Appends W.taken W.faults out.old block.old
+        (next_text format.now shelf.now.maps (place, cell)) out.new block.new }
 {
     block.push(out, &[format.separator()]);
     write_pick(out, block, shelf, place, cell, format);
@@ -77,7 +79,7 @@ fn write_next_pick<W: Sink>(
 // Writes the cells of all maps but the first, each after a separator.
 fn write_others<W: Sink>(
     out: &mut W,
-    block: &mut Block,
+    block: &mut OutputBlock,
     shelf: &Shelf,
     picks: &[usize],
     cells: &[Cell],
@@ -85,7 +87,8 @@ fn write_others<W: Sink>(
 )
     requires picked { All (λ i. i < length shelf.now.maps) picks.now }
     requires width { length cells.now ≡ length picks.now }
-    ensures { Appends W.taken W.faults out.old block.old (others_text format.now shelf.now.maps picks.now cells.now) out.new block.new }
+    ensures { Appends W.taken W.faults out.old block.old
+        (others_text format.now shelf.now.maps picks.now cells.now) out.new block.new }
 {
     for i in 0..cells.len() {
         write_next_pick(out, block, shelf, picks[i], cells[i], format);
@@ -95,7 +98,7 @@ fn write_others<W: Sink>(
 // Writes the cells of all maps.
 fn write_combination<W: Sink>(
     out: &mut W,
-    block: &mut Block,
+    block: &mut OutputBlock,
     shelf: &Shelf,
     picks: &[usize],
     cells: &[Cell],
@@ -104,15 +107,19 @@ fn write_combination<W: Sink>(
     requires picked { All (λ i. i < length shelf.now.maps) picks.now }
     requires some { 0 < length picks.now }
     requires width { length cells.now ≡ length picks.now }
-    ensures { Appends W.taken W.faults out.old block.old (join_with_byte format.now.separator (combination_fields format.now shelf.now.maps picks.now cells.now)) out.new block.new }
+    ensures { Appends W.taken W.faults out.old block.old
+        (join_with_byte format.now.separator
+        (combination_fields format.now shelf.now.maps picks.now cells.now))
+        out.new block.new }
 {
     write_pick(out, block, shelf, picks[0], cells[0], format);
     write_others(out, block, shelf, &picks[1..], &cells[1..], format);
 }
 
 // Writes the count after a separator, with counts.
-fn write_count<W: Sink>(out: &mut W, block: &mut Block, count: u64, format: &Format)
-    ensures { Appends W.taken W.faults out.old block.old (preceded format.now.separator (count_fields format.now count)) out.new block.new }
+fn write_count<W: Sink>(out: &mut W, block: &mut OutputBlock, count: u64, format: &Format)
+    ensures { Appends W.taken W.faults out.old block.old
+        (preceded_texts format.now.separator (count_fields format.now count)) out.new block.new }
 {
     if !format.counts() {
         return;
@@ -128,7 +135,7 @@ fn write_count<W: Sink>(out: &mut W, block: &mut Block, count: u64, format: &For
 // Writes the line of a pair.
 fn write_pair<W: Sink>(
     out: &mut W,
-    block: &mut Block,
+    block: &mut OutputBlock,
     shelf: &Shelf,
     picks: &[usize],
     cells: &[Cell],
@@ -138,7 +145,8 @@ fn write_pair<W: Sink>(
     requires picked { All (λ i. i < length shelf.now.maps) picks.now }
     requires some { 0 < length picks.now }
     requires width { length cells.now ≡ length picks.now }
-    ensures { Appends W.taken W.faults out.old block.old (pair_line format.now shelf.now.maps picks.now (cells.now, count)) out.new block.new }
+    ensures { Appends W.taken W.faults out.old block.old
+        (pair_line format.now shelf.now.maps picks.now (cells.now, count)) out.new block.new }
 {
     write_combination(out, block, shelf, picks, cells, format);
     write_count(out, block, count, format);
@@ -148,7 +156,7 @@ fn write_pair<W: Sink>(
 // Writes the line of a cell.
 pub(crate) fn write_cell_line<W: Sink>(
     out: &mut W,
-    block: &mut Block,
+    block: &mut OutputBlock,
     shelf: &Shelf,
     picks: &[usize],
     cells: &[Cell],
@@ -157,7 +165,8 @@ pub(crate) fn write_cell_line<W: Sink>(
     requires picked { All (λ i. i < length shelf.now.maps) picks.now }
     requires some { 0 < length picks.now }
     requires width { length cells.now ≡ length picks.now }
-    ensures { Appends W.taken W.faults out.old block.old (cell_line format.now shelf.now.maps picks.now cells.now) out.new block.new }
+    ensures { Appends W.taken W.faults out.old block.old
+        (cell_line format.now shelf.now.maps picks.now cells.now) out.new block.new }
 {
     write_combination(out, block, shelf, picks, cells, format);
     block.push(out, b"\n");
@@ -169,7 +178,7 @@ pub(crate) fn write_cell_line<W: Sink>(
 /// The text is gathered in the block, which goes on holding its last part. After a refused put nothing more is written.
 pub fn write_table<W: Sink>(
     out: &mut W,
-    block: &mut Block,
+    block: &mut OutputBlock,
     table: &Table,
     after: Option<&Combo>,
     shelf: &Shelf,
@@ -180,9 +189,12 @@ pub fn write_table<W: Sink>(
     requires some { 0 < length picks.now }
     requires width { table.now.width ≡ length picks.now }
     requires after { IfSome after (λ k. length k.now ≡ length picks.now) }
-    ensures { Appends W.taken W.faults out.old block.old (table_text format.now shelf.now.maps picks.now (printed_pairs (option_map (λ k. k.now) after.entry) table.now.pairs)) out.new block.new }
+    ensures { Appends W.taken W.faults out.old block.old
+        (table_text format.now shelf.now.maps picks.now
+        (printed_pairs (option_map (λ k. k.now) after.entry) table.now.pairs))
+        out.new block.new }
 {
-    let entries = table.printed(after);
+    let entries = table.printed_entries(after);
     for (combo, count) in entries {
         if block.has_failed() {
             return;

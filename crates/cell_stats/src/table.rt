@@ -56,7 +56,8 @@ fn place_after(entries: &[(Combo, u64)], combo: &Combo) -> usize
 impl Table {
     // The table of these entries.
     pub(crate) fn of(width: usize, entries: Vec<(Combo, u64)>) -> Table
-        requires ascending { IsStrictlySortedBy combination_cmp (map (λ pair. pair.0) entries.items) }
+        requires ascending { IsStrictlySortedBy combination_cmp
+            (map (λ pair. pair.0) entries.items) }
         requires wide { All (λ pair. length pair.0 ≡ width) entries.items }
         ensures { result ≡ record { width = width; pairs = entries.items } }
     {
@@ -99,9 +100,10 @@ impl Table {
     }
 
     // Its entries, or those whose combination is greater.
-    pub(crate) fn printed(&self, after: Option<&Combo>) -> &[(Combo, u64)]
+    pub(crate) fn printed_entries(&self, after: Option<&Combo>) -> &[(Combo, u64)]
         requires { IfSome after (λ k. length k.now ≡ self.now.width) }
-        ensures value { result.now ≡ printed_pairs (option_map (λ k. k.now) after.entry) self.now.pairs }
+        ensures value { result.now
+            ≡ printed_pairs (option_map (λ k. k.now) after.entry) self.now.pairs }
         ensures wide { All (λ pair. length pair.0 ≡ self.now.width) result.now }
     {
         match after {

@@ -21,9 +21,17 @@ pub fn tally(alloc: Global, shelf: &Shelf, picks: &[usize], skip: Skip) -> Resul
     requires width { (1 ≤ length picks.now) × (length picks.now ≤ 16) }
     requires picked { All (λ i. i < length shelf.now.maps) picks.now }
     ensures width { IfOk result (λ table. table.width ≡ length picks.now) }
-    ensures table { IfOk result (λ table. IsTable skip (all_combinations shelf.now.maps picks.now shelf.now.region.rows shelf.now.region.cols) table.pairs) }
-    ensures only { IfOk result (λ table. (pairs : Pairs) → IsTable skip (all_combinations shelf.now.maps picks.now shelf.now.region.rows shelf.now.region.cols) pairs → pairs ≡ table.pairs) }
-    ensures value { IfOk result (λ table. table.pairs ≡ table_of skip (all_combinations shelf.now.maps picks.now shelf.now.region.rows shelf.now.region.cols)) }
+    ensures table { IfOk result (λ table. IsTable skip
+        (all_combinations shelf.now.maps picks.now shelf.now.region.rows shelf.now.region.cols)
+        table.pairs) }
+    ensures only { IfOk result (λ table. (pairs : Pairs)
+        → IsTable skip
+        (all_combinations shelf.now.maps picks.now shelf.now.region.rows shelf.now.region.cols)
+        pairs
+        → pairs ≡ table.pairs) }
+    ensures value { IfOk result (λ table. table.pairs
+        ≡ table_of skip
+        (all_combinations shelf.now.maps picks.now shelf.now.region.rows shelf.now.region.cols)) }
 {
     let entries = count_cells(alloc, shelf, picks, skip)?;
     Ok(Table::of(picks.len(), entries))

@@ -13,5 +13,5 @@ is_left_out AnyNull k = list_any is_none k
 is_left_out AllNull k = list_all is_none k
 
 -- the cells whose combination is not left out
-abbrev pub kept : Skip → List Combination → List Combination
-kept skip cells = filter (λ k. not (is_left_out skip k)) cells
+abbrev pub kept_cells : Skip → List Combination → List Combination
+kept_cells skip cells = filter (λ k. not (is_left_out skip k)) cells

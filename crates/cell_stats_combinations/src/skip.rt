@@ -20,7 +20,7 @@ pub enum Skip {
 
 // Whether it is null.
 #[inline(always)]
-fn is_null(cell: &Cell) -> bool
+fn is_null_cell(cell: &Cell) -> bool
     ensures { result ≡ is_none cell.now }
 {
     cell.get().is_none()
@@ -31,7 +31,7 @@ fn is_null(cell: &Cell) -> bool
 fn has_null(cells: &[Cell]) -> bool
     ensures { result ≡ list_any is_none cells.now }
 {
-    cells.iter().any(|cell| is_null(cell))
+    cells.iter().any(|cell| is_null_cell(cell))
 }
 
 // Whether there are nulls only.
@@ -39,7 +39,7 @@ fn has_null(cells: &[Cell]) -> bool
 fn has_nulls_only(cells: &[Cell]) -> bool
     ensures { result ≡ list_all is_none cells.now }
 {
-    cells.iter().all(|cell| is_null(cell))
+    cells.iter().all(|cell| is_null_cell(cell))
 }
 
 /// Whether the combination is left out. It is inlined, as it is called for each run.

@@ -3,7 +3,7 @@ use Rattle.std.proofs.Common.{◌≡◌, ℕ, zero, suc, ◌+◌, ◌<◌, ◌�
 use Rattle.cell_stats_counts.specs.declared.gathered.Gathered.{Gathered}
 use Rattle.std.specs.Cmp.{eq_by_cmp_equiv}
 use Rattle.std.proofs.lemmas.List.Sums.{sum_by-append, sum_by-set, get_or-le-sum_by}
-use Rattle.cell_stats_counts.specs.declared.counting.Held.{Held}
+use Rattle.cell_stats_counts.specs.declared.counting.CountPlace.{CountPlace}
 use Rattle.cell_stats_combinations.specs.Combinations.{Combination, combination_cmp_total}
 use Rattle.cell_stats_counts.specs.parts.HeldPlaces.{is_same, held_by, held_of, total_of, gathered_of}
 use Rattle.cell_stats_combinations.proofs.OrderLemmas.{combination_cmp-exact, is_equal}
@@ -18,27 +18,27 @@ pub same-is : (a b : Combination) → is_same a b ≡ true → a ≡ b
 same-is a b e = combination_cmp-exact a b (is_equal _ e)
 
 -- what a place holds of its own combination
-pub held_by-own : (w : ℕ) (k : Combination) (h : Held) → k ≡ take w h.cells → held_by w k h ≡ h.count
+pub held_by-own : (w : ℕ) (k : Combination) (h : CountPlace) → k ≡ take w h.cells → held_by w k h ≡ h.count
 held_by-own w k h e = ap (λ x. cond (is_same k x) h.count 0) (sym e) ∙ ap (λ b. cond b h.count 0) (same-itself k)
 
 -- a place holds no more than all places
-pub held_by-le : (w : ℕ) (k : Combination) (places : List Held) (i : ℕ) (h : Held) → i < length places → h ≡ get_or places i h → held_by w k h ≤ held_of w k places
+pub held_by-le : (w : ℕ) (k : Combination) (places : List CountPlace) (i : ℕ) (h : CountPlace) → i < length places → h ≡ get_or places i h → held_by w k h ≤ held_of w k places
 held_by-le w k places i h within read =
     let le = get_or-le-sum_by (held_by w k) places i h within in
     let same : held_by w k h ≡ held_by w k (get_or places i h) = ap (held_by w k) read in
     omega (arith, le, same)
 
 -- what a place holds, of a combination that stands there
-held_by-of : (w : ℕ) (k cells : Combination) (h : Held) (n : ℕ) → take w h.cells ≡ cells → h.count ≡ n → held_by w k h ≡ cond (is_same k cells) n 0
+held_by-of : (w : ℕ) (k cells : Combination) (h : CountPlace) (n : ℕ) → take w h.cells ≡ cells → h.count ≡ n → held_by w k h ≡ cond (is_same k cells) n 0
 held_by-of w k cells h n same count = ap (λ x. cond (is_same k x) h.count 0) same ∙ ap (λ v. cond (is_same k cells) v 0) count
 
 pub cond-add : (b : Bool) (m n : ℕ) → cond b (m + n) 0 ≡ cond b m 0 + cond b n 0
 cond-add true m n = refl
 cond-add false m n = refl
 
-module _ (w : ℕ) (k cells : Combination) (n : ℕ) (places : List Held) (at : ℕ) (d : Held) (m : Gathered) (within : at < length places) where
+module _ (w : ℕ) (k cells : Combination) (n : ℕ) (places : List CountPlace) (at : ℕ) (d : CountPlace) (m : Gathered) (within : at < length places) where
   -- a place holds more of its own combination
-  pub total-held : (h : Held) → take w (get_or places at d).cells ≡ cells → take w h.cells ≡ cells → h.count ≡ (get_or places at d).count + n → total_of w k (set places at h) m ≡ total_of w k places m + cond (is_same k cells) n 0
+  pub total-held : (h : CountPlace) → take w (get_or places at d).cells ≡ cells → take w h.cells ≡ cells → h.count ≡ (get_or places at d).count + n → total_of w k (set places at h) m ≡ total_of w k places m + cond (is_same k cells) n 0
   total-held h same still count =
       let turned : held_of w k (set places at h) + held_by w k (get_or places at d) ≡ held_of w k places + held_by w k h = sum_by-set (held_by w k) places at h d within in
       let before : held_by w k (get_or places at d) ≡ cond (is_same k cells) (get_or places at d).count 0 = held_by-of w k cells (get_or places at d) (get_or places at d).count same refl in
@@ -47,14 +47,14 @@ module _ (w : ℕ) (k cells : Combination) (n : ℕ) (places : List Held) (at : 
       omega (arith, turned, before, after, split)
 
   -- a place holds another combination, and what it held went to the map
-  pub total-turned : (h : Held) (m' : Gathered) → take w h.cells ≡ cells → h.count ≡ n → gathered_of k m' ≡ gathered_of k m + held_by w k (get_or places at d) → total_of w k (set places at h) m' ≡ total_of w k places m + cond (is_same k cells) n 0
+  pub total-turned : (h : CountPlace) (m' : Gathered) → take w h.cells ≡ cells → h.count ≡ n → gathered_of k m' ≡ gathered_of k m + held_by w k (get_or places at d) → total_of w k (set places at h) m' ≡ total_of w k places m + cond (is_same k cells) n 0
   total-turned h m' same count gone =
       let turned : held_of w k (set places at h) + held_by w k (get_or places at d) ≡ held_of w k places + held_by w k h = sum_by-set (held_by w k) places at h d within in
       let after = held_by-of w k cells h n same count in
       omega (arith, turned, after, gone)
 
 -- places that hold nothing
-pub held-nothing : (w : ℕ) (k : Combination) (h : Held) (n : ℕ) → h.count ≡ 0 → held_of w k (replicate n h) ≡ 0
+pub held-nothing : (w : ℕ) (k : Combination) (h : CountPlace) (n : ℕ) → h.count ≡ 0 → held_of w k (replicate n h) ≡ 0
 held-nothing w k h zero none = refl
 held-nothing w k h (suc n) none =
     sum_by-append (held_by w k) (h ∷ []) (replicate n h) ∙ ap (λ m. held_of w k (h ∷ []) + m) (held-nothing w k h n none) ∙ add-zero (held_of w k (h ∷ [])) ∙ zero-add (held_by w k h) ∙ nothing (is_same k (take w h.cells))

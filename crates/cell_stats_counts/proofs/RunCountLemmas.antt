@@ -12,15 +12,15 @@ use Rattle.cell_stats_counts.specs.Counts.{count_of}
 use Rattle.cell_stats_counts.specs.parts.Alone.{alone}
 use Rattle.cell_stats_counts.specs.Cursors.{row_in}
 use Rattle.cell_stats_counts.specs.parts.HeldPlaces.{is_same}
-use Rattle.cell_stats_combinations.specs.LeftOut.{kept, is_left_out}
+use Rattle.cell_stats_combinations.specs.LeftOut.{kept_cells, is_left_out}
 use Rattle.cell_stats_counts.proofs.WalkLemmas.{row-of, cell-row, count-append, count-replicate, kept-replicate, all_combinations_more, count_small}
 
 -- the counts of two parts
-count-both : (skip : Skip) (k : Combination) (xs ys : List Combination) → count_of k (kept skip (xs ++ ys)) ≡ count_of k (kept skip xs) + count_of k (kept skip ys)
-count-both skip k xs ys = ap (count_of k) (filter-append (λ x. not (is_left_out skip x)) xs ys) ∙ count-append k (kept skip xs) (kept skip ys)
+count-both : (skip : Skip) (k : Combination) (xs ys : List Combination) → count_of k (kept_cells skip (xs ++ ys)) ≡ count_of k (kept_cells skip xs) + count_of k (kept_cells skip ys)
+count-both skip k xs ys = ap (count_of k) (filter-append (λ x. not (is_left_out skip x)) xs ys) ∙ count-append k (kept_cells skip xs) (kept_cells skip ys)
 
 -- a stretch of a combination by itself
-count-stretch : (skip : Skip) (k q : Combination) (n : ℕ) (b : Bool) → is_left_out skip q ≡ b → count_of k (kept skip (replicate n q)) ≡ cond b 0 (cond (is_same k q) n 0)
+count-stretch : (skip : Skip) (k q : Combination) (n : ℕ) (b : Bool) → is_left_out skip q ≡ b → count_of k (kept_cells skip (replicate n q)) ≡ cond b 0 (cond (is_same k q) n 0)
 count-stretch skip k q n true l = ap (count_of k) (kept-replicate skip q n true l)
 count-stretch skip k q n false l = ap (count_of k) (kept-replicate skip q n false l) ∙ count-replicate k q n
 
@@ -30,12 +30,12 @@ map-replicate (suc n) x = ap (λ (l : List Combination). alone x ∷ l) (map-rep
 
 -- how many cells of a combination some runs have that are not left out
 abbrev pub runs-count : Skip → Combination → List RunValue → ℕ
-runs-count skip k runs = count_of k (kept skip (map alone (written_out runs)))
+runs-count skip k runs = count_of k (kept_cells skip (map alone (written_out runs)))
 
 -- the first run, and the others
 pub runs-first : (skip : Skip) (k : Combination) (x : CellValue) (n : ℕ) (rest : List RunValue) (b : Bool) → is_left_out skip (alone x) ≡ b → runs-count skip k ((x, n) ∷ rest) ≡ cond b 0 (cond (is_same k (alone x)) n 0) + runs-count skip k rest
 runs-first skip k x n rest b l =
-    ap (λ (z : List Combination). count_of k (kept skip z)) (map-append alone (replicate n x) (written_out rest) ∙ ap (λ (z : List Combination). z ++ map alone (written_out rest)) (map-replicate n x))
+    ap (λ (z : List Combination). count_of k (kept_cells skip z)) (map-append alone (replicate n x) (written_out rest) ∙ ap (λ (z : List Combination). z ++ map alone (written_out rest)) (map-replicate n x))
     ∙ count-both skip k (replicate n (alone x)) (map alone (written_out rest)) ∙ ap (λ m. m + runs-count skip k rest) (count-stretch skip k (alone x) n b l)
 
 pub length-first : (x : CellValue) (n : ℕ) (rest : List RunValue) → length (written_out ((x, n) ∷ rest)) ≡ n + length (written_out rest)
@@ -94,21 +94,21 @@ single (p ∷ []) d e = refl
 single (p ∷ q ∷ places) d e = absurd (omega (arith, e))
 
 -- a row more of one map is counted
-pub counted-alone : (skip : Skip) (k : Combination) (maps : List Grid) (picks : List ℕ) (row p cols : ℕ) (m : Grid) (runs : List RunValue) (old new : ℕ) → picks ≡ p ∷ [] → slice_get maps p ≡ Some m → written_out runs ≡ row_at m row → length (written_out runs) ≡ cols → old ≡ count_of k (kept skip (all_combinations maps picks row cols)) → new ≡ old + runs-count skip k runs → new ≡ count_of k (kept skip (all_combinations maps picks (row + 1) cols))
+pub counted-alone : (skip : Skip) (k : Combination) (maps : List Grid) (picks : List ℕ) (row p cols : ℕ) (m : Grid) (runs : List RunValue) (old new : ℕ) → picks ≡ p ∷ [] → slice_get maps p ≡ Some m → written_out runs ≡ row_at m row → length (written_out runs) ≡ cols → old ≡ count_of k (kept_cells skip (all_combinations maps picks row cols)) → new ≡ old + runs-count skip k runs → new ≡ count_of k (kept_cells skip (all_combinations maps picks (row + 1) cols))
 counted-alone skip k maps picks row p cols m runs old new sole e written wide was grown =
     let base = all_combinations maps picks row cols in
     let same : row_in maps row p ≡ written_out runs = row-of maps row p m e ∙ sym written in
     let line : map alone (written_out runs) ≡ row_combinations maps picks cols row =
     ap (map alone) (sym same) ∙ sym (row-alone maps row p cols (ap length same ∙ wide)) ∙ ap (λ (l : List ℕ). row_combinations maps l cols row) (sym sole) in
-    grown ∙ ap (λ n. n + runs-count skip k runs) was ∙ ap (λ (l : List Combination). count_of k (kept skip base) + count_of k (kept skip l)) line
-    ∙ sym (count-both skip k base (row_combinations maps picks cols row)) ∙ ap (λ (l : List Combination). count_of k (kept skip l)) (sym (all_combinations_more maps picks cols row))
-    ∙ ap (λ r. count_of k (kept skip (all_combinations maps picks r cols))) (sym (add-one row))
+    grown ∙ ap (λ n. n + runs-count skip k runs) was ∙ ap (λ (l : List Combination). count_of k (kept_cells skip base) + count_of k (kept_cells skip l)) line
+    ∙ sym (count-both skip k base (row_combinations maps picks cols row)) ∙ ap (λ (l : List Combination). count_of k (kept_cells skip l)) (sym (all_combinations_more maps picks cols row))
+    ∙ ap (λ r. count_of k (kept_cells skip (all_combinations maps picks r cols))) (sym (add-one row))
 
 -- and its cells fit
-pub fits-alone : (skip : Skip) (k : Combination) (maps : List Grid) (picks : List ℕ) (row cols old size : ℕ) → row ≤ 65535 → cols ≤ 65535 → old ≡ count_of k (kept skip (all_combinations maps picks row cols)) → size ≡ cols → old + size < 2 ^ 64
+pub fits-alone : (skip : Skip) (k : Combination) (maps : List Grid) (picks : List ℕ) (row cols old size : ℕ) → row ≤ 65535 → cols ≤ 65535 → old ≡ count_of k (kept_cells skip (all_combinations maps picks row cols)) → size ≡ cols → old + size < 2 ^ 64
 fits-alone skip k maps picks row cols old size hr hc was wide =
     let base = all_combinations maps picks row cols in
     let none : 0 ≤ 65535 = omega arith in
     let small = count_small maps picks cols skip k row 0 hr none hc in
-    let same : count_of k (kept skip (base ++ [])) ≡ count_of k (kept skip base) = ap (λ (l : List Combination). count_of k (kept skip l)) (append-nil base) in
+    let same : count_of k (kept_cells skip (base ++ [])) ≡ count_of k (kept_cells skip base) = ap (λ (l : List Combination). count_of k (kept_cells skip l)) (append-nil base) in
     omega (arith, small, same, was, wide, hc)

@@ -16,7 +16,7 @@ use Rattle.cell_stats_combinations.specs.Combinations.{Combination, combination_
 use Rattle.cell_stats_counts.specs.Counts.{count_of}
 use Rattle.cell_stats_counts.specs.Cursors.{CursorValue, to_come, AreCursorsReady, row_in}
 use Rattle.cell_stats_counts.specs.parts.HeldPlaces.{is_same}
-use Rattle.cell_stats_combinations.specs.LeftOut.{kept, is_left_out}
+use Rattle.cell_stats_combinations.specs.LeftOut.{kept_cells, is_left_out}
 
 -- ---- the cells of a stretch
 
@@ -119,7 +119,7 @@ stretch f k col (suc n) same =
     replicate-more zero x = refl
     replicate-more (suc n) x = ap (λ (l : List Combination). x ∷ l) (replicate-more n x)
 
-pub kept-replicate : (skip : Skip) (q : Combination) (n : ℕ) (b : Bool) → is_left_out skip q ≡ b → kept skip (replicate n q) ≡ cond b [] (replicate n q)
+pub kept-replicate : (skip : Skip) (q : Combination) (n : ℕ) (b : Bool) → is_left_out skip q ≡ b → kept_cells skip (replicate n q) ≡ cond b [] (replicate n q)
 kept-replicate skip q zero true l = refl
 kept-replicate skip q zero false l = refl
 kept-replicate skip q (suc n) true l = rw l (kept-replicate skip q n true l)
@@ -142,14 +142,16 @@ count-replicate k q (suc n) = count-append k (q ∷ []) (replicate n q) ∙ by (
 
 module _ (skip : Skip) (k q : Combination) (n : ℕ) (xs : List Combination) where
   -- a combination that is left out adds nothing
-  pub count-left : is_left_out skip q ≡ true → count_of k (kept skip (xs ++ replicate n q)) ≡ count_of k (kept skip xs)
-  count-left l = ap (count_of k) (filter-append (λ x. not (is_left_out skip x)) xs (replicate n q) ∙ ap (λ z. kept skip xs ++ z) (kept-replicate skip q n true l) ∙ append-nil (kept skip xs))
+  pub count-left : is_left_out skip q ≡ true
+      → count_of k (kept_cells skip (xs ++ replicate n q)) ≡ count_of k (kept_cells skip xs)
+  count-left l = ap (count_of k) (filter-append (λ x. not (is_left_out skip x)) xs (replicate n q) ∙ ap (λ z. kept_cells skip xs ++ z) (kept-replicate skip q n true l) ∙ append-nil (kept_cells skip xs))
 
   -- another adds its cells
-  pub count-more : is_left_out skip q ≡ false → count_of k (kept skip (xs ++ replicate n q)) ≡ count_of k (kept skip xs) + cond (is_same k q) n 0
+  pub count-more : is_left_out skip q ≡ false → count_of k (kept_cells skip (xs ++ replicate n q)) ≡ count_of k (kept_cells skip xs) + cond (is_same k q) n 0
   count-more l =
-      ap (count_of k) (filter-append (λ x. not (is_left_out skip x)) xs (replicate n q) ∙ ap (λ z. kept skip xs ++ z) (kept-replicate skip q n false l))
-      ∙ count-append k (kept skip xs) (replicate n q) ∙ ap (λ m. count_of k (kept skip xs) + m) (count-replicate k q n)
+      ap (count_of k) (filter-append (λ x. not (is_left_out skip x)) xs (replicate n q) ∙ ap (λ z. kept_cells skip xs ++ z) (kept-replicate skip q n false l))
+      ∙ count-append k (kept_cells skip xs) (replicate n q)
+      ∙ ap (λ m. count_of k (kept_cells skip xs) + m) (count-replicate k q n)
 
 -- ---- all cells so far
 
@@ -171,10 +173,10 @@ module _ (maps : List Grid) (picks : List ℕ) (cols : ℕ) where
       rw (all_combinations_more r) (omega (arith, length-append (all_combinations maps picks r cols) (row_combinations maps picks cols r), length_all r, length-map-range_with_len (combination_at maps picks r) 0 cols))
 
   -- a count of the cells so far fits
-  pub count_small : (skip : Skip) (k : Combination) (r c : ℕ) → r ≤ 65535 → c ≤ 65535 → cols ≤ 65535 → count_of k (kept skip (all_combinations maps picks r cols ++ map (combination_at maps picks r) (range_with_len 0 c))) < 2 ^ 63
+  pub count_small : (skip : Skip) (k : Combination) (r c : ℕ) → r ≤ 65535 → c ≤ 65535 → cols ≤ 65535 → count_of k (kept_cells skip (all_combinations maps picks r cols ++ map (combination_at maps picks r) (range_with_len 0 c))) < 2 ^ 63
   count_small skip k r c hr hc hcols =
       let m = mul-le-mul hr hcols in
       let cells = all_combinations maps picks r cols ++ map (combination_at maps picks r) (range_with_len 0 c) in
-      let counted = count_by-le-length (eq_by_cmp combination_cmp k) (kept skip cells) in
+      let counted = count_by-le-length (eq_by_cmp combination_cmp k) (kept_cells skip cells) in
       let fewer = count_by-le-length (λ x. not (is_left_out skip x)) cells in
       omega (arith, m, counted, fewer, length-filter (λ x. not (is_left_out skip x)) cells, length-append (all_combinations maps picks r cols) (map (combination_at maps picks r) (range_with_len 0 c)), length_all r, length-map-range_with_len (combination_at maps picks r) 0 c)

@@ -33,13 +33,13 @@ const WIDEST: usize = 16;
 
 // How many cells of a combination are not in the map yet, and the combination, followed by nulls.
 #[derive(Clone, Copy)]
-pub(crate) struct Held {
+pub(crate) struct CountPlace {
     count: u64,
     cells: [Cell; WIDEST],
 }
 
 // A number of a combination. Those of neighbouring categories are close to each other.
-fn number_of(cells: &[Cell]) -> usize {
+fn combination_number(cells: &[Cell]) -> usize {
     let mut number: u64 = 0;
     for cell in cells {
         number = number.wrapping_mul(1009).wrapping_add(code_of(*cell));
@@ -48,7 +48,7 @@ fn number_of(cells: &[Cell]) -> usize {
 }
 
 // Whether the place holds the combination.
-fn is_held(held: &Held, cells: &[Cell]) -> bool
+fn is_held(held: &CountPlace, cells: &[Cell]) -> bool
     requires { length cells.now ≤ 16 }
     ensures { IsTrue result ↔ (take (length cells.now) held.now.cells ≡ cells.now) }
 {
@@ -66,7 +66,7 @@ fn own_place(cells: &[Cell], places: usize) -> usize
     ensures { result < places }
 {
     let last = places - 1;
-    (number_of(cells) & last).min(last)
+    (combination_number(cells) & last).min(last)
 }
 
 // How many places are looked at for a combination: where the list has more combinations than there are places, the one that is
@@ -76,7 +76,7 @@ fn near_of(places: usize, listed: usize) -> usize {
 }
 
 // Where a combination is held, or else a place near its own that holds nothing, or else its own.
-fn place_near(cells: &[Cell], own: usize, near: usize, places: &[Held]) -> usize
+fn place_near(cells: &[Cell], own: usize, near: usize, places: &[CountPlace]) -> usize
     requires width { length cells.now ≤ 16 }
     requires own { own < length places.now }
     ensures { result < length places.now }
@@ -93,15 +93,17 @@ fn place_near(cells: &[Cell], own: usize, near: usize, places: &[Held]) -> usize
 // Brings what a place holds to the map.
 fn flush(
     alloc: Global,
-    held: &Held,
+    held: &CountPlace,
     width: usize,
     spare: &mut Combo,
     counted: &mut Gathered,
 ) -> Result<(), Memory>
     requires width { (width ≤ 16) × (length spare.old ≡ width) }
-    requires fits { (k : Combination) → gathered_of k counted.old + held_by width k held.now < 2 ^ 64 }
+    requires fits { (k : Combination)
+        → gathered_of k counted.old + held_by width k held.now < 2 ^ 64 }
     requires no_zero { GathersNoZero counted.old }
-    ensures ok { OnOk result ((k : Combination) → gathered_of k counted.new ≡ gathered_of k counted.old + held_by width k held.now) }
+    ensures ok { OnOk result ((k : Combination)
+        → gathered_of k counted.new ≡ gathered_of k counted.old + held_by width k held.now) }
     ensures no_zero { OnOk result (GathersNoZero counted.new) }
     ensures spare { length spare.new ≡ width }
 {
@@ -114,7 +116,7 @@ fn flush(
 }
 
 // Makes a place hold cells of a combination.
-fn hold(held: &mut Held, cells: &[Cell], count: u64)
+fn hold(held: &mut CountPlace, cells: &[Cell], count: u64)
     requires { length cells.now ≤ 16 }
     ensures cells { take (length cells.now) held.new.cells ≡ cells.now }
     ensures count { held.new.count ≡ count }
@@ -132,14 +134,18 @@ fn add_near(
     count: u64,
     own: usize,
     spare: &mut Combo,
-    places: &mut [Held],
+    places: &mut [CountPlace],
     counted: &mut Gathered,
 ) -> Result<(), Memory>
     requires width { (length cells.now ≤ 16) × (length spare.old ≡ length cells.now) }
     requires own { own < length places.old }
-    requires fits { (k : Combination) → total_of (length cells.now) k places.old counted.old + count < 2 ^ 64 }
+    requires fits { (k : Combination)
+        → total_of (length cells.now) k places.old counted.old + count < 2 ^ 64 }
     requires no_zero { GathersNoZero counted.old }
-    ensures ok { OnOk result ((k : Combination) → total_of (length cells.now) k places.new counted.new ≡ total_of (length cells.now) k places.old counted.old + cond (is_same k cells.now) count 0) }
+    ensures ok { OnOk result ((k : Combination)
+        → total_of (length cells.now) k places.new counted.new
+        ≡ total_of (length cells.now) k places.old counted.old
+        + cond (is_same k cells.now) count 0) }
     ensures no_zero { OnOk result (GathersNoZero counted.new) }
     ensures spare { length spare.new ≡ length cells.now }
 {
@@ -157,19 +163,23 @@ fn add_near(
 
 // Counts cells of a combination at a place for it.
 #[inline(always)]
-pub(crate) fn add(
+pub(crate) fn add_count(
     alloc: Global,
     cells: &[Cell],
     count: u64,
     spare: &mut Combo,
-    places: &mut [Held],
+    places: &mut [CountPlace],
     counted: &mut Gathered,
 ) -> Result<(), Memory>
     requires width { (length cells.now ≤ 16) × (length spare.old ≡ length cells.now) }
     requires places { 0 < length places.old }
-    requires fits { (k : Combination) → total_of (length cells.now) k places.old counted.old + count < 2 ^ 64 }
+    requires fits { (k : Combination)
+        → total_of (length cells.now) k places.old counted.old + count < 2 ^ 64 }
     requires no_zero { GathersNoZero counted.old }
-    ensures ok { OnOk result ((k : Combination) → total_of (length cells.now) k places.new counted.new ≡ total_of (length cells.now) k places.old counted.old + cond (is_same k cells.now) count 0) }
+    ensures ok { OnOk result ((k : Combination)
+        → total_of (length cells.now) k places.new counted.new
+        ≡ total_of (length cells.now) k places.old counted.old
+        + cond (is_same k cells.now) count 0) }
     ensures no_zero { OnOk result (GathersNoZero counted.new) }
     ensures spare { length spare.new ≡ length cells.now }
 {
@@ -192,12 +202,13 @@ fn places_for(shelf: &Shelf) -> usize
 }
 
 // Places that hold nothing.
-fn places_of(alloc: Global, many: usize) -> Result<Vec<Held>, Memory>
+fn empty_places(alloc: Global, many: usize) -> Result<Vec<CountPlace>, Memory>
     requires { 0 < many }
     ensures some { IfOk result (λ places. 0 < length places.items) }
-    ensures nothing { IfOk result (λ places. (width : ℕ) (k : Combination) → held_of width k places.items ≡ 0) }
+    ensures nothing { IfOk result (λ places. (width : ℕ) (k : Combination)
+        → held_of width k places.items ≡ 0) }
 {
-    let nothing = Held {
+    let nothing = CountPlace {
         count: 0,
         cells: [Cell::null(); WIDEST],
     };
@@ -206,11 +217,12 @@ fn places_of(alloc: Global, many: usize) -> Result<Vec<Held>, Memory>
 }
 
 // The places to begin with. They hold nothing.
-pub(crate) fn first_places(alloc: Global, shelf: &Shelf) -> Result<Vec<Held>, Memory>
+pub(crate) fn first_places(alloc: Global, shelf: &Shelf) -> Result<Vec<CountPlace>, Memory>
     ensures some { IfOk result (λ places. 0 < length places.items) }
-    ensures nothing { IfOk result (λ places. (width : ℕ) (k : Combination) → held_of width k places.items ≡ 0) }
+    ensures nothing { IfOk result (λ places. (width : ℕ) (k : Combination)
+        → held_of width k places.items ≡ 0) }
 {
-    places_of(alloc, places_for(shelf))
+    empty_places(alloc, places_for(shelf))
 }
 
 // Brings all that the places hold to the map.
@@ -218,13 +230,14 @@ pub(crate) fn flush_all(
     alloc: Global,
     width: usize,
     spare: &mut Combo,
-    places: &[Held],
+    places: &[CountPlace],
     counted: &mut Gathered,
 ) -> Result<(), Memory>
     requires width { (width ≤ 16) × (length spare.old ≡ width) }
     requires fits { (k : Combination) → total_of width k places.now counted.old < 2 ^ 64 }
     requires no_zero { GathersNoZero counted.old }
-    ensures ok { OnOk result ((k : Combination) → gathered_of k counted.new ≡ total_of width k places.now counted.old) }
+    ensures ok { OnOk result
+        ((k : Combination) → gathered_of k counted.new ≡ total_of width k places.now counted.old) }
     ensures no_zero { OnOk result (GathersNoZero counted.new) }
     ensures settled { OnOk result (counted.new.pending.items ≡ []) }
     ensures spare { OnOk result (length spare.new ≡ width) }
@@ -248,14 +261,16 @@ pub(crate) fn make_room(
     width: usize,
     before: usize,
     spare: &mut Combo,
-    places: &mut Vec<Held>,
+    places: &mut Vec<CountPlace>,
     counted: &mut Gathered,
 ) -> Result<usize, Memory>
     requires width { (width ≤ 16) × (length spare.old ≡ width) }
     requires places { 0 < length places.old.items }
     requires fits { (k : Combination) → total_of width k places.old.items counted.old < 2 ^ 64 }
     requires no_zero { GathersNoZero counted.old }
-    ensures ok { OnOk result ((k : Combination) → total_of width k places.new.items counted.new ≡ total_of width k places.old.items counted.old) }
+    ensures ok { OnOk result ((k : Combination)
+        → total_of width k places.new.items counted.new
+        ≡ total_of width k places.old.items counted.old) }
     ensures no_zero { OnOk result (GathersNoZero counted.new) }
     ensures places { OnOk result (0 < length places.new.items) }
     ensures spare { OnOk result (length spare.new ≡ width) }
@@ -264,7 +279,7 @@ pub(crate) fn make_room(
         return Ok(before);
     }
     flush_all(alloc, width, spare, places.as_slice(), counted)?;
-    let more = places_of(alloc, places.len().saturating_mul(GROWTH).min(MOST))?;
+    let more = empty_places(alloc, places.len().saturating_mul(GROWTH).min(MOST))?;
     *places = more;
     Ok(counted.len())
 }

@@ -9,11 +9,11 @@ ghost use Rattle.cell_stats_counts.specs.Counts.{count_of};
 ghost use Rattle.cell_stats_counts.specs.Listed.{listed_of, HasNoZero};
 ghost use Rattle.cell_stats_counts.specs.parts.Alone.{alone};
 ghost use Rattle.cell_stats_counts.specs.parts.HeldPlaces.{total_of, GathersNoZero};
-ghost use Rattle.cell_stats_combinations.specs.LeftOut.{kept};
+ghost use Rattle.cell_stats_combinations.specs.LeftOut.{kept_cells};
 
-use crate::counting::{Held, add, first_places, flush_all, make_room};
+use crate::counting::{CountPlace, add_count, first_places, flush_all, make_room};
 use crate::cursor::{Cursor, cursors_of, pass_all, restart_all};
-use crate::gathered::{Gathered, listed};
+use crate::gathered::{Gathered, ordered_entries};
 use crate::selection::Selection;
 use cell_core::cell::Cell;
 use cell_core::memory::Memory;
@@ -24,26 +24,30 @@ use cell_stats_combinations::skip::{Skip, is_left_out};
 use std::alloc::Global;
 
 // Counts the cells of the runs of one map.
-fn count_runs(
+fn count_cells_by_runs(
     alloc: Global,
     runs: Runs<'_>,
     skip: Skip,
     spare: &mut Combo,
-    places: &mut [Held],
+    places: &mut [CountPlace],
     counted: &mut Gathered,
 ) -> Result<(), Memory>
     requires spare { length spare.old ≡ 1 }
     requires places { 0 < length places.old }
-    requires fits { (k : Combination) → total_of 1 k places.old counted.old + length (written_out runs) < 2 ^ 64 }
+    requires fits { (k : Combination)
+        → total_of 1 k places.old counted.old + length (written_out runs) < 2 ^ 64 }
     requires no_zero { GathersNoZero counted.old }
-    ensures ok { OnOk result ((k : Combination) → total_of 1 k places.new counted.new ≡ total_of 1 k places.old counted.old + count_of k (kept skip (map alone (written_out runs.entry)))) }
+    ensures ok { OnOk result ((k : Combination)
+        → total_of 1 k places.new counted.new
+        ≡ total_of 1 k places.old counted.old
+        + count_of k (kept_cells skip (map alone (written_out runs.entry)))) }
     ensures no_zero { OnOk result (GathersNoZero counted.new) }
     ensures spare { OnOk result (length spare.new ≡ 1) }
 {
     for (cell, count) in runs {
         let cells = [cell];
         if !is_left_out(skip, &cells) {
-            add(alloc, &cells, u64::from(count), spare, places, counted)?;
+            add_count(alloc, &cells, u64::from(count), spare, places, counted)?;
         }
     }
     Ok(())
@@ -57,7 +61,7 @@ fn count_row<'a>(
     cursors: &mut [Cursor<'a>],
     cells: &mut [Cell],
     spare: &mut Combo,
-    places: &mut [Held],
+    places: &mut [CountPlace],
     counted: &mut Gathered,
 ) -> Result<(), Memory>
     requires picked { All (λ i. i < length selection.shelf.now.maps) selection.picks.now }
@@ -69,14 +73,24 @@ fn count_row<'a>(
     requires spare { length spare.old ≡ length selection.picks.now }
     requires places { 0 < length places.old }
     requires no_zero { GathersNoZero counted.old }
-    requires counted { (k : Combination) → total_of (length selection.picks.now) k places.old counted.old ≡ count_of k (kept selection.skip (all_combinations selection.shelf.now.maps selection.picks.now row selection.shelf.now.region.cols)) }
-    ensures ok { OnOk result ((k : Combination) → total_of (length selection.entry.picks.now) k places.new counted.new ≡ count_of k (kept selection.entry.skip (all_combinations selection.entry.shelf.now.maps selection.entry.picks.now (row + 1) selection.entry.shelf.now.region.cols))) }
+    requires counted { (k : Combination)
+        → total_of (length selection.picks.now) k places.old counted.old
+        ≡ count_of k
+        (kept_cells selection.skip
+        (all_combinations selection.shelf.now.maps
+        selection.picks.now row selection.shelf.now.region.cols)) }
+    ensures ok { OnOk result ((k : Combination)
+        → total_of (length selection.entry.picks.now) k places.new counted.new
+        ≡ count_of k
+        (kept_cells selection.entry.skip
+        (all_combinations selection.entry.shelf.now.maps selection.entry.picks.now (row + 1)
+        selection.entry.shelf.now.region.cols))) }
     ensures no_zero { OnOk result (GathersNoZero counted.new) }
     ensures spare { OnOk result (length spare.new ≡ length selection.entry.picks.now) }
 {
     if let [place] = selection.picks {
         let runs = selection.shelf.map(*place).runs(row);
-        count_runs(alloc, runs, selection.skip, spare, places, counted)?;
+        count_cells_by_runs(alloc, runs, selection.skip, spare, places, counted)?;
         return Ok(());
     }
     let cols = selection.shelf.region().cols();
@@ -85,7 +99,7 @@ fn count_row<'a>(
     let mut count = pass_all(cursors, 0, cols, cells);
     while col < cols {
         if !is_left_out(selection.skip, cells) {
-            add(alloc, cells, u64::from(count), spare, places, counted)?;
+            add_count(alloc, cells, u64::from(count), spare, places, counted)?;
         }
         col += count;
         count = pass_all(cursors, count, cols - col, cells);
@@ -107,8 +121,13 @@ pub fn count_cells(
 ) -> Result<Vec<(Combo, u64)>, Memory>
     requires width { (1 ≤ length picks.now) × (length picks.now ≤ 16) }
     requires picked { All (λ i. i < length shelf.now.maps) picks.now }
-    ensures ascending { IfOk result (λ counted. IsStrictlySortedBy combination_cmp (map (λ entry. entry.0) counted.items)) }
-    ensures counts { IfOk result (λ counted. (k : Combination) → listed_of k counted.items ≡ count_of k (kept skip (all_combinations shelf.now.maps picks.now shelf.now.region.rows shelf.now.region.cols))) }
+    ensures ascending { IfOk result
+        (λ counted. IsStrictlySortedBy combination_cmp (map (λ entry. entry.0) counted.items)) }
+    ensures counts { IfOk result (λ counted. (k : Combination)
+        → listed_of k counted.items
+        ≡ count_of k
+        (kept_cells skip
+        (all_combinations shelf.now.maps picks.now shelf.now.region.rows shelf.now.region.cols))) }
     ensures no_zero { IfOk result (λ counted. HasNoZero counted.items) }
 {
     let width = picks.len();
@@ -134,5 +153,5 @@ pub fn count_cells(
         )?;
     }
     flush_all(alloc, width, &mut spare, &places, &mut counted)?;
-    Ok(listed(counted))
+    Ok(ordered_entries(counted))
 }

@@ -84,8 +84,11 @@ fn start_all<'a>(
 ) -> Result<Vec<Cursor<'a>>, Memory>
     requires picked { All (λ i. i < length shelf.now.maps) picks.now }
     requires row_in_range { row < shelf.now.region.rows }
-    ensures cells { IfOk result (λ cursors. map to_come cursors.items ≡ map (row_in shelf.now.maps row) picks.now) }
-    ensures width { OnOk result (All (λ place. length (row_in shelf.now.maps row place) ≡ shelf.now.region.cols) picks.now) }
+    ensures cells { IfOk result (λ cursors. map to_come cursors.items
+        ≡ map (row_in shelf.now.maps row) picks.now) }
+    ensures width { OnOk result
+        (All (λ place. length (row_in shelf.now.maps row place) ≡ shelf.now.region.cols)
+        picks.now) }
     ensures ready { IfOk result (λ cursors. All AreCursorsReady cursors.items) }
 {
     let mut cursors = Vec::with_capacity(alloc, picks.len())?;
@@ -118,7 +121,8 @@ pub fn restart_all<'a>(cursors: &mut [Cursor<'a>], shelf: &'a Shelf, picks: &[us
     requires row_in_range { row < shelf.now.region.rows }
     requires width { length cursors.old ≡ length picks.now }
     ensures cells { map to_come cursors.new ≡ map (row_in shelf.now.maps row) picks.now }
-    ensures width { All (λ place. length (row_in shelf.now.maps row place) ≡ shelf.now.region.cols) picks.now }
+    ensures width { All (λ place. length (row_in shelf.now.maps row place) ≡ shelf.now.region.cols)
+        picks.now }
     ensures ready { All AreCursorsReady cursors.new }
 {
     for i in 0..picks.len() {

@@ -46,7 +46,7 @@ pub(crate) fn code_of(cell: Cell) -> u64 {
 }
 
 // A number of a combination, all of whose upper bits depend on each cell.
-fn number_of(cells: &[Cell]) -> u64 {
+fn combination_hash(cells: &[Cell]) -> u64 {
     let mut number: u64 = 0;
     for cell in cells {
         number = (number.rotate_left(29) ^ code_of(*cell)).wrapping_mul(11400714819323198485);
@@ -91,7 +91,7 @@ fn index_of(alloc: Global, entries: &[(Combo, u64)], before: usize) -> Result<Ve
     let mut index = vec![in alloc; NONE; before.saturating_mul(2).max(FIRST)]?;
     for (at, entry) in entries.iter().enumerate() {
         let cells = entry.0.cells();
-        let number = number_of(cells);
+        let number = combination_hash(cells);
         let spot = spot_of(number, cells, entries, &index);
         note(index.as_mut_slice(), spot, number, at);
     }
@@ -108,7 +108,8 @@ fn is_of(entry: &(Combo, u64), combo: &Combo) -> bool
 // Whether two entries count one combination.
 fn are_same(entries: &[(Combo, u64)], a: usize, b: usize) -> bool
     requires { (a < length entries.now) × (b < length entries.now) }
-    ensures { (d : Combination × ℕ) → result ≡ is_same (slice_index_or entries.now a d).0 (slice_index_or entries.now b d).0 }
+    ensures { (d : Combination × ℕ)
+        → result ≡ is_same (slice_index_or entries.now a d).0 (slice_index_or entries.now b d).0 }
 {
     is_of(&entries[a], &entries[b].0)
 }
@@ -117,7 +118,9 @@ fn are_same(entries: &[(Combo, u64)], a: usize, b: usize) -> bool
 fn has_added(entries: &mut [(Combo, u64)], at: usize, combo: &Combo, count: u64) -> bool
     requires fits { listed_of combo.now entries.old + count < 2 ^ 64 }
     requires no_zero { HasNoZero entries.old }
-    ensures counts { (k : Combination) → listed_of k entries.new ≡ listed_of k entries.old + cond result (cond (is_same k combo.now) count 0) 0 }
+    ensures counts { (k : Combination)
+        → listed_of k entries.new
+        ≡ listed_of k entries.old + cond result (cond (is_same k combo.now) count 0) 0 }
     ensures no_zero { HasNoZero entries.new }
 {
     if at >= entries.len() {
@@ -132,7 +135,7 @@ fn has_added(entries: &mut [(Combo, u64)], at: usize, combo: &Combo, count: u64)
 }
 
 // The entry that a place names, or none.
-fn named(index: &[u64], spot: usize) -> usize {
+fn named_entry(index: &[u64], spot: usize) -> usize {
     match index.get(spot) {
         Some(place) => (*place & LOW) as usize,
         None => usize::MAX,
@@ -143,7 +146,10 @@ fn named(index: &[u64], spot: usize) -> usize {
 fn guesses_of(pending: &[(Combo, u64)], index: &[u64]) -> [usize; BATCH] {
     let mut guesses = [0; BATCH];
     for (guess, entry) in guesses.iter_mut().zip(pending.iter()) {
-        *guess = named(index, own_spot(number_of(entry.0.cells()), index.len()));
+        *guess = named_entry(
+            index,
+            own_spot(combination_hash(entry.0.cells()), index.len()),
+        );
     }
     guesses
 }
@@ -154,7 +160,7 @@ fn guess_at(guesses: &[usize; BATCH], at: usize) -> usize {
 }
 
 // Counts cells of a combination in the entries: in the one that is guessed, or another that has it, or a new one.
-fn put(
+fn put_count(
     alloc: Global,
     combo: Combo,
     count: u64,
@@ -165,15 +171,17 @@ fn put(
     requires some { 0 < count }
     requires fits { listed_of combo entries.old.items + count < 2 ^ 64 }
     requires no_zero { HasNoZero entries.old.items }
-    ensures ok { OnOk result ((k : Combination) → listed_of k entries.new.items ≡ listed_of k entries.old.items + cond (is_same k combo) count 0) }
+    ensures ok { OnOk result ((k : Combination)
+        → listed_of k entries.new.items
+        ≡ listed_of k entries.old.items + cond (is_same k combo) count 0) }
     ensures no_zero { OnOk result (HasNoZero entries.new.items) }
 {
     if has_added(entries.as_mut_slice(), guess, &combo, count) {
         return Ok(());
     }
-    let number = number_of(combo.cells());
+    let number = combination_hash(combo.cells());
     let spot = spot_of(number, combo.cells(), entries.as_slice(), index.as_slice());
-    let at = named(index.as_slice(), spot);
+    let at = named_entry(index.as_slice(), spot);
     if has_added(entries.as_mut_slice(), at, &combo, count) {
         return Ok(());
     }
@@ -192,14 +200,15 @@ fn put(
 pub(crate) fn settle(alloc: Global, counted: &mut Gathered) -> Result<(), Memory>
     requires fits { (k : Combination) → gathered_of k counted.old < 2 ^ 64 }
     requires no_zero { GathersNoZero counted.old }
-    ensures ok { OnOk result ((k : Combination) → gathered_of k counted.new ≡ gathered_of k counted.old) }
+    ensures ok { OnOk result
+        ((k : Combination) → gathered_of k counted.new ≡ gathered_of k counted.old) }
     ensures no_zero { OnOk result (GathersNoZero counted.new) }
     ensures settled { OnOk result (counted.new.pending.items ≡ []) }
 {
     let guesses = guesses_of(&counted.pending, &counted.index);
     while let Some((combo, count)) = counted.pending.pop() {
         let guess = guess_at(&guesses, counted.pending.len());
-        put(
+        put_count(
             alloc,
             combo,
             count,
@@ -219,7 +228,8 @@ pub(crate) fn merge(
     counted: &mut Gathered,
 ) -> Result<(), Memory>
     requires some { 0 < count }
-    requires fits { (k : Combination) → gathered_of k counted.old + cond (is_same k combo.now) count 0 < 2 ^ 64 }
+    requires fits { (k : Combination)
+        → gathered_of k counted.old + cond (is_same k combo.now) count 0 < 2 ^ 64 }
     requires no_zero { GathersNoZero counted.old }
     ensures ok { OnOk result (Grows counted.old counted.new combo.now count) }
     ensures no_zero { OnOk result (GathersNoZero counted.new) }
@@ -235,8 +245,11 @@ pub(crate) fn merge(
 // Takes the entry at a place in: it is added to the last one that was taken, or it is the next. Returns the last place then.
 fn take_in(entries: &mut [(Combo, u64)], last: usize, at: usize) -> usize
     requires places { (last < at) × (at < length entries.old) }
-    requires fits { (d : Combination × ℕ) → (slice_index_or entries.old last d).0 ≡ (slice_index_or entries.old at d).0 → (slice_index_or entries.old last d).1 + (slice_index_or entries.old at d).1 < 2 ^ 64 }
-    ensures joined { (old : Counts) → IsRising old → HasNoZero old → IsJoined old entries.old last at → IsJoined old entries.new result (at + 1) }
+    requires fits { (d : Combination × ℕ)
+        → (slice_index_or entries.old last d).0 ≡ (slice_index_or entries.old at d).0
+        → (slice_index_or entries.old last d).1 + (slice_index_or entries.old at d).1 < 2 ^ 64 }
+    ensures joined { (old : Counts) → IsRising old → HasNoZero old
+        → IsJoined old entries.old last at → IsJoined old entries.new result (at + 1) }
 {
     if are_same(entries, at, last) {
         let more = entries[at].1;
@@ -252,8 +265,10 @@ fn join(entries: &mut [(Combo, u64)]) -> usize
     requires rising { IsRising entries.old }
     requires fits { (k : Combination) → listed_of k entries.old < 2 ^ 64 }
     requires no_zero { HasNoZero entries.old }
-    ensures ascending { IsStrictlySortedBy combination_cmp (map (λ entry. entry.0) (take result entries.new)) }
-    ensures counts { (k : Combination) → listed_of k (take result entries.new) ≡ listed_of k entries.old }
+    ensures ascending { IsStrictlySortedBy combination_cmp
+        (map (λ entry. entry.0) (take result entries.new)) }
+    ensures counts { (k : Combination)
+        → listed_of k (take result entries.new) ≡ listed_of k entries.old }
     ensures no_zero { HasNoZero (take result entries.new) }
 {
     if entries.is_empty() {
@@ -267,7 +282,7 @@ fn join(entries: &mut [(Combo, u64)]) -> usize
 }
 
 // Puts the list in order, with one entry for each combination.
-pub(crate) fn listed(counted: Gathered) -> Vec<(Combo, u64)>
+pub(crate) fn ordered_entries(counted: Gathered) -> Vec<(Combo, u64)>
     requires fits { (k : Combination) → gathered_of k counted < 2 ^ 64 }
     requires no_zero { GathersNoZero counted }
     requires settled { counted.pending.items ≡ [] }

@@ -46,7 +46,7 @@ use Rattle.cell_stats_combinations.specs.Combinations.{
   combination_at,
   all_combinations,
 }
-use Rattle.cell_stats_combinations.specs.LeftOut.{kept, is_left_out}
+use Rattle.cell_stats_combinations.specs.LeftOut.{kept_cells, is_left_out}
 use Rattle.cell_stats_combinations.proofs.OrderLemmas.{combination_cmp-exact, is_equal}
 use Rattle.cell_stats_counts.specs.Counts.{count_of}
 use Rattle.cell_stats.specs.CategoryTables.{Pairs, IsTable}
@@ -427,5 +427,5 @@ pub table-sums : (skip : Skip) (cells : List Combination) (table : Pairs) → Is
     (t : Combination → Bool) →
     sum_by (λ pair. pair.1) (filter (λ pair. t pair.0) table) ≡ count_by (λ k. not (is_left_out skip k) && t k) cells
 table-sums skip cells table is t =
-    tally-passing t (kept skip cells) table (kept-IsTable skip cells table is)
+    tally-passing t (kept_cells skip cells) table (kept-IsTable skip cells table is)
     ∙ count-filter t (λ k. not (is_left_out skip k)) cells

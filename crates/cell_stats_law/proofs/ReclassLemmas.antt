@@ -31,7 +31,7 @@ use Rattle.std.specs.Option.{option_map_or, option_map, option_or}
 use Rattle.std.specs.Ordering.{eq_by_cmp, is_eq}
 use Rattle.cell_core.specs.Grid.{Grid, CellValue, cell_at}
 use Rattle.cell_cats.specs.Rule.{RuleValue, lists, is_star_rule, last_such, outcome, new_category}
-use Rattle.cell_cats.specs.Reclass.{reclassed, new_row}
+use Rattle.cell_cats.specs.Reclass.{reclassed_map, new_row}
 use Rattle.cell_stats_combinations.specs.declared.skip.Skip.{Skip}
 use Rattle.cell_stats_combinations.specs.declared.skip.Skip.TheVariants.{Nothing, AnyNull, AllNull}
 use Rattle.cell_stats_combinations.specs.Combinations.{
@@ -85,7 +85,7 @@ map-at f (x ∷ xs) zero d = refl
 map-at f (x ∷ xs) (suc i) d = map-at f xs i d
 
 cell-reclassed : (rules : List RuleValue) (given : Grid) (row col : ℕ) →
-    cell_at (reclassed rules given) row col ≡ new_category rules (cell_at given row col)
+    cell_at (reclassed_map rules given) row col ≡ new_category rules (cell_at given row col)
 cell-reclassed rules given row col =
     ap (λ (l : List CellValue). get_or l col None) (map-at (new_row rules) given.rows row [])
     ∙ map-at (new_category rules) (get_or given.rows row []) col None

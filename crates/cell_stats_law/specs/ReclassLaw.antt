@@ -3,7 +3,7 @@ use Rattle.std.specs.Prelude.{ℕ, ℤ, ◌≡◌, ◌↔◌, false, List, [], �
 use Rattle.std.specs.Ordering.{eq_by_cmp}
 use Rattle.cell_core.specs.Grid.{Grid}
 use Rattle.cell_cats.specs.Rule.{RuleValue, lists, is_star_rule, new_category}
-use Rattle.cell_cats.specs.Reclass.{reclassed}
+use Rattle.cell_cats.specs.Reclass.{reclassed_map}
 use Rattle.cell_stats_combinations.specs.declared.skip.Skip.{Skip}
 use Rattle.cell_stats_combinations.specs.declared.skip.Skip.TheVariants.{Nothing}
 use Rattle.cell_stats_combinations.specs.Combinations.{Combination, combination_cmp, all_combinations}
@@ -31,7 +31,7 @@ sent_to rules to table = filter (λ pair. eq_by_cmp combination_cmp to (sent rul
 pub record IsReclassed (rules : List RuleValue) (maps : List Grid) (old new : ℕ) : Type 0 where
   pub given : Grid
   pub first : slice_get maps old ≡ Some given
-  pub second : slice_get maps new ≡ Some (reclassed rules given)
+  pub second : slice_get maps new ≡ Some (reclassed_map rules given)
 
 -- beside any maps, a combination of the new map has as many cells as those together that the rules send there
 abbrev pub ReclassKeepsCells : Type 0

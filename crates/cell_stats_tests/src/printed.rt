@@ -1,7 +1,7 @@
 //! The printed text of tables and cells: worked maps.
 
 use crate::maps::{G, X, add, are_picks, shelf_of};
-use cell_core::block::Block;
+use cell_core::block::OutputBlock;
 use cell_core::shelf::Shelf;
 use cell_core::sink::{MemorySink, WriteFault};
 use cell_core_test_maps::maps::{NULL, map_of};
@@ -33,7 +33,7 @@ fn table_in_room(
     }
     let table = tally(alloc, shelf, picks, skip)?;
     let mut out = MemorySink::new(vec![in alloc; 0u8; room]?, 3, false);
-    let mut block = Block::new();
+    let mut block = OutputBlock::new();
     if after.is_empty() {
         write_table(&mut out, &mut block, &table, None, shelf, picks, format);
     } else {
@@ -82,7 +82,7 @@ fn expect_cells<R: Abort + AllocGlobal>(
         return Err(Fail::from("no picks"));
     }
     let mut out = MemorySink::new(vec![in rt.alloc(); 0u8; 4096]?, 3, false);
-    let mut block = Block::new();
+    let mut block = OutputBlock::new();
     let walk = CellWalk::new(rt.alloc(), shelf, picks)?;
     write_cells(&mut out, &mut block, walk, shelf, picks, skip, format);
     block.empty(&mut out);
@@ -310,7 +310,7 @@ fn expect_cells_cut<R: Abort + AllocGlobal>(
     }
     let written = room.len() as u64;
     let mut out = MemorySink::new(room, 4096, false);
-    let mut block = Block::new();
+    let mut block = OutputBlock::new();
     let walk = CellWalk::new(rt.alloc(), shelf, picks)?;
     let skip = Skip::Nothing;
     write_cells(&mut out, &mut block, walk, shelf, picks, skip, format);

@@ -9,7 +9,7 @@ use Rattle.cell_core.specs.Grid.{Grid, CellValue}
 use Rattle.cell_cats_areas.specs.declared.clump.Joining.{Joining}
 use Rattle.cell_cats_areas.specs.Areas.{Position, cell_at_spot, IsEarlierCell, AreJoined}
 use Rattle.cell_cats_areas.proofs.MeetingLemmas.{some_of}
-use Rattle.cell_tiles_law.specs.AreaParts.{lowered}
+use Rattle.cell_tiles_law.specs.AreaParts.{lowered_position}
 use Rattle.cell_tiles_law.proofs.AreaLemmas.{joined-by}
 use Rattle.cell_tiles_law.proofs.CutAreaLemmas.{adjacent-lowered, upper-cell, lower-cell, in-upper}
 use Rattle.cell_tiles_joining.specs.declared.edges.BandEdges.{BandEdges}
@@ -24,17 +24,19 @@ rows_of bands = flat_map (λ band. band.map.rows) bands
 abbrev pub raised : ℕ → Position → Position
 raised n p = record { row = p.row - n; col = p.col }
 
-raised-lowered : (n : ℕ) (p : Position) → raised n (lowered n p) ≡ p
+raised-lowered : (n : ℕ) (p : Position) → raised n (lowered_position n p) ≡ p
 raised-lowered n p = let row : (n + p.row) - n ≡ p.row = omega arith in λ i. record { row = row i; col = p.col }
 
-pub lowered-raised : (n : ℕ) (p : Position) → n ≤ p.row → p ≡ lowered n (raised n p)
+pub lowered-raised : (n : ℕ) (p : Position) → n ≤ p.row → p ≡ lowered_position n (raised n p)
 lowered-raised n p low = let row : p.row ≡ n + (p.row - n) = omega (arith, low) in λ i. record { row = row i; col = p.col }
 
-before-lowered : (n : ℕ) (p q : Position) → IsEarlierCell p q → IsEarlierCell (lowered n p) (lowered n q)
+before-lowered : (n : ℕ) (p q : Position) → IsEarlierCell p q
+    → IsEarlierCell (lowered_position n p) (lowered_position n q)
 before-lowered n p q (inl h) = inl (omega (arith, h))
 before-lowered n p q (inr h) = inr (ap (λ i. n + i) h.0, h.1)
 
-before-raised : (n : ℕ) (p q : Position) → IsEarlierCell (lowered n p) (lowered n q) → IsEarlierCell p q
+before-raised : (n : ℕ) (p q : Position) → IsEarlierCell (lowered_position n p) (lowered_position n q)
+    → IsEarlierCell p q
 before-raised n p q (inl h) = inl (omega (arith, h))
 before-raised n p q (inr h) = inr (let e = h.0 in omega (arith, e), h.1)
 
@@ -55,7 +57,7 @@ abbrev pub starts_of : (j : Joining) (bands : List Band) (edges : List BandEdges
 starts_of j [] [] h = []
 starts_of j [] (one ∷ edges) h = absurd h
 starts_of j (band ∷ bands) [] h = absurd h
-starts_of j (band ∷ bands) (one ∷ edges) h = h.0.areas.0 ++ map (lowered (length band.map.rows)) (starts_of j bands edges h.1)
+starts_of j (band ∷ bands) (one ∷ edges) h = h.0.areas.0 ++ map (lowered_position (length band.map.rows)) (starts_of j bands edges h.1)
 
 module _ (j : Joining) (w : Grid) where
   -- the map of the bands from one on
@@ -86,7 +88,7 @@ module _ (j : Joining) (w : Grid) where
     pub cell-up : (p : Position) → p.row < n → cell_at_spot here p ≡ cell_at_spot band.map p
     cell-up p high = upper-cell here band.map below cut p high
 
-    pub cell-low : (p : Position) → cell_at_spot here (lowered n p) ≡ cell_at_spot below p
+    pub cell-low : (p : Position) → cell_at_spot here (lowered_position n p) ≡ cell_at_spot below p
     cell-low p = lower-cell here band.map below cut p
 
     pub cell-raised : (p : Position) → n ≤ p.row → cell_at_spot here p ≡ cell_at_spot below (raised n p)
@@ -102,8 +104,10 @@ module _ (j : Joining) (w : Grid) where
     joined-up : (p q : Position) → AreJoined j band.map p q → AreJoined j here p q
     joined-up p q h = joined-by j band.map here (λ s. s) (λ a b near. near) (in-upper here band.map below cut) p q h
 
-    joined-low : (p q : Position) → AreJoined j below p q → AreJoined j here (lowered n p) (lowered n q)
-    joined-low p q h = joined-by j below here (lowered n) (adjacent-lowered n j) (λ v s is. cell-low s ∙ is) p q h
+    joined-low : (p q : Position) → AreJoined j below p q
+        → AreJoined j here (lowered_position n p) (lowered_position n q)
+    joined-low p q h =
+        joined-by j below here (lowered_position n) (adjacent-lowered n j) (λ v s is. cell-low s ∙ is) p q h
 
     -- ---- labels
 
@@ -116,8 +120,9 @@ module _ (j : Joining) (w : Grid) where
         not-below : (a b : ℕ) → b ≤ a → ltb a b ≡ false
         not-below a b le = grind (arith, le)
 
-    pub local-low : (p : Position) → local (band ∷ bands) (one ∷ edges) (lowered n p) ≡ one.areas + local bands edges p
-    local-low p = local-raised (lowered n p) (omega arith) ∙ ap (λ (q : Position). one.areas + local bands edges q) (raised-lowered n p)
+    pub local-low : (p : Position)
+        → local (band ∷ bands) (one ∷ edges) (lowered_position n p) ≡ one.areas + local bands edges p
+    local-low p = local-raised (lowered_position n p) (omega arith) ∙ ap (λ (q : Position). one.areas + local bands edges q) (raised-lowered n p)
 
     abbrev IsSpot : Position → Type 0
     IsSpot p = Spot j band.map firsts has.areas.1 band.numbers has.numbers p
@@ -135,18 +140,24 @@ module _ (j : Joining) (w : Grid) where
 
     module _ (others : List Position) where
       abbrev all : List Position
-      all = firsts ++ map (lowered n) others
+      all = firsts ++ map (lowered_position n) others
 
       pub long : length all ≡ one.areas + length others
-      long = omega (arith, length-append firsts (map (lowered n) others), length-map others (lowered n), few-areas)
+      long = omega (
+        arith,
+        length-append firsts (map (lowered_position n) others),
+        length-map others
+            (lowered_position n),
+        few-areas,
+      )
 
       get-up : (k : ℕ) (d : Position) → k < one.areas → get_or all k d ≡ get_or firsts k d
-      get-up k d lt = get_or_append_left firsts (map (lowered n) others) d k (omega (arith, lt, few-areas))
+      get-up k d lt = get_or_append_left firsts (map (lowered_position n) others) d k (omega (arith, lt, few-areas))
 
-      get-low : (k : ℕ) (d : Position) → k < length others → get_or all (one.areas + k) d ≡ lowered n (get_or others k d)
+      get-low : (k : ℕ) (d : Position) → k < length others → get_or all (one.areas + k) d ≡ lowered_position n (get_or others k d)
       get-low k d lt =
           let e : one.areas + k ≡ length firsts + k = omega (arith, few-areas) in
-          ap (λ (i : ℕ). get_or all i d) e ∙ get_or-append-add firsts (map (lowered n) others) k d ∙ get_or-map (lowered n) others k d d lt
+          ap (λ (i : ℕ). get_or all i d) e ∙ get_or-append-add firsts (map (lowered_position n) others) k d ∙ get_or-map (lowered_position n) others k d d lt
 
 -- ---- the labels of the bands from one on, without the pairs
 
@@ -167,7 +178,7 @@ module _ (j : Joining) (w : Grid) where
     size = length band.map.rows
 
     abbrev starts : List Position
-    starts = has.areas.0 ++ map (lowered size) others
+    starts = has.areas.0 ++ map (lowered_position size) others
 
     abbrev label : Position → ℕ
     label = local (band ∷ bands) (one ∷ edges)
@@ -178,7 +189,7 @@ module _ (j : Joining) (w : Grid) where
     up-is : (k : ℕ) (d : Position) → k < one.areas → get_or starts k d ≡ get_or has.areas.0 k d
     up-is k d lt = get-up j w band bands one edges has others k d lt
 
-    low-is : (k : ℕ) (d : Position) → k < length others → get_or starts (one.areas + k) d ≡ lowered size (get_or others k d)
+    low-is : (k : ℕ) (d : Position) → k < length others → get_or starts (one.areas + k) d ≡ lowered_position size (get_or others k d)
     low-is k d lt = get-low j w band bands one edges has others k d lt
 
     -- a label of the first band, or of those below it
@@ -223,12 +234,12 @@ module _ (j : Joining) (w : Grid) where
       up-start : (high : p.row < size) → (s : Spot j band.map has.areas.0 has.areas.1 band.numbers has.numbers p) → get_or starts (label p) p ≡ get_or has.areas.0 s.place p
       up-start high s = ap (λ (i : ℕ). get_or starts i p) (local-spot j w band bands one edges has p s high) ∙ up-is s.place p (omega (arith, s.inside, has.areas.2))
 
-      low-start : size ≤ p.row → get_or starts (label p) p ≡ lowered size (get_or others (local bands edges (raised size p)) (raised size p))
+      low-start : size ≤ p.row → get_or starts (label p) p ≡ lowered_position size (get_or others (local bands edges (raised size p)) (raised size p))
       low-start low =
           let q = raised size p in
           let lt = rest.few q (low-some low) in
           ap (λ (i : ℕ). get_or starts i p) (local-raised j w band bands one edges has p low) ∙ low-is (local bands edges q) p lt
-          ∙ ap (lowered size) (get_or_default others (local bands edges q) p q lt)
+          ∙ ap (lowered_position size) (get_or_default others (local bands edges q) p q lt)
 
       starts-few : label p < length starts
       starts-few =
@@ -245,7 +256,7 @@ module _ (j : Joining) (w : Grid) where
           subst (λ (q : Position). AreJoined j m q p) (sym (up-start high s)) (joined-up j w band bands one edges has (get_or has.areas.0 s.place p) p s.joined))
           (λ low. let q = raised size p in
           let lower = joined-low j w band bands one edges has (get_or others (local bands edges q) q) q (rest.joined q (low-some low)) in
-          subst (λ (s : Position). AreJoined j m s p) (sym (low-start low)) (subst (λ (s : Position). AreJoined j m (lowered size (get_or others (local bands edges q) q)) s) (sym (lowered-raised size p low)) lower))
+          subst (λ (s : Position). AreJoined j m s p) (sym (low-start low)) (subst (λ (s : Position). AreJoined j m (lowered_position size (get_or others (local bands edges q) q)) s) (sym (lowered-raised size p low)) lower))
           (cases_lt p.row size)
 
       starts-early : ¬ IsEarlierCell p (get_or starts (label p) p)
@@ -254,7 +265,7 @@ module _ (j : Joining) (w : Grid) where
           (λ high. let s = spot j w band bands one edges has p (up-some high) in s.early (subst (λ (q : Position). IsEarlierCell p q) (up-start high s) before))
           (λ low. let q = raised size p in
           rest.early q (low-some low) (before-raised size q (get_or others (local bands edges q) q)
-          (subst (λ (s : Position). IsEarlierCell s (lowered size (get_or others (local bands edges q) q))) (lowered-raised size p low) (subst (λ (s : Position). IsEarlierCell p s) (low-start low) before))))
+          (subst (λ (s : Position). IsEarlierCell s (lowered_position size (get_or others (local bands edges q) q))) (lowered-raised size p low) (subst (λ (s : Position). IsEarlierCell p s) (low-start low) before))))
           (cases_lt p.row size)
 
     starts-order : AllPairs IsEarlierCell starts
@@ -274,7 +285,7 @@ module _ (j : Joining) (w : Grid) where
             subst (λ (n : ℕ). IsEarlierCell (get_or starts n d) (get_or starts k d)) (sym low.2)
             (subst (λ (n : ℕ). IsEarlierCell (get_or starts (one.areas + low.0) d) (get_or starts n d)) (sym low_too.2)
             (subst (λ (p : Position). IsEarlierCell p (get_or starts (one.areas + low_too.0) d)) (sym (low-is low.0 d low.1))
-            (subst (λ (p : Position). IsEarlierCell (lowered size (get_or others low.0 d)) p) (sym (low-is low_too.0 d low_too.1))
+            (subst (λ (p : Position). IsEarlierCell (lowered_position size (get_or others low.0 d)) p) (sym (low-is low_too.0 d low_too.1))
             (before-lowered size (get_or others low.0 d) (get_or others low_too.0 d) (rest.in_order low.0 low_too.0 d less_too low_too.1)))))
 
     more-starts : AreStarts j m starts label

@@ -12,14 +12,14 @@ use Rattle.cell_cats_areas.specs.declared.clump.Joining.TheVariants.{Edges, Edge
 use Rattle.cell_cats_areas.specs.Areas.{Position, cell_at_spot, AreAdjacent}
 use Rattle.cell_cats_areas.specs.parts.CellPlaces.{position}
 use Rattle.cell_cats_areas.proofs.PathLemmas.{AreJoined-adjacent, AreAdjacent-sym}
-use Rattle.cell_tiles_law.specs.AreaParts.{lowered}
+use Rattle.cell_tiles_law.specs.AreaParts.{lowered_position}
 use Rattle.cell_tiles_law.proofs.CutAreaLemmas.{adjacent-lowered, adjacent-raised, rows-near, beside-cut, back}
 use Rattle.cell_tiles_joining.specs.declared.edges.EdgeRow.{EdgeRow}
 use Rattle.cell_tiles_joining.specs.declared.edges.BandEdges.{BandEdges}
 use Rattle.cell_tiles_joining.specs.declared.edges.Mark.{Mark}
 use Rattle.cell_tiles_joining.specs.Bands.{Band, HasEdges, HaveEdges, IsEdge}
 use Rattle.cell_tiles_joining.specs.Labelled.{IsMeeting, AreLabelled}
-use Rattle.cell_tiles_joining.specs.parts.TileMeetings.{SideValue, label_of_side, marked, mark_at, meetings, next_meetings, all_meetings}
+use Rattle.cell_tiles_joining.specs.parts.TileMeetings.{SideValue, label_of_side, mark_of_number, mark_at, meetings, next_meetings, all_meetings}
 use Rattle.cell_tiles_joining.proofs.AreaLemmas.{Spot}
 use Rattle.cell_tiles_joining.proofs.BandLemmas.{are-starts, starts_of, local, under, raised, lowered-raised, nothing-under, number_in, cell-up, cell-low, cell-raised, local-up, local-raised, local-low, local-spot, spot, long}
 use Rattle.cell_tiles_joining.proofs.MeetingLemmas.{Touch, meetings-have, meetings-only}
@@ -48,7 +48,7 @@ label-only base areas (pos n) l e = by (eqb n 0) refl (ltb areas n) refl e
         let some : n ≡ (n - 1) + 1 = ⊎_elim (λ lt. omega (arith, lt)) (λ le. absurd (let none : n ≡ 0 = omega (arith, le) in let both : true ≡ false = sym (eq-eqb n 0 none) ∙ z in cc)) (cases_lt 0 n) in
         (n - 1, ap pos some, sym same)
 
-marked-only : (base areas : ℕ) (cell number : CellValue) (x : Mark) → marked base areas cell number ≡ Some x → (k : ℕ) × (cell ≡ Some x.category) × (number ≡ Some (pos (k + 1))) × (x.label ≡ base + k)
+marked-only : (base areas : ℕ) (cell number : CellValue) (x : Mark) → mark_of_number base areas cell number ≡ Some x → (k : ℕ) × (cell ≡ Some x.category) × (number ≡ Some (pos (k + 1))) × (x.label ≡ base + k)
 marked-only base areas None number x e = cc
 marked-only base areas (Some v) None x e = cc
 marked-only base areas (Some v) (Some n) x e = by (label_of_side base areas n) refl e
@@ -82,10 +82,11 @@ module _ (j : Joining) (band : Band) (one : BandEdges) (has : HasEdges j band on
 
   mark-is : (c : ℕ) (v : ℤ) → cell_at_spot band.map (position row c) ≡ Some v → (s : Spot j band.map has.areas.0 has.areas.1 band.numbers has.numbers (position row c)) → mark_at side c ≡ Some (record { category = v; label = base + s.place })
   mark-is c v cell s =
-      ap (λ (l : List CellValue). marked base one.areas (get_or l c None) (get_or edge.numbers.items c None)) is.cells
-      ∙ ap (λ (l : List CellValue). marked base one.areas (cell_at_spot band.map (position row c)) (get_or l c None)) is.numbers
-      ∙ ap (λ (x : CellValue). marked base one.areas x (cell_at_spot band.numbers (position row c))) cell
-      ∙ ap (λ (x : CellValue). marked base one.areas (Some v) x) s.number
+      ap (λ (l : List CellValue). mark_of_number base one.areas (get_or l c None)
+      (get_or edge.numbers.items c None)) is.cells
+      ∙ ap (λ (l : List CellValue). mark_of_number base one.areas (cell_at_spot band.map (position row c)) (get_or l c None)) is.numbers
+      ∙ ap (λ (x : CellValue). mark_of_number base one.areas x (cell_at_spot band.numbers (position row c))) cell
+      ∙ ap (λ (x : CellValue). mark_of_number base one.areas (Some v) x) s.number
       ∙ ap (option_map (λ l. record { category = v; label = l })) (label-of-place base one.areas s.place (omega (arith, s.inside, has.areas.2)))
 
   mark-only : (c : ℕ) (x : Mark) → mark_at side c ≡ Some x → (k : ℕ) × (cell_at_spot band.map (position row c) ≡ Some x.category) × (cell_at_spot band.numbers (position row c) ≡ Some (pos (k + 1))) × (x.label ≡ base + k)
@@ -189,7 +190,7 @@ module _ (j : Joining) (w : Grid) where
           let k = length band.map.rows in
           let a = raised k p in
           let b = raised k q in
-          let near_too : AreAdjacent j (lowered k a) (lowered k b) = subst (λ (s : Position). AreAdjacent j s (lowered k b)) (lowered-raised k p low) (subst (λ (s : Position). AreAdjacent j p s) (lowered-raised k q low_too) near) in
+          let near_too : AreAdjacent j (lowered_position k a) (lowered_position k b) = subst (λ (s : Position). AreAdjacent j s (lowered_position k b)) (lowered-raised k p low) (subst (λ (s : Position). AreAdjacent j p s) (lowered-raised k q low_too) near) in
           met-below base band bands one edges h.0 p q low low_too
           (rest a b v (adjacent-raised k j a b near_too) (sym (cell-raised j w band bands one edges h.0 p low) ∙ first) (sym (cell-raised j w band bands one edges h.0 q low_too) ∙ second))
 
@@ -209,14 +210,15 @@ module _ (j : Joining) (w : Grid) where
       let x = mark-only j band one has (length band.map.rows - 1) one.last has.last base m.c m.x m.one in
       let y = mark-only j next two has_next 0 two.first has_next.first (base + one.areas) m.d m.y m.other in
       let high : p.row < n = omega (arith, has.some) in
-      let near : AreAdjacent j p (lowered n r) = touch-adjacent j p (lowered n r) m.touch (omega (arith, has.some)) in
+      let near : AreAdjacent j p (lowered_position n r) =
+      touch-adjacent j p (lowered_position n r) m.touch (omega (arith, has.some)) in
       let p_local : local (band ∷ next ∷ bands) (one ∷ two ∷ edges) p ≡ x.0 =
       local-up j w band (next ∷ bands) one (two ∷ edges) has p high ∙ ap (λ (z : CellValue). number_in z - 1) x.2 ∙ (let e : (x.0 + 1) - 1 ≡ x.0 = omega arith in e) in
-      let q_local : local (band ∷ next ∷ bands) (one ∷ two ∷ edges) (lowered n r) ≡ one.areas + y.0 =
+      let q_local : local (band ∷ next ∷ bands) (one ∷ two ∷ edges) (lowered_position n r) ≡ one.areas + y.0 =
       local-low j w band (next ∷ bands) one (two ∷ edges) has r ∙ ap (λ k. one.areas + k) (local-up j w next bands two edges has_next r has_next.some ∙ ap (λ (z : CellValue). number_in z - 1) y.2 ∙ (let e : (y.0 + 1) - 1 ≡ y.0 = omega arith in e)) in
       record {
         one = p;
-        other = lowered n r;
+        other = lowered_position n r;
         category = m.x.category;
         adjacent = near;
         first = cell-up j w band (next ∷ bands) one (two ∷ edges) has p high ∙ x.1;
@@ -234,8 +236,8 @@ module _ (j : Joining) (w : Grid) where
   only-below base band bands one edges has a b m =
       let n = length band.map.rows in
       record {
-        one = lowered n m.one;
-        other = lowered n m.other;
+        one = lowered_position n m.one;
+        other = lowered_position n m.other;
         category = m.category;
         adjacent = adjacent-lowered n j m.one m.other m.adjacent;
         first = cell-low j w band bands one edges has m.one ∙ m.first;

@@ -7,7 +7,7 @@ use Rattle.std.proofs.Math.Seq.{take-append_seam}
 use Rattle.cell_core.specs.Grid.{Grid, CellValue}
 use Rattle.cell_cats_areas.specs.declared.clump.Joining.{Joining}
 use Rattle.cell_cats_areas.specs.Areas.{Position, cell_at_spot, HasNumber}
-use Rattle.cell_tiles_law.specs.AreaParts.{lowered}
+use Rattle.cell_tiles_law.specs.AreaParts.{lowered_position}
 use Rattle.cell_tiles_joining.specs.declared.edges.BandEdges.{BandEdges}
 use Rattle.cell_tiles_joining.specs.Bands.{Band, HasAreas, HasEdges, HaveEdges, IsCutInto, TellNumbers, rows_before, areas_before}
 use Rattle.cell_tiles_joining.specs.parts.TileLabels.{LeadTo, after_all}
@@ -24,16 +24,16 @@ some-cell : (x y : CellValue) → (x ≡ None → y ≡ None) → IsSome y → I
 some-cell None y nulls some = subst IsSome (nulls refl) some
 some-cell (Some v) y nulls some = refl
 
-lowered-none : (p : Position) → lowered 0 p ≡ p
+lowered-none : (p : Position) → lowered_position 0 p ≡ p
 lowered-none p = let row : 0 + p.row ≡ p.row = omega arith in λ i. record { row = row i; col = p.col }
 
-lowered-more : (n k : ℕ) (p : Position) → lowered (n + k) p ≡ lowered n (lowered k p)
+lowered-more : (n k : ℕ) (p : Position) → lowered_position (n + k) p ≡ lowered_position n (lowered_position k p)
 lowered-more n k p = let row : (n + k) + p.row ≡ n + (k + p.row) = omega arith in λ i. record { row = row i; col = p.col }
 
 -- the label of a cell with a number in a band, in the map of the bands from one on
 record IsLabelOf (j : Joining) (w : Grid) (bands : List Band) (edges : List BandEdges) (i : ℕ) (p : Position) (k : ℕ) : Type 0 where
-  some : IsSome (cell_at_spot (under j w bands) (lowered (rows_before bands i) p))
-  label : local bands edges (lowered (rows_before bands i) p) ≡ areas_before edges i + (k - 1)
+  some : IsSome (cell_at_spot (under j w bands) (lowered_position (rows_before bands i) p))
+  label : local bands edges (lowered_position (rows_before bands i) p) ≡ areas_before edges i + (k - 1)
 
 module _ (j : Joining) (w : Grid) where
   label-first : (first band : Band) (bands : List Band) (one : BandEdges) (edges : List BandEdges) → HasEdges j first one → (p : Position) (k : ℕ) → first ≡ band → cell_at_spot band.numbers p ≡ Some (pos k) → IsLabelOf j w (first ∷ bands) (one ∷ edges) 0 p k
@@ -41,7 +41,7 @@ module _ (j : Joining) (w : Grid) where
       let own : cell_at_spot first.numbers p ≡ Some (pos k) = ap (λ (b : Band). cell_at_spot b.numbers p) same ∙ is in
       let some : IsSome (cell_at_spot first.map p) = some-cell (cell_at_spot first.map p) (cell_at_spot first.numbers p) (has.numbers.nulls p) (rw own refl) in
       let high : p.row < length first.map.rows = some-inside j w first bands one edges has p some in
-      let here : lowered 0 p ≡ p = lowered-none p in
+      let here : lowered_position 0 p ≡ p = lowered-none p in
       record {
         some = subst (λ (q : Position). IsSome (cell_at_spot (under j w (first ∷ bands)) q)) (sym here) (subst IsSome (sym (cell-up j w first bands one edges has p high)) some);
         label = ap (local (first ∷ bands) (one ∷ edges)) here ∙ local-up j w first bands one edges has p high ∙ ap (λ (c : CellValue). number_in c - 1) own ∙ sym (zero-add (k - 1));
@@ -52,8 +52,8 @@ module _ (j : Joining) (w : Grid) where
       let n = length first.map.rows in
       let rows : rows_before (first ∷ bands) (suc i) ≡ n + rows_before bands i = sum_by-cons (λ (b : Band). length b.map.rows) first (take i bands) in
       let areas : areas_before (one ∷ edges) (suc i) ≡ one.areas + areas_before edges i = sum_by-cons (λ (e : BandEdges). e.areas) one (take i edges) in
-      let q : Position = lowered (rows_before bands i) p in
-      let here : lowered (rows_before (first ∷ bands) (suc i)) p ≡ lowered n q = ap (λ m. lowered m p) rows ∙ lowered-more n (rows_before bands i) p in
+      let q : Position = lowered_position (rows_before bands i) p in
+      let here : lowered_position (rows_before (first ∷ bands) (suc i)) p ≡ lowered_position n q = ap (λ m. lowered_position m p) rows ∙ lowered-more n (rows_before bands i) p in
       let down = local-low j w first bands one edges has q in
       record {
         some = subst (λ (s : Position). IsSome (cell_at_spot (under j w (first ∷ bands)) s)) (sym here) (subst IsSome (sym (cell-low j w first bands one edges has q)) rest.some);
@@ -78,7 +78,7 @@ module _ (j : Joining) (whole : Grid) (bands : List Band) (edges : List BandEdge
   pub tell-numbers : (numbers : List ℕ) → ((k : ℕ) → k < length table → get_or numbers k 0 ≡ label_number table (after_all (λ n. n) (all_meetings j 0 edges) k)) → TellNumbers j whole bands edges numbers
   tell-numbers numbers are i band found p k is =
       let t = label-of-cell j whole bands edges cut.all i band p k found is in
-      let q : Position = lowered (rows_before bands i) p in
+      let q : Position = lowered_position (rows_before bands i) p in
       let labelled = are-labelled j whole bands edges cut.all in
       let few = labelled.few q t.some in
       let in_table : local bands edges q < length table = omega (arith, few, long-table) in

@@ -16,7 +16,8 @@ use Rattle.cell_cats_areas.specs.declared.clump.Joining.TheVariants.{Edges, Edge
 use Rattle.cell_cats_areas.specs.Areas.{AreNeighbours}
 use Rattle.cell_tiles_joining.specs.declared.edges.Mark.{Mark}
 use Rattle.cell_tiles_joining.specs.parts.TileLabels.{LeadTo, after_all}
-use Rattle.cell_tiles_joining.specs.parts.TileMeetings.{SideValue, marked, mark_at, meeting, meetings_at, meetings}
+use Rattle.cell_tiles_joining.specs.parts.TileMeetings.{SideValue, mark_of_number, mark_at, meeting, meetings_at}
+use Rattle.cell_tiles_joining.specs.parts.TileMeetings.{meetings}
 use Rattle.cell_tiles_joining.proofs.LabelLemmas.{after_all-append}
 
 -- ---- two marks
@@ -76,7 +77,7 @@ columns-only f x a (suc n) h =
 mark-inside : (s : SideValue) (c : ℕ) (x : Mark) → mark_at s c ≡ Some x → c < length s.row.cells.items
 mark-inside s c x e =
     ⊎_elim (λ lt. lt)
-    (λ past. absurd (let none : mark_at s c ≡ None = ap (λ (v : CellValue). marked s.base s.areas v (get_or s.row.numbers.items c None)) (get_or_past s.row.cells.items c None past) in let both : None ≡ Some x = sym none ∙ e in cc))
+    (λ past. absurd (let none : mark_at s c ≡ None = ap (λ (v : CellValue). mark_of_number s.base s.areas v (get_or s.row.numbers.items c None)) (get_or_past s.row.cells.items c None past) in let both : None ≡ Some x = sym none ∙ e in cc))
     (cases_lt c (length s.row.cells.items))
 
 one-has : (o p : Option Mark) (x y : Mark) → o ≡ Some x → p ≡ Some y → x.category ≡ y.category → Contains (meeting o p) (x.label, y.label)

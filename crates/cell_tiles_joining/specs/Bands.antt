@@ -4,7 +4,7 @@ use Rattle.cell_core.specs.Grid.{Grid, row_at}
 use Rattle.cell_cats_areas.specs.declared.clump.Joining.{Joining}
 use Rattle.cell_cats_areas.specs.Areas.{Position, cell_at_spot, HasNumber, IsClumping}
 use Rattle.cell_cats_areas.specs.ClumpLaw.{AreFirsts}
-use Rattle.cell_tiles_law.specs.AreaParts.{lowered}
+use Rattle.cell_tiles_law.specs.AreaParts.{lowered_position}
 use Rattle.cell_tiles_joining.specs.declared.edges.EdgeRow.{EdgeRow}
 use Rattle.cell_tiles_joining.specs.declared.edges.BandEdges.{BandEdges}
 
@@ -50,7 +50,7 @@ areas_before edges i = sum_by (λ one. one.areas) (take i edges)
 
 -- the numbers of the whole, for each number of each band: a cell has, in the whole, the one that stands for its own in its band
 abbrev pub TellNumbers : Joining → Grid → List Band → List BandEdges → List ℕ → Type 0
-TellNumbers j whole bands edges numbers = (i : ℕ) (band : Band) → slice_get bands i ≡ Some band → (p : Position) (k : ℕ) → cell_at_spot band.numbers p ≡ Some (pos k) → HasNumber j whole (lowered (rows_before bands i) p) (slice_index numbers (areas_before edges i + (k - 1)))
+TellNumbers j whole bands edges numbers = (i : ℕ) (band : Band) → slice_get bands i ≡ Some band → (p : Position) (k : ℕ) → cell_at_spot band.numbers p ≡ Some (pos k) → HasNumber j whole (lowered_position (rows_before bands i) p) (slice_index numbers (areas_before edges i + (k - 1)))
 
 -- they do so for each map that is cut into bands of these edges
 abbrev pub JoinNumbers : Joining → List BandEdges → List ℕ → Type 0

@@ -11,7 +11,7 @@ use Rattle.cell_cats_areas.proofs.PathLemmas.{AreJoined-refl, AreJoined-sym, Are
 use Rattle.cell_cats_areas.proofs.LawLemmas.{cases_before}
 use Rattle.cell_stats.proofs.SortedLemmas.{both_true}
 use Rattle.cell_tiles_law.specs.Parts.{Rectangle, is_in}
-use Rattle.cell_tiles_law.specs.AreaParts.{Tile, moved, IsIn, IsTile, AreJoinedIn, AreLinked, IsChain, AreasJoin, Numbered, AreLinkedByNumbers, NumbersJoin, FirstsAreFirsts, FirstsOfTheWhole}
+use Rattle.cell_tiles_law.specs.AreaParts.{Tile, moved_position, IsIn, IsTile, AreJoinedIn, AreLinked, IsChain, AreasJoin, Numbered, AreLinkedByNumbers, NumbersJoin, FirstsAreFirsts, FirstsOfTheWhole}
 
 -- ---- adjacency, moved and back
 
@@ -27,20 +27,20 @@ pub same-back : (n i j : ℕ) → n + i ≡ n + j → i ≡ j
 same-back n i j e = omega (arith, e)
 
 module _ (r : Rectangle) (p q : Position) where
-  edge-moved : ShareEdge p q → ShareEdge (moved r p) (moved r q)
+  edge-moved : ShareEdge p q → ShareEdge (moved_position r p) (moved_position r q)
   edge-moved (inl e) = inl (ap (λ n. r.top + n) e.0, neighbours-moved r.left _ _ e.1)
   edge-moved (inr e) = inr (neighbours-moved r.top _ _ e.0, ap (λ n. r.left + n) e.1)
 
-  edge-back : ShareEdge (moved r p) (moved r q) → ShareEdge p q
+  edge-back : ShareEdge (moved_position r p) (moved_position r q) → ShareEdge p q
   edge-back (inl e) = inl (same-back r.top _ _ e.0, neighbours-back r.left _ _ e.1)
   edge-back (inr e) = inr (neighbours-back r.top _ _ e.0, same-back r.left _ _ e.1)
 
-adjacent-moved : (r : Rectangle) (j : Joining) (p q : Position) → AreAdjacent j p q → AreAdjacent j (moved r p) (moved r q)
+adjacent-moved : (r : Rectangle) (j : Joining) (p q : Position) → AreAdjacent j p q → AreAdjacent j (moved_position r p) (moved_position r q)
 adjacent-moved r Edges p q h = edge-moved r p q h
 adjacent-moved r EdgesAndCorners p q (inl h) = inl (edge-moved r p q h)
 adjacent-moved r EdgesAndCorners p q (inr h) = inr (neighbours-moved r.top _ _ h.0, neighbours-moved r.left _ _ h.1)
 
-adjacent-back : (r : Rectangle) (j : Joining) (p q : Position) → AreAdjacent j (moved r p) (moved r q) → AreAdjacent j p q
+adjacent-back : (r : Rectangle) (j : Joining) (p q : Position) → AreAdjacent j (moved_position r p) (moved_position r q) → AreAdjacent j p q
 adjacent-back r Edges p q h = edge-back r p q h
 adjacent-back r EdgesAndCorners p q (inl h) = inl (edge-back r p q h)
 adjacent-back r EdgesAndCorners p q (inr h) = inr (neighbours-back r.top _ _ h.0, neighbours-back r.left _ _ h.1)
@@ -94,7 +94,7 @@ in-bounds r row col is =
       before_end = ltb-true col (r.left + r.cols) cols.1;
     }
 
-moved-inside : (r : Rectangle) (s : Position) → IsIn r s → s ≡ moved r (inside-of r s)
+moved-inside : (r : Rectangle) (s : Position) → IsIn r s → s ≡ moved_position r (inside-of r s)
 moved-inside r s is_within =
     let within = in-bounds r s.row s.col is_within in
     let rows : s.row ≡ r.top + (s.row - r.top) = omega (arith, within.from_top) in
@@ -102,18 +102,19 @@ moved-inside r s is_within =
     λ i. record { row = rows i; col = cols i }
 
 module _ (whole : Grid) (t : Tile) (tile : IsTile whole t) where
-  cell-moved : (v : ℤ) (p : Position) → cell_at_spot t.map p ≡ Some v → cell_at_spot whole (moved t.place p) ≡ Some v
+  cell-moved : (v : ℤ) (p : Position) → cell_at_spot t.map p ≡ Some v
+      → cell_at_spot whole (moved_position t.place p) ≡ Some v
   cell-moved v p is =
       let inside = tile.outside p (is-some _ v is) in
       sym (tile.cells p inside.0 inside.1) ∙ is
 
-  joined-moved : (j : Joining) (p q : Position) → AreJoined j t.map p q → AreJoined j whole (moved t.place p) (moved t.place q)
-  joined-moved j p q h = joined-by j t.map whole (moved t.place) (adjacent-moved t.place j) cell-moved p q h
+  joined-moved : (j : Joining) (p q : Position) → AreJoined j t.map p q → AreJoined j whole (moved_position t.place p) (moved_position t.place q)
+  joined-moved j p q h = joined-by j t.map whole (moved_position t.place) (adjacent-moved t.place j) cell-moved p q h
 
   joined-in : (j : Joining) (p q : Position) → AreJoinedIn j t p q → AreJoined j whole p q
   joined-in j p q h =
       let inner = joined-moved j h.0 h.1 h.4 in
-      subst (λ (s : Position). AreJoined j whole s q) (sym h.2) (subst (λ (s : Position). AreJoined j whole (moved t.place h.0) s) (sym h.3) inner)
+      subst (λ (s : Position). AreJoined j whole s q) (sym h.2) (subst (λ (s : Position). AreJoined j whole (moved_position t.place h.0) s) (sym h.3) inner)
 
   -- a cell of the whole in the rectangle, as one of the tile
   cell-inside : (s : Position) (v : ℤ) → IsIn t.place s → cell_at_spot whole s ≡ Some v → cell_at_spot t.map (inside-of t.place s) ≡ Some v
@@ -128,9 +129,9 @@ module _ (whole : Grid) (t : Tile) (tile : IsTile whole t) where
   step-in j p q v near first second in_p in_q =
       let a = inside-of t.place p in
       let b = inside-of t.place q in
-      let is_a : p ≡ moved t.place a = moved-inside t.place p in_p in
-      let is_b : q ≡ moved t.place b = moved-inside t.place q in_q in
-      let near_too : AreAdjacent j (moved t.place a) (moved t.place b) = subst (λ (s : Position). AreAdjacent j s (moved t.place b)) is_a (subst (λ (s : Position). AreAdjacent j p s) is_b near) in
+      let is_a : p ≡ moved_position t.place a = moved-inside t.place p in_p in
+      let is_b : q ≡ moved_position t.place b = moved-inside t.place q in_q in
+      let near_too : AreAdjacent j (moved_position t.place a) (moved_position t.place b) = subst (λ (s : Position). AreAdjacent j s (moved_position t.place b)) is_a (subst (λ (s : Position). AreAdjacent j p s) is_b near) in
       (a, b, is_a, is_b, AreJoined-adjacent j t.map a b v (adjacent-back t.place j a b near_too) (cell-inside p v in_p first) (cell-inside q v in_q second))
 
 -- ---- which tile has both of two cells
@@ -254,14 +255,15 @@ numbers-join j whole numbered all p q some = joined-chained j whole (AreLinkedBy
 
 -- ---- first cells
 
-before-moved : (r : Rectangle) (p q : Position) → IsEarlierCell p q → IsEarlierCell (moved r p) (moved r q)
+before-moved : (r : Rectangle) (p q : Position) → IsEarlierCell p q
+    → IsEarlierCell (moved_position r p) (moved_position r q)
 before-moved r p q (inl h) = inl (omega (arith, h))
 before-moved r p q (inr h) = inr (ap (λ n. r.top + n) h.0, omega (arith, h.1))
 
 pub firsts-are-firsts : FirstsAreFirsts
 firsts-are-firsts j whole t tile p row col h = record {
   category = subst (λ (c : CellValue). IsSome c) (sym (tile.cells p row col)) h.category;
-  none_before = λ q before joined. h.none_before (moved t.place q) (before-moved t.place q p before) (joined-moved whole t tile j q p joined);
+  none_before = λ q before joined. h.none_before (moved_position t.place q) (before-moved t.place q p before) (joined-moved whole t tile j q p joined);
 }
 
 before-then : (p q s : Position) → IsEarlierCell p q → IsEarlierCell q s → IsEarlierCell p s
@@ -291,7 +293,7 @@ has-first j m numbers clumping p some =
 
 pub firsts-of-the-whole : FirstsOfTheWhole
 firsts-of-the-whole j whole numbered all cover n has p row col = (
-  λ h. (firsts-are-firsts j whole n.tile tile p row col h, λ m has_m q first before joined. h.none_before (moved m.tile.place q) before joined),
+  λ h. (firsts-are-firsts j whole n.tile tile p row col h, λ m has_m q first before joined. h.none_before (moved_position m.tile.place q) before joined),
   λ h. record {
     category = subst (λ (c : CellValue). IsSome c) (tile.cells p row col) h.0.category;
     none_before = λ q before joined.
@@ -301,16 +303,16 @@ firsts-of-the-whole j whole numbered all cover n has p row col = (
         let m = covered.0 in
         let both = both-of j whole numbered all m covered.1 in
         let a = inside-of m.tile.place q in
-        let is_a : q ≡ moved m.tile.place a = moved-inside m.tile.place q covered.2 in
+        let is_a : q ≡ moved_position m.tile.place a = moved-inside m.tile.place q covered.2 in
         let inner = cell-inside whole m.tile both.0 q v covered.2 is in
         let first = has-first j m.tile.map m.numbers both.1 a (is-some (cell_at_spot m.tile.map a) v inner) in
         let outer = joined-moved whole m.tile both.0 j first.first a first.joined in
-        let to_q : AreJoined j whole (moved m.tile.place first.first) q = subst (λ (s : Position). AreJoined j whole (moved m.tile.place first.first) s) (sym is_a) outer in
-        let early : IsEarlierCell (moved m.tile.place first.first) here =
-        ⊎_elim (λ same. subst (λ (s : Position). IsEarlierCell s here) (is_a ∙ ap (moved m.tile.place) (sym same)) before)
-        (λ less. before-then (moved m.tile.place first.first) q here (subst (λ (s : Position). IsEarlierCell (moved m.tile.place first.first) s) (sym is_a) (before-moved m.tile.place first.first a less)) before)
+        let to_q : AreJoined j whole (moved_position m.tile.place first.first) q = subst (λ (s : Position). AreJoined j whole (moved_position m.tile.place first.first) s) (sym is_a) outer in
+        let early : IsEarlierCell (moved_position m.tile.place first.first) here =
+        ⊎_elim (λ same. subst (λ (s : Position). IsEarlierCell s here) (is_a ∙ ap (moved_position m.tile.place) (sym same)) before)
+        (λ less. before-then (moved_position m.tile.place first.first) q here (subst (λ (s : Position). IsEarlierCell (moved_position m.tile.place first.first) s) (sym is_a) (before-moved m.tile.place first.first a less)) before)
         first.at_or_before in
-        h.1 m covered.1 first.first first.is_first early (AreJoined-trans j whole (moved m.tile.place first.first) q here to_q joined);
+        h.1 m covered.1 first.first first.is_first early (AreJoined-trans j whole (moved_position m.tile.place first.first) q here to_q joined);
   },
 )
   where
@@ -318,4 +320,4 @@ firsts-of-the-whole j whole numbered all cover n has p row col = (
     tile = (both-of j whole numbered all n has).0
 
     here : Position
-    here = moved n.tile.place p
+    here = moved_position n.tile.place p

@@ -7,23 +7,23 @@ use Rattle.cell_cats_areas.specs.declared.clump.Joining.{Joining}
 use Rattle.cell_cats_areas.specs.declared.clump.Joining.TheVariants.{Edges, EdgesAndCorners}
 use Rattle.cell_cats_areas.specs.Areas.{Position, cell_at_spot, AreNeighbours, ShareEdge, AreAdjacent, AreJoined}
 use Rattle.cell_cats_areas.proofs.PathLemmas.{AreJoined-adjacent}
-use Rattle.cell_tiles_law.specs.AreaParts.{lowered, AreJoinedBelow, AreLinkedAtCut, AreasJoinAtCut}
+use Rattle.cell_tiles_law.specs.AreaParts.{lowered_position, AreJoinedBelow, AreLinkedAtCut, AreasJoinAtCut}
 use Rattle.cell_tiles_law.proofs.AreaLemmas.{neighbours-moved, neighbours-back, same-back, joined-by, joined-chained}
 
-edge-lowered : (n : ℕ) (p q : Position) → ShareEdge p q → ShareEdge (lowered n p) (lowered n q)
+edge-lowered : (n : ℕ) (p q : Position) → ShareEdge p q → ShareEdge (lowered_position n p) (lowered_position n q)
 edge-lowered n p q (inl e) = inl (ap (λ i. n + i) e.0, e.1)
 edge-lowered n p q (inr e) = inr (neighbours-moved n p.row q.row e.0, e.1)
 
-edge-raised : (n : ℕ) (p q : Position) → ShareEdge (lowered n p) (lowered n q) → ShareEdge p q
+edge-raised : (n : ℕ) (p q : Position) → ShareEdge (lowered_position n p) (lowered_position n q) → ShareEdge p q
 edge-raised n p q (inl e) = inl (same-back n p.row q.row e.0, e.1)
 edge-raised n p q (inr e) = inr (neighbours-back n p.row q.row e.0, e.1)
 
-pub adjacent-lowered : (n : ℕ) (j : Joining) (p q : Position) → AreAdjacent j p q → AreAdjacent j (lowered n p) (lowered n q)
+pub adjacent-lowered : (n : ℕ) (j : Joining) (p q : Position) → AreAdjacent j p q → AreAdjacent j (lowered_position n p) (lowered_position n q)
 adjacent-lowered n Edges p q h = edge-lowered n p q h
 adjacent-lowered n EdgesAndCorners p q (inl h) = inl (edge-lowered n p q h)
 adjacent-lowered n EdgesAndCorners p q (inr h) = inr (neighbours-moved n p.row q.row h.0, h.1)
 
-pub adjacent-raised : (n : ℕ) (j : Joining) (p q : Position) → AreAdjacent j (lowered n p) (lowered n q) → AreAdjacent j p q
+pub adjacent-raised : (n : ℕ) (j : Joining) (p q : Position) → AreAdjacent j (lowered_position n p) (lowered_position n q) → AreAdjacent j p q
 adjacent-raised n Edges p q h = edge-raised n p q h
 adjacent-raised n EdgesAndCorners p q (inl h) = inl (edge-raised n p q h)
 adjacent-raised n EdgesAndCorners p q (inr h) = inr (neighbours-back n p.row q.row h.0, h.1)
@@ -54,7 +54,7 @@ module _ (whole upper lower : Grid) (cut : whole.rows ≡ upper.rows ++ lower.ro
   pub upper-cell : (p : Position) → p.row < above → cell_at_spot whole p ≡ cell_at_spot upper p
   upper-cell p high = ap (λ l. get_or (get_or l p.row []) p.col None) cut ∙ ap (λ l. get_or l p.col None) (get_or_append_left upper.rows lower.rows [] p.row high)
 
-  pub lower-cell : (p : Position) → cell_at_spot whole (lowered above p) ≡ cell_at_spot lower p
+  pub lower-cell : (p : Position) → cell_at_spot whole (lowered_position above p) ≡ cell_at_spot lower p
   lower-cell p = ap (λ l. get_or (get_or l (above + p.row) []) p.col None) cut ∙ ap (λ l. get_or l p.col None) (get_or-append-add upper.rows lower.rows p.row [])
 
   pub in-upper : (v : ℤ) (p : Position) → cell_at_spot upper p ≡ Some v → cell_at_spot whole p ≡ Some v
@@ -66,7 +66,7 @@ module _ (whole upper lower : Grid) (cut : whole.rows ≡ upper.rows ++ lower.ro
   raised : Position → Position
   raised p = record { row = p.row - above; col = p.col }
 
-  lowered-raised : (p : Position) → above ≤ p.row → p ≡ lowered above (raised p)
+  lowered-raised : (p : Position) → above ≤ p.row → p ≡ lowered_position above (raised p)
   unfolding raised
   lowered-raised p low = let row : p.row ≡ above + (p.row - above) = omega (arith, low) in λ i. record { row = row i; col = p.col }
 
@@ -74,8 +74,8 @@ module _ (whole upper lower : Grid) (cut : whole.rows ≡ upper.rows ++ lower.ro
     joins : (p q : Position) → AreLinkedAtCut j whole upper lower p q → AreJoined j whole p q
     joins p q (inl h) = joined-by j upper whole (λ s. s) (λ a b near. near) in-upper p q h
     joins p q (inr (inl h)) =
-        let inner : AreJoined j whole (lowered above h.0) (lowered above h.1) = joined-by j lower whole (lowered above) (adjacent-lowered above j) (λ v s is. lower-cell s ∙ is) h.0 h.1 h.4 in
-        subst (λ (s : Position). AreJoined j whole s q) (sym h.2) (subst (λ (s : Position). AreJoined j whole (lowered above h.0) s) (sym h.3) inner)
+        let inner : AreJoined j whole (lowered_position above h.0) (lowered_position above h.1) = joined-by j lower whole (lowered_position above) (adjacent-lowered above j) (λ v s is. lower-cell s ∙ is) h.0 h.1 h.4 in
+        subst (λ (s : Position). AreJoined j whole s q) (sym h.2) (subst (λ (s : Position). AreJoined j whole (lowered_position above h.0) s) (sym h.3) inner)
     joins p q (inr (inr h)) = AreJoined-adjacent j whole p q h.category h.adjacent h.first h.second
 
     links : (p q : Position) (v : ℤ) → AreAdjacent j p q → cell_at_spot whole p ≡ Some v → cell_at_spot whole q ≡ Some v → AreLinkedAtCut j whole upper lower p q
@@ -97,7 +97,7 @@ module _ (whole upper lower : Grid) (cut : whole.rows ≡ upper.rows ++ lower.ro
             let b = raised q in
             let is_a = lowered-raised p low in
             let is_b = lowered-raised q low_too in
-            let near_too : AreAdjacent j (lowered above a) (lowered above b) = subst (λ (s : Position). AreAdjacent j s (lowered above b)) is_a (subst (λ (s : Position). AreAdjacent j p s) is_b near) in
+            let near_too : AreAdjacent j (lowered_position above a) (lowered_position above b) = subst (λ (s : Position). AreAdjacent j s (lowered_position above b)) is_a (subst (λ (s : Position). AreAdjacent j p s) is_b near) in
             (a, b, is_a, is_b, AreJoined-adjacent j lower a b v (adjacent-raised above j a b near_too) (sym (lower-cell a) ∙ ap (cell_at_spot whole) (sym is_a) ∙ first) (sym (lower-cell b) ∙ ap (cell_at_spot whole) (sym is_b) ∙ second))
 
 pub areas-join-at-cut : AreasJoinAtCut

@@ -10,7 +10,7 @@ use Rattle.cell_core.specs.Grid.{Grid, CellValue, IsFilled}
 use Rattle.cell_calc_tokens.specs.declared.function.Function.{Function}
 use Rattle.cell_calc_tokens.specs.declared.function.Function.TheVariants as function
 use Rattle.cell_calc_language.specs.Grammatical.{up_by, down_by}
-use Rattle.cell_calc_operators.specs.Applied.{Spot, spot, negated, inverted, applied, call_result}
+use Rattle.cell_calc_operators.specs.Applied.{Spot, spot, negated_cell, inverted_cell, operator_value, call_result}
 use Rattle.cell_calc_operators.specs.Offsets.{item_at, cell_at_offset, cell_in}
 use Rattle.cell_calc_binding.specs.Formula.{Formula, Number, Map, Negated, Not, Binary, Call, Formulas, NoTrees, Then}
 use Rattle.cell_calc_binding.specs.Reach.{up_of, down_of, up_of_all, down_of_all}
@@ -209,12 +209,12 @@ module _ (region : RegionValue) (r : Rectangle) (row col : ℕ) where
       same-value (Number n) h = refl
       same-value (Map i down right) h =
           cells-cut whole part i all cut down right (own-le i (up_by down) row (h.up i)) (own-lt i (down_by down) r.rows row (h.down i)) (own-le i (up_by right) col (h.left i)) (own-lt i (down_by right) r.cols col (h.right i))
-      same-value (Negated a) h = ap negated (same-value a (record { up = h.up; down = h.down; left = h.left; right = h.right; rows = h.rows; cols = h.cols }))
-      same-value (Not a) h = ap inverted (same-value a (record { up = h.up; down = h.down; left = h.left; right = h.right; rows = h.rows; cols = h.cols }))
+      same-value (Negated a) h = ap negated_cell (same-value a (record { up = h.up; down = h.down; left = h.left; right = h.right; rows = h.rows; cols = h.cols }))
+      same-value (Not a) h = ap inverted_cell (same-value a (record { up = h.up; down = h.down; left = h.left; right = h.right; rows = h.rows; cols = h.cols }))
       same-value (Binary op a b) h =
           let first : HaloOf a = first-halo (λ i. up_of i a) (λ i. down_of i a) (λ i. left_of i a) (λ i. right_of i a) (λ i. up_of i b) (λ i. down_of i b) (λ i. left_of i b) (λ i. right_of i b) (calls asks_rows a) (calls asks_cols a) (calls asks_rows b) (calls asks_cols b) h in
           let second : HaloOf b = second-halo (λ i. up_of i a) (λ i. down_of i a) (λ i. left_of i a) (λ i. right_of i a) (λ i. up_of i b) (λ i. down_of i b) (λ i. left_of i b) (λ i. right_of i b) (calls asks_rows a) (calls asks_cols a) (calls asks_rows b) (calls asks_cols b) h in
-          ap (λ x. applied op x (value b part here)) (same-value a first) ∙ ap (λ y. applied op (value a whole there) y) (same-value b second)
+          ap (λ x. operator_value op x (value b part here)) (same-value a first) ∙ ap (λ y. operator_value op (value a whole there) y) (same-value b second)
       same-value (Call g xs) h =
           let others : HaloOfAll xs = record {
             up = h.up;
@@ -240,12 +240,12 @@ module _ (region : RegionValue) (r : Rectangle) (row col : ℕ) where
       same-told (Number n) h = refl
       same-told (Map i down right) h =
           cells-cut whole part i all cut down right (own-le i (up_by down) row (h.up i)) (own-lt i (down_by down) r.rows row (h.down i)) (own-le i (up_by right) col (h.left i)) (own-lt i (down_by right) r.cols col (h.right i))
-      same-told (Negated a) h = ap negated (same-told a (record { up = h.up; down = h.down; left = h.left; right = h.right; rows = inl refl; cols = inl refl }))
-      same-told (Not a) h = ap inverted (same-told a (record { up = h.up; down = h.down; left = h.left; right = h.right; rows = inl refl; cols = inl refl }))
+      same-told (Negated a) h = ap negated_cell (same-told a (record { up = h.up; down = h.down; left = h.left; right = h.right; rows = inl refl; cols = inl refl }))
+      same-told (Not a) h = ap inverted_cell (same-told a (record { up = h.up; down = h.down; left = h.left; right = h.right; rows = inl refl; cols = inl refl }))
       same-told (Binary op a b) h =
           let first = first-halo (λ i. up_of i a) (λ i. down_of i a) (λ i. left_of i a) (λ i. right_of i a) (λ i. up_of i b) (λ i. down_of i b) (λ i. left_of i b) (λ i. right_of i b) false false false false h in
           let second = second-halo (λ i. up_of i a) (λ i. down_of i a) (λ i. left_of i a) (λ i. right_of i a) (λ i. up_of i b) (λ i. down_of i b) (λ i. left_of i b) (λ i. right_of i b) false false false false h in
-          ap (λ x. applied op x (value_told b part here there)) (same-told a first) ∙ ap (λ y. applied op (value a whole there) y) (same-told b second)
+          ap (λ x. operator_value op x (value_told b part here there)) (same-told a first) ∙ ap (λ y. operator_value op (value a whole there) y) (same-told b second)
       same-told (Call g xs) h = ap (call_result g there) (sames-told xs (record { up = h.up; down = h.down; left = h.left; right = h.right; rows = inl refl; cols = inl refl }))
 
       sames-told : (xs : Formulas) → IsHalo region r row col (λ i. up_of_all i xs) (λ i. down_of_all i xs) (λ i. left_of_all i xs) (λ i. right_of_all i xs) false false → values_told xs part here there ≡ argument_values xs whole there
@@ -259,9 +259,9 @@ mutual
   pub told-of-itself : ToldOfItself
   told-of-itself (Number n) maps s = refl
   told-of-itself (Map i down right) maps s = refl
-  told-of-itself (Negated a) maps s = ap negated (told-of-itself a maps s)
-  told-of-itself (Not a) maps s = ap inverted (told-of-itself a maps s)
-  told-of-itself (Binary op a b) maps s = ap (λ x. applied op x (value_told b maps s s)) (told-of-itself a maps s) ∙ ap (λ y. applied op (value a maps s) y) (told-of-itself b maps s)
+  told-of-itself (Negated a) maps s = ap negated_cell (told-of-itself a maps s)
+  told-of-itself (Not a) maps s = ap inverted_cell (told-of-itself a maps s)
+  told-of-itself (Binary op a b) maps s = ap (λ x. operator_value op x (value_told b maps s s)) (told-of-itself a maps s) ∙ ap (λ y. operator_value op (value a maps s) y) (told-of-itself b maps s)
   told-of-itself (Call g xs) maps s = ap (call_result g s) (all-of-itself xs maps s)
 
   all-of-itself : (xs : Formulas) (maps : List Grid) (s : Spot) → values_told xs maps s s ≡ argument_values xs maps s

@@ -3,7 +3,7 @@ use Rattle.std.proofs.Common.{◌≡◌, ◌+◌, ◌↔◌, ℕ, zero, suc, Lis
 use Rattle.std.specs.Prelude.{sum_by}
 use Rattle.cell_stats_combinations.specs.declared.skip.Skip.{Skip}
 use Rattle.cell_stats_combinations.specs.Combinations.{Combination, all_combinations}
-use Rattle.cell_stats_combinations.specs.LeftOut.{kept, is_left_out}
+use Rattle.cell_stats_combinations.specs.LeftOut.{kept_cells, is_left_out}
 use Rattle.cell_stats_counts.specs.Counts.{count_of}
 use Rattle.cell_stats.specs.CategoryTables.{Pairs, IsTable, table_of}
 use Rattle.cell_stats.proofs.TableLemmas.{IsFound-from, kept-IsTable, IsTable-kept, table_of-IsTable, found, count_kept}
@@ -16,38 +16,39 @@ found-or zero = refl
 found-or (suc n) = refl
 
 -- the number beside a combination in a table is its count among the cells that are kept
-beside : (skip : Skip) (cells : List Combination) (es : Pairs) → IsTable skip cells es → (k : Combination) → count_in k es ≡ count_of k (kept skip cells)
+beside : (skip : Skip) (cells : List Combination) (es : Pairs) → IsTable skip cells es → (k : Combination) → count_in k es ≡ count_of k (kept_cells skip cells)
 beside skip cells es table k =
-    ap (λ o. unwrap_or o 0) ((IsFound-from (kept skip cells) es (kept-IsTable skip cells es table)).finds k) ∙ found-or (count_of k (kept skip cells))
+    ap (λ o. unwrap_or o 0) ((IsFound-from (kept_cells skip cells) es (kept-IsTable skip cells es table)).finds k) ∙ found-or (count_of k (kept_cells skip cells))
 
-kept-sum : (skip : Skip) (whole : List Combination) (k : Combination) {X : Type 0} (cells : X → List Combination) (parts : List X) → count_of k whole ≡ sum_by (λ part. count_of k (cells part)) parts → count_of k (kept skip whole) ≡ sum_by (λ part. count_of k (kept skip (cells part))) parts
+kept-sum : (skip : Skip) (whole : List Combination) (k : Combination) {X : Type 0} (cells : X → List Combination) (parts : List X) → count_of k whole ≡ sum_by (λ part. count_of k (cells part)) parts → count_of k (kept_cells skip whole) ≡ sum_by (λ part. count_of k (kept_cells skip (cells part))) parts
 kept-sum skip whole k {X} cells parts sum = count_kept skip k whole ∙ by (is_left_out skip k) refl
   where
-    out : is_left_out skip k ≡ true → (parts : List X) → sum_by (λ part. count_of k (kept skip (cells part))) parts ≡ 0
+    out : is_left_out skip k ≡ true → (parts : List X)
+        → sum_by (λ part. count_of k (kept_cells skip (cells part))) parts ≡ 0
     out left [] = refl
     out left (part ∷ parts) =
-        let here : count_of k (kept skip (cells part)) ≡ 0 = count_kept skip k (cells part) ∙ ap (λ b. cond b 0 (count_of k (cells part))) left in
-        omega (arith, sum-cons (λ part. count_of k (kept skip (cells part))) part parts, here, out left parts)
+        let here : count_of k (kept_cells skip (cells part)) ≡ 0 = count_kept skip k (cells part) ∙ ap (λ b. cond b 0 (count_of k (cells part))) left in
+        omega (arith, sum-cons (λ part. count_of k (kept_cells skip (cells part))) part parts, here, out left parts)
 
-    in_ : is_left_out skip k ≡ false → (parts : List X) → sum_by (λ part. count_of k (kept skip (cells part))) parts ≡ sum_by (λ part. count_of k (cells part)) parts
+    in_ : is_left_out skip k ≡ false → (parts : List X) → sum_by (λ part. count_of k (kept_cells skip (cells part))) parts ≡ sum_by (λ part. count_of k (cells part)) parts
     in_ left [] = refl
     in_ left (part ∷ parts) =
-        let here : count_of k (kept skip (cells part)) ≡ count_of k (cells part) = count_kept skip k (cells part) ∙ ap (λ b. cond b 0 (count_of k (cells part))) left in
-        omega (arith, sum-cons (λ part. count_of k (kept skip (cells part))) part parts, sum-cons (λ part. count_of k (cells part)) part parts, here, in_ left parts)
+        let here : count_of k (kept_cells skip (cells part)) ≡ count_of k (cells part) = count_kept skip k (cells part) ∙ ap (λ b. cond b 0 (count_of k (cells part))) left in
+        omega (arith, sum-cons (λ part. count_of k (kept_cells skip (cells part))) part parts, sum-cons (λ part. count_of k (cells part)) part parts, here, in_ left parts)
 
-    by : (b : Bool) → is_left_out skip k ≡ b → cond b 0 (count_of k whole) ≡ sum_by (λ part. count_of k (kept skip (cells part))) parts
+    by : (b : Bool) → is_left_out skip k ≡ b → cond b 0 (count_of k whole) ≡ sum_by (λ part. count_of k (kept_cells skip (cells part))) parts
     by true left = sym (out left parts)
     by false left = sum ∙ sym (in_ left parts)
 
 -- the numbers beside a combination in the tables of parts
-beside-all : (skip : Skip) (k : Combination) {X : Type 0} (cells : X → List Combination) (parts : List X) → sum_by (count_in k) (map (λ part. table_of skip (cells part)) parts) ≡ sum_by (λ part. count_of k (kept skip (cells part))) parts
+beside-all : (skip : Skip) (k : Combination) {X : Type 0} (cells : X → List Combination) (parts : List X) → sum_by (count_in k) (map (λ part. table_of skip (cells part)) parts) ≡ sum_by (λ part. count_of k (kept_cells skip (cells part))) parts
 beside-all skip k cells [] = refl
 beside-all skip k cells (part ∷ parts) =
-    let here : count_in k (table_of skip (cells part)) ≡ count_of k (kept skip (cells part)) = beside skip (cells part) (table_of skip (cells part)) (table_of-IsTable skip (cells part)) k in
+    let here : count_in k (table_of skip (cells part)) ≡ count_of k (kept_cells skip (cells part)) = beside skip (cells part) (table_of skip (cells part)) (table_of-IsTable skip (cells part)) k in
     omega (
       arith,
       sum-cons (count_in k) (table_of skip (cells part)) (map (λ part. table_of skip (cells part)) parts),
-      sum-cons (λ part. count_of k (kept skip (cells part))) part parts,
+      sum-cons (λ part. count_of k (kept_cells skip (cells part))) part parts,
       here,
       beside-all skip k cells parts,
     )
@@ -55,7 +56,7 @@ beside-all skip k cells (part ∷ parts) =
 -- where counts add up, tables merge
 merge-from : (skip : Skip) (whole : List Combination) {X : Type 0} (cells : X → List Combination) (parts : List X) → ((k : Combination) → count_of k whole ≡ sum_by (λ part. count_of k (cells part)) parts) → (pairs : Pairs) → IsMerge (map (λ part. table_of skip (cells part)) parts) pairs ↔ IsTable skip whole pairs
 merge-from skip whole cells parts adds pairs =
-    let sum : (k : Combination) → sum_by (count_in k) (map (λ part. table_of skip (cells part)) parts) ≡ count_of k (kept skip whole) = λ k.
+    let sum : (k : Combination) → sum_by (count_in k) (map (λ part. table_of skip (cells part)) parts) ≡ count_of k (kept_cells skip whole) = λ k.
     beside-all skip k cells parts ∙ sym (kept-sum skip whole k cells parts (adds k)) in (
       λ merge. IsTable-kept skip whole pairs (record {
         ascending = merge.ascending;

@@ -11,12 +11,12 @@ IsChain Link p [] q = p ≡ q
 IsChain Link p (next ∷ others) q = Link p next × IsChain Link next others q
 
 -- where a cell of the lower part lies in the whole
-abbrev pub lowered : ℕ → Position → Position
-lowered n p = record { row = n + p.row; col = p.col }
+abbrev pub lowered_position : ℕ → Position → Position
+lowered_position n p = record { row = n + p.row; col = p.col }
 
 -- a path within the lower part joins two cells of the whole
 abbrev pub AreJoinedBelow : Joining → ℕ → Grid → Position → Position → Type 0
-AreJoinedBelow j n lower p q = (a b : Position) × (p ≡ lowered n a) × (q ≡ lowered n b) × AreJoined j lower a b
+AreJoinedBelow j n lower p q = (a b : Position) × (p ≡ lowered_position n a) × (q ≡ lowered_position n b) × AreJoined j lower a b
 
 -- two adjacent cells of one category meet at a cut below so many rows: one lies in the last row above it, the other in the first below
 pub record MeetAtCut (j : Joining) (n : ℕ) (whole : Grid) (p q : Position) : Type 0 where
@@ -40,8 +40,8 @@ pub record Tile : Type 0 where
   pub map : Grid
 
 -- where a cell of a tile lies in the whole
-abbrev pub moved : Rectangle → Position → Position
-moved r p = record { row = r.top + p.row; col = r.left + p.col }
+abbrev pub moved_position : Rectangle → Position → Position
+moved_position r p = record { row = r.top + p.row; col = r.left + p.col }
 
 -- a cell of the whole lies in a rectangle
 abbrev pub IsIn : Rectangle → Position → Type 0
@@ -49,12 +49,12 @@ IsIn r p = IsTrue (is_in r p.row p.col)
 
 -- the tile has the cells of its rectangle, and is null outside
 pub record IsTile (whole : Grid) (t : Tile) : Type 0 where
-  pub cells : (p : Position) → p.row < t.place.rows → p.col < t.place.cols → cell_at_spot t.map p ≡ cell_at_spot whole (moved t.place p)
+  pub cells : (p : Position) → p.row < t.place.rows → p.col < t.place.cols → cell_at_spot t.map p ≡ cell_at_spot whole (moved_position t.place p)
   pub outside : (p : Position) → IsSome (cell_at_spot t.map p) → (p.row < t.place.rows) × (p.col < t.place.cols)
 
 -- a path within a tile joins two cells of the whole
 abbrev pub AreJoinedIn : Joining → Tile → Position → Position → Type 0
-AreJoinedIn j t p q = (a b : Position) × (p ≡ moved t.place a) × (q ≡ moved t.place b) × AreJoined j t.map a b
+AreJoinedIn j t p q = (a b : Position) × (p ≡ moved_position t.place a) × (q ≡ moved_position t.place b) × AreJoined j t.map a b
 
 -- two adjacent cells of one category meet at a border: no tile has both
 pub record MeetAtBorder (j : Joining) (whole : Grid) (tiles : List Tile) (p q : Position) : Type 0 where
@@ -79,7 +79,7 @@ pub record Numbered : Type 0 where
 
 -- two cells of the whole that have one number in a tile
 abbrev pub HaveOneNumber : Numbered → Position → Position → Type 0
-HaveOneNumber n p q = (a b : Position) × (p ≡ moved n.tile.place a) × (q ≡ moved n.tile.place b) × IsSome (cell_at_spot n.tile.map a) × IsSome (cell_at_spot n.tile.map b) × (cell_at_spot n.numbers a ≡ cell_at_spot n.numbers b)
+HaveOneNumber n p q = (a b : Position) × (p ≡ moved_position n.tile.place a) × (q ≡ moved_position n.tile.place b) × IsSome (cell_at_spot n.tile.map a) × IsSome (cell_at_spot n.tile.map b) × (cell_at_spot n.numbers a ≡ cell_at_spot n.numbers b)
 
 -- a link of numbers: one number in one of the tiles, or a step over a border
 abbrev pub AreLinkedByNumbers : Joining → Grid → List Numbered → Position → Position → Type 0
@@ -91,11 +91,11 @@ NumbersJoin = (j : Joining) (whole : Grid) (numbered : List Numbered) → All (�
 
 -- a first cell of the whole is a first cell of its tile
 abbrev pub FirstsAreFirsts : Type 0
-FirstsAreFirsts = (j : Joining) (whole : Grid) (t : Tile) → IsTile whole t → (p : Position) → p.row < t.place.rows → p.col < t.place.cols → IsFirst j whole (moved t.place p) → IsFirst j t.map p
+FirstsAreFirsts = (j : Joining) (whole : Grid) (t : Tile) → IsTile whole t → (p : Position) → p.row < t.place.rows → p.col < t.place.cols → IsFirst j whole (moved_position t.place p) → IsFirst j t.map p
 
 -- where each cell that is not null lies in a tile: a first cell of the whole is a first cell of its tile that no earlier first cell of a tile is joined to
 abbrev pub FirstsOfTheWhole : Type 0
-FirstsOfTheWhole = (j : Joining) (whole : Grid) (numbered : List Numbered) → All (λ n. IsTile whole n.tile × IsClumping j n.tile.map n.numbers) numbered → ((p : Position) → IsSome (cell_at_spot whole p) → (n : Numbered) × Contains numbered n × IsIn n.tile.place p) → (n : Numbered) → Contains numbered n → (p : Position) → p.row < n.tile.place.rows → p.col < n.tile.place.cols → IsFirst j whole (moved n.tile.place p) ↔ (IsFirst j n.tile.map p × ((m : Numbered) → Contains numbered m → (q : Position) → IsFirst j m.tile.map q → IsEarlierCell (moved m.tile.place q) (moved n.tile.place p) → ¬ AreJoined j whole (moved m.tile.place q) (moved n.tile.place p)))
+FirstsOfTheWhole = (j : Joining) (whole : Grid) (numbered : List Numbered) → All (λ n. IsTile whole n.tile × IsClumping j n.tile.map n.numbers) numbered → ((p : Position) → IsSome (cell_at_spot whole p) → (n : Numbered) × Contains numbered n × IsIn n.tile.place p) → (n : Numbered) → Contains numbered n → (p : Position) → p.row < n.tile.place.rows → p.col < n.tile.place.cols → IsFirst j whole (moved_position n.tile.place p) ↔ (IsFirst j n.tile.map p × ((m : Numbered) → Contains numbered m → (q : Position) → IsFirst j m.tile.map q → IsEarlierCell (moved_position m.tile.place q) (moved_position n.tile.place p) → ¬ AreJoined j whole (moved_position m.tile.place q) (moved_position n.tile.place p)))
 
 -- whatever rectangle is cut out, it is a tile
 abbrev pub CutOutsAreTiles : Type 0

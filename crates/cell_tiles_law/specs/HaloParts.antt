@@ -5,7 +5,7 @@ use Rattle.cell_core.specs.Grid.{Grid, CellValue, IsFilled}
 use Rattle.cell_calc_tokens.specs.declared.function.Function.{Function}
 use Rattle.cell_calc_tokens.specs.declared.function.Function.TheVariants.{Row, Column, RowCount, ColumnCount}
 use Rattle.cell_calc_language.specs.Grammatical.{up_by, down_by}
-use Rattle.cell_calc_operators.specs.Applied.{Spot, spot, negated, inverted, applied, call_result}
+use Rattle.cell_calc_operators.specs.Applied.{Spot, spot, negated_cell, inverted_cell, operator_value, call_result}
 use Rattle.cell_calc_operators.specs.Offsets.{cell_in}
 use Rattle.cell_calc_grammar.specs.Tree.{fold_maps, fold_all}
 use Rattle.cell_calc_binding.specs.Formula.{Formula, Number, Map, Negated, Not, Binary, Call, Formulas, NoTrees, Then}
@@ -82,9 +82,9 @@ abbrev mutual
   pub value_told : Formula → List Grid → (here told : Spot) → CellValue
   value_told (Number n) maps here told = Some (pos n)
   value_told (Map i down right) maps here told = cell_in (slice_get maps i) (pos here.row +ℤ down) (pos here.col +ℤ right)
-  value_told (Negated a) maps here told = negated (value_told a maps here told)
-  value_told (Not a) maps here told = inverted (value_told a maps here told)
-  value_told (Binary op a b) maps here told = applied op (value_told a maps here told) (value_told b maps here told)
+  value_told (Negated a) maps here told = negated_cell (value_told a maps here told)
+  value_told (Not a) maps here told = inverted_cell (value_told a maps here told)
+  value_told (Binary op a b) maps here told = operator_value op (value_told a maps here told) (value_told b maps here told)
   value_told (Call f xs) maps here told = call_result f told (values_told xs maps here told)
 
   pub values_told : Formulas → List Grid → (here told : Spot) → List CellValue

@@ -16,7 +16,7 @@ use std::alloc::Global;
 use std::cmp::Ordering;
 
 // Puts a copy of an entry, with so many cells, behind the others.
-fn put(
+fn put_entry(
     alloc: Global,
     merged: &mut Vec<(Combo, u64)>,
     combo: &Combo,
@@ -38,7 +38,7 @@ fn put_all(
     ensures { OnOk result (merged.new.items ≡ merged.old.items ++ entries.now) }
 {
     for entry in entries {
-        put(alloc, merged, &entry.0, entry.1)?;
+        put_entry(alloc, merged, &entry.0, entry.1)?;
     }
     Ok(())
 }
@@ -68,16 +68,16 @@ fn put_next(
 {
     match one.0.cmp(&other.0) {
         Ordering::Less => {
-            put(alloc, merged, &one.0, one.1)?;
+            put_entry(alloc, merged, &one.0, one.1)?;
             Ok((1, 0))
         }
         Ordering::Equal => {
             let sum = sum_of(alloc, one, other)?;
-            put(alloc, merged, &one.0, sum)?;
+            put_entry(alloc, merged, &one.0, sum)?;
             Ok((1, 1))
         }
         Ordering::Greater => {
-            put(alloc, merged, &other.0, other.1)?;
+            put_entry(alloc, merged, &other.0, other.1)?;
             Ok((0, 1))
         }
     }

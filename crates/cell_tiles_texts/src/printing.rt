@@ -5,7 +5,7 @@ ghost use Rattle.cell_core_devices.specs.Blocks.{Appends};
 ghost use Rattle.cell_tiles_lines.specs.TableLines.{entry_line};
 ghost use Rattle.cell_tiles_texts.specs.parts.EntryParts.{cell_and_separator};
 
-use cell_core::block::Block;
+use cell_core::block::OutputBlock;
 use cell_core::cell::Cell;
 use cell_core::printed_cell::write_cell;
 use cell_core::sink::Sink;
@@ -14,7 +14,7 @@ use cell_stats_combinations::combination::Combo;
 use itoa::Buffer;
 
 // Writes a cell and a separator.
-fn write_field<W: Sink>(out: &mut W, block: &mut Block, format: &Format, cell: Cell)
+fn write_field<W: Sink>(out: &mut W, block: &mut OutputBlock, format: &Format, cell: Cell)
     ensures { Appends W.taken W.faults out.old block.old (cell_and_separator format.now cell)
         out.new block.new }
 {
@@ -23,7 +23,7 @@ fn write_field<W: Sink>(out: &mut W, block: &mut Block, format: &Format, cell: C
 }
 
 // Writes cells, each with a separator behind it.
-fn write_fields<W: Sink>(out: &mut W, block: &mut Block, format: &Format, cells: &[Cell])
+fn write_fields<W: Sink>(out: &mut W, block: &mut OutputBlock, format: &Format, cells: &[Cell])
     ensures { Appends W.taken W.faults out.old block.old
         (flat_map (cell_and_separator format.now) cells.now) out.new block.new }
 {
@@ -33,7 +33,7 @@ fn write_fields<W: Sink>(out: &mut W, block: &mut Block, format: &Format, cells:
 }
 
 // Writes a count.
-fn write_count<W: Sink>(out: &mut W, block: &mut Block, count: u64)
+fn write_count<W: Sink>(out: &mut W, block: &mut OutputBlock, count: u64)
     ensures { Appends W.taken W.faults out.old block.old (decimal count) out.new block.new }
 {
     block.push(out, Buffer::new().format(count).as_bytes());
@@ -42,7 +42,7 @@ fn write_count<W: Sink>(out: &mut W, block: &mut Block, count: u64)
 /// Writes the line of an entry. Takes no memory.
 pub fn write_entry<W: Sink>(
     out: &mut W,
-    block: &mut Block,
+    block: &mut OutputBlock,
     format: &Format,
     combo: &Combo,
     count: u64,

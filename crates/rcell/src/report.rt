@@ -3,7 +3,7 @@
 ghost use Rattle.std.specs.Prelude.{◌≡◌, is_some, IfSome};
 ghost use Rattle.rcell.specs.Reports.{name_at_place, fault_source, fault_line_number, text_of};
 
-use crate::runs::outcome::{Outcome, RunFault};
+use crate::outcome::{Outcome, RunFault};
 use bstr::ByteSlice;
 use cell_ascii::grid_fault::GridKind;
 use cell_core::name::Name;
@@ -58,7 +58,7 @@ fn name_at<'a>(names: &'a [Name], grid: usize) -> &'a [u8]
     }
 }
 
-fn source_of<'a>(names: &'a [Name], fault: RunFault) -> &'a [u8]
+fn fault_source<'a>(names: &'a [Name], fault: RunFault) -> &'a [u8]
     ensures { result.now ≡ fault_source names.now fault }
 {
     match fault {
@@ -73,7 +73,7 @@ fn source_of<'a>(names: &'a [Name], fault: RunFault) -> &'a [u8]
     }
 }
 
-fn line_of(fault: RunFault) -> u64
+fn fault_line_number(fault: RunFault) -> u64
     ensures { result ≡ fault_line_number fault }
 {
     match fault {
@@ -107,14 +107,17 @@ fn text_of(written: u64, fault: RunFault) -> FaultText
 /// there is no fault. A place without a name has an empty source. Takes no memory.
 pub fn fault_line<'a>(outcome: &Outcome, names: &'a [Name]) -> Option<FaultLine<'a, FaultText>>
     ensures told { is_some result ≡ is_some outcome.now.fault }
-    ensures source { IfSome result (λ told. IfSome outcome.now.fault (λ fault. told.source.now ≡ fault_source names.now fault)) }
-    ensures line { IfSome result (λ told. IfSome outcome.now.fault (λ fault. told.line ≡ fault_line_number fault)) }
-    ensures text { IfSome result (λ told. IfSome outcome.now.fault (λ fault. told.text ≡ text_of outcome.now.written fault)) }
+    ensures source { IfSome result (λ told. IfSome outcome.now.fault (λ fault. told.source.now
+        ≡ fault_source names.now fault)) }
+    ensures line { IfSome result
+        (λ told. IfSome outcome.now.fault (λ fault. told.line ≡ fault_line_number fault)) }
+    ensures text { IfSome result (λ told. IfSome outcome.now.fault (λ fault. told.text
+        ≡ text_of outcome.now.written fault)) }
 {
     match outcome.fault {
         Some(fault) => Some(FaultLine {
-            source: source_of(names, fault),
-            line: line_of(fault),
+            source: fault_source(names, fault),
+            line: fault_line_number(fault),
             text: text_of(outcome.written, fault),
         }),
         None => None,

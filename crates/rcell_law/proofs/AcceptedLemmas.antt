@@ -12,7 +12,7 @@ use Rattle.rcell_script_options.proofs.PlaceLemmas.{place_of-within}
 use Rattle.rcell_script_commands.specs.declared.command.Command.{Command}
 use Rattle.rcell_script_commands.specs.declared.command.Command.TheVariants.{Mapcalc, Reclass, Clump, Stats, OutAscii}
 use Rattle.rcell_script_commands.specs.CommandSpelling.{SpellsCommand}
-use Rattle.rcell_script.specs.Lines.{Line, script_lines, numbered}
+use Rattle.rcell_script.specs.Lines.{ScriptLine, script_lines, numbered_lines}
 use Rattle.rcell_script.specs.Scripts.{Group, none, skipped, command, reclass, IsScript}
 use Rattle.rcell_script.specs.declared.statement.Statement.{Statement}
 use Rattle.rcell.specs.runs.Accepted.{AreGrids}
@@ -28,7 +28,8 @@ spelled_can known line (Clump place target joining) h = place_of-within h.maps.i
 spelled_can known line (Stats places options) h = tt
 spelled_can known line (OutAscii place null_text) h = tt
 
-group_can : (known : List (List ℕ)) (lines : List Line) (statements : List Statement) → Group known lines statements
+group_can : (known : List (List ℕ)) (lines : List ScriptLine) (statements : List Statement)
+    → Group known lines statements
     → CanMakeAll known statements
 group_can known _ _ none = tt
 group_can known _ _ (skipped says more) = group_can known _ _ more
@@ -40,7 +41,7 @@ group_can known _ _ (reclass {place} last spells rules end more) =
 pub script_can : (known : List (List ℕ)) (text : List ℕ) (statements : List Statement) → IsScript known text statements
     → CanMakeAll known statements
 unfolding IsScript
-script_can known text statements is = group_can known (numbered 1 (script_lines text)) statements is.grouped
+script_can known text statements is = group_can known (numbered_lines 1 (script_lines text)) statements is.grouped
 
 -- ---- the maps of grids
 

@@ -15,10 +15,10 @@ use Rattle.cell_calc_operators.specs.Applied.{Spot, spot}
 use Rattle.cell_ascii_meaning.specs.Writing.{grid_text}
 use Rattle.cell_ascii_law_written.specs.WrittenLaw.{without_labels}
 use Rattle.cell_cats.specs.Rule.{RuleValue}
-use Rattle.cell_cats.specs.Reclass.{reclassed, new_rows}
+use Rattle.cell_cats.specs.Reclass.{reclassed_map, new_rows}
 use Rattle.cell_cats_areas.specs.declared.clump.Joining.{Joining}
 use Rattle.cell_cats_areas.specs.Areas.{Position, cell_at_spot, AreJoined, IsFirst, HasNumber, IsClumping}
-use Rattle.cell_stats_combinations.specs.LeftOut.{kept}
+use Rattle.cell_stats_combinations.specs.LeftOut.{kept_cells}
 use Rattle.cell_stats_combinations.specs.Combinations.{all_combinations}
 use Rattle.cell_stats.specs.CategoryTables.{table_of}
 use Rattle.cell_stats.specs.TableText.{printed_pairs}
@@ -73,7 +73,7 @@ module _ (a b : ShelfValue) (alike : AreAlike a b) where
       → stats_text a places options ≡ stats_text b places options
   same_stats places options none =
       λ i. if options.cells then flat_map (λ k. line_bare (format_of options) none a.maps b.maps places k i)
-      (kept options.skip (same_combinations places i))
+      (kept_cells options.skip (same_combinations places i))
       else flat_map (λ pair. pair_bare (format_of options) none a.maps b.maps places pair i)
       (printed_pairs options.after (table_of options.skip (same_combinations places i)))
 
@@ -182,19 +182,19 @@ module _ (a b : ShelfValue) (alike : AreAlike a b) where
 
   classes_alike : (target : List ℕ) (rules : List RuleValue) (x : ShelfValue) (o other : Option Grid)
       → option_map without_labels o ≡ option_map without_labels other
-      → IsOfMap (λ m. x ≡ with_map a target (reclassed rules m)) o
-      → (y : ShelfValue) × (IsOfMap (λ m. y ≡ with_map b target (reclassed rules m)) other × AreAlike x y)
+      → IsOfMap (λ m. x ≡ with_map a target (reclassed_map rules m)) o
+      → (y : ShelfValue) × (IsOfMap (λ m. y ≡ with_map b target (reclassed_map rules m)) other × AreAlike x y)
   classes_alike target rules x None other same h = absurd h
   classes_alike target rules x (Some m) None same h = cc
   classes_alike target rules x (Some m) (Some n) same h =
       let bares : without_labels m ≡ without_labels n = same_Some (without_labels m) (without_labels n) same in
-      let made : without_labels (reclassed rules m) ≡ without_labels (reclassed rules n) =
+      let made : without_labels (reclassed_map rules m) ≡ without_labels (reclassed_map rules n) =
       ap (λ (g : Grid). record { region = g.region; rows = new_rows rules g.rows; labels = no_labels }) bares in (
-        with_map b target (reclassed rules n),
+        with_map b target (reclassed_map rules n),
         (
           refl,
-          subst (λ (s : ShelfValue). AreAlike s (with_map b target (reclassed rules n))) (sym h)
-              (with_alike target (reclassed rules m) (reclassed rules n) made),
+          subst (λ (s : ShelfValue). AreAlike s (with_map b target (reclassed_map rules n))) (sym h)
+              (with_alike target (reclassed_map rules m) (reclassed_map rules n) made),
         ),
       )
 

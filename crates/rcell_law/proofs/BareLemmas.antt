@@ -7,7 +7,7 @@ use Rattle.std.specs.List.{zip, range_with_len}
 use Rattle.std.proofs.lemmas.Option.{slice_get-map}
 use Rattle.cell_core.specs.Grid.{Grid, CellValue, cell_at}
 use Rattle.cell_core.specs.Text.{cell_text}
-use Rattle.cell_calc_operators.specs.Applied.{Spot, negated, inverted, applied, call_result}
+use Rattle.cell_calc_operators.specs.Applied.{Spot, negated_cell, inverted_cell, operator_value, call_result}
 use Rattle.cell_calc_operators.specs.Offsets.{cell_in}
 use Rattle.cell_calc_binding.specs.Formula.{Formula, Number, Map, Negated, Not, Binary, Call, Formulas, NoTrees}
 use Rattle.cell_calc_binding.specs.Formula.{Then}
@@ -61,11 +61,11 @@ mutual
   value_bare (Map i down right) maps s =
       in_bare (slice_get maps i) (pos s.row +ℤ down) (pos s.col +ℤ right)
       ∙ ap (λ o. cell_in o (pos s.row +ℤ down) (pos s.col +ℤ right)) (sym (slice_get-map without_labels maps i))
-  value_bare (Negated a) maps s = ap negated (value_bare a maps s)
-  value_bare (Not a) maps s = ap inverted (value_bare a maps s)
+  value_bare (Negated a) maps s = ap negated_cell (value_bare a maps s)
+  value_bare (Not a) maps s = ap inverted_cell (value_bare a maps s)
   value_bare (Binary op a b) maps s =
-      ap (λ x. applied op x (value b maps s)) (value_bare a maps s)
-      ∙ ap (λ y. applied op (value a (map without_labels maps) s) y) (value_bare b maps s)
+      ap (λ x. operator_value op x (value b maps s)) (value_bare a maps s)
+      ∙ ap (λ y. operator_value op (value a (map without_labels maps) s) y) (value_bare b maps s)
   value_bare (Call g xs) maps s = ap (call_result g s) (values_bare xs maps s)
 
   values_bare : (xs : Formulas) (maps : List Grid) (s : Spot)

@@ -11,7 +11,7 @@ use Rattle.cell_calc_binding.specs.Formula.{Formula}
 use Rattle.cell_calc_binding.specs.Value.{value}
 use Rattle.cell_calc_operators.specs.Applied.{spot}
 use Rattle.cell_cats.specs.Rule.{RuleValue}
-use Rattle.cell_cats.specs.Reclass.{reclassed, new_row}
+use Rattle.cell_cats.specs.Reclass.{reclassed_map, new_row}
 use Rattle.cell_cats_areas_law.proofs.ExistsLemmas.{clumping_exists}
 use Rattle.cell_cats_areas_law.proofs.MadeLemmas.{made_map, made_filled, made_there}
 use Rattle.rcell_script_commands.specs.declared.command.Command.{Command}
@@ -47,7 +47,7 @@ values_exist bound shelf =
 -- ---- a map by rules
 
 pub classes_filled : (rules : List RuleValue) (m : Grid) → IsFilled m.region m.rows → IsFilled m.region
-    (reclassed rules m).rows
+    (reclassed_map rules m).rows
 classes_filled rules m h = record {
   count = length-map m.rows (new_row rules) ∙ h.count;
   width = All-map (λ (row : List CellValue). length row ≡ m.region.cols) (new_row rules) m.rows (wide m.rows h.width);
@@ -117,11 +117,11 @@ after_exists shelf (Reclass place target rules) h can =
     let there = map_there shelf place h can in
     let m : Grid = there.0 in
     record {
-      after = with_map shelf target (reclassed rules m);
+      after = with_map shelf target (reclassed_map rules m);
       is_after = subst (λ (o : Option Grid). IsOfMap
-          (λ n. with_map shelf target (reclassed rules m) ≡ with_map shelf target (reclassed rules n)) o)
+          (λ n. with_map shelf target (reclassed_map rules m) ≡ with_map shelf target (reclassed_map rules n)) o)
           (sym there.1.0) refl;
-      has_maps = with_more shelf target (reclassed rules m) h there.1.1.0 (classes_filled rules m there.1.1.1);
+      has_maps = with_more shelf target (reclassed_map rules m) h there.1.1.0 (classes_filled rules m there.1.1.1);
       names = refl;
     }
 after_exists shelf (Clump place target joining) h can =

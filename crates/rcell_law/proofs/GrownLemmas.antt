@@ -11,14 +11,14 @@ use Rattle.cell_core_values.proofs.NameLemmas.{AreDistinct-push}
 use Rattle.cell_core.specs.Grid.{Grid}
 use Rattle.cell_core.specs.Shelf.{ShelfValue}
 use Rattle.cell_cats.specs.Rule.{RuleValue}
-use Rattle.cell_cats.specs.Reclass.{reclassed}
+use Rattle.cell_cats.specs.Reclass.{reclassed_map}
 use Rattle.cell_cats_areas.specs.declared.clump.Joining.{Joining}
 use Rattle.cell_cats_areas.proofs.LawLemmas.{clumping_is_one}
 use Rattle.rcell_script_commands.specs.CommandSpelling.{SpellsCommand}
 use Rattle.rcell_script_commands.specs.declared.command.Command.{Command}
 use Rattle.rcell_script_commands.specs.declared.command.Command.TheVariants.{Mapcalc, Reclass, Clump, Stats, OutAscii}
 use Rattle.rcell_script.specs.KnownMaps.{known_after}
-use Rattle.rcell_script.specs.Lines.{Line, script_lines, numbered}
+use Rattle.rcell_script.specs.Lines.{ScriptLine, script_lines, numbered_lines}
 use Rattle.rcell_script.specs.Scripts.{Group, none, skipped, command, reclass, IsScript}
 use Rattle.rcell_script.specs.declared.statement.Statement.{Statement}
 use Rattle.rcell_making.specs.Making.{AreNumbers, IsOfMap, with_map}
@@ -46,7 +46,8 @@ spelled_new known line (Clump place target joining) h = h.maps.made
 spelled_new known line (Stats places options) h = tt
 spelled_new known line (OutAscii place null_text) h = tt
 
-group_new : (known : List (List ℕ)) (lines : List Line) (statements : List Statement) → Group known lines statements
+group_new : (known : List (List ℕ)) (lines : List ScriptLine) (statements : List Statement)
+    → Group known lines statements
     → AreNewTo known statements
 group_new known _ _ none = tt
 group_new known _ _ (skipped says more) = group_new known _ _ more
@@ -57,7 +58,7 @@ group_new known _ _ (reclass last spells rules end more) = (spells.maps.made, gr
 pub script_new : (known : List (List ℕ)) (text : List ℕ) (statements : List Statement) → IsScript known text statements
     → AreNewTo known statements
 unfolding IsScript
-script_new known text statements is = group_new known (numbered 1 (script_lines text)) statements is.grouped
+script_new known text statements is = group_new known (numbered_lines 1 (script_lines text)) statements is.grouped
 
 -- ---- the shelf grows
 
@@ -109,10 +110,11 @@ module _ (region : RegionValue) (shelf : ShelfValue) (is : IsOrdered region shel
 
   grown_by_classes : (place : ℕ) (target : List ℕ) (rules : List RuleValue) (after : ShelfValue) (o : Option Grid)
       → slice_get shelf.maps place ≡ o → place_of target shelf.names ≡ None
-      → IsOfMap (λ m. after ≡ with_map shelf target (reclassed rules m)) o → HasGrown region shelf after
+      → IsOfMap (λ m. after ≡ with_map shelf target (reclassed_map rules m)) o → HasGrown region shelf after
   grown_by_classes place target rules after None there new h = absurd h
   grown_by_classes place target rules after (Some m) there new h =
-      subst (HasGrown region shelf) (sym h) (grown_by_one target (reclassed rules m) new (region_there place m there))
+      subst (HasGrown region shelf) (sym h)
+      (grown_by_one target (reclassed_map rules m) new (region_there place m there))
 
   numbers_region : (place : ℕ) (joining : Joining) (made : Grid) (o : Option Grid) → slice_get shelf.maps place ≡ o
       → IsOfMap (λ m. AreNumbers joining m made) o → made.region ≡ region
@@ -149,7 +151,7 @@ pub names_after : (shelf : ShelfValue) (c : Command) (after : ShelfValue) → Is
 names_after shelf (Mapcalc target bound) after h = ap (λ (s : ShelfValue). s.names) h.1.1
 names_after shelf (Reclass place target rules) after h = by (slice_get shelf.maps place) h
   where
-    by : (o : Option Grid) → IsOfMap (λ m. after ≡ with_map shelf target (reclassed rules m)) o
+    by : (o : Option Grid) → IsOfMap (λ m. after ≡ with_map shelf target (reclassed_map rules m)) o
         → after.names ≡ shelf.names ++ target ∷ []
     by None h = absurd h
     by (Some m) h = ap (λ (s : ShelfValue). s.names) h

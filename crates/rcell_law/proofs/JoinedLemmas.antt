@@ -8,7 +8,7 @@ use Rattle.cell_core.specs.Shelf.{ShelfValue}
 use Rattle.cell_cats.specs.Rule.{RuleValue}
 use Rattle.rcell_script_commands.specs.declared.command.Command.TheVariants.{Reclass}
 use Rattle.rcell_script.specs.KnownMaps.{known_after}
-use Rattle.rcell_script.specs.Lines.{Line, script_lines, numbered}
+use Rattle.rcell_script.specs.Lines.{ScriptLine, script_lines, numbered_lines}
 use Rattle.rcell_script.specs.ReclassRules.{AreRules}
 use Rattle.rcell_script.specs.ReclassRules as rules
 use Rattle.rcell_script.specs.Scripts.{Group, none, skipped, command, reclass, IsScript}
@@ -32,7 +32,8 @@ names_after_all (s ∷ ss) shelf after text (next, (rest, (step, (others, same))
     (names_after shelf s.command next step)
 
 -- lines that group, and then lines that group over the maps that are known after them
-group_both : (known : List (List ℕ)) (xs : List Line) (one : List Statement) (ys : List Line) (two : List Statement)
+group_both : (known : List (List ℕ)) (xs : List ScriptLine) (one : List Statement) (ys : List ScriptLine)
+    (two : List Statement)
     → Group known xs one → Group (known_after_all known one) ys two → Group known (xs ++ ys) (one ++ two)
 group_both known _ _ ys two none k = k
 group_both known _ _ ys two (skipped says more) k = skipped says (group_both known _ _ ys two more k)
@@ -40,7 +41,7 @@ group_both known _ _ ys two (command spells more) k = command spells (group_both
 group_both known _ _ ys two
     (reclass {line} {inner} {lines} {place} {target} {rules = given} {statements} last spells are end more) k =
     let rest = group_both (known ++ target ∷ []) lines statements ys two more k in
-    subst (λ (ls : List Line). Group known (line ∷ ls)
+    subst (λ (ls : List ScriptLine). Group known (line ∷ ls)
     (record { line = line.number; command = Reclass place target given } ∷ (statements ++ two)))
     (sym (append_assoc inner (last ∷ lines) ys)) (reclass last spells are end rest)
 
@@ -48,13 +49,13 @@ group_both known _ _ ys two
 abbrev statement_later : ℕ → Statement → Statement
 statement_later n s = record { line = n + s.line; command = s.command }
 
-rules_later : (n : ℕ) (lines : List Line) (given : List RuleValue) → AreRules lines given → AreRules
+rules_later : (n : ℕ) (lines : List ScriptLine) (given : List RuleValue) → AreRules lines given → AreRules
     (map (line_later n) lines) given
 rules_later n _ _ rules.none = rules.none
 rules_later n _ _ (rules.skipped says more) = rules.skipped says (rules_later n _ _ more)
 rules_later n _ _ (rules.rule spells more) = rules.rule spells (rules_later n _ _ more)
 
-group_later : (n : ℕ) (known : List (List ℕ)) (lines : List Line) (statements : List Statement)
+group_later : (n : ℕ) (known : List (List ℕ)) (lines : List ScriptLine) (statements : List Statement)
     → Group known lines statements → Group known (map (line_later n) lines) (map (statement_later n) statements)
 group_later n known _ _ none = none
 group_later n known _ _ (skipped says more) = skipped says (group_later n known _ _ more)
@@ -62,7 +63,7 @@ group_later n known _ _ (command spells more) = command spells (group_later n _ 
 group_later n known _ _ (reclass {line} {inner} {lines} {place} {target} {rules =
     given} {statements} last spells are end more) =
     let rest = group_later n (known ++ target ∷ []) lines statements more in
-    subst (λ (ls : List Line). Group known (line_later n line ∷ ls)
+    subst (λ (ls : List ScriptLine). Group known (line_later n line ∷ ls)
     (record { line = n + line.number; command = Reclass place target given } ∷ map (statement_later n) statements))
     (sym (map-append (line_later n) inner (last ∷ lines)))
     (reclass {line = line_later n line} (line_later n last) spells (rules_later n inner given are) end rest)
@@ -74,17 +75,18 @@ unfolding IsScript
 script_both known text front back one two ends first second =
     let n = length (script_lines text) in
     let lines = script_lines_joined text front back ends in
-    let later = group_later n (known_after_all known one) (numbered 1 (script_lines back)) two second.grouped in
-    let here : Group (known_after_all known one) (numbered (n + 1) (script_lines back)) (map (statement_later n) two) =
-    subst (λ (ls : List Line). Group (known_after_all known one) ls (map (statement_later n) two))
+    let later = group_later n (known_after_all known one) (numbered_lines 1 (script_lines back)) two second.grouped in
+    let here : Group (known_after_all known one) (numbered_lines (n + 1) (script_lines back))
+    (map (statement_later n) two) =
+    subst (λ (ls : List ScriptLine). Group (known_after_all known one) ls (map (statement_later n) two))
     (sym (numbered_later n 1 (script_lines back))) later in
-    let both = group_both known (numbered 1 (script_lines text)) one (numbered (n + 1) (script_lines back))
+    let both = group_both known (numbered_lines 1 (script_lines text)) one (numbered_lines (n + 1) (script_lines back))
     (map (statement_later n) two) first.grouped here in
     record {
       short = subst (All (λ l. length l ≤ 65535)) (sym lines)
           (All-append (λ l. length l ≤ 65535) (script_lines text) (script_lines back) first.short second.short);
-      grouped = subst (λ (ls : List Line). Group known ls (one ++ map (statement_later n) two))
-          (sym (numbered_both 1 (script_lines text) (script_lines back)) ∙ ap (numbered 1) (sym lines)) both;
+      grouped = subst (λ (ls : List ScriptLine). Group known ls (one ++ map (statement_later n) two))
+          (sym (numbered_both 1 (script_lines text) (script_lines back)) ∙ ap (numbered_lines 1) (sym lines)) both;
     }
 
 -- ---- what is written does not depend on numbers of lines

@@ -4,7 +4,7 @@ use Rattle.std.proofs.Common.{length, map, take, drop, refl, ap, sym, ◌∙◌,
 use Rattle.std.proofs.lemmas.Bool.{cases_lt}
 use Rattle.std.proofs.lemmas.List.{take-append-le, drop-append-le, drop_all, length-drop, map-append}
 use Rattle.bstr.specs.Text.{line_len, lines_from, lines_of, without_terminator}
-use Rattle.rcell_script.specs.Lines.{script_lines, Line, numbered}
+use Rattle.rcell_script.specs.Lines.{script_lines, ScriptLine, numbered_lines}
 
 -- ---- the first line of a text that ends at a line's end
 
@@ -140,22 +140,23 @@ script_lines_joined text front back ends =
 
 -- ---- numbers of lines
 
-pub numbered_both : (first : ℕ) (xs ys : List (List ℕ)) → numbered first (xs ++ ys) ≡ numbered first xs ++ numbered
+pub numbered_both : (first : ℕ) (xs ys : List (List ℕ))
+    → numbered_lines first (xs ++ ys) ≡ numbered_lines first xs ++ numbered_lines
     (length xs + first) ys
-numbered_both first [] ys = let e : first ≡ 0 + first = omega arith in ap (λ (n : ℕ). numbered n ys) e
+numbered_both first [] ys = let e : first ≡ 0 + first = omega arith in ap (λ (n : ℕ). numbered_lines n ys) e
 numbered_both first (x ∷ xs) ys =
     let e : length xs + (first + 1) ≡ suc (length xs) + first = omega arith in
-    ap (λ (ls : List Line). record { number = first; bytes = x } ∷ ls)
-    (numbered_both (first + 1) xs ys ∙ ap (λ (n : ℕ). numbered (first + 1) xs ++ numbered n ys) e)
+    ap (λ (ls : List ScriptLine). record { number = first; bytes = x } ∷ ls)
+    (numbered_both (first + 1) xs ys ∙ ap (λ (n : ℕ). numbered_lines (first + 1) xs ++ numbered_lines n ys) e)
 
 -- a line so many lines further down
-abbrev pub line_later : ℕ → Line → Line
+abbrev pub line_later : ℕ → ScriptLine → ScriptLine
 line_later n line = record { number = n + line.number; bytes = line.bytes }
 
-pub numbered_later : (n first : ℕ) (xs : List (List ℕ)) → numbered (n + first) xs ≡ map (line_later n)
-    (numbered first xs)
+pub numbered_later : (n first : ℕ) (xs : List (List ℕ)) → numbered_lines (n + first) xs ≡ map (line_later n)
+    (numbered_lines first xs)
 numbered_later n first [] = refl
 numbered_later n first (x ∷ xs) =
     let e : n + first + 1 ≡ n + (first + 1) = omega arith in
-    ap (λ (ls : List Line). record { number = n + first; bytes = x } ∷ ls)
-    (ap (λ (k : ℕ). numbered k xs) e ∙ numbered_later n (first + 1) xs)
+    ap (λ (ls : List ScriptLine). record { number = n + first; bytes = x } ∷ ls)
+    (ap (λ (k : ℕ). numbered_lines k xs) e ∙ numbered_later n (first + 1) xs)

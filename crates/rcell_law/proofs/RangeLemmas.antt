@@ -16,10 +16,12 @@ use Rattle.cell_calc_tokens.specs.declared.function.Function.{Function}
 use Rattle.cell_calc_tokens.specs.declared.function.Function.TheVariants as function
 use Rattle.cell_calc_tokens.specs.declared.operator.Operator.{Operator}
 use Rattle.cell_calc_tokens.specs.declared.operator.Operator.TheVariants as operator
-use Rattle.cell_calc_operators.specs.Applied.{Spot, applied, call_result}
-use Rattle.cell_calc_operators.specs.CellOperators.{is_category, fit, is_zero, is_null, truth, of_one, of_both}
-use Rattle.cell_calc_operators.specs.CellOperators.{is_false, is_true, chosen, lesser, greater, least, greatest_cell}
-use Rattle.cell_calc_operators.specs.CellOperators.{known, most_frequent}
+use Rattle.cell_calc_operators.specs.Applied.{Spot, operator_value, call_result}
+use Rattle.cell_calc_operators.specs.CellOperators.{fit, is_zero, is_null, truth, of_one, of_both}
+use Rattle.cell_core_values.specs.Cell.{is_category}
+use Rattle.cell_calc_operators.specs.CellOperators.{is_false, is_true, chosen_cell, lesser, greater, least}
+use Rattle.cell_calc_operators.specs.CellOperators.{greatest_cell}
+use Rattle.cell_calc_operators.specs.CellOperators.{known_cells, most_frequent}
 use Rattle.cell_calc_operators.specs.CellOperators.{is_most_frequent, first_known, if_of}
 use Rattle.cell_calc_operators.specs.Offsets.{item_at, cell_in}
 use Rattle.cell_calc_operators.proofs.Fit.{fit_number}
@@ -74,7 +76,7 @@ divided_in g a b =
 tested_in : (t : ℤ → ℤ → Bool) (a b : CellValue) → InRange (of_both (λ x y. truth (t x y)) a b)
 tested_in t a b = both_in (λ x y. truth (t x y)) (λ x y. truth_in (t x y)) a b
 
-applied_in : (op : Operator) (a b : CellValue) → InRange (applied op a b)
+applied_in : (op : Operator) (a b : CellValue) → InRange (operator_value op a b)
 applied_in operator.Times a b = fitted_in (λ x y. x *ℤ y) a b
 applied_in operator.Divide a b = divided_in int_div a b
 applied_in operator.Modulo a b = divided_in (λ x y. x -ℤ (y *ℤ int_div x y)) a b
@@ -99,7 +101,7 @@ applied_in operator.KnownOr a b =
 
 -- ---- functions
 
-chosen_in : (x a b : CellValue) → InRange a → InRange b → InRange (chosen x a b)
+chosen_in : (x a b : CellValue) → InRange a → InRange b → InRange (chosen_cell x a b)
 chosen_in None a b h k = tt
 chosen_in (Some x) a b h k = if_in (is_zero x) b a k h
 
@@ -131,7 +133,7 @@ greatest_in : (xs : List CellValue) → All InRange xs → InRange (greatest_cel
 greatest_in [] all = tt
 greatest_in (x ∷ xs) all = fold_in greater greater_in x xs (All-head InRange x xs all) (All-tail InRange x xs all)
 
-known_in : (xs : List CellValue) → All InRange xs → All InRange (known xs)
+known_in : (xs : List CellValue) → All InRange xs → All InRange (known_cells xs)
 known_in xs all = All-filter (λ a. not (is_null a)) InRange xs all
 
 frequent_in : (xs : List CellValue) → All InRange xs → InRange (most_frequent xs)
@@ -175,9 +177,9 @@ result_in function.Column s xs is all = number_in (s.col + 1) (let a = is.col in
 result_in function.RowCount s xs is all = number_in s.rows (let b = is.rows in omega (arith, b))
 result_in function.ColumnCount s xs is all = number_in s.cols (let b = is.cols in omega (arith, b))
 result_in function.Eval s xs is all = item_in xs (length xs - 1) all
-result_in function.KnownMin s xs is all = least_in (known xs) (known_in xs all)
-result_in function.KnownMax s xs is all = greatest_in (known xs) (known_in xs all)
-result_in function.KnownMode s xs is all = frequent_in (known xs) (known_in xs all)
+result_in function.KnownMin s xs is all = least_in (known_cells xs) (known_in xs all)
+result_in function.KnownMax s xs is all = greatest_in (known_cells xs) (known_in xs all)
+result_in function.KnownMode s xs is all = frequent_in (known_cells xs) (known_in xs all)
 
 -- ---- expressions
 

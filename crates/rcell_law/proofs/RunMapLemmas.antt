@@ -14,21 +14,21 @@ use Rattle.cell_core_values.specs.Region.{RegionValue, IsRegion, region_fault, i
 use Rattle.cell_core_values.specs.Region.{most_side, most_cells}
 use Rattle.cell_core_values.specs.declared.region.RegionFault.TheVariants.{BadExtent, BadRows, BadCols, TooManyCells}
 use Rattle.cell_core_devices.specs.Device.{Coming}
-use Rattle.cell_core_text.specs.Blanks.{trimmed}
+use Rattle.cell_core_text.specs.Blanks.{trimmed_text}
 use Rattle.cell_core_text.specs.WholeNumbers.{whole_number, whole_in_range, is_in_range}
 use Rattle.cell_core.specs.Grid.{Grid, CellValue, IsFilled, cell_at}
 use Rattle.cell_core.specs.Shelf.{ShelfValue}
 use Rattle.cell_ascii_meaning.specs.GridText.{Denotes, data_words, line_words}
 use Rattle.cell_ascii_meaning.specs.declared.grid_fault.GridKind.{GridKind}
 use Rattle.cell_ascii_meaning.specs.declared.grid_fault.GridKind.TheVariants.{CellRange}
-use Rattle.cell_ascii_meaning.specs.GridWords.{Header, cell_of_number, cell_of_word}
+use Rattle.cell_ascii_meaning.specs.GridWords.{HeaderValue, cell_of_number, cell_of_word}
 use Rattle.cell_ascii_law_written.specs.WrittenLaw.{IsWritable}
 use Rattle.cell_ascii_law_written.proofs.WritingNumberLemmas.{whole_back, in_range_low}
 use Rattle.cell_calc_operators.specs.Applied.{spot}
 use Rattle.cell_calc_binding.specs.Formula.{Formula}
 use Rattle.cell_cats.specs.Rule.{RuleValue, last_such, last_output, outcome, new_category, lists, is_star_rule}
 use Rattle.cell_cats.specs.RuleLine.{SpellsOutput, output_word, SpellsRule}
-use Rattle.cell_cats.specs.Reclass.{reclassed, new_row}
+use Rattle.cell_cats.specs.Reclass.{reclassed_map, new_row}
 use Rattle.cell_cats.specs.declared.rule.Output.{Output}
 use Rattle.cell_cats.specs.declared.rule.Output.TheVariants.{Same, To}
 use Rattle.cell_cats_areas.specs.declared.clump.Joining.{Joining}
@@ -54,7 +54,7 @@ use Rattle.rcell_script_commands.specs.CommandSpelling.{SpellsCommand}
 use Rattle.rcell_script_commands.specs.RMapcalc.{assignment_text}
 use Rattle.rcell_script_commands.specs.declared.command.Command.{Command}
 use Rattle.rcell_script_commands.specs.declared.command.Command.TheVariants.{Mapcalc, Reclass, Clump, Stats, OutAscii}
-use Rattle.rcell_script.specs.Lines.{Line, script_lines, numbered}
+use Rattle.rcell_script.specs.Lines.{ScriptLine, script_lines, numbered_lines}
 use Rattle.rcell_script.specs.Scripts as scripts
 use Rattle.rcell_script.specs.Scripts.{Group, IsScript}
 use Rattle.rcell_script.specs.declared.statement.Statement.{Statement}
@@ -100,9 +100,9 @@ good_output word (To None) spells = tt
 good_output word (To (Some category)) spells = subst InRange spells (whole_in word)
 
 good_rule : (line : List ℕ) (rule : RuleValue) → SpellsRule line rule → IsGoodOutput rule.output
-good_rule line rule spells = good_output (output_word (trimmed spells.right)) rule.output spells.output
+good_rule line rule spells = good_output (output_word (trimmed_text spells.right)) rule.output spells.output
 
-pub good_rules : (lines : List Line) (given : List RuleValue) → AreRules lines given → AreGoodRules given
+pub good_rules : (lines : List ScriptLine) (given : List RuleValue) → AreRules lines given → AreGoodRules given
 good_rules _ _ rules.none = All-nil (λ rule. IsGoodOutput rule.output)
 good_rules _ _ (rules.skipped says more) = good_rules _ _ more
 good_rules _ _ (rules.rule {line} {first} {rules = others} spells more) =
@@ -205,7 +205,7 @@ numbers_in j m made filled is made_filled clumping = cells_in made made_filled
 
 -- ---- maps of grids
 
-word_in : (h : Header) (word : List ℕ) (cell : CellValue) → cell_of_word h word ≡ Ok cell → InRange cell
+word_in : (h : HeaderValue) (word : List ℕ) (cell : CellValue) → cell_of_word h word ≡ Ok cell → InRange cell
 word_in h word cell e = by (bytes_eq word h.null_text) (whole_number word) e
   where
     good : Result CellValue GridKind → Type 0
@@ -347,7 +347,8 @@ abbrev AreGood : List Statement → Type 0
 AreGood [] = Unit {0}
 AreGood (s ∷ ss) = IsGood s.command × AreGood ss
 
-group_good : (known : List (List ℕ)) (lines : List Line) (statements : List Statement) → Group known lines statements
+group_good : (known : List (List ℕ)) (lines : List ScriptLine) (statements : List Statement)
+    → Group known lines statements
     → AreGood statements
 group_good known _ _ scripts.none = tt
 group_good known _ _ (scripts.skipped says more) = group_good known _ _ more
@@ -359,7 +360,7 @@ group_good known _ _ (scripts.reclass {inner} {rules = given} last spells are en
 script_good : (known : List (List ℕ)) (text : List ℕ) (statements : List Statement) → IsScript known text statements
     → AreGood statements
 unfolding IsScript
-script_good known text statements is = group_good known (numbered 1 (script_lines text)) statements is.grouped
+script_good known text statements is = group_good known (numbered_lines 1 (script_lines text)) statements is.grouped
 
 -- ---- the maps after statements
 
@@ -405,7 +406,7 @@ module _ (region : RegionValue) (is : IsRegion region) where
       }
 
   reclassed_sound : (given : List RuleValue) (m : Grid) → AreGoodRules given → IsSound region m → IsSound region
-      (reclassed given m)
+      (reclassed_map given m)
   reclassed_sound given m good h = record {
     region_is = h.region_is;
     filled = classes_filled given m h.filled;
@@ -419,10 +420,10 @@ module _ (region : RegionValue) (is : IsRegion region) where
   after_sound shelf (Reclass place target given) after good h step = by (slice_get shelf.maps place) refl step
     where
       by : (o : Option Grid) → slice_get shelf.maps place ≡ o → IsOfMap
-          (λ m. after ≡ with_map shelf target (reclassed given m)) o → AreSound after
+          (λ m. after ≡ with_map shelf target (reclassed_map given m)) o → AreSound after
       by None there k = absurd k
       by (Some m) there k =
-          subst AreSound (sym k) (with_sound shelf target (reclassed given m) h
+          subst AreSound (sym k) (with_sound shelf target (reclassed_map given m) h
           (reclassed_sound given m good (sound_there shelf.maps place m h.maps there)))
   after_sound shelf (Clump place target joining) after good h step =
       subst AreSound (sym step.1.1) (with_sound shelf target step.0 h (by (slice_get shelf.maps place) refl step.1.0))

@@ -15,7 +15,7 @@ use Rattle.cell_ascii_meaning.specs.CellTexts.{grid_of}
 use Rattle.rcell_loading.specs.Sources.{Named, Tell}
 use Rattle.rcell_loading.specs.RunFaults.{IsOfInput, IsOfGrid, IsBeforeExecution, NamesItsGrid}
 use Rattle.rcell_loading.specs.parts.Refused.{of_shelf}
-use Rattle.rcell_loading.specs.Loading.{added, shelf_placed, with_grid, shelf_from, then_grids}
+use Rattle.rcell_loading.specs.Loading.{shelf_with_map, shelf_placed, with_grid, shelf_from, then_grids}
 use Rattle.rcell_loading.specs.declared.run_fault.RunFault.{RunFault}
 use Rattle.rcell_loading.specs.declared.run_fault.RunFault.TheVariants.{GridRegion, GridTwice}
 
@@ -24,25 +24,25 @@ differs true apart = absurd (apart refl)
 differs false apart = refl
 
 -- another region is refused
-pub added-other : (grid : ℕ) (shelf : ShelfValue) (name : List ℕ) (map : Grid) → place_of name shelf.names ≡ None → map.region ≢ shelf.region → added grid shelf name map (place_of name shelf.names) ≡ Err (GridRegion grid)
+pub added-other : (grid : ℕ) (shelf : ShelfValue) (name : List ℕ) (map : Grid) → place_of name shelf.names ≡ None → map.region ≢ shelf.region → shelf_with_map grid shelf name map (place_of name shelf.names) ≡ Err (GridRegion grid)
 added-other grid shelf name map free apart =
     let other : is_same_region map.region shelf.region ≡ false = differs _ (λ t. apart ((is_same_region-Decides map.region shelf.region).0 t)) in
     rw (free, other) refl
 
 -- a map of the shelf's region, under a new name, goes last
-pub added-same : (grid : ℕ) (shelf : ShelfValue) (name : List ℕ) (map : Grid) → place_of name shelf.names ≡ None → map.region ≡ shelf.region → added grid shelf name map (place_of name shelf.names) ≡ Ok (record shelf { names = shelf.names ++ name ∷ []; maps = shelf.maps ++ map ∷ [] })
+pub added-same : (grid : ℕ) (shelf : ShelfValue) (name : List ℕ) (map : Grid) → place_of name shelf.names ≡ None → map.region ≡ shelf.region → shelf_with_map grid shelf name map (place_of name shelf.names) ≡ Ok (record shelf { names = shelf.names ++ name ∷ []; maps = shelf.maps ++ map ∷ [] })
 added-same grid shelf name map free same =
     let same_test : is_same_region map.region shelf.region ≡ true = (is_same_region-Decides map.region shelf.region).1 same in
     rw (free, same_test) refl
 
 -- a name that stands already is refused
-pub added-twice : (grid : ℕ) (shelf : ShelfValue) (name : List ℕ) (map : Grid) (o : Option ℕ) → IsSome o → added grid shelf name map o ≡ Err (GridTwice grid)
+pub added-twice : (grid : ℕ) (shelf : ShelfValue) (name : List ℕ) (map : Grid) (o : Option ℕ) → IsSome o → shelf_with_map grid shelf name map o ≡ Err (GridTwice grid)
 added-twice grid shelf name map None some = cc
 added-twice grid shelf name map (Some place) some = refl
 
 -- what the shelf refuses is the fault of the grid
 pub added-refused : (grid : ℕ) (shelf : ShelfValue) (name : List ℕ) (map : Grid) (fault : ShelfFault) → IsMapRefused shelf name map fault → IsOfInput (of_shelf grid fault)
-    → added grid shelf name map (place_of name shelf.names) ≡ Err (of_shelf grid fault)
+    → shelf_with_map grid shelf name map (place_of name shelf.names) ≡ Err (of_shelf grid fault)
 added-refused grid shelf name map Exists reason input = added-twice grid shelf name map _ reason
 added-refused grid shelf name map OtherRegion reason input = added-other grid shelf name map reason.0 reason.1
 added-refused grid shelf name map Memory reason input = absurd input
@@ -64,25 +64,25 @@ refused-whose grid OtherRegion = refl
 refused-whose grid Memory = tt
 
 -- the first map makes the shelf
-pub added-first : (grid : ℕ) (region : RegionValue) (name : List ℕ) (map : Grid) → map.region ≡ region → added grid (record { region = region; names = []; maps = [] }) name map None ≡ Ok (record { region = region; names = name ∷ []; maps = map ∷ [] })
+pub added-first : (grid : ℕ) (region : RegionValue) (name : List ℕ) (map : Grid) → map.region ≡ region → shelf_with_map grid (record { region = region; names = []; maps = [] }) name map None ≡ Ok (record { region = region; names = name ∷ []; maps = map ∷ [] })
 added-first grid region name map same =
     let same_test : is_same_region map.region region ≡ true = (is_same_region-Decides map.region region).1 same in
     rw same_test refl
 
 pub first_ok : (r : Result ShelfValue RunFault) (grid : ℕ) (region : RegionValue) (shelf : ShelfValue) (name : List ℕ) (map : Grid) → shelf ≡ record { region = region; names = []; maps = [] } → region ≡ map.region
-    → IfOk r (λ s. added grid shelf name map (place_of name shelf.names) ≡ Ok s) → IfOk r (λ s. shelf_placed grid None name map ≡ Ok s)
+    → IfOk r (λ s. shelf_with_map grid shelf name map (place_of name shelf.names) ≡ Ok s) → IfOk r (λ s. shelf_placed grid None name map ≡ Ok s)
 first_ok (Err f) grid region shelf name map is same h = tt
 first_ok (Ok s) grid region shelf name map is same h =
-    let told : added grid (record { region = region; names = []; maps = [] }) name map None ≡ Ok s = ap (λ (s : ShelfValue). added grid s name map (place_of name s.names)) (sym is) ∙ h in
+    let told : shelf_with_map grid (record { region = region; names = []; maps = [] }) name map None ≡ Ok s = ap (λ (s : ShelfValue). shelf_with_map grid s name map (place_of name s.names)) (sym is) ∙ h in
     let taken = added-first grid region name map (sym same) in
     ap (λ r. Ok (record { region = r; names = name ∷ []; maps = map ∷ [] })) (sym same) ∙ sym taken ∙ told
 
 -- the first map is not refused
 pub first_fault : (r : Result ShelfValue RunFault) (grid : ℕ) (region : RegionValue) (shelf : ShelfValue) (name : List ℕ) (map : Grid) → shelf ≡ record { region = region; names = []; maps = [] } → region ≡ map.region
-    → IfErr r (λ f. IsOfInput f → added grid shelf name map (place_of name shelf.names) ≡ Err f) → IfErr r (λ f. IsOfInput f → shelf_placed grid None name map ≡ Err f)
+    → IfErr r (λ f. IsOfInput f → shelf_with_map grid shelf name map (place_of name shelf.names) ≡ Err f) → IfErr r (λ f. IsOfInput f → shelf_placed grid None name map ≡ Err f)
 first_fault (Ok s) grid region shelf name map is same h = tt
 first_fault (Err f) grid region shelf name map is same h = λ input.
-    let told : added grid (record { region = region; names = []; maps = [] }) name map None ≡ Err f = ap (λ (s : ShelfValue). added grid s name map (place_of name s.names)) (sym is) ∙ h input in
+    let told : shelf_with_map grid (record { region = region; names = []; maps = [] }) name map None ≡ Err f = ap (λ (s : ShelfValue). shelf_with_map grid s name map (place_of name s.names)) (sym is) ∙ h input in
     let taken = added-first grid region name map (sym same) in
     cc
 

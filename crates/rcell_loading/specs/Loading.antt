@@ -15,14 +15,14 @@ abbrev pub shelf_of_one : List ℕ → Grid → ShelfValue
 shelf_of_one name map = record { region = map.region; names = name ∷ []; maps = map ∷ [] }
 
 -- a name that stands already is told before another region
-abbrev pub added : ℕ → ShelfValue → List ℕ → Grid → Option ℕ → Result ShelfValue RunFault
-added grid shelf name map (Some place) = Err (faults.GridTwice grid)
-added grid shelf name map None = if is_same_region map.region shelf.region then Ok (record shelf { names = shelf.names ++ name ∷ []; maps = shelf.maps ++ map ∷ [] }) else Err (faults.GridRegion grid)
+abbrev pub shelf_with_map : ℕ → ShelfValue → List ℕ → Grid → Option ℕ → Result ShelfValue RunFault
+shelf_with_map grid shelf name map (Some place) = Err (faults.GridTwice grid)
+shelf_with_map grid shelf name map None = if is_same_region map.region shelf.region then Ok (record shelf { names = shelf.names ++ name ∷ []; maps = shelf.maps ++ map ∷ [] }) else Err (faults.GridRegion grid)
 
 -- the shelf with one more map, where there is a shelf
 abbrev pub shelf_placed : ℕ → Option ShelfValue → List ℕ → Grid → Result ShelfValue RunFault
 shelf_placed grid None name map = Ok (shelf_of_one name map)
-shelf_placed grid (Some shelf) name map = added grid shelf name map (place_of name shelf.names)
+shelf_placed grid (Some shelf) name map = shelf_with_map grid shelf name map (place_of name shelf.names)
 
 -- the shelf with the grid in place `grid`
 abbrev pub with_grid : ℕ → Option ShelfValue → List ℕ → Result Grid GridFault → Result ShelfValue RunFault

@@ -4,7 +4,7 @@ ghost use Rattle.std.specs.Prelude.{ℕ, ◌≡◌, ◌+◌, ◌<◌, List, IfOk
 ghost use Rattle.cell_core_values.specs.Name.{place_of};
 ghost use Rattle.cell_ascii_meaning.specs.CellTexts.{grid_of};
 ghost use Rattle.rcell_loading.specs.RunFaults.{IsOfInput, IsOfGrid, IsBeforeExecution, NamesItsGrid};
-ghost use Rattle.rcell_loading.specs.Loading.{added, shelf_placed, with_grid, shelf_of};
+ghost use Rattle.rcell_loading.specs.Loading.{shelf_with_map, shelf_placed, with_grid, shelf_of};
 ghost use Rattle.rcell_loading.specs.Sources.{Named, Tell};
 ghost use Rattle.rcell_loading.specs.parts.Refused.{of_shelf};
 
@@ -29,9 +29,16 @@ fn of_shelf(grid: usize, fault: ShelfFault) -> RunFault
 }
 
 // The shelf with one more map.
-fn added(mut shelf: Shelf, grid: usize, name: Name, map: CellMap) -> Result<Shelf, RunFault>
-    ensures ok { IfOk result (λ s. added grid shelf name map (place_of name shelf.names) ≡ Ok s) }
-    ensures fault { IfErr result (λ f. IsOfInput f → added grid shelf name map (place_of name shelf.names) ≡ Err f) }
+fn shelf_with_map(
+    mut shelf: Shelf,
+    grid: usize,
+    name: Name,
+    map: CellMap,
+) -> Result<Shelf, RunFault>
+    ensures ok { IfOk result (λ s. shelf_with_map grid shelf name map (place_of name shelf.names)
+        ≡ Ok s) }
+    ensures fault { IfErr result (λ f. IsOfInput f
+        → shelf_with_map grid shelf name map (place_of name shelf.names) ≡ Err f) }
     ensures early { IfErr result IsBeforeExecution }
     ensures told { (count : ℕ) → grid < count → IfErr result (NamesItsGrid count) }
     ensures whose { IfErr result (IsOfGrid grid) }
@@ -43,7 +50,7 @@ fn added(mut shelf: Shelf, grid: usize, name: Name, map: CellMap) -> Result<Shel
 }
 
 // The shelf with one more map, or a new one of the map's region.
-fn placed(
+fn shelf_or_new(
     alloc: Global,
     shelf: Option<Shelf>,
     grid: usize,
@@ -57,24 +64,26 @@ fn placed(
     ensures whose { IfErr result (IsOfGrid grid) }
 {
     match shelf {
-        Some(shelf) => added(shelf, grid, name, map),
+        Some(shelf) => shelf_with_map(shelf, grid, name, map),
         None => {
             let shelf = Shelf::new(alloc, map.region());
-            added(shelf, grid, name, map)
+            shelf_with_map(shelf, grid, name, map)
         }
     }
 }
 
 // Reads a grid whole, and puts it on the shelf.
-fn with_grid<R: Source + Drop>(
+fn shelf_with_grid<R: Source + Drop>(
     alloc: Global,
     shelf: Option<Shelf>,
     grid: usize,
     name: Name,
     source: R,
 ) -> Result<Shelf, RunFault>
-    ensures ok { IfOk result (λ s. IfSome (R.coming source) (λ c. with_grid grid shelf name (grid_of c) ≡ Ok s)) }
-    ensures fault { IfErr result (λ f. IsOfInput f → IfSome (R.coming source) (λ c. with_grid grid shelf name (grid_of c) ≡ Err f)) }
+    ensures ok { IfOk result
+        (λ s. IfSome (R.coming source) (λ c. with_grid grid shelf name (grid_of c) ≡ Ok s)) }
+    ensures fault { IfErr result (λ f. IsOfInput f
+        → IfSome (R.coming source) (λ c. with_grid grid shelf name (grid_of c) ≡ Err f)) }
     ensures early { IfErr result IsBeforeExecution }
     ensures told { (count : ℕ) → grid < count → IfErr result (NamesItsGrid count) }
     ensures whose { IfErr result (IsOfGrid grid) }
@@ -83,7 +92,7 @@ fn with_grid<R: Source + Drop>(
         Ok(map) => map,
         Err(fault) => return Err(RunFault::Grid { grid, fault }),
     };
-    placed(alloc, shelf, grid, name, map)
+    shelf_or_new(alloc, shelf, grid, name, map)
 }
 
 /// Reads the grids, each whole and in order, and puts them on a shelf.
@@ -95,15 +104,17 @@ fn with_grid<R: Source + Drop>(
 /// refused, [`RunFault::Grid`] of kind `Memory`, or [`RunFault::Memory`], both with line 0.
 pub fn load<R: Source + Drop>(alloc: Global, grids: Vec<(Name, R)>) -> Result<Shelf, RunFault>
     requires { 0 < vec_len grids }
-    ensures ok { IfOk result (λ s. (named : List Named) → Tell R.coming grids.items named → shelf_of named ≡ Ok (Some s)) }
-    ensures fault { IfErr result (λ f. IsOfInput f → (named : List Named) → Tell R.coming grids.items named → shelf_of named ≡ Err f) }
+    ensures ok { IfOk result (λ s. (named : List Named) → Tell R.coming grids.items named
+        → shelf_of named ≡ Ok (Some s)) }
+    ensures fault { IfErr result (λ f. IsOfInput f → (named : List Named)
+        → Tell R.coming grids.items named → shelf_of named ≡ Err f) }
     ensures early { IfErr result IsBeforeExecution }
     ensures told { IfErr result (NamesItsGrid (length grids.items)) }
 {
     let mut shelf = None;
     let mut grid = 0;
     for (name, source) in grids {
-        match with_grid(alloc, shelf, grid, name, source) {
+        match shelf_with_grid(alloc, shelf, grid, name, source) {
             Ok(more) => shelf = Some(more),
             Err(fault) => return Err(fault),
         }
@@ -120,7 +131,7 @@ pub fn load<R: Source + Drop>(alloc: Global, grids: Vec<(Name, R)>) -> Result<Sh
 /// # Errors
 ///
 /// [`Memory`] where memory was refused.
-pub fn names_of(alloc: Global, shelf: &Shelf) -> Result<Names, Memory>
+pub fn shelf_names(alloc: Global, shelf: &Shelf) -> Result<Names, Memory>
     ensures names { IfOk result (λ names. names ≡ shelf.now.names) }
     ensures count { IfOk result (λ names. length names ≡ length shelf.now.maps) }
 {

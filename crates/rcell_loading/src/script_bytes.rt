@@ -19,8 +19,10 @@ const MOST_BYTES: usize = 1048576;
 /// [`RunFault::ScriptSize`] where it has over 1,048,576 bytes, [`RunFault::ScriptRead`] where its reader fails before,
 /// or [`RunFault::Memory`] with line 0 where memory was refused.
 pub fn read_script<R: Source + Drop>(alloc: Global, mut source: R) -> Result<Vec<u8>, RunFault>
-    ensures ok { IfOk result (λ text. IfSome (R.coming source) (λ c. script_text c ≡ Ok text.items)) }
-    ensures fault { IfErr result (λ f. IsOfInput f → IfSome (R.coming source) (λ c. script_text c ≡ Err f)) }
+    ensures ok { IfOk result
+        (λ text. IfSome (R.coming source) (λ c. script_text c ≡ Ok text.items)) }
+    ensures fault { IfErr result (λ f. IsOfInput f
+        → IfSome (R.coming source) (λ c. script_text c ≡ Err f)) }
     ensures early { IfErr result IsBeforeExecution }
     ensures told { (grids : ℕ) → IfErr result (NamesItsGrid grids) }
 {
@@ -29,8 +31,10 @@ pub fn read_script<R: Source + Drop>(alloc: Global, mut source: R) -> Result<Vec
 
 // Reads a source to its end, up to one byte more than the limit of a script.
 fn read_text<R: Source>(alloc: Global, source: &mut R) -> Result<Vec<u8>, RunFault>
-    ensures ok { IfOk result (λ text. IfSome (R.coming source.old) (λ c. script_text c ≡ Ok text.items)) }
-    ensures fault { IfErr result (λ f. IsOfInput f → IfSome (R.coming source.old) (λ c. script_text c ≡ Err f)) }
+    ensures ok { IfOk result
+        (λ text. IfSome (R.coming source.old) (λ c. script_text c ≡ Ok text.items)) }
+    ensures fault { IfErr result (λ f. IsOfInput f
+        → IfSome (R.coming source.old) (λ c. script_text c ≡ Err f)) }
     ensures early { IfErr result IsBeforeExecution }
     ensures told { (grids : ℕ) → IfErr result (NamesItsGrid grids) }
     // Its end and an `Err` are told as such, and it is not asked after them.

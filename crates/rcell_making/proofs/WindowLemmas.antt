@@ -10,7 +10,7 @@ use Rattle.cell_calc.specs.Window.{IsOver, HasReach}
 use Rattle.cell_calc_binding.specs.Formula.{Formula}
 use Rattle.cell_calc_binding.specs.Reach.{up_of, down_of}
 use Rattle.cell_calc.specs.Window.{Window, IsWindowOf}
-use Rattle.rcell_making.specs.parts.WindowsSet.{IsSet, AreSet, then_maps, picked}
+use Rattle.rcell_making.specs.parts.WindowsSet.{IsSet, AreSet, then_maps, picked_maps}
 
 -- an item before the last, and the last
 before : {A : Type 0} (xs ys : List A) (i : ℕ) → i < length xs → slice_get (xs ++ ys) i ≡ slice_get xs i
@@ -116,18 +116,18 @@ others (Some m) maps k some = refl
 
 -- the maps picked are those at the places
 pub picked_at : (places : List ℕ) (maps : List Grid) → All (λ place. place < length maps) places
-    → (k i : ℕ) → slice_get places k ≡ Some i → slice_get (picked places maps) k ≡ slice_get maps i
+    → (k i : ℕ) → slice_get places k ≡ Some i → slice_get (picked_maps places maps) k ≡ slice_get maps i
 picked_at [] maps within k i e = cc
 picked_at (p ∷ places) maps within zero i e =
     let same : p ≡ i = cc in
-    first (slice_get maps p) (picked places maps) (got maps p (within zero p (omega arith))) ∙ ap (λ j. slice_get maps j) same
+    first (slice_get maps p) (picked_maps places maps) (got maps p (within zero p (omega arith))) ∙ ap (λ j. slice_get maps j) same
 picked_at (p ∷ places) maps within (suc k) i e =
-    others (slice_get maps p) (picked places maps) k (got maps p (within zero p (omega arith)))
+    others (slice_get maps p) (picked_maps places maps) k (got maps p (within zero p (omega arith)))
     ∙ picked_at places maps (All-tail (λ place. place < length maps) p places within) k i e
 
 -- the map at a place that is read from the list of places
 pub map_read : (places : List ℕ) (maps : List Grid) (i d : ℕ) (m : Grid) → All (λ place. place < length maps) places → i < length places
-    → slice_get maps (get_or places i d) ≡ Some m → slice_get (picked places maps) i ≡ Some m
+    → slice_get maps (get_or places i d) ≡ Some m → slice_get (picked_maps places maps) i ≡ Some m
 map_read places maps i d m within lt e = picked_at places maps within i (get_or places i d) (slice_get-get_or places i d lt) ∙ e
 
 -- one more row

@@ -3,7 +3,7 @@ use Rattle.std.specs.Prelude.{ℕ, ◌≡◌, ◌<◌, List, [], ◌∷◌, ◌+
 use Rattle.cell_calc_binding.specs.Formula.{Formula}
 use Rattle.cell_calc_operators.specs.Applied.{spot}
 use Rattle.cell_calc_binding.specs.Value.{value}
-use Rattle.cell_cats.specs.Reclass.{reclassed}
+use Rattle.cell_cats.specs.Reclass.{reclassed_map}
 use Rattle.cell_cats.specs.Rule.{RuleValue}
 use Rattle.cell_cats_areas.specs.Areas.{IsClumping}
 use Rattle.cell_cats_areas.specs.declared.clump.Joining.{Joining}
@@ -37,7 +37,7 @@ IsWithValues shelf target bound after = (made : Grid) × (AreValues bound shelf 
 
 -- the shelf after an r.reclass of the map at a place
 abbrev pub IsWithClasses : ShelfValue → (place : ℕ) → (target : List ℕ) → List RuleValue → ShelfValue → Type 0
-IsWithClasses shelf place target rules after = IsOfMap (λ m. after ≡ with_map shelf target (reclassed rules m)) (slice_get shelf.maps place)
+IsWithClasses shelf place target rules after = IsOfMap (λ m. after ≡ with_map shelf target (reclassed_map rules m)) (slice_get shelf.maps place)
 
 -- the shelf after an r.clump of the map at a place
 abbrev pub IsWithNumbers : ShelfValue → (place : ℕ) → (target : List ℕ) → Joining → ShelfValue → Type 0

@@ -5,7 +5,7 @@ ghost use Rattle.cell_core.specs.Grid.{cell_at, no_labels};
 ghost use Rattle.cell_calc_binding.specs.Reach.{top_of};
 ghost use Rattle.cell_calc_operators.specs.Applied.{spot};
 ghost use Rattle.cell_calc_binding.specs.Value.{value};
-ghost use Rattle.rcell_making.specs.parts.WindowsSet.{AreSet, picked};
+ghost use Rattle.rcell_making.specs.parts.WindowsSet.{AreSet, picked_maps};
 
 use cell_calc::rows_of_values::eval_row;
 use cell_calc::window::RowWindow;
@@ -20,14 +20,14 @@ use std::alloc::Global;
 fn map_at<'a>(shelf: &'a Shelf, places: &[usize], i: usize) -> &'a CellMap
     requires place { i < length places.now }
     requires within { All (λ place. place < length shelf.now.maps) places.now }
-    ensures value { slice_get (picked places.now shelf.now.maps) i ≡ Some result.now }
+    ensures value { slice_get (picked_maps places.now shelf.now.maps) i ≡ Some result.now }
     ensures region { result.now.region ≡ shelf.now.region }
 {
     shelf.map(places[i])
 }
 
 // A window for each map that is read, at the first row.
-fn open(
+fn open_windows(
     alloc: Global,
     bound: &Bound,
     places: &[usize],
@@ -35,7 +35,8 @@ fn open(
 ) -> Result<Vec<RowWindow>, Memory>
     requires places { top_of bound.now ≡ length places.now }
     requires within { All (λ place. place < length shelf.now.maps) places.now }
-    ensures set { IfOk result (λ windows. AreSet bound.now (length places.now) 0 windows.items (picked places.now shelf.now.maps)) }
+    ensures set { IfOk result (λ windows. AreSet bound.now (length places.now) 0 windows.items
+        (picked_maps places.now shelf.now.maps)) }
     ensures count { IfOk result (λ windows. length windows.items ≡ length places.now) }
 {
     let mut windows = Vec::new(alloc);
@@ -47,12 +48,21 @@ fn open(
 }
 
 // Moves each window down by one row, if there is one.
-fn advance(bound: &Bound, places: &[usize], shelf: &Shelf, row: u32, windows: &mut [RowWindow])
+fn advance_windows(
+    bound: &Bound,
+    places: &[usize],
+    shelf: &Shelf,
+    row: u32,
+    windows: &mut [RowWindow],
+)
     requires count { length windows.old ≡ length places.now }
     requires within { All (λ place. place < length shelf.now.maps) places.now }
-    requires set { AreSet bound.now (length windows.old) row windows.old (picked places.now shelf.now.maps) }
+    requires set { AreSet bound.now (length windows.old) row windows.old
+        (picked_maps places.now shelf.now.maps) }
     ensures count { length windows.new ≡ length windows.old }
-    ensures set { row + 1 < shelf.now.region.rows → AreSet bound.now (length windows.old) (row + 1) windows.new (picked places.now shelf.now.maps) }
+    ensures set { row + 1 < shelf.now.region.rows
+        → AreSet bound.now (length windows.old) (row + 1) windows.new
+        (picked_maps places.now shelf.now.maps) }
 {
     let _ = bound;
     if row as u64 + 1 >= shelf.region().rows() as u64 {
@@ -74,10 +84,13 @@ fn evaluate_over(
     requires within { All (λ place. place < length shelf.now.maps) places.now }
     ensures region { IfOk result (λ m. m.region ≡ shelf.now.region) }
     ensures labels { IfOk result (λ m. m.labels ≡ no_labels) }
-    ensures cells { IfOk result (λ m. (r c : ℕ) → r < shelf.now.region.rows → c < shelf.now.region.cols → cell_at m r c ≡ value bound.now (picked places.now shelf.now.maps) (spot shelf.now.region r c)) }
+    ensures cells { IfOk result (λ m. (r c : ℕ) → r < shelf.now.region.rows
+        → c < shelf.now.region.cols
+        → cell_at m r c
+        ≡ value bound.now (picked_maps places.now shelf.now.maps) (spot shelf.now.region r c)) }
 {
     let region = shelf.region();
-    let mut windows = open(alloc, bound, places, shelf)?;
+    let mut windows = open_windows(alloc, bound, places, shelf)?;
     let mut builder = MapBuilder::new(alloc, region);
     let mut cells = Vec::from_elem(alloc, Cell::null(), region.cols() as usize)?;
     for row in 0..region.rows() {
@@ -90,7 +103,7 @@ fn evaluate_over(
             cells.as_mut_slice(),
         )?;
         builder.push_row(cells.as_slice())?;
-        advance(bound, places, shelf, row, windows.as_mut_slice());
+        advance_windows(bound, places, shelf, row, windows.as_mut_slice());
     }
     Ok(builder.finish())
 }
@@ -104,10 +117,12 @@ pub fn evaluate(alloc: Global, bound: &Bound, shelf: &Shelf) -> Result<CellMap, 
     requires { top_of bound.now ≤ length shelf.now.maps }
     ensures region { IfOk result (λ m. m.region ≡ shelf.now.region) }
     ensures labels { IfOk result (λ m. m.labels ≡ no_labels) }
-    ensures cells { IfOk result (λ m. (r c : ℕ) → r < shelf.now.region.rows → c < shelf.now.region.cols → cell_at m r c ≡ value bound.now shelf.now.maps (spot shelf.now.region r c)) }
+    ensures cells { IfOk result (λ m. (r c : ℕ) → r < shelf.now.region.rows
+        → c < shelf.now.region.cols
+        → cell_at m r c ≡ value bound.now shelf.now.maps (spot shelf.now.region r c)) }
 {
     // Only the maps that are read have windows.
-    let (compact, places) = bound.compacted(alloc)?;
+    let (compact, places) = bound.over_read_maps(alloc)?;
     let map = evaluate_over(alloc, &compact, places.as_slice(), shelf)?;
     Ok(map)
 }

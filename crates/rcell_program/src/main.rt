@@ -8,8 +8,8 @@ use cell_core::name::Name;
 use cell_core::sink::WriteSink;
 use rcell::report::fault_line;
 use rcell::run;
-use rcell_request::command_words::read;
-use rcell_request::opening::open;
+use rcell_request::command_words::read_words;
+use rcell_request::opening::open_files;
 use rcell_request::refusal::Refusal;
 use std::env;
 use std::io::{self, ErrorKind};
@@ -38,11 +38,11 @@ fn work<R: Env + Files + Print + Eprint + AllocGlobal>(rt: &R) -> u8 {
         Ok(words) => words,
         Err(refusal) => return tell(rt, refusal, &[]),
     };
-    let request = match read(rt.alloc(), &words) {
+    let request = match read_words(rt.alloc(), &words) {
         Ok(request) => request,
         Err(refusal) => return tell(rt, refusal, &[]),
     };
-    let opened = match open(rt, &request) {
+    let opened = match open_files(rt, &request) {
         Ok(opened) => opened,
         Err(refusal) => return tell(rt, refusal, &request.names),
     };

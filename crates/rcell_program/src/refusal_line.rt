@@ -7,7 +7,7 @@ use cell_core::name::Name;
 use rcell::report::FaultLine;
 use rcell_request::refusal::Refusal;
 
-fn source_of<'a>(names: &'a [Name], refusal: Refusal) -> &'a [u8]
+fn refusal_source<'a>(names: &'a [Name], refusal: Refusal) -> &'a [u8]
     ensures { result.now ≡ refusal_source names.now refusal }
 {
     match refusal {
@@ -22,7 +22,7 @@ fn source_of<'a>(names: &'a [Name], refusal: Refusal) -> &'a [u8]
     }
 }
 
-fn line_of(refusal: Refusal) -> u64
+fn refusal_line_number(refusal: Refusal) -> u64
     ensures { result ≡ refusal_line_number refusal }
 {
     match refusal {
@@ -38,8 +38,8 @@ pub fn refusal_line<'a>(refusal: Refusal, names: &'a [Name]) -> FaultLine<'a, Re
     ensures text { result.text ≡ refusal }
 {
     FaultLine {
-        source: source_of(names, refusal),
-        line: line_of(refusal),
+        source: refusal_source(names, refusal),
+        line: refusal_line_number(refusal),
         text: refusal,
     }
 }

@@ -13,7 +13,7 @@ use Rattle.clap.specs.Takes.{default_passes, entered_passes, is_valid, settle_pa
 use Rattle.clap.specs.Words.{all_of, first_of, is_simple, matches_of}
 use Rattle.clap.specs.declared.builder.value_parser.Reading.TheVariants.{AsWritten}
 use Rattle.clap.specs.declared.parser.matches.ValueSource.TheVariants.{CommandLine}
-use Rattle.rcell_request.specs.CommandLine.{begins_with_hyphen, first_bad, grid_words, is_grid_word, is_misuse}
+use Rattle.rcell_request.specs.CommandLine.{begins_with_hyphen, first_bad, grid_words, is_grid_argument, is_misuse}
 use Rattle.rcell_request.specs.parts.ClapWords.{command_line}
 
 abbrev built_rules : List Rule
@@ -165,7 +165,7 @@ grid_words_more (n ∷ ns) [] name path same = cc
 grid_words_more (n ∷ ns) (p ∷ ps) name path same =
     ap (λ rest. (n ++ 61 ∷ p) ∷ rest) (grid_words_more ns ps name path (omega arith))
 
-pub first_bad_next : (place : ℕ) (words : List (Bor Text)) (i : ℕ) (word : Bor Text) → i < length words → is_grid_word (slice_index_or words i word).now ≡ true
+pub first_bad_next : (place : ℕ) (words : List (Bor Text)) (i : ℕ) (word : Bor Text) → i < length words → is_grid_argument (slice_index_or words i word).now ≡ true
     → first_bad place (texts (drop i words)) ≡ first_bad (place + 1) (texts (drop (i + 1) words))
 first_bad_next place words i word within good = ap (λ left. first_bad place (texts left)) (drop_more words i word within) ∙ rw good refl
 

@@ -17,13 +17,13 @@ grid_words (name ∷ names) (path ∷ paths) = (name ++ codes "=" ++ path) ∷ g
 grid_words _ _ = []
 
 -- NAME=PATH: a name stands before the first equals sign, and something after it
-abbrev pub is_grid_word : List ℕ → Bool
-is_grid_word word = is_name (before_first (λ b. b == byte (codes "=")) word) && nat_lt 0 (length (after_first (λ b. b == byte (codes "=")) word))
+abbrev pub is_grid_argument : List ℕ → Bool
+is_grid_argument word = is_name (before_first (λ b. b == byte (codes "=")) word) && nat_lt 0 (length (after_first (λ b. b == byte (codes "=")) word))
 
 -- the place of the first of these words that is not NAME=PATH, if there is one, where they are counted from this place
 abbrev pub first_bad : ℕ → List (List ℕ) → Option ℕ
 first_bad place [] = None
-first_bad place (word ∷ words) = if is_grid_word word then first_bad (place + 1) words else Some place
+first_bad place (word ∷ words) = if is_grid_argument word then first_bad (place + 1) words else Some place
 
 -- one of the words begins with a hyphen, or they are fewer than two, a script and a grid
 abbrev pub is_misuse : List (List ℕ) → Bool

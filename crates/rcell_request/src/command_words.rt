@@ -6,7 +6,7 @@ ghost use Rattle.std.specs.String.{string_bytes};
 ghost use Rattle.clap.specs.Words.{app_of};
 ghost use Rattle.clap.specs.Walk.{texts};
 ghost use Rattle.cell_core_values.specs.Name.{is_name};
-ghost use Rattle.rcell_request.specs.CommandLine.{begins_with_hyphen, first_bad, grid_words, is_grid_word, is_misuse, refusal_of};
+ghost use Rattle.rcell_request.specs.CommandLine.{begins_with_hyphen, first_bad, grid_words, is_grid_argument, is_misuse, refusal_of};
 ghost use Rattle.rcell_request.specs.parts.ClapWords.{FindsAll, command_line};
 
 use crate::refusal::Refusal;
@@ -45,8 +45,9 @@ fn of_clap(kind: ErrorKind) -> Refusal
 fn grid_of<'a>(alloc: Global, word: &'a str, place: u64) -> Result<(Name, &'a str), Refusal>
     ensures cut { IfOk result (λ grid. word.now ≡ grid.0 ++ 61 ∷ grid.1.now) }
     ensures name { IfOk result (λ grid. is_name grid.0 ≡ true) }
-    ensures good { OnOk result (is_grid_word word.now ≡ true) }
-    ensures bad { IfErr result (λ refusal. refusal ≢ Refusal.Memory → (is_grid_word word.now ≡ false) × (refusal ≡ Refusal.GridWord place)) }
+    ensures good { OnOk result (is_grid_argument word.now ≡ true) }
+    ensures bad { IfErr result (λ refusal. refusal ≢ Refusal.Memory
+        → (is_grid_argument word.now ≡ false) × (refusal ≡ Refusal.GridWord place)) }
 {
     let Some((name, path)) = word.split_once('=') else {
         return Err(Refusal::GridWord { place });
@@ -69,7 +70,7 @@ fn begins_with_hyphen(word: &str) -> bool
 
 // Whether one of the words begins with a hyphen.
 #[tactic(auto, using(std::proofs::lemmas::List::Folds::list_any_at, std::proofs::lemmas::List::Folds::list_any_more))]
-fn has_flag(words: &[String]) -> bool
+fn has_hyphen_word(words: &[String]) -> bool
     ensures { result ≡ list_any (λ word. begins_with_hyphen (string_bytes word)) words.now }
 {
     for word in words {
@@ -95,9 +96,10 @@ fn command<'a>(alloc: Global) -> Result<Command<'a>, AllocError>
 }
 
 // What clap finds among the words, the program's own name first.
-fn parse<'a>(alloc: Global, words: &'a [String]) -> Result<ArgMatches<'a>, Refusal>
+fn clap_matches<'a>(alloc: Global, words: &'a [String]) -> Result<ArgMatches<'a>, Refusal>
     ensures found { IfOk result (FindsAll (map string_bytes words.now)) }
-    ensures misuse { IfErr result (λ refusal. refusal ≢ Refusal.Memory → (refusal ≡ Refusal.Usage) × (is_misuse (drop 1 (map string_bytes words.now)) ≡ true)) }
+    ensures misuse { IfErr result (λ refusal. refusal ≢ Refusal.Memory
+        → (refusal ≡ Refusal.Usage) × (is_misuse (drop 1 (map string_bytes words.now)) ≡ true)) }
 {
     let command = command(alloc).map_err(|_| Refusal::Memory)?;
     match command.try_get_matches_from(words) {
@@ -109,10 +111,13 @@ fn parse<'a>(alloc: Global, words: &'a [String]) -> Result<ArgMatches<'a>, Refus
 // The names and the paths of the grid words, of which the first has place 2.
 #[tactic(auto, using(crate::proofs::ParseLemmas::grid_words_more))]
 fn grids_of<'a>(alloc: Global, words: &[&'a str]) -> Result<(Vec<Name>, Vec<&'a str>), Refusal>
-    ensures words { IfOk result (λ grids. grid_words grids.0.items (texts grids.1.items) ≡ texts words.now) }
+    ensures words { IfOk result (λ grids. grid_words grids.0.items (texts grids.1.items)
+        ≡ texts words.now) }
     ensures paths { IfOk result (λ grids. vec_len grids.0 ≡ vec_len grids.1) }
     ensures good { OnOk result (first_bad 2 (texts words.now) ≡ None) }
-    ensures bad { IfErr result (λ refusal. refusal ≢ Refusal.Memory → option_map (λ place. Refusal.GridWord place) (first_bad 2 (texts words.now)) ≡ Some refusal) }
+    ensures bad { IfErr result (λ refusal. refusal ≢ Refusal.Memory
+        → option_map (λ place. Refusal.GridWord place) (first_bad 2 (texts words.now))
+        ≡ Some refusal) }
 {
     let mut names = Vec::new(alloc);
     let mut paths = Vec::new(alloc);
@@ -132,18 +137,21 @@ fn grids_of<'a>(alloc: Global, words: &[&'a str]) -> Result<(Vec<Name>, Vec<&'a 
 ///
 /// [`Refusal::Usage`] where a later word begins with `-`, or fewer than two follow the first; [`Refusal::GridWord`] of
 /// the first word after the script's that is not NAME=PATH; [`Refusal::Memory`].
-pub fn read<'a>(alloc: Global, words: &'a [String]) -> Result<Request<'a>, Refusal>
-    ensures asked { IfOk result (λ request. drop 1 (map string_bytes words.now) ≡ request.script.now ∷ grid_words request.names.items (map (λ path. path.now) request.paths.items)) }
+pub fn read_words<'a>(alloc: Global, words: &'a [String]) -> Result<Request<'a>, Refusal>
+    ensures asked { IfOk result (λ request. drop 1 (map string_bytes words.now)
+        ≡ request.script.now
+        ∷ grid_words request.names.items (map (λ path. path.now) request.paths.items)) }
     ensures good { OnOk result (refusal_of (drop 1 (map string_bytes words.now)) ≡ None) }
-    ensures refused { IfErr result (λ refusal. refusal ≢ Refusal.Memory → refusal_of (drop 1 (map string_bytes words.now)) ≡ Some refusal) }
+    ensures refused { IfErr result (λ refusal. refusal ≢ Refusal.Memory
+        → refusal_of (drop 1 (map string_bytes words.now)) ≡ Some refusal) }
 {
     let Some((_, later)) = words.split_first() else {
         return Err(Refusal::Usage);
     };
-    if has_flag(later) {
+    if has_hyphen_word(later) {
         return Err(Refusal::Usage);
     }
-    let matches = parse(alloc, words)?;
+    let matches = clap_matches(alloc, words)?;
     let script = matches.get_str("SCRIPT").ok_or(Refusal::Usage)?;
     let grids = matches.get_strs("GRID").ok_or(Refusal::Usage)?;
     let (names, paths) = grids_of(alloc, grids)?;

@@ -14,7 +14,7 @@ use std::rt::Files;
 
 /// The sources of a script and of its grids.
 #[derive(Drop)]
-pub struct Opened<F: Read> {
+pub struct OpenedFiles<F: Read> {
     /// The source of the script.
     pub script: ReadSource<F>,
     /// The name of each grid and its source, in order; at least one.
@@ -52,7 +52,8 @@ fn open_grid<R: Files + AllocGlobal>(
 ) -> Result<(Name, ReadSource<R::File>), Refusal>
     ensures name { IfOk result (λ opened. opened.0 ≡ name.now) }
     ensures asked { IfOk result (λ opened. opened.1.1 ≡ Asked.Going) }
-    ensures told { IfErr result (λ refusal. refusal ≢ Refusal.Memory → refusal ≡ Refusal.GridFile grid) }
+    ensures told { IfErr result (λ refusal. refusal ≢ Refusal.Memory
+        → refusal ≡ Refusal.GridFile grid) }
 {
     let source = open_file(rt, path, Refusal::GridFile { grid })?;
     match name.copy(rt.alloc()) {
@@ -66,7 +67,8 @@ fn open_grids<R: Files + AllocGlobal>(
     rt: &R,
     request: &Request<'_>,
 ) -> Result<Vec<(Name, ReadSource<R::File>)>, Refusal>
-    ensures names { IfOk result (λ opened. map (λ grid. grid.0) opened.items ≡ request.now.names.items) }
+    ensures names { IfOk result (λ opened. map (λ grid. grid.0) opened.items
+        ≡ request.now.names.items) }
     ensures asked { IfOk result (λ opened. All (λ grid. grid.1.1 ≡ Asked.Going) opened.items) }
     ensures told { IfErr result (IsOfOpening (vec_len request.now.names)) }
 {
@@ -84,11 +86,12 @@ fn open_grids<R: Files + AllocGlobal>(
 ///
 /// [`Refusal::ScriptFile`] or [`Refusal::GridFile`] of the first that can't be opened; [`Refusal::Usage`] where the request
 /// names no grid; [`Refusal::Memory`].
-pub fn open<R: Files + AllocGlobal>(
+pub fn open_files<R: Files + AllocGlobal>(
     rt: &R,
     request: &Request<'_>,
-) -> Result<Opened<R::File>, Refusal>
-    ensures names { IfOk result (λ opened. map (λ grid. grid.0) opened.grids.items ≡ request.now.names.items) }
+) -> Result<OpenedFiles<R::File>, Refusal>
+    ensures names { IfOk result (λ opened. map (λ grid. grid.0) opened.grids.items
+        ≡ request.now.names.items) }
     // Nothing is read yet: no source was asked, so none has ended or failed.
     ensures asked { IfOk result (λ opened. (opened.script.1 ≡ Asked.Going)
         × All (λ grid. grid.1.1 ≡ Asked.Going) opened.grids.items) }
@@ -99,5 +102,5 @@ pub fn open<R: Files + AllocGlobal>(
     if grids.is_empty() {
         return Err(Refusal::Usage);
     }
-    Ok(Opened { script, grids })
+    Ok(OpenedFiles { script, grids })
 }

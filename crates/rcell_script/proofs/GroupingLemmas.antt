@@ -13,10 +13,10 @@ use Rattle.cell_cats.specs.declared.rules.LineKind.{LineKind}
 use Rattle.cell_cats.specs.declared.rules.LineKind.TheVariants as line_kind
 use Rattle.cell_cats.specs.declared.rules.RuleFault.{RuleFault}
 use Rattle.cell_core_text.specs.Answers.{◌>>=◌}
-use Rattle.cell_core_text.specs.Blanks.{trimmed}
+use Rattle.cell_core_text.specs.Blanks.{trimmed_text}
 use Rattle.rcell_script_commands.specs.Commands.{IsHead}
 use Rattle.rcell_script_commands.specs.Skipped.{IsSkipped}
-use Rattle.rcell_script.specs.Lines.{Line, numbered, script_lines}
+use Rattle.rcell_script.specs.Lines.{ScriptLine, numbered_lines, script_lines}
 use Rattle.rcell_script_commands.specs.RReclass.{SpellsReclass}
 use Rattle.rcell_script.specs.ReclassRules.{IsEnd, AreRules}
 use Rattle.rcell_script_commands.specs.CommandSpelling.{SpellsCommand}
@@ -29,7 +29,7 @@ use Rattle.rcell_script_commands.specs.declared.script_fault.ScriptKind.{ScriptK
 use Rattle.rcell_script_commands.specs.declared.script_fault.ScriptKind.TheVariants.{LongLine}
 use Rattle.rcell_script_commands.specs.declared.heads.Head.{Head}
 use Rattle.rcell_script_commands.specs.declared.heads.Head.TheVariants.{Skipped, Whole, Opened}
-use Rattle.rcell_script.specs.declared.line_reading.Block.{Block}
+use Rattle.rcell_script.specs.declared.line_reading.OpenReclass.{OpenReclass}
 use Rattle.rcell_script.specs.declared.line_reading.Progress.{Progress}
 use Rattle.rcell_script_commands.specs.declared.command.Command.TheVariants.{Reclass}
 use Rattle.rcell_script.specs.declared.statement.Statement.{Statement}
@@ -52,17 +52,17 @@ pair-same kind kind' more more' rules l e says =
     subst (λ (x : LineKind × List RuleValue). SaysRule rules l x.0 x.1) same says
 
 line-sound : (rules : List RuleValue) (l : List ℕ) (kind : LineKind) (more : List RuleValue) → with_line rules l ≡ Ok (kind, more) → SaysRule rules l kind more
-line-sound rules l kind more e = by (is_skipped (trimmed l)) (bytes_eq (trimmed l) (codes "end")) (rule_of l) refl refl refl e
+line-sound rules l kind more e = by (is_skipped (trimmed_text l)) (bytes_eq (trimmed_text l) (codes "end")) (rule_of l) refl refl refl e
   where
-    by : (skipped end : Bool) (rule : Result RuleValue RuleFault) → is_skipped (trimmed l) ≡ skipped → bytes_eq (trimmed l) (codes "end") ≡ end → rule_of l ≡ rule
+    by : (skipped end : Bool) (rule : Result RuleValue RuleFault) → is_skipped (trimmed_text l) ≡ skipped → bytes_eq (trimmed_text l) (codes "end") ≡ end → rule_of l ≡ rule
         → cond {A = Result (LineKind × List RuleValue) RuleFault} skipped (Ok (line_kind.Skipped, rules))
         (cond end (Ok (line_kind.End, rules)) (rule >>= λ rule. Ok (line_kind.Rule, rules ++ rule ∷ [])))
         ≡ Ok (kind, more) → SaysRule rules l kind more
     by true end rule s n r f = pair-same line_kind.Skipped kind rules more rules l f (s, refl)
-    by false true rule s n r f = pair-same line_kind.End kind rules more rules l f ((bytes_decides (trimmed l) (codes "end")).0 n)
+    by false true rule s n r f = pair-same line_kind.End kind rules more rules l f ((bytes_decides (trimmed_text l) (codes "end")).0 n)
     by false false (Err fault) s n r f = cc
     by false false (Ok rule) s n r f =
-        let inside : IsEnd l → ⊥ = λ e. let t : bytes_eq (trimmed l) (codes "end") ≡ true = (bytes_decides (trimmed l) (codes "end")).1 e in cc in
+        let inside : IsEnd l → ⊥ = λ e. let t : bytes_eq (trimmed_text l) (codes "end") ≡ true = (bytes_decides (trimmed_text l) (codes "end")).1 e in cc in
         pair-same line_kind.Rule kind (rules ++ rule ∷ []) more rules l f (rule, (rule_law.rule-sound l rule s inside r, refl))
 
 as_rule-ok : (x : Result (LineKind × List RuleValue) RuleFault) (y : LineKind × List RuleValue) → as_rule x ≡ Ok y → x ≡ Ok y
@@ -83,11 +83,11 @@ short-rule rules l s = rw (le-ltb 65535 (length l) s) refl
 skipped-read : (rules : List RuleValue) (l : List ℕ) → length l ≤ 65535 → IsSkipped l → rule_line rules l ≡ Ok (line_kind.Skipped, rules)
 skipped-read rules l s e = short-rule rules l s ∙ rw e refl
 
-no_end : (l : List ℕ) → (IsEnd l → ⊥) → bytes_eq (trimmed l) (codes "end") ≡ false
-no_end l inside = by (bytes_eq (trimmed l) (codes "end")) refl
+no_end : (l : List ℕ) → (IsEnd l → ⊥) → bytes_eq (trimmed_text l) (codes "end") ≡ false
+no_end l inside = by (bytes_eq (trimmed_text l) (codes "end")) refl
   where
-    by : (end : Bool) → bytes_eq (trimmed l) (codes "end") ≡ end → bytes_eq (trimmed l) (codes "end") ≡ false
-    by true e = absurd (inside ((bytes_decides (trimmed l) (codes "end")).0 e))
+    by : (end : Bool) → bytes_eq (trimmed_text l) (codes "end") ≡ end → bytes_eq (trimmed_text l) (codes "end") ≡ false
+    by true e = absurd (inside ((bytes_decides (trimmed_text l) (codes "end")).0 e))
     by false e = e
 
 rule-read : (rules : List RuleValue) (l : List ℕ) (rule : RuleValue) → length l ≤ 65535 → SpellsRule l rule → rule_line rules l ≡ Ok (line_kind.Rule, rules ++ rule ∷ [])
@@ -99,18 +99,19 @@ end-skipped = refl
 
 end-read : (rules : List RuleValue) (l : List ℕ) → length l ≤ 65535 → IsEnd l → rule_line rules l ≡ Ok (line_kind.End, rules)
 end-read rules l s e =
-    let other : is_skipped (trimmed l) ≡ false = ap is_skipped e in
-    let is : bytes_eq (trimmed l) (codes "end") ≡ true = (bytes_decides (trimmed l) (codes "end")).1 e in
+    let other : is_skipped (trimmed_text l) ≡ false = ap is_skipped e in
+    let is : bytes_eq (trimmed_text l) (codes "end") ≡ true = (bytes_decides (trimmed_text l) (codes "end")).1 e in
     short-rule rules l s ∙ rw (other, is) refl
 
 -- ---- what was read, as groups
 
 -- the lines of an r.reclass that is being read, up to its end
-record Inside (known : List (List ℕ)) (block : Block) (lines : List Line) (statements : List Statement) : Type 0 where
+record Inside (known : List (List ℕ)) (block : OpenReclass) (lines : List ScriptLine)
+    (statements : List Statement) : Type 0 where
   rules : List RuleValue
-  inner : List Line
-  last : Line
-  others : List Line
+  inner : List ScriptLine
+  last : ScriptLine
+  others : List ScriptLine
   more : List Statement
   lines_are : inner ++ last ∷ others ≡ lines
   spell : AreRules inner rules
@@ -119,18 +120,18 @@ record Inside (known : List (List ℕ)) (block : Block) (lines : List Line) (sta
   group : Group (known ++ block.target ∷ []) others more
 
 -- lines outside the rules of r.reclass, or among them
-abbrev IsRest : Option Block → List (List ℕ) → List Line → List Statement → Type 0
+abbrev IsRest : Option OpenReclass → List (List ℕ) → List ScriptLine → List Statement → Type 0
 IsRest None known lines statements = Group known lines statements
 IsRest (Some block) known lines statements = Inside known block lines statements
 
 -- what lines come to
-record Rest (pending : Option Block) (line : ℕ) (known : List (List ℕ)) (before : List Statement) (ls : List (List ℕ)) (statements : List Statement) : Type 0 where
+record Rest (pending : Option OpenReclass) (line : ℕ) (known : List (List ℕ)) (before : List Statement) (ls : List (List ℕ)) (statements : List Statement) : Type 0 where
   short : All (λ l. length l ≤ 65535) ls
   more : List Statement
   statements_are : before ++ more ≡ statements
-  rest : IsRest pending known (numbered line ls) more
+  rest : IsRest pending known (numbered_lines line ls) more
 
-abbrev progress : List (List ℕ) → List Statement → Option Block → Progress
+abbrev progress : List (List ℕ) → List Statement → Option OpenReclass → Progress
 progress known before pending = record { known = known; statements = before; pending = pending }
 
 short-cons : (l : List ℕ) (ls : List (List ℕ)) → length l ≤ 65535 → All (λ l. length l ≤ 65535) ls → All (λ l. length l ≤ 65535) (l ∷ ls)
@@ -140,18 +141,18 @@ short-cons l ls s rest = All-cons (λ (l : List ℕ). length l ≤ 65535) l ls s
 one-more : (before more : List Statement) (s : Statement) (statements : List Statement) → before ++ s ∷ [] ++ more ≡ statements → before ++ s ∷ more ≡ statements
 one-more before more s statements e = sym (append_assoc before (s ∷ []) more) ∙ e
 
-opened-rest : (line : ℕ) (known : List (List ℕ)) (l : List ℕ) (place : ℕ) (target : List ℕ) (lines : List Line) (statements : List Statement)
+opened-rest : (line : ℕ) (known : List (List ℕ)) (l : List ℕ) (place : ℕ) (target : List ℕ) (lines : List ScriptLine) (statements : List Statement)
     → SpellsReclass known l place target → Inside known (record { line = line; place = place; target = target; rules = [] }) lines statements
     → Group known (record { number = line; bytes = l } ∷ lines) statements
 opened-rest line known l place target lines statements says inside =
-    let first : Line = record { number = line; bytes = l } in
+    let first : ScriptLine = record { number = line; bytes = l } in
     let group = grouping.Group.reclass {line = first} inside.last says inside.spell inside.is_last inside.group in
     subst (λ ls. Group known (first ∷ ls) statements) inside.lines_are
     (subst (λ ss. Group known (first ∷ (inside.inner ++ inside.last ∷ inside.others)) ss) (sym inside.statements_are) group)
 
 head-rest : (line : ℕ) (known : List (List ℕ)) (before : List Statement) (l : List ℕ) (ls : List (List ℕ)) (statements : List Statement) (head : Head) (more : Progress)
     → Ok more ≡ after_head line (progress known before None) (Ok head) → IsHead known l (Ok head)
-    → ((known : List (List ℕ)) (before : List Statement) (pending : Option Block) → more ≡ progress known before pending → Rest pending (line + 1) known before ls statements)
+    → ((known : List (List ℕ)) (before : List Statement) (pending : Option OpenReclass) → more ≡ progress known before pending → Rest pending (line + 1) known before ls statements)
     → Rest None line known before (l ∷ ls) statements
 head-rest line known before l ls statements Skipped more e is read =
     let says = head-says known l Skipped is in
@@ -171,19 +172,19 @@ head-rest line known before l ls statements (Whole command) more e is read =
     }
 head-rest line known before l ls statements (Opened place target) more e is read =
     let says = head-says known l (Opened place target) is in
-    let block : Block = record { line = line; place = place; target = target; rules = [] } in
+    let block : OpenReclass = record { line = line; place = place; target = target; rules = [] } in
     let same : more ≡ progress known before (Some block) = cc in
     let r = read known before (Some block) same in
     record {
       short = short-cons l ls says.0 r.short;
       more = r.more;
       statements_are = r.statements_are;
-      rest = opened-rest line known l place target (numbered (line + 1) ls) r.more says.1 r.rest;
+      rest = opened-rest line known l place target (numbered_lines (line + 1) ls) r.more says.1 r.rest;
     }
 
-rule-rest : (line : ℕ) (known : List (List ℕ)) (before : List Statement) (block : Block) (l : List ℕ) (ls : List (List ℕ)) (statements : List Statement) (x : Ruled) (more : Progress)
+rule-rest : (line : ℕ) (known : List (List ℕ)) (before : List Statement) (block : OpenReclass) (l : List ℕ) (ls : List (List ℕ)) (statements : List Statement) (x : Ruled) (more : Progress)
     → rule_line block.rules l ≡ x → Ok more ≡ after_rule line (progress known before None) block x
-    → ((known : List (List ℕ)) (before : List Statement) (pending : Option Block) → more ≡ progress known before pending → Rest pending (line + 1) known before ls statements)
+    → ((known : List (List ℕ)) (before : List Statement) (pending : Option OpenReclass) → more ≡ progress known before pending → Rest pending (line + 1) known before ls statements)
     → Rest (Some block) line known before (l ∷ ls) statements
 rule-rest line known before block l ls statements (Err kind) more is e read = cc
 rule-rest line known before block l ls statements (Ok (line_kind.End, rules)) more is e read =
@@ -199,7 +200,7 @@ rule-rest line known before block l ls statements (Ok (line_kind.End, rules)) mo
         rules = [];
         inner = [];
         last = record { number = line; bytes = l };
-        others = numbered (line + 1) ls;
+        others = numbered_lines (line + 1) ls;
         more = r.more;
         lines_are = refl;
         spell = reclass_rules.AreRules.none;
@@ -256,7 +257,7 @@ rule-rest line known before block l ls statements (Ok (line_kind.Rule, rules)) m
       };
     }
 
-rest-of : (line : ℕ) (known : List (List ℕ)) (before : List Statement) (pending : Option Block) (ls : List (List ℕ)) (statements : List Statement)
+rest-of : (line : ℕ) (known : List (List ℕ)) (before : List Statement) (pending : Option OpenReclass) (ls : List (List ℕ)) (statements : List Statement)
     → IsScriptReading line (progress known before pending) ls (Ok statements) → Rest pending line known before ls statements
 rest-of line known before None [] statements e =
     let same : before ≡ statements = cc in
@@ -275,9 +276,9 @@ rest-of line known before (Some block) (l ∷ ls) statements (Ok more, e, rest) 
 -- ---- groups, as they are read
 
 -- from some lines on, wherever they stand, statements are read
-abbrev Reads : List (List ℕ) → List Statement → List Line → List Statement → Type 0
+abbrev Reads : List (List ℕ) → List Statement → List ScriptLine → List Statement → Type 0
 Reads known before lines statements =
-    (line : ℕ) (ls : List (List ℕ)) → lines ≡ numbered line ls → All (λ l. length l ≤ 65535) ls → IsScriptReading line (progress known before None) ls (Ok statements)
+    (line : ℕ) (ls : List (List ℕ)) → lines ≡ numbered_lines line ls → All (λ l. length l ≤ 65535) ls → IsScriptReading line (progress known before None) ls (Ok statements)
 
 short-head : (l : List ℕ) (ls : List (List ℕ)) → All (λ l. length l ≤ 65535) (l ∷ ls) → length l ≤ 65535
 short-head l ls all = all 0 l (omega arith)
@@ -286,30 +287,31 @@ short-tail : (l : List ℕ) (ls : List (List ℕ)) → All (λ l. length l ≤ 6
 short-tail l ls all = λ i d within. all (suc i) d (omega (arith, within))
 
 -- the rules of an r.reclass, and what comes after its end
-inside-read : {inner : List Line} {rules : List RuleValue} → AreRules inner rules → (known : List (List ℕ)) (before : List Statement) (block : Block) (last : Line) (others : List Line) (statements : List Statement)
+inside-read : {inner : List ScriptLine} {rules : List RuleValue} → AreRules inner rules → (known : List (List ℕ)) (before : List Statement) (block : OpenReclass) (last : ScriptLine) (others : List ScriptLine) (statements : List Statement)
     → IsEnd last.bytes
     → Reads (known ++ block.target ∷ []) (before ++ record { line = block.line; command = Reclass block.place block.target (block.rules ++ rules) } ∷ []) others statements
-    → (line : ℕ) (ls : List (List ℕ)) → inner ++ last ∷ others ≡ numbered line ls → All (λ l. length l ≤ 65535) ls → IsScriptReading line (progress known before (Some block)) ls (Ok statements)
+    → (line : ℕ) (ls : List (List ℕ)) → inner ++ last ∷ others ≡ numbered_lines line ls → All (λ l. length l ≤ 65535) ls → IsScriptReading line (progress known before (Some block)) ls (Ok statements)
 inside-read reclass_rules.AreRules.none known before block last others statements is_last reads line [] e short = cc
 inside-read reclass_rules.AreRules.none known before block last others statements is_last reads line (l ∷ ls) e short =
     let same : last ≡ record { number = line; bytes = l } = cc in
-    let rest : others ≡ numbered (line + 1) ls = cc in
-    let is = end-read block.rules l (short-head l ls short) (subst (λ (x : Line). IsEnd x.bytes) same is_last) in
+    let rest : others ≡ numbered_lines (line + 1) ls = cc in
+    let is = end-read block.rules l (short-head l ls short) (subst (λ (x : ScriptLine). IsEnd x.bytes) same is_last) in
     let more : Progress = progress (known ++ block.target ∷ []) (before ++ record { line = block.line; command = Reclass block.place block.target block.rules } ∷ []) None in
     let reading = reads (line + 1) ls rest (short-tail l ls short) in
     (Ok more, rw is refl, subst (λ rs. IsScriptReading (line + 1) (progress (known ++ block.target ∷ []) (before ++ record { line = block.line; command = Reclass block.place block.target rs } ∷ []) None) ls (Ok statements)) (append-nil block.rules) reading)
 inside-read (reclass_rules.AreRules.skipped says spells) known before block last others statements is_last reads line [] e short = cc
 inside-read (reclass_rules.AreRules.skipped {line = first} {lines = inner} says spells) known before block last others statements is_last reads line (l ∷ ls) e short =
     let same : first ≡ record { number = line; bytes = l } = cc in
-    let rest : inner ++ last ∷ others ≡ numbered (line + 1) ls = cc in
-    let is = skipped-read block.rules l (short-head l ls short) (subst (λ (x : Line). IsSkipped x.bytes) same says) in
+    let rest : inner ++ last ∷ others ≡ numbered_lines (line + 1) ls = cc in
+    let is = skipped-read block.rules l (short-head l ls short)
+    (subst (λ (x : ScriptLine). IsSkipped x.bytes) same says) in
     (Ok (progress known before (Some block)), rw is refl, inside-read spells known before block last others statements is_last reads (line + 1) ls rest (short-tail l ls short))
 inside-read (reclass_rules.AreRules.rule says spells) known before block last others statements is_last reads line [] e short = cc
 inside-read (reclass_rules.AreRules.rule {line = first} {lines = inner} {first = rule} {rules = rules} says spells) known before block last others statements is_last reads line (l ∷ ls) e short =
     let same : first ≡ record { number = line; bytes = l } = cc in
-    let rest : inner ++ last ∷ others ≡ numbered (line + 1) ls = cc in
-    let is = rule-read block.rules l rule (short-head l ls short) (subst (λ (x : Line). SpellsRule x.bytes rule) same says) in
-    let next : Block = record block { rules = block.rules ++ rule ∷ [] } in
+    let rest : inner ++ last ∷ others ≡ numbered_lines (line + 1) ls = cc in
+    let is = rule-read block.rules l rule (short-head l ls short) (subst (λ (x : ScriptLine). SpellsRule x.bytes rule) same says) in
+    let next : OpenReclass = record block { rules = block.rules ++ rule ∷ [] } in
     let joined : block.rules ++ rule ∷ rules ≡ (block.rules ++ rule ∷ []) ++ rules = sym (append_assoc block.rules (rule ∷ []) rules) in (
       Ok (progress known before (Some next)),
       rw is refl,
@@ -318,26 +320,26 @@ inside-read (reclass_rules.AreRules.rule {line = first} {lines = inner} {first =
           (line + 1) ls rest (short-tail l ls short),
     )
 
-group-read : {known : List (List ℕ)} {lines : List Line} {statements : List Statement} → Group known lines statements → (before : List Statement) → Reads known before lines (before ++ statements)
+group-read : {known : List (List ℕ)} {lines : List ScriptLine} {statements : List Statement} → Group known lines statements → (before : List Statement) → Reads known before lines (before ++ statements)
 group-read grouping.Group.none before line [] e short = ap Ok (sym (append-nil before))
 group-read grouping.Group.none before line (l ∷ ls) e short = cc
 group-read (grouping.Group.skipped says group) before line [] e short = cc
 group-read (grouping.Group.skipped {known = known} {line = first} {lines = lines} says group) before line (l ∷ ls) e short =
     let same : first ≡ record { number = line; bytes = l } = cc in
-    let rest : lines ≡ numbered (line + 1) ls = cc in (
+    let rest : lines ≡ numbered_lines (line + 1) ls = cc in (
       Ok (progress known before None),
-      (Ok Skipped, says-head known l Skipped (short-head l ls short) (subst (λ (x : Line). IsSkipped x.bytes) same says), refl),
+      (Ok Skipped, says-head known l Skipped (short-head l ls short) (subst (λ (x : ScriptLine). IsSkipped x.bytes) same says), refl),
       group-read group before (line + 1) ls rest (short-tail l ls short),
     )
 group-read (grouping.Group.command says group) before line [] e short = cc
 group-read (grouping.Group.command {known = known} {line = first} {lines = lines} {command = command} {statements = statements} says group) before line (l ∷ ls) e short =
     let same : first ≡ record { number = line; bytes = l } = cc in
-    let rest : lines ≡ numbered (line + 1) ls = cc in
+    let rest : lines ≡ numbered_lines (line + 1) ls = cc in
     let s : Statement = record { line = line; command = command } in
-    let is = says-head known l (Whole command) (short-head l ls short) (subst (λ (x : Line). SpellsCommand known x.bytes command) same says) in
+    let is = says-head known l (Whole command) (short-head l ls short) (subst (λ (x : ScriptLine). SpellsCommand known x.bytes command) same says) in
     let reading = group-read group (before ++ s ∷ []) (line + 1) ls rest (short-tail l ls short) in
     let whole : (before ++ s ∷ []) ++ statements ≡ before ++ record { line = first.number; command = command } ∷ statements =
-    append_assoc before (s ∷ []) statements ∙ ap (λ (x : Line). before ++ record { line = x.number; command = command } ∷ statements) (sym same) in (
+    append_assoc before (s ∷ []) statements ∙ ap (λ (x : ScriptLine). before ++ record { line = x.number; command = command } ∷ statements) (sym same) in (
       Ok (progress (known_after known command) (before ++ s ∷ []) None),
       (Ok (Whole command), is, refl),
       subst (λ ss. IsScriptReading (line + 1) (progress (known_after known command) (before ++ s ∷ []) None) ls (Ok ss)) whole reading,
@@ -345,12 +347,12 @@ group-read (grouping.Group.command {known = known} {line = first} {lines = lines
 group-read (grouping.Group.reclass last says spells is_last group) before line [] e short = cc
 group-read (grouping.Group.reclass {known = known} {line = first} {inner = inner} {lines = lines} {place = place} {target = target} {rules = rules} {statements = statements} last says spells is_last group) before line (l ∷ ls) e short =
     let same : first ≡ record { number = line; bytes = l } = cc in
-    let rest : inner ++ last ∷ lines ≡ numbered (line + 1) ls = cc in
+    let rest : inner ++ last ∷ lines ≡ numbered_lines (line + 1) ls = cc in
     let s : Statement = record { line = line; command = Reclass place target rules } in
-    let block : Block = record { line = line; place = place; target = target; rules = [] } in
-    let is = says-head known l (Opened place target) (short-head l ls short) (subst (λ (x : Line). SpellsReclass known x.bytes place target) same says) in
+    let block : OpenReclass = record { line = line; place = place; target = target; rules = [] } in
+    let is = says-head known l (Opened place target) (short-head l ls short) (subst (λ (x : ScriptLine). SpellsReclass known x.bytes place target) same says) in
     let whole : (before ++ s ∷ []) ++ statements ≡ before ++ record { line = first.number; command = Reclass place target rules } ∷ statements =
-    append_assoc before (s ∷ []) statements ∙ ap (λ (x : Line). before ++ record { line = x.number; command = Reclass place target rules } ∷ statements) (sym same) in
+    append_assoc before (s ∷ []) statements ∙ ap (λ (x : ScriptLine). before ++ record { line = x.number; command = Reclass place target rules } ∷ statements) (sym same) in
     let after : Reads (known ++ target ∷ []) (before ++ s ∷ []) lines (before ++ record { line = first.number; command = Reclass place target rules } ∷ statements) =
     subst (λ ss. Reads (known ++ target ∷ []) (before ++ s ∷ []) lines ss) whole (group-read group (before ++ s ∷ [])) in (
       Ok (progress known before (Some block)),
@@ -366,7 +368,7 @@ read-grouped known text statements = (to, from)
     to : IsScriptReading 1 (start known) (script_lines text) (Ok statements) → IsGrouped known text statements
     to reading =
         let r = rest-of 1 known [] None (script_lines text) statements reading in
-        record { short = r.short; grouped = subst (λ ss. Group known (numbered 1 (script_lines text)) ss) r.statements_are r.rest }
+        record { short = r.short; grouped = subst (λ ss. Group known (numbered_lines 1 (script_lines text)) ss) r.statements_are r.rest }
 
     from : IsGrouped known text statements → IsScriptReading 1 (start known) (script_lines text) (Ok statements)
     from are = group-read are.grouped [] 1 (script_lines text) refl are.short

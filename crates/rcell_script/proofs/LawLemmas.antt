@@ -13,7 +13,7 @@ use Rattle.rcell_script.proofs.GroupingLemmas.{read-grouped}
 use Rattle.rcell_script_commands.specs.declared.script_fault.ScriptFault.{ScriptFault}
 use Rattle.rcell_script_commands.specs.declared.script_fault.ScriptKind.{ScriptKind}
 use Rattle.rcell_script_commands.specs.declared.heads.Head.{Head}
-use Rattle.rcell_script.specs.declared.line_reading.Block.{Block}
+use Rattle.rcell_script.specs.declared.line_reading.OpenReclass.{OpenReclass}
 use Rattle.rcell_script.specs.declared.line_reading.Progress.{Progress}
 use Rattle.rcell_script.specs.declared.statement.Statement.{Statement}
 
@@ -29,7 +29,7 @@ one_head_of one false known l head other h o = one_short one (is_mapcalc (words_
 one_head : OneAssignment → (known : List (List ℕ)) (l : List ℕ) (head : Head) (other : Result Head ScriptKind) → IsHead known l (Ok head) → IsHead known l other → other ≡ Ok head
 one_head one known l head other h o = one_head_of one (nat_lt 65535 (length l)) known l head other h o
 
-one_next : OneAssignment → (pending : Option Block) (line : ℕ) (read more : Progress) (l : List ℕ) (other : Result Progress ScriptFault) → IsNextTo pending line read l (Ok more) → IsNextTo pending line read l other → other ≡ Ok more
+one_next : OneAssignment → (pending : Option OpenReclass) (line : ℕ) (read more : Progress) (l : List ℕ) (other : Result Progress ScriptFault) → IsNextTo pending line read l (Ok more) → IsNextTo pending line read l other → other ≡ Ok more
 one_next one (Some block) line read more l other h o = o ∙ sym h
 one_next one None line read more l other (Err kind, is, e) o = cc
 one_next one None line read more l other (Ok head, is, e) (head', is', e') = e' ∙ ap (after_head line read) (one_head one read.known l head head' is is') ∙ sym e

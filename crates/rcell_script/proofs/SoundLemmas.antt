@@ -13,7 +13,7 @@ use Rattle.rcell_script_commands.specs.declared.script_fault.ScriptFault.{Script
 use Rattle.rcell_script_commands.specs.declared.script_fault.ScriptKind.{ScriptKind}
 use Rattle.rcell_script_commands.specs.declared.heads.Head.{Head}
 use Rattle.rcell_script_commands.specs.declared.heads.Head.TheVariants.{Skipped, Whole, Opened}
-use Rattle.rcell_script.specs.declared.line_reading.Block.{Block}
+use Rattle.rcell_script.specs.declared.line_reading.OpenReclass.{OpenReclass}
 use Rattle.rcell_script.specs.declared.line_reading.Progress.{Progress}
 use Rattle.rcell_script_commands.specs.declared.command.Command.{Command}
 use Rattle.rcell_script_commands.specs.declared.command.Command.TheVariants.{Reclass}
@@ -59,12 +59,12 @@ IsSound-head first read more line (Whole command) h fits e sound =
     let same : with_statement line command read ≡ more = cc in
     subst (IsSound first) same (IsSound-statement first read line command h fits sound)
 IsSound-head first read more line (Opened place target) h fits e sound =
-    let block : Block = record { line = line; place = place; target = target; rules = [] } in
+    let block : OpenReclass = record { line = line; place = place; target = target; rules = [] } in
     let same : (record read { pending = Some block }) ≡ more = cc in
     subst (IsSound first) same (record { known = sound.known; fits = sound.fits; pending = (fits.1, (fits.0, h)); numbered = sound.numbered })
 
 -- after a line among rules
-pub IsSound-rule : (first : List (List ℕ)) (read more : Progress) (line : ℕ) (block : Block) (x : Result (LineKind × List RuleValue) ScriptKind) → FitsBlock read.known (Some block) → after_rule line read block x ≡ Ok more → IsSound first read → IsSound first more
+pub IsSound-rule : (first : List (List ℕ)) (read more : Progress) (line : ℕ) (block : OpenReclass) (x : Result (LineKind × List RuleValue) ScriptKind) → FitsBlock read.known (Some block) → after_rule line read block x ≡ Ok more → IsSound first read → IsSound first more
 IsSound-rule first read more line block (Err kind) fits e sound = cc
 IsSound-rule first read more line block (Ok (line_kind.End, rules)) fits e sound =
     let same : with_statement block.line (Reclass block.place block.target block.rules) read ≡ more = cc in
@@ -77,7 +77,7 @@ IsSound-rule first read more line block (Ok (line_kind.Rule, rules)) fits e soun
     subst (IsSound first) same (record { known = sound.known; fits = sound.fits; pending = fits; numbered = sound.numbered })
 
 -- a line among rules keeps what was kept
-pub IsSound-rules : (read : Progress) (line : ℕ) (block : Block) (x : Result (LineKind × List RuleValue) ScriptKind) (r : Result Progress ScriptFault) → read.pending ≡ Some block
+pub IsSound-rules : (read : Progress) (line : ℕ) (block : OpenReclass) (x : Result (LineKind × List RuleValue) ScriptKind) (r : Result Progress ScriptFault) → read.pending ≡ Some block
     → ReadsLine (λ next. after_rule line (record read { pending = None }) block x ≡ next) r → IfOk r (λ more. (first : List (List ℕ)) → IsSound first read → IsSound first more)
 IsSound-rules read line block x (Err fault) pending e = record {}
 IsSound-rules read line block x (Ok more) pending e =

@@ -6,7 +6,7 @@ use Rattle.rcell_script_commands.specs.declared.script_fault.ScriptKind.{ScriptK
 use Rattle.rcell_script_commands.specs.declared.heads.Head.{Head}
 use Rattle.rcell_script.specs.Lines.{script_lines}
 use Rattle.rcell_script.specs.ScriptsRead.{start, at_end, after_head, after_rule, rule_line, IsNextTo, IsNext, IsScriptReading}
-use Rattle.rcell_script.specs.declared.line_reading.Block.{Block}
+use Rattle.rcell_script.specs.declared.line_reading.OpenReclass.{OpenReclass}
 use Rattle.rcell_script.specs.declared.line_reading.Progress.{Progress}
 use Rattle.rcell_script.specs.declared.statement.Statement.{Statement}
 
@@ -14,7 +14,7 @@ use Rattle.rcell_script.specs.declared.statement.Statement.{Statement}
 abbrev pub EachLineIsHead : Type 0
 EachLineIsHead = (known : List (List ℕ)) (line : List ℕ) → (head : Result Head ScriptKind) × IsHead known line head
 
-next_to : EachLineIsHead → (pending : Option Block) (line : ℕ) (read : Progress) (l : List ℕ) → (next : Result Progress ScriptFault) × IsNextTo pending line read l next
+next_to : EachLineIsHead → (pending : Option OpenReclass) (line : ℕ) (read : Progress) (l : List ℕ) → (next : Result Progress ScriptFault) × IsNextTo pending line read l next
 next_to heads None line read l =
     let h = heads read.known l in
     (after_head line read h.0, (h.0, h.1, refl))

@@ -7,11 +7,11 @@ abbrev pub script_lines : List ℕ → List (List ℕ)
 script_lines text = map without_terminator (lines_of text)
 
 -- a line and its number
-pub record Line : Type 0 where
+pub record ScriptLine : Type 0 where
   pub number : ℕ
   pub bytes : List ℕ
 
 -- lines with their numbers, from a first one on
-abbrev pub numbered : ℕ → List (List ℕ) → List Line
-numbered first [] = []
-numbered first (l ∷ ls) = record { number = first; bytes = l } ∷ numbered (first + 1) ls
+abbrev pub numbered_lines : ℕ → List (List ℕ) → List ScriptLine
+numbered_lines first [] = []
+numbered_lines first (l ∷ ls) = record { number = first; bytes = l } ∷ numbered_lines (first + 1) ls

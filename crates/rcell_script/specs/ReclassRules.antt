@@ -3,16 +3,16 @@ use Rattle.std.specs.Prelude.{ℕ, ◌≡◌, List, ◌∷◌, codes, []}
 use Rattle.cell_cats.specs.Rule.{RuleValue}
 use Rattle.cell_cats.specs.RuleLine.{SpellsRule}
 use Rattle.rcell_script_commands.specs.Skipped.{IsSkipped}
-use Rattle.cell_core_text.specs.Blanks.{trimmed}
-use Rattle.rcell_script.specs.Lines.{Line}
+use Rattle.cell_core_text.specs.Blanks.{trimmed_text}
+use Rattle.rcell_script.specs.Lines.{ScriptLine}
 
 -- the line after the rules of an r.reclass
 abbrev pub IsEnd : List ℕ → Type 0
-IsEnd bytes = trimmed bytes ≡ codes "end"
+IsEnd bytes = trimmed_text bytes ≡ codes "end"
 
 -- lines that spell rules, one each, but those that say nothing
-pub data AreRules : List Line → List RuleValue → Type 0 where
+pub data AreRules : List ScriptLine → List RuleValue → Type 0 where
   none : AreRules [] []
-  skipped : {line : Line} {lines : List Line} {rules : List RuleValue} → IsSkipped line.bytes → AreRules lines rules → AreRules (line ∷ lines) rules
-  rule : {line : Line} {lines : List Line} {first : RuleValue} {rules : List RuleValue}
+  skipped : {line : ScriptLine} {lines : List ScriptLine} {rules : List RuleValue} → IsSkipped line.bytes → AreRules lines rules → AreRules (line ∷ lines) rules
+  rule : {line : ScriptLine} {lines : List ScriptLine} {first : RuleValue} {rules : List RuleValue}
       → SpellsRule line.bytes first → AreRules lines rules → AreRules (line ∷ lines) (first ∷ rules)

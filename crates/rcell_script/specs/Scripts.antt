@@ -2,7 +2,7 @@
 use Rattle.std.specs.Prelude.{ℕ, List, ◌≤◌, [], ◌∷◌, ◌++◌, length, All}
 use Rattle.cell_cats.specs.Rule.{RuleValue}
 use Rattle.rcell_script.specs.KnownMaps.{known_after}
-use Rattle.rcell_script.specs.Lines.{script_lines, Line, numbered}
+use Rattle.rcell_script.specs.Lines.{script_lines, ScriptLine, numbered_lines}
 use Rattle.rcell_script_commands.specs.Skipped.{IsSkipped}
 use Rattle.rcell_script_commands.specs.RReclass.{SpellsReclass}
 use Rattle.rcell_script_commands.specs.CommandSpelling.{SpellsCommand}
@@ -12,21 +12,21 @@ use Rattle.rcell_script_commands.specs.declared.command.Command.TheVariants.{Rec
 use Rattle.rcell_script.specs.declared.statement.Statement.{Statement}
 
 -- lines group into statements over known maps: a command is a line, and an r.reclass its line, those of its rules and `end`; each map made is known after its statement
-pub data Group : List (List ℕ) → List Line → List Statement → Type 0 where
+pub data Group : List (List ℕ) → List ScriptLine → List Statement → Type 0 where
   none : {known : List (List ℕ)} → Group known [] []
-  skipped : {known : List (List ℕ)} {line : Line} {lines : List Line} {statements : List Statement}
+  skipped : {known : List (List ℕ)} {line : ScriptLine} {lines : List ScriptLine} {statements : List Statement}
       → IsSkipped line.bytes → Group known lines statements → Group known (line ∷ lines) statements
-  command : {known : List (List ℕ)} {line : Line} {lines : List Line} {command : Command} {statements : List Statement}
+  command : {known : List (List ℕ)} {line : ScriptLine} {lines : List ScriptLine} {command : Command} {statements : List Statement}
       → SpellsCommand known line.bytes command → Group (known_after known command) lines statements
       → Group known (line ∷ lines) (record { line = line.number; command = command } ∷ statements)
-  reclass : {known : List (List ℕ)} {line : Line} {inner lines : List Line} {place : ℕ} {target : List ℕ} {rules : List RuleValue} {statements : List Statement} (last : Line)
+  reclass : {known : List (List ℕ)} {line : ScriptLine} {inner lines : List ScriptLine} {place : ℕ} {target : List ℕ} {rules : List RuleValue} {statements : List Statement} (last : ScriptLine)
       → SpellsReclass known line.bytes place target → AreRules inner rules → IsEnd last.bytes → Group (known ++ target ∷ []) lines statements
       → Group known (line ∷ (inner ++ last ∷ lines)) (record { line = line.number; command = Reclass place target rules } ∷ statements)
 
 -- no line has more than 65535 bytes, and the lines group into the statements
 pub record IsGrouped (known : List (List ℕ)) (text : List ℕ) (statements : List Statement) : Type 0 where
   pub short : All (λ l. length l ≤ 65535) (script_lines text)
-  pub grouped : Group known (numbered 1 (script_lines text)) statements
+  pub grouped : Group known (numbered_lines 1 (script_lines text)) statements
 
 -- the text is a script of these statements, over known maps: its lines group into them
 unfoldable pub IsScript : List (List ℕ) → List ℕ → List Statement → Type 0

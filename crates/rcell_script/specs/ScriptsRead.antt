@@ -13,7 +13,7 @@ use Rattle.rcell_script_commands.specs.declared.script_fault.ScriptKind.TheVaria
 use Rattle.rcell_script_commands.specs.ScriptFaults.{of_rule}
 use Rattle.rcell_script_commands.specs.declared.heads.Head.{Head}
 use Rattle.rcell_script_commands.specs.declared.heads.Head.TheVariants.{Skipped, Whole, Opened}
-use Rattle.rcell_script.specs.declared.line_reading.Block.{Block}
+use Rattle.rcell_script.specs.declared.line_reading.OpenReclass.{OpenReclass}
 use Rattle.rcell_script.specs.declared.line_reading.Progress.{Progress}
 use Rattle.rcell_script_commands.specs.declared.command.Command.{Command}
 use Rattle.rcell_script_commands.specs.declared.command.Command.TheVariants.{Reclass}
@@ -49,7 +49,7 @@ abbrev pub rule_line : List RuleValue → List ℕ → Result (LineKind × List 
 rule_line rules l = if nat_lt 65535 (length l) then Err LongLine else as_rule (with_line rules l)
 
 -- after a line among rules: `end` ends the statement that began at the line of r.reclass
-abbrev pub after_rule : ℕ → Progress → Block → Result (LineKind × List RuleValue) ScriptKind → Result Progress ScriptFault
+abbrev pub after_rule : ℕ → Progress → OpenReclass → Result (LineKind × List RuleValue) ScriptKind → Result Progress ScriptFault
 after_rule line read block (Err kind) = Err (fault_at line kind)
 after_rule line read block (Ok x) = by x.0
   where
@@ -59,7 +59,7 @@ after_rule line read block (Ok x) = by x.0
     by line_kind.Rule = Ok (record read { pending = Some (record block { rules = x.1 }) })
 
 -- what comes after one more line, outside the rules of an r.reclass or among them
-abbrev pub IsNextTo : Option Block → ℕ → Progress → List ℕ → Result Progress ScriptFault → Type 0
+abbrev pub IsNextTo : Option OpenReclass → ℕ → Progress → List ℕ → Result Progress ScriptFault → Type 0
 IsNextTo None line read l next = (head : Result Head ScriptKind) × IsHead read.known l head × (next ≡ after_head line read head)
 IsNextTo (Some block) line read l next = next ≡ after_rule line (record read { pending = None }) block (rule_line block.rules l)
 
@@ -71,7 +71,7 @@ IsNext line read l next = IsNextTo read.pending line read l next
 abbrev pub at_end : Progress → Result (List Statement) ScriptFault
 at_end read = by read.pending
   where
-    by : Option Block → Result (List Statement) ScriptFault
+    by : Option OpenReclass → Result (List Statement) ScriptFault
     by None = Ok read.statements
     by (Some block) = Err (fault_at block.line MissingEnd)
 

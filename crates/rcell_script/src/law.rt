@@ -20,6 +20,6 @@ pub fn no_fault_of_a_script()
 
 /// The reading of a text line by line gives statements exactly where the text is a script of them: its lines group into
 /// them.
-pub fn reading_denotes()
+pub fn script_reading_denotes()
     ensures { ReadingDenotes }
 {}

@@ -20,7 +20,7 @@ use std::alloc::Global;
 
 /// An r.reclass whose rules are being read.
 #[derive(Drop)]
-pub(crate) struct Block {
+pub(crate) struct OpenReclass {
     line: u64,
     place: usize,
     target: Name,
@@ -32,7 +32,7 @@ pub(crate) struct Block {
 pub(crate) struct Progress {
     known: Names,
     statements: Script,
-    pending: Option<Block>,
+    pending: Option<OpenReclass>,
 }
 
 /// Memory was refused.
@@ -54,7 +54,7 @@ fn fault_at(line: u64, kind: ScriptKind) -> ScriptFault
 }
 
 // A copy of names.
-fn copied(alloc: Global, names: &Names) -> Result<Names, Memory>
+fn names_copy(alloc: Global, names: &Names) -> Result<Names, Memory>
     ensures { IfOk result (λ copy. copy ≡ names.now) }
 {
     let mut copy = Names::new(alloc);
@@ -108,7 +108,7 @@ impl Progress {
     pub(crate) fn new(alloc: Global, known: &Names) -> Result<Progress, Memory>
         ensures { IfOk result (λ read. read ≡ start known.now) }
     {
-        let known = copied(alloc, known)?;
+        let known = names_copy(alloc, known)?;
         Ok(Progress {
             known,
             statements: Script::new(alloc),
@@ -141,7 +141,7 @@ impl Progress {
             Head::Skipped => Ok(self),
             Head::Whole(command) => self.with_statement(alloc, line, command),
             Head::Opened { place, target } => Ok(Progress {
-                pending: Some(Block {
+                pending: Some(OpenReclass {
                     line,
                     place,
                     target,
@@ -157,12 +157,12 @@ impl Progress {
         self,
         alloc: Global,
         line: u64,
-        mut block: Block,
+        mut block: OpenReclass,
         text: &[u8],
     ) -> Result<Progress, ScriptFault>
         requires { FitsBlock self.known (Some block) }
-        ensures next { ReadsLine (λ next. after_rule line self block (rule_line block.rules text.now)
-            ≡ next) result }
+        ensures next { ReadsLine
+            (λ next. after_rule line self block (rule_line block.rules text.now) ≡ next) result }
         ensures memory { IfErr result (λ fault. fault.kind ≡ ScriptKind.Memory → fault.line ≡ 0) }
     {
         match add_rule(&mut block.rules, text) {

@@ -7,7 +7,7 @@ use Rattle.cell_calc_binding.specs.Formula.{Formula}
 use Rattle.cell_calc_binding.specs.Reach.{top_of, top_of_all}
 use Rattle.cell_calc_grammar.specs.Tree.{fold_all, with_leaves_all}
 use Rattle.cell_calc_grammar.specs.Term.{Term, Number, Map, Negated, Not, Binary, Call, Terms, NoTrees, Then}
-use Rattle.cell_calc_language.specs.Unknown.{first_column, unplaced, unknown_at, first_unknown}
+use Rattle.cell_calc_language.specs.Unknown.{first_column, unplaced_column, unknown_at, first_unknown}
 use Rattle.rcell_script_options.proofs.PlaceLemmas.{place_of-within}
 use Rattle.cell_calc_language.specs.Assignment.{IsAssignmentText}
 use Rattle.cell_calc_language.specs.GrammarFault.{IsTextFault}
@@ -37,7 +37,7 @@ neither : (x y : Option ℕ) → first_column x y ≡ None → (x ≡ None) × (
 neither None y e = (refl, e)
 neither (Some c) y e = cc
 
-placed-within : (names : List (List ℕ)) (name : List ℕ) (c : ℕ) (o : Option ℕ) → place_of name names ≡ o → unplaced o c ≡ None → unwrap_or o 0 + 1 ≤ length names
+placed-within : (names : List (List ℕ)) (name : List ℕ) (c : ℕ) (o : Option ℕ) → place_of name names ≡ o → unplaced_column o c ≡ None → unwrap_or o 0 + 1 ≤ length names
 placed-within names name c None p e = cc
 placed-within names name c (Some i) p e = omega (arith, place_of-within name names i p)
 

@@ -2,7 +2,7 @@
 use Rattle.std.proofs.Common.{◌≡◌, ℕ, Bool, true, false, List, [], ◌∷◌, refl, sym, ◌∙◌}
 use Rattle.std.specs.List.{filter, slice_split, onto_first}
 use Rattle.cell_cats.specs.RuleLine.{is_skipped}
-use Rattle.cell_core_text.specs.Blanks.{is_blank, before_blanks, trimmed}
+use Rattle.cell_core_text.specs.Blanks.{is_blank, before_blanks, trimmed_text}
 use Rattle.cell_core_text.specs.Words.{is_word, words_of}
 use Rattle.rcell_script_commands.specs.Skipped.{is_comment}
 
@@ -19,10 +19,10 @@ first_kept : (b : ℕ) (bs : List ℕ) → is_blank b ≡ false → is_skipped (
 first_kept b bs e = rw e refl
 
 -- the first word begins with the first byte that is no blank
-pub say_nothing-trimmed : (line : List ℕ) → say_nothing (words_of line) ≡ is_skipped (trimmed line)
+pub say_nothing-trimmed : (line : List ℕ) → say_nothing (words_of line) ≡ is_skipped (trimmed_text line)
 say_nothing-trimmed [] = refl
 say_nothing-trimmed (b ∷ bs) = by (is_blank b) refl (say_nothing-trimmed bs)
   where
-    by : (blank : Bool) → is_blank b ≡ blank → say_nothing (words_of bs) ≡ is_skipped (trimmed bs) → say_nothing (words_of (b ∷ bs)) ≡ is_skipped (trimmed (b ∷ bs))
+    by : (blank : Bool) → is_blank b ≡ blank → say_nothing (words_of bs) ≡ is_skipped (trimmed_text bs) → say_nothing (words_of (b ∷ bs)) ≡ is_skipped (trimmed_text (b ∷ bs))
     by true e rest = rw e rest
     by false e rest = rw e (first_word b (slice_split is_blank bs) ∙ sym (first_kept b bs e))

@@ -1,7 +1,7 @@
 -- Lines that say nothing (profile).
 use Rattle.std.specs.Prelude.{ℕ, Bool, false, ◌==◌, List, [], ◌∷◌, ◌≡◌, true, codes}
 use Rattle.cell_cats.specs.RuleLine.{is_skipped}
-use Rattle.cell_core_text.specs.Blanks.{trimmed}
+use Rattle.cell_core_text.specs.Blanks.{trimmed_text}
 use Rattle.cell_core_values.specs.Letters.{byte}
 
 -- a word that begins a comment: its first byte is `#`
@@ -11,4 +11,4 @@ is_comment (b ∷ bs) = b == byte (codes "#")
 
 -- a line that says nothing: blanks alone, or a comment
 abbrev pub IsSkipped : List ℕ → Type 0
-IsSkipped bytes = is_skipped (trimmed bytes) ≡ true
+IsSkipped bytes = is_skipped (trimmed_text bytes) ≡ true

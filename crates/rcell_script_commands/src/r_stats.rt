@@ -31,7 +31,11 @@ fn skip_of(no_null: bool, no_all_null: bool) -> Skip
 }
 
 // The combination after which a table goes on, where one is given.
-fn after_of(alloc: Global, width: usize, given: Option<&[u8]>) -> Result<Option<Combo>, ScriptKind>
+fn after_in_text(
+    alloc: Global,
+    width: usize,
+    given: Option<&[u8]>,
+) -> Result<Option<Combo>, ScriptKind>
     requires { (1 ≤ width) × (width ≤ 16) }
     ensures after { Answers ScriptKind.Memory (λ after. after) result
         (after_of width (option_map (λ text. text.now) given.entry)) }
@@ -79,7 +83,7 @@ pub(crate) fn stats_of(alloc: Global, known: &Names, words: &[&[u8]]) -> Result<
 {
     let options = options_of(alloc, Form::Stats, words)?;
     let places = input_places(alloc, known, &options)?;
-    let after = after_of(alloc, places.as_slice().len(), options.after())?;
+    let after = after_in_text(alloc, places.as_slice().len(), options.after_text())?;
     let options = printed_with(alloc, options, after)?;
     Ok(Command::Stats { places, options })
 }

@@ -24,7 +24,7 @@ use Rattle.rcell_script.specs.ReadScripts.{IsReadAs, IsScriptFault}
 use Rattle.rcell_script.specs.declared.statement.Statement.{Statement}
 use Rattle.rcell_script.proofs.LawLemmas.{no_fault_of_a_script, reading-denotes}
 use Rattle.rcell_script.proofs.TotalLemmas.{EachLineIsHead, read_somehow}
-use Rattle.rcell_script_law.specs.JudgedLaw.{IsGoodText, IsBadText, TextsAreJudged}
+use Rattle.rcell_script_law.specs.JudgedLaw.{IsGoodText, IsBadText, ScriptTextsAreJudged}
 use Rattle.rcell_script_law.proofs.Plain.{IsPlain, plain_list}
 
 -- a fault of the grammar is not one of memory
@@ -78,7 +78,7 @@ head_of false known line = short_head (is_mapcalc (words_of line)) known line
 line_head : EachLineIsHead
 line_head known line = head_of (nat_lt 65535 (length line)) known line
 
-pub texts_are_judged : TextsAreJudged
+pub texts_are_judged : ScriptTextsAreJudged
 unfolding IsReadAs IsScriptFault
 texts_are_judged known text =
     let read = read_somehow line_head known text in

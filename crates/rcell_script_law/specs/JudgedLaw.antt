@@ -18,5 +18,5 @@ IsBadText known text =
     × ((statements : List Statement) → IsScript known text statements → ⊥)
 
 -- each text is the one or the other, over any known maps
-abbrev pub TextsAreJudged : Type 0
-TextsAreJudged = (known : List (List ℕ)) (text : List ℕ) → IsGoodText known text ⊎ IsBadText known text
+abbrev pub ScriptTextsAreJudged : Type 0
+ScriptTextsAreJudged = (known : List (List ℕ)) (text : List ℕ) → IsGoodText known text ⊎ IsBadText known text

@@ -3,13 +3,13 @@ use Rattle.std.proofs.Common.{◌≡◌, ℕ, Bool, true, false, List, [], ◌�
 use Rattle.std.specs.Prelude.{◌&&◌, nat_le}
 use Rattle.std.specs.List.{list_all}
 use Rattle.std.proofs.lemmas.Bool.Decides.{nat_tests}
-use Rattle.cell_ascii_meaning.specs.GridTokens.{is_grid_word}
+use Rattle.cell_ascii_meaning.specs.GridTokens.{is_word_byte}
 use Rattle.cell_ascii_meaning.specs.Header.{is_colon, has_colon}
 use Rattle.cell_ascii_meaning.specs.Writing.{IsNullText}
 use Rattle.rcell_script_options.specs.NullText.{is_null_byte, is_null_text}
 
 -- a character of a null text ends no word
-is_word-null : (b : ℕ) → is_null_byte b ≡ true → is_grid_word b ≡ true
+is_word-null : (b : ℕ) → is_null_byte b ≡ true → is_word_byte b ≡ true
 is_word-null b e = grind (arith, nat_tests)
 
 no_colon-null : (b : ℕ) → is_null_byte b ≡ true → is_colon b ≡ false
@@ -19,7 +19,7 @@ and_true : (a b : Bool) → (a && b) ≡ true → (a ≡ true) × (b ≡ true)
 and_true true b e = (refl, e)
 and_true false b e = cc
 
-words-null : (bs : List ℕ) → list_all is_null_byte bs ≡ true → list_all is_grid_word bs ≡ true
+words-null : (bs : List ℕ) → list_all is_null_byte bs ≡ true → list_all is_word_byte bs ≡ true
 words-null [] e = refl
 words-null (b ∷ bs) e =
     let both = and_true (is_null_byte b) (list_all is_null_byte bs) e in

@@ -15,8 +15,8 @@ use Rattle.rcell_script_options.specs.declared.option_fault.OptionFault.{OptionF
 use Rattle.rcell_script_options.specs.declared.option_fault.OptionFault.TheVariants.{BadOption, BadName}
 use Rattle.rcell_script_options.specs.declared.options.Form.{Form}
 use Rattle.rcell_script_options.specs.declared.options.Form.TheVariants.{Reclass, Clump, Stats, OutAscii}
-use Rattle.rcell_script_options.specs.declared.options.Key.{Key}
-use Rattle.rcell_script_options.specs.declared.options.Key.TheVariants.{Input, Inputs, Output, Separator, NullText, TableNullText, After}
+use Rattle.rcell_script_options.specs.declared.options.OptionKey.{OptionKey}
+use Rattle.rcell_script_options.specs.declared.options.OptionKey.TheVariants.{Input, Inputs, Output, Separator, NullText, TableNullText, After}
 use Rattle.rcell_script_options.proofs.OptionLemmas.{tag, value_for, setting_in, key_values, IsWord, Extends, More, listed, separated, kept, words-read, read-words}
 
 both : (a b : Bool) → (a && b) ≡ true → (a ≡ true) × (b ≡ true)
@@ -26,17 +26,17 @@ both false b e = cc
 -- ---- the keys of a command, by their texts
 
 -- the text that asks for a key among these
-abbrev pub text_of : Key → List (List ℕ × Key) → Option (List ℕ)
+abbrev pub text_of : OptionKey → List (List ℕ × OptionKey) → Option (List ℕ)
 text_of key [] = None
 text_of key (k ∷ ks) = cond (tag key == tag k.1) (Some k.0) (text_of key ks)
 
 -- none of these is the key of this number
-abbrev no_tag : ℕ → List (List ℕ × Key) → Bool
+abbrev no_tag : ℕ → List (List ℕ × OptionKey) → Bool
 no_tag n [] = true
 no_tag n (k ∷ ks) = not (n == tag k.1) && no_tag n ks
 
 -- none of these has this text
-abbrev no_text : List ℕ → List (List ℕ × Key) → Bool
+abbrev no_text : List ℕ → List (List ℕ × OptionKey) → Bool
 no_text t [] = true
 no_text t (k ∷ ks) = not (bytes_eq t k.0) && no_text t ks
 
@@ -46,7 +46,7 @@ is_plain [] = false
 is_plain (b ∷ bs) = not (b == 45)
 
 -- texts without a dash, and no key or text twice
-abbrev are_apart : List (List ℕ × Key) → Bool
+abbrev are_apart : List (List ℕ × OptionKey) → Bool
 are_apart [] = true
 are_apart (k ∷ ks) = is_plain k.0 && (no_tag (tag k.1) ks && (no_text k.0 ks && are_apart ks))
 
@@ -61,10 +61,10 @@ abbrev pair_value : Option (List ℕ) → List ℕ → List ℕ → Option (List
 pair_value None t v = None
 pair_value (Some text) t v = cond (bytes_eq t text) (Some v) None
 
-abbrev pair_setting : List (List ℕ × Key) → List ℕ → List ℕ → Option (Key × List ℕ)
+abbrev pair_setting : List (List ℕ × OptionKey) → List ℕ → List ℕ → Option (OptionKey × List ℕ)
 pair_setting ks t v = option_map (λ key. (key, v)) (key_among ks t)
 
-no_tag-none : (ks : List (List ℕ × Key)) (key : Key) (t v : List ℕ) → no_tag (tag key) ks ≡ true
+no_tag-none : (ks : List (List ℕ × OptionKey)) (key : OptionKey) (t v : List ℕ) → no_tag (tag key) ks ≡ true
     → value_for key (pair_setting ks t v) ≡ None
 no_tag-none [] key t v h = refl
 no_tag-none (k ∷ ks) key t v h = by (λ rest. no_tag-none ks key t v rest) (bytes_eq t k.0) (tag key == tag k.1) refl refl h
@@ -76,7 +76,7 @@ no_tag-none (k ∷ ks) key t v h = by (λ rest. no_tag-none ks key t v rest) (by
     by others true false e s h = rw (e, s) refl
     by others false false e s h = rw e (others h)
 
-no_text-none : (ks : List (List ℕ × Key)) (key : Key) (t v : List ℕ) → no_text t ks ≡ true
+no_text-none : (ks : List (List ℕ × OptionKey)) (key : OptionKey) (t v : List ℕ) → no_text t ks ≡ true
     → pair_value (text_of key ks) t v ≡ None
 no_text-none [] key t v h = refl
 no_text-none (k ∷ ks) key t v h = by (λ rest. no_text-none ks key t v rest) (tag key == tag k.1) (bytes_eq t k.0) refl refl h
@@ -89,7 +89,7 @@ no_text-none (k ∷ ks) key t v h = by (λ rest. no_text-none ks key t v rest) (
     by others false false s e h = rw s (others h)
 
 -- the value for a key is that of the pair with its text
-pair-value : (ks : List (List ℕ × Key)) (key : Key) (t v : List ℕ) → are_apart ks ≡ true
+pair-value : (ks : List (List ℕ × OptionKey)) (key : OptionKey) (t v : List ℕ) → are_apart ks ≡ true
     → value_for key (pair_setting ks t v) ≡ pair_value (text_of key ks) t v
 pair-value [] key t v h = refl
 pair-value (k ∷ ks) key t v h = by (λ rest. pair-value ks key t v rest) (tag key == tag k.1) (bytes_eq t k.0) refl refl
@@ -121,7 +121,7 @@ option_texts form = map (λ k. k.0) (option_keys form)
 
 -- ---- a word
 
-abbrev setting_of : Form → Option (List ℕ × List ℕ) → Option (Key × List ℕ)
+abbrev setting_of : Form → Option (List ℕ × List ℕ) → Option (OptionKey × List ℕ)
 setting_of form pair = option_and_then (λ pair. option_map (λ key. (key, pair.1)) (option_key_of form pair.0)) pair
 
 -- the value that a word gives to the key of a text, where there is one
@@ -160,7 +160,7 @@ dash-none text bs plain = by (nat_lt (position_or_len is_equals (45 ∷ bs)) (le
         at
 
 -- the text of a key has no dash
-text-plain : (ks : List (List ℕ × Key)) (key : Key) (text : List ℕ) → are_apart ks ≡ true
+text-plain : (ks : List (List ℕ × OptionKey)) (key : OptionKey) (text : List ℕ) → are_apart ks ≡ true
     → text_of key ks ≡ Some text → is_plain text ≡ true
 text-plain [] key text h e = cc
 text-plain (k ∷ ks) key text h e = by (λ apart f. text-plain ks key text apart f) (tag key == tag k.1) refl e
@@ -177,7 +177,8 @@ text-plain (k ∷ ks) key text h e = by (λ apart f. text-plain ks key text apar
     by others false s f = others rest f
 
 -- what a word gives to a key
-word-value : (form : Form) (key : Key) (o : Option (List ℕ)) → text_of key (option_keys form) ≡ o → (word : List ℕ)
+word-value : (form : Form) (key : OptionKey) (o : Option (List ℕ)) → text_of key (option_keys form) ≡ o
+    → (word : List ℕ)
     → value_for key (setting_in form word) ≡ slot_value o word
 word-value form key None e [] = refl
 word-value form key (Some text) e [] = refl
@@ -210,7 +211,7 @@ some-is : (is : Bool) (v : List ℕ) → is_some (cond is (Some v) None) ≡ is
 some-is true v = refl
 some-is false v = refl
 
-among-any : (ks : List (List ℕ × Key)) (t v : List ℕ)
+among-any : (ks : List (List ℕ × OptionKey)) (t v : List ℕ)
     → is_some (pair_setting ks t v) ≡ list_any (λ key. bytes_eq t key) (map (λ k. k.0) ks)
 among-any [] t v = refl
 among-any (k ∷ ks) t v = by (among-any ks t v) (bytes_eq t k.0) refl
@@ -222,7 +223,7 @@ among-any (k ∷ ks) t v = by (among-any ks t v) (bytes_eq t k.0) refl
     by others false e = rw e others
 
 -- no key has a value
-none-any : (ks : List (List ℕ × Key)) (word : List ℕ) → are_apart ks ≡ true
+none-any : (ks : List (List ℕ × OptionKey)) (word : List ℕ) → are_apart ks ≡ true
     → ((text : List ℕ) → is_plain text ≡ true → value_in text word ≡ None)
     → list_any (λ key. is_some (value_in key word)) (map (λ k. k.0) ks) ≡ false
 none-any [] word h none = refl
@@ -272,10 +273,10 @@ slot_values None words = []
 slot_values (Some text) words = values_of text words
 
 -- the values that words give to a key of a command
-abbrev pub slots_of : Form → Key → List (List ℕ) → List (List ℕ)
+abbrev pub slots_of : Form → OptionKey → List (List ℕ) → List (List ℕ)
 slots_of form key words = slot_values (text_of key (option_keys form)) words
 
-slots : (form : Form) (key : Key) (words : List (List ℕ))
+slots : (form : Form) (key : OptionKey) (words : List (List ℕ))
     → key_values form key words ≡ slots_of form key words
 slots form key words = by (text_of key (option_keys form)) refl
   where
@@ -357,7 +358,7 @@ separator-spelled value b e = by (separator_in value) e
     by (Some c) f = let same : c ≡ b = cc in ap Some same
 
 -- what is read for a key, as what its values spell
-to-slots : {X : Type 0} (form : Form) (key : Key) (words : List (List ℕ)) (read : List ℕ → Result X OptionFault)
+to-slots : {X : Type 0} (form : Form) (key : OptionKey) (words : List (List ℕ)) (read : List ℕ → Result X OptionFault)
     (Spells : List ℕ → X → Type 0) → ((value : List ℕ) (x : X) → read value ≡ Ok x → Spells value x) → (new : Option X)
     → Extends read (key_values form key words) None new
     → IsOptional Spells (slots_of form key words) new
@@ -365,7 +366,7 @@ to-slots form key words read Spells spells new e =
     subst (λ vs. IsOptional Spells vs new) (slots form key words) (to-optional read Spells spells _ _ e)
 
 -- what its values spell, as what is read for a key
-from-slots : {X : Type 0} (form : Form) (key : Key) (words : List (List ℕ)) (read : List ℕ → Result X OptionFault)
+from-slots : {X : Type 0} (form : Form) (key : OptionKey) (words : List (List ℕ)) (read : List ℕ → Result X OptionFault)
     (Spells : List ℕ → X → Type 0) → ((value : List ℕ) (x : X) → Spells value x → read value ≡ Ok x) → (new : Option X)
     → IsOptional Spells (slots_of form key words) new
     → Extends read (key_values form key words) None new

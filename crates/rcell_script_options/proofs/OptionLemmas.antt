@@ -15,13 +15,13 @@ use Rattle.rcell_script_options.specs.declared.option_fault.OptionFault.{OptionF
 use Rattle.rcell_script_options.specs.declared.option_fault.OptionFault.TheVariants.{BadOption}
 use Rattle.rcell_script_options.specs.declared.options.Flags.{Flags}
 use Rattle.rcell_script_options.specs.declared.options.Form.{Form}
-use Rattle.rcell_script_options.specs.declared.options.Key.{Key}
-use Rattle.rcell_script_options.specs.declared.options.Key.TheVariants.{Input, Inputs, Output, Separator, NullText, TableNullText, After}
+use Rattle.rcell_script_options.specs.declared.options.OptionKey.{OptionKey}
+use Rattle.rcell_script_options.specs.declared.options.OptionKey.TheVariants.{Input, Inputs, Output, Separator, NullText, TableNullText, After}
 
 -- ---- words, by the keys of a command
 
 -- the number of a key
-abbrev pub tag : Key → ℕ
+abbrev pub tag : OptionKey → ℕ
 tag Input = 0
 tag Inputs = 1
 tag Output = 2
@@ -31,17 +31,17 @@ tag TableNullText = 5
 tag After = 6
 
 -- the value of a setting, where it is one of this key
-abbrev pub value_for : Key → Option (Key × List ℕ) → Option (List ℕ)
+abbrev pub value_for : OptionKey → Option (OptionKey × List ℕ) → Option (List ℕ)
 value_for key None = None
 value_for key (Some setting) = cond (tag key == tag setting.0) (Some setting.1) None
 
 -- a key of the command and the value after its equals sign, in a word that begins with no dash
-abbrev pub setting_in : Form → List ℕ → Option (Key × List ℕ)
+abbrev pub setting_in : Form → List ℕ → Option (OptionKey × List ℕ)
 setting_in form [] = None
 setting_in form (b ∷ bs) = cond (b == 45) None (option_and_then (λ pair. option_map (λ key. (key, pair.1)) (option_key_of form pair.0)) (pair_of (b ∷ bs)))
 
 -- the values that words give to a key of a command
-abbrev pub key_values : Form → Key → List (List ℕ) → List (List ℕ)
+abbrev pub key_values : Form → OptionKey → List (List ℕ) → List (List ℕ)
 key_values form key words = filter_map (λ word. value_for key (setting_in form word)) words
 
 -- a word is flags of the command, or a key of it with a value
@@ -144,11 +144,11 @@ take-value read value old with x none is = rw (none, is) refl
 -- ---- one word
 
 -- the key and the value of a pair, where the command has the key
-abbrev setting_of : Form → Option (List ℕ × List ℕ) → Option (Key × List ℕ)
+abbrev setting_of : Form → Option (List ℕ × List ℕ) → Option (OptionKey × List ℕ)
 setting_of form pair = option_and_then (λ p. option_map (λ key. (key, p.1)) (option_key_of form p.0)) pair
 
 -- what a word of these letters and this setting adds
-record Adds (letters : List ℕ) (setting : Option (Key × List ℕ)) (old mid : Given) : Type 0 where
+record Adds (letters : List ℕ) (setting : Option (OptionKey × List ℕ)) (old mid : Given) : Type 0 where
   flags : with_letters old.flags letters ≡ mid.flags
   input : Steps option_name (value_for Input setting) old.input mid.input
   inputs : Steps listed (value_for Inputs setting) old.inputs mid.inputs
@@ -158,7 +158,7 @@ record Adds (letters : List ℕ) (setting : Option (Key × List ℕ)) (old mid :
   table_null_text : Steps table_null_text_of (value_for TableNullText setting) old.table_null_text mid.table_null_text
   after : Steps kept (value_for After setting) old.after mid.after
 
-value-sound : (given mid : Given) (key : Key) (value : List ℕ) → with_value given key value ≡ Ok mid
+value-sound : (given mid : Given) (key : OptionKey) (value : List ℕ) → with_value given key value ≡ Ok mid
     → Adds [] (Some (key, value)) given mid
 value-sound given mid Input value e =
     let t = taken option_name value given.input (λ x. record given { input = Some x }) mid e in
@@ -262,17 +262,17 @@ abbrev IsRead : Form → List ℕ → Given → Given → Type 0
 IsRead form word given mid = IsWord form word × Adds (letters_in word) (setting_in form word) given mid
 
 word-pair : (form : Form) (given mid : Given) (pair : Option (List ℕ × List ℕ)) → with_pair form given pair ≡ Ok mid
-    → (setting : Key × List ℕ) × (setting_of form pair ≡ Some setting) × Adds [] (Some setting) given mid
+    → (setting : OptionKey × List ℕ) × (setting_of form pair ≡ Some setting) × Adds [] (Some setting) given mid
 word-pair form given mid None e = cc
 word-pair form given mid (Some p) e = by (option_key_of form p.0) refl e
   where
-    by : (key : Option Key) → option_key_of form p.0 ≡ key → with_option given key p.1 ≡ Ok mid
-        → (setting : Key × List ℕ) × (setting_of form (Some p) ≡ Some setting) × Adds [] (Some setting) given mid
+    by : (key : Option OptionKey) → option_key_of form p.0 ≡ key → with_option given key p.1 ≡ Ok mid
+        → (setting : OptionKey × List ℕ) × (setting_of form (Some p) ≡ Some setting) × Adds [] (Some setting) given mid
     by None k f = cc
     by (Some key) k f = ((key, p.1), ap (option_map (λ key. (key, p.1))) k, value-sound given mid key p.1 f)
 
 -- a word whose first byte is a dash or none
-abbrev IsReadBy : Form → List ℕ → Given → Given → Bool → Option (Key × List ℕ) → Type 0
+abbrev IsReadBy : Form → List ℕ → Given → Given → Bool → Option (OptionKey × List ℕ) → Type 0
 IsReadBy form bs given mid dash setting = ((are_flags (flags_of form) (cond dash bs []) ≡ true) ⊎ (is_some (cond dash None setting) ≡ true)) × Adds (cond dash bs []) (cond dash None setting) given mid
 
 word-sound : (form : Form) (given mid : Given) (word : List ℕ) → with_word form given word ≡ Ok mid
@@ -289,12 +289,12 @@ word-sound form given mid (b ∷ bs) e = by (b == 45) refl e
     by false d f =
         let s = word-pair form given mid (pair_of (b ∷ bs)) f in
         subst (λ dash. IsReadBy form bs given mid dash (setting_of form (pair_of (b ∷ bs)))) (sym d)
-        (subst (λ (o : Option (Key × List ℕ)). IsReadBy form bs given mid false o) (sym s.1) (inr refl, s.2))
+        (subst (λ (o : Option (OptionKey × List ℕ)). IsReadBy form bs given mid false o) (sym s.1) (inr refl, s.2))
 
 -- ---- all words
 
 -- what letters and values for keys make of options
-pub record Whole (letters : List ℕ) (values : Key → List (List ℕ)) (old new : Given) : Type 0 where
+pub record Whole (letters : List ℕ) (values : OptionKey → List (List ℕ)) (old new : Given) : Type 0 where
   pub flags : with_letters old.flags letters ≡ new.flags
   pub input : Extends option_name (values Input) old.input new.input
   pub inputs : Extends listed (values Inputs) old.inputs new.inputs
@@ -339,7 +339,8 @@ words-sound form (word ∷ words) old new e = by (λ mid f. words-sound form wor
         (All-cons (IsWord form) word words is.0 rest.0, one-more form word words old mid new is.1 rest.1)
 
 -- a value for a key, and what the words after it make
-value-complete : (letters : List ℕ) (values : Key → List (List ℕ)) (old new : Given) (key : Key) (value : List ℕ)
+value-complete : (letters : List ℕ) (values : OptionKey → List (List ℕ)) (old new : Given) (key : OptionKey)
+    (value : List ℕ)
     → Whole letters (λ other. cons_option (value_for other (Some (key, value))) (values other)) old new
     → (mid : Given) × (with_value old key value ≡ Ok mid) × Whole letters values mid new
 value-complete letters values old new Input value whole =
@@ -385,16 +386,16 @@ value-complete letters values old new After value whole =
       record { flags = whole.flags; input = whole.input; inputs = whole.inputs; output = whole.output; separator = whole.separator; null_text = whole.null_text; table_null_text = whole.table_null_text; after = v.rest },
     )
 
-abbrev setting_with : Option Key → List ℕ → Option (Key × List ℕ)
+abbrev setting_with : Option OptionKey → List ℕ → Option (OptionKey × List ℕ)
 setting_with key value = option_map (λ key. (key, value)) key
 
-pair-complete : (form : Form) (letters : List ℕ) (values : Key → List (List ℕ)) (old new : Given) (pair : Option (List ℕ × List ℕ)) → is_some (setting_of form pair) ≡ true
+pair-complete : (form : Form) (letters : List ℕ) (values : OptionKey → List (List ℕ)) (old new : Given) (pair : Option (List ℕ × List ℕ)) → is_some (setting_of form pair) ≡ true
     → Whole letters (λ other. cons_option (value_for other (setting_of form pair)) (values other)) old new
     → (mid : Given) × (with_pair form old pair ≡ Ok mid) × Whole letters values mid new
 pair-complete form letters values old new None some whole = cc
 pair-complete form letters values old new (Some p) some whole = by (option_key_of form p.0) refl some whole
   where
-    by : (key : Option Key) → option_key_of form p.0 ≡ key → is_some (setting_with key p.1) ≡ true
+    by : (key : Option OptionKey) → option_key_of form p.0 ≡ key → is_some (setting_with key p.1) ≡ true
         → Whole letters (λ other. cons_option (value_for other (setting_with key p.1)) (values other)) old new
         → (mid : Given) × (with_option old (option_key_of form p.0) p.1 ≡ Ok mid) × Whole letters values mid new
     by None k some whole = cc
@@ -402,16 +403,16 @@ pair-complete form letters values old new (Some p) some whole = by (option_key_o
         let v = value-complete letters values old new key p.1 whole in
         (v.0, ap (λ o. with_option old o p.1) k ∙ v.1, v.2)
 
-flags-complete : (form : Form) (word letters : List ℕ) (values : Key → List (List ℕ)) (old new : Given)
+flags-complete : (form : Form) (word letters : List ℕ) (values : OptionKey → List (List ℕ)) (old new : Given)
     → are_flags (flags_of form) word ≡ true → Whole (word ++ letters) values old new
     → (mid : Given) × (with_flags form old word ≡ Ok mid) × Whole letters values mid new
 flags-complete form word letters values old new good whole =
     (record old { flags = with_letters old.flags word }, rw good refl, record { flags = sym (with_letters-append old.flags word letters) ∙ whole.flags; input = whole.input; inputs = whole.inputs; output = whole.output; separator = whole.separator; null_text = whole.null_text; table_null_text = whole.table_null_text; after = whole.after })
 
-abbrev setting_by : Form → List ℕ → Bool → Option (Key × List ℕ)
+abbrev setting_by : Form → List ℕ → Bool → Option (OptionKey × List ℕ)
 setting_by form word dash = cond dash None (setting_of form (pair_of word))
 
-word-complete : (form : Form) (letters : List ℕ) (values : Key → List (List ℕ)) (old new : Given) (word : List ℕ)
+word-complete : (form : Form) (letters : List ℕ) (values : OptionKey → List (List ℕ)) (old new : Given) (word : List ℕ)
     → IsWord form word
     → Whole (letters_in word ++ letters) (λ key. cons_option (value_for key (setting_in form word)) (values key)) old new → (mid : Given) × (with_word form old word ≡ Ok mid) × Whole letters values mid new
 word-complete form letters values old new [] (inl good) whole = cc

@@ -14,8 +14,8 @@ use Rattle.rcell_script_options.specs.declared.option_fault.OptionFault.TheVaria
 use Rattle.rcell_script_options.specs.declared.options.Flags.{Flags}
 use Rattle.rcell_script_options.specs.declared.options.Form.{Form}
 use Rattle.rcell_script_options.specs.declared.options.Form.TheVariants.{Clump, Stats, OutAscii}
-use Rattle.rcell_script_options.specs.declared.options.Key.{Key}
-use Rattle.rcell_script_options.specs.declared.options.Key.TheVariants.{Input, Inputs, Output, Separator, NullText, TableNullText, After}
+use Rattle.rcell_script_options.specs.declared.options.OptionKey.{OptionKey}
+use Rattle.rcell_script_options.specs.declared.options.OptionKey.TheVariants.{Input, Inputs, Output, Separator, NullText, TableNullText, After}
 
 -- texts that are lent
 abbrev pub texts : List (Bor (List ℕ)) → List (List ℕ)
@@ -30,18 +30,18 @@ flags_of Stats = codes "clnN1"
 flags_of _ = []
 
 -- the keys of a command, and what each asks for
-abbrev pub option_keys : Form → List (List ℕ × Key)
+abbrev pub option_keys : Form → List (List ℕ × OptionKey)
 option_keys Stats = (codes "input", Inputs) ∷ (codes "separator", Separator) ∷ (codes "null_value", TableNullText) ∷ (codes "after", After) ∷ []
 option_keys OutAscii = (codes "input", Input) ∷ (codes "null_value", NullText) ∷ []
 option_keys _ = (codes "input", Input) ∷ (codes "output", Output) ∷ []
 
 -- what a text asks for among these keys
-abbrev pub key_among : List (List ℕ × Key) → List ℕ → Option Key
+abbrev pub key_among : List (List ℕ × OptionKey) → List ℕ → Option OptionKey
 key_among [] text = None
 key_among (k ∷ ks) text = if bytes_eq text k.0 then Some k.1 else key_among ks text
 
 -- what a text asks for among the keys of a command
-abbrev pub option_key_of : Form → List ℕ → Option Key
+abbrev pub option_key_of : Form → List ℕ → Option OptionKey
 option_key_of form text = key_among (option_keys form) text
 
 -- ---- values
@@ -114,7 +114,7 @@ given_once (Some old) options = Err BadOption
 given_once None options = options
 
 -- with the value of a key
-abbrev pub with_value : Given → Key → List ℕ → Result Given OptionFault
+abbrev pub with_value : Given → OptionKey → List ℕ → Result Given OptionFault
 with_value given Input value = given_once given.input (do
   input ← option_name value
   Ok (record given { input = Some input }))
@@ -136,7 +136,7 @@ with_value given TableNullText value = given_once given.table_null_text (do
 with_value given After value = given_once given.after (Ok (record given { after = Some value }))
 
 -- with the value of a key, where the command has it
-abbrev pub with_option : Given → Option Key → List ℕ → Result Given OptionFault
+abbrev pub with_option : Given → Option OptionKey → List ℕ → Result Given OptionFault
 with_option given None value = Err BadOption
 with_option given (Some key) value = with_value given key value
 

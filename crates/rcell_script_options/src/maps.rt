@@ -79,7 +79,7 @@ pub fn input_place(known: &Names, options: &Options) -> Result<usize, OptionFaul
 }
 
 // The places of names among the known ones.
-fn places_of(alloc: Global, known: &Names, names: &[Name]) -> Result<Places, OptionFault>
+fn map_places(alloc: Global, known: &Names, names: &[Name]) -> Result<Places, OptionFault>
     ensures places { Answers OptionFault.Memory (λ places. places) result
         (ok_or (places_of known.now names.now) OptionFault.UnknownMap) }
     ensures within { IfOk result (λ places. All (λ place. place < length known.now) places) }
@@ -121,5 +121,5 @@ pub fn input_places(alloc: Global, known: &Names, options: &Options) -> Result<P
     if is_torn(options) {
         return Err(OptionFault::BadOption);
     }
-    places_of(alloc, known, inputs.names())
+    map_places(alloc, known, inputs.names())
 }

@@ -33,7 +33,7 @@ pub enum Form {
 
 /// What a key asks for.
 #[derive(Clone, Copy)]
-pub enum Key {
+pub enum OptionKey {
     /// One map that is read.
     Input,
     /// Several maps that are read.
@@ -168,48 +168,48 @@ fn are_flags(form: Form, letters: &[u8]) -> bool
     !letters.is_empty() && are_all_flags(form, letters)
 }
 
-fn maker_key(text: &[u8]) -> Option<Key>
+fn maker_key(text: &[u8]) -> Option<OptionKey>
     ensures { result ≡ option_key_of Form.Reclass text.now }
 {
     if text == b"input".as_slice() {
-        Some(Key::Input)
+        Some(OptionKey::Input)
     } else if text == b"output".as_slice() {
-        Some(Key::Output)
+        Some(OptionKey::Output)
     } else {
         None
     }
 }
 
-fn stats_key(text: &[u8]) -> Option<Key>
+fn stats_key(text: &[u8]) -> Option<OptionKey>
     ensures { result ≡ option_key_of Form.Stats text.now }
 {
     if text == b"input".as_slice() {
-        Some(Key::Inputs)
+        Some(OptionKey::Inputs)
     } else if text == b"separator".as_slice() {
-        Some(Key::Separator)
+        Some(OptionKey::Separator)
     } else if text == b"null_value".as_slice() {
-        Some(Key::TableNullText)
+        Some(OptionKey::TableNullText)
     } else if text == b"after".as_slice() {
-        Some(Key::After)
+        Some(OptionKey::After)
     } else {
         None
     }
 }
 
-fn out_ascii_key(text: &[u8]) -> Option<Key>
+fn out_ascii_key(text: &[u8]) -> Option<OptionKey>
     ensures { result ≡ option_key_of Form.OutAscii text.now }
 {
     if text == b"input".as_slice() {
-        Some(Key::Input)
+        Some(OptionKey::Input)
     } else if text == b"null_value".as_slice() {
-        Some(Key::NullText)
+        Some(OptionKey::NullText)
     } else {
         None
     }
 }
 
 // The key of the command that a text names.
-fn key_of(form: Form, text: &[u8]) -> Option<Key>
+fn option_key_of(form: Form, text: &[u8]) -> Option<OptionKey>
     ensures { result ≡ option_key_of form text.now }
 {
     match form {
@@ -221,7 +221,7 @@ fn key_of(form: Form, text: &[u8]) -> Option<Key>
 }
 
 // The name of one map.
-fn name_of(alloc: Global, value: &[u8]) -> Result<Name, OptionFault>
+fn option_name(alloc: Global, value: &[u8]) -> Result<Name, OptionFault>
     ensures { Answers OptionFault.Memory (λ name. name) result (option_name value.now) }
 {
     let name = Name::read(alloc, value)?;
@@ -236,13 +236,13 @@ fn names_from(alloc: Global, parts: &[&[u8]]) -> Result<Vec<Name>, OptionFault>
 {
     let mut names = Vec::new(alloc);
     for part in parts {
-        names.push(name_of(alloc, *part)?)?;
+        names.push(option_name(alloc, *part)?)?;
     }
     Ok(names)
 }
 
 // The names of maps between commas.
-fn names_of(alloc: Global, value: &[u8]) -> Result<Inputs, OptionFault>
+fn option_names(alloc: Global, value: &[u8]) -> Result<Inputs, OptionFault>
     ensures { Answers OptionFault.Memory (λ names. names) result (names_of (parts_of value.now)) }
 {
     let parts = parts_of(alloc, value)?;
@@ -317,8 +317,8 @@ impl Options {
         self.separator
     }
 
-    /// The text of `after`, where it was given.
-    pub fn after(&self) -> Option<&[u8]>
+    /// The text of `after_text`, where it was given.
+    pub fn after_text(&self) -> Option<&[u8]>
         ensures { option_map (λ text. text.now) result ≡ self.now.after }
     {
         match &self.after {
@@ -367,17 +367,17 @@ impl Options {
         (self.input, self.output)
     }
 
-    fn is_given(&self, key: Key) -> bool
+    fn is_given(&self, key: OptionKey) -> bool
         ensures { result ≡ is_given self.now key }
     {
         match key {
-            Key::Input => self.input.is_some(),
-            Key::Inputs => self.inputs.is_some(),
-            Key::Output => self.output.is_some(),
-            Key::Separator => self.separator.is_some(),
-            Key::NullText => self.null_text.is_some(),
-            Key::TableNullText => self.table_null_text.is_some(),
-            Key::After => self.after.is_some(),
+            OptionKey::Input => self.input.is_some(),
+            OptionKey::Inputs => self.inputs.is_some(),
+            OptionKey::Output => self.output.is_some(),
+            OptionKey::Separator => self.separator.is_some(),
+            OptionKey::NullText => self.null_text.is_some(),
+            OptionKey::TableNullText => self.table_null_text.is_some(),
+            OptionKey::After => self.after.is_some(),
         }
     }
 
@@ -394,7 +394,7 @@ impl Options {
     }
 
     // Sets the value of a key, which may be given once.
-    fn set_value(&mut self, alloc: Global, key: Key, value: &[u8]) -> Result<(), OptionFault>
+    fn set_value(&mut self, alloc: Global, key: OptionKey, value: &[u8]) -> Result<(), OptionFault>
         ensures { Answers OptionFault.Memory (λ _. self.new) result
             (with_value self.old key value.now) }
     {
@@ -402,15 +402,17 @@ impl Options {
             return Err(OptionFault::BadOption);
         }
         match key {
-            Key::Input => self.input = Some(name_of(alloc, value)?),
-            Key::Inputs => self.inputs = Some(names_of(alloc, value)?),
-            Key::Output => self.output = Some(name_of(alloc, value)?),
-            Key::Separator => self.separator = Some(separator_in(value).ok_or(
+            OptionKey::Input => self.input = Some(option_name(alloc, value)?),
+            OptionKey::Inputs => self.inputs = Some(option_names(alloc, value)?),
+            OptionKey::Output => self.output = Some(option_name(alloc, value)?),
+            OptionKey::Separator => self.separator = Some(separator_in(value).ok_or(
                 OptionFault::BadOption,
             )?),
-            Key::NullText => self.null_text = Some(NullText::read(alloc, value)?),
-            Key::TableNullText => self.table_null_text = Some(TableNullText::read(alloc, value)?),
-            Key::After => self.after = Some(Vec::from_slice(alloc, value)?),
+            OptionKey::NullText => self.null_text = Some(NullText::read(alloc, value)?),
+            OptionKey::TableNullText => self.table_null_text = Some(TableNullText::read(
+                alloc, value,
+            )?),
+            OptionKey::After => self.after = Some(Vec::from_slice(alloc, value)?),
         }
         Ok(())
     }
@@ -429,7 +431,7 @@ impl Options {
         let Some((key, value)) = pair_of(word) else {
             return Err(OptionFault::BadOption);
         };
-        match key_of(form, key) {
+        match option_key_of(form, key) {
             Some(key) => self.set_value(alloc, key, value),
             None => Err(OptionFault::BadOption),
         }

@@ -30,7 +30,8 @@ pub(crate) fn cells(
     header: &Header<'_>,
     text: &[u8],
 ) -> Result<Vec<Result<Cell, GridKind>>, Memory>
-    ensures { IfOk result (λ cells. cells.items ≡ map (cell_of_word header.now) (data_words (line_words text.now))) }
+    ensures { IfOk result (λ cells. cells.items
+        ≡ map (cell_of_word header.now) (data_words (line_words text.now))) }
 {
     let lines = lines_of(alloc, text)?;
     let words = data_words(alloc, &lines)?;

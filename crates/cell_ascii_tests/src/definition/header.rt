@@ -26,13 +26,13 @@ fn has_colon(text: &[u8]) -> bool
 fn before_colon<'a>(word: &'a [u8]) -> &'a [u8]
     ensures { result.now ≡ before_first is_colon word.now }
 {
-    &word[..number::place_of(b':', word)]
+    &word[..number::byte_place(b':', word)]
 }
 
 fn after_colon<'a>(word: &'a [u8]) -> &'a [u8]
     ensures { result.now ≡ after_first is_colon word.now }
 {
-    let colon = number::place_of(b':', word);
+    let colon = number::byte_place(b':', word);
     if colon < word.len() {
         &word[colon + 1..]
     } else {
@@ -62,7 +62,8 @@ pub(crate) fn is_header_line(words: &[&[u8]]) -> bool
 
 // How many lines stand before the first line of the data.
 fn lines_before_data(alloc: Global, lines: &[&[u8]]) -> Result<usize, Memory>
-    ensures count { IfOk result (λ n. n ≡ prefix_len (λ l. not (is_data_line l)) (words_of_each lines.now)) }
+    ensures count { IfOk result (λ n. n
+        ≡ prefix_len (λ l. not (is_data_line l)) (words_of_each lines.now)) }
     ensures within { IfOk result (λ n. n ≤ length lines.now) }
 {
     for (i, line) in lines.iter().enumerate() {
@@ -75,7 +76,8 @@ fn lines_before_data(alloc: Global, lines: &[&[u8]]) -> Result<usize, Memory>
 
 // The lines whose first word has a colon.
 fn with_colon<'a>(alloc: Global, lines: &[&'a [u8]]) -> Result<Vec<&'a [u8]>, Memory>
-    ensures { IfOk result (λ kept. words_of_each kept.items ≡ filter is_header_line (words_of_each lines.now)) }
+    ensures { IfOk result (λ kept. words_of_each kept.items
+        ≡ filter is_header_line (words_of_each lines.now)) }
 {
     let mut kept = Vec::new(alloc);
     for line in lines {
@@ -88,7 +90,8 @@ fn with_colon<'a>(alloc: Global, lines: &[&'a [u8]]) -> Result<Vec<&'a [u8]>, Me
 
 /// The header lines before the data.
 pub(crate) fn header_lines<'a>(alloc: Global, lines: &[&'a [u8]]) -> Result<Vec<&'a [u8]>, Memory>
-    ensures { IfOk result (λ kept. words_of_each kept.items ≡ header_lines (words_of_each lines.now)) }
+    ensures { IfOk result (λ kept. words_of_each kept.items
+        ≡ header_lines (words_of_each lines.now)) }
 {
     let count = lines_before_data(alloc, lines)?;
     with_colon(alloc, &lines[..count])
@@ -96,7 +99,8 @@ pub(crate) fn header_lines<'a>(alloc: Global, lines: &[&'a [u8]]) -> Result<Vec<
 
 // The words of all lines.
 fn all_words<'a>(alloc: Global, lines: &[&'a [u8]]) -> Result<Vec<&'a [u8]>, Memory>
-    ensures { IfOk result (λ words. texts words.items ≡ flat_map (λ l. l) (words_of_each lines.now)) }
+    ensures { IfOk result (λ words. texts words.items
+        ≡ flat_map (λ l. l) (words_of_each lines.now)) }
 {
     let mut words = Vec::new(alloc);
     for line in lines {
@@ -144,7 +148,8 @@ pub(crate) fn value_of<'a>(
     key: &[u8],
     lines: &[&'a [u8]],
 ) -> Result<Option<&'a [u8]>, Memory>
-    ensures { IfOk result (λ value. option_copied value ≡ value_of key.now (words_of_each lines.now)) }
+    ensures { IfOk result (λ value. option_copied value
+        ≡ value_of key.now (words_of_each lines.now)) }
 {
     for line in lines {
         let words = words::words_of(alloc, line)?;

@@ -36,9 +36,9 @@ pub(crate) struct Keys<'a> {
 
 impl<'a> Model for Keys<'a> {
     ghost use Rattle.std.specs.Option.{option_copied};
-    ghost use Rattle.cell_ascii_meaning.specs.Header.{Keys};
+    ghost use Rattle.cell_ascii_meaning.specs.Header.{KeyValues};
 
-    ghost Value = { Keys };
+    ghost Value = { KeyValues };
 
     ghost view = { λ k. record { north = k.north; south = k.south; east = k.east; west = k.west; rows = k.rows; cols = k.cols; null = option_copied k.null; kind = k.kind; multiplier = k.multiplier } };
 }
@@ -52,15 +52,16 @@ pub(crate) struct Header<'a> {
 }
 
 impl<'a> Model for Header<'a> {
-    ghost use Rattle.cell_ascii_meaning.specs.Header.{Header};
+    ghost use Rattle.cell_ascii_meaning.specs.Header.{HeaderValue};
 
-    ghost Value = { Header };
+    ghost Value = { HeaderValue };
 
     ghost view = { λ h. record { region = h.region; null_text = h.null_text.now; multiplier = h.multiplier } };
 }
 
 fn coordinate_of(alloc: Global, key: &[u8], lines: &[&[u8]]) -> Result<Option<i64>, Memory>
-    ensures { IfOk result (λ n. n ≡ option_and_then coordinate (value_of key.now (words_of_each lines.now))) }
+    ensures { IfOk result (λ n. n
+        ≡ option_and_then coordinate (value_of key.now (words_of_each lines.now))) }
 {
     match header::value_of(alloc, key, lines)? {
         Some(value) => Ok(number::coordinate(value)),
@@ -69,7 +70,8 @@ fn coordinate_of(alloc: Global, key: &[u8], lines: &[&[u8]]) -> Result<Option<i6
 }
 
 fn side_of(alloc: Global, key: &[u8], lines: &[&[u8]]) -> Result<Option<u32>, Memory>
-    ensures { IfOk result (λ n. n ≡ option_and_then side (value_of key.now (words_of_each lines.now))) }
+    ensures { IfOk result (λ n. n
+        ≡ option_and_then side (value_of key.now (words_of_each lines.now))) }
 {
     match header::value_of(alloc, key, lines)? {
         Some(value) => Ok(number::side(value)),
@@ -78,7 +80,9 @@ fn side_of(alloc: Global, key: &[u8], lines: &[&[u8]]) -> Result<Option<u32>, Me
 }
 
 fn multiplier_of(alloc: Global, lines: &[&[u8]]) -> Result<Option<i32>, Memory>
-    ensures { IfOk result (λ n. n ≡ option_and_then whole_in_range (value_of (codes "multiplier") (words_of_each lines.now))) }
+    ensures { IfOk result (λ n. n
+        ≡ option_and_then whole_in_range
+        (value_of (codes "multiplier") (words_of_each lines.now))) }
 {
     match header::value_of(alloc, b"multiplier", lines)? {
         Some(value) => Ok(whole_numbers::whole_in_range(value)),
@@ -87,7 +91,8 @@ fn multiplier_of(alloc: Global, lines: &[&[u8]]) -> Result<Option<i32>, Memory>
 }
 
 fn null_of<'a>(alloc: Global, lines: &[&'a [u8]]) -> Result<Option<&'a [u8]>, Memory>
-    ensures { IfOk result (λ text. option_copied text ≡ option_and_then null_text (value_of (codes "null") (words_of_each lines.now))) }
+    ensures { IfOk result (λ text. option_copied text
+        ≡ option_and_then null_text (value_of (codes "null") (words_of_each lines.now))) }
 {
     match header::value_of(alloc, b"null", lines)? {
         Some(value) => Ok(header::null_text(value)),
@@ -96,7 +101,8 @@ fn null_of<'a>(alloc: Global, lines: &[&'a [u8]]) -> Result<Option<&'a [u8]>, Me
 }
 
 fn has_type(alloc: Global, lines: &[&[u8]]) -> Result<bool, Memory>
-    ensures { IfOk result (λ found. found ≡ is_some (value_of (codes "type") (words_of_each lines.now))) }
+    ensures { IfOk result (λ found. found
+        ≡ is_some (value_of (codes "type") (words_of_each lines.now))) }
 {
     match header::value_of(alloc, b"type", lines)? {
         Some(_) => Ok(true),

@@ -13,9 +13,9 @@ use crate::definition::keys::Header;
 use crate::definition::place::{Place, ends_line, ends_token, is_end};
 use crate::definition::words::{is_space, is_token, is_word, words_of};
 use cell_ascii::grid_fault::GridKind;
-use cell_ascii_header::key_names::key_of;
+use cell_ascii_header::key_names::header_key_of;
 use cell_ascii_header::number;
-use cell_ascii_meaning::header_key::Key;
+use cell_ascii_meaning::header_key::HeaderKey;
 use cell_core::memory::Memory;
 use cell_core_text::whole_numbers;
 use std::alloc::Global;
@@ -94,7 +94,8 @@ pub(crate) fn in_header_line(
     earlier: &[&[u8]],
     line: &[&[u8]],
 ) -> Result<bool, Memory>
-    ensures { IfOk result (λ inside. inside ≡ in_header_line (words_of_each earlier.now) (texts line.now)) }
+    ensures { IfOk result (λ inside. inside
+        ≡ in_header_line (words_of_each earlier.now) (texts line.now)) }
 {
     Ok(!has_data_line(alloc, earlier)? && is_header_line(line))
 }
@@ -107,7 +108,8 @@ pub(crate) fn second_value(
     token: &[u8],
     place: Place,
 ) -> Result<Option<GridKind>, Memory>
-    ensures { IfOk result (λ kind. kind ≡ second_value inside (texts line.now) token.now (place_seen place)) }
+    ensures { IfOk result (λ kind. kind
+        ≡ second_value inside (texts line.now) token.now (place_seen place)) }
 {
     let found = values(alloc, line)?;
     match place {
@@ -121,29 +123,29 @@ pub(crate) fn second_value(
 }
 
 /// A null text with a colon.
-pub(crate) fn bad_null(key: Key, value: &[u8]) -> Option<GridKind>
+pub(crate) fn bad_null(key: HeaderKey, value: &[u8]) -> Option<GridKind>
     ensures { result ≡ bad_null key value.now }
 {
     match key {
-        Key::Null => when(null_text(value).is_none(), GridKind::BadHeader),
+        HeaderKey::Null => when(null_text(value).is_none(), GridKind::BadHeader),
         _ => None,
     }
 }
 
 /// A value that its key does not allow.
-pub(crate) fn bad_value(key: Key, value: &[u8]) -> Option<GridKind>
+pub(crate) fn bad_value(key: HeaderKey, value: &[u8]) -> Option<GridKind>
     ensures { result ≡ bad_value key value.now }
 {
     match key {
-        Key::North => when(number::coordinate(value).is_none(), GridKind::BadNumber),
-        Key::South => when(number::coordinate(value).is_none(), GridKind::BadNumber),
-        Key::East => when(number::coordinate(value).is_none(), GridKind::BadNumber),
-        Key::West => when(number::coordinate(value).is_none(), GridKind::BadNumber),
-        Key::Rows => when(number::side(value).is_none(), GridKind::BadNumber),
-        Key::Cols => when(number::side(value).is_none(), GridKind::BadNumber),
-        Key::Null => None,
-        Key::CellType => when(int_type(value).is_none(), GridKind::BadType),
-        Key::Multiplier => when(
+        HeaderKey::North => when(number::coordinate(value).is_none(), GridKind::BadNumber),
+        HeaderKey::South => when(number::coordinate(value).is_none(), GridKind::BadNumber),
+        HeaderKey::East => when(number::coordinate(value).is_none(), GridKind::BadNumber),
+        HeaderKey::West => when(number::coordinate(value).is_none(), GridKind::BadNumber),
+        HeaderKey::Rows => when(number::side(value).is_none(), GridKind::BadNumber),
+        HeaderKey::Cols => when(number::side(value).is_none(), GridKind::BadNumber),
+        HeaderKey::Null => None,
+        HeaderKey::CellType => when(int_type(value).is_none(), GridKind::BadType),
+        HeaderKey::Multiplier => when(
             whole_numbers::whole_in_range(value).is_none(),
             GridKind::BadNumber,
         ),
@@ -151,7 +153,7 @@ pub(crate) fn bad_value(key: Key, value: &[u8]) -> Option<GridKind>
 }
 
 /// An unknown key, no value, or a null text with a colon; a key twice; a bad value.
-pub(crate) fn line_fault(twice: bool, key: Option<Key>, values: &[&[u8]]) -> Option<GridKind>
+pub(crate) fn line_fault(twice: bool, key: Option<HeaderKey>, values: &[&[u8]]) -> Option<GridKind>
     ensures { result ≡ line_fault twice key (texts values.now) }
 {
     let Some(key) = key else {
@@ -168,7 +170,8 @@ pub(crate) fn line_fault(twice: bool, key: Option<Key>, values: &[&[u8]]) -> Opt
 
 // One of these lines has the key of a line.
 fn has_key_of(alloc: Global, line: &[&[u8]], earlier: &[&[u8]]) -> Result<bool, Memory>
-    ensures { IfOk result (λ found. found ≡ has_key_of (texts line.now) (words_of_each earlier.now)) }
+    ensures { IfOk result (λ found. found
+        ≡ has_key_of (texts line.now) (words_of_each earlier.now)) }
 {
     for other in earlier {
         if key_text(line) == key_text(&words_of(alloc, other)?) {
@@ -186,7 +189,8 @@ pub(crate) fn header_line_ends(
     line: &[&[u8]],
     place: Place,
 ) -> Result<Option<GridKind>, Memory>
-    ensures { IfOk result (λ kind. kind ≡ header_line_ends inside (words_of_each earlier.now) (texts line.now) (place_seen place)) }
+    ensures { IfOk result (λ kind. kind
+        ≡ header_line_ends inside (words_of_each earlier.now) (texts line.now) (place_seen place)) }
 {
     if !(ends_line(place) && inside) {
         return Ok(None);
@@ -194,7 +198,7 @@ pub(crate) fn header_line_ends(
     let lines = header_lines(alloc, earlier)?;
     let twice = has_key_of(alloc, line, &lines)?;
     let found = values(alloc, line)?;
-    Ok(line_fault(twice, key_of(key_text(line)), &found))
+    Ok(line_fault(twice, header_key_of(key_text(line)), &found))
 }
 
 fn why_not<T>(answer: &Result<T, GridKind>) -> Option<GridKind>
@@ -331,7 +335,9 @@ pub(crate) fn whole_table(
     words: &[&[u8]],
     place: Place,
 ) -> Result<Option<GridKind>, Memory>
-    ensures { IfOk result (λ kind. kind ≡ whole_table gap token.now inside (words_of_each earlier.now) (texts line.now) header.now (texts words.now) (place_seen place)) }
+    ensures { IfOk result (λ kind. kind
+        ≡ whole_table gap token.now inside (words_of_each earlier.now) (texts line.now) header.now
+        (texts words.now) (place_seen place)) }
 {
     let second = second_value(alloc, inside, line, token, place)?;
     let line_ends = header_line_ends(alloc, inside, earlier, line, place)?;

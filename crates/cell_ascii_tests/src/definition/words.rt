@@ -2,7 +2,7 @@
 
 ghost use Rattle.std.specs.Prelude.{◌≡◌, ◌≤◌, length, IfOk};
 ghost use Rattle.std.specs.List.{slice_split, filter};
-ghost use Rattle.cell_ascii_meaning.specs.GridTokens.{is_space, is_grid_word};
+ghost use Rattle.cell_ascii_meaning.specs.GridTokens.{is_space, is_word_byte};
 ghost use Rattle.cell_ascii_meaning.specs.GridText.{is_token, lines_of, grid_words_of};
 ghost use Rattle.cell_ascii_meaning.specs.FaultPlaces.{line_of_place, gap_of_place, last_token, token_at_place};
 ghost use Rattle.cell_ascii_tests.specs.Seen.{texts};
@@ -19,7 +19,7 @@ pub(crate) fn is_space(b: u8) -> bool
 
 /// Any other byte.
 pub(crate) fn is_word(b: u8) -> bool
-    ensures { result ≡ is_grid_word b }
+    ensures { result ≡ is_word_byte b }
 {
     !is_space(b)
 }

@@ -1,7 +1,7 @@
 -- Values along a strip: some columns of a row, from one on.
 use Rattle.std.specs.Prelude.{◌≡◌, ◌≤◌, ◌<◌, ◌+◌, ◌-◌, ◌+ℤ◌, ℕ, pos, List, Some, None, length, take, drop, map, slice_get, slice_index_or}
 use Rattle.cell_core.specs.Grid.{CellValue}
-use Rattle.cell_calc_operators.specs.Applied.{Spot, spot, applied, call_result, negated, inverted}
+use Rattle.cell_calc_operators.specs.Applied.{Spot, spot, operator_value, call_result, negated_cell, inverted_cell}
 use Rattle.cell_calc_operators.specs.Offsets.{item_at}
 use Rattle.cell_calc.specs.Window.{Window}
 use Rattle.cell_calc_steps.specs.declared.step.Step.{Step}
@@ -55,13 +55,13 @@ abbrev pub cells_at : List Window → Strip → ℕ → List Operand → List Ce
 cells_at windows strip c operands = map (operand_at windows strip c) operands
 
 -- what a step makes of cells, with the rows that windows hold for those of maps
-abbrev pub seen : List Window → Spot → Step ℕ → List CellValue → CellValue
-seen windows s (step.Number n) xs = Some (pos n)
-seen windows s (step.Map i down right) xs = item_at None (row_below down (slice_get windows i)) (pos s.col +ℤ right)
-seen windows s step.Negated xs = negated (slice_index_or xs 0 None)
-seen windows s step.Not xs = inverted (slice_index_or xs 0 None)
-seen windows s (step.Binary op) xs = applied op (slice_index_or xs 0 None) (slice_index_or xs 1 None)
-seen windows s (step.Call f n) xs = call_result f s xs
+abbrev pub seen_cell : List Window → Spot → Step ℕ → List CellValue → CellValue
+seen_cell windows s (step.Number n) xs = Some (pos n)
+seen_cell windows s (step.Map i down right) xs = item_at None (row_below down (slice_get windows i)) (pos s.col +ℤ right)
+seen_cell windows s step.Negated xs = negated_cell (slice_index_or xs 0 None)
+seen_cell windows s step.Not xs = inverted_cell (slice_index_or xs 0 None)
+seen_cell windows s (step.Binary op) xs = operator_value op (slice_index_or xs 0 None) (slice_index_or xs 1 None)
+seen_cell windows s (step.Call f n) xs = call_result f s xs
 
 -- the place of a column of a strip
 abbrev pub spot_at : Strip → ℕ → Spot

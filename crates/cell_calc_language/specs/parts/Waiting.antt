@@ -1,6 +1,6 @@
 -- What waits for an operand, while an expression is read.
 use Rattle.std.specs.Prelude.{◌≡◌, ℕ, List, [], ◌∷◌, ◌++◌, reverse, length, vec_len, ◌+◌, ◌*◌, Result, Ok, Err}
-use Rattle.cell_calc_language.specs.declared.token_parsing.Stop.{Stop}
+use Rattle.cell_calc_language.specs.declared.token_parsing.ParseStop.{ParseStop}
 use Rattle.cell_calc_language.specs.declared.expression_reader.Frame.{Frame}
 use Rattle.cell_calc_language.specs.declared.expression_reader.Frame.TheVariants as frame
 use Rattle.cell_calc_language.specs.declared.expression_reader.Reader.{Reader}
@@ -10,36 +10,36 @@ use Rattle.cell_calc_grammar.specs.declared.map_name.MapName.{MapName}
 use Rattle.cell_calc_steps.specs.declared.step.Step.{Step}
 use Rattle.cell_calc_tokens.specs.declared.token.Placed.{Placed}
 use Rattle.cell_calc_steps.specs.Postfix.{postfix, postfix_all}
-use Rattle.cell_calc_grammar.specs.TokensRead.{Outcome, Got, State, Operand, More, Choice, AfterQuestion, Onward, GrammarReads, negate, invert, close, join, choose, call, add}
+use Rattle.cell_calc_grammar.specs.TokensRead.{ReadOutcome, Got, State, Operand, More, Choice, AfterQuestion, Onward, GrammarReads, negate, invert, close, join, choose, call, add}
 use Rattle.cell_calc_language.specs.Stopping.{ParserStopsAt}
 use Rattle.cell_calc_grammar.specs.Term.{Term, Terms, NoTrees, Then, count}
 
 -- arguments, before others
-abbrev pub add_all : Terms → Outcome → Outcome
+abbrev pub add_all : Terms → ReadOutcome → ReadOutcome
 add_all NoTrees o = o
 add_all (Then a xs) o = add a (add_all xs o)
 
 -- with this outcome the state is read: it comes after these steps, and these frames wait for it, the latest first
-abbrev pub Fills : State → List Frame → List (Step MapName) → Outcome → Type 0
+abbrev pub Fills : State → List Frame → List (Step MapName) → ReadOutcome → Type 0
 Fills s [] steps o = (steps ≡ []) × GrammarReads s o
 Fills s (frame.Negated ∷ fs) steps o = Fills s fs steps (negate o)
 Fills s (frame.Not ∷ fs) steps o = Fills s fs steps (invert o)
-Fills s (frame.Level k ∷ fs) steps o = (p : Outcome) → GrammarReads (More k o) p → Fills s fs steps p
+Fills s (frame.Level k ∷ fs) steps o = (p : ReadOutcome) → GrammarReads (More k o) p → Fills s fs steps p
 Fills s (frame.Joined k op ∷ fs) steps o =
-    (a : Term) × (before : List (Step MapName)) × (steps ≡ before ++ postfix a) × ((p : Outcome) → GrammarReads (More k (join op a o)) p → Fills s fs before p)
-Fills s (frame.Choice ∷ fs) steps o = (p : Outcome) → GrammarReads (Choice o) p → Fills s fs steps p
+    (a : Term) × (before : List (Step MapName)) × (steps ≡ before ++ postfix a) × ((p : ReadOutcome) → GrammarReads (More k (join op a o)) p → Fills s fs before p)
+Fills s (frame.Choice ∷ fs) steps o = (p : ReadOutcome) → GrammarReads (Choice o) p → Fills s fs steps p
 Fills s (frame.AfterQuestion ∷ fs) steps o =
-    (x : Term) × (before : List (Step MapName)) × (steps ≡ before ++ postfix x) × ((p : Outcome) → GrammarReads (AfterQuestion x o) p → Fills s fs before p)
+    (x : Term) × (before : List (Step MapName)) × (steps ≡ before ++ postfix x) × ((p : ReadOutcome) → GrammarReads (AfterQuestion x o) p → Fills s fs before p)
 Fills s (frame.AfterColon ∷ fs) steps o =
     (x a : Term) × (before : List (Step MapName)) × (steps ≡ before ++ (postfix x ++ postfix a)) × Fills s fs before (choose x a o)
 Fills s (frame.Parenthesis ∷ fs) steps o = Fills s fs steps (close o)
 Fills s (frame.Call f from n ∷ fs) steps o =
     (xs : Terms) × (before : List (Step MapName)) × (steps ≡ before ++ postfix_all xs) × (count xs ≡ n)
-    × ((p : Outcome) → GrammarReads (Onward o) p → Fills s fs before (call f from.now (add_all xs p)))
+    × ((p : ReadOutcome) → GrammarReads (Onward o) p → Fills s fs before (call f from.now (add_all xs p)))
 
 -- whatever is read of the second state, with it the first is read
 abbrev pub Awaits : State → List Frame → List (Step MapName) → State → Type 0
-Awaits s fs steps t = (o : Outcome) → GrammarReads t o → Fills s fs steps o
+Awaits s fs steps t = (o : ReadOutcome) → GrammarReads t o → Fills s fs steps o
 
 -- the last steps are those of an operand, with which the state is read; the rest follows
 abbrev pub IsReadExpression : State → List Frame → List (Step MapName) → List Placed → Type 0
@@ -66,7 +66,7 @@ IsTurn s r (turn.Operand ts) = IsAwaited s r (Operand ts.now)
 IsTurn s r (turn.After ts) = IsReadExpression s (waiting r) r.steps.items ts.now
 
 -- the state is read, with what the turn says, or reading stops
-abbrev pub Goes : State → Reader → Result Turn Stop → Type 0
+abbrev pub Goes : State → Reader → Result Turn ParseStop → Type 0
 Goes s r (Ok turn) = IsTurn s r turn
 Goes s r (Err e) = ParserStopsAt s e
 

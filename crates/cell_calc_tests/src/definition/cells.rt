@@ -1,8 +1,8 @@
 //! What operators make of cells, in numbers wide enough for what they make of any two categories.
 
 ghost use Rattle.std.specs.Prelude.{◌≡◌, ◌≤◌, pos, ◌-ℤ◌, ◌*ℤ◌, Some, None, int_div, if◌then◌else◌};
-ghost use Rattle.cell_calc_operators.specs.CellOperators.{fit, truth, chosen, lesser, greater, is_zero, is_null};
-ghost use Rattle.cell_calc_operators.specs.Applied.{negated, inverted, size_of, applied};
+ghost use Rattle.cell_calc_operators.specs.CellOperators.{fit, truth, chosen_cell, lesser, greater, is_zero, is_null};
+ghost use Rattle.cell_calc_operators.specs.Applied.{negated_cell, inverted_cell, size_of, operator_value};
 
 use cell_calc_language::operator::Operator;
 use cell_core::cell::Cell;
@@ -67,7 +67,7 @@ fn remainder(x: i32, y: i32) -> Cell
 
 // The value of an operator, of two categories.
 fn of_both(operator: Operator, x: i32, y: i32) -> Cell
-    ensures { result ≡ applied operator (Some x) (Some y) }
+    ensures { result ≡ operator_value operator (Some x) (Some y) }
 {
     match operator {
         Operator::Plus => fit(x as i64 + y as i64),
@@ -88,8 +88,8 @@ fn of_both(operator: Operator, x: i32, y: i32) -> Cell
 
 // The value of an operator beside null: another only where one category alone decides.
 fn beside_null(operator: Operator, a: Cell) -> Cell
-    ensures left { result ≡ applied operator a None }
-    ensures right { result ≡ applied operator None a }
+    ensures left { result ≡ operator_value operator a None }
+    ensures right { result ≡ operator_value operator None a }
 {
     match (operator, a.get()) {
         (Operator::KnownAnd, Some(0)) => truth(false),
@@ -100,7 +100,7 @@ fn beside_null(operator: Operator, a: Cell) -> Cell
 
 /// The value of an operator.
 pub(crate) fn applied(operator: Operator, a: Cell, b: Cell) -> Cell
-    ensures { result ≡ applied operator a b }
+    ensures { result ≡ operator_value operator a b }
 {
     match (a.get(), b.get()) {
         (Some(x), Some(y)) => of_both(operator, x, y),
@@ -110,7 +110,7 @@ pub(crate) fn applied(operator: Operator, a: Cell, b: Cell) -> Cell
 }
 
 pub(crate) fn negated(a: Cell) -> Cell
-    ensures { result ≡ negated a }
+    ensures { result ≡ negated_cell a }
 {
     match a.get() {
         Some(x) => fit(-(x as i64)),
@@ -119,7 +119,7 @@ pub(crate) fn negated(a: Cell) -> Cell
 }
 
 pub(crate) fn inverted(a: Cell) -> Cell
-    ensures { result ≡ inverted a }
+    ensures { result ≡ inverted_cell a }
 {
     match a.get() {
         Some(x) => truth(x == 0),
@@ -143,7 +143,7 @@ pub(crate) fn is_null(a: Cell) -> bool
 }
 
 pub(crate) fn chosen(condition: Cell, yes: Cell, no: Cell) -> Cell
-    ensures { result ≡ chosen condition yes no }
+    ensures { result ≡ chosen_cell condition yes no }
 {
     match condition.get() {
         Some(0) => no,

@@ -143,7 +143,9 @@ fn step_value(
     requires step { IsProperStep step.now }
     requires row { row < shelf.now.region.rows }
     requires col { col < shelf.now.region.cols }
-    ensures { IfOk result (λ v. v ≡ step_value names.now shelf.now.maps (spot shelf.now.region row col) step.now operands.now) }
+    ensures { IfOk result (λ v. v
+        ≡ step_value names.now shelf.now.maps (spot shelf.now.region row col)
+        step.now operands.now) }
 {
     match step {
         Step::Number(n) => Ok(cells::number(*n)),
@@ -180,7 +182,8 @@ pub(crate) fn value(
 ) -> Result<Cell, Memory>
     requires row { row < shelf.now.region.rows }
     requires col { col < shelf.now.region.cols }
-    ensures { IfOk result (λ v. v ≡ value (with_places names.now expr.now) shelf.now.maps (spot shelf.now.region row col)) }
+    ensures { IfOk result (λ v. v
+        ≡ value (with_places names.now expr.now) shelf.now.maps (spot shelf.now.region row col)) }
 {
     let steps = expr.steps();
     let mut operands = Vec::new(alloc);

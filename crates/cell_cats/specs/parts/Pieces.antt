@@ -18,12 +18,12 @@ abbrev pub AreOutputs : (ℤ → Option Output) → (ℤ → Option (Option Outp
 AreOutputs outputs starts = (x : ℤ) → negsuc 2147483647 ≤ℤ x → IsOutputAt starts x (outputs x)
 
 -- the categories of a range get an output, the others keep theirs
-abbrev pub painted : ℤ × ℤ → Output → (ℤ → Option Output) → ℤ → Option Output
-painted ends output outputs x = if is_in_ends ends x then Some output else outputs x
+abbrev pub painted_outputs : ℤ × ℤ → Output → (ℤ → Option Output) → ℤ → Option Output
+painted_outputs ends output outputs x = if is_in_ends ends x then Some output else outputs x
 
 -- the categories that a rule lists get its output, the others keep theirs
-abbrev pub ruled : RuleValue → (ℤ → Option Output) → ℤ → Option Output
-ruled rule outputs x = if lists x rule then Some rule.output else outputs x
+abbrev pub ruled_outputs : RuleValue → (ℤ → Option Output) → ℤ → Option Output
+ruled_outputs rule outputs x = if lists x rule then Some rule.output else outputs x
 
 -- the pieces have these outputs
 abbrev pub HaveOutputs : (ℤ → Option Output) → Pieces → Type 0

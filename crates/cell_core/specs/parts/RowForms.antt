@@ -4,18 +4,18 @@ use lib.Lanes.{mask_l}
 use Rattle.cell_core_values.specs.Cell.{cell_eq}
 use Rattle.cell_core.specs.Grid.{CellValue}
 use Rattle.cell_core.specs.Runs.{RunValue, AreRuns, written_out}
-use Rattle.cell_core.specs.declared.row.Kept.{Kept}
-use Rattle.cell_core.specs.declared.row.Kept.TheVariants as kept
+use Rattle.cell_core.specs.declared.row.RowForm.{RowForm}
+use Rattle.cell_core.specs.declared.row.RowForm.TheVariants as kept
 use Rattle.cell_core.specs.declared.runs.Rest.{Rest}
 use Rattle.cell_core.specs.declared.runs.Rest.TheVariants as rest
 
 -- the cells that are kept
-abbrev pub cells_of_row : Kept → List CellValue
+abbrev pub cells_of_row : RowForm → List CellValue
 cells_of_row (kept.Runs runs) = written_out runs.items
 cells_of_row (kept.Cells cells) = cells.items
 
 -- what is kept as runs are runs, and cells are no more than a run may have
-abbrev pub IsKept : Kept → Type 0
+abbrev pub IsKept : RowForm → Type 0
 IsKept (kept.Runs runs) = AreRuns runs.items
 IsKept (kept.Cells cells) = length cells.items < 2 ^ 32
 

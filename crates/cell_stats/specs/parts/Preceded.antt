@@ -6,8 +6,8 @@ use Rattle.cell_stats_combinations.specs.Combinations.{Combination}
 use Rattle.cell_stats.specs.TableText.{FormatValue, cell_fields}
 
 -- each text after the byte
-abbrev pub preceded : ℕ → List (List ℕ) → List ℕ
-preceded c texts = flat_map (λ text. c ∷ text) texts
+abbrev pub preceded_texts : ℕ → List (List ℕ) → List ℕ
+preceded_texts c texts = flat_map (λ text. c ∷ text) texts
 
 -- a cell, and its label with labels
 abbrev pub pick_text : FormatValue → List Grid → ℕ → CellValue → List ℕ

@@ -25,14 +25,14 @@ pub record SideValue : Type 0 where
 abbrev pub side_value : Side → SideValue
 side_value s = record { row = s.row.now; base = s.base; areas = s.areas }
 
-abbrev pub marked : (base areas : ℕ) → (cell number : CellValue) → Option Mark
-marked base areas None number = None
-marked base areas (Some v) None = None
-marked base areas (Some v) (Some n) = option_map (λ label. record { category = v; label = label }) (label_of_side base areas n)
+abbrev pub mark_of_number : (base areas : ℕ) → (cell number : CellValue) → Option Mark
+mark_of_number base areas None number = None
+mark_of_number base areas (Some v) None = None
+mark_of_number base areas (Some v) (Some n) = option_map (λ label. record { category = v; label = label }) (label_of_side base areas n)
 
 -- the category and the label at a column, if it has both
 abbrev pub mark_at : SideValue → ℕ → Option Mark
-mark_at side col = marked side.base side.areas (slice_index_or side.row.cells.items col None) (slice_index_or side.row.numbers.items col None)
+mark_at side col = mark_of_number side.base side.areas (slice_index_or side.row.cells.items col None) (slice_index_or side.row.numbers.items col None)
 
 -- the labels of two cells, if they are of one category
 abbrev pub meeting : Option Mark → Option Mark → List (ℕ × ℕ)

@@ -18,7 +18,7 @@ use Rattle.rcell_loading.specs.Loading.{with_grid, shelf_of_one, shelf_from, the
 use Rattle.rcell_loading.specs.ScriptText.{script_text}
 use Rattle.rcell.specs.runs.Endings.{IsReadScript}
 use Rattle.rcell.specs.runs.Outcomes.{Writes}
-use Rattle.rcell.specs.declared.runs.outcome.Outcome.{Outcome}
+use Rattle.rcell.specs.declared.outcome.Outcome.{Outcome}
 use Rattle.rcell_loading.specs.Sources.{Named}
 use Rattle.rcell_script.specs.declared.statement.Statement.{Statement}
 

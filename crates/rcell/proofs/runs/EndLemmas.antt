@@ -8,10 +8,10 @@ use Rattle.rcell_script.specs.declared.statement.Statement.{Statement}
 use Rattle.rcell_loading.specs.RunFaults.{IsBeforeExecution}
 use Rattle.rcell_loading.specs.declared.run_fault.RunFault.{RunFault}
 use Rattle.rcell_loading.specs.declared.run_fault.RunFault.TheVariants as faults
-use Rattle.rcell.specs.declared.runs.execution.Stop.{Stop}
-use Rattle.rcell.specs.declared.runs.execution.Stop.TheVariants.{Memory, Write}
-use Rattle.rcell.specs.declared.runs.execution.Stopped.{Stopped}
-use Rattle.rcell.specs.declared.runs.outcome.Outcome.{Outcome}
+use Rattle.rcell.specs.declared.execution.RunStop.{RunStop}
+use Rattle.rcell.specs.declared.execution.RunStop.TheVariants.{Memory, Write}
+use Rattle.rcell.specs.declared.execution.Stopped.{Stopped}
+use Rattle.rcell.specs.declared.outcome.Outcome.{Outcome}
 use Rattle.rcell.specs.parts.Ends.{IsRunEnd, run_ended, fault_of_end, flush_failed, stop_flush}
 use Rattle.rcell.specs.parts.OutputSteps.{is_write, stops_write}
 use Rattle.rcell.specs.runs.Execution.{Stops}
@@ -23,7 +23,7 @@ not_none : {X : Type 0} → true ≡ false → X
 not_none none = cc
 
 module _ (shelf : ShelfValue) (statements : List Statement) (numbered : All (λ s. 0 < s.line) statements) (before now : Option (List ℕ)) (old between new : Faults) (fails : Bool) where
-  stopped_ends : (stop : Stop) (written : ℕ) → Stops shelf statements before now written stop → between ≡ after_put old (is_write stop) → new ≡ after_flush between (stop_flush stop fails)
+  stopped_ends : (stop : RunStop) (written : ℕ) → Stops shelf statements before now written stop → between ≡ after_put old (is_write stop) → new ≡ after_flush between (stop_flush stop fails)
       → IsRunEnd shelf statements before now old new (record { status = fault_status (fault_of_end stop); written = written; fault = Some (fault_of_end stop) })
   stopped_ends (Memory line) written stops puts flush = record {
     done = λ none. not_none none;

@@ -11,7 +11,7 @@ use Rattle.rcell_loading.specs.Loading.{shelf_of}
 use Rattle.rcell.specs.runs.Endings.{ReadsScript, IsReadScript}
 use Rattle.rcell.specs.runs.Outcomes.{IsDone, Writes}
 use Rattle.rcell_loading.specs.Sources.{Named}
-use Rattle.rcell.specs.declared.runs.outcome.Outcome.{Outcome}
+use Rattle.rcell.specs.declared.outcome.Outcome.{Outcome}
 use Rattle.rcell_loading.specs.declared.run_fault.RunFault.{RunFault}
 use Rattle.rcell_loading.specs.declared.run_fault.RunFault.TheVariants.{GridTwice, GridRegion, Grid, ScriptRead, ScriptSize, Script, Memory, Write}
 

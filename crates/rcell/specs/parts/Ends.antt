@@ -6,16 +6,16 @@ use Rattle.rcell_script.specs.declared.statement.Statement.{Statement}
 use Rattle.rcell_loading.specs.RunFaults.{IsInExecution}
 use Rattle.rcell_loading.specs.declared.run_fault.RunFault.{RunFault}
 use Rattle.rcell_loading.specs.declared.run_fault.RunFault.TheVariants as faults
-use Rattle.rcell.specs.declared.runs.execution.Stop.{Stop}
-use Rattle.rcell.specs.declared.runs.execution.Stop.TheVariants as stops
-use Rattle.rcell.specs.declared.runs.execution.Stopped.{Stopped}
-use Rattle.rcell.specs.declared.runs.outcome.Outcome.{Outcome}
+use Rattle.rcell.specs.declared.execution.RunStop.{RunStop}
+use Rattle.rcell.specs.declared.execution.RunStop.TheVariants as stops
+use Rattle.rcell.specs.declared.execution.Stopped.{Stopped}
+use Rattle.rcell.specs.declared.outcome.Outcome.{Outcome}
 use Rattle.rcell.specs.runs.Endings.{RunStopsAt}
 use Rattle.rcell.specs.runs.Outcomes.{Failing, IsDone}
 use Rattle.rcell.specs.runs.Statuses.{fault_status, status_after}
 
 -- the fault of what stopped an execution
-abbrev pub fault_of_end : Stop → RunFault
+abbrev pub fault_of_end : RunStop → RunFault
 fault_of_end (stops.Memory line) = faults.Memory line
 fault_of_end stops.Write = faults.Write
 
@@ -27,7 +27,7 @@ run_ended (Ok written) true = record { status = 4; written = written; fault = So
 run_ended (Err stopped) fails = record { status = fault_status (fault_of_end stopped.stop); written = stopped.written; fault = Some (fault_of_end stopped.stop) }
 
 -- whether the flush failed: after a refused put the sink is not flushed
-abbrev pub stop_flush : Stop → Bool → Bool
+abbrev pub stop_flush : RunStop → Bool → Bool
 stop_flush (stops.Memory line) fails = fails
 stop_flush stops.Write fails = false
 

@@ -5,12 +5,12 @@ use Rattle.cell_core_devices.specs.Blocks.{BlockValue, Appended}
 use Rattle.cell_core.specs.Shelf.{ShelfValue}
 use Rattle.rcell_script.specs.declared.statement.Statement.{Statement}
 use Rattle.rcell.specs.Output.{Executes}
-use Rattle.rcell.specs.declared.runs.execution.Stop.{Stop}
-use Rattle.rcell.specs.declared.runs.execution.Stop.TheVariants.{Memory, Write}
-use Rattle.rcell.specs.declared.runs.execution.Stopped.{Stopped}
+use Rattle.rcell.specs.declared.execution.RunStop.{RunStop}
+use Rattle.rcell.specs.declared.execution.RunStop.TheVariants.{Memory, Write}
+use Rattle.rcell.specs.declared.execution.Stopped.{Stopped}
 
 -- whether the sink failed
-abbrev pub is_write : Stop → Bool
+abbrev pub is_write : RunStop → Bool
 is_write (Memory line) = false
 is_write Write = true
 

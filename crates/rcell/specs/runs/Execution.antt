@@ -5,8 +5,8 @@ use Rattle.cell_core.specs.Shelf.{ShelfValue}
 use Rattle.cell_core_devices.specs.Blocks.{capped_count}
 use Rattle.rcell_script.specs.declared.statement.Statement.{Statement}
 use Rattle.rcell.specs.Output.{Executes}
-use Rattle.rcell.specs.declared.runs.execution.Stop.{Stop}
-use Rattle.rcell.specs.declared.runs.execution.Stop.TheVariants.{Memory, Write}
+use Rattle.rcell.specs.declared.execution.RunStop.{RunStop}
+use Rattle.rcell.specs.declared.execution.RunStop.TheVariants.{Memory, Write}
 
 -- the sink took the whole output of the statements before one, which was not begun
 pub record IsShelfBefore (shelf : ShelfValue) (statements : List Statement) (before now : Option (List ℕ)) (written line : ℕ) : Type 0 where
@@ -34,6 +34,6 @@ pub record IsWithin (shelf : ShelfValue) (statements : List Statement) (before n
   pub count : written ≡ capped_count (length prefix)
 
 -- an execution stopped: out of memory before a statement's first byte, or at a failing sink
-abbrev pub Stops : ShelfValue → List Statement → Option (List ℕ) → Option (List ℕ) → ℕ → Stop → Type 0
+abbrev pub Stops : ShelfValue → List Statement → Option (List ℕ) → Option (List ℕ) → ℕ → RunStop → Type 0
 Stops shelf statements before now written (Memory line) = IsShelfBefore shelf statements before now written line
 Stops shelf statements before now written Write = IsWithin shelf statements before now written

@@ -7,7 +7,7 @@ use Rattle.rcell_script.specs.declared.statement.Statement.{Statement}
 use Rattle.rcell.specs.Output.{IsOutput}
 use Rattle.rcell_loading.specs.declared.run_fault.RunFault.{RunFault}
 use Rattle.rcell_loading.specs.declared.run_fault.RunFault.TheVariants.{Write}
-use Rattle.rcell.specs.declared.runs.outcome.Outcome.{Outcome}
+use Rattle.rcell.specs.declared.outcome.Outcome.{Outcome}
 
 -- the sink took exactly the output of the statements, and its length is told
 pub record IsDone (shelf : ShelfValue) (statements : List Statement) (before now : Option (List ℕ)) (written : ℕ) : Type 0 where

@@ -21,6 +21,6 @@ then_maps None maps = maps
 then_maps (Some m) maps = m ∷ maps
 
 -- the maps at places, in the order of the places
-abbrev pub picked : List ℕ → List Grid → List Grid
-picked [] maps = []
-picked (i ∷ places) maps = then_maps (slice_get maps i) (picked places maps)
+abbrev pub picked_maps : List ℕ → List Grid → List Grid
+picked_maps [] maps = []
+picked_maps (i ∷ places) maps = then_maps (slice_get maps i) (picked_maps places maps)

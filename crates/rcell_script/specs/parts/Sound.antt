@@ -3,7 +3,7 @@ use Rattle.std.specs.Prelude.{ℕ, ◌≡◌, ◌<◌, List, [], ◌∷◌, All,
 use Rattle.cell_core_values.specs.Name.{place_of}
 use Rattle.rcell_script.specs.KnownMaps.{known_after}
 use Rattle.rcell_script.specs.FittingScripts.{Fits}
-use Rattle.rcell_script.specs.declared.line_reading.Block.{Block}
+use Rattle.rcell_script.specs.declared.line_reading.OpenReclass.{OpenReclass}
 use Rattle.rcell_script.specs.declared.line_reading.Progress.{Progress}
 use Rattle.rcell_script.specs.declared.statement.Statement.{Statement}
 
@@ -13,7 +13,7 @@ known_after_all known [] = known
 known_after_all known (s ∷ ss) = known_after_all (known_after known s.command) ss
 
 -- the maps of an r.reclass whose rules are being read
-abbrev pub FitsBlock : List (List ℕ) → Option Block → Type 0
+abbrev pub FitsBlock : List (List ℕ) → Option OpenReclass → Type 0
 FitsBlock known None = Unit {0}
 FitsBlock known (Some block) = (place_of block.target known ≡ None) × ((block.place < length known) × (0 < block.line))
 

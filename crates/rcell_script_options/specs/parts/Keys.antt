@@ -1,11 +1,11 @@
 -- Which keys were given.
 use Rattle.std.specs.Prelude.{Bool, is_some}
 use Rattle.rcell_script_options.specs.OptionReading.{Given}
-use Rattle.rcell_script_options.specs.declared.options.Key.{Key}
-use Rattle.rcell_script_options.specs.declared.options.Key.TheVariants.{Input, Inputs, Output, Separator, NullText, TableNullText, After}
+use Rattle.rcell_script_options.specs.declared.options.OptionKey.{OptionKey}
+use Rattle.rcell_script_options.specs.declared.options.OptionKey.TheVariants.{Input, Inputs, Output, Separator, NullText, TableNullText, After}
 
 -- a key has a value
-abbrev pub is_given : Given → Key → Bool
+abbrev pub is_given : Given → OptionKey → Bool
 is_given given Input = is_some given.input
 is_given given Inputs = is_some given.inputs
 is_given given Output = is_some given.output

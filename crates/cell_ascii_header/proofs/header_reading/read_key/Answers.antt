@@ -13,13 +13,13 @@ returns-in-Ok-clause-key g c =
     let u = c.end_line.new.scanner in
     let given =
     key_given c.args.keys.now (Ok c.give.new.self) s.word c.word.result.now c.word-2.result.now t.word
-    c.args.colon c.in_ok-start.start c.key_of-key.result
-    c.requires.colon c.word.ensures.value c.key_of-key.ensures (c.word-2.ensures.value ∙ c.end_line.ensures.word) (sym c.in-Ok.ensures.ok) in
+    c.args.colon c.in_ok-start.start c.header_key_of-key.result
+    c.requires.colon c.word.ensures.value c.header_key_of-key.ensures (c.word-2.ensures.value ∙ c.end_line.ensures.word) (sym c.in-Ok.ensures.ok) in
     key_done s.line c.args.keys.now s.word t.word c.in_ok-start.start u.run c.in_ok-ending.ending c.give.new.self (bytes_to_come s.ahead) (bytes_to_come t.ahead) (bytes_to_come u.ahead)
     (rw c.requires.colon at c.in_ok-start.ensures.value) (rw c.in_ok-start.ensures.line at c.in_ok-ending.ensures.ending) given
 
 pub returns-in-Err-clause-kind : goal.returns-in-Err-clause-kind
-returns-in-Err-clause-kind g c = key_kind c.args.keys.now c.key_of-key.result (take (length c.word-2.result.now - c.in_ok-start.start) (drop c.in_ok-start.start c.word-2.result.now)) c.in-Err.kind c.in-Err.ensures.err
+returns-in-Err-clause-kind g c = key_kind c.args.keys.now c.header_key_of-key.result (take (length c.word-2.result.now - c.in_ok-start.start) (drop c.in_ok-start.start c.word-2.result.now)) c.in-Err.kind c.in-Err.ensures.err
 
 pub returns-in_err-start-clause-key : goal.returns-in_err-start-clause-key
 returns-in_err-start-clause-key g c =
@@ -110,8 +110,8 @@ returns-in-Err-clause-key g c =
     let u = c.end_line.new.scanner in
     let given =
     key_given c.args.keys.now (Err c.in-Err.kind) s.word c.word.result.now c.word-2.result.now t.word c.args.colon
-    c.in_ok-start.start c.key_of-key.result
-    c.requires.colon c.word.ensures.value c.key_of-key.ensures (c.word-2.ensures.value ∙ c.end_line.ensures.word)
+    c.in_ok-start.start c.header_key_of-key.result
+    c.requires.colon c.word.ensures.value c.header_key_of-key.ensures (c.word-2.ensures.value ∙ c.end_line.ensures.word)
     (sym c.in-Err.ensures.err) in
     rw c.line-line.ensures
     (key_refused s.line c.args.keys.now s.word t.word c.in_ok-start.start u.run c.in_ok-ending.ending c.give.new.self
@@ -136,5 +136,5 @@ returns-in-Err-clause-lines g c = tt
 
 pub returns-in-Err-clause-heard : goal.returns-in-Err-clause-heard
 returns-in-Err-clause-heard g c =
-    let told = key_told c.args.keys.now c.key_of-key.result (take (length c.word-2.result.now - c.in_ok-start.start) (drop c.in_ok-start.start c.word-2.result.now)) c.in-Err.kind c.in-Err.ensures.err in
+    let told = key_told c.args.keys.now c.header_key_of-key.result (take (length c.word-2.result.now - c.in_ok-start.start) (drop c.in_ok-start.start c.word-2.result.now)) c.in-Err.kind c.in-Err.ensures.err in
     rw told (c.in_ok-ending.ensures.heard ∙ ap (hears false) c.in_ok-start.ensures.heard)

@@ -10,8 +10,8 @@ returns-then-colon-word-clause-line g c =
     let s = c.args.scanner.now in
     let t = c.skip_spaces.new.self in
     let u = c.read_word.new.self in
-    let all : length u.word ≤ c.place_of-colon.result = rw c.word-2.ensures.value at c.if-colon-word.true in
-    let place : c.place_of-colon.result ≡ position_or_len is_colon u.word = rw c.word.ensures.value at c.place_of-colon.ensures.place in
+    let all : length u.word ≤ c.byte_place-colon.result = rw c.word-2.ensures.value at c.if-colon-word.true in
+    let place : c.byte_place-colon.result ≡ position_or_len is_colon u.word = rw c.word.ensures.value at c.byte_place-colon.ensures.place in
     let none : list_any is_colon u.word ≡ false = any_none is_colon u.word (rw place at all) in
     rw c.read_word.ensures.line
     (line_data c.args.keys.now s.line s.run t.line u.word (bytes_to_come s.ahead) (bytes_to_come t.ahead) (bytes_to_come u.ahead)
@@ -23,8 +23,8 @@ returns-in-Ok-Feed-clause-line g c =
     let t = c.skip_spaces.new.self in
     let u = c.read_word.new.self in
     let v = c.read_key.new.scanner in
-    let before : c.place_of-colon.result < length u.word = rw c.word-2.ensures.value at c.if-colon-word.false in
-    let place : c.place_of-colon.result ≡ position_or_len is_colon u.word = rw c.word.ensures.value at c.place_of-colon.ensures.place in
+    let before : c.byte_place-colon.result < length u.word = rw c.word-2.ensures.value at c.if-colon-word.false in
+    let place : c.byte_place-colon.result ≡ position_or_len is_colon u.word = rw c.word.ensures.value at c.byte_place-colon.ensures.place in
     let some : list_any is_colon u.word ≡ true = any_within is_colon u.word (rw place at before) in
     let next : v.line ≡ t.line + 1 = c.in-Ok-Feed.ensures.feed (ap Ok c.in-Ok-Feed.field-0-is) ∙ ap (λ n. n + 1) c.read_word.ensures.line in
     line_more c.args.keys.now s.line s.run t.line u.word (bytes_to_come s.ahead) (bytes_to_come t.ahead) (bytes_to_come u.ahead)
@@ -37,8 +37,8 @@ returns-in-Ok-Text-clause-line g c =
     let t = c.skip_spaces.new.self in
     let u = c.read_word.new.self in
     let v = c.read_key.new.scanner in
-    let before : c.place_of-colon.result < length u.word = rw c.word-2.ensures.value at c.if-colon-word.false in
-    let place : c.place_of-colon.result ≡ position_or_len is_colon u.word = rw c.word.ensures.value at c.place_of-colon.ensures.place in
+    let before : c.byte_place-colon.result < length u.word = rw c.word-2.ensures.value at c.if-colon-word.false in
+    let place : c.byte_place-colon.result ≡ position_or_len is_colon u.word = rw c.word.ensures.value at c.byte_place-colon.ensures.place in
     let some : list_any is_colon u.word ≡ true = any_within is_colon u.word (rw place at before) in
     let same : v.line ≡ t.line = c.in-Ok-Text.ensures.text (ap Ok c.in-Ok-Text.field-0-is) ∙ c.read_word.ensures.line in
     line_last c.args.keys.now s.line s.run t.line u.word (bytes_to_come s.ahead) (bytes_to_come t.ahead) (bytes_to_come u.ahead)
@@ -51,8 +51,8 @@ returns-in-Err-read_key-clause-line g c =
     let t = c.skip_spaces.new.self in
     let u = c.read_word.new.self in
     let v = c.read_key.new.scanner in
-    let before : c.place_of-colon.result < length u.word = rw c.word-2.ensures.value at c.if-colon-word.false in
-    let place : c.place_of-colon.result ≡ position_or_len is_colon u.word = rw c.word.ensures.value at c.place_of-colon.ensures.place in
+    let before : c.byte_place-colon.result < length u.word = rw c.word-2.ensures.value at c.if-colon-word.false in
+    let place : c.byte_place-colon.result ≡ position_or_len is_colon u.word = rw c.word.ensures.value at c.byte_place-colon.ensures.place in
     let some : list_any is_colon u.word ≡ true = any_within is_colon u.word (rw place at before) in
     line_fails c.args.keys.now s.line s.run t.line u.word (bytes_to_come s.ahead) (bytes_to_come t.ahead) (bytes_to_come u.ahead)
     (rw c.in-Ok-Word.field-0-is at c.in-Ok-Word.ensures.starts) c.in-Ok.ensures.word some c.read_key.new.keys v.run (bytes_to_come v.ahead) c.in-Err-read_key.fault

@@ -30,10 +30,10 @@ loop-row-preserved g c =
     c.rows-row-end.ensures.value ∙ ap (λ (e : RegionValue). e.rows) c.region.ensures.value in
     let within : row < length rows = below _ _ _ _ c.loop-row-test.true height c.region.ensures.filled.count in
     record {
-      text = rw (flat_map-take (row_text c.args.null_text.now) rows row [] (row_at c.args.map.now row) within refl) (appends_then c.loop-row.invariant.text c.write_row.ensures.text);
-      kept = c.write_row.auto.fields ∙ c.loop-row.invariant.kept;
-      known = c.write_row.ensures.known;
-      room = c.write_row.auto.line ∙ c.loop-row.invariant.room;
+      text = rw (flat_map-take (row_text c.args.null_text.now) rows row [] (row_at c.args.map.now row) within refl) (appends_then c.loop-row.invariant.text c.write_grid_row.ensures.text);
+      kept = c.write_grid_row.auto.fields ∙ c.loop-row.invariant.kept;
+      known = c.write_grid_row.ensures.known;
+      room = c.write_grid_row.auto.line ∙ c.loop-row.invariant.room;
     }
 
 pub returns : goal.returns

@@ -5,18 +5,18 @@ use Rattle.cell_calc.specs.parts.Operands.{IsOperandReady}
 use Rattle.cell_calc.proofs.Operands.{enough_at, enough_more, step_more, no_steps, only_one, end_value, of_last}
 use Rattle.cell_calc.proofs.along.along.Goals as goal
 
-pub made-requires-clause-strip : goal.made-requires-clause-strip
-made-requires-clause-strip c = c.requires.strip
+pub step_value-requires-clause-strip : goal.step_value-requires-clause-strip
+step_value-requires-clause-strip c = c.requires.strip
 
-pub made-requires-clause-ready : goal.made-requires-clause-ready
-made-requires-clause-ready c = c.loop-step.invariant.ready
+pub step_value-requires-clause-ready : goal.step_value-requires-clause-ready
+step_value-requires-clause-ready c = c.loop-step.invariant.ready
 
 pub row_of-requires-clause-strip : goal.row_of-requires-clause-strip
 row_of-requires-clause-strip c = c.requires.strip
 
 pub row_of-requires-clause-ready : goal.row_of-requires-clause-ready
 row_of-requires-clause-ready c =
-    of_last (IsOperandReady c.args.windows.now c.args.strip.now) c.loop-step.operands.items c.popped-last.new.operands.items c.popped-last.result c.popped-last.ensures c.loop-step.invariant.ready
+    of_last (IsOperandReady c.args.windows.now c.args.strip.now) c.loop-step.operands.items c.pop_operand-last.new.operands.items c.pop_operand-last.result c.pop_operand-last.ensures c.loop-step.invariant.ready
 
 pub returns-in_err-operand-clause-width : goal.returns-in_err-operand-clause-width
 returns-in_err-operand-clause-width c = IfOk-from_err c.from_residual.result _ c.from_residual.ensures.0
@@ -36,8 +36,8 @@ returns-in_err-row-clause-width c = IfOk-from_err c.from_residual-in_err-row.res
 pub returns-in_err-row-clause-each : goal.returns-in_err-row-clause-each
 returns-in_err-row-clause-each c = IfOk-from_err c.from_residual-in_err-row.result _ c.from_residual-in_err-row.ensures.0
 
-pub popped-last-requires : goal.popped-last-requires
-popped-last-requires c =
+pub pop_operand-last-requires : goal.pop_operand-last-requires
+pop_operand-last-requires c =
     let none = no_steps c.args.steps.now c.loop-step.step-index c.loop-step-test.false in
     let one = rw none at c.loop-step.invariant.enough in
     omega (arith, one)
@@ -69,6 +69,6 @@ returns-clause-each c =
     let i = c.loop-step.step-index in
     let none = no_steps c.args.steps.now i c.loop-step-test.false in
     let one = rw none at so_far.enough in
-    let only = only_one c.loop-step.operands.items c.popped-last.new.operands.items c.popped-last.result one c.popped-last.ensures in
+    let only = only_one c.loop-step.operands.items c.pop_operand-last.new.operands.items c.pop_operand-last.result one c.pop_operand-last.ensures in
     λ k h. ap (λ v. v ∷ []) (c.in_ok-row.ensures.each k h)
-    ∙ end_value c.args.windows.now c.args.strip.now c.args.steps.now i k c.loop-step.operands.items c.popped-last.result _ none only (so_far.each k h)
+    ∙ end_value c.args.windows.now c.args.strip.now c.args.steps.now i k c.loop-step.operands.items c.pop_operand-last.result _ none only (so_far.each k h)

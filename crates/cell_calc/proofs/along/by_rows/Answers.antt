@@ -7,23 +7,23 @@ use Rattle.cell_calc.specs.parts.Operands.{spot_at}
 use Rattle.cell_calc.proofs.Written.{at_written, changed_width}
 use Rattle.cell_calc.proofs.along.by_rows.Goals as goal
 
-pub gather-requires-clause-strip : goal.gather-requires-clause-strip
-gather-requires-clause-strip c = c.requires.strip
+pub gather_arguments-requires-clause-strip : goal.gather_arguments-requires-clause-strip
+gather_arguments-requires-clause-strip c = c.requires.strip
 
-pub gather-requires-clause-enough : goal.gather-requires-clause-enough
-gather-requires-clause-enough c = c.requires.enough
+pub gather_arguments-requires-clause-enough : goal.gather_arguments-requires-clause-enough
+gather_arguments-requires-clause-enough c = c.requires.enough
 
-pub gather-requires-clause-ready : goal.gather-requires-clause-ready
-gather-requires-clause-ready c = c.requires.ready
+pub gather_arguments-requires-clause-ready : goal.gather_arguments-requires-clause-ready
+gather_arguments-requires-clause-ready c = c.requires.ready
 
-pub returns-in_err-gather-clause-rest : goal.returns-in_err-gather-clause-rest
-returns-in_err-gather-clause-rest c = IfOk-from_err c.from_residual.result _ c.from_residual.ensures.0
+pub returns-in_err-gather_arguments-clause-rest : goal.returns-in_err-gather_arguments-clause-rest
+returns-in_err-gather_arguments-clause-rest c = IfOk-from_err c.from_residual.result _ c.from_residual.ensures.0
 
-pub returns-in_err-gather-clause-width : goal.returns-in_err-gather-clause-width
-returns-in_err-gather-clause-width c = IfOk-from_err c.from_residual.result _ c.from_residual.ensures.0
+pub returns-in_err-gather_arguments-clause-width : goal.returns-in_err-gather_arguments-clause-width
+returns-in_err-gather_arguments-clause-width c = IfOk-from_err c.from_residual.result _ c.from_residual.ensures.0
 
-pub returns-in_err-gather-clause-each : goal.returns-in_err-gather-clause-each
-returns-in_err-gather-clause-each c = IfOk-from_err c.from_residual.result _ c.from_residual.ensures.0
+pub returns-in_err-gather_arguments-clause-each : goal.returns-in_err-gather_arguments-clause-each
+returns-in_err-gather_arguments-clause-each c = IfOk-from_err c.from_residual.result _ c.from_residual.ensures.0
 
 pub returns-in_err-row-clause-rest : goal.returns-in_err-row-clause-rest
 returns-in_err-row-clause-rest c =
@@ -37,17 +37,17 @@ pub returns-in_err-row-clause-each : goal.returns-in_err-row-clause-each
 returns-in_err-row-clause-each c =
     IfOk-from_err c.from_residual-in_err-row.result _ c.from_residual-in_err-row.ensures.0
 
-pub returns-in_err-call-clause-rest : goal.returns-in_err-call-clause-rest
-returns-in_err-call-clause-rest c =
-    IfOk-from_err c.from_residual-in_err-call.result _ c.from_residual-in_err-call.ensures.0
+pub returns-in_err-call_values-clause-rest : goal.returns-in_err-call_values-clause-rest
+returns-in_err-call_values-clause-rest c =
+    IfOk-from_err c.from_residual-in_err-call_values.result _ c.from_residual-in_err-call_values.ensures.0
 
-pub returns-in_err-call-clause-width : goal.returns-in_err-call-clause-width
-returns-in_err-call-clause-width c =
-    IfOk-from_err c.from_residual-in_err-call.result _ c.from_residual-in_err-call.ensures.0
+pub returns-in_err-call_values-clause-width : goal.returns-in_err-call_values-clause-width
+returns-in_err-call_values-clause-width c =
+    IfOk-from_err c.from_residual-in_err-call_values.result _ c.from_residual-in_err-call_values.ensures.0
 
-pub returns-in_err-call-clause-each : goal.returns-in_err-call-clause-each
-returns-in_err-call-clause-each c =
-    IfOk-from_err c.from_residual-in_err-call.result _ c.from_residual-in_err-call.ensures.0
+pub returns-in_err-call_values-clause-each : goal.returns-in_err-call_values-clause-each
+returns-in_err-call_values-clause-each c =
+    IfOk-from_err c.from_residual-in_err-call_values.result _ c.from_residual-in_err-call_values.ensures.0
 
 pub returns-in_err-append-clause-rest : goal.returns-in_err-append-clause-rest
 returns-in_err-append-clause-rest c =
@@ -62,29 +62,29 @@ returns-in_err-append-clause-each c =
     IfOk-from_err c.from_residual-in_err-append.result _ c.from_residual-in_err-append.ensures.0
 
 pub returns-clause-rest : goal.returns-clause-rest
-returns-clause-rest c = c.in_ok-gather.ensures.rest
+returns-clause-rest c = c.in_ok-gather_arguments.ensures.rest
 
-pub call-requires-clause-at_row : goal.call-requires-clause-at_row
-call-requires-clause-at_row c = c.requires.strip.row
+pub call_values-requires-clause-at_row : goal.call_values-requires-clause-at_row
+call_values-requires-clause-at_row c = c.requires.strip.row
 
-pub call-requires-clause-width : goal.call-requires-clause-width
-call-requires-clause-width c =
+pub call_values-requires-clause-width : goal.call_values-requires-clause-width
+call_values-requires-clause-width c =
     let start = ap (λ l. length l) c.as_mut_slice-cells.ensures.value ∙ c.in_ok-row.ensures in
     subst (λ n. c.args.strip.now.from + n ≤ c.args.strip.now.region.cols) (sym start) c.requires.strip.columns
 
-pub call-requires-clause-widths : goal.call-requires-clause-widths
-call-requires-clause-widths c =
+pub call_values-requires-clause-widths : goal.call_values-requires-clause-widths
+call_values-requires-clause-widths c =
     let start = ap (λ l. length l) c.as_mut_slice-cells.ensures.value ∙ c.in_ok-row.ensures in
     let all = All-same (λ cells. length cells.items ≡ c.args.strip.now.width) c.as_slice-arguments.result.now _
-    c.as_slice-arguments.ensures.value c.in_ok-gather.ensures.width in
+    c.as_slice-arguments.ensures.value c.in_ok-gather_arguments.ensures.width in
     λ k d lt. all k d lt ∙ sym start
 
 pub returns-clause-width : goal.returns-clause-width
 returns-clause-width c =
     let row = c.in_ok-row.row in
     let all : row.len ≡ length row.items = search rules in
-    changed_width row.len c.args.strip.now.width row.items c.as_mut_slice-cells.result.now c.call.new.row all
-    c.as_mut_slice-cells.ensures.value c.in_ok-call.ensures.width c.in_ok-row.ensures
+    changed_width row.len c.args.strip.now.width row.items c.as_mut_slice-cells.result.now c.call_values.new.row all
+    c.as_mut_slice-cells.ensures.value c.in_ok-call_values.ensures.width c.in_ok-row.ensures
 
 pub returns-clause-each : goal.returns-clause-each
 returns-clause-each c =
@@ -94,8 +94,8 @@ returns-clause-each c =
     let same = ap (λ l. length l) c.as_mut_slice-cells.ensures.value in
     let start = same ∙ c.in_ok-row.ensures in
     λ k h.
-    at_written row.len c.call.new.row row.items k all (c.in_ok-call.ensures.width ∙ same)
-    ∙ c.in_ok-call.ensures.each k (subst (λ n. k < n) (sym start) h)
+    at_written row.len c.call_values.new.row row.items k all (c.in_ok-call_values.ensures.width ∙ same)
+    ∙ c.in_ok-call_values.ensures.each k (subst (λ n. k < n) (sym start) h)
     ∙ ap (λ l. call_result c.args.function (spot_at strip k) (column k (map (λ v. v.items) l)))
     c.as_slice-arguments.ensures.value
-    ∙ ap (λ l. call_result c.args.function (spot_at strip k) l) (c.in_ok-gather.ensures.each k h)
+    ∙ ap (λ l. call_result c.args.function (spot_at strip k) l) (c.in_ok-gather_arguments.ensures.each k h)

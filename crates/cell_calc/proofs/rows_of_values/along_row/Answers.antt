@@ -7,7 +7,7 @@ use Rattle.cell_core.specs.Grid.{CellValue}
 use Rattle.cell_calc_operators.specs.Applied.{spot}
 use Rattle.cell_calc_steps.specs.Postfix.{values_after}
 use Rattle.cell_calc_rows.specs.RowValues.{at}
-use Rattle.cell_calc.specs.parts.Operands.{seen}
+use Rattle.cell_calc.specs.parts.Operands.{seen_cell}
 use Rattle.cell_calc.proofs.rows_of_values.along_row.Goals as goal
 
 -- a strip lies within the row, and the next one begins further on
@@ -128,7 +128,8 @@ strips-preserved c =
       done = λ k h.
           one_more old c.as_slice.result.now values.values.items new from width is same so_far.width
           values.ensures.width
-          (λ i v. v ∷ [] ≡ values_after (seen c.args.windows.now (spot c.args.region c.args.row i)) c.args.steps.now [])
+          (λ i v. v ∷ [] ≡ values_after
+          (seen_cell c.args.windows.now (spot c.args.region c.args.row i)) c.args.steps.now [])
           so_far.done values.ensures.each k h (nat_lt k from) refl;
     }
 

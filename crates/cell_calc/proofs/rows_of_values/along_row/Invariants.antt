@@ -1,6 +1,6 @@
 use Rattle.std.proofs.Common.{◌≡◌, ◌≤◌, ◌<◌, ◌-◌, ℕ, [], ◌∷◌, length}
 use Rattle.cell_calc_operators.specs.Applied.{spot}
-use Rattle.cell_calc.specs.parts.Operands.{seen}
+use Rattle.cell_calc.specs.parts.Operands.{seen_cell}
 use Rattle.cell_calc_steps.specs.Postfix.{values_after}
 use Rattle.cell_calc_rows.specs.RowValues.{at}
 use Rattle.cell_calc.proofs.rows_of_values.along_row.Given as goal
@@ -10,7 +10,7 @@ invariant-strips l =
     record {
       within : l.from ≤ l.cols;
       width : length l.cells.items ≡ l.from;
-      done : (c : ℕ) → c < l.from → at l.cells.items c ∷ [] ≡ values_after (seen l.windows (spot l.region l.row c)) l.steps [];
+      done : (c : ℕ) → c < l.from → at l.cells.items c ∷ [] ≡ values_after (seen_cell l.windows (spot l.region l.row c)) l.steps [];
     }
 
 abbrev pub decreases-strips : goal.decreases-strips

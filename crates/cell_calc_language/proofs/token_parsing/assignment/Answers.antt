@@ -31,10 +31,10 @@ pub returns-in-None-clause-only : goal.returns-in-None-clause-only
 returns-in-None-clause-only c =
     ends_only c.in-Name.name c.in-Ok.target c.args.tokens.now c.in-Some-after_sign.after.now (tree_of c.in-Ok-expression.read.0.items) c.in-Ok-expression.read.1.now c.in-Ok.ensures.ok (c.in-Some.placed.now, c.in-Some.rest.now, c.in-Some.ensures.some, c.in-Name.is, c.in-Some-after_sign.ensures.some) c.in-None.ensures.none c.in-Ok-expression.ensures.ok
 
-pub returns-in-Some-first-clause-fault : goal.returns-in-Some-first-clause-fault
-returns-in-Some-first-clause-fault c =
-    subst (IsFaultOf c.args.end c.args.tokens.now) (sym c.fault_of-in-Some-first.ensures)
-    (fault_goes_on c.args.end c.in-Name.name c.args.tokens.now c.in-Some-after_sign.after.now (tree_of c.in-Ok-expression.read.0.items) c.in-Ok-expression.read.1.now c.in-Some-first.field-0.0.now c.in-Some-first.field-0.1.now (c.in-Some.placed.now, c.in-Some.rest.now, c.in-Some.ensures.some, c.in-Name.is, c.in-Some-after_sign.ensures.some) c.in-Some-first.ensures.some c.in-Ok-expression.ensures.ok)
+pub returns-in-Some-first_token-clause-fault : goal.returns-in-Some-first_token-clause-fault
+returns-in-Some-first_token-clause-fault c =
+    subst (IsFaultOf c.args.end c.args.tokens.now) (sym c.fault_of-in-Some-first_token.ensures)
+    (fault_goes_on c.args.end c.in-Name.name c.args.tokens.now c.in-Some-after_sign.after.now (tree_of c.in-Ok-expression.read.0.items) c.in-Ok-expression.read.1.now c.in-Some-first_token.field-0.0.now c.in-Some-first_token.field-0.1.now (c.in-Some.placed.now, c.in-Some.rest.now, c.in-Some.ensures.some, c.in-Name.is, c.in-Some-after_sign.ensures.some) c.in-Some-first_token.ensures.some c.in-Ok-expression.ensures.ok)
 
 pub invariant_of-result : goal.invariant_of-result
 invariant_of-result c = (

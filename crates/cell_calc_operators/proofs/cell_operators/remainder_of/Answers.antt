@@ -9,4 +9,4 @@ returns c =
     let y = c.args.y in
     let found = c.checked_rem.ensures in
     let exact = rw (to_z-of_z w32 x c.ranges.x, to_z-of_z w32 y c.ranges.y) at found in
-    c.found.ensures ∙ fit_remainder c.checked_rem.result x y c.requires.category c.ranges.x c.requires.divisor c.ranges.y exact
+    c.cell_or_null.ensures ∙ fit_remainder c.checked_rem.result x y c.requires.category c.ranges.x c.requires.divisor c.ranges.y exact

@@ -1,6 +1,6 @@
 use Rattle.std.proofs.Common.{◌≡◌, ◌<◌, ℕ, length, map}
 use Rattle.cell_calc_rows.specs.RowValues.{at, column}
-use Rattle.cell_calc_operators.specs.CellOperators.{most_frequent, known}
+use Rattle.cell_calc_operators.specs.CellOperators.{most_frequent, known_cells}
 use Rattle.cell_calc_rows.proofs.modes.known_mode.Given as goal
 
 abbrev pub invariant-loop-c : goal.invariant-loop-c
@@ -8,5 +8,6 @@ invariant-loop-c l =
     record {
       width : length l.row ≡ length l.initial.row;
       room : length l.cells ≡ length l.arguments;
-      done : (k : ℕ) → k < l.c → at l.row k ≡ most_frequent (known (column k (map (λ cells. cells.items) l.arguments)));
+      done : (k : ℕ) → k < l.c
+          → at l.row k ≡ most_frequent (known_cells (column k (map (λ cells. cells.items) l.arguments)));
     }

@@ -1,6 +1,6 @@
 use Rattle.std.proofs.Common.{◌≡◌, false, map}
 use Rattle.std.proofs.lemmas.List.Elements.{All-same}
-use Rattle.cell_calc_operators.specs.CellOperators.{is_null, known}
+use Rattle.cell_calc_operators.specs.CellOperators.{is_null, known_cells}
 use Rattle.cell_calc_rows.specs.RowValues.{column}
 use Rattle.cell_calc_rows.proofs.Frequent.{all_known}
 use Rattle.cell_calc_rows.proofs.modes.known_mode_at.Goals as goal
@@ -8,4 +8,4 @@ use Rattle.cell_calc_rows.proofs.modes.known_mode_at.Goals as goal
 pub most_frequent-requires : goal.most_frequent-requires
 most_frequent-requires c =
     let cells = column c.args.c (map (λ row. row.items) c.args.arguments.now) in
-    All-same (λ cell. is_null cell ≡ false) _ (known cells) c.gather-count.ensures.known (all_known cells)
+    All-same (λ cell. is_null cell ≡ false) _ (known_cells cells) c.gather_column-count.ensures.known (all_known cells)

@@ -13,19 +13,19 @@ pub loop-i-init : goal.loop-i-init
 loop-i-init c =
     let some : 0 < length c.args.cells.now = grind (arith, common_steps) in
     record {
-      longest = rw c.at-best.ensures (longest_first c.args.cells.now some c.requires.known);
+      longest = rw c.argument_at-best.ensures (longest_first c.args.cells.now some c.requires.known);
       bound = omega arith;
     }
 
 pub loop-i-preserved : goal.loop-i-preserved
 loop-i-preserved c =
-    let kept = kept_within (cell_eq c.at-cell.result c.at.result) c.loop-i.run c.continued-run.result c.continued-run.ensures in
+    let kept = kept_within (cell_eq c.argument_at-cell.result c.argument_at.result) c.loop-i.run c.longer_run-run.result c.longer_run-run.ensures in
     let bound = c.loop-i.invariant.bound in
     record {
       longest = rw (c.longer-best.ensures, c.max-most.ensures)
-          (longest_step c.args.cells.now c.loop-i.i c.loop-i.best c.loop-i.most c.loop-i.run (c.continued-run.result + 1) c.at-cell.result c.at.result
+          (longest_step c.args.cells.now c.loop-i.i c.loop-i.best c.loop-i.most c.loop-i.run (c.longer_run-run.result + 1) c.argument_at-cell.result c.argument_at.result
           c.loop-i.auto.i c.loop-i-test.true c.requires.known c.requires.sorted c.loop-i.invariant.longest
-          c.at-cell.ensures c.at.ensures (ap (λ n. n + 1) c.continued-run.ensures));
+          c.argument_at-cell.ensures c.argument_at.ensures (ap (λ n. n + 1) c.longer_run-run.ensures));
       bound = omega (arith, kept, bound);
     }
 

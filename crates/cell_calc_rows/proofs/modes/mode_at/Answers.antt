@@ -1,6 +1,6 @@
 use Rattle.std.proofs.Common.{◌≡◌, ◌∙◌, false, map}
 use Rattle.std.proofs.lemmas.List.Elements.{All-same}
-use Rattle.cell_calc_operators.specs.CellOperators.{is_null, known}
+use Rattle.cell_calc_operators.specs.CellOperators.{is_null, known_cells}
 use Rattle.cell_calc_rows.specs.RowValues.{column}
 use Rattle.cell_calc_rows.proofs.Frequent.{all_known, null_mode, known_mode, within_room}
 use Rattle.cell_calc_rows.proofs.modes.mode_at.Goals as goal
@@ -8,15 +8,17 @@ use Rattle.cell_calc_rows.proofs.modes.mode_at.Goals as goal
 pub returns-then-count-arguments-clause-mode : goal.returns-then-count-arguments-clause-mode
 returns-then-count-arguments-clause-mode c =
     c.null.ensures
-    ∙ null_mode (λ row. row.items) c.args.arguments.now c.args.c c.gather-count.result c.gather-count.new.cells
-    c.gather-count.ensures.known (within_room _ _ _ c.gather-count.ensures.count c.gather-count.ensures.length) c.if-count-arguments.true
+    ∙ null_mode (λ row. row.items) c.args.arguments.now c.args.c c.gather_column-count.result
+    c.gather_column-count.new.cells
+    c.gather_column-count.ensures.known (within_room _ _ _ c.gather_column-count.ensures.count c.gather_column-count.ensures.length) c.if-count-arguments.true
 
 pub most_frequent-requires : goal.most_frequent-requires
 most_frequent-requires c =
     let cells = column c.args.c (map (λ row. row.items) c.args.arguments.now) in
-    All-same (λ cell. is_null cell ≡ false) _ (known cells) c.gather-count.ensures.known (all_known cells)
+    All-same (λ cell. is_null cell ≡ false) _ (known_cells cells) c.gather_column-count.ensures.known (all_known cells)
 
 pub returns-clause-mode : goal.returns-clause-mode
 returns-clause-mode c =
-    known_mode (λ row. row.items) c.args.arguments.now c.args.c c.gather-count.result c.gather-count.new.cells _
-    c.gather-count.ensures.known (within_room _ _ _ c.gather-count.ensures.count c.gather-count.ensures.length) c.if-count-arguments.false c.most_frequent.ensures
+    known_mode (λ row. row.items) c.args.arguments.now c.args.c c.gather_column-count.result
+    c.gather_column-count.new.cells _
+    c.gather_column-count.ensures.known (within_room _ _ _ c.gather_column-count.ensures.count c.gather_column-count.ensures.length) c.if-count-arguments.false c.most_frequent.ensures

@@ -14,8 +14,8 @@ returns-clause-each c =
     let place = rw (to_z-of_z w32 c.args.right c.ranges.right) at lies.ensures.first in
     let right_out = rw (to_z-of_z w32 c.args.right c.ranges.right) at lies.ensures.after in
     beside c.args.operator c.args.row.now halves.result.1.now source halves.result.0.now parts.result.0.now parts.result.1.now
-    c.apply_one.new.row c.apply.new.row c.apply_one-2.new.row _ c.args.from lies.result.before first lies.result.count c.args.right
+    c.apply_one.new.row c.apply_operator.new.row c.apply_one-2.new.row _ c.args.from lies.result.before first lies.result.count c.args.right
     c.null.result c.null-2.result c.null.ensures c.null-2.ensures halves.ensures.front halves.ensures.back parts.ensures.front parts.ensures.back
     halves.ensures.front_len halves.ensures.back_len parts.ensures.front_len parts.ensures.back_len
-    c.apply_one.ensures.width c.apply.ensures.width c.apply_one-2.ensures.width (ap (λ n. take n (drop first source)) (omega arith))
-    c.apply_one.ensures.each c.apply.ensures.each c.apply_one-2.ensures.each left_out place right_out
+    c.apply_one.ensures.width c.apply_operator.ensures.width c.apply_one-2.ensures.width (ap (λ n. take n (drop first source)) (omega arith))
+    c.apply_one.ensures.each c.apply_operator.ensures.each c.apply_one-2.ensures.each left_out place right_out

@@ -1,5 +1,5 @@
 use Rattle.std.proofs.Common.{◌≡◌, ◌∙◌, ap, length}
-use Rattle.cell_calc_operators.specs.CellOperators.{chosen}
+use Rattle.cell_calc_operators.specs.CellOperators.{chosen_cell}
 use Rattle.cell_calc_rows.specs.RowValues.{at}
 use Rattle.cell_calc_rows.proofs.Places.{within_same, before_end, read, read_old, one_more, others_stay}
 use Rattle.cell_calc_rows.proofs.rows.choose.Goals as goal
@@ -17,12 +17,13 @@ loop-i-preserved c =
     let x = read conditions i c.index-conditions-i.result lt_conditions c.index-conditions-i.is in
     let a = read yes i c.index-yes-i.result lt_yes c.index-yes-i.is in
     let b = read_old row old i c.index-row-i.result lt c.index-row-i.is c.loop-i.invariant.rest in
-    let here = c.chosen.ensures ∙ ap (λ v. chosen v c.index-yes-i.result c.index-row-i.result) x
-    ∙ ap (λ v. chosen (at conditions i) v c.index-row-i.result) a ∙ ap (λ v. chosen (at conditions i) (at yes i) v) b in
+    let here = c.chosen_cell.ensures ∙ ap (λ v. chosen_cell v c.index-yes-i.result c.index-row-i.result) x
+    ∙ ap (λ v. chosen_cell (at conditions i) v c.index-row-i.result) a
+    ∙ ap (λ v. chosen_cell (at conditions i) (at yes i) v) b in
     record {
-      done = one_more (λ k v. v ≡ chosen (at conditions k) (at yes k) (at old k)) row i c.chosen.result lt
+      done = one_more (λ k v. v ≡ chosen_cell (at conditions k) (at yes k) (at old k)) row i c.chosen_cell.result lt
           c.loop-i.invariant.done here;
-      rest = others_stay row old i c.chosen.result c.loop-i.invariant.rest;
+      rest = others_stay row old i c.chosen_cell.result c.loop-i.invariant.rest;
     }
 
 pub returns : goal.returns

@@ -1,11 +1,11 @@
 use Rattle.std.proofs.Common.{◌≡◌, ◌<◌, ◌≤◌, ℕ}
 use Rattle.cell_calc_rows.specs.RowValues.{at}
-use Rattle.cell_calc_operators.specs.CellOperators.{chosen}
+use Rattle.cell_calc_operators.specs.CellOperators.{chosen_cell}
 use Rattle.cell_calc_rows.proofs.rows.choose_one.Given as goal
 
 abbrev pub invariant-loop-i : goal.invariant-loop-i
 invariant-loop-i l =
     record {
-      done : (c : ℕ) → c < l.i → at l.row c ≡ chosen (at l.conditions c) l.yes (at l.initial.row c);
+      done : (c : ℕ) → c < l.i → at l.row c ≡ chosen_cell (at l.conditions c) l.yes (at l.initial.row c);
       rest : (c : ℕ) → l.i ≤ c → at l.row c ≡ at l.initial.row c;
     }

@@ -11,11 +11,11 @@ right_at rules known at k right inside is =
     subst (λ (x : Known). x.reclassed ≡ new_category rules x.cell) (sym is) (right at k inside)
 
 pub bounds-known-at : goal.bounds-known-at
-bounds-known-at c = c.place_of-at.ensures
+bounds-known-at c = c.category_place-at.ensures
 
 pub returns-then-eq-clause-value : goal.returns-then-eq-clause-value
 returns-then-eq-clause-value c = λ rules of right.
-    right_at rules c.args.known.now c.place_of-at.result c.index-known-at.result right c.place_of-at.ensures
+    right_at rules c.args.known.now c.category_place-at.result c.index-known-at.result right c.category_place-at.ensures
     c.index-known-at.is
     ∙ ap (new_category rules) (c.if-eq.ensures.same.0 refl)
 
@@ -27,5 +27,5 @@ returns-clause-value c = λ rules of right. c.apply-reclassed.ensures rules of
 
 pub returns-clause-right : goal.returns-clause-right
 returns-clause-right c = λ rules of right.
-    All-set (λ (k : Known). k.reclassed ≡ new_category rules k.cell) c.args.known.now c.place_of-at.result
+    All-set (λ (k : Known). k.reclassed ≡ new_category rules k.cell) c.args.known.now c.category_place-at.result
     (record { cell = c.args.cell; reclassed = c.apply-reclassed.result }) (c.apply-reclassed.ensures rules of) right

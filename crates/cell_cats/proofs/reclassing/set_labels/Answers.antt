@@ -7,7 +7,7 @@ use Rattle.cell_cats.proofs.reclassing.set_labels.Goals as goal
 
 pub loop-rule-preserved : goal.loop-rule-preserved
 loop-rule-preserved c =
-    elim c.match-labelled.branch [
+    elim c.match-labelled_category.branch [
       | in-Some+in_ok-set_label w ↦
           let fits : SFits w32 w.in-Some.category = search rules in
           let old : Grid = c.loop-rule.made in

@@ -18,7 +18,7 @@ label_cell-requires c =
     let col_in : c.loop-col.col < c.args.map.now.region.cols = omega (arith, c.copy_row.auto.cells, c.requires.wide, c.loop-col-test.true) in
     record {
       down = is.down;
-      inside = reading_inside c.args.joining c.args.map.now c.loop-col.table.items c.loop-col.line c.args.row c.loop-col.col c.loop-col.near is.reading col_in c.moved-near.result c.moved-near.ensures;
+      inside = reading_inside c.args.joining c.args.map.now c.loop-col.table.items c.loop-col.line c.args.row c.loop-col.col c.loop-col.near is.reading col_in c.at_next_column-near.result c.at_next_column-near.ensures;
       short = omega (arith, c.requires.short, is.most, col_in);
     }
 
@@ -31,9 +31,9 @@ loop-col-preserved c =
     let h = inv.reading in
     let col_in : col < m.region.cols = omega (arith, c.copy_row.auto.cells, c.requires.wide, c.loop-col-test.true) in
     let here : c.index-cells-col.result ≡ cell_at_spot m (position r col) = copied m r col c.copy_row.new.cells c.index-cells-col.result c.copy_row.ensures c.loop-col-test.true c.index-cells-col.is in
-    let near = reading_near c.args.joining m c.loop-col.table.items c.loop-col.line r col c.loop-col.near h col_in c.moved-near.result c.moved-near.ensures in
+    let near = reading_near c.args.joining m c.loop-col.table.items c.loop-col.line r col c.loop-col.near h col_in c.at_next_column-near.result c.at_next_column-near.ensures in
     let read = c.in_ok-label.ensures.read m r col h.cells.labels here col_in h.cells.count near h.cells.has_read in
-    let next = reading_next c.args.joining m c.loop-col.table.items c.loop-col.line r col c.loop-col.near h col_in c.moved-near.result c.moved-near.ensures c.label_cell.new.table.items _ here read in
+    let next = reading_next c.args.joining m c.loop-col.table.items c.loop-col.line r col c.loop-col.near h col_in c.at_next_column-near.result c.at_next_column-near.ensures c.label_cell.new.table.items _ here read in
     record {
       wide = next.cells.is_line.wide;
       down = c.in_ok-label.ensures.down;

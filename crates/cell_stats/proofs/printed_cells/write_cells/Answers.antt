@@ -16,9 +16,9 @@ at_end within ended same = omega arith
 pub loop-row-preserved : goal.loop-row-preserved
 loop-row-preserved g c =
     record {
-      appends = rw (lines-more c.args.format.now c.args.shelf.now.maps c.args.picks.now c.args.skip c.args.shelf.now.region.cols c.loop-row.row) (appends_then c.loop-row.invariant.appends c.write_row.ensures);
-      cursors = c.write_row.auto.cursors ∙ c.loop-row.invariant.cursors;
-      cells = c.write_row.auto.cells ∙ c.loop-row.invariant.cells;
+      appends = rw (lines-more c.args.format.now c.args.shelf.now.maps c.args.picks.now c.args.skip c.args.shelf.now.region.cols c.loop-row.row) (appends_then c.loop-row.invariant.appends c.write_cell_lines.ensures);
+      cursors = c.write_cell_lines.auto.cursors ∙ c.loop-row.invariant.cursors;
+      cells = c.write_cell_lines.auto.cells ∙ c.loop-row.invariant.cells;
     }
 
 pub returns : goal.returns
@@ -36,21 +36,21 @@ loop-row-init g c =
       cells = ap length c.as_mut_slice-cells.ensures.value ∙ width;
     }
 
-pub write_row-requires-clause-picked : goal.write_row-requires-clause-picked
-write_row-requires-clause-picked g c = c.requires.picked
+pub write_cell_lines-requires-clause-picked : goal.write_cell_lines-requires-clause-picked
+write_cell_lines-requires-clause-picked g c = c.requires.picked
 
-pub write_row-requires-clause-some : goal.write_row-requires-clause-some
-write_row-requires-clause-some g c = c.requires.some
+pub write_cell_lines-requires-clause-some : goal.write_cell_lines-requires-clause-some
+write_cell_lines-requires-clause-some g c = c.requires.some
 
-pub write_row-requires-clause-row_in_range : goal.write_row-requires-clause-row_in_range
-write_row-requires-clause-row_in_range g c =
+pub write_cell_lines-requires-clause-row_in_range : goal.write_cell_lines-requires-clause-row_in_range
+write_cell_lines-requires-clause-row_in_range g c =
     below c.loop-row-test.true (c.rows-row-end.ensures.value ∙ ap (λ (r : RegionValue). r.rows) c.region.ensures.value)
 
-pub write_row-requires-clause-cursors : goal.write_row-requires-clause-cursors
-write_row-requires-clause-cursors g c = c.loop-row.invariant.cursors
+pub write_cell_lines-requires-clause-cursors : goal.write_cell_lines-requires-clause-cursors
+write_cell_lines-requires-clause-cursors g c = c.loop-row.invariant.cursors
 
-pub write_row-requires-clause-cells : goal.write_row-requires-clause-cells
-write_row-requires-clause-cells g c = c.loop-row.invariant.cells
+pub write_cell_lines-requires-clause-cells : goal.write_cell_lines-requires-clause-cells
+write_cell_lines-requires-clause-cells g c = c.loop-row.invariant.cells
 
 pub loop-row-smaller : goal.loop-row-smaller
 loop-row-smaller g c = falls _ _ c.loop-row-test.true

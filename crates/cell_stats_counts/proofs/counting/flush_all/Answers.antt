@@ -2,7 +2,7 @@ use Rattle.std.proofs.Common.{◌≡◌, ◌<◌, ◌≤◌, ◌+◌, ◌^◌, �
 use Rattle.std.proofs.lemmas.Result.{IfOk-from_err}
 use borrow.Author.Count.{falls}
 use Rattle.std.proofs.lemmas.List.Sums.{sum_by_more, sum_by_more_le}
-use Rattle.cell_stats_counts.specs.declared.counting.Held.{Held}
+use Rattle.cell_stats_counts.specs.declared.counting.CountPlace.{CountPlace}
 use Rattle.cell_stats_counts.specs.parts.HeldPlaces.{gathered_of}
 use Rattle.cell_stats_counts.specs.parts.HeldPlaces.{held_by, held_of}
 use Rattle.cell_stats_counts.proofs.counting.flush_all.Goals as goal
@@ -72,7 +72,7 @@ pub settle-requires-clause-fits : goal.settle-requires-clause-fits
 settle-requires-clause-fits c = λ k.
     let first = gathered_of k c.args.counted.now in
     let all = take_all c.loop-held.held-index c.args.places.now c.loop-held-test.false in
-    subst (λ n. n < 2 ^ 64) (sym (c.loop-held.invariant.counted k ∙ ap (λ (l : List Held). first + held_of c.args.width k l) all
+    subst (λ n. n < 2 ^ 64) (sym (c.loop-held.invariant.counted k ∙ ap (λ (l : List CountPlace). first + held_of c.args.width k l) all
     ∙ turned first (held_of c.args.width k c.args.places.now))) (c.requires.fits k)
 
 pub settle-requires-clause-no_zero : goal.settle-requires-clause-no_zero
@@ -82,7 +82,7 @@ pub returns-clause-ok : goal.returns-clause-ok
 returns-clause-ok c = λ k.
     let first = gathered_of k c.args.counted.now in
     let all = take_all c.loop-held.held-index c.args.places.now c.loop-held-test.false in
-    c.in_ok-settle.ensures.ok k ∙ c.loop-held.invariant.counted k ∙ ap (λ (l : List Held). first + held_of c.args.width k l) all
+    c.in_ok-settle.ensures.ok k ∙ c.loop-held.invariant.counted k ∙ ap (λ (l : List CountPlace). first + held_of c.args.width k l) all
     ∙ turned first (held_of c.args.width k c.args.places.now)
 
 pub returns-clause-no_zero : goal.returns-clause-no_zero

@@ -1,6 +1,6 @@
 use Rattle.std.proofs.Common.{◌≡◌, ◌<◌, ◌*◌, ℕ, min, arith, ◌+◌, ◌∙◌, List, ap, refl, zero-add}
 use Rattle.std.proofs.lemmas.Result.{IfOk-from_err}
-use Rattle.cell_stats_counts.specs.declared.counting.Held.{Held}
+use Rattle.cell_stats_counts.specs.declared.counting.CountPlace.{CountPlace}
 use Rattle.cell_stats_counts.specs.parts.HeldPlaces.{gathered_of}
 use Rattle.cell_stats_counts.specs.parts.HeldPlaces.{total_of}
 use Rattle.cell_stats_counts.proofs.counting.make_room.Goals as goal
@@ -12,7 +12,7 @@ some_places some same read grown cut = omega arith
 pub returns-clause-ok : goal.returns-clause-ok
 returns-clause-ok c = λ k.
     let map = c.flush_all.new.counted in
-    ap (λ n. n + gathered_of k map) (c.in_ok-more.ensures.nothing c.args.width k) ∙ zero-add (gathered_of k map) ∙ c.in_ok-flush_all.ensures.ok k ∙ ap (λ (p : List Held). total_of c.args.width k p c.args.counted.now) c.as_slice.ensures.value
+    ap (λ n. n + gathered_of k map) (c.in_ok-more.ensures.nothing c.args.width k) ∙ zero-add (gathered_of k map) ∙ c.in_ok-flush_all.ensures.ok k ∙ ap (λ (p : List CountPlace). total_of c.args.width k p c.args.counted.now) c.as_slice.ensures.value
 
 pub returns-then-not-are_crowded-clause-ok : goal.returns-then-not-are_crowded-clause-ok
 returns-then-not-are_crowded-clause-ok c = λ k. refl
@@ -47,8 +47,8 @@ returns-in_err-flush_all-clause-places c = IfOk-from_err c.from_residual.result 
 pub returns-in_err-flush_all-clause-spare : goal.returns-in_err-flush_all-clause-spare
 returns-in_err-flush_all-clause-spare c = IfOk-from_err c.from_residual.result _ c.from_residual.ensures.0
 
-pub places_of-requires : goal.places_of-requires
-places_of-requires c =
+pub empty_places-requires : goal.empty_places-requires
+empty_places-requires c =
     some_places c.requires.places c.args.places.now.ok.0 c.len-3.ensures c.saturating_mul.ensures c.min.ensures
 
 pub returns-in_err-more-clause-ok : goal.returns-in_err-more-clause-ok

@@ -9,8 +9,8 @@ use Rattle.cell_stats_combinations.specs.Combinations.{Combination, all_combinat
 use Rattle.cell_stats_counts.specs.Counts.{count_of}
 use Rattle.cell_stats_counts.specs.Listed.{Counts, listed_of, HasNoZero}
 use Rattle.cell_stats_counts.specs.parts.HeldPlaces.{gathered_of, total_of}
-use Rattle.cell_stats_combinations.specs.LeftOut.{kept}
-use Rattle.cell_stats_counts.specs.declared.counting.Held.{Held}
+use Rattle.cell_stats_combinations.specs.LeftOut.{kept_cells}
+use Rattle.cell_stats_counts.specs.declared.counting.CountPlace.{CountPlace}
 use Rattle.cell_stats_counts.proofs.WalkLemmas.{count_small}
 use Rattle.cell_stats_counts.proofs.counts.count_cells.Goals as goal
 
@@ -29,12 +29,12 @@ some_same some same = omega arith
 -- a count of the rows so far fits
 fits : (maps : List Grid) (picks : List ℕ) (cols : ℕ) (skip : Skip) (k : Combination) (row rows total : ℕ)
     → row ≤ rows → rows ≤ 65535 → cols ≤ 65535
-    → total ≡ count_of k (kept skip (all_combinations maps picks row cols)) → total < 2 ^ 64
+    → total ≡ count_of k (kept_cells skip (all_combinations maps picks row cols)) → total < 2 ^ 64
 fits maps picks cols skip k row rows total within high wide counted =
     let few : row ≤ 65535 = omega arith in
     let none : 0 ≤ 65535 = omega arith in
     let small = count_small maps picks cols skip k row 0 few none wide in
-    let same = ap (λ (l : List Combination). count_of k (kept skip l))
+    let same = ap (λ (l : List Combination). count_of k (kept_cells skip l))
     (append-nil (all_combinations maps picks row cols)) in
     omega (arith, small, same)
 
@@ -109,7 +109,7 @@ count_row-requires-clause-no_zero c = c.in_ok-before.ensures.no_zero
 
 pub count_row-requires-clause-counted : goal.count_row-requires-clause-counted
 count_row-requires-clause-counted c = λ k.
-    ap (λ (p : List Held). total_of (length c.args.picks.now) k p c.make_room.new.counted)
+    ap (λ (p : List CountPlace). total_of (length c.args.picks.now) k p c.make_room.new.counted)
     c.as_mut_slice-in-loop-row.ensures.value ∙ c.in_ok-before.ensures.ok k ∙ c.loop-row.invariant.counted k
 
 pub loop-row-smaller : goal.loop-row-smaller
@@ -122,7 +122,7 @@ loop-row-preserved c =
     (c.count_row.auto.places ∙ c.as_mut_slice-in-loop-row.ensures.len) in
     let cells = with_items_is c.loop-row.cells new.cells (c.count_row.auto.cells ∙ c.as_mut_slice.ensures.len) in
     record {
-      counted = λ k. ap (λ (p : List Held). total_of (length c.args.picks.now) k p new.counted) places
+      counted = λ k. ap (λ (p : List CountPlace). total_of (length c.args.picks.now) k p new.counted) places
           ∙ c.in_ok-count_row.ensures.ok k;
       no_zero = c.in_ok-count_row.ensures.no_zero;
       spare = c.in_ok-count_row.ensures.spare;
@@ -143,7 +143,7 @@ flush_all-requires-clause-fits c = λ k.
     let rows = c.rows-row-end.ensures.value ∙ ap (λ (r : RegionValue). r.rows) c.region.ensures.value in
     fits shelf.maps c.args.picks.now shelf.region.cols c.args.skip k c.loop-row.row shelf.region.rows _
     (at_most c.loop-row.auto.row-end rows) region.rows_most region.cols_most
-    (ap (λ (p : List Held). total_of (length c.args.picks.now) k p c.loop-row.counted) c.deref-2.ensures.value
+    (ap (λ (p : List CountPlace). total_of (length c.args.picks.now) k p c.loop-row.counted) c.deref-2.ensures.value
     ∙ c.loop-row.invariant.counted k)
 
 pub flush_all-requires-clause-no_zero : goal.flush_all-requires-clause-no_zero
@@ -157,20 +157,20 @@ returns-clause-counts c = λ k.
     let value = c.args.shelf.now.region in
     let last = at_end c.loop-row.auto.row-end c.loop-row-test.false
     (c.rows-row-end.ensures.value ∙ ap (λ (r : RegionValue). r.rows) c.region.ensures.value) in
-    c.listed.ensures.counts k ∙ c.in_ok-flush_all.ensures.ok k ∙ ap (λ (p : List Held). total_of (length picks) k p c.loop-row.counted) c.deref-2.ensures.value ∙ c.loop-row.invariant.counted k
-    ∙ ap (λ r. count_of k (kept skip (all_combinations maps picks r value.cols))) last
+    c.ordered_entries.ensures.counts k ∙ c.in_ok-flush_all.ensures.ok k ∙ ap (λ (p : List CountPlace). total_of (length picks) k p c.loop-row.counted) c.deref-2.ensures.value ∙ c.loop-row.invariant.counted k
+    ∙ ap (λ r. count_of k (kept_cells skip (all_combinations maps picks r value.cols))) last
 
 pub returns-clause-no_zero : goal.returns-clause-no_zero
-returns-clause-no_zero c = c.listed.ensures.no_zero
+returns-clause-no_zero c = c.ordered_entries.ensures.no_zero
 
-pub listed-requires-clause-fits : goal.listed-requires-clause-fits
-listed-requires-clause-fits c = λ k.
+pub ordered_entries-requires-clause-fits : goal.ordered_entries-requires-clause-fits
+ordered_entries-requires-clause-fits c = λ k.
     let shelf = c.args.shelf.now in
     let region : IsRegion shelf.region = rw (← c.region.ensures.value) c.rows-row-end.ensures.region in
     let rows = c.rows-row-end.ensures.value ∙ ap (λ (r : RegionValue). r.rows) c.region.ensures.value in
     fits shelf.maps c.args.picks.now shelf.region.cols c.args.skip k c.loop-row.row shelf.region.rows _
     (at_most c.loop-row.auto.row-end rows) region.rows_most region.cols_most
-    (c.in_ok-flush_all.ensures.ok k ∙ ap (λ (p : List Held). total_of (length c.args.picks.now) k p c.loop-row.counted) c.deref-2.ensures.value
+    (c.in_ok-flush_all.ensures.ok k ∙ ap (λ (p : List CountPlace). total_of (length c.args.picks.now) k p c.loop-row.counted) c.deref-2.ensures.value
     ∙ c.loop-row.invariant.counted k)
 
 pub returns-in_err-cells-clause-counts : goal.returns-in_err-cells-clause-counts

@@ -9,12 +9,12 @@ use Rattle.cell_stats_counts.specs.Counts.{count_of}
 use Rattle.cell_stats_counts.specs.parts.HeldPlaces.{GathersNoZero}
 use Rattle.cell_stats_counts.specs.Cursors.{CursorValue}
 use Rattle.cell_stats_counts.specs.parts.HeldPlaces.{total_of, is_same}
-use Rattle.cell_stats_combinations.specs.LeftOut.{kept, is_left_out}
-use Rattle.cell_stats_counts.specs.declared.counting.Held.{Held}
+use Rattle.cell_stats_combinations.specs.LeftOut.{kept_cells, is_left_out}
+use Rattle.cell_stats_counts.specs.declared.counting.CountPlace.{CountPlace}
 use Rattle.cell_stats_counts.proofs.RunCountLemmas.{single, counted-alone, fits-alone}
 use Rattle.cell_stats_counts.proofs.WalkLemmas.{alike, alive, passed-on, stretch, count-left, count-more, count_small, all_combinations_more}
 use Rattle.cell_stats_counts.proofs.counts.count_row.Goals as goal
-use Rattle.cell_stats_counts.proofs.counts.count_row.Goals.{then-not-is_left_out+in_ok-add, else-not-is_left_out}
+use Rattle.cell_stats_counts.proofs.counts.count_row.Goals.{then-not-is_left_out+in_ok-add_count, else-not-is_left_out}
 
 below : {n m most : ℕ} → n < m → m ≡ most → n < most
 below lower same = omega arith
@@ -59,8 +59,8 @@ sum_fits : (col : ℕ) {total counted count more cols : ℕ} → total ≡ count
     → col + count ≤ cols → cols ≤ 65535 → total + more < 2 ^ 64
 sum_fits col same small is within wide = omega arith
 
-pub count_runs-requires-clause-fits : goal.count_runs-requires-clause-fits
-count_runs-requires-clause-fits c = λ k.
+pub count_cells_by_runs-requires-clause-fits : goal.count_cells_by_runs-requires-clause-fits
+count_cells_by_runs-requires-clause-fits c = λ k.
     let picks = c.args.selection.picks.now in
     let region = c.requires.region in
     let one = just_one c.in-len1.len_at_least c.in-len1.len_below in
@@ -75,9 +75,10 @@ returns-in-len1-clause-ok c = λ k.
     let one = just_one c.in-len1.len_at_least c.in-len1.len_below in
     let was = sym (ap (λ w. total_of w k c.args.places.now c.args.counted.now) one) ∙ c.requires.counted k in
     let wide = c.runs-runs.ensures.width ∙ ap (λ (r : RegionValue). r.cols) c.map.ensures.region in
-    ap (λ w. total_of w k c.count_runs.new.places c.count_runs.new.counted) one
-    ∙ counted-alone c.args.selection.skip k c.args.selection.shelf.now.maps picks c.args.row _ c.args.selection.shelf.now.region.cols c.map.result.now c.runs-runs.result (total_of 1 k c.args.places.now c.args.counted.now) (total_of 1 k c.count_runs.new.places c.count_runs.new.counted)
-    (single picks _ one) c.map.ensures.value c.runs-runs.ensures.written wide was (c.in_ok-count_runs.ensures.ok k)
+    ap (λ w. total_of w k c.count_cells_by_runs.new.places c.count_cells_by_runs.new.counted) one
+    ∙ counted-alone c.args.selection.skip k c.args.selection.shelf.now.maps picks c.args.row _ c.args.selection.shelf.now.region.cols c.map.result.now c.runs-runs.result (total_of 1 k c.args.places.now c.args.counted.now) (total_of 1 k c.count_cells_by_runs.new.places c.count_cells_by_runs.new.counted)
+    (single picks _ one) c.map.ensures.value c.runs-runs.ensures.written wide was
+    (c.in_ok-count_cells_by_runs.ensures.ok k)
 
 pub loop-col-init : goal.loop-col-init
 loop-col-init c =
@@ -88,7 +89,7 @@ loop-col-init c =
     let same_cols : c.cols-cols.result ≡ c.args.selection.shelf.now.region.cols = c.cols-cols.ensures.value ∙ ap (λ (r : RegionValue). r.cols) c.region.ensures.value in
     let here = passed-on maps row 0 0 c.restart_all.new.cursors first.new.cursors picks first.ensures.passed c.restart_all.ensures.cells in
     record {
-      counted = λ k. c.requires.counted k ∙ ap (λ (l : List Combination). count_of k (kept c.args.selection.skip l)) (sym (append-nil (all_combinations maps picks row c.args.selection.shelf.now.region.cols)));
+      counted = λ k. c.requires.counted k ∙ ap (λ (l : List Combination). count_of k (kept_cells c.args.selection.skip l)) (sym (append-nil (all_combinations maps picks row c.args.selection.shelf.now.region.cols)));
       no_zero = c.requires.no_zero;
       spare = c.requires.spare;
       places = c.requires.places;
@@ -102,8 +103,8 @@ loop-col-init c =
       most = from_start first.ensures.most;
     }
 
-pub add-requires-clause-fits : goal.add-requires-clause-fits
-add-requires-clause-fits c = λ k.
+pub add_count-requires-clause-fits : goal.add_count-requires-clause-fits
+add_count-requires-clause-fits c = λ k.
     let picks = c.args.selection.picks.now in
     let cols = c.args.selection.shelf.now.region.cols in
     let same_cols : c.cols-cols.result ≡ cols = c.cols-cols.ensures.value ∙ ap (λ (r : RegionValue). r.cols) c.region.ensures.value in
@@ -139,29 +140,30 @@ loop-col-preserved c =
     ap (λ (l : List Combination). base ++ l) (stretch f cells col count (λ j h. alike maps row col c.loop-col.cursors picks count j inv.to_come inv.least h ∙ sym inv.cells))
     ∙ sym (append_assoc base (map f (range_with_len 0 col)) (replicate count cells)) in
     let joined = c.if-not-is_left_out in
-    let counted : (k : Combination) → total_of (length picks) k joined.places joined.counted ≡ count_of k (kept skip (base ++ map f (range_with_len 0 (col + count)))) = λ k.
+    let counted : (k : Combination) → total_of (length picks) k joined.places joined.counted ≡ count_of k (kept_cells skip (base ++ map f (range_with_len 0 (col + count)))) = λ k.
     elim joined.branch [
-      | then-not-is_left_out+in_ok-add w ↦
+      | then-not-is_left_out+in_ok-add_count w ↦
           let kept_in : is_left_out skip cells ≡ false = sym c.is_left_out.ensures ∙ w.if-not-is_left_out.true in
-          ap (λ (p : List Held). total_of (length picks) k p joined.counted) w.places-is ∙ ap (λ (m : Gathered). total_of (length picks) k w.add.new.places m) w.counted-is
-          ∙ ap (λ n. total_of n k w.add.new.places w.add.new.counted) (sym width) ∙ w.in_ok-add.ensures.ok k
+          ap (λ (p : List CountPlace). total_of (length picks) k p joined.counted) w.places-is ∙ ap (λ (m : Gathered). total_of (length picks) k w.add_count.new.places m) w.counted-is
+          ∙ ap (λ n. total_of n k w.add_count.new.places w.add_count.new.counted) (sym width)
+          ∙ w.in_ok-add_count.ensures.ok k
           ∙ ap (λ n. n + cond (is_same k cells) w.from.result 0) (ap (λ n. total_of n k c.loop-col.places c.loop-col.counted) width ∙ inv.counted k)
-          ∙ ap (λ n. count_of k (kept skip (base ++ map f (range_with_len 0 col))) + cond (is_same k cells) n 0) w.from.ensures
-          ∙ sym (count-more skip k cells count (base ++ map f (range_with_len 0 col)) kept_in) ∙ ap (λ (l : List Combination). count_of k (kept skip l)) (sym longer)
+          ∙ ap (λ n. count_of k (kept_cells skip (base ++ map f (range_with_len 0 col))) + cond (is_same k cells) n 0) w.from.ensures
+          ∙ sym (count-more skip k cells count (base ++ map f (range_with_len 0 col)) kept_in) ∙ ap (λ (l : List Combination). count_of k (kept_cells skip l)) (sym longer)
       | else-not-is_left_out w ↦
           let out : is_left_out skip cells ≡ true = sym c.is_left_out.ensures ∙ w.if-not-is_left_out.false in
-          ap (λ (p : List Held). total_of (length picks) k p joined.counted) w.places-is ∙ ap (λ (m : Gathered). total_of (length picks) k c.loop-col.places m) w.counted-is
+          ap (λ (p : List CountPlace). total_of (length picks) k p joined.counted) w.places-is ∙ ap (λ (m : Gathered). total_of (length picks) k c.loop-col.places m) w.counted-is
           ∙ inv.counted k
-          ∙ sym (count-left skip k cells count (base ++ map f (range_with_len 0 col)) out) ∙ ap (λ (l : List Combination). count_of k (kept skip l)) (sym longer)
+          ∙ sym (count-left skip k cells count (base ++ map f (range_with_len 0 col)) out) ∙ ap (λ (l : List Combination). count_of k (kept_cells skip l)) (sym longer)
     ] in
     let no_zero : GathersNoZero joined.counted =
     elim joined.branch [
-      | then-not-is_left_out+in_ok-add w ↦ rw w.counted-is w.in_ok-add.ensures.no_zero
+      | then-not-is_left_out+in_ok-add_count w ↦ rw w.counted-is w.in_ok-add_count.ensures.no_zero
       | else-not-is_left_out w ↦ rw w.counted-is inv.no_zero
     ] in
     let spare : length joined.spare ≡ length picks =
     elim joined.branch [
-      | then-not-is_left_out+in_ok-add w ↦ rw w.spare-is (w.in_ok-add.ensures.spare ∙ width)
+      | then-not-is_left_out+in_ok-add_count w ↦ rw w.spare-is (w.in_ok-add_count.ensures.spare ∙ width)
       | else-not-is_left_out w ↦ rw w.spare-is inv.spare
     ] in
     record {
@@ -189,8 +191,8 @@ returns-clause-ok c = λ k.
     let same_cols : c.cols-cols.result ≡ cols = c.cols-cols.ensures.value ∙ ap (λ (r : RegionValue). r.cols) c.region.ensures.value in
     let inv = c.loop-col.invariant in
     let last = at_end c.loop-col.count inv.most c.loop-col-test.false same_cols in
-    inv.counted k ∙ ap (λ n. count_of k (kept c.args.selection.skip (all_combinations maps picks row cols ++ map (combination_at maps picks row) (range_with_len 0 n)))) last
-    ∙ ap (λ (l : List Combination). count_of k (kept c.args.selection.skip l)) (sym (all_combinations_more maps picks cols row)) ∙ ap (λ r. count_of k (kept c.args.selection.skip (all_combinations maps picks r cols))) (sym (add-one row))
+    inv.counted k ∙ ap (λ n. count_of k (kept_cells c.args.selection.skip (all_combinations maps picks row cols ++ map (combination_at maps picks row) (range_with_len 0 n)))) last
+    ∙ ap (λ (l : List Combination). count_of k (kept_cells c.args.selection.skip l)) (sym (all_combinations_more maps picks cols row)) ∙ ap (λ r. count_of k (kept_cells c.args.selection.skip (all_combinations maps picks r cols))) (sym (add-one row))
 
 pub map-requires : goal.map-requires
 map-requires c = c.requires.picked 0 0 c.in-len1.len_at_least
@@ -202,30 +204,30 @@ runs-runs-requires c =
           (ap (λ (r : RegionValue). r.rows) (sym c.map.ensures.region));
     }
 
-pub count_runs-requires-clause-spare : goal.count_runs-requires-clause-spare
-count_runs-requires-clause-spare c = c.requires.spare ∙ just_one c.in-len1.len_at_least c.in-len1.len_below
+pub count_cells_by_runs-requires-clause-spare : goal.count_cells_by_runs-requires-clause-spare
+count_cells_by_runs-requires-clause-spare c = c.requires.spare ∙ just_one c.in-len1.len_at_least c.in-len1.len_below
 
-pub count_runs-requires-clause-places : goal.count_runs-requires-clause-places
-count_runs-requires-clause-places c = c.requires.places
+pub count_cells_by_runs-requires-clause-places : goal.count_cells_by_runs-requires-clause-places
+count_cells_by_runs-requires-clause-places c = c.requires.places
 
-pub count_runs-requires-clause-no_zero : goal.count_runs-requires-clause-no_zero
-count_runs-requires-clause-no_zero c = c.requires.no_zero
+pub count_cells_by_runs-requires-clause-no_zero : goal.count_cells_by_runs-requires-clause-no_zero
+count_cells_by_runs-requires-clause-no_zero c = c.requires.no_zero
 
-pub returns-in_err-count_runs-clause-ok : goal.returns-in_err-count_runs-clause-ok
-returns-in_err-count_runs-clause-ok c = IfOk-from_err c.from_residual.result _ c.from_residual.ensures.0
+pub returns-in_err-count_cells_by_runs-clause-ok : goal.returns-in_err-count_cells_by_runs-clause-ok
+returns-in_err-count_cells_by_runs-clause-ok c = IfOk-from_err c.from_residual.result _ c.from_residual.ensures.0
 
-pub returns-in_err-count_runs-clause-no_zero : goal.returns-in_err-count_runs-clause-no_zero
-returns-in_err-count_runs-clause-no_zero c = IfOk-from_err c.from_residual.result _ c.from_residual.ensures.0
+pub returns-in_err-count_cells_by_runs-clause-no_zero : goal.returns-in_err-count_cells_by_runs-clause-no_zero
+returns-in_err-count_cells_by_runs-clause-no_zero c = IfOk-from_err c.from_residual.result _ c.from_residual.ensures.0
 
-pub returns-in_err-count_runs-clause-spare : goal.returns-in_err-count_runs-clause-spare
-returns-in_err-count_runs-clause-spare c = IfOk-from_err c.from_residual.result _ c.from_residual.ensures.0
+pub returns-in_err-count_cells_by_runs-clause-spare : goal.returns-in_err-count_cells_by_runs-clause-spare
+returns-in_err-count_cells_by_runs-clause-spare c = IfOk-from_err c.from_residual.result _ c.from_residual.ensures.0
 
 pub returns-in-len1-clause-no_zero : goal.returns-in-len1-clause-no_zero
-returns-in-len1-clause-no_zero c = c.in_ok-count_runs.ensures.no_zero
+returns-in-len1-clause-no_zero c = c.in_ok-count_cells_by_runs.ensures.no_zero
 
 pub returns-in-len1-clause-spare : goal.returns-in-len1-clause-spare
 returns-in-len1-clause-spare c =
-    c.in_ok-count_runs.ensures.spare ∙ sym (just_one c.in-len1.len_at_least c.in-len1.len_below)
+    c.in_ok-count_cells_by_runs.ensures.spare ∙ sym (just_one c.in-len1.len_at_least c.in-len1.len_below)
 
 pub restart_all-requires-clause-picked : goal.restart_all-requires-clause-picked
 restart_all-requires-clause-picked c = c.requires.picked
@@ -245,27 +247,28 @@ pass_all-count-requires-clause-ready c = c.restart_all.ensures.ready
 pub pass_all-count-requires-clause-width : goal.pass_all-count-requires-clause-width
 pass_all-count-requires-clause-width c = c.requires.cells ∙ sym (c.restart_all.auto.cursors ∙ c.requires.cursors)
 
-pub add-requires-clause-width : goal.add-requires-clause-width
-add-requires-clause-width c =
+pub add_count-requires-clause-width : goal.add_count-requires-clause-width
+add_count-requires-clause-width c =
     let width = c.loop-col.auto.cells ∙ c.pass_all-count.auto.cells ∙ c.requires.cells in
     (at_most width c.requires.width, c.loop-col.invariant.spare ∙ sym width)
 
-pub add-requires-clause-places : goal.add-requires-clause-places
-add-requires-clause-places c = c.loop-col.invariant.places
+pub add_count-requires-clause-places : goal.add_count-requires-clause-places
+add_count-requires-clause-places c = c.loop-col.invariant.places
 
-pub add-requires-clause-no_zero : goal.add-requires-clause-no_zero
-add-requires-clause-no_zero c = c.loop-col.invariant.no_zero
+pub add_count-requires-clause-no_zero : goal.add_count-requires-clause-no_zero
+add_count-requires-clause-no_zero c = c.loop-col.invariant.no_zero
 
-pub returns-in_err-add-clause-ok : goal.returns-in_err-add-clause-ok
-returns-in_err-add-clause-ok c = IfOk-from_err c.from_residual-in_err-add.result _ c.from_residual-in_err-add.ensures.0
+pub returns-in_err-add_count-clause-ok : goal.returns-in_err-add_count-clause-ok
+returns-in_err-add_count-clause-ok c =
+    IfOk-from_err c.from_residual-in_err-add_count.result _ c.from_residual-in_err-add_count.ensures.0
 
-pub returns-in_err-add-clause-no_zero : goal.returns-in_err-add-clause-no_zero
-returns-in_err-add-clause-no_zero c =
-    IfOk-from_err c.from_residual-in_err-add.result _ c.from_residual-in_err-add.ensures.0
+pub returns-in_err-add_count-clause-no_zero : goal.returns-in_err-add_count-clause-no_zero
+returns-in_err-add_count-clause-no_zero c =
+    IfOk-from_err c.from_residual-in_err-add_count.result _ c.from_residual-in_err-add_count.ensures.0
 
-pub returns-in_err-add-clause-spare : goal.returns-in_err-add-clause-spare
-returns-in_err-add-clause-spare c =
-    IfOk-from_err c.from_residual-in_err-add.result _ c.from_residual-in_err-add.ensures.0
+pub returns-in_err-add_count-clause-spare : goal.returns-in_err-add_count-clause-spare
+returns-in_err-add_count-clause-spare c =
+    IfOk-from_err c.from_residual-in_err-add_count.result _ c.from_residual-in_err-add_count.ensures.0
 
 pub overflow_add-col : goal.overflow_add-col
 overflow_add-col c =

@@ -5,12 +5,12 @@ use Rattle.cell_stats_counts.specs.Counts.{count_of}
 use Rattle.cell_stats_counts.specs.parts.HeldPlaces.{GathersNoZero}
 use Rattle.cell_stats_counts.specs.Cursors.{to_come, AreCursorsReady, row_in}
 use Rattle.cell_stats_counts.specs.parts.HeldPlaces.{total_of}
-use Rattle.cell_stats_combinations.specs.LeftOut.{kept}
+use Rattle.cell_stats_combinations.specs.LeftOut.{kept_cells}
 use Rattle.cell_stats_counts.proofs.counts.count_row.Given as goal
 
 abbrev pub invariant-loop-col : goal.invariant-loop-col
 invariant-loop-col l = record {
-  counted : (k : Combination) → total_of (length l.selection.picks.now) k l.places l.counted ≡ count_of k (kept l.selection.skip (all_combinations l.selection.shelf.now.maps l.selection.picks.now l.row l.selection.shelf.now.region.cols ++ map (combination_at l.selection.shelf.now.maps l.selection.picks.now l.row) (range_with_len 0 l.col)));
+  counted : (k : Combination) → total_of (length l.selection.picks.now) k l.places l.counted ≡ count_of k (kept_cells l.selection.skip (all_combinations l.selection.shelf.now.maps l.selection.picks.now l.row l.selection.shelf.now.region.cols ++ map (combination_at l.selection.shelf.now.maps l.selection.picks.now l.row) (range_with_len 0 l.col)));
   no_zero : GathersNoZero l.counted;
   spare : length l.spare ≡ length l.selection.picks.now;
   places : 0 < length l.places;

@@ -10,7 +10,7 @@ room k es ps rest count parts total fits =
     let last : listed_of k ps ≡ listed_of k rest + entry_of k (k, count) = ap (listed_of k) parts ∙ sum_by_push (entry_of k) rest (k, count) in
     omega (arith, last, entry-own k (k, count) refl, total, fits)
 
-pub put-requires-clause-fits : goal.put-requires-clause-fits
-put-requires-clause-fits c =
+pub put_count-requires-clause-fits : goal.put_count-requires-clause-fits
+put_count-requires-clause-fits c =
     let k = c.in-Some.combo in
     room k c.loop-combo.counted.entries.items c.loop-combo.counted.pending.items c.pop.new.self.items c.in-Some.count c.in-Some.ensures.items (c.loop-combo.invariant.counted k) (c.requires.fits k)

@@ -1,7 +1,7 @@
 use Rattle.std.proofs.Common.{◌<◌, length, arith}
 use Rattle.std.specs.Prelude.{All}
 use Rattle.cell_calc_operators.specs.Applied.{spot}
-use Rattle.rcell_making.specs.parts.WindowsSet.{picked}
+use Rattle.rcell_making.specs.parts.WindowsSet.{picked_maps}
 use Rattle.rcell_making.proofs.WindowLemmas.{picked_at}
 use Rattle.rcell_making.proofs.map_of_values.evaluate.Goals as goal
 
@@ -10,7 +10,7 @@ returns-clause-cells c = λ r k lr lk.
     let places = c.in_ok-compact.places.items in
     let maps = c.args.shelf.now.maps in
     let within : All (λ place. place < length maps) places = λ i d lt. let below = c.in_ok-compact.ensures.within i d lt in omega (arith, below, c.requires) in
-    let same = c.in_ok-compact.ensures.value maps (picked places maps) (picked_at places maps within) (spot c.args.shelf.now.region r k) in
+    let same = c.in_ok-compact.ensures.value maps (picked_maps places maps) (picked_at places maps within) (spot c.args.shelf.now.region r k) in
     let over = c.in_ok-map.ensures.cells r k lr lk in
     let slice = c.as_slice.ensures.value in
     let view = c.compact.view_is in

@@ -3,7 +3,7 @@ use Rattle.std.specs.Prelude.{slice_index_or, slice_get}
 use Rattle.cell_calc_operators.specs.Applied.{spot}
 use Rattle.cell_calc_binding.specs.Reach.{up_of, down_of}
 use Rattle.cell_calc_binding.specs.Value.{value}
-use Rattle.rcell_making.specs.parts.WindowsSet.{picked}
+use Rattle.rcell_making.specs.parts.WindowsSet.{picked_maps}
 use Rattle.rcell_making.proofs.WindowLemmas.{written}
 use Rattle.rcell_making.proofs.WindowLemmas.{set_over, set_reach, rows_more, room_left, all_rows, row_made}
 use Rattle.std.proofs.lemmas.Result.{IfOk-from_err}
@@ -20,20 +20,20 @@ loop-row-preserved c =
     let row = c.loop-row.row in
     let new = c.eval_row.new.cells in
     let bound = c.args.bound.now in
-    let maps = picked c.args.places.now c.args.shelf.now.maps in
+    let maps = picked_maps c.args.places.now c.args.shelf.now.maps in
     let region = c.args.shelf.now.region in
     let below = rw (c.rows-row-end.ensures.value, c.region-region.ensures.value) at c.loop-row-test.true in
     let width = c.eval_row.ensures.width ∙ ap (λ l. length l) c.as_mut_slice.ensures.value in
     let same = written cells.len new cells.items cells.ok.0 width in
-    let many = c.advance.ensures.count ∙ ap (λ l. length l) c.as_mut_slice-in-loop-row.ensures.value in
-    let moved = written windows.len c.advance.new.windows windows.items windows.ok.0 many in
+    let many = c.advance_windows.ensures.count ∙ ap (λ l. length l) c.as_mut_slice-in-loop-row.ensures.value in
+    let moved = written windows.len c.advance_windows.new.windows windows.items windows.ok.0 many in
     let found = rw c.region-region.ensures.value at c.in_ok-eval_row.ensures.ok in
     record {
       region = ap (λ b. b.region) pushed ∙ held.region;
       count = ap (λ b. length b.rows) pushed ∙ length-append c.loop-row.builder.rows (c.as_slice-in-loop-row.result.now ∷ []) ∙ ap (λ n. n + 1) held.count;
       width = rw same (width ∙ held.width);
       windows = rw moved (many ∙ held.windows);
-      set = rw moved (λ left. rw c.advance.ensures.count (c.advance.ensures.set left));
+      set = rw moved (λ left. rw c.advance_windows.ensures.count (c.advance_windows.ensures.set left));
       cells = λ r k lr lk. rw (ap (λ b. b.rows) pushed)
           (rows_more (λ r l. (k : ℕ) → k < region.cols → slice_index_or l k None ≡ value bound maps (spot region r k)) c.loop-row.builder.rows c.as_slice-in-loop-row.result.now row
           held.count (λ r lt k lk. held.cells r k lt lk)
@@ -78,11 +78,11 @@ returns-in_err-push_row-clause-labels c = IfOk-from_err c.from_residual-in_err-p
 pub returns-in_err-push_row-clause-cells : goal.returns-in_err-push_row-clause-cells
 returns-in_err-push_row-clause-cells c = IfOk-from_err c.from_residual-in_err-push_row.result _ c.from_residual-in_err-push_row.ensures.0
 
-pub open-requires-clause-places : goal.open-requires-clause-places
-open-requires-clause-places c = c.requires.places
+pub open_windows-requires-clause-places : goal.open_windows-requires-clause-places
+open_windows-requires-clause-places c = c.requires.places
 
-pub open-requires-clause-within : goal.open-requires-clause-within
-open-requires-clause-within c = c.requires.within
+pub open_windows-requires-clause-within : goal.open_windows-requires-clause-within
+open_windows-requires-clause-within c = c.requires.within
 
 pub eval_row-requires-clause-row : goal.eval_row-requires-clause-row
 eval_row-requires-clause-row c = rw c.rows-row-end.ensures.value at c.loop-row-test.true
@@ -95,7 +95,7 @@ pub eval_row-requires-clause-windows : goal.eval_row-requires-clause-windows
 eval_row-requires-clause-windows c =
     let held = c.loop-row.invariant in
     let bound = c.args.bound.now in
-    let maps = picked c.args.places.now c.args.shelf.now.maps in
+    let maps = picked_maps c.args.places.now c.args.shelf.now.maps in
     let below = rw (c.rows-row-end.ensures.value, c.region-region.ensures.value) at c.loop-row-test.true in
     λ i lt. rw c.as_slice.ensures.value
     (set_reach c.loop-row.row (up_of i bound) (down_of i bound) (slice_get c.loop-row.windows.items i) (slice_get maps i)
@@ -113,15 +113,15 @@ push_row-requires-clause-room c =
     room_left c.loop-row.invariant.count c.loop-row-test.true
     (c.rows-row-end.ensures.value ∙ ap (λ r. r.rows) (c.region-region.ensures.value ∙ sym c.loop-row.invariant.region))
 
-pub advance-requires-clause-count : goal.advance-requires-clause-count
-advance-requires-clause-count c =
+pub advance_windows-requires-clause-count : goal.advance_windows-requires-clause-count
+advance_windows-requires-clause-count c =
     ap (λ l. length l) c.as_mut_slice-in-loop-row.ensures.value ∙ c.loop-row.invariant.windows ∙ c.requires.places
 
-pub advance-requires-clause-within : goal.advance-requires-clause-within
-advance-requires-clause-within c = c.requires.within
+pub advance_windows-requires-clause-within : goal.advance_windows-requires-clause-within
+advance_windows-requires-clause-within c = c.requires.within
 
-pub advance-requires-clause-set : goal.advance-requires-clause-set
-advance-requires-clause-set c =
+pub advance_windows-requires-clause-set : goal.advance_windows-requires-clause-set
+advance_windows-requires-clause-set c =
     let below = rw (c.rows-row-end.ensures.value, c.region-region.ensures.value) at c.loop-row-test.true in
     rw c.as_mut_slice-in-loop-row.ensures.value (c.loop-row.invariant.set below)
 

@@ -4,7 +4,7 @@ use Rattle.std.proofs.lemmas.List.{drop_all}
 use Rattle.std.proofs.lemmas.List.Sums.{passes_at_first, split_at_first}
 use Rattle.std.proofs.lemmas.Bool.{eqb-false, eqb-true, le-ltb, lt-ltb}
 use Rattle.cell_core_values.specs.Name.{is_name}
-use Rattle.rcell_request.specs.CommandLine.{is_grid_word}
+use Rattle.rcell_request.specs.CommandLine.{is_grid_argument}
 use Rattle.rcell_request.proofs.command_words.grid_of.Goals as goal
 
 and_false : (b : Bool) → (b && false) ≡ false
@@ -18,23 +18,23 @@ some_in : (n : ℕ) → (n == 0) ≡ false → nat_lt 0 n ≡ true
 some_in n is = lt-ltb 0 n (omega (arith, eqb-false n 0 is))
 
 -- without an equals sign
-no_equals : (word : List ℕ) → position_or_len (λ byte. byte == 61) word ≡ length word → is_grid_word word ≡ false
+no_equals : (word : List ℕ) → position_or_len (λ byte. byte == 61) word ≡ length word → is_grid_argument word ≡ false
 no_equals word none =
     let empty : after_first (λ byte. byte == 61) word ≡ [] = drop_all (position_or_len (λ byte. byte == 61) word + 1) word (omega arith) in
     ap (λ after. is_name (before_first (λ byte. byte == 61) word) && nat_lt 0 (length after)) empty ∙ and_false (is_name (before_first (λ byte. byte == 61) word))
 
 -- with nothing after it
-no_path : (word path : List ℕ) → path ≡ after_first (λ byte. byte == 61) word → (length path == 0) ≡ true → is_grid_word word ≡ false
+no_path : (word path : List ℕ) → path ≡ after_first (λ byte. byte == 61) word → (length path == 0) ≡ true → is_grid_argument word ≡ false
 no_path word path after empty =
     ap (λ some. is_name (before_first (λ byte. byte == 61) word) && some) (ap (λ p. nat_lt 0 (length p)) (sym after) ∙ none_in (length path) empty)
     ∙ and_false (is_name (before_first (λ byte. byte == 61) word))
 
 -- with no name before it
-no_name : (word name : List ℕ) → name ≡ before_first (λ byte. byte == 61) word → is_name name ≡ false → is_grid_word word ≡ false
+no_name : (word name : List ℕ) → name ≡ before_first (λ byte. byte == 61) word → is_name name ≡ false → is_grid_argument word ≡ false
 no_name word name before bad = ap (λ is. is && nat_lt 0 (length (after_first (λ byte. byte == 61) word))) (ap is_name (sym before) ∙ bad)
 
 good_word : (word name path : List ℕ) → name ≡ before_first (λ byte. byte == 61) word → path ≡ after_first (λ byte. byte == 61) word
-    → is_name name ≡ true → (length path == 0) ≡ false → is_grid_word word ≡ true
+    → is_name name ≡ true → (length path == 0) ≡ false → is_grid_argument word ≡ true
 good_word word name path before after named some =
     ap₂ (λ (a b : Bool). a && b) (ap is_name (sym before) ∙ named) (ap (λ p. nat_lt 0 (length p)) (sym after) ∙ some_in (length path) some)
 

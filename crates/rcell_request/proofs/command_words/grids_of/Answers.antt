@@ -6,7 +6,7 @@ use Rattle.std.proofs.lemmas.List.{drop_all, drop_more, length-map, map-append, 
 use Rattle.clap.specs.Walk.{Text, texts}
 use Rattle.rcell_request.specs.declared.refusal.Refusal.{Refusal}
 use Rattle.rcell_request.specs.declared.refusal.Refusal.TheVariants.{GridWord, Memory}
-use Rattle.rcell_request.specs.CommandLine.{first_bad, grid_words, is_grid_word}
+use Rattle.rcell_request.specs.CommandLine.{first_bad, grid_words, is_grid_argument}
 use Rattle.rcell_request.proofs.ParseLemmas.{first_bad_next, grid_words_more}
 use borrow.Author.Count.{falls}
 use Rattle.rcell_request.proofs.command_words.grids_of.Goals as goal
@@ -20,7 +20,7 @@ made_told : {T E F : Type 0} {Q : E → Type 0} {P : Type 0} (r : Result T E) (y
 made_told (Ok x) y is f = cc
 made_told (Err e) y is f = f e is
 
-first_bad_here : (place : ℕ) (words : List (Bor Text)) (i : ℕ) (word : Bor Text) → i < length words → is_grid_word (slice_index_or words i word).now ≡ false
+first_bad_here : (place : ℕ) (words : List (Bor Text)) (i : ℕ) (word : Bor Text) → i < length words → is_grid_argument (slice_index_or words i word).now ≡ false
     → first_bad place (texts (drop i words)) ≡ Some place
 first_bad_here place words i word within bad = ap (λ left. first_bad place (texts left)) (drop_more words i word within) ∙ rw bad refl
 

@@ -43,4 +43,5 @@ returns-in_err-after-clause-command c =
     let e = c.from_residual-in_err-after in
     let p = err_from_is_err_and e.result e.ensures.1 in
     rw (p.1, p.2) (λ other. after_told c.args.known.now (texts c.args.words.now) _ _ _ _ _ c.in_ok-options.ensures
-    c.in_ok-places.ensures.places (ap length c.as_slice.ensures) c.after.ensures (c.in_err-after.ensures.after other))
+    c.in_ok-places.ensures.places (ap length c.as_slice.ensures) c.after_text.ensures
+    (c.in_err-after.ensures.after other))

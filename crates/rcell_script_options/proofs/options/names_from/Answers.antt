@@ -24,17 +24,17 @@ more_good : (names more : List (List ℕ)) (name : List ℕ) → IsTrue (list_al
 more_good names more name good grown is =
     rw (grown, list_all-append is_name names (name ∷ []), good, is) refl
 
-pub returns-in_err-name_of-clause-names : goal.returns-in_err-name_of-clause-names
-returns-in_err-name_of-clause-names c =
+pub returns-in_err-option_name-clause-names : goal.returns-in_err-option_name-clause-names
+returns-in_err-option_name-clause-names c =
     let p = err_from_is_err_and c.from_residual.result c.from_residual.ensures.1 in
     rw (p.1, p.2) (λ other. names_from-fails c.args.parts.now c.loop-part.part-index _ _ c.loop-part-test.true
-    (c.in_err-name_of.ensures other))
+    (c.in_err-option_name.ensures other))
 
 pub loop-part-preserved : goal.loop-part-preserved
 loop-part-preserved c =
     let is = c.loop-part.invariant in
     let grown = c.in_ok-push.ensures.items in
-    let name = option_name-is _ _ c.in_ok-name_of.ensures in
+    let name = option_name-is _ _ c.in_ok-option_name.ensures in
     record {
       names = more_names c.args.parts.now c.loop-part.part-index _ c.loop-part.names.items _ _ c.loop-part-test.true
           is.names grown name.0;

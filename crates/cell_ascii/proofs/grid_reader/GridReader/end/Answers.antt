@@ -13,5 +13,5 @@ returns-clause-told g c =
     let left : i.rows_left ≡ c.args.self.now.rows_left = ap (λ (r : ReaderValue). r.rows_left) c.self.view_is in
     let live : c.args.self.now.failed ≡ false = sym (ap (λ (r : ReaderValue). r.failed) c.self.view_is) ∙ c.if-self.false in
     let none : i.rows_left ≡ 0 = left ∙ c.requires.done live in
-    subst (λ (r : ReaderValue). r.failed ≡ false → IfSome r.coming (λ x. fault_of_reading c.finish.result ≡ end_fault (reader_place r x))) c.self.view_is
-    (λ live. end_answers (at_place i.cells) i.rows_left (bytes_to_come i.cells.ahead) (bytes_to_come c.finish.new.self.ahead) c.finish.result none (c.self.invariant.placed live) c.finish.ensures.end)
+    subst (λ (r : ReaderValue). r.failed ≡ false → IfSome r.coming (λ x. fault_of_reading c.check_end.result ≡ end_fault (reader_place r x))) c.self.view_is
+    (λ live. end_answers (at_place i.cells) i.rows_left (bytes_to_come i.cells.ahead) (bytes_to_come c.check_end.new.self.ahead) c.check_end.result none (c.self.invariant.placed live) c.check_end.ensures.end)

@@ -78,8 +78,8 @@ returns-clause-word g c =
     let word = sym c.is_space.ensures ∙ c.if-is_space.false in
     let longer : take (i.len + 1) (set i.word i.len b) ≡ s.word ++ b ∷ [] = take_more_set i.word i.len b (omega arith) ∙ ap (λ w. w ++ b ∷ []) front in
     rw (line, longer, ← c.in_ok-b.ensures.same)
-    (past_byte (word_from s.line s.word) (part_seen (Ok true) s.line (s.word ++ b ∷ [])) t.ahead c.advance.new.self b held
-    (c.advance.ensures.held ∙ ap (λ (a : Ahead). drop 1 a.held) ahead) (c.advance.ensures.rest ∙ ap (λ (a : Ahead). a.rest) ahead)
+    (past_byte (word_from s.line s.word) (part_seen (Ok true) s.line (s.word ++ b ∷ [])) t.ahead c.pass_byte.new.self b held
+    (c.pass_byte.ensures.held ∙ ap (λ (a : Ahead). drop 1 a.held) ahead) (c.pass_byte.ensures.rest ∙ ap (λ (a : Ahead). a.rest) ahead)
     (λ bs f. word-more s.line s.word c.requires b bs f word))
 
 pub returns-in_err-b-clause-line : goal.returns-in_err-b-clause-line
@@ -155,8 +155,8 @@ returns-clause-further g c =
     ap (λ (v : Scan). v.word) c.self.view_is ∙ c.peek.ensures.word in
     λ e. one_more c.args.self.now.word i.word i.len c.in-Some.b c.if-self-ge64.false c.self.told front
 
-pub advance-requires : goal.advance-requires
-advance-requires g c =
+pub pass_byte-requires : goal.pass_byte-requires
+pass_byte-requires g c =
     let held = rw c.in-Some.is at c.in_ok-b.ensures.byte in
     rw (ap (λ (v : Scan). v.ahead.held) c.self.view_is) (slice_get_within c.peek.new.self.ahead.held 0 c.in-Some.b held)
 

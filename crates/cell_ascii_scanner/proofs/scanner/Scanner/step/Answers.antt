@@ -8,9 +8,9 @@ use Rattle.cell_ascii_meaning.specs.GridTokens.{grid_start, grid_fault}
 use Rattle.cell_ascii_scanner.specs.parts.ScanSteps.{start_step, gap_step}
 use Rattle.cell_ascii_scanner.specs.Ahead.{Ahead, bytes_to_come}
 use Rattle.cell_ascii_scanner.specs.Scan.{Scan}
-use Rattle.cell_ascii_scanner.specs.declared.scanner.Step.{Step}
+use Rattle.cell_ascii_scanner.specs.declared.scanner.ScanStep.{ScanStep}
 use Rattle.cell_ascii_meaning.specs.declared.grid_fault.GridFault.{GridFault}
-use Rattle.cell_ascii_scanner.specs.declared.scanner.Step.TheVariants.{Blank, Feed, Word, End}
+use Rattle.cell_ascii_scanner.specs.declared.scanner.ScanStep.TheVariants.{Blank, Feed, Word, End}
 use Rattle.cell_ascii_meaning.specs.declared.grid_fault.GridKind.TheVariants.{Read, ReaderStuck}
 use Rattle.cell_ascii_scanner.proofs.StartLemmas.{at_byte, past_byte, at_end, start-ends, start-fails, start-begins, start-stuck, start-next}
 use Rattle.cell_ascii_meaning.specs.Header.{gap_of}
@@ -49,35 +49,35 @@ same_line : (line b : ℕ) → b ≢ 10 → line + cond (b == 10) 1 0 ≡ line
 same_line line b e = rw (not_ten b e) (omega arith)
 
 -- what fails has no answer, and a step is of one kind
-err_no_ok : (P : Type 0) (r : Result Step GridFault) (x : Step) → IsErr r → r ≡ Ok x → P
+err_no_ok : (P : Type 0) (r : Result ScanStep GridFault) (x : ScanStep) → IsErr r → r ≡ Ok x → P
 err_no_ok P (Ok y) x err e = cc
 err_no_ok P (Err d) x err e = cc
 
-blank_end : (P : Type 0) (r : Result Step GridFault) → r ≡ Ok Blank → r ≡ Ok End → P
+blank_end : (P : Type 0) (r : Result ScanStep GridFault) → r ≡ Ok Blank → r ≡ Ok End → P
 blank_end P r one other = cc
 
-blank_feed : (P : Type 0) (r : Result Step GridFault) → r ≡ Ok Blank → r ≡ Ok Feed → P
+blank_feed : (P : Type 0) (r : Result ScanStep GridFault) → r ≡ Ok Blank → r ≡ Ok Feed → P
 blank_feed P r one other = cc
 
-end_blank : (P : Type 0) (r : Result Step GridFault) → r ≡ Ok End → r ≡ Ok Blank → P
+end_blank : (P : Type 0) (r : Result ScanStep GridFault) → r ≡ Ok End → r ≡ Ok Blank → P
 end_blank P r one other = cc
 
-end_feed : (P : Type 0) (r : Result Step GridFault) → r ≡ Ok End → r ≡ Ok Feed → P
+end_feed : (P : Type 0) (r : Result ScanStep GridFault) → r ≡ Ok End → r ≡ Ok Feed → P
 end_feed P r one other = cc
 
-feed_blank : (P : Type 0) (r : Result Step GridFault) → r ≡ Ok Feed → r ≡ Ok Blank → P
+feed_blank : (P : Type 0) (r : Result ScanStep GridFault) → r ≡ Ok Feed → r ≡ Ok Blank → P
 feed_blank P r one other = cc
 
-feed_end : (P : Type 0) (r : Result Step GridFault) → r ≡ Ok Feed → r ≡ Ok End → P
+feed_end : (P : Type 0) (r : Result ScanStep GridFault) → r ≡ Ok Feed → r ≡ Ok End → P
 feed_end P r one other = cc
 
-word_blank : (P : Type 0) (r : Result Step GridFault) → r ≡ Ok Word → r ≡ Ok Blank → P
+word_blank : (P : Type 0) (r : Result ScanStep GridFault) → r ≡ Ok Word → r ≡ Ok Blank → P
 word_blank P r one other = cc
 
-word_end : (P : Type 0) (r : Result Step GridFault) → r ≡ Ok Word → r ≡ Ok End → P
+word_end : (P : Type 0) (r : Result ScanStep GridFault) → r ≡ Ok Word → r ≡ Ok End → P
 word_end P r one other = cc
 
-word_feed : (P : Type 0) (r : Result Step GridFault) → r ≡ Ok Word → r ≡ Ok Feed → P
+word_feed : (P : Type 0) (r : Result ScanStep GridFault) → r ≡ Ok Word → r ≡ Ok Feed → P
 word_feed P r one other = cc
 
 -- the read failed
@@ -135,8 +135,8 @@ returns-then-b-eq10-clause-starts g c =
     let room : s.run < 1048576 = rw run at c.if-self-ge1048576.false in
     let next : s.line + cond (b == 10) 1 0 ≡ s.line + 1 = next_line s.line b c.if-b-eq10.true in
     rw (line, run, ← c.in_ok-b.ensures.same)
-    (past_byte (grid_start s.line s.run) (start_step (Ok Feed) (s.line + 1) (s.run + 1)) t.ahead c.advance.new.self b held
-    (c.advance.ensures.held ∙ ap (λ (a : Ahead). drop 1 a.held) ahead) (c.advance.ensures.rest ∙ ap (λ (a : Ahead). a.rest) ahead)
+    (past_byte (grid_start s.line s.run) (start_step (Ok Feed) (s.line + 1) (s.run + 1)) t.ahead c.pass_byte.new.self b held
+    (c.pass_byte.ensures.held ∙ ap (λ (a : Ahead). drop 1 a.held) ahead) (c.pass_byte.ensures.rest ∙ ap (λ (a : Ahead). a.rest) ahead)
     (λ bs f. start-next s.line s.run c.requires.run b (s.line + 1) bs f space room next))
 
 -- a blank was passed
@@ -154,8 +154,8 @@ returns-clause-starts g c =
     let room : s.run < 1048576 = rw run at c.if-self-ge1048576.false in
     let next : s.line + cond (b == 10) 1 0 ≡ s.line = same_line s.line b c.if-b-eq10.false in
     rw (line, run, ← c.in_ok-b.ensures.same)
-    (past_byte (grid_start s.line s.run) (start_step (Ok Blank) s.line (s.run + 1)) t.ahead c.advance.new.self b held
-    (c.advance.ensures.held ∙ ap (λ (a : Ahead). drop 1 a.held) ahead) (c.advance.ensures.rest ∙ ap (λ (a : Ahead). a.rest) ahead)
+    (past_byte (grid_start s.line s.run) (start_step (Ok Blank) s.line (s.run + 1)) t.ahead c.pass_byte.new.self b held
+    (c.pass_byte.ensures.held ∙ ap (λ (a : Ahead). drop 1 a.held) ahead) (c.pass_byte.ensures.rest ∙ ap (λ (a : Ahead). a.rest) ahead)
     (λ bs f. start-next s.line s.run c.requires.run b s.line bs f space room next))
 
 -- the same of the rest of the line
@@ -208,8 +208,8 @@ returns-then-b-eq10-clause-gap g c =
     let room : s.run < 1048576 = rw run at c.if-self-ge1048576.false in
     let feed : (b == 10) ≡ true = is_ten b c.if-b-eq10.true in
     rw (line, run, ← c.in_ok-b.ensures.same)
-    (past_byte (gap_of s.line s.run) (gap_step (Ok Feed) (s.line + 1) (s.run + 1)) t.ahead c.advance.new.self b held
-    (c.advance.ensures.held ∙ ap (λ (a : Ahead). drop 1 a.held) ahead) (c.advance.ensures.rest ∙ ap (λ (a : Ahead). a.rest) ahead)
+    (past_byte (gap_of s.line s.run) (gap_step (Ok Feed) (s.line + 1) (s.run + 1)) t.ahead c.pass_byte.new.self b held
+    (c.pass_byte.ensures.held ∙ ap (λ (a : Ahead). drop 1 a.held) ahead) (c.pass_byte.ensures.rest ∙ ap (λ (a : Ahead). a.rest) ahead)
     (λ bs f. gap-feed s.line s.run c.requires.run b bs f feed room))
 
 pub returns-clause-gap : goal.returns-clause-gap
@@ -225,8 +225,8 @@ returns-clause-gap g c =
     let space = sym c.is_space.ensures ∙ c.if-not-is_space.false in
     let other : (b == 10) ≡ false = not_ten b c.if-b-eq10.false in
     rw (line, run, ← c.in_ok-b.ensures.same)
-    (past_byte (gap_of s.line s.run) (gap_step (Ok Blank) s.line (s.run + 1)) t.ahead c.advance.new.self b held
-    (c.advance.ensures.held ∙ ap (λ (a : Ahead). drop 1 a.held) ahead) (c.advance.ensures.rest ∙ ap (λ (a : Ahead). a.rest) ahead)
+    (past_byte (gap_of s.line s.run) (gap_step (Ok Blank) s.line (s.run + 1)) t.ahead c.pass_byte.new.self b held
+    (c.pass_byte.ensures.held ∙ ap (λ (a : Ahead). drop 1 a.held) ahead) (c.pass_byte.ensures.rest ∙ ap (λ (a : Ahead). a.rest) ahead)
     (λ bs f. gap-more s.line s.run c.requires.run b s.line bs f space other refl))
 
 pub returns-in_err-b-clause-line : goal.returns-in_err-b-clause-line
@@ -417,8 +417,8 @@ returns-clause-end g c = λ e. blank_end _ (Ok _) refl e
 pub returns-clause-kind : goal.returns-clause-kind
 returns-clause-kind g c = tt
 
-pub advance-requires : goal.advance-requires
-advance-requires g c =
+pub pass_byte-requires : goal.pass_byte-requires
+pass_byte-requires g c =
     let held = rw c.in-Some.is at c.in_ok-b.ensures.byte in
     rw (ap (λ (v : Scan). v.ahead.held) c.self.view_is) (slice_get_within c.peek.new.self.ahead.held 0 c.in-Some.b held)
 

@@ -4,16 +4,17 @@ use Rattle.std.specs.Int.RustNames.{FitsSigned}
 use Rattle.std.proofs.lemmas.Int.{to_z-of_z}
 use Rattle.cell_core_values.specs.Region.{RegionValue, region_fault}
 use Rattle.cell_core_values.specs.declared.region.RegionFault.{RegionFault}
-use Rattle.cell_ascii_meaning.specs.Header.{Keys, header_of, header_of_keys}
+use Rattle.cell_ascii_meaning.specs.Header.{KeyValues, header_of, header_of_keys}
 use Rattle.cell_ascii_header.specs.Given.{keys_judged as judged_parts}
 use Rattle.cell_ascii_tests.proofs.definition.keys.header_of.Goals as goal
 
-parts_judged : (k : Keys) (r : Result RegionValue RegionFault) → judged_parts r k.null k.multiplier ≡ header_of_keys k r
+parts_judged : (k : KeyValues) (r : Result RegionValue RegionFault)
+    → judged_parts r k.null k.multiplier ≡ header_of_keys k r
 parts_judged k (Ok region) = refl
 parts_judged k (Err f) = refl
 
 -- where each of the six keys stood, the header is judged by their region
-all_given : (k : Keys) (north south east west : ℤ) (rows cols : ℕ) → k.north ≡ Some north → k.south ≡ Some south → k.east ≡ Some east → k.west ≡ Some west → k.rows ≡ Some rows → k.cols ≡ Some cols
+all_given : (k : KeyValues) (north south east west : ℤ) (rows cols : ℕ) → k.north ≡ Some north → k.south ≡ Some south → k.east ≡ Some east → k.west ≡ Some west → k.rows ≡ Some rows → k.cols ≡ Some cols
     → header_of_keys k (region_fault (record { north = north; south = south; east = east; west = west; rows = rows; cols = cols })) ≡ header_of k
 all_given k north south east west rows cols n s e w r c = rw (n, s, e, w, r, c) refl
 
@@ -23,7 +24,7 @@ region_same a b c d rows cols = λ i. region_fault (record { north = a i; south 
 
 pub returns : goal.returns
 returns c =
-    let k : Keys = record { north = c.keys.inside.north; south = c.keys.inside.south; east = c.keys.inside.east; west = c.keys.inside.west; rows = c.keys.inside.rows; cols = c.keys.inside.cols; null = option_copied c.keys.inside.null; kind = c.keys.inside.kind; multiplier = c.keys.inside.multiplier } in
+    let k : KeyValues = record { north = c.keys.inside.north; south = c.keys.inside.south; east = c.keys.inside.east; west = c.keys.inside.west; rows = c.keys.inside.rows; cols = c.keys.inside.cols; null = option_copied c.keys.inside.null; kind = c.keys.inside.kind; multiplier = c.keys.inside.multiplier } in
     let v = c.in-Some-Some-Some-Some-Some-Some in
     let n : FitsSigned w64 v.north = search rules in
     let s : FitsSigned w64 v.south = search rules in

@@ -19,5 +19,5 @@ returns-in_default-after_sign-2-clause-goes c = λ s h.
 pub returns-clause-goes : goal.returns-clause-goes
 returns-clause-goes c = λ s h.
     c.enter.ensures.goes s
-    (rw c.in_ok-push.ensures.ok
+    (rw c.in_ok-push_frame.ensures.ok
     (another_argument s (waiting c.args.self.now) c.args.self.now.steps.items c.args.tokens.now c.args.function c.args.from c.args.before c.in-Some.count c.in-Some.ensures.1 h c.in-Some-after_sign-2.rest.now c.in-Some-after_sign-2.ensures.some))

@@ -7,5 +7,5 @@ returns-in_default-clause-goes c = λ s h. no_more s (waiting c.args.self.now) c
 
 pub returns-clause-goes : goal.returns-clause-goes
 returns-clause-goes c = λ s h.
-    rw (c.in_ok-push-2.ensures.ok, c.in_ok-push.ensures.ok, c.level_of.ensures)
+    rw (c.in_ok-push_frame-2.ensures.ok, c.in_ok-push_frame.ensures.ok, c.level_of.ensures)
     (more s (waiting c.args.self.now) c.args.self.now.steps.items c.args.tokens.now c.args.level c.in-Some.operator c.in-Some.rest.now h c.in-Some.ensures.some)

@@ -8,4 +8,4 @@ returns-in_default-clause-goes c = λ s h. colon_missing s (waiting c.args.self.
 pub returns-clause-goes : goal.returns-clause-goes
 returns-clause-goes c = λ s h.
     c.enter.ensures.goes s
-    (rw c.in_ok-push.ensures.ok (colon s (waiting c.args.self.now) c.args.self.now.steps.items c.args.tokens.now c.in-Some.rest.now h c.in-Some.ensures.some))
+    (rw c.in_ok-push_frame.ensures.ok (colon s (waiting c.args.self.now) c.args.self.now.steps.items c.args.tokens.now c.in-Some.rest.now h c.in-Some.ensures.some))

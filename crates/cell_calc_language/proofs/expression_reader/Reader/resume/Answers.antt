@@ -11,10 +11,10 @@ returns-in-Not-clause-goes c = λ s h. c.end-in-Not.ensures.goes s (inverted s (
 pub returns-in-Level-clause-goes : goal.returns-in-Level-clause-goes
 returns-in-Level-clause-goes c = λ s h. c.level.ensures.goes s (rw c.in-Level.is at h)
 
-pub returns-in_ok-put-in-Joined-clause-goes : goal.returns-in_ok-put-in-Joined-clause-goes
-returns-in_ok-put-in-Joined-clause-goes c = λ s h.
+pub returns-in_ok-push_step-in-Joined-clause-goes : goal.returns-in_ok-push_step-in-Joined-clause-goes
+returns-in_ok-push_step-in-Joined-clause-goes c = λ s h.
     c.level-in-Joined.ensures.goes s
-    (rw c.in_ok-put-in-Joined.ensures.ok
+    (rw c.in_ok-push_step-in-Joined.ensures.ok
     (joined s (waiting c.args.self.now) c.args.self.now.steps.items c.args.tokens.now c.in-Joined.level c.in-Joined.operator (rw c.in-Joined.is at h)))
 
 pub returns-in-Choice-clause-goes : goal.returns-in-Choice-clause-goes

@@ -12,4 +12,4 @@ returns c = λ outputs all.
     let q = c.in_ok-insert-2.ensures.updates in
     painted-over (get int_cmp c.args.self.now.starts) (get int_cmp c.insert.new.self) (get int_cmp c.clear.new.self.starts) (get int_cmp c.insert-2.new.self)
     outputs c.args.ends c.args.output _ _ _ (omega (arith, ints, clamps)) (omega (arith, ints, clamps)) (omega (arith, ints, clamps)) (omega (arith, ints, clamps))
-    (p.1 ∙ ap (λ (o : Option Output). Some o) (c.at-after.ensures outputs all)) p.2 c.clear.ensures.before c.clear.ensures.after c.clear.ensures.cleared q.1 q.2 all
+    (p.1 ∙ ap (λ (o : Option Output). Some o) (c.output_at_place-after.ensures outputs all)) p.2 c.clear.ensures.before c.clear.ensures.after c.clear.ensures.cleared q.1 q.2 all

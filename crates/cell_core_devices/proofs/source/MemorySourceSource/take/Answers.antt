@@ -141,4 +141,4 @@ returns-clause-rest c =
     (ap₂
     (λ (xs : List ℕ) (asked : Asked). record { bytes = xs; fails = i.fails; piece = i.piece; asked = asked })
     (sym (drop-drop c.min-n.result i.at i.bytes.items))
-    c.after-self-inside-2.ensures)
+    c.after_answer-self-inside-2.ensures)

@@ -1,0 +1,28 @@
+use Rattle.std.proofs.Common.{sym, ap, ◌∙◌}
+use Rattle.cell_calc_tokens.specs.Function.{function_of}
+use Rattle.cell_calc_language.specs.parts.Waiting.{waiting}
+use Rattle.cell_calc_language.proofs.Steps.{unknown_call, empty_call, refused_empty, first_argument}
+use Rattle.cell_calc_language.proofs.expression_reader.Reader.read_call.Goals as goal
+
+pub returns-in_default-clause-goes : goal.returns-in_default-clause-goes
+returns-in_default-clause-goes c = λ s h.
+    let f = ap function_of (sym c.bytes.ensures.value) ∙ sym c.function_of.ensures ∙ c.in_default.is in
+    unknown_call s (waiting c.args.self.now) c.args.self.now.steps.items c.args.name.now c.args.tokens c.args.inside.now h c.requires f
+
+pub returns-then-accepts-clause-goes : goal.returns-then-accepts-clause-goes
+returns-then-accepts-clause-goes c = λ s h.
+    let f = ap function_of (sym c.bytes.ensures.value) ∙ sym c.function_of.ensures ∙ c.in-Some.is in
+    c.end.ensures.goes s
+    (empty_call s (waiting c.args.self.now) c.args.self.now.steps.items c.args.name.now c.args.tokens c.args.inside.now h c.requires c.in-Some.function c.in-Some-after_sign.rest.now f c.in-Some-after_sign.ensures.some (sym c.if-accepts.ensures))
+
+pub returns-else-accepts-clause-goes : goal.returns-else-accepts-clause-goes
+returns-else-accepts-clause-goes c = λ s h.
+    let f = ap function_of (sym c.bytes.ensures.value) ∙ sym c.function_of.ensures ∙ c.in-Some.is in
+    refused_empty s (waiting c.args.self.now) c.args.self.now.steps.items c.args.name.now c.args.tokens c.args.inside.now h c.requires c.in-Some.function c.in-Some-after_sign.rest.now f c.in-Some-after_sign.ensures.some (sym c.if-accepts.ensures)
+
+pub returns-in_ok-push_frame-in-None-clause-goes : goal.returns-in_ok-push_frame-in-None-clause-goes
+returns-in_ok-push_frame-in-None-clause-goes c = λ s h.
+    let f = ap function_of (sym c.bytes.ensures.value) ∙ sym c.function_of.ensures ∙ c.in-Some.is in
+    c.enter.ensures.goes s
+    (rw c.in_ok-push_frame-in-None.ensures.ok
+    (first_argument s (waiting c.args.self.now) c.args.self.now.steps.items c.args.name.now c.args.tokens c.args.inside.now h c.requires c.in-Some.function f c.in-None.ensures.none))

@@ -1,0 +1,10 @@
+use Rattle.std.proofs.Common.{ℤ, take, Option, Some, if◌then◌else◌}
+use Rattle.std.specs.List.{list_any}
+use Rattle.cell_cats.specs.Rule.{is_in_ends}
+use Rattle.cell_cats.specs.parts.Pieces.{HaveOutputs}
+use Rattle.cell_cats.specs.declared.rule.Output.{Output}
+use Rattle.cell_cats.proofs.pieces.Pieces.add_output_of_rule.Given as goal
+
+abbrev pub invariant-loop-ends : goal.invariant-loop-ends
+invariant-loop-ends l = (outputs : ℤ → Option Output) → HaveOutputs outputs l.fn.self
+    → HaveOutputs (λ x. if list_any (λ ends. is_in_ends ends x) (take l.ends-index l.ends-items) then Some l.rule.output else outputs x) l.self

@@ -1,0 +1,45 @@
+use Rattle.std.proofs.Common.{arith, rules, ◌≡◌, ◌<◌, ◌+◌, ◌++◌, [], ◌∷◌, All, length, take, true, false, ap, sym, ◌∙◌, take_all}
+use Rattle.std.proofs.lemmas.List.{take_more}
+use Rattle.std.proofs.lemmas.List.Elements.{All-push, All-same}
+use Rattle.cell_core_values.specs.Cell.{IsCell, cell_eq}
+use Rattle.cell_core.proofs.RowLemmas.{breaks-none, breaks-one, breaks-whole}
+use Rattle.cell_core.proofs.runs.number_of_runs.Goals as goal
+use Rattle.cell_core.proofs.runs.number_of_runs.Goals.{then-ne, else-ne}
+
+pub loop-cell-init : goal.loop-cell-init
+loop-cell-init c = record {
+  cells = λ k d within. absurd (omega (arith, within));
+  count = breaks-whole c.args.row.now c.index-row-0.result (search (rules, c.if-is_empty.false)) c.index-row-0.is;
+  few = omega arith;
+}
+
+pub loop-cell-preserved : goal.loop-cell-preserved
+loop-cell-preserved c =
+    let row = c.args.row.now in
+    let i = c.loop-cell.cell-index in
+    let cell = c.cell-item.result in
+    let last = c.loop-cell.last in
+    let within : i < length row = omega arith in
+    let cells : All IsCell (take (i + 1) row) = All-same IsCell _ _ (take_more row i cell within ∙ ap (λ y. take i row ++ y ∷ []) (sym c.cell-item.is)) (All-push IsCell (take i row) cell c.loop-cell.invariant.cells c.category_of.ensures.cell) in
+    elim c.if-ne.branch [
+      | then-ne w ↦
+          let other : cell_eq cell last ≡ false = search (rules, w.if-ne, c.ne.ensures) in
+          record {
+            cells = cells;
+            count = omega (arith, w.ends-is, breaks-one last cell row i within c.cell-item.is other, c.loop-cell.invariant.count);
+            few = omega (arith, w.ends-is, c.loop-cell.invariant.few);
+          }
+      | else-ne w ↦
+          let same : cell_eq cell last ≡ true = search (rules, w.if-ne, c.ne.ensures) in
+          record {
+            cells = cells;
+            count = omega (arith, w.ends-is, breaks-none last cell row i within c.cell-item.is same, c.loop-cell.invariant.count);
+            few = omega (arith, w.ends-is, c.loop-cell.invariant.few);
+          }
+    ]
+
+pub returns-clause-cells : goal.returns-clause-cells
+returns-clause-cells c =
+    let row = c.args.row.now in
+    let i = c.loop-cell.cell-index in
+    All-same IsCell row (take i row) (sym (take_all i row (omega arith))) c.loop-cell.invariant.cells

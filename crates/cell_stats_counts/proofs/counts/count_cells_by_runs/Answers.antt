@@ -1,0 +1,120 @@
+use Rattle.std.proofs.Common.{◌≡◌, ◌<◌, ◌≤◌, ℕ, ◌+◌, ◌^◌, List, [], ◌∷◌, length, add-zero, true, false, cond, arith, ap, sym, ◌∙◌}
+use Rattle.std.proofs.lemmas.Result.{IfOk-from_err}
+use Rattle.cell_core.specs.Runs.{RunValue}
+use Rattle.cell_stats_combinations.specs.declared.skip.Skip.{Skip}
+use Rattle.cell_stats_combinations.specs.Combinations.{Combination}
+use Rattle.cell_stats_counts.specs.parts.Alone.{alone}
+use Rattle.cell_stats_counts.specs.parts.HeldPlaces.{total_of, is_same}
+use Rattle.cell_stats_combinations.specs.LeftOut.{is_left_out}
+use Rattle.cell_stats_counts.proofs.RunCountLemmas.{runs-count, run-left, run-more, room-left, room-more, room-first}
+use Rattle.cell_stats_counts.proofs.counts.count_cells_by_runs.Goals as goal
+
+one_few : 1 ≤ 16
+one_few = omega arith
+
+fit : (total : ℕ) {count more : ℕ} → total + count < 2 ^ 64 → more ≡ count → total + more < 2 ^ 64
+fit total room same = omega arith
+
+some_same : {n m : ℕ} → 0 < n → m ≡ n → 0 < m
+some_same some same = omega arith
+
+shorter : {X : Type 0} (x : X) (rest : List X) {all : List X} → all ≡ x ∷ rest → length rest < length all
+shorter x rest steps = omega (arith, ap length steps)
+
+-- no run is left
+all_counted : (skip : Skip) (k : Combination) (runs : List RunValue) (now : ℕ) {all : ℕ} → runs ≡ []
+    → now + runs-count skip k runs ≡ all → now ≡ all
+all_counted skip k runs now none counted =
+    sym (add-zero now) ∙ ap (λ (l : List RunValue). now + runs-count skip k l) (sym none) ∙ counted
+
+pub add_count-requires-clause-fits : goal.add_count-requires-clause-fits
+add_count-requires-clause-fits c = λ k.
+    let runs : List RunValue = c.loop-cell.cell-iterator in
+    let rest : List RunValue = c.next.new.self in
+    let room = room-first c.args.skip k runs rest c.in-Some.cell c.in-Some.count c.in-Some.ensures.steps (total_of 1 k c.loop-cell.places c.loop-cell.counted) (2 ^ 64) (c.loop-cell.invariant.room k) in
+    fit (total_of 1 k c.loop-cell.places c.loop-cell.counted) room c.from.ensures
+
+pub loop-cell-preserved-in-Continue-1 : goal.loop-cell-preserved-in-Continue-1
+loop-cell-preserved-in-Continue-1 c =
+    let runs : List RunValue = c.loop-cell.cell-iterator in
+    let rest : List RunValue = c.next.new.self in
+    let x = c.in-Some.cell in
+    let n = c.in-Some.count in
+    let skip = c.args.skip in
+    let inv = c.loop-cell.invariant in
+    let steps : runs ≡ (x, n) ∷ rest = c.in-Some.ensures.steps in
+    let kept_in : is_left_out skip (alone x) ≡ false = sym c.is_left_out.ensures ∙ c.if-not-is_left_out.true in
+    let grown : (k : Combination) → total_of 1 k c.add_count.new.places c.add_count.new.counted ≡ total_of 1 k c.loop-cell.places c.loop-cell.counted + cond (is_same k (alone x)) n 0 = λ k.
+    c.in_ok-add_count.ensures.ok k ∙ ap (λ (m : ℕ). total_of 1 k c.loop-cell.places c.loop-cell.counted + cond (is_same k (alone x)) m 0) c.from.ensures in
+    record {
+      counted = λ k. run-more skip k runs rest x n steps _ _ _ kept_in (grown k) (inv.counted k);
+      room = λ k. room-more skip k runs rest x n steps _ _ (2 ^ 64) (grown k) (inv.room k);
+      no_zero = c.in_ok-add_count.ensures.no_zero;
+      spare = c.in_ok-add_count.ensures.spare;
+      places = some_same inv.places c.add_count.auto.places;
+    }
+
+pub loop-cell-preserved : goal.loop-cell-preserved
+loop-cell-preserved c =
+    let runs : List RunValue = c.loop-cell.cell-iterator in
+    let rest : List RunValue = c.next.new.self in
+    let x = c.in-Some.cell in
+    let n = c.in-Some.count in
+    let skip = c.args.skip in
+    let inv = c.loop-cell.invariant in
+    let steps : runs ≡ (x, n) ∷ rest = c.in-Some.ensures.steps in
+    let out : is_left_out skip (alone x) ≡ true = sym c.is_left_out.ensures ∙ c.if-not-is_left_out.false in
+    record {
+      counted = λ k. run-left skip k runs rest x n steps _ _ out (inv.counted k);
+      room = λ k. room-left skip k runs rest x n steps _ (2 ^ 64) (inv.room k);
+      no_zero = inv.no_zero;
+      spare = inv.spare;
+      places = inv.places;
+    }
+
+pub loop-cell-init : goal.loop-cell-init
+loop-cell-init c =
+    let same = c.into_iter-cell-iterator.ensures.into_iter_gives in
+    record {
+      counted = λ k. ap (λ (l : List RunValue). total_of 1 k c.args.places.now c.args.counted.now + runs-count
+          c.args.skip k l) same;
+      room = λ k. rw same (c.requires.fits k);
+      no_zero = c.requires.no_zero;
+      spare = c.requires.spare;
+      places = c.requires.places;
+    }
+
+pub add_count-requires-clause-width : goal.add_count-requires-clause-width
+add_count-requires-clause-width c = (one_few, c.loop-cell.invariant.spare)
+
+pub add_count-requires-clause-places : goal.add_count-requires-clause-places
+add_count-requires-clause-places c = c.loop-cell.invariant.places
+
+pub add_count-requires-clause-no_zero : goal.add_count-requires-clause-no_zero
+add_count-requires-clause-no_zero c = c.loop-cell.invariant.no_zero
+
+pub loop-cell-smaller-in-Continue-1 : goal.loop-cell-smaller-in-Continue-1
+loop-cell-smaller-in-Continue-1 c = shorter (c.in-Some.cell, c.in-Some.count) c.next.new.self c.in-Some.ensures.steps
+
+pub returns-in_err-add_count-clause-ok : goal.returns-in_err-add_count-clause-ok
+returns-in_err-add_count-clause-ok c = IfOk-from_err c.from_residual.result _ c.from_residual.ensures.0
+
+pub returns-in_err-add_count-clause-no_zero : goal.returns-in_err-add_count-clause-no_zero
+returns-in_err-add_count-clause-no_zero c = IfOk-from_err c.from_residual.result _ c.from_residual.ensures.0
+
+pub returns-in_err-add_count-clause-spare : goal.returns-in_err-add_count-clause-spare
+returns-in_err-add_count-clause-spare c = IfOk-from_err c.from_residual.result _ c.from_residual.ensures.0
+
+pub loop-cell-smaller : goal.loop-cell-smaller
+loop-cell-smaller c = shorter (c.in-Some.cell, c.in-Some.count) c.next.new.self c.in-Some.ensures.steps
+
+pub returns-clause-ok : goal.returns-clause-ok
+returns-clause-ok c =
+    λ k. all_counted c.args.skip k c.loop-cell.cell-iterator (total_of 1 k c.loop-cell.places c.loop-cell.counted)
+    c.in-None.ensures.steps.0 (c.loop-cell.invariant.counted k)
+
+pub returns-clause-no_zero : goal.returns-clause-no_zero
+returns-clause-no_zero c = c.loop-cell.invariant.no_zero
+
+pub returns-clause-spare : goal.returns-clause-spare
+returns-clause-spare c = c.loop-cell.invariant.spare

@@ -1,0 +1,76 @@
+use Rattle.std.proofs.Common.{◌≡◌, ℕ, List, Option, Some, Result, Ok, Err, refl}
+use Rattle.std.specs.Prelude.{IfSome}
+use Rattle.cell_core_devices.specs.Device.{Coming}
+use Rattle.rcell_script.specs.ReadScripts.{IsScriptFault}
+use Rattle.rcell_script.specs.ScriptLaw.{OneScript, NoFaultOfAScript}
+use Rattle.rcell_script.specs.Scripts.{IsScript}
+use Rattle.rcell_script_commands.specs.declared.script_fault.ScriptFault.{ScriptFault}
+use Rattle.rcell_script.specs.declared.statement.Statement.{Statement}
+use Rattle.rcell_loading.specs.ScriptText.{script_text}
+use Rattle.rcell_loading.specs.declared.run_fault.RunFault.{RunFault}
+use Rattle.rcell_loading.specs.declared.run_fault.RunFault.TheVariants.{Script}
+use Rattle.rcell.specs.runs.Endings.{ReadsScript, IsScriptRefusal}
+use Rattle.rcell.proofs.running.read_statements.Goals as goal
+
+-- what holds of what a source gives
+at_known : (coming : Option Coming) (given : Coming) (P : Coming → Type 0) → coming ≡ Some given → IfSome coming P → P given
+at_known coming given P same is = rw same at is
+
+one_text : {text other : List ℕ} {read : Result (List ℕ) RunFault} → read ≡ Ok text → read ≡ Ok other → other ≡ text
+one_text bytes others = cc
+
+not_both : {text : List ℕ} {fault : RunFault} {read : Result (List ℕ) RunFault} → read ≡ Err fault → read ≡ Ok text → ⊥
+not_both refused bytes = cc
+
+module _ (known names : List (List ℕ)) (text now : List ℕ) (script : Coming) (bytes : script_text script ≡ Ok text) (is_text : now ≡ text) (are_names : names ≡ known) where
+  reads_of : (statements : List Statement) → IsScript names now statements → ReadsScript known script statements
+  reads_of statements denoted = record { text = text; bytes = bytes; denoted = rw (are_names, is_text) at denoted }
+
+  only_one : OneScript → (a b : List Statement) → IsScript names now a → ReadsScript known script b → a ≡ b
+  only_one one a b denoted reads = one known text a b (rw (are_names, is_text) at denoted) (rw (one_text bytes reads.bytes) at reads.denoted)
+
+  refused_by : (fault : ScriptFault) → IsScriptFault names now fault → IsScriptRefusal known script (Script fault)
+  refused_by fault is = rw bytes (fault, (rw (are_names, is_text) at is, refl))
+
+  no_fault : NoFaultOfAScript → (statements : List Statement) (fault : ScriptFault) → ReadsScript known script statements → IsScriptFault names now fault → ⊥
+  no_fault none statements fault reads is =
+      none known text statements fault (rw (one_text bytes reads.bytes) at reads.denoted) (rw (are_names, is_text) at is)
+
+pub returns-in-Err-clause-fault : goal.returns-in-Err-clause-fault
+returns-in-Err-clause-fault g c = λ given tells input.
+    rw (at_known (g.R.Source.coming c.args.script) given (λ s. script_text s ≡ Err c.in-Err.fault) tells (c.in-Err.ensures.fault input)) refl
+
+pub returns-in-Err-clause-none : goal.returns-in-Err-clause-none
+returns-in-Err-clause-none g c = λ given tells statements reads input.
+    not_both (at_known (g.R.Source.coming c.args.script) given (λ s. script_text s ≡ Err c.in-Err.fault) tells (c.in-Err.ensures.fault input)) reads.bytes
+
+pub returns-in_default-clause-fault : goal.returns-in_default-clause-fault
+returns-in_default-clause-fault g c = λ given tells input. absurd input
+
+pub returns-in_default-clause-none : goal.returns-in_default-clause-none
+returns-in_default-clause-none g c = λ given tells statements reads input. input
+
+pub returns-in-Ok-parse_script-clause-ok : goal.returns-in-Ok-parse_script-clause-ok
+returns-in-Ok-parse_script-clause-ok g c = λ given tells.
+    let bytes = at_known (g.R.Source.coming c.args.script) given (λ s. script_text s ≡ Ok c.in-Ok.text.items) tells c.in-Ok.ensures.ok in
+    reads_of _ _ _ _ _ bytes c.deref.ensures.value c.in-Ok-shelf_names.ensures.names c.in-Ok-parse_script.script c.in-Ok-parse_script.ensures.ok
+
+pub returns-in-Ok-parse_script-clause-only : goal.returns-in-Ok-parse_script-clause-only
+returns-in-Ok-parse_script-clause-only g c = λ given tells statements reads.
+    let bytes = at_known (g.R.Source.coming c.args.script) given (λ s. script_text s ≡ Ok c.in-Ok.text.items) tells c.in-Ok.ensures.ok in
+    only_one _ _ _ _ _ bytes c.deref.ensures.value c.in-Ok-shelf_names.ensures.names c.one_script.ensures c.in-Ok-parse_script.script statements
+    c.in-Ok-parse_script.ensures.ok reads
+
+pub returns-clause-fault : goal.returns-clause-fault
+returns-clause-fault g c = λ given tells input.
+    let bytes = at_known (g.R.Source.coming c.args.script) given (λ s. script_text s ≡ Ok c.in-Ok.text.items) tells c.in-Ok.ensures.ok in
+    refused_by _ _ _ _ given bytes c.deref.ensures.value c.in-Ok-shelf_names.ensures.names c.in-Err-parse_script.fault (c.in-Err-parse_script.ensures.err input)
+
+pub returns-clause-none : goal.returns-clause-none
+returns-clause-none g c = λ given tells statements reads input.
+    let bytes = at_known (g.R.Source.coming c.args.script) given (λ s. script_text s ≡ Ok c.in-Ok.text.items) tells c.in-Ok.ensures.ok in
+    no_fault _ _ _ _ _ bytes c.deref.ensures.value c.in-Ok-shelf_names.ensures.names c.no_fault_of_a_script.ensures statements c.in-Err-parse_script.fault
+    reads (c.in-Err-parse_script.ensures.err input)
+
+pub returns-clause-told : goal.returns-clause-told
+returns-clause-told g c = λ grids. c.in-Err-parse_script.ensures.memory

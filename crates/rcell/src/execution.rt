@@ -1,0 +1,131 @@
+//! Statements are executed in order: those that make maps put them on the shelf, the others write their text.
+
+ghost use Rattle.std.specs.Prelude.{◌≡◌, OnOk, OnErr, IfOk, IfErr};
+ghost use Rattle.cell_core_devices.specs.Device.{after_put};
+ghost use Rattle.cell_core_devices.specs.Blocks.{Appends};
+ghost use Rattle.rcell_script.specs.KnownMaps.{known_after};
+ghost use Rattle.rcell_script_commands.specs.FittingCommands.{FitsCommand};
+ghost use Rattle.rcell_script.specs.FittingScripts.{Fits};
+ghost use Rattle.rcell.specs.After.{IsShelfAfter};
+ghost use Rattle.rcell.specs.Output.{command_text};
+ghost use Rattle.rcell.specs.parts.OutputSteps.{stops_write};
+ghost use Rattle.rcell.specs.runs.Execution.{Stops};
+ghost use Rattle.rcell.specs.runs.Outcomes.{IsDone};
+
+use crate::tables::write_stats;
+use cell_ascii::writer::write_grid;
+use cell_core::block::OutputBlock;
+use cell_core::memory::Memory;
+use cell_core::shelf::Shelf;
+use cell_core::sink::Sink;
+use rcell_making::making::{make_classes, make_numbers, make_values};
+use rcell_script::statement::{Command, Statement};
+use std::alloc::Global;
+
+/// What stops an execution.
+#[derive(Clone, Copy)]
+pub enum RunStop {
+    /// Memory was refused; the line is that of the statement.
+    Memory { line: u64 },
+    /// A write failed.
+    Write,
+}
+
+/// What stopped an execution, and how many bytes the sink took.
+#[derive(Clone, Copy)]
+pub struct Stopped {
+    pub stop: RunStop,
+    pub written: u64,
+}
+
+// At a refused put, after so many bytes.
+fn stopped_by(written: u64) -> Stopped
+    ensures { result ≡ record { stop = RunStop.Write; written = written } }
+{
+    Stopped {
+        stop: RunStop::Write,
+        written,
+    }
+}
+
+// Out of memory, after so many bytes.
+fn out_of_memory(line: u64, written: u64) -> Stopped
+    ensures { result ≡ record { stop = RunStop.Memory line; written = written } }
+{
+    Stopped {
+        stop: RunStop::Memory { line },
+        written,
+    }
+}
+
+// Executes a statement. It has all that it needs of memory before its first byte.
+fn execute_statement<W: Sink>(
+    alloc: Global,
+    shelf: &mut Shelf,
+    statement: &Statement,
+    block: &mut OutputBlock,
+    out: &mut W,
+) -> Result<(), Memory>
+    requires { FitsCommand shelf.old.names statement.now.command }
+    ensures after { OnOk result (IsShelfAfter shelf.old statement.now.command shelf.new) }
+    ensures names { OnOk result
+        (shelf.new.names ≡ known_after shelf.old.names statement.now.command) }
+    ensures ok { OnOk result
+        (Appends W.taken W.faults out.old block.old (command_text shelf.old statement.now.command)
+        out.new block.new) }
+    ensures err { OnErr result ((out.new ≡ out.old) × (block.new ≡ block.old)) }
+{
+    let _maps = shelf.len();
+    match &statement.command {
+        Command::Mapcalc { target, bound } => make_values(alloc, shelf, target, bound),
+        Command::Reclass {
+            place,
+            target,
+            rules,
+        } => make_classes(alloc, shelf, *place, target, rules),
+        Command::Clump {
+            place,
+            target,
+            joining,
+        } => make_numbers(alloc, shelf, *place, target, *joining),
+        Command::Stats { places, options } => {
+            write_stats(alloc, shelf, places.as_slice(), options, block, out)
+        }
+        Command::OutAscii { place, null_text } => {
+            write_grid(out, block, shelf.map(*place), null_text.bytes());
+            Ok(())
+        }
+    }
+}
+
+/// Executes statements in order. Answers the number of bytes that the sink took.
+///
+/// # Errors
+///
+/// [`RunStop::Memory`] with the line of the first statement for which memory was refused, which has written nothing, or
+/// [`RunStop::Write`] where the sink failed; either with the number of bytes that the sink took.
+pub fn execute<W: Sink>(
+    alloc: Global,
+    shelf: &mut Shelf,
+    statements: &[Statement],
+    out: &mut W,
+) -> Result<u64, Stopped>
+    requires { Fits shelf.old.names statements.now }
+    ensures ok { IfOk result
+        (λ written. IsDone shelf.old statements.now (W.taken out.old) (W.taken out.new) written) }
+    ensures err { IfErr result
+        (λ s. Stops shelf.old statements.now (W.taken out.old) (W.taken out.new) s.written s.stop) }
+    ensures faults { W.faults out.new ≡ after_put (W.faults out.old) (stops_write result) }
+{
+    let mut block = OutputBlock::new();
+    for statement in statements {
+        match execute_statement(alloc, shelf, statement, &mut block, out) {
+            Ok(()) => block.empty(out),
+            Err(_) => return Err(out_of_memory(statement.line, block.written())),
+        }
+        if block.has_failed() {
+            return Err(stopped_by(block.written()));
+        }
+    }
+    Ok(block.written())
+}

@@ -1,0 +1,180 @@
+//! A run, from bytes to bytes.
+
+ghost use Rattle.std.specs.Prelude.{◌≡◌, ℕ, ◌<◌, List, All, length, true, false, IsNone, IfSome, IfOk, IfErr, Ok, Err, Some, None, vec_len};
+ghost use Rattle.cell_core_devices.specs.Device.{Coming, has_failed};
+ghost use Rattle.cell_core.specs.Shelf.{ShelfValue};
+ghost use Rattle.rcell_script.specs.FittingScripts.{Fits};
+ghost use Rattle.rcell_script.specs.declared.statement.Statement.{Statement};
+ghost use Rattle.rcell_loading.specs.RunFaults.{IsOfInput, IsBeforeExecution, IsInExecution, NamesItsGrid};
+ghost use Rattle.rcell.specs.parts.Ends.{Ends, IsRunEnd};
+ghost use Rattle.rcell_loading.specs.Sources.{Named, Tell};
+ghost use Rattle.rcell.specs.runs.Accepted.{IsAccepted};
+ghost use Rattle.rcell.specs.runs.Statuses.{fault_status, status_after};
+ghost use Rattle.rcell.specs.runs.Endings.{ReadsScript, IsScriptRefusal, IsRefusal, IsReadScript, IsRunDone, IsRunStopped};
+ghost use Rattle.rcell.specs.runs.Outcomes.{Failing, Writes};
+
+use crate::execution::{RunStop, Stopped, execute};
+use crate::outcome::{Outcome, RunFault, status_of};
+use cell_core::name::Name;
+use cell_core::shelf::Shelf;
+use cell_core::sink::Sink;
+use cell_core::source::Source;
+use rcell_loading::loading::{load, shelf_names};
+use rcell_loading::script_bytes::read_script;
+use rcell_script::law::{no_fault_of_a_script, one_script};
+use rcell_script::script_parsing::parse_script;
+use rcell_script::statement::Script;
+use std::alloc::Global;
+
+// The statements of a script over the maps on a shelf.
+fn read_statements<R: Source + Drop>(
+    alloc: Global,
+    shelf: &Shelf,
+    script: R,
+) -> Result<Script, RunFault>
+    ensures ok { (text : Coming) → R.coming script ≡ Some text
+        → IfOk result (λ s. ReadsScript shelf.now.names text s) }
+    ensures only { (text : Coming) → R.coming script ≡ Some text → (statements : List Statement)
+        → ReadsScript shelf.now.names text statements → IfOk result (λ s. s ≡ statements) }
+    ensures fits { IfOk result (λ s. Fits shelf.now.names s) }
+    ensures numbered { IfOk result (λ s. All (λ t. 0 < t.line) s) }
+    ensures fault { (text : Coming) → R.coming script ≡ Some text
+        → IfErr result (λ f. IsOfInput f → IsScriptRefusal shelf.now.names text f) }
+    ensures none { (text : Coming) → R.coming script ≡ Some text → (statements : List Statement)
+        → ReadsScript shelf.now.names text statements → IfErr result (λ f. IsOfInput f → ⊥) }
+    ensures early { IfErr result IsBeforeExecution }
+    ensures told { (grids : ℕ) → IfErr result (NamesItsGrid grids) }
+{
+    let text = match read_script(alloc, script) {
+        Ok(text) => text,
+        Err(fault) => return Err(fault),
+    };
+    let Ok(names) = shelf_names(alloc, shelf) else {
+        return Err(RunFault::Memory { line: 0 });
+    };
+    one_script();
+    no_fault_of_a_script();
+    match parse_script(alloc, &text, &names) {
+        Ok(script) => Ok(script),
+        Err(fault) => Err(RunFault::Script(fault)),
+    }
+}
+
+// Flushes the sink unless it refused a put, and answers. A flush that fails turns a run that is done into a failed write,
+// and changes no other answer.
+fn finish_run<W: Sink>(executed: Result<u64, Stopped>, out: &mut W) -> Outcome
+    ensures taken { W.taken out.new ≡ W.taken out.old }
+    ensures ends { Ends executed (W.faults out.old) (W.faults out.new) result }
+{
+    match executed {
+        Ok(written) => match out.flush() {
+            Ok(()) => Outcome {
+                status: 0,
+                written,
+                fault: None,
+            },
+            Err(_) => refused_outcome(RunFault::Write, written),
+        },
+        Err(stopped) => match stopped.stop {
+            RunStop::Memory { line } => {
+                let _ = out.flush();
+                refused_outcome(RunFault::Memory { line }, stopped.written)
+            }
+            RunStop::Write => refused_outcome(RunFault::Write, stopped.written),
+        },
+    }
+}
+
+// Executes the statements, and flushes the sink unless it refused a put.
+fn put_out<W: Sink>(alloc: Global, mut shelf: Shelf, script: &Script, out: &mut W) -> Outcome
+    requires fits { Fits shelf.names script.now }
+    requires numbered { All (λ t. 0 < t.line) script.now }
+    ensures { IsRunEnd shelf script.now (W.taken out.old) (W.taken out.new) (W.faults out.old)
+        (W.faults out.new) result }
+{
+    let executed = execute(alloc, &mut shelf, script.statements(), out);
+    finish_run(executed, out)
+}
+
+fn refused_outcome(fault: RunFault, written: u64) -> Outcome
+    ensures { result
+        ≡ record { status = fault_status fault; written = written; fault = Some fault } }
+{
+    Outcome {
+        status: status_of(fault),
+        written,
+        fault: Some(fault),
+    }
+}
+
+/// Runs a script over grids, and writes what it asks for.
+///
+/// The grids are read whole, in their order, then the script, and only then the first statement is executed.
+/// Each statement has all that it needs of memory before its first byte is written. Where the script was accepted and no
+/// write failed, the sink is flushed once at the end.
+pub fn run<R: Source + Drop, W: Sink>(
+    alloc: Global,
+    script: R,
+    grids: Vec<(Name, R)>,
+    out: &mut W,
+) -> Outcome
+    requires { 0 < vec_len grids }
+    // Without a fault the sink has taken exactly the output, and its length is told.
+    ensures done { (named : List Named) (text : Coming)
+        → Tell R.coming grids.items named → R.coming script ≡ Some text → IsNone result.fault
+        → IsRunDone named text (W.taken out.old) (W.taken out.new) result.written }
+    // A fault of the grids or of the script is the first that they have.
+    ensures refused { (named : List Named) (text : Coming)
+        → Tell R.coming grids.items named → R.coming script ≡ Some text
+        → IfSome result.fault (λ f. IsOfInput f → IsRefusal named text f) }
+    // A run that is refused before execution writes nothing, and no call of the sink fails.
+    ensures nothing { IfSome result.fault (λ f. IsBeforeExecution f
+        → (W.taken out.new ≡ W.taken out.old)
+        × ((W.faults out.new ≡ W.faults out.old) × (result.written ≡ 0))) }
+    // It leaves the sink as it was: nothing is put, and it is not flushed.
+    ensures untouched { IfSome result.fault (λ f. IsBeforeExecution f → out.new ≡ out.old) }
+    // A run that stops out of memory has written the whole output of the statements before the one that it tells; one that
+    // stops at a failing sink has written a prefix of the output, and tells its length.
+    ensures stopped { (named : List Named) (text : Coming) → Tell R.coming grids.items named
+        → R.coming script ≡ Some text
+        → IfSome result.fault (λ f. IsInExecution f
+        → IsRunStopped named text (W.taken out.old) (W.taken out.new) result.written f) }
+    ensures status { result.status ≡ status_after result.fault }
+    // A fault of a grid names one that was given, and being out of memory for a grid or for the script is told at line 0.
+    ensures told { IfSome result.fault (NamesItsGrid (length grids.items)) }
+    // Of a sink that had not failed before, status 0 comes only where it did not fail, and Write only where it failed.
+    ensures sound { result.status ≡ 0 → W.faults out.new ≡ W.faults out.old }
+    ensures write { result.fault ≡ Some RunFault.Write → has_failed (W.faults out.new) ≡ true }
+    // Write where no put was refused, as where only the flush at the end failed: the sink took the whole output.
+    ensures whole { (named : List Named) (text : Coming)
+        → Tell R.coming grids.items named → R.coming script ≡ Some text
+        → result.fault ≡ Some RunFault.Write → (W.faults out.new).refused ≡ false
+        → IsRunDone named text (W.taken out.old) (W.taken out.new) result.written }
+    // The fault is the one that came first: a put that is refused is told as Write, and the sink is not flushed after it; a
+    // flush that fails after another fault changes nothing.
+    ensures first { Failing result.fault (W.faults out.old) (W.faults out.new) }
+    // For every accepted script over grids of one region, where memory lasts and the sink takes everything,
+    // exactly the output of its statements is written.
+    ensures headline { (named : List Named) (text : Coming) (shelf : ShelfValue)
+        (statements : List Statement)
+        → Tell R.coming grids.items named → R.coming script ≡ Some text
+        → IsAccepted named text shelf statements
+        → Writes shelf statements (W.taken out.old) (W.taken out.new)
+        (has_failed (W.faults out.new)) result }
+    // The same of whatever is read as statements over a shelf.
+    ensures complete { (named : List Named) (text : Coming) (shelf : ShelfValue)
+        (statements : List Statement)
+        → Tell R.coming grids.items named → R.coming script ≡ Some text
+        → IsReadScript named text shelf statements
+        → Writes shelf statements (W.taken out.old) (W.taken out.new)
+        (has_failed (W.faults out.new)) result }
+{
+    let shelf = match load(alloc, grids) {
+        Ok(shelf) => shelf,
+        Err(fault) => return refused_outcome(fault, 0),
+    };
+    match read_statements(alloc, &shelf, script) {
+        Ok(statements) => put_out(alloc, shelf, &statements, out),
+        Err(fault) => refused_outcome(fault, 0),
+    }
+}

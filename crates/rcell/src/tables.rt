@@ -1,0 +1,78 @@
+//! r.stats: tables and cells are written.
+
+ghost use Rattle.std.specs.Prelude.{◌≡◌, ◌<◌, ◌≤◌, All, length, OnOk, OnErr, IfSome};
+ghost use Rattle.std.specs.Option.{option_map};
+ghost use Rattle.cell_core_devices.specs.Blocks.{Appends};
+ghost use Rattle.rcell.specs.Output.{stats_text, format_of};
+
+use cell_core::block::OutputBlock;
+use cell_core::memory::Memory;
+use cell_core::shelf::Shelf;
+use cell_core::sink::Sink;
+use cell_stats::combination::Combo;
+use cell_stats::format::Format;
+use cell_stats::printed_cells::{CellWalk, write_cells};
+use cell_stats::printing::write_table;
+use cell_stats::tallying::tally;
+use rcell_script::statement::StatsOptions;
+use std::alloc::Global;
+
+// How the options print.
+fn format_of<'a>(options: &'a StatsOptions) -> Format<'a>
+    ensures { result ≡ format_of options.now }
+{
+    Format::new(
+        options.separator,
+        options.null_text.bytes(),
+        options.labels,
+        options.counts,
+    )
+}
+
+// The combination after which the table goes on.
+fn combination_before<'a>(options: &'a StatsOptions) -> Option<&'a Combo>
+    ensures { option_map (λ k. k.now) result ≡ options.now.after }
+{
+    match &options.after {
+        Some(combo) => Some(combo),
+        None => None,
+    }
+}
+
+/// Writes what r.stats asks for. All that it needs of memory it has before its first byte.
+///
+/// # Errors
+///
+/// `Memory`, where memory is refused: nothing is written then.
+pub fn write_stats<W: Sink>(
+    alloc: Global,
+    shelf: &Shelf,
+    places: &[usize],
+    options: &StatsOptions,
+    block: &mut OutputBlock,
+    out: &mut W,
+) -> Result<(), Memory>
+    requires within { All (λ place. place < length shelf.now.maps) places.now }
+    requires some { 1 ≤ length places.now }
+    requires most { length places.now ≤ 16 }
+    requires width { IfSome options.now.after (λ k. length k ≡ length places.now) }
+    ensures ok { OnOk result
+        (Appends W.taken W.faults out.old block.old (stats_text shelf.now places.now options.now)
+        out.new block.new) }
+    ensures err { OnErr result ((out.new ≡ out.old) × (block.new ≡ block.old)) }
+{
+    let format = format_of(options);
+    if options.cells {
+        let Ok(walk) = CellWalk::new(alloc, shelf, places) else {
+            return Err(Memory);
+        };
+        write_cells(out, block, walk, shelf, places, options.skip, &format);
+        return Ok(());
+    }
+    let Ok(table) = tally(alloc, shelf, places, options.skip) else {
+        return Err(Memory);
+    };
+    let after = combination_before(options);
+    write_table(out, block, &table, after, shelf, places, &format);
+    Ok(())
+}
