@@ -1,7 +1,8 @@
-//! Texts of tables merged to the text of the whole table, all at once.
+//! Texts of tables that are merged: the least of the entries that they begin with, its counts together, and its line written.
+//! A merge of all texts at once takes one such step after another.
 #![tactic(auto)]
 
+pub mod entry_lines;
 pub mod join_fault;
 pub mod law;
-pub mod printing;
 pub mod text_heads;

@@ -33,10 +33,10 @@ fn take<R: Source>(
     combo: &Combo,
 ) -> Result<Option<u64>, TableFault>
     ensures count { IfOk result (λ count. count ≡ head_count combo.now text.old.head) }
-    ensures taken { OnOk result (reading_from format.now text.new ≡ option_map (past combo.now)
-        (reading_from format.now text.old)) }
-    ensures fault { IfErr result (λ fault. fault.kind ≢ TableKind.Memory → IfSome (reading_from
-        format.now text.old) (λ reading. reading.fault ≡ Some fault)) }
+    ensures taken { OnOk result (reading_from format.now text.new
+        ≡ option_map (past combo.now) (reading_from format.now text.old)) }
+    ensures fault { IfErr result (λ fault. fault.kind ≢ TableKind.Memory
+        → IfSome (reading_from format.now text.old) (λ reading. reading.fault ≡ Some fault)) }
 {
     match count_at(text.head(), combo) {
         Some(count) => match text.next(alloc, format) {
@@ -60,8 +60,8 @@ fn of_text(text: usize, fault: TableFault) -> JoinFault
 
 // The lesser of a combination and that of a head, if there are any.
 fn lesser<'a>(least: Option<&'a Combo>, head: &'a Option<(Combo, u64)>) -> Option<&'a Combo>
-    ensures { option_map (λ k. k.now) result ≡ lesser_of (option_map (λ k. k.now) least.entry)
-        (combination_of head.now) }
+    ensures { option_map (λ k. k.now) result
+        ≡ lesser_of (option_map (λ k. k.now) least.entry) (combination_of head.now) }
 {
     match (least, head) {
         (least, None) => least,
@@ -78,8 +78,8 @@ fn lesser<'a>(least: Option<&'a Combo>, head: &'a Option<(Combo, u64)>) -> Optio
 
 // The sum of counts that may be; None where it is beyond 64 bits.
 fn add(total: Option<u64>, count: Option<u64>) -> Option<Option<u64>>
-    ensures { MatchOption result (IsBeyondCounts total count) (λ sum. sum ≡ sum_if_any total
-        count) }
+    ensures { MatchOption result (IsBeyondCounts total count)
+        (λ sum. sum ≡ sum_if_any total count) }
 {
     match (total, count) {
         (None, count) => Some(count),
@@ -103,10 +103,10 @@ pub fn take_all<R: Source>(
     texts: &mut [TableText<R>],
     combo: &Combo,
 ) -> Result<Option<u64>, JoinFault>
-    ensures total { IfOk result (λ total. total ≡ sum_of_counts (map (λ text. head_count combo.now
-        text.head) texts.old)) }
-    ensures taken { OnOk result (map (λ text. reading_from format.now text) texts.new ≡ map (λ
-        text. option_map (past combo.now) (reading_from format.now text)) texts.old) }
+    ensures total { IfOk result (λ total. total
+        ≡ sum_of_counts (map (λ text. head_count combo.now text.head) texts.old)) }
+    ensures taken { OnOk result (map (λ text. reading_from format.now text) texts.new
+        ≡ map (λ text. option_map (past combo.now) (reading_from format.now text)) texts.old) }
 {
     let mut total = None;
     'texts: for text in 0..texts.len() {
