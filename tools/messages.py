@@ -12,6 +12,8 @@ import os
 import re
 import sys
 
+import build
+
 ROOT = os.path.dirname(os.path.dirname(os.path.abspath(__file__)))
 FILE, DOCUMENT = f"{ROOT}/helpers/messages.json", f"{ROOT}/docs/COMMANDS.md"
 TABLES = re.compile(r"^### Of the command line .*?(?=^## )", re.MULTILINE | re.DOTALL)
@@ -55,9 +57,9 @@ def tables():
 
 
 def messages_of_the_code():
-    """The texts of faults in the sources, with N for a number; those that only hand on another text are left out."""
+    """The texts of faults in the sources of the program, with N for a number; those that only hand on another text are left out."""
     found = set()
-    for path in glob.glob(f"{ROOT}/crates/*/src/**/*.rt", recursive=True):
+    for path in [it for crate in build.crates_of_the_program() for it in glob.glob(f"{crate.folder}/src/**/*.rt", recursive=True)]:
         with open(path, encoding="utf-8") as file:
             texts = re.findall(r'(?:#\[error\(|Fault::\w+ => )"([^"]*)"', file.read())
         found |= {re.sub(r"\{written\}", "N", text) for text in texts if not re.search(r"\{(0|text|kind|line)\}", text)}
