@@ -2,3 +2,4 @@
 pub mod OutputLemmas
 pub mod TableLemmas
 pub mod StatsLemmas
+pub mod runs
