@@ -17,7 +17,9 @@ from rcell.tiles.joining import Rectangle
 from tests.tiles import whole
 from tests.tiles.conftest import MakeTif, read_tif, write_tif
 
-some = settings(max_examples=25, deadline=None, suppress_health_check=[HealthCheck.function_scoped_fixture])
+# Two maps and an expression are many choices: how many examples are too large for hypothesis is a matter of chance.
+some = settings(max_examples=25, deadline=None,
+                suppress_health_check=[HealthCheck.function_scoped_fixture, HealthCheck.data_too_large, HealthCheck.too_slow])
 
 NULL = whole.NULL_CELL
 
