@@ -13,7 +13,7 @@ begins_with_hyphen (b ∷ rest) = b == byte (codes "-")
 
 -- each name and the path of its grid, with an equals sign between them
 abbrev pub grid_words : List (List ℕ) → List (List ℕ) → List (List ℕ)
-grid_words (name ∷ names) (path ∷ paths) = (name ++ codes "=" ++ path) ∷ grid_words names paths
+grid_words (name ∷ names) (path ∷ paths) = (name ++ byte (codes "=") ∷ path) ∷ grid_words names paths
 grid_words _ _ = []
 
 -- NAME=PATH: a name stands before the first equals sign, and something after it
