@@ -1,5 +1,5 @@
 -- The combinations of the cells of several maps, and their order (r.stats manual; null last is the profile's).
-use Rattle.std.specs.Prelude.{ℕ, List, map, None, flat_map, slice_get}
+use Rattle.std.specs.Prelude.{ℕ, ◌<◌, All, List, length, map, None, flat_map, slice_get}
 use Rattle.std.specs.Option.{option_map_or}
 use Rattle.std.specs.declared.cmp.Ordering.{Ordering}
 use Rattle.std.specs.Cmp.{IsTotalOrder}
@@ -7,6 +7,7 @@ use Rattle.std.specs.Cmp.Lexicographic.{slice_cmp, lists_total}
 use Rattle.std.specs.List.{range_with_len}
 use Rattle.cell_core_values.specs.Cell.{cell_cmp, cell_cmp_total}
 use Rattle.cell_core.specs.Grid.{Grid, CellValue, cell_at}
+use Rattle.cell_core.specs.Shelf.{ShelfValue}
 
 -- a cell of each picked map
 abbrev pub Combination : Type 0
@@ -35,3 +36,11 @@ row_combinations maps picks cols row = map (combination_at maps picks row) (rang
 -- the combinations of all cells, row by row from the top left
 abbrev pub all_combinations : List Grid → List ℕ → ℕ → ℕ → List Combination
 all_combinations maps picks rows cols = flat_map (row_combinations maps picks cols) (range_with_len 0 rows)
+
+-- the combinations of all cells of maps of a shelf, which are in these places
+abbrev pub shelf_combinations : ShelfValue → List ℕ → List Combination
+shelf_combinations shelf picks = all_combinations shelf.maps picks shelf.region.rows shelf.region.cols
+
+-- they are places of maps on the shelf
+abbrev pub ArePicks : ShelfValue → List ℕ → Type 0
+ArePicks shelf picks = All (λ i. i < length shelf.maps) picks

@@ -1,11 +1,11 @@
 -- Counts that are held, and counts in the map.
-use Rattle.std.proofs.Common.{◌≡◌, ℕ, zero, suc, ◌+◌, ◌<◌, ◌≤◌, length, take, replicate, [], ◌∷◌, Bool, true, false, List, cond, get_or, set, ap, sym, ◌∙◌, refl, arith, add-zero, zero-add}
+use Rattle.std.proofs.Common.{◌≡◌, ℕ, zero, suc, ◌+◌, ◌<◌, ◌≤◌, length, take, replicate, [], ◌∷◌, Bool, true, false, List, cond, get_or, set, length-set, subst, ap, sym, ◌∙◌, refl, arith, add-zero, zero-add}
 use Rattle.cell_stats_counts.specs.declared.gathered.Gathered.{Gathered}
 use Rattle.std.specs.Cmp.{eq_by_cmp_equiv}
 use Rattle.std.proofs.lemmas.List.Sums.{sum_by-append, sum_by-set, get_or-le-sum_by}
 use Rattle.cell_stats_counts.specs.declared.counting.CountPlace.{CountPlace}
 use Rattle.cell_stats_combinations.specs.Combinations.{Combination, combination_cmp_total}
-use Rattle.cell_stats_counts.specs.parts.HeldPlaces.{is_same, held_by, held_of, total_of, gathered_of}
+use Rattle.cell_stats_counts.specs.parts.HeldPlaces.{is_same, held_by, held_of, total_of, gathered_of, IsCounting}
 use Rattle.cell_stats_combinations.proofs.OrderLemmas.{combination_cmp-exact, is_equal}
 
 pub same-flip : (a b : Combination) → is_same a b ≡ is_same b a
@@ -62,3 +62,10 @@ held-nothing w k h (suc n) none =
     nothing : (b : Bool) → cond b h.count 0 ≡ 0
     nothing true = none
     nothing false = refl
+
+-- a place that holds something else
+pub going_at : {width : ℕ} {spare : Combination} {places : List CountPlace} {m : Gathered} (at : ℕ) (held : CountPlace) → IsCounting width spare places m → IsCounting width spare (set places at held) m
+going_at {places = places} at held going = record { few = going.few; wide = going.wide; some = rw (length-set places at held) going.some; no_zero = going.no_zero }
+
+pub going_of : {w width : ℕ} {spare : Combination} {places : List CountPlace} {m : Gathered} → w ≡ width → IsCounting w spare places m → IsCounting width spare places m
+going_of {spare = spare} {places = places} {m = m} same going = subst (λ n. IsCounting n spare places m) same going

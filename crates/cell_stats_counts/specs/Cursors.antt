@@ -1,9 +1,10 @@
 -- A place in the row of a map, as a walk over its runs has it.
-use Rattle.std.specs.Prelude.{ℕ, ◌≡◌, ◌<◌, List, [], ◌++◌, All, replicate, slice_get, refl}
+use Rattle.std.specs.Prelude.{ℕ, ◌≡◌, ◌<◌, List, [], ◌++◌, length, All, replicate, slice_get, refl}
 use Rattle.std.specs.Coded.{Coded, code_by, coded×, coded_ℕ, coded_ℤ, coded_list, coded_option}
 use Rattle.std.specs.Option.{option_map_or}
 use Rattle.cell_core.specs.Grid.{Grid, CellValue, row_at}
 use Rattle.cell_core.specs.Runs.{RunValue, written_out}
+use Rattle.cell_core.specs.Shelf.{ShelfValue}
 
 -- the cell at the place, in how many columns from there on it is the same, and the runs after these
 pub record CursorValue : Type 0 where
@@ -23,6 +24,10 @@ pub record AreCursorsReady (c : CursorValue) : Type 0 where
 -- the row of the map in a place
 abbrev pub row_in : List Grid → ℕ → ℕ → List CellValue
 row_in maps row place = option_map_or (λ m. row_at m row) (slice_get maps place) []
+
+-- the rows of the maps in these places are as wide as the region
+abbrev pub AreWideRows : ShelfValue → ℕ → List ℕ → Type 0
+AreWideRows shelf row picks = All (λ place. length (row_in shelf.maps row place) ≡ shelf.region.cols) picks
 
 -- how a cursor is stored
 abbrev pub cursor_code : Coded CursorValue

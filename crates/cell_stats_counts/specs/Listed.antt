@@ -1,7 +1,9 @@
 -- Counts of combinations in a list.
-use Rattle.std.specs.Prelude.{ℕ, ◌<◌, List, All, cond, sum_by}
+use Rattle.std.specs.Prelude.{ℕ, ◌≡◌, ◌<◌, List, All, cond, map, sum_by}
+use Rattle.std.specs.List.Sorted.{IsStrictlySortedBy}
 use Rattle.std.specs.Ordering.{eq_by_cmp}
 use Rattle.cell_stats_combinations.specs.Combinations.{Combination, combination_cmp}
+use Rattle.cell_stats_counts.specs.Counts.{count_of}
 
 -- combinations, each with a number of cells
 abbrev pub Counts : Type 0
@@ -18,3 +20,13 @@ listed_of k entries = sum_by (entry_of k) entries
 -- no entry counts nothing
 abbrev pub HasNoZero : Counts → Type 0
 HasNoZero entries = All (λ entry. 0 < entry.1) entries
+
+-- each combination comes once, in ascending order
+abbrev pub AreAscending : Counts → Type 0
+AreAscending entries = IsStrictlySortedBy combination_cmp (map (λ entry. entry.0) entries)
+
+-- the counts of cells: of each combination that occurs among them, once and in order
+pub record AreCountsOf (cells : List Combination) (entries : Counts) : Type 0 where
+  pub ascending : AreAscending entries
+  pub counts : (k : Combination) → listed_of k entries ≡ count_of k cells
+  pub no_zero : HasNoZero entries

@@ -1,8 +1,8 @@
 //! Counts of combinations: in an ordered map, and some that are on their way to it.
 
-ghost use Rattle.std.specs.Prelude.{[], ℕ, ◌≡◌, ◌≢◌, ◌+◌, ◌-◌, ◌<◌, ◌≤◌, ◌^◌, ◌↔◌, length, take, All, Some, cond, OnOk, IfOk, IsTrue};
-ghost use Rattle.cell_stats_combinations.specs.Combinations.{Combination, combination_cmp};
-ghost use Rattle.cell_stats_counts.specs.parts.HeldPlaces.{is_same, held_by, held_of, total_of, gathered_of, GathersNoZero};
+ghost use Rattle.std.specs.Prelude.{◌≡◌, ◌+◌, ◌-◌, ◌<◌, ◌≤◌, ◌^◌, ◌↔◌, length, take, OnOk, IfOk, IsTrue};
+ghost use Rattle.cell_stats_combinations.specs.Combinations.{Combination};
+ghost use Rattle.cell_stats_counts.specs.parts.HeldPlaces.{held_by, total_of, gathered_of, AreEmpty, GathersNoZero, HasRoom, IsCounting, HasCounted, AreFlushed};
 
 use crate::gathered::{Gathered, code_of, merge, settle};
 use cell_core::cell::Cell;
@@ -137,17 +137,11 @@ fn add_near(
     places: &mut [CountPlace],
     counted: &mut Gathered,
 ) -> Result<(), Memory>
-    requires width { (length cells.now ≤ 16) × (length spare.old ≡ length cells.now) }
+    requires going { IsCounting (length cells.now) spare.old places.old counted.old }
     requires own { own < length places.old }
-    requires fits { (k : Combination)
-        → total_of (length cells.now) k places.old counted.old + count < 2 ^ 64 }
-    requires no_zero { GathersNoZero counted.old }
-    ensures ok { OnOk result ((k : Combination)
-        → total_of (length cells.now) k places.new counted.new
-        ≡ total_of (length cells.now) k places.old counted.old
-        + cond (is_same k cells.now) count 0) }
-    ensures no_zero { OnOk result (GathersNoZero counted.new) }
-    ensures spare { length spare.new ≡ length cells.now }
+    requires fits { HasRoom (length cells.now) places.old counted.old count }
+    ensures { OnOk result (HasCounted cells.now count places.old counted.old
+        spare.new places.new counted.new) }
 {
     let near = near_of(places.len(), counted.len());
     let at = place_near(cells, own, near, places);
@@ -171,17 +165,10 @@ pub(crate) fn add_count(
     places: &mut [CountPlace],
     counted: &mut Gathered,
 ) -> Result<(), Memory>
-    requires width { (length cells.now ≤ 16) × (length spare.old ≡ length cells.now) }
-    requires places { 0 < length places.old }
-    requires fits { (k : Combination)
-        → total_of (length cells.now) k places.old counted.old + count < 2 ^ 64 }
-    requires no_zero { GathersNoZero counted.old }
-    ensures ok { OnOk result ((k : Combination)
-        → total_of (length cells.now) k places.new counted.new
-        ≡ total_of (length cells.now) k places.old counted.old
-        + cond (is_same k cells.now) count 0) }
-    ensures no_zero { OnOk result (GathersNoZero counted.new) }
-    ensures spare { length spare.new ≡ length cells.now }
+    requires going { IsCounting (length cells.now) spare.old places.old counted.old }
+    requires fits { HasRoom (length cells.now) places.old counted.old count }
+    ensures { OnOk result (HasCounted cells.now count places.old counted.old
+        spare.new places.new counted.new) }
 {
     let own = own_place(cells, places.len());
     let place = &mut places[own];
@@ -205,8 +192,7 @@ fn places_for(shelf: &Shelf) -> usize
 fn empty_places(alloc: Global, many: usize) -> Result<Vec<CountPlace>, Memory>
     requires { 0 < many }
     ensures some { IfOk result (λ places. 0 < length places.items) }
-    ensures nothing { IfOk result (λ places. (width : ℕ) (k : Combination)
-        → held_of width k places.items ≡ 0) }
+    ensures nothing { IfOk result (λ places. AreEmpty places.items) }
 {
     let nothing = CountPlace {
         count: 0,
@@ -219,8 +205,7 @@ fn empty_places(alloc: Global, many: usize) -> Result<Vec<CountPlace>, Memory>
 // The places to begin with. They hold nothing.
 pub(crate) fn first_places(alloc: Global, shelf: &Shelf) -> Result<Vec<CountPlace>, Memory>
     ensures some { IfOk result (λ places. 0 < length places.items) }
-    ensures nothing { IfOk result (λ places. (width : ℕ) (k : Combination)
-        → held_of width k places.items ≡ 0) }
+    ensures nothing { IfOk result (λ places. AreEmpty places.items) }
 {
     empty_places(alloc, places_for(shelf))
 }
@@ -233,14 +218,9 @@ pub(crate) fn flush_all(
     places: &[CountPlace],
     counted: &mut Gathered,
 ) -> Result<(), Memory>
-    requires width { (width ≤ 16) × (length spare.old ≡ width) }
+    requires going { IsCounting width spare.old places.now counted.old }
     requires fits { (k : Combination) → total_of width k places.now counted.old < 2 ^ 64 }
-    requires no_zero { GathersNoZero counted.old }
-    ensures ok { OnOk result
-        ((k : Combination) → gathered_of k counted.new ≡ total_of width k places.now counted.old) }
-    ensures no_zero { OnOk result (GathersNoZero counted.new) }
-    ensures settled { OnOk result (counted.new.pending.items ≡ []) }
-    ensures spare { OnOk result (length spare.new ≡ width) }
+    ensures { OnOk result (AreFlushed width places.now counted.old spare.new counted.new) }
 {
     for held in places {
         flush(alloc, held, width, spare, counted)?;
@@ -264,16 +244,12 @@ pub(crate) fn make_room(
     places: &mut Vec<CountPlace>,
     counted: &mut Gathered,
 ) -> Result<usize, Memory>
-    requires width { (width ≤ 16) × (length spare.old ≡ width) }
-    requires places { 0 < length places.old.items }
+    requires going { IsCounting width spare.old places.old.items counted.old }
     requires fits { (k : Combination) → total_of width k places.old.items counted.old < 2 ^ 64 }
-    requires no_zero { GathersNoZero counted.old }
     ensures ok { OnOk result ((k : Combination)
         → total_of width k places.new.items counted.new
         ≡ total_of width k places.old.items counted.old) }
-    ensures no_zero { OnOk result (GathersNoZero counted.new) }
-    ensures places { OnOk result (0 < length places.new.items) }
-    ensures spare { OnOk result (length spare.new ≡ width) }
+    ensures going { OnOk result (IsCounting width spare.new places.new.items counted.new) }
 {
     if !are_crowded(places.len(), counted.len().saturating_sub(before)) {
         return Ok(before);

@@ -1,14 +1,13 @@
 //! How often each combination occurs.
 
-ghost use Rattle.std.specs.Prelude.{◌≡◌, ◌+◌, ◌<◌, ◌≤◌, ◌^◌, All, OnOk, IfOk, length, map};
-ghost use Rattle.std.specs.List.Sorted.{IsStrictlySortedBy};
+ghost use Rattle.std.specs.Prelude.{◌≡◌, ◌+◌, ◌<◌, ◌≤◌, OnOk, IfOk, length, map};
 ghost use Rattle.cell_core_values.specs.Region.{IsRegion};
 ghost use Rattle.cell_core.specs.Runs.{written_out};
-ghost use Rattle.cell_stats_combinations.specs.Combinations.{Combination, combination_cmp, all_combinations};
+ghost use Rattle.cell_stats_combinations.specs.Combinations.{ArePicks, Combination, shelf_combinations};
 ghost use Rattle.cell_stats_counts.specs.Counts.{count_of};
-ghost use Rattle.cell_stats_counts.specs.Listed.{listed_of, HasNoZero};
+ghost use Rattle.cell_stats_counts.specs.Listed.{AreCountsOf};
 ghost use Rattle.cell_stats_counts.specs.parts.Alone.{alone};
-ghost use Rattle.cell_stats_counts.specs.parts.HeldPlaces.{total_of, GathersNoZero};
+ghost use Rattle.cell_stats_counts.specs.parts.HeldPlaces.{total_of, AreCounted, HasRoom, IsCounting};
 ghost use Rattle.cell_stats_combinations.specs.LeftOut.{kept_cells};
 
 use crate::counting::{CountPlace, add_count, first_places, flush_all, make_room};
@@ -32,17 +31,13 @@ fn count_cells_by_runs(
     places: &mut [CountPlace],
     counted: &mut Gathered,
 ) -> Result<(), Memory>
-    requires spare { length spare.old ≡ 1 }
-    requires places { 0 < length places.old }
-    requires fits { (k : Combination)
-        → total_of 1 k places.old counted.old + length (written_out runs) < 2 ^ 64 }
-    requires no_zero { GathersNoZero counted.old }
+    requires going { IsCounting 1 spare.old places.old counted.old }
+    requires fits { HasRoom 1 places.old counted.old (length (written_out runs)) }
     ensures ok { OnOk result ((k : Combination)
         → total_of 1 k places.new counted.new
         ≡ total_of 1 k places.old counted.old
         + count_of k (kept_cells skip (map alone (written_out runs.entry)))) }
-    ensures no_zero { OnOk result (GathersNoZero counted.new) }
-    ensures spare { OnOk result (length spare.new ≡ 1) }
+    ensures going { OnOk result (IsCounting 1 spare.new places.new counted.new) }
 {
     for (cell, count) in runs {
         let cells = [cell];
@@ -64,29 +59,18 @@ fn count_row<'a>(
     places: &mut [CountPlace],
     counted: &mut Gathered,
 ) -> Result<(), Memory>
-    requires picked { All (λ i. i < length selection.shelf.now.maps) selection.picks.now }
-    requires width { length selection.picks.now ≤ 16 }
+    requires picked { ArePicks selection.shelf.now selection.picks.now }
     requires row_in_range { row < selection.shelf.now.region.rows }
     requires region { IsRegion selection.shelf.now.region }
     requires cursors { length cursors.old ≡ length selection.picks.now }
     requires cells { length cells.old ≡ length selection.picks.now }
-    requires spare { length spare.old ≡ length selection.picks.now }
-    requires places { 0 < length places.old }
-    requires no_zero { GathersNoZero counted.old }
-    requires counted { (k : Combination)
-        → total_of (length selection.picks.now) k places.old counted.old
-        ≡ count_of k
-        (kept_cells selection.skip
-        (all_combinations selection.shelf.now.maps
-        selection.picks.now row selection.shelf.now.region.cols)) }
-    ensures ok { OnOk result ((k : Combination)
-        → total_of (length selection.entry.picks.now) k places.new counted.new
-        ≡ count_of k
-        (kept_cells selection.entry.skip
-        (all_combinations selection.entry.shelf.now.maps selection.entry.picks.now (row + 1)
-        selection.entry.shelf.now.region.cols))) }
-    ensures no_zero { OnOk result (GathersNoZero counted.new) }
-    ensures spare { OnOk result (length spare.new ≡ length selection.entry.picks.now) }
+    requires going { IsCounting (length selection.picks.now) spare.old places.old counted.old }
+    requires counted { AreCounted selection.shelf.now selection.picks.now selection.skip row
+        places.old counted.old }
+    ensures ok { OnOk result (AreCounted selection.entry.shelf.now selection.entry.picks.now
+        selection.entry.skip (row + 1) places.new counted.new) }
+    ensures going { OnOk result
+        (IsCounting (length selection.entry.picks.now) spare.new places.new counted.new) }
 {
     if let [place] = selection.picks {
         let runs = selection.shelf.map(*place).runs(row);
@@ -120,15 +104,9 @@ pub fn count_cells(
     skip: Skip,
 ) -> Result<Vec<(Combo, u64)>, Memory>
     requires width { (1 ≤ length picks.now) × (length picks.now ≤ 16) }
-    requires picked { All (λ i. i < length shelf.now.maps) picks.now }
-    ensures ascending { IfOk result
-        (λ counted. IsStrictlySortedBy combination_cmp (map (λ entry. entry.0) counted.items)) }
-    ensures counts { IfOk result (λ counted. (k : Combination)
-        → listed_of k counted.items
-        ≡ count_of k
-        (kept_cells skip
-        (all_combinations shelf.now.maps picks.now shelf.now.region.rows shelf.now.region.cols))) }
-    ensures no_zero { IfOk result (λ counted. HasNoZero counted.items) }
+    requires picked { ArePicks shelf.now picks.now }
+    ensures { IfOk result (λ counted.
+        AreCountsOf (kept_cells skip (shelf_combinations shelf.now picks.now)) counted.items) }
 {
     let width = picks.len();
     let mut cells = vec![in alloc; Cell::null(); width]?;

@@ -3,7 +3,8 @@
 ghost use Rattle.std.specs.Prelude.{◌≡◌, ◌<◌, ◌≤◌, length, map, drop, All, OnOk, IfOk};
 ghost use Rattle.cell_core.specs.Grid.{row_at};
 ghost use Rattle.cell_core.specs.Runs.{written_out};
-ghost use Rattle.cell_stats_counts.specs.Cursors.{to_come, AreCursorsReady, row_in};
+ghost use Rattle.cell_stats_combinations.specs.Combinations.{ArePicks};
+ghost use Rattle.cell_stats_counts.specs.Cursors.{to_come, AreCursorsReady, AreWideRows, row_in};
 
 use cell_core::cell::Cell;
 use cell_core::map::CellMap;
@@ -82,13 +83,11 @@ fn start_all<'a>(
     picks: &[usize],
     row: u32,
 ) -> Result<Vec<Cursor<'a>>, Memory>
-    requires picked { All (λ i. i < length shelf.now.maps) picks.now }
+    requires picked { ArePicks shelf.now picks.now }
     requires row_in_range { row < shelf.now.region.rows }
-    ensures cells { IfOk result (λ cursors. map to_come cursors.items
-        ≡ map (row_in shelf.now.maps row) picks.now) }
-    ensures width { OnOk result
-        (All (λ place. length (row_in shelf.now.maps row place) ≡ shelf.now.region.cols)
-        picks.now) }
+    ensures cells { IfOk result
+        (λ cursors. map to_come cursors.items ≡ map (row_in shelf.now.maps row) picks.now) }
+    ensures width { OnOk result (AreWideRows shelf.now row picks.now) }
     ensures ready { IfOk result (λ cursors. All AreCursorsReady cursors.items) }
 {
     let mut cursors = Vec::with_capacity(alloc, picks.len())?;
@@ -108,7 +107,7 @@ pub fn cursors_of<'a>(
     shelf: &'a Shelf,
     picks: &[usize],
 ) -> Result<Vec<Cursor<'a>>, Memory>
-    requires { All (λ i. i < length shelf.now.maps) picks.now }
+    requires { ArePicks shelf.now picks.now }
     ensures { IfOk result (λ cursors. length cursors.items ≡ length picks.now) }
 {
     let row = shelf.region().rows() - 1;
@@ -117,12 +116,11 @@ pub fn cursors_of<'a>(
 
 /// Moves all to the first cells of a row.
 pub fn restart_all<'a>(cursors: &mut [Cursor<'a>], shelf: &'a Shelf, picks: &[usize], row: u32)
-    requires picked { All (λ i. i < length shelf.now.maps) picks.now }
+    requires picked { ArePicks shelf.now picks.now }
     requires row_in_range { row < shelf.now.region.rows }
     requires width { length cursors.old ≡ length picks.now }
     ensures cells { map to_come cursors.new ≡ map (row_in shelf.now.maps row) picks.now }
-    ensures width { All (λ place. length (row_in shelf.now.maps row place) ≡ shelf.now.region.cols)
-        picks.now }
+    ensures width { AreWideRows shelf.now row picks.now }
     ensures ready { All AreCursorsReady cursors.new }
 {
     for i in 0..picks.len() {

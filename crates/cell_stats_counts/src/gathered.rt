@@ -1,9 +1,8 @@
 //! Counts of combinations in a list, in which each is found by a number of it.
 
-ghost use Rattle.std.specs.Prelude.{◌≡◌, ◌≢◌, ◌+◌, ◌<◌, ◌≤◌, ◌^◌, [], ℕ, slice_index_or, All, IfOk, OnOk, IsTrue, false, cond, length, take, map};
-ghost use Rattle.std.specs.List.Sorted.{IsStrictlySortedBy};
-ghost use Rattle.cell_stats_combinations.specs.Combinations.{Combination, combination_cmp};
-ghost use Rattle.cell_stats_counts.specs.Listed.{Counts, listed_of, HasNoZero};
+ghost use Rattle.std.specs.Prelude.{◌≡◌, ◌+◌, ◌<◌, ◌^◌, [], ℕ, slice_index_or, OnOk, false, cond, length, take};
+ghost use Rattle.cell_stats_combinations.specs.Combinations.{Combination};
+ghost use Rattle.cell_stats_counts.specs.Listed.{Counts, listed_of, HasNoZero, AreAscending};
 ghost use Rattle.cell_stats_counts.specs.parts.HeldPlaces.{is_same, gathered_of, GathersNoZero, Grows};
 ghost use Rattle.cell_stats_counts.specs.parts.Joined.{IsRising, IsJoined};
 
@@ -265,8 +264,7 @@ fn join(entries: &mut [(Combo, u64)]) -> usize
     requires rising { IsRising entries.old }
     requires fits { (k : Combination) → listed_of k entries.old < 2 ^ 64 }
     requires no_zero { HasNoZero entries.old }
-    ensures ascending { IsStrictlySortedBy combination_cmp
-        (map (λ entry. entry.0) (take result entries.new)) }
+    ensures ascending { AreAscending (take result entries.new) }
     ensures counts { (k : Combination)
         → listed_of k (take result entries.new) ≡ listed_of k entries.old }
     ensures no_zero { HasNoZero (take result entries.new) }
@@ -286,7 +284,7 @@ pub(crate) fn ordered_entries(counted: Gathered) -> Vec<(Combo, u64)>
     requires fits { (k : Combination) → gathered_of k counted < 2 ^ 64 }
     requires no_zero { GathersNoZero counted }
     requires settled { counted.pending.items ≡ [] }
-    ensures ascending { IsStrictlySortedBy combination_cmp (map (λ entry. entry.0) result.items) }
+    ensures ascending { AreAscending result.items }
     ensures counts { (k : Combination) → listed_of k result.items ≡ gathered_of k counted }
     ensures no_zero { HasNoZero result.items }
 {

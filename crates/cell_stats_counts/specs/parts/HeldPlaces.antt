@@ -1,9 +1,13 @@
 -- Counts on their way: some are held by places, the others are in the list.
-use Rattle.std.specs.Prelude.{ℕ, ◌≡◌, ◌+◌, List, take, cond, Bool, sum_by}
+use Rattle.std.specs.Prelude.{ℕ, ◌≡◌, ◌<◌, ◌≤◌, ◌+◌, ◌^◌, List, [], length, take, cond, Bool, sum_by}
 use Rattle.std.specs.Ordering.{eq_by_cmp}
+use Rattle.cell_core.specs.Shelf.{ShelfValue}
 use Rattle.cell_stats_counts.specs.declared.counting.CountPlace.{CountPlace}
 use Rattle.cell_stats_counts.specs.declared.gathered.Gathered.{Gathered}
-use Rattle.cell_stats_combinations.specs.Combinations.{Combination, combination_cmp}
+use Rattle.cell_stats_combinations.specs.Combinations.{Combination, all_combinations, combination_cmp}
+use Rattle.cell_stats_combinations.specs.LeftOut.{kept_cells}
+use Rattle.cell_stats_combinations.specs.declared.skip.Skip.{Skip}
+use Rattle.cell_stats_counts.specs.Counts.{count_of}
 use Rattle.cell_stats_counts.specs.Listed.{listed_of, HasNoZero}
 
 -- whether two combinations are equal
@@ -29,6 +33,40 @@ GathersNoZero m = HasNoZero m.entries.items × HasNoZero m.pending.items
 -- how many there are
 abbrev pub total_of : ℕ → Combination → List CountPlace → Gathered → ℕ
 total_of width k places m = held_of width k places + gathered_of k m
+
+-- they hold no cells
+abbrev pub AreEmpty : List CountPlace → Type 0
+AreEmpty places = (width : ℕ) (k : Combination) → held_of width k places ≡ 0
+
+-- there are so many more cells of a combination of so many maps, and else what there were
+abbrev pub CountMore : Combination → ℕ → List CountPlace → Gathered → List CountPlace → Gathered → Type 0
+CountMore cells count places m more n = (k : Combination) → total_of (length cells) k more n ≡ total_of (length cells) k places m + cond (is_same k cells) count 0
+
+-- so many more can be told of each combination
+abbrev pub HasRoom : ℕ → List CountPlace → Gathered → ℕ → Type 0
+HasRoom width places m count = (k : Combination) → total_of width k places m + count < 2 ^ 64
+
+-- the cells above a row that are not left out were counted
+abbrev pub AreCounted : ShelfValue → List ℕ → Skip → ℕ → List CountPlace → Gathered → Type 0
+AreCounted shelf picks skip row places m = (k : Combination) → total_of (length picks) k places m ≡ count_of k (kept_cells skip (all_combinations shelf.maps picks row shelf.region.cols))
+
+-- counts of combinations of so many maps can go on: there is one to write to, there are places, and no entry counts nothing
+pub record IsCounting (width : ℕ) (spare : Combination) (places : List CountPlace) (m : Gathered) : Type 0 where
+  pub few : width ≤ 16
+  pub wide : length spare ≡ width
+  pub some : 0 < length places
+  pub no_zero : GathersNoZero m
+
+-- so many cells of a combination were counted, and counts can go on
+pub record HasCounted (cells : Combination) (count : ℕ) (places : List CountPlace) (m : Gathered) (spare : Combination) (more : List CountPlace) (n : Gathered) : Type 0 where
+  pub counts : CountMore cells count places m more n
+  pub going : IsCounting (length cells) spare more n
+
+-- all that the places hold was brought to the list
+pub record AreFlushed (width : ℕ) (places : List CountPlace) (m : Gathered) (spare : Combination) (n : Gathered) : Type 0 where
+  pub counts : (k : Combination) → gathered_of k n ≡ total_of width k places m
+  pub going : IsCounting width spare places n
+  pub settled : n.pending.items ≡ []
 
 -- the list has so many more cells of a combination, and else what it had
 abbrev pub Grows : Gathered → Gathered → Combination → ℕ → Type 0

@@ -3,7 +3,7 @@ use Rattle.std.proofs.lemmas.Result.{IfOk-from_err}
 use Rattle.std.proofs.lemmas.List.Sums.{get_or-le-sum_by}
 use Rattle.cell_stats_counts.specs.parts.HeldPlaces.{gathered_of}
 use Rattle.cell_stats_counts.specs.parts.HeldPlaces.{held_by}
-use Rattle.cell_stats_counts.proofs.HeldLemmas.{held_by-own, total-held, total-turned}
+use Rattle.cell_stats_counts.proofs.HeldLemmas.{going_at, held_by-own, total-held, total-turned}
 use Rattle.cell_stats_counts.proofs.counting.add_near.Goals as goal
 
 fit : (mapped count : ℕ) {have held most : ℕ} → held ≡ have → held ≤ most → most + mapped + count < 2 ^ 64
@@ -25,29 +25,25 @@ overflow_add-place c =
     fit (gathered_of cells c.args.counted.now) c.args.count own within (c.requires.fits cells)
 
 pub place_near-at-requires-clause-width : goal.place_near-at-requires-clause-width
-place_near-at-requires-clause-width c = c.requires.width.0
+place_near-at-requires-clause-width c = c.requires.going.few
 
 pub place_near-at-requires-clause-own : goal.place_near-at-requires-clause-own
 place_near-at-requires-clause-own c = c.requires.own
 
 pub is_held-requires : goal.is_held-requires
-is_held-requires c = c.requires.width.0
+is_held-requires c = c.requires.going.few
 
-pub returns-then-is_held-clause-ok : goal.returns-then-is_held-clause-ok
-returns-then-is_held-clause-ok c = λ k.
+pub returns-then-is_held : goal.returns-then-is_held
+returns-then-is_held c =
     let same = c.is_held.ensures.0 c.if-is_held.true in
-    total-held (length c.args.cells.now) k c.args.cells.now c.args.count c.args.places.now c.place_near-at.result
-    c.index-places-at.result c.args.counted.now c.place_near-at.ensures
-    _ same same refl
-
-pub returns-then-is_held-clause-no_zero : goal.returns-then-is_held-clause-no_zero
-returns-then-is_held-clause-no_zero c = c.requires.no_zero
-
-pub returns-then-is_held-clause-spare : goal.returns-then-is_held-clause-spare
-returns-then-is_held-clause-spare c = c.requires.width.1
+    record {
+      counts = λ k. total-held (length c.args.cells.now) k c.args.cells.now c.args.count c.args.places.now c.place_near-at.result
+          c.index-places-at.result c.args.counted.now c.place_near-at.ensures _ same same refl;
+      going = going_at c.place_near-at.result _ c.requires.going;
+    }
 
 pub flush-requires-clause-width : goal.flush-requires-clause-width
-flush-requires-clause-width c = c.requires.width
+flush-requires-clause-width c = (c.requires.going.few, c.requires.going.wide)
 
 pub flush-requires-clause-fits : goal.flush-requires-clause-fits
 flush-requires-clause-fits c = λ k.
@@ -56,28 +52,18 @@ flush-requires-clause-fits c = λ k.
     room (gathered_of k c.args.counted.now) c.args.count within (c.requires.fits k)
 
 pub flush-requires-clause-no_zero : goal.flush-requires-clause-no_zero
-flush-requires-clause-no_zero c = c.requires.no_zero
+flush-requires-clause-no_zero c = c.requires.going.no_zero
 
-pub returns-in_err-flush-clause-ok : goal.returns-in_err-flush-clause-ok
-returns-in_err-flush-clause-ok c = IfOk-from_err c.from_residual.result _ c.from_residual.ensures.0
-
-pub returns-in_err-flush-clause-no_zero : goal.returns-in_err-flush-clause-no_zero
-returns-in_err-flush-clause-no_zero c = IfOk-from_err c.from_residual.result _ c.from_residual.ensures.0
-
-pub returns-in_err-flush-clause-spare : goal.returns-in_err-flush-clause-spare
-returns-in_err-flush-clause-spare c = c.flush.ensures.spare
+pub returns-in_err-flush : goal.returns-in_err-flush
+returns-in_err-flush c = IfOk-from_err c.from_residual.result _ c.from_residual.ensures.0
 
 pub hold-requires : goal.hold-requires
-hold-requires c = c.requires.width.0
+hold-requires c = c.requires.going.few
 
-pub returns-clause-ok : goal.returns-clause-ok
-returns-clause-ok c = λ k.
-    total-turned (length c.args.cells.now) k c.args.cells.now c.args.count c.args.places.now c.place_near-at.result
-    c.index-places-at.result c.args.counted.now c.place_near-at.ensures
-    c.hold.new.held c.flush.new.counted c.hold.ensures.cells c.hold.ensures.count (c.in_ok-flush.ensures.ok k)
-
-pub returns-clause-no_zero : goal.returns-clause-no_zero
-returns-clause-no_zero c = c.in_ok-flush.ensures.no_zero
-
-pub returns-clause-spare : goal.returns-clause-spare
-returns-clause-spare c = c.flush.ensures.spare
+pub returns : goal.returns
+returns c = record {
+  counts = λ k. total-turned (length c.args.cells.now) k c.args.cells.now c.args.count c.args.places.now c.place_near-at.result
+      c.index-places-at.result c.args.counted.now c.place_near-at.ensures
+      c.hold.new.held c.flush.new.counted c.hold.ensures.cells c.hold.ensures.count (c.in_ok-flush.ensures.ok k);
+  going = going_at c.place_near-at.result _ (record { few = c.requires.going.few; wide = c.flush.ensures.spare; some = c.requires.going.some; no_zero = c.in_ok-flush.ensures.no_zero });
+}

@@ -21,12 +21,12 @@ pub loop-held-init : goal.loop-held-init
 loop-held-init c =
     record {
       counted = λ k. sym (add-zero (gathered_of k c.args.counted.now));
-      no_zero = c.requires.no_zero;
-      spare = c.requires.width.1;
+      no_zero = c.requires.going.no_zero;
+      spare = c.requires.going.wide;
     }
 
 pub flush-requires-clause-width : goal.flush-requires-clause-width
-flush-requires-clause-width c = (c.requires.width.0, c.loop-held.invariant.spare)
+flush-requires-clause-width c = (c.requires.going.few, c.loop-held.invariant.spare)
 
 pub flush-requires-clause-fits : goal.flush-requires-clause-fits
 flush-requires-clause-fits c = λ k.
@@ -39,14 +39,8 @@ flush-requires-clause-fits c = λ k.
 pub flush-requires-clause-no_zero : goal.flush-requires-clause-no_zero
 flush-requires-clause-no_zero c = c.loop-held.invariant.no_zero
 
-pub returns-in_err-flush-clause-ok : goal.returns-in_err-flush-clause-ok
-returns-in_err-flush-clause-ok c = IfOk-from_err c.from_residual.result _ c.from_residual.ensures.0
-
-pub returns-in_err-flush-clause-no_zero : goal.returns-in_err-flush-clause-no_zero
-returns-in_err-flush-clause-no_zero c = IfOk-from_err c.from_residual.result _ c.from_residual.ensures.0
-
-pub returns-in_err-flush-clause-spare : goal.returns-in_err-flush-clause-spare
-returns-in_err-flush-clause-spare c = IfOk-from_err c.from_residual.result _ c.from_residual.ensures.0
+pub returns-in_err-flush : goal.returns-in_err-flush
+returns-in_err-flush c = IfOk-from_err c.from_residual.result _ c.from_residual.ensures.0
 
 pub loop-held-smaller : goal.loop-held-smaller
 loop-held-smaller c = falls _ _ c.loop-held-test.true
@@ -78,15 +72,14 @@ settle-requires-clause-fits c = λ k.
 pub settle-requires-clause-no_zero : goal.settle-requires-clause-no_zero
 settle-requires-clause-no_zero c = c.loop-held.invariant.no_zero
 
-pub returns-clause-ok : goal.returns-clause-ok
-returns-clause-ok c = λ k.
-    let first = gathered_of k c.args.counted.now in
+pub returns : goal.returns
+returns c =
     let all = take_all c.loop-held.held-index c.args.places.now c.loop-held-test.false in
-    c.in_ok-settle.ensures.ok k ∙ c.loop-held.invariant.counted k ∙ ap (λ (l : List CountPlace). first + held_of c.args.width k l) all
-    ∙ turned first (held_of c.args.width k c.args.places.now)
-
-pub returns-clause-no_zero : goal.returns-clause-no_zero
-returns-clause-no_zero c = c.in_ok-settle.ensures.no_zero
-
-pub returns-clause-spare : goal.returns-clause-spare
-returns-clause-spare c = c.loop-held.invariant.spare
+    record {
+      counts = λ k.
+          let first = gathered_of k c.args.counted.now in
+          c.in_ok-settle.ensures.ok k ∙ c.loop-held.invariant.counted k ∙ ap (λ (l : List CountPlace). first + held_of c.args.width k l) all
+          ∙ turned first (held_of c.args.width k c.args.places.now);
+      going = record { few = c.requires.going.few; wide = c.loop-held.invariant.spare; some = c.requires.going.some; no_zero = c.in_ok-settle.ensures.no_zero };
+      settled = c.in_ok-settle.ensures.settled;
+    }

@@ -23,9 +23,6 @@ at_most within same = omega arith
 at_end : {row last rows : ℕ} → row ≤ last → last ≤ row → last ≡ rows → row ≡ rows
 at_end within ended same = omega arith
 
-some_same : {n m : ℕ} → 0 < n → m ≡ n → 0 < m
-some_same some same = omega arith
-
 -- a count of the rows so far fits
 fits : (maps : List Grid) (picks : List ℕ) (cols : ℕ) (skip : Skip) (k : Combination) (row rows total : ℕ)
     → row ≤ rows → rows ≤ 65535 → cols ≤ 65535
@@ -47,12 +44,15 @@ loop-row-init c =
           ap (λ n. n + gathered_of k c.new-counted.result) (c.in_ok-places.ensures.nothing (length c.args.picks.now) k)
           ∙ ap (λ (es : Counts). 0 + (listed_of k es + listed_of k c.new-counted.result.pending.items)) empty
           ∙ ap (λ (es : Counts). 0 + (0 + listed_of k es)) c.new-counted.ensures.settled;
-      no_zero = (
-        subst HasNoZero (sym empty) (λ i d within. absurd (omega (arith, within))),
-        subst HasNoZero (sym c.new-counted.ensures.settled) (λ i d within. absurd (omega (arith, within))),
-      );
-      spare = ap length (c.in_ok-spare.ensures ∙ c.deref.ensures.value) ∙ wide;
-      places = c.in_ok-places.ensures.some;
+      going = record {
+        few = c.requires.width.1;
+        wide = ap length (c.in_ok-spare.ensures ∙ c.deref.ensures.value) ∙ wide;
+        some = c.in_ok-places.ensures.some;
+        no_zero = (
+          subst HasNoZero (sym empty) (λ i d within. absurd (omega (arith, within))),
+          subst HasNoZero (sym c.new-counted.ensures.settled) (λ i d within. absurd (omega (arith, within))),
+        );
+      };
       cells = wide;
       cursors = ap length c.as_mut_slice-cursors.ensures.value ∙ c.in_ok-started.ensures;
     }
@@ -60,11 +60,8 @@ loop-row-init c =
 pub cursors_of-requires : goal.cursors_of-requires
 cursors_of-requires c = c.requires.picked
 
-pub make_room-requires-clause-width : goal.make_room-requires-clause-width
-make_room-requires-clause-width c = (c.requires.width.1, c.loop-row.invariant.spare)
-
-pub make_room-requires-clause-places : goal.make_room-requires-clause-places
-make_room-requires-clause-places c = c.loop-row.invariant.places
+pub make_room-requires-clause-going : goal.make_room-requires-clause-going
+make_room-requires-clause-going c = c.loop-row.invariant.going
 
 pub make_room-requires-clause-fits : goal.make_room-requires-clause-fits
 make_room-requires-clause-fits c = λ k.
@@ -75,14 +72,8 @@ make_room-requires-clause-fits c = λ k.
     (at_most c.loop-row.auto.row-end rows) region.rows_most region.cols_most
     (c.loop-row.invariant.counted k)
 
-pub make_room-requires-clause-no_zero : goal.make_room-requires-clause-no_zero
-make_room-requires-clause-no_zero c = c.loop-row.invariant.no_zero
-
 pub count_row-requires-clause-picked : goal.count_row-requires-clause-picked
 count_row-requires-clause-picked c = c.requires.picked
-
-pub count_row-requires-clause-width : goal.count_row-requires-clause-width
-count_row-requires-clause-width c = c.requires.width.1
 
 pub count_row-requires-clause-row_in_range : goal.count_row-requires-clause-row_in_range
 count_row-requires-clause-row_in_range c =
@@ -97,15 +88,8 @@ count_row-requires-clause-cursors c = c.loop-row.invariant.cursors
 pub count_row-requires-clause-cells : goal.count_row-requires-clause-cells
 count_row-requires-clause-cells c = ap length c.as_mut_slice.ensures.value ∙ c.loop-row.invariant.cells
 
-pub count_row-requires-clause-spare : goal.count_row-requires-clause-spare
-count_row-requires-clause-spare c = c.in_ok-before.ensures.spare
-
-pub count_row-requires-clause-places : goal.count_row-requires-clause-places
-count_row-requires-clause-places c =
-    some_same c.in_ok-before.ensures.places (ap length c.as_mut_slice-in-loop-row.ensures.value)
-
-pub count_row-requires-clause-no_zero : goal.count_row-requires-clause-no_zero
-count_row-requires-clause-no_zero c = c.in_ok-before.ensures.no_zero
+pub count_row-requires-clause-going : goal.count_row-requires-clause-going
+count_row-requires-clause-going c = rw c.as_mut_slice-in-loop-row.ensures.value c.in_ok-before.ensures.going
 
 pub count_row-requires-clause-counted : goal.count_row-requires-clause-counted
 count_row-requires-clause-counted c = λ k.
@@ -124,17 +108,14 @@ loop-row-preserved c =
     record {
       counted = λ k. ap (λ (p : List CountPlace). total_of (length c.args.picks.now) k p new.counted) places
           ∙ c.in_ok-count_row.ensures.ok k;
-      no_zero = c.in_ok-count_row.ensures.no_zero;
-      spare = c.in_ok-count_row.ensures.spare;
-      places = some_same c.in_ok-before.ensures.places
-          (ap length places ∙ c.count_row.auto.places ∙ ap length c.as_mut_slice-in-loop-row.ensures.value);
+      going = rw places c.in_ok-count_row.ensures.going;
       cells = ap length cells ∙ c.count_row.auto.cells ∙ ap length c.as_mut_slice.ensures.value
           ∙ c.loop-row.invariant.cells;
       cursors = c.count_row.auto.cursors ∙ c.loop-row.invariant.cursors;
     }
 
-pub flush_all-requires-clause-width : goal.flush_all-requires-clause-width
-flush_all-requires-clause-width c = (c.requires.width.1, c.loop-row.invariant.spare)
+pub flush_all-requires-clause-going : goal.flush_all-requires-clause-going
+flush_all-requires-clause-going c = rw c.deref-2.ensures.value c.loop-row.invariant.going
 
 pub flush_all-requires-clause-fits : goal.flush_all-requires-clause-fits
 flush_all-requires-clause-fits c = λ k.
@@ -146,22 +127,21 @@ flush_all-requires-clause-fits c = λ k.
     (ap (λ (p : List CountPlace). total_of (length c.args.picks.now) k p c.loop-row.counted) c.deref-2.ensures.value
     ∙ c.loop-row.invariant.counted k)
 
-pub flush_all-requires-clause-no_zero : goal.flush_all-requires-clause-no_zero
-flush_all-requires-clause-no_zero c = c.loop-row.invariant.no_zero
-
-pub returns-clause-counts : goal.returns-clause-counts
-returns-clause-counts c = λ k.
+pub returns : goal.returns
+returns c =
     let maps = c.args.shelf.now.maps in
     let picks = c.args.picks.now in
     let skip = c.args.skip in
     let value = c.args.shelf.now.region in
     let last = at_end c.loop-row.auto.row-end c.loop-row-test.false
     (c.rows-row-end.ensures.value ∙ ap (λ (r : RegionValue). r.rows) c.region.ensures.value) in
-    c.ordered_entries.ensures.counts k ∙ c.in_ok-flush_all.ensures.ok k ∙ ap (λ (p : List CountPlace). total_of (length picks) k p c.loop-row.counted) c.deref-2.ensures.value ∙ c.loop-row.invariant.counted k
-    ∙ ap (λ r. count_of k (kept_cells skip (all_combinations maps picks r value.cols))) last
-
-pub returns-clause-no_zero : goal.returns-clause-no_zero
-returns-clause-no_zero c = c.ordered_entries.ensures.no_zero
+    record {
+      ascending = c.ordered_entries.ensures.ascending;
+      counts = λ k.
+          c.ordered_entries.ensures.counts k ∙ c.in_ok-flush_all.ensures.counts k ∙ ap (λ (p : List CountPlace). total_of (length picks) k p c.loop-row.counted) c.deref-2.ensures.value ∙ c.loop-row.invariant.counted k
+          ∙ ap (λ r. count_of k (kept_cells skip (all_combinations maps picks r value.cols))) last;
+      no_zero = c.ordered_entries.ensures.no_zero;
+    }
 
 pub ordered_entries-requires-clause-fits : goal.ordered_entries-requires-clause-fits
 ordered_entries-requires-clause-fits c = λ k.
@@ -170,59 +150,32 @@ ordered_entries-requires-clause-fits c = λ k.
     let rows = c.rows-row-end.ensures.value ∙ ap (λ (r : RegionValue). r.rows) c.region.ensures.value in
     fits shelf.maps c.args.picks.now shelf.region.cols c.args.skip k c.loop-row.row shelf.region.rows _
     (at_most c.loop-row.auto.row-end rows) region.rows_most region.cols_most
-    (c.in_ok-flush_all.ensures.ok k ∙ ap (λ (p : List CountPlace). total_of (length c.args.picks.now) k p c.loop-row.counted) c.deref-2.ensures.value
+    (c.in_ok-flush_all.ensures.counts k ∙ ap (λ (p : List CountPlace). total_of (length c.args.picks.now) k p c.loop-row.counted) c.deref-2.ensures.value
     ∙ c.loop-row.invariant.counted k)
 
-pub returns-in_err-cells-clause-counts : goal.returns-in_err-cells-clause-counts
-returns-in_err-cells-clause-counts c = IfOk-from_err c.from_residual.result _ c.from_residual.ensures.0
+pub returns-in_err-cells : goal.returns-in_err-cells
+returns-in_err-cells c = IfOk-from_err c.from_residual.result _ c.from_residual.ensures.0
 
-pub returns-in_err-cells-clause-no_zero : goal.returns-in_err-cells-clause-no_zero
-returns-in_err-cells-clause-no_zero c = IfOk-from_err c.from_residual.result _ c.from_residual.ensures.0
-
-pub returns-in_err-spare-clause-counts : goal.returns-in_err-spare-clause-counts
-returns-in_err-spare-clause-counts c =
+pub returns-in_err-spare : goal.returns-in_err-spare
+returns-in_err-spare c =
     IfOk-from_err c.from_residual-in_err-spare.result _ c.from_residual-in_err-spare.ensures.0
 
-pub returns-in_err-spare-clause-no_zero : goal.returns-in_err-spare-clause-no_zero
-returns-in_err-spare-clause-no_zero c =
-    IfOk-from_err c.from_residual-in_err-spare.result _ c.from_residual-in_err-spare.ensures.0
-
-pub returns-in_err-places-clause-counts : goal.returns-in_err-places-clause-counts
-returns-in_err-places-clause-counts c =
+pub returns-in_err-places : goal.returns-in_err-places
+returns-in_err-places c =
     IfOk-from_err c.from_residual-in_err-places.result _ c.from_residual-in_err-places.ensures.0
 
-pub returns-in_err-places-clause-no_zero : goal.returns-in_err-places-clause-no_zero
-returns-in_err-places-clause-no_zero c =
-    IfOk-from_err c.from_residual-in_err-places.result _ c.from_residual-in_err-places.ensures.0
-
-pub returns-in_err-started-clause-counts : goal.returns-in_err-started-clause-counts
-returns-in_err-started-clause-counts c =
+pub returns-in_err-started : goal.returns-in_err-started
+returns-in_err-started c =
     IfOk-from_err c.from_residual-in_err-started.result _ c.from_residual-in_err-started.ensures.0
 
-pub returns-in_err-started-clause-no_zero : goal.returns-in_err-started-clause-no_zero
-returns-in_err-started-clause-no_zero c =
-    IfOk-from_err c.from_residual-in_err-started.result _ c.from_residual-in_err-started.ensures.0
-
-pub returns-in_err-before-clause-counts : goal.returns-in_err-before-clause-counts
-returns-in_err-before-clause-counts c =
+pub returns-in_err-before : goal.returns-in_err-before
+returns-in_err-before c =
     IfOk-from_err c.from_residual-in_err-before.result _ c.from_residual-in_err-before.ensures.0
 
-pub returns-in_err-before-clause-no_zero : goal.returns-in_err-before-clause-no_zero
-returns-in_err-before-clause-no_zero c =
-    IfOk-from_err c.from_residual-in_err-before.result _ c.from_residual-in_err-before.ensures.0
-
-pub returns-in_err-count_row-clause-counts : goal.returns-in_err-count_row-clause-counts
-returns-in_err-count_row-clause-counts c =
+pub returns-in_err-count_row : goal.returns-in_err-count_row
+returns-in_err-count_row c =
     IfOk-from_err c.from_residual-in_err-count_row.result _ c.from_residual-in_err-count_row.ensures.0
 
-pub returns-in_err-count_row-clause-no_zero : goal.returns-in_err-count_row-clause-no_zero
-returns-in_err-count_row-clause-no_zero c =
-    IfOk-from_err c.from_residual-in_err-count_row.result _ c.from_residual-in_err-count_row.ensures.0
-
-pub returns-in_err-flush_all-clause-counts : goal.returns-in_err-flush_all-clause-counts
-returns-in_err-flush_all-clause-counts c =
-    IfOk-from_err c.from_residual-in_err-flush_all.result _ c.from_residual-in_err-flush_all.ensures.0
-
-pub returns-in_err-flush_all-clause-no_zero : goal.returns-in_err-flush_all-clause-no_zero
-returns-in_err-flush_all-clause-no_zero c =
+pub returns-in_err-flush_all : goal.returns-in_err-flush_all
+returns-in_err-flush_all c =
     IfOk-from_err c.from_residual-in_err-flush_all.result _ c.from_residual-in_err-flush_all.ensures.0

@@ -1,7 +1,7 @@
-use Rattle.std.proofs.Common.{◌≡◌, ◌<◌, length}
+use Rattle.std.proofs.Common.{◌≡◌, length}
 use Rattle.cell_stats_combinations.specs.Combinations.{Combination, all_combinations}
 use Rattle.cell_stats_counts.specs.Counts.{count_of}
-use Rattle.cell_stats_counts.specs.parts.HeldPlaces.{GathersNoZero}
+use Rattle.cell_stats_counts.specs.parts.HeldPlaces.{IsCounting}
 use Rattle.cell_stats_counts.specs.parts.HeldPlaces.{total_of}
 use Rattle.cell_stats_combinations.specs.LeftOut.{kept_cells}
 use Rattle.cell_stats_counts.proofs.counts.count_cells.Given as goal
@@ -9,9 +9,7 @@ use Rattle.cell_stats_counts.proofs.counts.count_cells.Given as goal
 abbrev pub invariant-loop-row : goal.invariant-loop-row
 invariant-loop-row l = record {
   counted : (k : Combination) → total_of (length l.picks) k l.places.items l.counted ≡ count_of k (kept_cells l.fn.skip (all_combinations l.shelf.maps l.picks l.row l.shelf.region.cols));
-  no_zero : GathersNoZero l.counted;
-  spare : length l.spare ≡ length l.picks;
-  places : 0 < length l.places.items;
+  going : IsCounting (length l.picks) l.spare l.places.items l.counted;
   cells : length l.cells.items ≡ length l.picks;
   cursors : length l.cursors ≡ length l.picks;
 }

@@ -45,13 +45,11 @@ loop-cell-preserved-in-Continue-1 c =
     let steps : runs ≡ (x, n) ∷ rest = c.in-Some.ensures.steps in
     let kept_in : is_left_out skip (alone x) ≡ false = sym c.is_left_out.ensures ∙ c.if-not-is_left_out.true in
     let grown : (k : Combination) → total_of 1 k c.add_count.new.places c.add_count.new.counted ≡ total_of 1 k c.loop-cell.places c.loop-cell.counted + cond (is_same k (alone x)) n 0 = λ k.
-    c.in_ok-add_count.ensures.ok k ∙ ap (λ (m : ℕ). total_of 1 k c.loop-cell.places c.loop-cell.counted + cond (is_same k (alone x)) m 0) c.from.ensures in
+    c.in_ok-add_count.ensures.counts k ∙ ap (λ (m : ℕ). total_of 1 k c.loop-cell.places c.loop-cell.counted + cond (is_same k (alone x)) m 0) c.from.ensures in
     record {
       counted = λ k. run-more skip k runs rest x n steps _ _ _ kept_in (grown k) (inv.counted k);
       room = λ k. room-more skip k runs rest x n steps _ _ (2 ^ 64) (grown k) (inv.room k);
-      no_zero = c.in_ok-add_count.ensures.no_zero;
-      spare = c.in_ok-add_count.ensures.spare;
-      places = some_same inv.places c.add_count.auto.places;
+      going = c.in_ok-add_count.ensures.going;
     }
 
 pub loop-cell-preserved : goal.loop-cell-preserved
@@ -67,9 +65,7 @@ loop-cell-preserved c =
     record {
       counted = λ k. run-left skip k runs rest x n steps _ _ out (inv.counted k);
       room = λ k. room-left skip k runs rest x n steps _ (2 ^ 64) (inv.room k);
-      no_zero = inv.no_zero;
-      spare = inv.spare;
-      places = inv.places;
+      going = inv.going;
     }
 
 pub loop-cell-init : goal.loop-cell-init
@@ -79,19 +75,11 @@ loop-cell-init c =
       counted = λ k. ap (λ (l : List RunValue). total_of 1 k c.args.places.now c.args.counted.now + runs-count
           c.args.skip k l) same;
       room = λ k. rw same (c.requires.fits k);
-      no_zero = c.requires.no_zero;
-      spare = c.requires.spare;
-      places = c.requires.places;
+      going = c.requires.going;
     }
 
-pub add_count-requires-clause-width : goal.add_count-requires-clause-width
-add_count-requires-clause-width c = (one_few, c.loop-cell.invariant.spare)
-
-pub add_count-requires-clause-places : goal.add_count-requires-clause-places
-add_count-requires-clause-places c = c.loop-cell.invariant.places
-
-pub add_count-requires-clause-no_zero : goal.add_count-requires-clause-no_zero
-add_count-requires-clause-no_zero c = c.loop-cell.invariant.no_zero
+pub add_count-requires-clause-going : goal.add_count-requires-clause-going
+add_count-requires-clause-going c = c.loop-cell.invariant.going
 
 pub loop-cell-smaller-in-Continue-1 : goal.loop-cell-smaller-in-Continue-1
 loop-cell-smaller-in-Continue-1 c = shorter (c.in-Some.cell, c.in-Some.count) c.next.new.self c.in-Some.ensures.steps
@@ -99,11 +87,8 @@ loop-cell-smaller-in-Continue-1 c = shorter (c.in-Some.cell, c.in-Some.count) c.
 pub returns-in_err-add_count-clause-ok : goal.returns-in_err-add_count-clause-ok
 returns-in_err-add_count-clause-ok c = IfOk-from_err c.from_residual.result _ c.from_residual.ensures.0
 
-pub returns-in_err-add_count-clause-no_zero : goal.returns-in_err-add_count-clause-no_zero
-returns-in_err-add_count-clause-no_zero c = IfOk-from_err c.from_residual.result _ c.from_residual.ensures.0
-
-pub returns-in_err-add_count-clause-spare : goal.returns-in_err-add_count-clause-spare
-returns-in_err-add_count-clause-spare c = IfOk-from_err c.from_residual.result _ c.from_residual.ensures.0
+pub returns-in_err-add_count-clause-going : goal.returns-in_err-add_count-clause-going
+returns-in_err-add_count-clause-going c = IfOk-from_err c.from_residual.result _ c.from_residual.ensures.0
 
 pub loop-cell-smaller : goal.loop-cell-smaller
 loop-cell-smaller c = shorter (c.in-Some.cell, c.in-Some.count) c.next.new.self c.in-Some.ensures.steps
@@ -113,8 +98,5 @@ returns-clause-ok c =
     λ k. all_counted c.args.skip k c.loop-cell.cell-iterator (total_of 1 k c.loop-cell.places c.loop-cell.counted)
     c.in-None.ensures.steps.0 (c.loop-cell.invariant.counted k)
 
-pub returns-clause-no_zero : goal.returns-clause-no_zero
-returns-clause-no_zero c = c.loop-cell.invariant.no_zero
-
-pub returns-clause-spare : goal.returns-clause-spare
-returns-clause-spare c = c.loop-cell.invariant.spare
+pub returns-clause-going : goal.returns-clause-going
+returns-clause-going c = c.loop-cell.invariant.going

@@ -6,11 +6,12 @@ use Rattle.std.specs.List.{range_with_len}
 use Rattle.cell_core_values.specs.Region.{RegionValue}
 use Rattle.cell_stats_combinations.specs.Combinations.{Combination, all_combinations, combination_at}
 use Rattle.cell_stats_counts.specs.Counts.{count_of}
-use Rattle.cell_stats_counts.specs.parts.HeldPlaces.{GathersNoZero}
+use Rattle.cell_stats_counts.specs.parts.HeldPlaces.{IsCounting}
 use Rattle.cell_stats_counts.specs.Cursors.{CursorValue}
 use Rattle.cell_stats_counts.specs.parts.HeldPlaces.{total_of, is_same}
 use Rattle.cell_stats_combinations.specs.LeftOut.{kept_cells, is_left_out}
 use Rattle.cell_stats_counts.specs.declared.counting.CountPlace.{CountPlace}
+use Rattle.cell_stats_counts.proofs.HeldLemmas.{going_of}
 use Rattle.cell_stats_counts.proofs.RunCountLemmas.{single, counted-alone, fits-alone}
 use Rattle.cell_stats_counts.proofs.WalkLemmas.{alike, alive, passed-on, stretch, count-left, count-more, count_small, all_combinations_more}
 use Rattle.cell_stats_counts.proofs.counts.count_row.Goals as goal
@@ -39,9 +40,6 @@ just_one some few = omega arith
 
 from_start : {n m : ℕ} → n ≤ m → 0 + n ≤ m
 from_start within = omega arith
-
-some_same : {n m : ℕ} → 0 < n → m ≡ n → 0 < m
-some_same some same = omega arith
 
 some_left : {n m : ℕ} → n < m → 0 < m - n
 some_left lower = omega arith
@@ -90,9 +88,7 @@ loop-col-init c =
     let here = passed-on maps row 0 0 c.restart_all.new.cursors first.new.cursors picks first.ensures.passed c.restart_all.ensures.cells in
     record {
       counted = λ k. c.requires.counted k ∙ ap (λ (l : List Combination). count_of k (kept_cells c.args.selection.skip l)) (sym (append-nil (all_combinations maps picks row c.args.selection.shelf.now.region.cols)));
-      no_zero = c.requires.no_zero;
-      spare = c.requires.spare;
-      places = c.requires.places;
+      going = c.requires.going;
       to_come = here;
       ready = first.ensures.ready;
       cells = first.ensures.cells;
@@ -146,7 +142,7 @@ loop-col-preserved c =
           let kept_in : is_left_out skip cells ≡ false = sym c.is_left_out.ensures ∙ w.if-not-is_left_out.true in
           ap (λ (p : List CountPlace). total_of (length picks) k p joined.counted) w.places-is ∙ ap (λ (m : Gathered). total_of (length picks) k w.add_count.new.places m) w.counted-is
           ∙ ap (λ n. total_of n k w.add_count.new.places w.add_count.new.counted) (sym width)
-          ∙ w.in_ok-add_count.ensures.ok k
+          ∙ w.in_ok-add_count.ensures.counts k
           ∙ ap (λ n. n + cond (is_same k cells) w.from.result 0) (ap (λ n. total_of n k c.loop-col.places c.loop-col.counted) width ∙ inv.counted k)
           ∙ ap (λ n. count_of k (kept_cells skip (base ++ map f (range_with_len 0 col))) + cond (is_same k cells) n 0) w.from.ensures
           ∙ sym (count-more skip k cells count (base ++ map f (range_with_len 0 col)) kept_in) ∙ ap (λ (l : List Combination). count_of k (kept_cells skip l)) (sym longer)
@@ -156,21 +152,14 @@ loop-col-preserved c =
           ∙ inv.counted k
           ∙ sym (count-left skip k cells count (base ++ map f (range_with_len 0 col)) out) ∙ ap (λ (l : List Combination). count_of k (kept_cells skip l)) (sym longer)
     ] in
-    let no_zero : GathersNoZero joined.counted =
+    let going : IsCounting (length picks) joined.spare joined.places joined.counted =
     elim joined.branch [
-      | then-not-is_left_out+in_ok-add_count w ↦ rw w.counted-is w.in_ok-add_count.ensures.no_zero
-      | else-not-is_left_out w ↦ rw w.counted-is inv.no_zero
-    ] in
-    let spare : length joined.spare ≡ length picks =
-    elim joined.branch [
-      | then-not-is_left_out+in_ok-add_count w ↦ rw w.spare-is (w.in_ok-add_count.ensures.spare ∙ width)
-      | else-not-is_left_out w ↦ rw w.spare-is inv.spare
+      | then-not-is_left_out+in_ok-add_count w ↦ rw (w.counted-is, w.spare-is, w.places-is) (going_of width w.in_ok-add_count.ensures.going)
+      | else-not-is_left_out w ↦ rw (w.counted-is, w.spare-is, w.places-is) inv.going
     ] in
     record {
       counted = counted;
-      no_zero = no_zero;
-      spare = spare;
-      places = some_same inv.places joined.auto.places;
+      going = going;
       to_come = here;
       ready = next.ensures.ready;
       cells = next.ensures.cells;
@@ -204,30 +193,18 @@ runs-runs-requires c =
           (ap (λ (r : RegionValue). r.rows) (sym c.map.ensures.region));
     }
 
-pub count_cells_by_runs-requires-clause-spare : goal.count_cells_by_runs-requires-clause-spare
-count_cells_by_runs-requires-clause-spare c = c.requires.spare ∙ just_one c.in-len1.len_at_least c.in-len1.len_below
-
-pub count_cells_by_runs-requires-clause-places : goal.count_cells_by_runs-requires-clause-places
-count_cells_by_runs-requires-clause-places c = c.requires.places
-
-pub count_cells_by_runs-requires-clause-no_zero : goal.count_cells_by_runs-requires-clause-no_zero
-count_cells_by_runs-requires-clause-no_zero c = c.requires.no_zero
+pub count_cells_by_runs-requires-clause-going : goal.count_cells_by_runs-requires-clause-going
+count_cells_by_runs-requires-clause-going c = going_of (just_one c.in-len1.len_at_least c.in-len1.len_below) c.requires.going
 
 pub returns-in_err-count_cells_by_runs-clause-ok : goal.returns-in_err-count_cells_by_runs-clause-ok
 returns-in_err-count_cells_by_runs-clause-ok c = IfOk-from_err c.from_residual.result _ c.from_residual.ensures.0
 
-pub returns-in_err-count_cells_by_runs-clause-no_zero : goal.returns-in_err-count_cells_by_runs-clause-no_zero
-returns-in_err-count_cells_by_runs-clause-no_zero c = IfOk-from_err c.from_residual.result _ c.from_residual.ensures.0
+pub returns-in_err-count_cells_by_runs-clause-going : goal.returns-in_err-count_cells_by_runs-clause-going
+returns-in_err-count_cells_by_runs-clause-going c = IfOk-from_err c.from_residual.result _ c.from_residual.ensures.0
 
-pub returns-in_err-count_cells_by_runs-clause-spare : goal.returns-in_err-count_cells_by_runs-clause-spare
-returns-in_err-count_cells_by_runs-clause-spare c = IfOk-from_err c.from_residual.result _ c.from_residual.ensures.0
-
-pub returns-in-len1-clause-no_zero : goal.returns-in-len1-clause-no_zero
-returns-in-len1-clause-no_zero c = c.in_ok-count_cells_by_runs.ensures.no_zero
-
-pub returns-in-len1-clause-spare : goal.returns-in-len1-clause-spare
-returns-in-len1-clause-spare c =
-    c.in_ok-count_cells_by_runs.ensures.spare ∙ sym (just_one c.in-len1.len_at_least c.in-len1.len_below)
+pub returns-in-len1-clause-going : goal.returns-in-len1-clause-going
+returns-in-len1-clause-going c =
+    going_of (sym (just_one c.in-len1.len_at_least c.in-len1.len_below)) c.in_ok-count_cells_by_runs.ensures.going
 
 pub restart_all-requires-clause-picked : goal.restart_all-requires-clause-picked
 restart_all-requires-clause-picked c = c.requires.picked
@@ -247,27 +224,16 @@ pass_all-count-requires-clause-ready c = c.restart_all.ensures.ready
 pub pass_all-count-requires-clause-width : goal.pass_all-count-requires-clause-width
 pass_all-count-requires-clause-width c = c.requires.cells ∙ sym (c.restart_all.auto.cursors ∙ c.requires.cursors)
 
-pub add_count-requires-clause-width : goal.add_count-requires-clause-width
-add_count-requires-clause-width c =
-    let width = c.loop-col.auto.cells ∙ c.pass_all-count.auto.cells ∙ c.requires.cells in
-    (at_most width c.requires.width, c.loop-col.invariant.spare ∙ sym width)
-
-pub add_count-requires-clause-places : goal.add_count-requires-clause-places
-add_count-requires-clause-places c = c.loop-col.invariant.places
-
-pub add_count-requires-clause-no_zero : goal.add_count-requires-clause-no_zero
-add_count-requires-clause-no_zero c = c.loop-col.invariant.no_zero
+pub add_count-requires-clause-going : goal.add_count-requires-clause-going
+add_count-requires-clause-going c =
+    going_of (sym (c.loop-col.auto.cells ∙ c.pass_all-count.auto.cells ∙ c.requires.cells)) c.loop-col.invariant.going
 
 pub returns-in_err-add_count-clause-ok : goal.returns-in_err-add_count-clause-ok
 returns-in_err-add_count-clause-ok c =
     IfOk-from_err c.from_residual-in_err-add_count.result _ c.from_residual-in_err-add_count.ensures.0
 
-pub returns-in_err-add_count-clause-no_zero : goal.returns-in_err-add_count-clause-no_zero
-returns-in_err-add_count-clause-no_zero c =
-    IfOk-from_err c.from_residual-in_err-add_count.result _ c.from_residual-in_err-add_count.ensures.0
-
-pub returns-in_err-add_count-clause-spare : goal.returns-in_err-add_count-clause-spare
-returns-in_err-add_count-clause-spare c =
+pub returns-in_err-add_count-clause-going : goal.returns-in_err-add_count-clause-going
+returns-in_err-add_count-clause-going c =
     IfOk-from_err c.from_residual-in_err-add_count.result _ c.from_residual-in_err-add_count.ensures.0
 
 pub overflow_add-col : goal.overflow_add-col
@@ -291,8 +257,5 @@ pass_all-count-requires-in-loop-col-clause-width c =
 pub loop-col-smaller : goal.loop-col-smaller
 loop-col-smaller c = fewer c.loop-col.col (c.loop-col.invariant.some c.loop-col-test.true) c.loop-col.invariant.most
 
-pub returns-clause-no_zero : goal.returns-clause-no_zero
-returns-clause-no_zero c = c.loop-col.invariant.no_zero
-
-pub returns-clause-spare : goal.returns-clause-spare
-returns-clause-spare c = c.loop-col.invariant.spare
+pub returns-clause-going : goal.returns-clause-going
+returns-clause-going c = c.loop-col.invariant.going
