@@ -1,3 +1,4 @@
 -- Fields of a line.
+pub mod OfPicks
 pub mod PairsCode
 pub mod Preceded

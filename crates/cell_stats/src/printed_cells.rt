@@ -1,11 +1,11 @@
 //! The printed form of cells, line by line.
 
-ghost use Rattle.std.specs.Prelude.{◌≡◌, ◌<◌, ◌≤◌, [], All, length, flat_map, replicate, IfOk};
+ghost use Rattle.std.specs.Prelude.{◌≡◌, ◌<◌, length, flat_map, replicate, IfOk};
 ghost use Rattle.cell_core_devices.specs.Blocks.{Appends};
-ghost use Rattle.cell_core_values.specs.Region.{IsRegion};
-ghost use Rattle.cell_stats_combinations.specs.Combinations.{row_combinations};
+ghost use Rattle.cell_stats_combinations.specs.Combinations.{ArePicks, row_combinations};
 ghost use Rattle.cell_stats_combinations.specs.LeftOut.{kept_cells};
 ghost use Rattle.cell_stats.specs.TableText.{cell_line, cell_lines};
+ghost use Rattle.cell_stats.specs.parts.OfPicks.{IsOfPicks};
 
 use crate::format::Format;
 use crate::printing::write_cell_line;
@@ -44,7 +44,7 @@ impl<'a> CellWalk<'a> {
     ///
     /// `Memory`, where memory is refused.
     pub fn new(alloc: Global, shelf: &'a Shelf, picks: &[usize]) -> Result<CellWalk<'a>, Memory>
-        requires { All (λ i. i < length shelf.now.maps) picks.now }
+        requires { ArePicks shelf.now picks.now }
         ensures { IfOk result (λ walk. walk ≡ length picks.now) }
     {
         let cursors = cursors_of(alloc, shelf, picks)?;
@@ -62,9 +62,7 @@ fn write_lines<W: Sink>(
     count: u32,
     format: &Format,
 )
-    requires picked { All (λ i. i < length selection.shelf.now.maps) selection.picks.now }
-    requires some { 0 < length selection.picks.now }
-    requires width { length cells.now ≡ length selection.picks.now }
+    requires { IsOfPicks selection.shelf.now selection.picks.now cells.now }
     ensures { Appends W.taken W.faults out.old block.old
         (flat_map (cell_line format.now selection.entry.shelf.now.maps selection.entry.picks.now)
         (kept_cells selection.entry.skip (replicate count cells.now)))
@@ -88,11 +86,9 @@ fn write_cell_lines<'a, W: Sink>(
     cursors: &mut [Cursor<'a>],
     cells: &mut [Cell],
 )
-    requires picked { All (λ i. i < length selection.shelf.now.maps) selection.picks.now }
-    requires some { 0 < length selection.picks.now }
+    requires picks { IsOfPicks selection.shelf.now selection.picks.now cells.old }
     requires row_in_range { row < selection.shelf.now.region.rows }
     requires cursors { length cursors.old ≡ length selection.picks.now }
-    requires cells { length cells.old ≡ length selection.picks.now }
     ensures { Appends W.taken W.faults out.old block.old
         (flat_map (cell_line format.now selection.entry.shelf.now.maps selection.entry.picks.now)
         (kept_cells selection.entry.skip
@@ -124,7 +120,7 @@ pub fn write_cells<'a, W: Sink>(
     skip: Skip,
     format: &Format,
 )
-    requires picked { All (λ i. i < length shelf.now.maps) picks.now }
+    requires picked { ArePicks shelf.now picks.now }
     requires some { 0 < length picks.now }
     requires width { walk ≡ length picks.now }
     ensures { Appends W.taken W.faults out.old block.old

@@ -1,10 +1,12 @@
 //! The printed form of tables and of cells.
 
-ghost use Rattle.std.specs.Prelude.{◌≡◌, ◌<◌, [], ◌∷◌, ◌++◌, All, length, flat_map, replicate, IfSome};
+ghost use Rattle.std.specs.Prelude.{◌≡◌, ◌<◌, ◌∷◌, length, IfSome};
 ghost use Rattle.std.specs.List.{join_with_byte};
 ghost use Rattle.std.specs.Option.{option_map};
 ghost use Rattle.cell_core_devices.specs.Blocks.{Appends};
+ghost use Rattle.cell_stats_combinations.specs.Combinations.{ArePicks};
 ghost use Rattle.cell_stats.specs.TableText.{cell_line, combination_fields, count_fields, label_of_cell, pair_line, printed_pairs, table_text};
+ghost use Rattle.cell_stats.specs.parts.OfPicks.{IsOfPicks};
 ghost use Rattle.cell_stats.specs.parts.Preceded.{next_text, others_text, pick_text, preceded_texts};
 
 use crate::format::Format;
@@ -85,7 +87,7 @@ fn write_others<W: Sink>(
     cells: &[Cell],
     format: &Format,
 )
-    requires picked { All (λ i. i < length shelf.now.maps) picks.now }
+    requires picked { ArePicks shelf.now picks.now }
     requires width { length cells.now ≡ length picks.now }
     ensures { Appends W.taken W.faults out.old block.old
         (others_text format.now shelf.now.maps picks.now cells.now) out.new block.new }
@@ -104,9 +106,7 @@ fn write_combination<W: Sink>(
     cells: &[Cell],
     format: &Format,
 )
-    requires picked { All (λ i. i < length shelf.now.maps) picks.now }
-    requires some { 0 < length picks.now }
-    requires width { length cells.now ≡ length picks.now }
+    requires { IsOfPicks shelf.now picks.now cells.now }
     ensures { Appends W.taken W.faults out.old block.old
         (join_with_byte format.now.separator
         (combination_fields format.now shelf.now.maps picks.now cells.now))
@@ -142,9 +142,7 @@ fn write_pair<W: Sink>(
     count: u64,
     format: &Format,
 )
-    requires picked { All (λ i. i < length shelf.now.maps) picks.now }
-    requires some { 0 < length picks.now }
-    requires width { length cells.now ≡ length picks.now }
+    requires { IsOfPicks shelf.now picks.now cells.now }
     ensures { Appends W.taken W.faults out.old block.old
         (pair_line format.now shelf.now.maps picks.now (cells.now, count)) out.new block.new }
 {
@@ -162,9 +160,7 @@ pub(crate) fn write_cell_line<W: Sink>(
     cells: &[Cell],
     format: &Format,
 )
-    requires picked { All (λ i. i < length shelf.now.maps) picks.now }
-    requires some { 0 < length picks.now }
-    requires width { length cells.now ≡ length picks.now }
+    requires { IsOfPicks shelf.now picks.now cells.now }
     ensures { Appends W.taken W.faults out.old block.old
         (cell_line format.now shelf.now.maps picks.now cells.now) out.new block.new }
 {
@@ -185,7 +181,7 @@ pub fn write_table<W: Sink>(
     picks: &[usize],
     format: &Format,
 )
-    requires picked { All (λ i. i < length shelf.now.maps) picks.now }
+    requires picked { ArePicks shelf.now picks.now }
     requires some { 0 < length picks.now }
     requires width { table.now.width ≡ length picks.now }
     requires after { IfSome after (λ k. length k.now ≡ length picks.now) }

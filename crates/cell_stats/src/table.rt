@@ -7,6 +7,7 @@ ghost use Rattle.cell_stats_combinations.specs.Combinations.{combination_cmp};
 ghost use Rattle.std.specs.Option.{option_map};
 ghost use Rattle.cell_stats.specs.CategoryTables.{Pairs, TableValue, rest_after};
 ghost use Rattle.cell_stats.specs.TableText.{printed_pairs};
+ghost use Rattle.cell_stats_counts.specs.Listed.{AreAscending};
 
 use cell_stats_combinations::combination::Combo;
 use std::cmp::Ordering;
@@ -37,7 +38,7 @@ impl Model for Table {
 
 // The place of the first entry that is greater, found by halving.
 fn place_after(entries: &[(Combo, u64)], combo: &Combo) -> usize
-    requires { IsStrictlySortedBy combination_cmp (map (λ pair. pair.0) entries.now) }
+    requires { AreAscending entries.now }
     ensures rest { drop result entries.now ≡ rest_after combo.now entries.now }
     ensures within { result ≤ length entries.now }
 {
@@ -56,8 +57,7 @@ fn place_after(entries: &[(Combo, u64)], combo: &Combo) -> usize
 impl Table {
     // The table of these entries.
     pub(crate) fn of(width: usize, entries: Vec<(Combo, u64)>) -> Table
-        requires ascending { IsStrictlySortedBy combination_cmp
-            (map (λ pair. pair.0) entries.items) }
+        requires ascending { AreAscending entries.items }
         requires wide { All (λ pair. length pair.0 ≡ width) entries.items }
         ensures { result ≡ record { width = width; pairs = entries.items } }
     {

@@ -1,7 +1,7 @@
 //! The table of maps.
 
-ghost use Rattle.std.specs.Prelude.{◌≡◌, ◌<◌, ◌≤◌, All, IfOk, length};
-ghost use Rattle.cell_stats_combinations.specs.Combinations.{all_combinations};
+ghost use Rattle.std.specs.Prelude.{◌≡◌, ◌<◌, ◌≤◌, IfOk, length};
+ghost use Rattle.cell_stats_combinations.specs.Combinations.{ArePicks, shelf_combinations};
 ghost use Rattle.cell_stats.specs.CategoryTables.{IsTable, Pairs, table_of};
 
 use crate::table::Table;
@@ -19,19 +19,14 @@ use std::alloc::Global;
 /// `Memory`, where memory is refused.
 pub fn tally(alloc: Global, shelf: &Shelf, picks: &[usize], skip: Skip) -> Result<Table, Memory>
     requires width { (1 ≤ length picks.now) × (length picks.now ≤ 16) }
-    requires picked { All (λ i. i < length shelf.now.maps) picks.now }
+    requires picked { ArePicks shelf.now picks.now }
     ensures width { IfOk result (λ table. table.width ≡ length picks.now) }
-    ensures table { IfOk result (λ table. IsTable skip
-        (all_combinations shelf.now.maps picks.now shelf.now.region.rows shelf.now.region.cols)
-        table.pairs) }
+    ensures table { IfOk result
+        (λ table. IsTable skip (shelf_combinations shelf.now picks.now) table.pairs) }
     ensures only { IfOk result (λ table. (pairs : Pairs)
-        → IsTable skip
-        (all_combinations shelf.now.maps picks.now shelf.now.region.rows shelf.now.region.cols)
-        pairs
-        → pairs ≡ table.pairs) }
-    ensures value { IfOk result (λ table. table.pairs
-        ≡ table_of skip
-        (all_combinations shelf.now.maps picks.now shelf.now.region.rows shelf.now.region.cols)) }
+        → IsTable skip (shelf_combinations shelf.now picks.now) pairs → pairs ≡ table.pairs) }
+    ensures value { IfOk result
+        (λ table. table.pairs ≡ table_of skip (shelf_combinations shelf.now picks.now)) }
 {
     let entries = count_cells(alloc, shelf, picks, skip)?;
     Ok(Table::of(picks.len(), entries))

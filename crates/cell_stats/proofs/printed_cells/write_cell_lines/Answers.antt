@@ -45,7 +45,7 @@ loop-col-init g c =
     let here = passed-on maps row 0 0 c.restart_all.new.cursors first.new.cursors picks first.ensures.passed c.restart_all.ensures.cells in
     record {
       appends = appends_none;
-      width = first.auto.cells ∙ c.requires.cells;
+      width = first.auto.cells ∙ c.requires.picks.width;
       to_come = here;
       ready = first.ensures.ready;
       cells = first.ensures.cells;
@@ -96,7 +96,7 @@ returns g c =
     rw last at inv.appends
 
 pub restart_all-requires-clause-picked : goal.restart_all-requires-clause-picked
-restart_all-requires-clause-picked g c = c.requires.picked
+restart_all-requires-clause-picked g c = c.requires.picks.picked
 
 pub restart_all-requires-clause-row_in_range : goal.restart_all-requires-clause-row_in_range
 restart_all-requires-clause-row_in_range g c = c.requires.row_in_range
@@ -111,16 +111,10 @@ pub pass_all-count-requires-clause-ready : goal.pass_all-count-requires-clause-r
 pass_all-count-requires-clause-ready g c = c.restart_all.ensures.ready
 
 pub pass_all-count-requires-clause-width : goal.pass_all-count-requires-clause-width
-pass_all-count-requires-clause-width g c = c.requires.cells ∙ sym (c.restart_all.auto.cursors ∙ c.requires.cursors)
+pass_all-count-requires-clause-width g c = c.requires.picks.width ∙ sym (c.restart_all.auto.cursors ∙ c.requires.cursors)
 
-pub write_lines-requires-clause-picked : goal.write_lines-requires-clause-picked
-write_lines-requires-clause-picked g c = c.requires.picked
-
-pub write_lines-requires-clause-some : goal.write_lines-requires-clause-some
-write_lines-requires-clause-some g c = c.requires.some
-
-pub write_lines-requires-clause-width : goal.write_lines-requires-clause-width
-write_lines-requires-clause-width g c = c.loop-col.invariant.width
+pub write_lines-requires : goal.write_lines-requires
+write_lines-requires g c = record { picked = c.requires.picks.picked; some = c.requires.picks.some; width = c.loop-col.invariant.width }
 
 pub overflow_add-col : goal.overflow_add-col
 overflow_add-col g c = fit c.loop-col.invariant.most c.cols-cols.ensures.value c.cols-cols.ensures.region.cols_most

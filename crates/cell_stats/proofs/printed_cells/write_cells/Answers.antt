@@ -36,11 +36,8 @@ loop-row-init g c =
       cells = ap length c.as_mut_slice-cells.ensures.value ∙ width;
     }
 
-pub write_cell_lines-requires-clause-picked : goal.write_cell_lines-requires-clause-picked
-write_cell_lines-requires-clause-picked g c = c.requires.picked
-
-pub write_cell_lines-requires-clause-some : goal.write_cell_lines-requires-clause-some
-write_cell_lines-requires-clause-some g c = c.requires.some
+pub write_cell_lines-requires-clause-picks : goal.write_cell_lines-requires-clause-picks
+write_cell_lines-requires-clause-picks g c = record { picked = c.requires.picked; some = c.requires.some; width = c.loop-row.invariant.cells }
 
 pub write_cell_lines-requires-clause-row_in_range : goal.write_cell_lines-requires-clause-row_in_range
 write_cell_lines-requires-clause-row_in_range g c =
@@ -48,9 +45,6 @@ write_cell_lines-requires-clause-row_in_range g c =
 
 pub write_cell_lines-requires-clause-cursors : goal.write_cell_lines-requires-clause-cursors
 write_cell_lines-requires-clause-cursors g c = c.loop-row.invariant.cursors
-
-pub write_cell_lines-requires-clause-cells : goal.write_cell_lines-requires-clause-cells
-write_cell_lines-requires-clause-cells g c = c.loop-row.invariant.cells
 
 pub loop-row-smaller : goal.loop-row-smaller
 loop-row-smaller g c = falls _ _ c.loop-row-test.true

@@ -10,11 +10,15 @@ use Rattle.cell_stats.proofs.printing.write_table.Goals as goal
 pub printed_entries-entries-requires : goal.printed_entries-entries-requires
 printed_entries-entries-requires g c = rw c.requires.width c.requires.after
 
-pub write_pair-requires-clause-width : goal.write_pair-requires-clause-width
-write_pair-requires-clause-width g c =
+pub write_pair-requires : goal.write_pair-requires
+write_pair-requires g c =
     let item = c.loop-combo-item.result in
-    ap length c.cells.ensures ∙ ap (λ (e : Combination × ℕ). length e.0) c.loop-combo-item.is
-    ∙ c.printed_entries-entries.ensures.wide c.loop-combo.combo-index item c.loop-combo-test.true ∙ c.requires.width
+    record {
+      picked = c.requires.picked;
+      some = c.requires.some;
+      width = ap length c.cells.ensures ∙ ap (λ (e : Combination × ℕ). length e.0) c.loop-combo-item.is
+          ∙ c.printed_entries-entries.ensures.wide c.loop-combo.combo-index item c.loop-combo-test.true ∙ c.requires.width;
+    }
 
 pub returns-then-has_failed : goal.returns-then-has_failed
 returns-then-has_failed g c =

@@ -1,0 +1,10 @@
+-- Combinations of maps that are picked.
+use Rattle.std.specs.Prelude.{◌≡◌, ◌<◌, ℕ, List, length}
+use Rattle.cell_core.specs.Shelf.{ShelfValue}
+use Rattle.cell_stats_combinations.specs.Combinations.{ArePicks, Combination}
+
+-- a combination has a cell for each map that is picked, and one is
+pub record IsOfPicks (shelf : ShelfValue) (picks : List ℕ) (cells : Combination) : Type 0 where
+  pub picked : ArePicks shelf picks
+  pub some : 0 < length picks
+  pub width : length cells ≡ length picks
