@@ -3,12 +3,11 @@
 ghost use Rattle.std.specs.Prelude.{◌≡◌, ℕ, ℤ, pos, ◌+◌, ◌*◌, ◌<◌, ◌≤◌, length, List, Some, None, IfOk, slice_index};
 ghost use Rattle.cell_core.specs.Grid.{Grid};
 ghost use Rattle.cell_cats_areas.specs.declared.clump.Joining.{Joining};
-ghost use Rattle.cell_cats_areas.specs.Areas.{IsClumping, cell_at_spot};
+ghost use Rattle.cell_cats_areas.specs.Areas.{IsClumping};
 ghost use Rattle.cell_cats_areas.specs.parts.Labels.{PointDown};
 ghost use Rattle.cell_cats_areas.specs.parts.Meetings.{AreSound};
-ghost use Rattle.cell_cats_areas.specs.parts.AreaNumbers.{AreNumbered, AreWritten, CanNumber, HaveNumbers, IsNumbered, area_number_at, area_number};
+ghost use Rattle.cell_cats_areas.specs.parts.AreaNumbers.{AreNumbered, AreWritten, CanNumber, HaveNumbers, IsNumbered, StandsAt, area_number_at, area_number};
 ghost use Rattle.cell_cats_areas.specs.parts.CellPlaces.{position};
-ghost use Rattle.cell_cats_areas.specs.parts.AreasRead.{AreNear};
 ghost use Rattle.cell_cats_areas.specs.parts.Starts.{starts};
 ghost use Rattle.cell_cats_areas.specs.parts.LabelTables.{AreLabels};
 
@@ -73,16 +72,10 @@ fn number_cell(number: u32) -> Cell
 fn number_of_cell(joining: Joining, cell: Cell, near: &Near, table: &[u32], next: &mut usize) -> u32
     ensures null { cell ≡ None → result ≡ 2147483648 }
     ensures number { (m : Grid) (r c : ℕ) (v : ℤ) (labels : List ℕ) (h : AreLabels joining m labels)
-        → cell ≡ Some v → cell_at_spot m (position r c) ≡ Some v → r < m.region.rows
-        → c < m.region.cols → next.old ≡ starts joining m (r * m.region.cols + c)
-        → IsNumbered joining m labels h table.now
-        → AreNear m (r * m.region.cols + c) (area_number_at joining m labels h) r c near.now
+        → cell ≡ Some v → StandsAt joining m labels h r c cell near.now table.now next.old
         → result ≡ area_number_at joining m labels h (position r c) }
     ensures next { (m : Grid) (r c : ℕ) (labels : List ℕ) (h : AreLabels joining m labels)
-        → cell ≡ cell_at_spot m (position r c) → r < m.region.rows → c < m.region.cols
-        → next.old ≡ starts joining m (r * m.region.cols + c)
-        → IsNumbered joining m labels h table.now
-        → AreNear m (r * m.region.cols + c) (area_number_at joining m labels h) r c near.now
+        → StandsAt joining m labels h r c cell near.now table.now next.old
         → next.new ≡ starts joining m (r * m.region.cols + (c + 1)) }
 {
     if !cell.get().is_some() {
@@ -115,14 +108,11 @@ fn number_row(
     requires row { row < map.now.region.rows }
     requires wide { length cells.old ≡ map.now.region.cols }
     requires long { length line.old ≡ map.now.region.cols + 1 }
-    ensures numbers { (labels : List ℕ) (h : AreLabels joining map.now labels)
+    ensures { (labels : List ℕ) (h : AreLabels joining map.now labels)
         → IsNumbered joining map.now labels h table.now
         → HaveNumbers joining map.now labels h first line.old row 0
-        → HaveNumbers joining map.now labels h result line.new (row + 1) 0 }
-    ensures cells { (labels : List ℕ) (h : AreLabels joining map.now labels)
-        → IsNumbered joining map.now labels h table.now
-        → HaveNumbers joining map.now labels h first line.old row 0
-        → AreWritten joining map.now labels h row map.now.region.cols cells.new }
+        → HaveNumbers joining map.now labels h result line.new (row + 1) 0
+        × AreWritten joining map.now labels h row map.now.region.cols cells.new }
 {
     map.copy_row(row, cells);
     let mut next = first;

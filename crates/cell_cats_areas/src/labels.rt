@@ -1,6 +1,6 @@
 //! Labels of runs, and the table that says which were joined.
 
-ghost use Rattle.std.specs.Prelude.{◌≡◌, ℕ, ◌<◌, ◌≤◌, length, slice_index};
+ghost use Rattle.std.specs.Prelude.{◌≡◌, ℕ, ◌<◌, ◌≤◌, length};
 ghost use Rattle.cell_cats_areas.specs.parts.Labels.{PointDown, TellsOpen, after_join};
 
 /// The open label that a label leads to. The way to it is halved, after its first step.

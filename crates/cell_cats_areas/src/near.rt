@@ -1,14 +1,13 @@
 //! The neighbours of a cell that come before it in row order, and the label that it shares with them.
 
-ghost use Rattle.std.specs.Prelude.{◌≡◌, ◌≢◌, ℕ, ℤ, ◌<◌, ◌≤◌, ◌+◌, ◌*◌, ◌^◌, ◌++◌, ◌∷◌, [], ◌⊎◌, List, length, slice_index_or, Some, None, IsSome, IfSome, IfOk};
+ghost use Rattle.std.specs.Prelude.{◌≡◌, ◌≢◌, ℕ, ◌<◌, ◌≤◌, ◌+◌, ◌*◌, ◌^◌, ◌++◌, ◌∷◌, [], List, length, None, IfSome, IfOk, OnOk};
 ghost use Rattle.cell_core.specs.Grid.{Grid};
 ghost use Rattle.cell_cats_areas.specs.declared.clump.Joining.{Joining};
 ghost use Rattle.cell_cats_areas.specs.declared.clump.Joining.TheVariants.{Edges, EdgesAndCorners};
-ghost use Rattle.cell_cats_areas.specs.Areas.{Position, cell_at_spot};
+ghost use Rattle.cell_cats_areas.specs.Areas.{cell_at_spot};
 ghost use Rattle.cell_cats_areas.specs.parts.Labels.{PointDown};
 ghost use Rattle.cell_cats_areas.specs.parts.CellPlaces.{position};
-ghost use Rattle.cell_cats_areas.specs.parts.AreasRead.{AreInside, AreNear, AreRowsRead, HasRead, Shares, area_label_at, near_at};
-ghost use Rattle.cell_cats_areas.specs.parts.Starts.{IsEarlier, IsAbove, IsLeft};
+ghost use Rattle.cell_cats_areas.specs.parts.AreasRead.{AreInside, AreNear, CanShare, HasEarlier, HasNoneEarlier, HasRead, SharesAt, SharesAtCorners, area_label_at, near_at};
 
 use crate::clump::Joining;
 use crate::labels::join_labels;
@@ -79,21 +78,11 @@ impl Near {
 // The label that a cell shares with a neighbour on an edge, if there is one. If there are two and no other cell has joined
 // them, their labels are joined.
 fn shared_by_edges(table: &mut [u32], cell: Cell, near: &Near) -> Option<u32>
-    requires some { IsSome cell }
-    requires down { PointDown table.old }
-    requires inside { AreInside (length table.old) near.now }
+    requires { CanShare cell table.old near.now }
     ensures down { PointDown table.new }
     ensures kept { result ≡ None → table.new ≡ table.old }
-    ensures shares { IfSome result (λ label. (m : Grid) (r c : ℕ) (v : ℤ) (labels : List ℕ)
-        (open_of : ℕ → ℕ)
-        → cell ≡ Some v → cell_at_spot m (position r c) ≡ Some v
-        → AreNear m (length labels) (area_label_at m labels) r c near.now
-        → AreRowsRead Edges m table.old labels open_of
-        → Shares Edges m table.new labels open_of r c v label) }
-    ensures none { result ≡ None
-        → (m : Grid) (r c : ℕ) (v : ℤ) (count : ℕ) (label_of : Position → ℕ) → cell ≡ Some v
-        → AreNear m count label_of r c near.now → (q : Position) → IsEarlier Edges r c q
-        → cell_at_spot m q ≡ Some v → ⊥ }
+    ensures shares { IfSome result (SharesAt Edges cell near.now table.old table.new) }
+    ensures none { result ≡ None → HasNoneEarlier Edges cell near.now }
 {
     if near.left.cell != cell {
         return if near.above.cell == cell {
@@ -111,21 +100,11 @@ fn shared_by_edges(table: &mut [u32], cell: Cell, near: &Near) -> Option<u32>
 // The label that a cell shares with a neighbour on an edge or at a corner, if there is one. If there are two that no other
 // cell has joined, their labels are joined. The one above touches each of the others.
 fn shared_by_corners(table: &mut [u32], cell: Cell, near: &Near) -> Option<u32>
-    requires some { IsSome cell }
-    requires down { PointDown table.old }
-    requires inside { AreInside (length table.old) near.now }
+    requires { CanShare cell table.old near.now }
     ensures down { PointDown table.new }
     ensures kept { result ≡ None → table.new ≡ table.old }
-    ensures shares { IfSome result (λ label. (m : Grid) (r c : ℕ) (v : ℤ) (labels : List ℕ)
-        (open_of : ℕ → ℕ)
-        → cell ≡ Some v → cell_at_spot m (position r c) ≡ Some v
-        → AreNear m (length labels) (area_label_at m labels) r c near.now
-        → AreRowsRead EdgesAndCorners m table.old labels open_of
-        → Shares EdgesAndCorners m table.new labels open_of r c v label) }
-    ensures none { result ≡ None
-        → (m : Grid) (r c : ℕ) (v : ℤ) (count : ℕ) (label_of : Position → ℕ) → cell ≡ Some v
-        → AreNear m count label_of r c near.now → (q : Position) → IsEarlier EdgesAndCorners r c q
-        → cell_at_spot m q ≡ Some v → ⊥ }
+    ensures shares { IfSome result (SharesAt EdgesAndCorners cell near.now table.old table.new) }
+    ensures none { result ≡ None → HasNoneEarlier EdgesAndCorners cell near.now }
 {
     if near.above.cell == cell {
         return Some(near.above.label);
@@ -141,18 +120,10 @@ fn shared_by_corners(table: &mut [u32], cell: Cell, near: &Near) -> Option<u32>
 
 // The label that a cell shares with a neighbour at a corner, if there is one. If there are two, their labels are joined.
 fn shared_at_corners(table: &mut [u32], cell: Cell, near: &Near) -> Option<u32>
-    requires some { IsSome cell }
-    requires down { PointDown table.old }
-    requires inside { AreInside (length table.old) near.now }
+    requires { CanShare cell table.old near.now }
     ensures down { PointDown table.new }
     ensures kept { result ≡ None → table.new ≡ table.old }
-    ensures shares { IfSome result (λ label. (m : Grid) (r c : ℕ) (v : ℤ) (labels : List ℕ)
-        (open_of : ℕ → ℕ)
-        → cell ≡ Some v → cell_at_spot m (position r c) ≡ Some v
-        → AreNear m (length labels) (area_label_at m labels) r c near.now
-        → ((q : Position) → IsLeft r c q ⊎ IsAbove r c q → cell_at_spot m q ≡ Some v → ⊥)
-        → AreRowsRead EdgesAndCorners m table.old labels open_of
-        → Shares EdgesAndCorners m table.new labels open_of r c v label) }
+    ensures shares { IfSome result (SharesAtCorners cell near.now table.old table.new) }
     ensures none { result ≡ None
         → (near.now.upper_left.cell ≢ cell) × (near.now.upper_right.cell ≢ cell) }
 {
@@ -171,21 +142,11 @@ fn shared_at_corners(table: &mut [u32], cell: Cell, near: &Near) -> Option<u32>
 
 // The label that a cell shares with its neighbours, if it does.
 fn shared_label(table: &mut [u32], joining: Joining, cell: Cell, near: &Near) -> Option<u32>
-    requires some { IsSome cell }
-    requires down { PointDown table.old }
-    requires inside { AreInside (length table.old) near.now }
+    requires { CanShare cell table.old near.now }
     ensures down { PointDown table.new }
     ensures kept { result ≡ None → table.new ≡ table.old }
-    ensures shares { IfSome result (λ label. (m : Grid) (r c : ℕ) (v : ℤ) (labels : List ℕ)
-        (open_of : ℕ → ℕ)
-        → cell ≡ Some v → cell_at_spot m (position r c) ≡ Some v
-        → AreNear m (length labels) (area_label_at m labels) r c near.now
-        → AreRowsRead joining m table.old labels open_of
-        → Shares joining m table.new labels open_of r c v label) }
-    ensures none { result ≡ None
-        → (m : Grid) (r c : ℕ) (v : ℤ) (count : ℕ) (label_of : Position → ℕ) → cell ≡ Some v
-        → AreNear m count label_of r c near.now → (q : Position) → IsEarlier joining r c q
-        → cell_at_spot m q ≡ Some v → ⊥ }
+    ensures shares { IfSome result (SharesAt joining cell near.now table.old table.new) }
+    ensures none { result ≡ None → HasNoneEarlier joining cell near.now }
 {
     match joining {
         Joining::Edges => shared_by_edges(table, cell, near),
@@ -203,8 +164,8 @@ pub(crate) fn label_cell(
     requires down { PointDown table.old.items }
     requires inside { AreInside (length table.old.items) near.now }
     requires short { length table.old.items < 2 ^ 31 }
-    ensures down { IfOk result (λ label. PointDown table.new.items) }
-    ensures long { IfOk result (λ label. length table.new.items ≤ length table.old.items + 1) }
+    ensures down { OnOk result (PointDown table.new.items) }
+    ensures long { OnOk result (length table.new.items ≤ length table.old.items + 1) }
     ensures read { IfOk result (λ label. (m : Grid) (r c : ℕ) (labels : List ℕ)
         → cell ≡ cell_at_spot m (position r c) → c < m.region.cols
         → length labels ≡ r * m.region.cols + c
@@ -225,15 +186,8 @@ pub(crate) fn label_cell(
 
 // The label or number of a neighbour of a cell's category, if there is one. Null is taken for a category.
 pub(crate) fn known_label(joining: Joining, cell: Cell, near: &Near) -> Option<u32>
-    ensures some { IfSome result (λ label. (m : Grid) (r c : ℕ) (v : ℤ) (count : ℕ)
-        (label_of : Position → ℕ)
-        → cell ≡ Some v → AreNear m count label_of r c near.now
-        → (q : Position) × IsEarlier joining r c q × (cell_at_spot m q ≡ Some v)
-        × (label ≡ label_of q)) }
-    ensures none { result ≡ None
-        → (m : Grid) (r c : ℕ) (v : ℤ) (count : ℕ) (label_of : Position → ℕ) → cell ≡ Some v
-        → AreNear m count label_of r c near.now → (q : Position) → IsEarlier joining r c q
-        → cell_at_spot m q ≡ Some v → ⊥ }
+    ensures some { IfSome result (HasEarlier joining cell near.now) }
+    ensures none { result ≡ None → HasNoneEarlier joining cell near.now }
 {
     if near.left.cell == cell {
         return Some(near.left.label);

@@ -1,6 +1,6 @@
 //! The labels of a map.
 
-ghost use Rattle.std.specs.Prelude.{◌≡◌, ◌<◌, ◌≤◌, ◌+◌, ◌*◌, ◌^◌, IfOk, OnOk, length};
+ghost use Rattle.std.specs.Prelude.{◌≡◌, ◌<◌, ◌≤◌, ◌+◌, ◌^◌, IfOk, OnOk, length};
 ghost use Rattle.cell_cats_areas.specs.parts.Labels.{PointDown};
 ghost use Rattle.cell_cats_areas.specs.parts.AreasRead.{HaveCells};
 ghost use Rattle.cell_cats_areas.specs.parts.LabelTables.{AreLabels};

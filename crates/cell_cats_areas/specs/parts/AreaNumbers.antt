@@ -3,9 +3,10 @@ use Rattle.std.specs.Prelude.{ℕ, zero, suc, pos, Bool, ◌+◌, ◌*◌, ◌<�
 use Rattle.cell_core.specs.Grid.{Grid, CellValue}
 use Rattle.cell_cats_areas.specs.declared.clump.Joining.{Joining}
 use Rattle.cell_cats_areas.specs.declared.near.Labelled.{Labelled}
+use Rattle.cell_cats_areas.specs.declared.near.Near.{Near}
 use Rattle.cell_cats_areas.specs.Areas.{Position, cell_at_spot}
 use Rattle.cell_cats_areas.specs.parts.CellPlaces.{position}
-use Rattle.cell_cats_areas.specs.parts.AreasRead.{IsLine, area_label_at}
+use Rattle.cell_cats_areas.specs.parts.AreasRead.{AreNear, IsLine, area_label_at}
 use Rattle.cell_cats_areas.specs.parts.Starts.{start_of_run, starts}
 use Rattle.cell_cats_areas.specs.parts.LabelTables.{AreLabels}
 
@@ -52,6 +53,15 @@ pub record IsNumbered (j : Joining) (m : Grid) (labels : List ℕ) (h : AreLabel
 pub record HaveNumbers (j : Joining) (m : Grid) (labels : List ℕ) (h : AreLabels j m labels) (next : ℕ) (line : List Labelled) (r c : ℕ) : Type 0 where
   pub next_is : next ≡ starts j m (r * m.region.cols + c)
   pub is_line : IsLine m (r * m.region.cols + c) (area_number_at j m labels h) r c line
+
+-- a cell stands at a row and a column of a map, among such neighbours, and the cells before it begin so many areas
+pub record StandsAt (j : Joining) (m : Grid) (labels : List ℕ) (h : AreLabels j m labels) (r c : ℕ) (cell : CellValue) (near : Near) (table : List ℕ) (next : ℕ) : Type 0 where
+  pub cell_is : cell ≡ cell_at_spot m (position r c)
+  pub row : r < m.region.rows
+  pub col : c < m.region.cols
+  pub next_is : next ≡ starts j m (r * m.region.cols + c)
+  pub numbered : IsNumbered j m labels h table
+  pub near_is : AreNear m (r * m.region.cols + c) (area_number_at j m labels h) r c near
 
 -- what is written for the cells of a row before a column
 abbrev pub AreWritten : (j : Joining) (m : Grid) (labels : List ℕ) → AreLabels j m labels → ℕ → ℕ → List CellValue → Type 0

@@ -1,12 +1,14 @@
 -- What is known of the labels once the first cells of a map were read, in row order.
-use Rattle.std.specs.Prelude.{ℕ, ℤ, suc, ◌+◌, ◌*◌, ◌<◌, ◌≤◌, ◌≡◌, List, length, Some, None, true, slice_index, slice_index_or}
-use Rattle.cell_core.specs.Grid.{Grid}
+use Rattle.std.specs.Prelude.{ℕ, ℤ, suc, ◌+◌, ◌*◌, ◌<◌, ◌≤◌, ◌≡◌, ◌⊎◌, List, length, Some, None, IsSome, true, slice_index, slice_index_or}
+use Rattle.cell_core.specs.Grid.{Grid, CellValue}
 use Rattle.cell_cats_areas.specs.declared.clump.Joining.{Joining}
+use Rattle.cell_cats_areas.specs.declared.clump.Joining.TheVariants.{EdgesAndCorners}
 use Rattle.cell_cats_areas.specs.declared.near.Labelled.{Labelled}
 use Rattle.cell_cats_areas.specs.declared.near.Near.{Near}
 use Rattle.cell_cats_areas.specs.Areas.{Position, cell_at_spot, AreAdjacent, AreJoined}
+use Rattle.cell_cats_areas.specs.parts.Labels.{PointDown}
 use Rattle.cell_cats_areas.specs.parts.Meetings.{AreSound}
-use Rattle.cell_cats_areas.specs.parts.CellPlaces.{cell_place, IsInside}
+use Rattle.cell_cats_areas.specs.parts.CellPlaces.{cell_place, position, IsInside}
 use Rattle.cell_cats_areas.specs.parts.Starts.{IsEarlier, IsLeft, IsAbove, IsUpperLeft, IsUpperRight, IsCellAt, begins, starts, start_of_run}
 
 -- the label of a cell, of the labels of the cells in row order
@@ -80,6 +82,12 @@ pub record AreInside (count : ℕ) (near : Near) : Type 0 where
   pub above : (v : ℤ) → near.above.cell ≡ Some v → near.above.label < count
   pub upper_right : (v : ℤ) → near.upper_right.cell ≡ Some v → near.upper_right.label < count
 
+-- what is needed to share a label: a cell that is not null, and a table that has the labels of its neighbours
+pub record CanShare (cell : CellValue) (table : List ℕ) (near : Near) : Type 0 where
+  pub some : IsSome cell
+  pub down : PointDown table
+  pub inside : AreInside (length table) near
+
 -- a cell shares the label of a neighbour of its category, and all such neighbours lead to one open label
 pub record Shares (j : Joining) (m : Grid) (table labels : List ℕ) (before : ℕ → ℕ) (r c : ℕ) (v : ℤ) (label : ℕ) : Type 0 where
   pub after : ℕ → ℕ
@@ -90,3 +98,27 @@ pub record Shares (j : Joining) (m : Grid) (table labels : List ℕ) (before : �
   pub alike : cell_at_spot m from ≡ Some v
   pub same : label ≡ area_label_at m labels from
   pub meet : (q : Position) → IsEarlier j r c q → cell_at_spot m q ≡ Some v → after (area_label_at m labels q) ≡ after label
+
+-- wherever such a cell stands among such neighbours, it shares the label
+abbrev pub SharesAt : Joining → CellValue → Near → List ℕ → List ℕ → ℕ → Type 0
+SharesAt j cell near table new label = (m : Grid) (r c : ℕ) (v : ℤ) (labels : List ℕ) (open_of : ℕ → ℕ)
+    → cell ≡ Some v → cell_at_spot m (position r c) ≡ Some v → AreNear m (length labels) (area_label_at m labels) r c near
+    → AreRowsRead j m table labels open_of → Shares j m new labels open_of r c v label
+
+-- the same where neither the cell on the left nor the one above has its category
+abbrev pub SharesAtCorners : CellValue → Near → List ℕ → List ℕ → ℕ → Type 0
+SharesAtCorners cell near table new label = (m : Grid) (r c : ℕ) (v : ℤ) (labels : List ℕ) (open_of : ℕ → ℕ)
+    → cell ≡ Some v → cell_at_spot m (position r c) ≡ Some v → AreNear m (length labels) (area_label_at m labels) r c near
+    → ((q : Position) → IsLeft r c q ⊎ IsAbove r c q → cell_at_spot m q ≡ Some v → ⊥)
+    → AreRowsRead EdgesAndCorners m table labels open_of → Shares EdgesAndCorners m new labels open_of r c v label
+
+-- a cell that comes before it has its category, and what it is labelled with
+abbrev pub HasEarlier : Joining → CellValue → Near → ℕ → Type 0
+HasEarlier j cell near label = (m : Grid) (r c : ℕ) (v : ℤ) (count : ℕ) (label_of : Position → ℕ)
+    → cell ≡ Some v → AreNear m count label_of r c near
+    → (q : Position) × IsEarlier j r c q × (cell_at_spot m q ≡ Some v) × (label ≡ label_of q)
+
+-- no cell that comes before it has its category
+abbrev pub HasNoneEarlier : Joining → CellValue → Near → Type 0
+HasNoneEarlier j cell near = (m : Grid) (r c : ℕ) (v : ℤ) (count : ℕ) (label_of : Position → ℕ)
+    → cell ≡ Some v → AreNear m count label_of r c near → (q : Position) → IsEarlier j r c q → cell_at_spot m q ≡ Some v → ⊥

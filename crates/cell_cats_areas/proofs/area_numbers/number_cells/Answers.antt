@@ -64,9 +64,9 @@ loop-row-preserved c =
       region = ap (λ b. b.region) next ∙ inv.region;
       pushed = rw grown (length_push rows row ∙ ap (λ n. n + 1) inv.pushed);
       filled = rw grown (All-push (λ (cells : List CellValue). length cells ≡ width) rows row inv.filled wide);
-      numbers = λ labels h n. c.number_row-next.ensures.numbers labels h n (inv.numbers labels h n);
+      numbers = λ labels h n. (c.number_row-next.ensures labels h n (inv.numbers labels h n)).0;
       cells = λ labels h n. rw grown (cells_more (λ (s col : ℕ). cell_number c.args.joining map labels h (position s col)) width r rows row inv.pushed
-          (inv.cells labels h n) (c.number_row-next.ensures.cells labels h n (inv.numbers labels h n)));
+          (inv.cells labels h n) (c.number_row-next.ensures labels h n (inv.numbers labels h n)).1);
     }
 
 pub finish-requires : goal.finish-requires
