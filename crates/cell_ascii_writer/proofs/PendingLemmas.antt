@@ -1,5 +1,5 @@
 -- Text that is appended but for its last bytes.
-use Rattle.std.proofs.Common.{◌≡◌, ◌∙◌, ℕ, List, [], ◌++◌, Option, refl, sym, ap, append_assoc, append-nil, subst, arith, ◌<◌, replicate, get_or}
+use Rattle.std.proofs.Common.{◌≡◌, ◌∙◌, ℕ, List, [], ◌++◌, Option, refl, sym, ap, append_assoc, append-nil, subst, arith, ◌<◌, ◌≤◌, length, replicate, get_or}
 use Rattle.cell_core_devices.specs.Device.{Faults}
 use Rattle.cell_core_devices.specs.Blocks.{BlockValue, Appends}
 use Rattle.cell_core_devices.proofs.BlockLemmas.{appends_none, appends_then}
@@ -7,6 +7,7 @@ use Rattle.std.specs.List.{All}
 use Rattle.std.proofs.lemmas.List.{length-replicate, get_or-replicate}
 use Rattle.cell_ascii_writer.specs.Fields.{IsField, AppendsBut}
 use Rattle.cell_ascii_writer.specs.declared.fields.Field.{Field}
+use Rattle.cell_ascii_writer.specs.parts.KeptFields.{AreKept}
 
 module _ {S : Type 0} {taken : S → Option (List ℕ)} {faults : S → Faults} {old : S} {block : BlockValue} where
   -- nothing is appended yet
@@ -47,3 +48,12 @@ free_fields null n field free = λ k d within some.
     let few : k < n = omega (arith, within, length-replicate n field) in
     let same : get_or (replicate n field) k d ≡ field = get_or-replicate n k field d few in
     absurd (omega (arith, some, ap (λ (f : Field). f.size) same, free))
+
+module _ {null_text : List ℕ} {fields more : List Field} {line : List ℕ} {start : ℕ} (kept : AreKept null_text fields line start) (same : length more ≡ length fields) (known : All (IsField null_text) more) where
+  -- another field was made, and the line was written on
+  pub kept_at : {new : List ℕ} {end : ℕ} → length new ≡ length line → end ≤ 1024 → AreKept null_text more new end
+  kept_at long within = record { null = kept.null; fields_kept = same ∙ kept.fields_kept; known = known; room = long ∙ kept.room; within = within }
+
+  -- another field was made, and the line was pushed
+  pub kept_none : AreKept null_text more line 0
+  kept_none = kept_at refl (omega arith)

@@ -1,15 +1,16 @@
 //! Writing a map as a grid text.
 
-ghost use Rattle.std.specs.Prelude.{◌≡◌, ◌+◌, ◌<◌, ◌≤◌, ◌==◌, [], ◌∷◌, ◌++◌, codes, decimal, drop, flat_map, length, replicate, reverse, take, OnOk, IfOk, IfErr, is_err};
-ghost use Rattle.std.specs.List.{All, prefix_len};
+ghost use Rattle.std.specs.Prelude.{◌≡◌, ◌+◌, ◌<◌, ◌≤◌, ◌==◌, ◌++◌, codes, decimal, drop, flat_map, length, replicate, reverse, take, OnOk, IfOk, IfErr, is_err};
+ghost use Rattle.std.specs.List.{prefix_len};
 ghost use Rattle.cell_core_values.specs.Letters.{byte};
 ghost use Rattle.cell_core_devices.specs.Blocks.{Appends};
 ghost use Rattle.cell_core_devices.specs.Device.{append_known, after_put};
 ghost use Rattle.cell_core.specs.Grid.{row_at};
 ghost use Rattle.cell_core.specs.Runs.{AreRuns, written_out};
 ghost use Rattle.cell_ascii_meaning.specs.Writing.{IsNullText, coordinate_text, fraction_text, grid_text, line_of_key, null_line, region_text, row_text, units_text, without_zeros};
-ghost use Rattle.cell_ascii_writer.specs.Fields.{IsField, AppendsBut, low_bytes};
+ghost use Rattle.cell_ascii_writer.specs.Fields.{AppendsBut, low_bytes};
 ghost use Rattle.cell_ascii_writer.specs.WrittenRuns.{spaced_cells, joined_cells, times};
+ghost use Rattle.cell_ascii_writer.specs.parts.KeptFields.{AreKept};
 
 use crate::fields::{FIELDS, Field, field_at, free_field, new_field, put_field};
 use cell_core::block::OutputBlock;
@@ -261,16 +262,11 @@ fn write_new_run<W: Sink>(
     run: (Cell, u32),
     null_text: &[u8],
 ) -> usize
-    requires null { length null_text.now ≤ 64 }
-    requires kept { length fields.old ≡ 1024 }
-    requires known { All (IsField null_text.now) fields.old }
-    requires room { length line.old ≡ 1024 }
-    requires within { start ≤ 1024 }
+    requires { AreKept null_text.now fields.old line.old start }
     ensures text { AppendsBut W.taken W.faults out.old block.old
         (take start line.old ++ spaced_cells null_text.now (replicate run.1 run.0))
         (take result line.new) out.new block.new }
-    ensures within { result ≤ 1024 }
-    ensures known { All (IsField null_text.now) fields.new }
+    ensures kept { AreKept null_text.now fields.new line.new result }
 {
     let Some(field) = new_field(run.0, null_text, fields) else {
         push_line(out, block, line, start);
@@ -291,16 +287,11 @@ fn write_run<W: Sink>(
     run: (Cell, u32),
     null_text: &[u8],
 ) -> usize
-    requires null { length null_text.now ≤ 64 }
-    requires kept { length fields.old ≡ 1024 }
-    requires known { All (IsField null_text.now) fields.old }
-    requires room { length line.old ≡ 1024 }
-    requires within { start ≤ 1024 }
+    requires { AreKept null_text.now fields.old line.old start }
     ensures text { AppendsBut W.taken W.faults out.old block.old
         (take start line.old ++ spaced_cells null_text.now (replicate run.1 run.0))
         (take result line.new) out.new block.new }
-    ensures within { result ≤ 1024 }
-    ensures known { All (IsField null_text.now) fields.new }
+    ensures kept { AreKept null_text.now fields.new line.new result }
 {
     let field = field_at(run.0, null_text, fields);
     if field.size > 0 && field.cell == run.0 {
@@ -319,15 +310,11 @@ fn write_runs<W: Sink>(
     runs: Runs<'_>,
     null_text: &[u8],
 )
-    requires null { length null_text.now ≤ 64 }
-    requires kept { length fields.old ≡ 1024 }
-    requires known { All (IsField null_text.now) fields.old }
-    requires room { length line.old ≡ 1024 }
-    requires within { start ≤ 1024 }
+    requires { AreKept null_text.now fields.old line.old start }
     ensures text { Appends W.taken W.faults out.old block.old
         (take start line.old ++ spaced_cells null_text.now (written_out runs.entry))
         out.new block.new }
-    ensures known { All (IsField null_text.now) fields.new }
+    ensures kept { AreKept null_text.now fields.new line.new 0 }
 {
     let mut end = start;
     for (cell, count) in runs {
@@ -345,14 +332,11 @@ fn write_row_cells<W: Sink>(
     runs: Runs<'_>,
     null_text: &[u8],
 )
-    requires null { length null_text.now ≤ 64 }
     requires runs { AreRuns runs }
-    requires kept { length fields.old ≡ 1024 }
-    requires known { All (IsField null_text.now) fields.old }
-    requires room { length line.old ≡ 1024 }
+    requires kept { AreKept null_text.now fields.old line.old 0 }
     ensures text { Appends W.taken W.faults out.old block.old
         (joined_cells null_text.now (written_out runs.entry)) out.new block.new }
-    ensures known { All (IsField null_text.now) fields.new }
+    ensures kept { AreKept null_text.now fields.new line.new 0 }
 {
     let mut others = runs;
     let Some(first) = others.next() else {
@@ -374,14 +358,11 @@ fn write_grid_row<W: Sink>(
     row: u32,
     null_text: &[u8],
 )
-    requires null { length null_text.now ≤ 64 }
     requires row { row < map.now.region.rows }
-    requires kept { length fields.old ≡ 1024 }
-    requires known { All (IsField null_text.now) fields.old }
-    requires room { length line.old ≡ 1024 }
+    requires kept { AreKept null_text.now fields.old line.old 0 }
     ensures text { Appends W.taken W.faults out.old block.old
         (row_text null_text.now (row_at map.now row)) out.new block.new }
-    ensures known { All (IsField null_text.now) fields.new }
+    ensures kept { AreKept null_text.now fields.new line.new 0 }
 {
     write_row_cells(out, block, fields, line, map.runs(row), null_text);
     block.push(out, b"\n");

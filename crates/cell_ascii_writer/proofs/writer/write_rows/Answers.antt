@@ -31,9 +31,7 @@ loop-row-preserved g c =
     let within : row < length rows = below _ _ _ _ c.loop-row-test.true height c.region.ensures.filled.count in
     record {
       text = rw (flat_map-take (row_text c.args.null_text.now) rows row [] (row_at c.args.map.now row) within refl) (appends_then c.loop-row.invariant.text c.write_grid_row.ensures.text);
-      kept = c.write_grid_row.auto.fields ∙ c.loop-row.invariant.kept;
-      known = c.write_grid_row.ensures.known;
-      room = c.write_grid_row.auto.line ∙ c.loop-row.invariant.room;
+      kept = c.write_grid_row.ensures.kept;
     }
 
 pub returns : goal.returns
@@ -49,7 +47,11 @@ returns g c =
 pub loop-row-init : goal.loop-row-init
 loop-row-init g c = record {
   text = appends_none;
-  kept = search rules;
-  known = free_fields c.args.null_text.now 1024 c.free_field-fields.result c.free_field-fields.ensures;
-  room = search rules;
+  kept = record {
+    null = c.requires;
+    fields_kept = search rules;
+    known = free_fields c.args.null_text.now 1024 c.free_field-fields.result c.free_field-fields.ensures;
+    room = search rules;
+    within = omega arith;
+  };
 }

@@ -9,10 +9,7 @@ pub loop-cell-init : goal.loop-cell-init
 loop-cell-init g c = record {
   text = rw append-nil (pending_none (take c.args.start c.args.line.now));
   whole = c.into_iter-cell-iterator.ensures.into_iter_gives;
-  room = c.requires.room;
-  within = c.requires.within;
-  kept = c.requires.kept;
-  known = c.requires.known;
+  kept = c.requires;
 }
 
 pub loop-cell-preserved : goal.loop-cell-preserved
@@ -28,10 +25,7 @@ loop-cell-preserved g c =
           (pending_then (pending_more more c.loop-cell.invariant.text) c.write_run-end.ensures.text);
       whole = append_assoc done (run ∷ []) rest
           ∙ ap (λ (l : List RunValue). done ++ l) (sym c.in-Some.ensures.steps) ∙ c.loop-cell.invariant.whole;
-      room = c.write_run-end.auto.line ∙ c.loop-cell.invariant.room;
-      within = c.write_run-end.ensures.within;
-      kept = c.write_run-end.auto.fields ∙ c.loop-cell.invariant.kept;
-      known = c.write_run-end.ensures.known;
+      kept = c.write_run-end.ensures.kept;
     }
 
 pub returns-clause-text : goal.returns-clause-text

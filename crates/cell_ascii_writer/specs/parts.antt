@@ -1,0 +1,2 @@
+-- What is kept while rows are written.
+pub mod KeptFields
