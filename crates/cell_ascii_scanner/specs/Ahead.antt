@@ -23,3 +23,7 @@ bytes_to_come a = option_map (before_coming a.held) a.rest
 -- a source whose bytes are known to be at their end
 abbrev pub IsAtEnd : Bool → Option Coming → Type 0
 IsAtEnd fails known = IfSome known (λ c. (c.bytes ≡ []) × (c.fails ≡ fails))
+
+-- what one says of the bytes that were to come is what the other says of those that are
+abbrev pub Agrees : {A : Type 0} → (Coming → A) → Ahead → (Coming → A) → Ahead → Type 0
+Agrees before old after new = option_map before (bytes_to_come old) ≡ option_map after (bytes_to_come new)

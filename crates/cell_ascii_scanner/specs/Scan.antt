@@ -1,9 +1,11 @@
 -- What a scanner is at, and what its calls answer.
-use Rattle.std.specs.Prelude.{ℕ, ◌+◌, Bool, true, false, List, Result, Ok, Err}
+use Rattle.std.specs.Prelude.{ℕ, ◌≡◌, ◌+◌, Bool, true, false, List, Result, Ok, Err, IfErr}
+use Rattle.cell_core_devices.specs.Asking.{hears}
 use Rattle.cell_core_devices.specs.Device.{Coming}
 use Rattle.cell_ascii_scanner.specs.Ahead.{Ahead}
 use Rattle.cell_ascii_meaning.specs.GridTokens.{Start, Begins, Ends, Stops, word_from}
 use Rattle.cell_ascii_meaning.specs.Header.{Gap, Word, Feed, Last, Fault}
+use Rattle.cell_ascii_meaning.specs.Kinds.{IsOfText, tells_read}
 use Rattle.cell_ascii_meaning.specs.declared.grid_fault.GridFault.{GridFault}
 use Rattle.cell_ascii_scanner.specs.declared.scanner.Next.{Next}
 use Rattle.cell_ascii_scanner.specs.declared.scanner.Next.TheVariants.{Word as NextWord, End as NextEnd}
@@ -47,3 +49,11 @@ abbrev pub part_seen : Result Bool GridFault → ℕ → List ℕ → Coming →
 part_seen (Ok true) line word c = word_from line word c
 part_seen (Ok false) line word c = Ok (word, c)
 part_seen (Err f) line word c = Err f
+
+-- an answer is a fault of the text or of its source only
+abbrev pub FailsInText : {A : Type 0} → Result A GridFault → Type 0
+FailsInText answer = IfErr answer (λ f. IsOfText f.kind)
+
+-- what an answer tells of the source is what was heard of it
+abbrev pub Hears : {A : Type 0} → Result A GridFault → Ahead → Ahead → Type 0
+Hears answer old new = new.heard ≡ hears (tells_read answer) old.heard

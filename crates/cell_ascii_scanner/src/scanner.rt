@@ -1,12 +1,11 @@
 //! Words of a text, with their lines.
 
 ghost use Rattle.std.specs.Prelude.{true, false, ◌≡◌, ◌+◌, ◌-◌, ◌^◌, ◌<◌, ◌≤◌, [], length, drop, Ok, Some, IfOk, IfErr, OnErr, IfSome, IfNone, slice_get};
-ghost use Rattle.std.specs.Option.{option_map};
-ghost use Rattle.cell_core_devices.specs.Asking.{hears, heard_first};
-ghost use Rattle.cell_ascii_meaning.specs.Kinds.{IsOfText, tells_read};
-ghost use Rattle.cell_ascii_scanner.specs.Ahead.{bytes_to_come, IsAtEnd};
+ghost use Rattle.cell_core_devices.specs.Asking.{heard_first};
+ghost use Rattle.cell_ascii_scanner.specs.Ahead.{bytes_to_come, IsAtEnd, Agrees};
 ghost use Rattle.cell_ascii_meaning.specs.GridTokens.{grid_fault, is_space, grid_start, word_from};
 ghost use Rattle.cell_ascii_meaning.specs.Header.{gap_of};
+ghost use Rattle.cell_ascii_scanner.specs.Scan.{Hears, FailsInText};
 
 use crate::input::Input;
 use cell_ascii_meaning::grid_fault::{GridFault, GridKind};
@@ -82,7 +81,7 @@ impl<R: Source> Scanner<R> {
         ensures end { IfOk result (λ o. IfNone o (IsAtEnd false (bytes_to_come self.old.ahead))) }
         ensures failed { OnErr result (IsAtEnd true (bytes_to_come self.old.ahead)) }
         ensures fault { IfErr result (λ f. f ≡ grid_fault GridKind.Read self.old.line) }
-        ensures heard { self.new.ahead.heard ≡ hears (tells_read result) self.old.ahead.heard }
+        ensures heard { Hears result self.old.ahead self.new.ahead }
     {
         match self.input.peek() {
             Ok(next) => Ok(next),
@@ -97,12 +96,10 @@ impl<R: Source> Scanner<R> {
     fn step(&mut self) -> Result<ScanStep, GridFault>
         requires room { self.old.line + 1048576 < 2 ^ 64 + self.old.run }
         requires run { self.old.run ≤ 1048576 }
-        ensures starts { option_map (grid_start self.old.line self.old.run)
-            (bytes_to_come self.old.ahead)
-            ≡ option_map (start_step result self.new.line self.new.run)
-            (bytes_to_come self.new.ahead) }
-        ensures gap { option_map (gap_of self.old.line self.old.run) (bytes_to_come self.old.ahead)
-            ≡ option_map (gap_step result self.new.line self.new.run) (bytes_to_come self.new.ahead) }
+        ensures starts { Agrees (grid_start self.old.line self.old.run) self.old.ahead
+            (start_step result self.new.line self.new.run) self.new.ahead }
+        ensures gap { Agrees (gap_of self.old.line self.old.run) self.old.ahead
+            (gap_step result self.new.line self.new.run) self.new.ahead }
         ensures line { self.new.line ≡ line_step result self.old.line }
         ensures lines { self.new.line + self.old.run ≤ self.old.line + self.new.run }
         ensures run { self.new.run ≤ 1048576 }
@@ -111,8 +108,8 @@ impl<R: Source> Scanner<R> {
         ensures blank { result ≡ Ok ScanStep.Blank → self.new.run ≡ self.old.run + 1 }
         ensures feed { result ≡ Ok ScanStep.Feed → self.new.run ≡ self.old.run + 1 }
         ensures end { result ≡ Ok ScanStep.End → IsAtEnd false (bytes_to_come self.new.ahead) }
-        ensures kind { IfErr result (λ f. IsOfText f.kind) }
-        ensures heard { self.new.ahead.heard ≡ hears (tells_read result) self.old.ahead.heard }
+        ensures kind { FailsInText result }
+        ensures heard { Hears result self.old.ahead self.new.ahead }
     {
         let Some(b) = self.peek()? else {
             return Ok(ScanStep::End);
@@ -139,16 +136,15 @@ impl<R: Source> Scanner<R> {
     pub fn skip_spaces(&mut self) -> Result<Next, GridFault>
         requires room { self.old.line + 1048576 < 2 ^ 64 }
         requires run { self.old.run ≤ 1048576 }
-        ensures starts { option_map (grid_start self.old.line self.old.run)
-            (bytes_to_come self.old.ahead)
-            ≡ option_map (start_seen result self.new.line) (bytes_to_come self.new.ahead) }
+        ensures starts { Agrees (grid_start self.old.line self.old.run) self.old.ahead
+            (start_seen result self.new.line) self.new.ahead }
         ensures lines { self.new.line ≤ self.old.line + 1048576 }
         ensures run { self.new.run ≤ 1048576 }
         ensures further { self.old.run ≤ self.new.run }
         ensures word { self.new.word ≡ self.old.word }
         ensures end { result ≡ Ok Next.End → IsAtEnd false (bytes_to_come self.new.ahead) }
-        ensures kind { IfErr result (λ f. IsOfText f.kind) }
-        ensures heard { self.new.ahead.heard ≡ hears (tells_read result) self.old.ahead.heard }
+        ensures kind { FailsInText result }
+        ensures heard { Hears result self.old.ahead self.new.ahead }
     {
         'spaces: loop {
             match self.step() {
@@ -165,14 +161,14 @@ impl<R: Source> Scanner<R> {
     pub fn skip_blanks(&mut self) -> Result<InLine, GridFault>
         requires room { self.old.line + 1048576 < 2 ^ 64 }
         requires run { self.old.run ≤ 1048576 }
-        ensures gap { option_map (gap_of self.old.line self.old.run) (bytes_to_come self.old.ahead)
-            ≡ option_map (gap_seen result self.new.run) (bytes_to_come self.new.ahead) }
+        ensures gap { Agrees (gap_of self.old.line self.old.run) self.old.ahead
+            (gap_seen result self.new.run) self.new.ahead }
         ensures line { self.new.line ≡ line_count_seen result self.old.line }
         ensures run { self.new.run ≤ 1048576 }
         ensures word { self.new.word ≡ self.old.word }
         ensures end { result ≡ Ok InLine.End → IsAtEnd false (bytes_to_come self.new.ahead) }
-        ensures kind { IfErr result (λ f. IsOfText f.kind) }
-        ensures heard { self.new.ahead.heard ≡ hears (tells_read result) self.old.ahead.heard }
+        ensures kind { FailsInText result }
+        ensures heard { Hears result self.old.ahead self.new.ahead }
     {
         'blanks: loop {
             match self.step() {
@@ -188,16 +184,14 @@ impl<R: Source> Scanner<R> {
     // Takes one byte of a word, where one comes.
     fn grow(&mut self) -> Result<bool, GridFault>
         requires { length self.old.word ≤ 64 }
-        ensures word { option_map (word_from self.old.line self.old.word)
-            (bytes_to_come self.old.ahead)
-            ≡ option_map (part_seen result self.new.line self.new.word)
-            (bytes_to_come self.new.ahead) }
+        ensures word { Agrees (word_from self.old.line self.old.word) self.old.ahead
+            (part_seen result self.new.line self.new.word) self.new.ahead }
         ensures line { self.new.line ≡ self.old.line }
         ensures run { self.new.run ≡ self.old.run }
         ensures short { length self.new.word ≤ 64 }
         ensures further { result ≡ Ok true → length self.new.word ≡ length self.old.word + 1 }
-        ensures kind { IfErr result (λ f. IsOfText f.kind) }
-        ensures heard { self.new.ahead.heard ≡ hears (tells_read result) self.old.ahead.heard }
+        ensures kind { FailsInText result }
+        ensures heard { Hears result self.old.ahead self.new.ahead }
     {
         let Some(b) = self.peek()? else {
             return Ok(false);
@@ -219,12 +213,12 @@ impl<R: Source> Scanner<R> {
 
     /// Reads the word that comes. No space comes first.
     pub fn read_word(&mut self) -> Result<(), GridFault>
-        ensures word { option_map (word_from self.old.line []) (bytes_to_come self.old.ahead)
-            ≡ option_map (word_seen result self.new.word) (bytes_to_come self.new.ahead) }
+        ensures word { Agrees (word_from self.old.line []) self.old.ahead
+            (word_seen result self.new.word) self.new.ahead }
         ensures line { self.new.line ≡ self.old.line }
         ensures run { self.new.run ≡ 0 }
-        ensures kind { IfErr result (λ f. IsOfText f.kind) }
-        ensures heard { self.new.ahead.heard ≡ hears (tells_read result) self.old.ahead.heard }
+        ensures kind { FailsInText result }
+        ensures heard { Hears result self.old.ahead self.new.ahead }
     {
         self.len = 0;
         self.run = 0;
