@@ -1,14 +1,12 @@
 //! The header of a grid text, line by line.
 
-ghost use Rattle.std.specs.Prelude.{◌≡◌, ◌+◌, ◌^◌, ◌<◌, ◌≤◌, ◌*◌, false, drop, length, Ok, OnOk, IfOk, IfErr};
+ghost use Rattle.std.specs.Prelude.{◌≡◌, ◌+◌, ◌^◌, ◌<◌, ◌≤◌, false, drop, length, Ok, OnOk, IfOk};
 ghost use Rattle.std.specs.List.{position_or_len};
-ghost use Rattle.std.specs.Option.{option_map};
-ghost use Rattle.cell_core_devices.specs.Asking.{hears};
-ghost use Rattle.cell_ascii_meaning.specs.Kinds.{IsOfText, tells_read};
-ghost use Rattle.cell_ascii_scanner.specs.Ahead.{bytes_to_come, IsAtEnd};
+ghost use Rattle.cell_ascii_scanner.specs.Ahead.{bytes_to_come, IsAtEnd, Agrees};
 ghost use Rattle.cell_ascii_meaning.specs.GridTokens.{grid_start};
 ghost use Rattle.cell_ascii_meaning.specs.Header.{gap_of, value_from, line_end, key_line, is_colon, header_from};
 ghost use Rattle.cell_ascii_header.specs.Opening.{value_seen, ending_seen, key_line_seen, line_read, header_line_seen, header_seen};
+ghost use Rattle.cell_ascii_scanner.specs.Scan.{Hears, FailsInText};
 
 use crate::keys::HeaderKeys;
 use crate::{key_names, number};
@@ -48,15 +46,14 @@ fn read_value<R: Source>(scanner: &mut Scanner<R>, start: usize) -> Result<usize
     requires room { scanner.old.line + 1048576 < 2 ^ 64 }
     requires run { scanner.old.run ≡ 0 }
     requires heard { scanner.old.ahead.heard.failed ≡ false }
-    ensures value { option_map (value_from scanner.old.line (drop start scanner.old.word))
-        (bytes_to_come scanner.old.ahead)
-        ≡ option_map (value_seen result scanner.new.word) (bytes_to_come scanner.new.ahead) }
+    ensures value { Agrees (value_from scanner.old.line (drop start scanner.old.word))
+        scanner.old.ahead (value_seen result scanner.new.word) scanner.new.ahead }
     ensures line { OnOk result (scanner.new.line ≡ scanner.old.line) }
     ensures run { OnOk result (scanner.new.run ≡ 0) }
     ensures within { IfOk result (λ at. at ≤ length scanner.new.word) }
     ensures lines { scanner.new.line ≤ scanner.old.line + 1 }
-    ensures kind { IfErr result (λ f. IsOfText f.kind) }
-    ensures heard { scanner.new.ahead.heard ≡ hears (tells_read result) scanner.old.ahead.heard }
+    ensures kind { FailsInText result }
+    ensures heard { Hears result scanner.old.ahead scanner.new.ahead }
 {
     if start < scanner.word().len() {
         return Ok(start);
@@ -76,17 +73,16 @@ fn read_value<R: Source>(scanner: &mut Scanner<R>, start: usize) -> Result<usize
 fn end_line<R: Source>(scanner: &mut Scanner<R>) -> Result<Ending, GridFault>
     requires room { scanner.old.line + 1048576 < 2 ^ 64 }
     requires run { scanner.old.run ≡ 0 }
-    ensures ending { option_map (λ c. line_end scanner.old.line (gap_of scanner.old.line 0 c))
-        (bytes_to_come scanner.old.ahead)
-        ≡ option_map (ending_seen result scanner.new.run) (bytes_to_come scanner.new.ahead) }
+    ensures ending { Agrees (λ c. line_end scanner.old.line (gap_of scanner.old.line 0 c))
+        scanner.old.ahead (ending_seen result scanner.new.run) scanner.new.ahead }
     ensures feed { result ≡ Ok Ending.Feed → scanner.new.line ≡ scanner.old.line + 1 }
     ensures text { result ≡ Ok Ending.Text → scanner.new.line ≡ scanner.old.line }
     ensures word { scanner.new.word ≡ scanner.old.word }
     ensures run { scanner.new.run ≤ 1048576 }
     ensures end { result ≡ Ok Ending.Text → IsAtEnd false (bytes_to_come scanner.new.ahead) }
     ensures lines { scanner.new.line ≤ scanner.old.line + 1 }
-    ensures kind { IfErr result (λ f. IsOfText f.kind) }
-    ensures heard { scanner.new.ahead.heard ≡ hears (tells_read result) scanner.old.ahead.heard }
+    ensures kind { FailsInText result }
+    ensures heard { Hears result scanner.old.ahead scanner.new.ahead }
 {
     let line = scanner.line();
     match scanner.skip_blanks()? {
@@ -107,17 +103,15 @@ fn read_key<R: Source>(
     requires colon { colon ≡ position_or_len is_colon scanner.old.word }
     requires within { colon < length scanner.old.word }
     requires heard { scanner.old.ahead.heard.failed ≡ false }
-    ensures key { option_map (key_line scanner.old.line keys.old scanner.old.word)
-        (bytes_to_come scanner.old.ahead)
-        ≡ option_map (key_line_seen result keys.new scanner.new.run)
-        (bytes_to_come scanner.new.ahead) }
+    ensures key { Agrees (key_line scanner.old.line keys.old scanner.old.word) scanner.old.ahead
+        (key_line_seen result keys.new scanner.new.run) scanner.new.ahead }
     ensures feed { result ≡ Ok Ending.Feed → scanner.new.line ≡ scanner.old.line + 1 }
     ensures text { result ≡ Ok Ending.Text → scanner.new.line ≡ scanner.old.line }
     ensures run { OnOk result (scanner.new.run ≤ 1048576) }
     ensures end { result ≡ Ok Ending.Text → IsAtEnd false (bytes_to_come scanner.new.ahead) }
     ensures lines { OnOk result (scanner.new.line ≤ scanner.old.line + 1) }
-    ensures kind { IfErr result (λ f. IsOfText f.kind) }
-    ensures heard { scanner.new.ahead.heard ≡ hears (tells_read result) scanner.old.ahead.heard }
+    ensures kind { FailsInText result }
+    ensures heard { Hears result scanner.old.ahead scanner.new.ahead }
 {
     let line = scanner.line();
     let key = key_names::header_key_of(&scanner.word()[..colon]);
@@ -136,16 +130,13 @@ fn read_line<R: Source>(
 ) -> Result<HeaderLine, GridFault>
     requires room { scanner.old.line + 2097154 < 2 ^ 64 }
     requires run { scanner.old.run ≤ 1048576 }
-    ensures line { option_map
-        (λ c. line_read keys.old (grid_start scanner.old.line scanner.old.run c))
-        (bytes_to_come scanner.old.ahead)
-        ≡ option_map
-        (header_line_seen result keys.new scanner.new.word scanner.new.line scanner.new.run)
-        (bytes_to_come scanner.new.ahead) }
+    ensures line { Agrees (λ c. line_read keys.old (grid_start scanner.old.line scanner.old.run c))
+        scanner.old.ahead (header_line_seen result keys.new scanner.new.word scanner.new.line
+        scanner.new.run) scanner.new.ahead }
     ensures run { OnOk result (scanner.new.run ≤ 1048576) }
     ensures lines { OnOk result (scanner.new.line ≤ scanner.old.line + 1048577) }
-    ensures kind { IfErr result (λ f. IsOfText f.kind) }
-    ensures heard { scanner.new.ahead.heard ≡ hears (tells_read result) scanner.old.ahead.heard }
+    ensures kind { FailsInText result }
+    ensures heard { Hears result scanner.old.ahead scanner.new.ahead }
 {
     match scanner.skip_spaces() {
         Ok(Next::Word) => {}
@@ -174,13 +165,12 @@ pub fn read_header<R: Source>(
 ) -> Result<bool, GridFault>
     requires room { scanner.old.line ≤ 1048576 }
     requires run { scanner.old.run ≤ 1048576 }
-    ensures header { option_map (header_from 10 keys.old scanner.old.line scanner.old.run)
-        (bytes_to_come scanner.old.ahead)
-        ≡ option_map (header_seen result keys.new scanner.new.word scanner.new.line)
-        (bytes_to_come scanner.new.ahead) }
+    ensures header { Agrees (header_from 10 keys.old scanner.old.line scanner.old.run)
+        scanner.old.ahead (header_seen result keys.new scanner.new.word scanner.new.line)
+        scanner.new.ahead }
     ensures lines { OnOk result (scanner.new.line ≤ scanner.old.line + 10485770) }
-    ensures kind { IfErr result (λ f. IsOfText f.kind) }
-    ensures heard { scanner.new.ahead.heard ≡ hears (tells_read result) scanner.old.ahead.heard }
+    ensures kind { FailsInText result }
+    ensures heard { Hears result scanner.old.ahead scanner.new.ahead }
 {
     for _ in 0..LINES {
         match read_line(scanner, keys) {
