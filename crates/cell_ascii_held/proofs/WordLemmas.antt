@@ -4,7 +4,7 @@ use Rattle.std.specs.Prelude.{◌==◌, ◌||◌}
 use Rattle.std.specs.Option.{option_map}
 use Rattle.std.specs.List.{list_all}
 use Rattle.std.proofs.Math.Seq.{take-add}
-use Rattle.std.proofs.lemmas.List.{take-append-drop, drop-drop, drop_more, get_or-drop}
+use Rattle.std.proofs.lemmas.List.{take-append-drop, take-append-le, drop-drop, drop_more, get_or-drop}
 use Rattle.std.proofs.lemmas.List.Sums.{sum_by-append}
 use Rattle.cell_core_devices.specs.Device.{Coming}
 use Rattle.cell_core.specs.Grid.{CellValue}
@@ -13,10 +13,12 @@ use Rattle.cell_ascii_meaning.specs.GridTokens.{is_space, is_word_byte, newlines
 use Rattle.cell_ascii_meaning.specs.Header.{◌>>=◌, HeaderValue}
 use Rattle.cell_ascii_meaning.specs.CellTexts.{Reading, cell_from, cell_of_word, after_start, cell_after_word, after_cell, at_of, many}
 use Rattle.cell_ascii_held.specs.HeldCells.{HoldsCells, run_after}
-use Rattle.cell_ascii_held.specs.TableWords.{HoldsLines}
+use Rattle.cell_ascii_held.specs.TableWords.{HoldsLines, AreCellsRead}
 use Rattle.cell_ascii_held.proofs.HeldLemmas.{both, no_space, word_ahead}
 use Rattle.cell_ascii_held.proofs.ManyLemmas.{many_more, many_add, snoc, with_last, glue, and_then}
 use Rattle.cell_ascii_scanner.proofs.StartLemmas.{start-next, start-begins}
+use Rattle.cell_ascii_held.proofs.HeldRowLemmas.{lent_rest}
+use Rattle.cell_ascii_held.specs.parts.InLine.{AreCellsInLine}
 
 newlines-append : (xs ys : List ℕ) → newlines (xs ++ ys) ≡ newlines xs + newlines ys
 newlines-append xs ys = sum_by-append (λ (x : ℕ). cond (x == 10) 1 0) xs ys
@@ -195,3 +197,38 @@ newlines-few (b ∷ bs) (suc n) = omega (arith, at_most (b == 10), newlines-appe
     at_most : (t : Bool) → cond t 1 0 ≤ 1
     at_most true = omega arith
     at_most false = omega arith
+
+-- cells that were read into the lent front of a row
+pub lent_in_line : (h : HeaderValue) (bs : List ℕ) (end : ℕ) (part row : List CellValue) (read : ℕ × ℕ)
+    → length part ≡ length (take end row) → AreCellsInLine h bs (take end row) part read
+    → AreCellsInLine h bs row (part ++ drop end row) read
+lent_in_line h bs end part row read size is = record {
+  cells = rw (take-append-le read.0 part (drop end row) (omega (arith, size, is.count))) is.cells;
+  count = omega (arith, is.count, length-take end row);
+  within = is.within;
+  rest = lent_rest read.0 end part row is.count size is.rest;
+}
+
+pub lent_cells : (h : HeaderValue) (bs : List ℕ) (end : ℕ) (part row : List CellValue) (read : ℕ × ℕ × ℕ)
+    → length part ≡ length (take end row) → AreCellsRead h bs (take end row) part read
+    → AreCellsRead h bs row (part ++ drop end row) read
+lent_cells h bs end part row read size is = record {
+  cells = rw (take-append-le read.0 part (drop end row) (omega (arith, size, is.count))) is.cells;
+  count = omega (arith, is.count, length-take end row);
+  within = is.within;
+  among = is.among;
+  lines = is.lines;
+  rest = lent_rest read.0 end part row is.count size is.rest;
+}
+
+-- cells apart by single spaces take no line
+pub in_line_read : (h : HeaderValue) (bs : List ℕ) (old new : List CellValue) (read : ℕ × ℕ)
+    → AreCellsInLine h bs old new read → AreCellsRead h bs old new (read.0, read.1, 0)
+in_line_read h bs old new read is = record {
+  cells = on_one_line h bs (take read.0 new) read.0 read.1 is.cells;
+  count = is.count;
+  within = is.within;
+  among = omega arith;
+  lines = omega arith;
+  rest = is.rest;
+}

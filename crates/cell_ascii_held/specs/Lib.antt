@@ -1,3 +1,4 @@
 -- Cells whose bytes are held.
 pub mod HeldCells
 pub mod TableWords
+pub mod parts

@@ -1,5 +1,5 @@
 -- Words that were read before, kept by their bytes; and blanks as bits.
-use Rattle.std.specs.Prelude.{ℕ, zero, suc, ◌+◌, ◌-◌, ◌*◌, ◌/◌, ◌^◌, ◌≡◌, ◌<◌, ◌==◌, Bool, false, List, [], ◌∷◌, map, take, drop, slice_set, Ok}
+use Rattle.std.specs.Prelude.{ℕ, zero, suc, ◌+◌, ◌-◌, ◌*◌, ◌/◌, ◌^◌, ◌≡◌, ◌<◌, ◌≤◌, ◌==◌, Bool, false, List, [], ◌∷◌, map, length, take, drop, slice_set, Ok}
 use Rattle.std.specs.Simd.Lanes.{digits_l}
 use Rattle.cell_core_devices.specs.Device.{Coming}
 use Rattle.cell_core.specs.Grid.{CellValue}
@@ -41,3 +41,12 @@ cleared_front (suc n) (m ∷ ms) = false ∷ cleared_front n ms
 abbrev pub HoldsLines : HeaderValue → List ℕ → List CellValue → ℕ → ℕ → ℕ → Type 0
 HoldsLines h bs cells count n lines = (line : ℕ) (c : Coming)
     → many (cell_from h) count (at_of line 0 (before_coming bs c)) ≡ Ok (cells, at_of (line + lines) 0 (before_coming (drop n bs) c))
+
+-- the front of a row has the next cells of these bytes: so many, which take so many bytes and so many lines; the others stay
+pub record AreCellsRead (h : HeaderValue) (bs : List ℕ) (old new : List CellValue) (read : ℕ × ℕ × ℕ) : Type 0 where
+  pub cells : HoldsLines h bs (take read.0 new) read.0 read.1 read.2
+  pub count : read.0 ≤ length old
+  pub within : read.1 ≤ length bs
+  pub among : read.2 ≤ read.1
+  pub lines : read.2 ≤ read.0 * 64
+  pub rest : drop read.0 new ≡ drop read.0 old

@@ -1,9 +1,10 @@
 //! A cell whose bytes are held.
 
 ghost use Rattle.std.specs.Prelude.{◌≡◌, ℕ, List, ◌∷◌, ◌++◌, ◌+◌, ◌*◌, ◌/◌, ◌<◌, ◌≤◌, pos, neg_ℤ, length, take, drop, replicate, Some, IfSome};
-ghost use Rattle.cell_ascii_held.specs.HeldCells.{HoldsCells, HoldsFront, HoldsWord, IsNumeral, ComesAgain, held_word};
-ghost use Rattle.cell_ascii_held.specs.TableWords.{HoldsLines};
+ghost use Rattle.cell_ascii_held.specs.HeldCells.{HoldsFront, HoldsWord, IsNumeral, ComesAgain, held_word};
+ghost use Rattle.cell_ascii_held.specs.TableWords.{AreCellsRead};
 ghost use Rattle.cell_ascii_meaning.specs.EdgeNumbers.{whole_number};
+ghost use Rattle.cell_ascii_held.specs.parts.InLine.{AreCellsInLine};
 
 use crate::pace::Pace;
 use crate::word_table::WordTable;
@@ -267,10 +268,7 @@ fn next_credit(credit: usize, more: usize) -> usize {
 // The same as `cells_in`, for a text in which words come again and again: each that does is read once. It ends where few do.
 #[inline(never)]
 fn repeated_cells_in(held: &[u8], header: &Header, row: &mut [Cell]) -> (usize, usize)
-    ensures cells { HoldsCells header.now held.now (take result.0 row.new) result.0 result.1 }
-    ensures count { result.0 ≤ length row.old }
-    ensures within { result.1 ≤ length held.now }
-    ensures rest { drop result.0 row.new ≡ drop result.0 row.old }
+    ensures { AreCellsInLine header.now held.now row.old row.new result }
 {
     let mut i = 0;
     let mut passed = 0;
@@ -293,10 +291,7 @@ fn repeated_cells_in(held: &[u8], header: &Header, row: &mut [Cell]) -> (usize, 
 // It is not inlined: within a larger function, or with one parameter more, its loop would keep less in registers.
 #[inline(never)]
 fn single_cells_in(held: &[u8], header: &Header, row: &mut [Cell]) -> (usize, usize)
-    ensures cells { HoldsCells header.now held.now (take result.0 row.new) result.0 result.1 }
-    ensures count { result.0 ≤ length row.old }
-    ensures within { result.1 ≤ length held.now }
-    ensures rest { drop result.0 row.new ≡ drop result.0 row.old }
+    ensures { AreCellsInLine header.now held.now row.old row.new result }
 {
     let mut passed = 0;
     for i in 0..row.len() {
@@ -316,13 +311,7 @@ fn sought_cells_in(
     row: &mut [Cell],
     pace: &mut Pace,
 ) -> (usize, usize, u64)
-    ensures cells { HoldsLines words.old held.now (take result.0 row.new)
-        result.0 result.1 result.2 }
-    ensures count { result.0 ≤ length row.old }
-    ensures within { result.1 ≤ length held.now }
-    ensures among { result.2 ≤ result.1 }
-    ensures lines { result.2 ≤ result.0 * 64 }
-    ensures rest { drop result.0 row.new ≡ drop result.0 row.old }
+    ensures cells { AreCellsRead words.old held.now row.old row.new result }
     ensures same { words.new ≡ words.old }
 {
     let end = pace.most_sought().min(row.len());
@@ -339,10 +328,7 @@ fn unsought_cells_in(
     row: &mut [Cell],
     pace: &mut Pace,
 ) -> (usize, usize)
-    ensures cells { HoldsCells header.now held.now (take result.0 row.new) result.0 result.1 }
-    ensures count { result.0 ≤ length row.old }
-    ensures within { result.1 ≤ length held.now }
-    ensures rest { drop result.0 row.new ≡ drop result.0 row.old }
+    ensures { AreCellsInLine header.now held.now row.old row.new result }
 {
     let end = pace.unsought.min(row.len());
     let found = single_cells_in(held, header, &mut row[..end]);
@@ -358,13 +344,7 @@ fn each_cell_in(
     row: &mut [Cell],
     pace: &mut Pace,
 ) -> (usize, usize, u64)
-    ensures cells { HoldsLines words.old held.now (take result.0 row.new)
-        result.0 result.1 result.2 }
-    ensures count { result.0 ≤ length row.old }
-    ensures within { result.1 ≤ length held.now }
-    ensures among { result.2 ≤ result.1 }
-    ensures lines { result.2 ≤ result.0 * 64 }
-    ensures rest { drop result.0 row.new ≡ drop result.0 row.old }
+    ensures cells { AreCellsRead words.old held.now row.old row.new result }
     ensures same { words.new ≡ words.old }
 {
     let found = unsought_cells_in(held, words.header(), row, pace);
@@ -386,13 +366,7 @@ fn next_cells_in(
     row: &mut [Cell],
     pace: &mut Pace,
 ) -> (usize, usize, u64)
-    ensures cells { HoldsLines words.old held.now (take result.0 row.new)
-        result.0 result.1 result.2 }
-    ensures count { result.0 ≤ length row.old }
-    ensures within { result.1 ≤ length held.now }
-    ensures among { result.2 ≤ result.1 }
-    ensures lines { result.2 ≤ result.0 * 64 }
-    ensures rest { drop result.0 row.new ≡ drop result.0 row.old }
+    ensures cells { AreCellsRead words.old held.now row.old row.new result }
     ensures same { words.new ≡ words.old }
 {
     let end = pace.singles.min(row.len());
@@ -408,13 +382,7 @@ fn some_cells_in(
     row: &mut [Cell],
     pace: &mut Pace,
 ) -> (usize, usize, u64)
-    ensures cells { HoldsLines words.old held.now (take result.0 row.new)
-        result.0 result.1 result.2 }
-    ensures count { result.0 ≤ length row.old }
-    ensures within { result.1 ≤ length held.now }
-    ensures among { result.2 ≤ result.1 }
-    ensures lines { result.2 ≤ result.0 * 64 }
-    ensures rest { drop result.0 row.new ≡ drop result.0 row.old }
+    ensures cells { AreCellsRead words.old held.now row.old row.new result }
     ensures same { words.new ≡ words.old }
 {
     if pace.singles > 0 {
@@ -441,12 +409,7 @@ pub fn cells_in(
     row: &mut [Cell],
     pace: &mut Pace,
 ) -> (usize, usize, u64)
-    ensures cells { HoldsLines words.old held.now (take result.0 row.new)
-        result.0 result.1 result.2 }
-    ensures count { result.0 ≤ length row.old }
-    ensures within { result.1 ≤ length held.now }
-    ensures lines { result.2 ≤ result.0 * 64 }
-    ensures rest { drop result.0 row.new ≡ drop result.0 row.old }
+    ensures cells { AreCellsRead words.old held.now row.old row.new result }
     ensures same { words.new ≡ words.old }
 {
     let mut i = 0;

@@ -7,7 +7,8 @@ ghost use Rattle.std.specs.Simd.Lanes.{mask_l};
 ghost use Rattle.cell_ascii_meaning.specs.GridTokens.{newlines};
 ghost use Rattle.cell_ascii_meaning.specs.CellTexts.{cell_of_word};
 ghost use Rattle.cell_ascii_meaning.specs.EdgeNumbers.{digits_of, whole_number};
-ghost use Rattle.cell_ascii_held.specs.TableWords.{HoldsLines, IsEntry, IsCellPut, blanks, feeds, kept_bytes};
+ghost use Rattle.cell_ascii_held.specs.TableWords.{HoldsLines, IsEntry, IsCellPut, blanks, feeds, kept_bytes, AreCellsRead};
+ghost use Rattle.cell_ascii_held.specs.parts.WordPlaces.{CanPut};
 
 use crate::short_cells::{MOST_DIGITS, negative};
 use cell_ascii_header::header::Header;
@@ -173,12 +174,7 @@ fn read_cell(
     i: usize,
     missed: &mut usize,
 ) -> bool
-    requires some { 0 < size }
-    requires within { size ≤ length bytes.now }
-    requires held { 8 ≤ length bytes.now }
-    requires room { length entries.old ≡ 4096 }
-    requires known { All (IsEntry header.now) entries.old }
-    requires place { i < length row.old }
+    requires { CanPut header.now bytes.now size entries.old i row.old }
     ensures cell { result ≡ true → IsCellPut header.now (take size bytes.now) i row.old row.new }
     ensures none { result ≡ false → row.new ≡ row.old }
     ensures known { All (IsEntry header.now) entries.new }
@@ -203,12 +199,7 @@ fn put_cell(
     i: usize,
     missed: &mut usize,
 ) -> bool
-    requires some { 0 < size }
-    requires within { size ≤ length bytes.now }
-    requires held { 8 ≤ length bytes.now }
-    requires room { length entries.old ≡ 4096 }
-    requires known { All (IsEntry header.now) entries.old }
-    requires place { i < length row.old }
+    requires { CanPut header.now bytes.now size entries.old i row.old }
     ensures cell { result ≡ true → IsCellPut header.now (take size bytes.now) i row.old row.new }
     ensures none { result ≡ false → row.new ≡ row.old }
     ensures known { All (IsEntry header.now) entries.new }
@@ -298,13 +289,7 @@ fn table_cells_in(
 ) -> (usize, usize, u64)
     requires room { length entries.old ≡ 4096 }
     requires known { All (IsEntry header.now) entries.old }
-    ensures cells { HoldsLines header.now held.now (take result.0 row.new)
-        result.0 result.1 result.2 }
-    ensures count { result.0 ≤ length row.old }
-    ensures within { result.1 ≤ length held.now }
-    ensures among { result.2 ≤ result.1 }
-    ensures lines { result.2 ≤ result.0 * 64 }
-    ensures rest { drop result.0 row.new ≡ drop result.0 row.old }
+    ensures cells { AreCellsRead header.now held.now row.old row.new result }
     ensures known { All (IsEntry header.now) entries.new }
 {
     let mut i = 0;
@@ -353,13 +338,7 @@ impl WordTable {
         row: &mut [Cell],
         missed: &mut usize,
     ) -> (usize, usize, u64)
-        ensures cells { HoldsLines self.old held.now (take result.0 row.new)
-            result.0 result.1 result.2 }
-        ensures count { result.0 ≤ length row.old }
-        ensures within { result.1 ≤ length held.now }
-        ensures among { result.2 ≤ result.1 }
-        ensures lines { result.2 ≤ result.0 * 64 }
-        ensures rest { drop result.0 row.new ≡ drop result.0 row.old }
+        ensures cells { AreCellsRead self.old held.now row.old row.new result }
         ensures same { self.new ≡ self.old }
     {
         table_cells_in(held, &self.header, self.entries.as_mut_slice(), row, missed)

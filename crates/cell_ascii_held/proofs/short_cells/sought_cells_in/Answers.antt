@@ -1,7 +1,8 @@
-use Rattle.cell_ascii_held.proofs.HeldRowLemmas.{lent_rest}
+use Rattle.cell_ascii_held.proofs.WordLemmas.{lent_cells}
 use Rattle.cell_ascii_held.proofs.short_cells.sought_cells_in.Goals as goal
 
-pub returns-clause-rest : goal.returns-clause-rest
-returns-clause-rest c =
+pub returns-clause-cells : goal.returns-clause-cells
+returns-clause-cells c =
     let found = c.cells_in-found in
-    lent_rest found.result.0 c.min-end.result found.new.row c.args.row.now found.ensures.count found.auto.row found.ensures.rest
+    lent_cells c.args.words.now c.args.held.now c.min-end.result found.new.row c.args.row.now found.result
+        found.auto.row found.ensures.cells

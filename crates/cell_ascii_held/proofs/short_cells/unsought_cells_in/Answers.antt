@@ -1,7 +1,8 @@
-use Rattle.cell_ascii_held.proofs.HeldRowLemmas.{lent_rest}
+use Rattle.cell_ascii_held.proofs.WordLemmas.{lent_in_line}
 use Rattle.cell_ascii_held.proofs.short_cells.unsought_cells_in.Goals as goal
 
-pub returns-clause-rest : goal.returns-clause-rest
-returns-clause-rest c =
+pub returns : goal.returns
+returns c =
     let found = c.single_cells_in-found in
-    lent_rest found.result.0 c.min-end.result found.new.row c.args.row.now found.ensures.count found.auto.row found.ensures.rest
+    lent_in_line c.args.header.now c.args.held.now c.min-end.result found.new.row c.args.row.now found.result
+        found.auto.row found.ensures

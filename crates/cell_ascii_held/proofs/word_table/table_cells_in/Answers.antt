@@ -1,4 +1,4 @@
-use Rattle.std.proofs.Common.{◌≡◌, ◌≤◌, ◌-◌, ◌^◌, ◌∙◌, ap, arith, length, take, drop, length-drop, length-take, ℕ, ◌%◌}
+use Rattle.std.proofs.Common.{◌≡◌, ◌≤◌, ◌+◌, ◌-◌, ◌^◌, ◌∙◌, ap, sym, arith, length, take, drop, length-drop, length-take, ℕ, ◌%◌}
 use Rattle.std.proofs.lemmas.List.{take_rest}
 use Rattle.std.specs.Int.RustNames.{count_ones}
 use Rattle.cell_ascii_meaning.specs.GridTokens.{newlines}
@@ -6,19 +6,6 @@ use Rattle.cell_ascii_held.proofs.BitLemmas.{feeds_before}
 use Rattle.cell_ascii_held.proofs.HeldRowLemmas.{filled, filled-length, part-front, part-none, part-rest}
 use Rattle.cell_ascii_held.proofs.WordLemmas.{HoldsLines-append, newlines-few}
 use Rattle.cell_ascii_held.proofs.word_table.table_cells_in.Goals as goal
-
-pub returns-then-found-eq0-clause-cells : goal.returns-then-found-eq0-clause-cells
-returns-then-found-eq0-clause-cells c =
-    let old = c.args.row.now in
-    let row = c.blocks-2.row in
-    let i = c.blocks-2.i in
-    let found = c.block_cells_in-found in
-    let k = found.result.0 in
-    let part = found.new.row in
-    let within : i ≤ length row = c.blocks-2.invariant.low in
-    let size : length part ≡ length row - i = omega (arith, found.auto.row, length-drop i row, length-take (length row - i) (drop i row)) in
-    let few : k ≤ length row - i = omega (arith, found.ensures.count, length-drop i row, length-take (length row - i) (drop i row)) in
-    rw (part-none i k row part old within size few) c.blocks-2.invariant.cells
 
 pub overflow_add-lines : goal.overflow_add-lines
 overflow_add-lines c =
@@ -38,7 +25,8 @@ blocks-2-preserved c =
     let n = found.result.1 in
     let part = found.new.row in
     let within : i ≤ length row = c.blocks-2.invariant.low in
-    let size : length part ≡ length row - i = omega (arith, found.auto.row, length-drop i row, length-take (length row - i) (drop i row)) in
+    let size : length part ≡ length row - i = omega (arith, found.auto.row, length-drop i row, length-take
+        (length row - i) (drop i row)) in
     let few : k ≤ length row - i = omega (arith, found.ensures.count, length-drop i row, length-take (length row - i) (drop i row)) in
     let front = part-front i k row part old within size few in
     let whole : length (filled i row part) ≡ length row = filled-length i k row part old within size few in
@@ -58,4 +46,30 @@ blocks-2-preserved c =
       rest = part-rest i k row part old within size few found.ensures.rest c.blocks-2.invariant.rest;
       room = found.auto.entries ∙ c.blocks-2.invariant.room;
       known = found.ensures.known;
+    }
+
+pub returns-then-found-eq0-clause-cells : goal.returns-then-found-eq0-clause-cells
+returns-then-found-eq0-clause-cells c =
+    let old = c.args.row.now in
+    let row = c.blocks-2.row in
+    let i = c.blocks-2.i in
+    let inv = c.blocks-2.invariant in
+    let found = c.block_cells_in-found in
+    let k = found.result.0 in
+    let part = found.new.row in
+    let is = found.ensures in
+    let within : i ≤ length row = inv.low in
+    let size : length part ≡ length row - i = omega (arith, found.auto.row, length-drop i row, length-take
+        (length row - i) (drop i row)) in
+    let few : k ≤ length row - i = omega (arith, is.count, length-drop i row, length-take (length row - i)
+        (drop i row)) in
+    let none : i + k ≡ i = omega (arith, c.if-found-eq0.true) in
+    record {
+      cells = rw (part-none i k row part old within size few) inv.cells;
+      count = omega (arith, within, c.blocks-2.auto.row);
+      within = inv.within;
+      among = inv.fewer;
+      lines = inv.few;
+      rest = ap (λ n. drop n (filled i row part)) (sym none)
+          ∙ part-rest i k row part old within size few is.rest inv.rest ∙ ap (λ n. drop n old) none;
     }
