@@ -7,7 +7,7 @@ use Rattle.cell_core.specs.Grid.{CellValue}
 use Rattle.cell_ascii_meaning.specs.Header.{At, HeaderValue, OpenedText, header_of_text}
 use Rattle.cell_ascii_meaning.specs.CellTexts.{cell_from, many}
 use Rattle.cell_ascii_meaning.specs.GridTokens.{grid_fault}
-use Rattle.cell_ascii_meaning.specs.declared.grid_fault.GridKind.TheVariants.{Failed}
+use Rattle.cell_ascii_meaning.specs.declared.grid_fault.GridKind.TheVariants.{Memory, Failed}
 use Rattle.cell_ascii_meaning.specs.declared.grid_fault.GridFault.{GridFault}
 
 -- what the header says, how many rows are still to come, a first token of the data that is not yet judged, the line,
@@ -34,6 +34,10 @@ opened_in r c = record { header = r.header; at = reader_place r c }
 -- a reader that read the header of a text, and nothing behind its first token
 abbrev pub IsOpened : Option Coming → ReaderValue → Type 0
 IsOpened text r = option_map header_of_text text ≡ option_map (λ c. Ok (opened_in r c)) r.coming
+
+-- out of memory is told at line 0
+abbrev pub TellsMemoryAtZero : GridFault → Type 0
+TellsMemoryAtZero f = f.kind ≡ Memory → f.line ≡ 0
 
 -- the fault of an answer
 abbrev pub fault_of_reading : {X : Type 0} → Result X GridFault → Option GridFault

@@ -6,16 +6,18 @@ ghost use Rattle.std.specs.Result.{is_err};
 ghost use Rattle.cell_core_devices.specs.Device.{Coming};
 ghost use Rattle.cell_core.specs.Grid.{no_labels};
 ghost use Rattle.cell_core_devices.specs.Asking.{hears, heard_first};
-ghost use Rattle.cell_ascii_meaning.specs.Kinds.{IsOfText, tells_read};
-ghost use Rattle.cell_ascii_scanner.specs.Ahead.{bytes_to_come};
+ghost use Rattle.cell_ascii_meaning.specs.Kinds.{tells_read};
+ghost use Rattle.cell_ascii_scanner.specs.Ahead.{bytes_to_come, Agrees};
 ghost use Rattle.cell_ascii_meaning.specs.GridTokens.{grid_start};
 ghost use Rattle.cell_ascii_meaning.specs.Header.{at_line, header_of, header_of_text};
 ghost use Rattle.cell_ascii_meaning.specs.CellTexts.{cell_of_word, cell_from, many, end_of, grid_of};
 ghost use Rattle.cell_ascii_meaning.specs.GridText.{Denotes};
 ghost use Rattle.cell_ascii_meaning.specs.FaultPlaces.{opening_fault, text_fault};
 ghost use Rattle.cell_ascii_meaning.specs.RowPlaces.{cells_fault, end_fault};
-ghost use Rattle.cell_ascii.specs.Reader.{ReaderPlace, at_place, opened_at, opened_by, token_read, token_seen, reading_seen, always, IsPlaced, rows_from};
-ghost use Rattle.cell_ascii.specs.GridReaders.{reader_place, opened_in, IsOpened, fault_of_reading, reader_has_failed, IsCutRow, IsChangedInFront};
+ghost use Rattle.cell_ascii.specs.Reader.{ReaderPlace, at_place, opened_at, opened_by, token_read, token_seen, reading_seen, always, rows_from};
+ghost use Rattle.cell_ascii.specs.GridReaders.{reader_place, IsOpened, fault_of_reading, reader_has_failed, IsCutRow, IsChangedInFront, TellsMemoryAtZero};
+ghost use Rattle.cell_ascii_scanner.specs.Scan.{Hears, FailsInText};
+ghost use Rattle.cell_ascii.specs.parts.Unread.{IsUnread};
 
 use cell_ascii_header::header::Header;
 use cell_ascii_header::header_reading;
@@ -66,15 +68,13 @@ impl<R: Source> Model for CellReader<R> {
 fn read_token<R: Source>(scanner: &mut Scanner<R>) -> Result<(), GridFault>
     requires room { scanner.old.line + 1048576 < 2 ^ 64 }
     requires run { scanner.old.run ≤ 1048576 }
-    ensures token { option_map (λ c. token_read (grid_start scanner.old.line scanner.old.run c))
-        (bytes_to_come scanner.old.ahead)
-        ≡ option_map (token_seen result scanner.new.line scanner.new.word)
-        (bytes_to_come scanner.new.ahead) }
+    ensures token { Agrees (λ c. token_read (grid_start scanner.old.line scanner.old.run c))
+        scanner.old.ahead (token_seen result scanner.new.line scanner.new.word) scanner.new.ahead }
     ensures lines { scanner.new.line ≤ scanner.old.line + 1048576 }
     ensures run { scanner.new.run ≤ 1048576 }
     ensures none { OnOk result (scanner.new.run ≡ 0) }
-    ensures kind { IfErr result (λ f. IsOfText f.kind) }
-    ensures heard { scanner.new.ahead.heard ≡ hears (tells_read result) scanner.old.ahead.heard }
+    ensures kind { FailsInText result }
+    ensures heard { Hears result scanner.old.ahead scanner.new.ahead }
 {
     match scanner.skip_spaces()? {
         Next::Word => scanner.read_word(),
@@ -96,14 +96,14 @@ fn header_at(keys: HeaderKeys, line: u64) -> Result<Header, GridFault>
 // whether there was such a word.
 fn read_opening<R: Source>(scanner: &mut Scanner<R>) -> Result<(Header, bool), GridFault>
     requires start { (scanner.old.line ≡ 1) × (scanner.old.run ≡ 0) }
-    ensures opened { IfOk result (λ r. option_map header_of_text (bytes_to_come scanner.old.ahead)
-        ≡ option_map (λ c. Ok (opened_by r scanner.new c)) (bytes_to_come scanner.new.ahead)) }
+    ensures opened { IfOk result (λ r. Agrees header_of_text scanner.old.ahead
+        (λ c. Ok (opened_by r scanner.new c)) scanner.new.ahead) }
     ensures fault { IfErr result
         (λ f. IfSome (bytes_to_come scanner.old.ahead) (λ c. header_of_text c ≡ Err f)) }
-    ensures kind { IfErr result (λ f. IsOfText f.kind) }
+    ensures kind { FailsInText result }
     ensures line { OnOk result (scanner.new.line < 2 ^ 62) }
     ensures run { OnOk result (scanner.new.run ≡ 0) }
-    ensures heard { scanner.new.ahead.heard ≡ hears (tells_read result) scanner.old.ahead.heard }
+    ensures heard { Hears result scanner.old.ahead scanner.new.ahead }
 {
     let mut keys = HeaderKeys::new();
     let waiting = match header_reading::read_header(scanner, &mut keys) {
@@ -136,7 +136,7 @@ impl<R: Source> CellReader<R> {
             ≡ option_map (λ c. Ok (opened_at r c)) (bytes_to_come r.ahead)) }
         ensures fault { IfErr result (λ f. f.kind ≢ GridKind.Memory
             → IfSome (R.coming source) (λ c. header_of_text c ≡ Err f)) }
-        ensures memory { IfErr result (λ f. f.kind ≡ GridKind.Memory → f.line ≡ 0) }
+        ensures memory { IfErr result TellsMemoryAtZero }
         ensures kinds { IfErr result (λ f. f.kind ≢ GridKind.Failed) }
         ensures line { IfOk result (λ r. r.line < 2 ^ 62) }
         ensures heard { IfOk result (λ r. r.ahead.heard ≡ heard_first (R.asked source)) }
@@ -169,11 +169,8 @@ impl<R: Source> CellReader<R> {
     #[tactic(auto, using(cell_ascii_held::proofs::WordLemmas::lines_held))]
     fn held_cells(&mut self, row: &mut [Cell]) -> usize
         requires room { self.old.line + length row.old * 64 < 2 ^ 64 }
-        ensures cells { option_map
-            (λ c. many (cell_from self.old.header) result (at_place self.old c))
-            (bytes_to_come self.old.ahead)
-            ≡ option_map (λ d. Ok (take result row.new, at_place self.new d))
-            (bytes_to_come self.new.ahead) }
+        ensures cells { Agrees (λ c. many (cell_from self.old.header) result (at_place self.old c))
+            self.old.ahead (λ d. Ok (take result row.new, at_place self.new d)) self.new.ahead }
         ensures count { result ≤ length row.old }
         ensures rest { drop result row.new ≡ drop result row.old }
         ensures header { self.new.header ≡ self.old.header }
@@ -200,13 +197,12 @@ impl<R: Source> CellReader<R> {
     fn next_cell(&mut self) -> Result<Cell, GridFault>
         requires room { self.old.line + 1048576 < 2 ^ 64 }
         requires heard { self.old.ahead.heard.failed ≡ false }
-        ensures cell { option_map (λ c. cell_from self.old.header (at_place self.old c))
-            (bytes_to_come self.old.ahead)
-            ≡ option_map (reading_seen result self.new) (bytes_to_come self.new.ahead) }
+        ensures cell { Agrees (λ c. cell_from self.old.header (at_place self.old c)) self.old.ahead
+            (reading_seen result self.new) self.new.ahead }
         ensures header { self.new.header ≡ self.old.header }
         ensures lines { self.new.line ≤ self.old.line + 1048576 }
-        ensures kind { IfErr result (λ f. IsOfText f.kind) }
-        ensures heard { self.new.ahead.heard ≡ hears (tells_read result) self.old.ahead.heard }
+        ensures kind { FailsInText result }
+        ensures heard { Hears result self.old.ahead self.new.ahead }
     {
         if self.waiting {
             self.waiting = false;
@@ -220,12 +216,11 @@ impl<R: Source> CellReader<R> {
     // Nothing but blanks and line feeds is left.
     fn check_end(&mut self) -> Result<(), GridFault>
         requires room { self.old.line + 1048576 < 2 ^ 64 }
-        ensures end { option_map (λ c. end_of (grid_start self.old.line self.old.run c))
-            (bytes_to_come self.old.ahead)
-            ≡ option_map (always result) (bytes_to_come self.new.ahead) }
+        ensures end { Agrees (λ c. end_of (grid_start self.old.line self.old.run c)) self.old.ahead
+            (always result) self.new.ahead }
         ensures header { self.new.header ≡ self.old.header }
-        ensures kind { IfErr result (λ f. IsOfText f.kind) }
-        ensures heard { self.new.ahead.heard ≡ hears (tells_read result) self.old.ahead.heard }
+        ensures kind { FailsInText result }
+        ensures heard { Hears result self.old.ahead self.new.ahead }
     {
         match self.scanner.skip_spaces()? {
             Next::Word => Err(GridFault {
@@ -241,17 +236,16 @@ impl<R: Source> CellReader<R> {
 fn read_row<R: Source>(cells: &mut CellReader<R>, row: &mut [Cell]) -> Result<(), GridFault>
     requires room { cells.old.line + length row.old * 1048577 < 2 ^ 63 }
     requires heard { cells.old.ahead.heard.failed ≡ false }
-    ensures row { OnOk result (option_map
+    ensures row { OnOk result (Agrees
         (λ c. many (cell_from cells.old.header) (length row.old) (at_place cells.old c))
-        (bytes_to_come cells.old.ahead)
-        ≡ option_map (λ d. Ok (row.new, at_place cells.new d)) (bytes_to_come cells.new.ahead)) }
+        cells.old.ahead (λ d. Ok (row.new, at_place cells.new d)) cells.new.ahead) }
     ensures cut { IfErr result (λ f. IfSome (bytes_to_come cells.old.ahead)
         (λ c. IsCutRow cells.old.header (at_place cells.old c) f row.old row.new)) }
     ensures kept { OnErr result (IsChangedInFront row.old row.new) }
     ensures header { cells.new.header ≡ cells.old.header }
     ensures lines { cells.new.line ≤ cells.old.line + length row.old * 1048577 }
-    ensures kind { IfErr result (λ f. IsOfText f.kind) }
-    ensures heard { cells.new.ahead.heard ≡ hears (tells_read result) cells.old.ahead.heard }
+    ensures kind { FailsInText result }
+    ensures heard { Hears result cells.old.ahead cells.new.ahead }
 {
     let mut i = 0;
     'cells: loop {
@@ -296,13 +290,12 @@ impl<R: Source> GridReader<R> {
     pub fn open(alloc: Global, source: R) -> Result<GridReader<R>, GridFault>
     where
         R: Drop,
-        ensures opened { IfOk result (λ r. option_map header_of_text (R.coming source)
-            ≡ option_map (λ c. Ok (opened_in r c)) r.coming) }
+        ensures opened { IfOk result (IsOpened (R.coming source)) }
         ensures whole { IfOk result (λ r. (r.rows_left ≡ r.header.region.rows)
             × (r.failed ≡ false)) }
         ensures fault { IfErr result (λ f. f.kind ≢ GridKind.Memory
             → IfSome (R.coming source) (λ c. opening_fault c ≡ Some f)) }
-        ensures memory { IfErr result (λ f. f.kind ≡ GridKind.Memory → f.line ≡ 0) }
+        ensures memory { IfErr result TellsMemoryAtZero }
         ensures kinds { IfErr result (λ f. f.kind ≢ GridKind.Failed) }
         // The source is asked only while it goes on, and an `Err` of it is told as Read: so far none was.
         ensures heard { IfOk result (λ r. r.heard ≡ heard_first (R.asked source)) }
@@ -363,7 +356,7 @@ impl<R: Source> GridReader<R> {
         ensures header { self.new.header ≡ self.old.header }
         ensures fails { self.new.failed ≡ (self.old.failed || is_err result) }
         ensures memory { IfErr result (λ f. f.kind ≢ GridKind.Memory) }
-        ensures kinds { self.old.failed ≡ false → IfErr result (λ f. IsOfText f.kind) }
+        ensures kinds { self.old.failed ≡ false → FailsInText result }
         // The source is asked only while it goes on, and an `Err` of it is told as Read.
         ensures heard { self.old.failed ≡ false
             → self.new.heard ≡ hears (tells_read result) self.old.heard }
@@ -401,7 +394,7 @@ impl<R: Source> GridReader<R> {
         ensures told { self.failed ≡ false
             → IfSome self.coming (λ c. fault_of_reading result ≡ end_fault (reader_place self c)) }
         ensures memory { IfErr result (λ f. f.kind ≢ GridKind.Memory) }
-        ensures kinds { self.failed ≡ false → IfErr result (λ f. IsOfText f.kind) }
+        ensures kinds { self.failed ≡ false → FailsInText result }
     {
         let mut reader = self;
         reader.end()
@@ -415,7 +408,7 @@ impl<R: Source> GridReader<R> {
             → IfSome self.old.coming (λ c. fault_of_reading result
             ≡ end_fault (reader_place self.old c)) }
         ensures memory { IfErr result (λ f. f.kind ≢ GridKind.Memory) }
-        ensures kinds { self.old.failed ≡ false → IfErr result (λ f. IsOfText f.kind) }
+        ensures kinds { self.old.failed ≡ false → FailsInText result }
         ensures heard { self.old.failed ≡ false
             → self.new.heard ≡ hears (tells_read result) self.old.heard }
     {
@@ -429,9 +422,7 @@ impl<R: Source> GridReader<R> {
 
 // Reads the rows that are left into a map.
 fn read_rows<R: Source>(alloc: Global, reader: &mut GridReader<R>) -> Result<CellMap, GridFault>
-    requires whole { (reader.old.rows_left ≡ reader.old.header.region.rows)
-        × (reader.old.failed ≡ false) }
-    requires heard { reader.old.heard.failed ≡ false }
+    requires { IsUnread reader.old }
     ensures region { IfOk result (λ m. (m.region ≡ reader.old.header.region)
         × (m.labels ≡ no_labels)) }
     ensures rows { IfOk result (λ m. option_map
@@ -441,7 +432,7 @@ fn read_rows<R: Source>(alloc: Global, reader: &mut GridReader<R>) -> Result<Cel
     ensures wide { (0 < reader.old.header.region.rows) × (0 < reader.old.header.region.cols) }
     ensures fault { IfErr result (λ f. f.kind ≢ GridKind.Memory → IfSome reader.old.coming
         (λ c. rows_from reader.old.header (reader_place reader.old c) ≡ Err f)) }
-    ensures memory { IfErr result (λ f. f.kind ≡ GridKind.Memory → f.line ≡ 0) }
+    ensures memory { IfErr result TellsMemoryAtZero }
     ensures kinds { IfErr result (λ f. f.kind ≢ GridKind.Failed) }
     ensures heard { reader.new.heard ≡ hears (tells_read result) reader.old.heard }
 {
@@ -462,14 +453,12 @@ fn read_rows<R: Source>(alloc: Global, reader: &mut GridReader<R>) -> Result<Cel
 
 // Reads the rows of a text whose header was read, and its end.
 fn read_whole<R: Source>(alloc: Global, reader: &mut GridReader<R>) -> Result<CellMap, GridFault>
-    requires whole { (reader.old.rows_left ≡ reader.old.header.region.rows)
-        × (reader.old.failed ≡ false) }
-    requires heard { reader.old.heard.failed ≡ false }
+    requires { IsUnread reader.old }
     ensures map { IfOk result (λ m. (text : Option Coming) → IsOpened text reader.old
         → IfSome text (λ c. grid_of c ≡ Ok m)) }
     ensures fault { IfErr result (λ f. f.kind ≢ GridKind.Memory → (text : Option Coming)
         → IsOpened text reader.old → IfSome text (λ c. grid_of c ≡ Err f)) }
-    ensures memory { IfErr result (λ f. f.kind ≡ GridKind.Memory → f.line ≡ 0) }
+    ensures memory { IfErr result TellsMemoryAtZero }
     ensures kinds { IfErr result (λ f. f.kind ≢ GridKind.Failed) }
     // The source is asked only while it goes on, and an `Err` of it is told as Read.
     ensures heard { reader.new.heard ≡ hears (tells_read result) reader.old.heard }
@@ -493,7 +482,7 @@ pub fn read_map<R: Source + Drop>(alloc: Global, source: R) -> Result<CellMap, G
     ensures map { IfOk result (λ m. IfSome (R.coming source) (λ c. Denotes c m)) }
     ensures fault { IfErr result (λ f. f.kind ≢ GridKind.Memory
         → IfSome (R.coming source) (λ c. text_fault c ≡ Some f)) }
-    ensures memory { IfErr result (λ f. f.kind ≡ GridKind.Memory → f.line ≡ 0) }
+    ensures memory { IfErr result TellsMemoryAtZero }
     ensures kinds { IfErr result (λ f. f.kind ≢ GridKind.Failed) }
     ensures reading_map { IfOk result (λ m. IfSome (R.coming source) (λ c. grid_of c ≡ Ok m)) }
     ensures reading_fault { IfErr result (λ f. f.kind ≢ GridKind.Memory

@@ -49,10 +49,18 @@ free_fields null n field free = λ k d within some.
     let same : get_or (replicate n field) k d ≡ field = get_or-replicate n k field d few in
     absurd (omega (arith, some, ap (λ (f : Field). f.size) same, free))
 
-module _ {null_text : List ℕ} {fields more : List Field} {line : List ℕ} {start : ℕ} (kept : AreKept null_text fields line start) (same : length more ≡ length fields) (known : All (IsField null_text) more) where
+module _ {null_text : List ℕ} {fields more : List Field} {line : List ℕ} {start : ℕ}
+    (kept : AreKept null_text fields line start) (same : length more ≡ length fields)
+    (known : All (IsField null_text) more) where
   -- another field was made, and the line was written on
   pub kept_at : {new : List ℕ} {end : ℕ} → length new ≡ length line → end ≤ 1024 → AreKept null_text more new end
-  kept_at long within = record { null = kept.null; fields_kept = same ∙ kept.fields_kept; known = known; room = long ∙ kept.room; within = within }
+  kept_at long within = record {
+    null = kept.null;
+    fields_kept = same ∙ kept.fields_kept;
+    known = known;
+    room = long ∙ kept.room;
+    within = within;
+  }
 
   -- another field was made, and the line was pushed
   pub kept_none : AreKept null_text more line 0

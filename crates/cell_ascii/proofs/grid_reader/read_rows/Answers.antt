@@ -77,10 +77,10 @@ rows-init g c =
       rows = none_read (many (cell_from h) h.region.cols) h.region.rows (reader_place s) s.coming rows none;
       header = refl;
       region = ap (λ b. b.region) c.new-builder.ensures ∙ c.region-region.ensures;
-      count = no_rows rows s.rows_left h.region.rows none c.requires.whole.0;
+      count = no_rows rows s.rows_left h.region.rows none c.requires.0;
       width = c.as_mut_slice-row.ensures.len ∙ c.in-Ok.ensures.len ∙ c.cols.ensures.value ∙ ap (λ r. r.cols) c.region-region.ensures;
-      live = c.requires.whole.1;
-      heard = ap (λ (failed : Bool). record { sure = s.heard.sure; failed = failed }) c.requires.heard;
+      live = c.requires.1.0;
+      heard = ap (λ (failed : Bool). record { sure = s.heard.sure; failed = failed }) c.requires.1.1;
     }
 
 pub next_row-requires : goal.next_row-requires

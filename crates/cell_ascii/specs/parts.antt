@@ -1,0 +1,2 @@
+-- A reader before its first row.
+pub mod Unread
