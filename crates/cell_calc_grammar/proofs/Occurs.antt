@@ -1,5 +1,5 @@
 -- Each name among the tokens that are read is read as an operand.
-use Rattle.std.proofs.Common.{◌≡◌, ℕ, ℤ, List, [], ◌∷◌, ◌++◌, Option, Some, Ok, Err, Bool, true, false, refl, sym, ap, ◌∙◌, subst}
+use Rattle.std.proofs.Common.{◌≡◌, ℕ, ℤ, List, [], ◌∷◌, ◌++◌, Some, Ok, Err, Bool, true, false, refl, sym, ap, ◌∙◌, subst}
 use Rattle.cell_calc_tokens.specs.declared.calc_fault.CalcKind.{CalcKind}
 use Rattle.cell_calc_tokens.specs.declared.operator.Operator.{Operator}
 use Rattle.cell_calc_tokens.specs.declared.token.Placed.{Placed}
@@ -14,7 +14,7 @@ use Rattle.cell_calc_grammar.specs.TokensRead as reading
 use Rattle.cell_calc_grammar.specs.TokensRead.{PartOfExpression, tail, read_then, distance_at, distance, offset_signed, offset_at, offset, comma_at, bracket_at, to_bracket, ReadOutcome, Got, GotAll, Stops, State, Operand, Whole, More, Expression, Choice, AfterQuestion, Called, Arguments, Onward, next, after_bracket, close, join, choose, move, call_judged, call, add, GrammarReads, nothing, whole, stopped, done, more, expression, unread, unchosen, asked, unasked, no_colon, otherwise, arguments, halted, unended}
 use Rattle.cell_calc_grammar.specs.Term.{Term, count}
 use Rattle.cell_calc_tokens.specs.Token.{token_number_at, name_at, sign_at, head}
-use Rattle.cell_calc_grammar.proofs.Sound.{below_some, front_is, Signed, unsigned, minus, plus, NoOffsets, first, no_comma, second, no_bracket, IsPart, AreBoth, offsets_part, both_parts, sound}
+use Rattle.cell_calc_grammar.proofs.Sound.{below_some, Looks, ASign, look, Signed, unsigned, minus, plus, NoOffsets, first, no_comma, second, no_bracket, IsPart, AreBoth, offsets_part, both_parts, sound}
 use Rattle.cell_calc_grammar.proofs.Splits.{Stays, in_first, in_second, stays, not_nothing}
 
 -- what is left of the tokens
@@ -171,14 +171,12 @@ finds_moved name c d ts (Ok x) r h =
 finds_moved name c d ts (Err e) r h =
     finds_self (name_at name c) r (finds_next (sign_at OpenBracket d) tt (finds_no_names h.0 h.1 (stop_names h.2)))
 
-finds_closed : (c : ℕ) (ts : List Placed) (a : Term) (rest : List Placed) (t : Option Token) → head rest ≡ t
-    → FindsOf ts (Got a rest)
-    → FindsOf (sign_at OpenParenthesis c ∷ ts) (after_bracket t a rest)
-finds_closed c ts a rest (Some (token.Sign CloseParenthesis)) e w =
-    let f = front_is rest (token.Sign CloseParenthesis) e in
+finds_closed : (c : ℕ) (ts : List Placed) (a : Term) {rest : List Placed} → Looks rest → FindsOf ts (Got a rest)
+    → FindsOf (sign_at OpenParenthesis c ∷ ts) (after_bracket (head rest) a rest)
+finds_closed c ts a (ASign CloseParenthesis d rest) w =
     finds_next (sign_at OpenParenthesis c) tt
-    (finds_then (finds_any (Got a rest) tt w) (finds_no_names (sign_at CloseParenthesis f.0 ∷ []) f.1 (tt, tt)))
-finds_closed c ts a rest _ e w = finds_next (sign_at OpenParenthesis c) tt (finds_any (Got a rest) tt w)
+    (finds_then (finds_any (Got a (sign_at CloseParenthesis d ∷ rest)) tt w) (finds_no_names (sign_at CloseParenthesis d ∷ []) refl (tt, tt)))
+finds_closed c ts a {rest = rest} _ w = finds_next (sign_at OpenParenthesis c) tt (finds_any (Got a rest) tt w)
 
 no_name : (t : Token) (op : Operator) → operator_of t ≡ Some op → IsNoName t
 no_name (token.Name n) op e = let h : ⊥ = cc in absurd h
@@ -204,43 +202,32 @@ find (reading.called {name = name} {c = c} {d = d} {ts = ts} {o = GotAll xs rest
     go true q w =
         finds_self (name_at name c) q (finds_next (sign_at OpenParenthesis d) tt (finds_any (GotAll xs rest) tt w))
     go false q w = finds_nothing
-find (reading.negated {c = c} {o = Got a rest} r) = finds_next (sign_at Minus c) tt (finds_any (Got a rest) tt (find r))
-find (reading.negated {o = GotAll xs rest} r) = absurd (sound r)
 find (reading.negated {c = c} {o = Stops kind rest} r) = finds_next (sign_at Minus c) tt (find r)
-find (reading.not {c = c} {o = Got a rest} r) =
-    finds_next (sign_at Exclamation c) tt (finds_any (Got a rest) tt (find r))
-find (reading.not {o = GotAll xs rest} r) = absurd (sound r)
+find (reading.negated {c = c} {o = o} r) = finds_next (sign_at Minus c) tt (finds_any o tt (find r))
 find (reading.not {c = c} {o = Stops kind rest} r) = finds_next (sign_at Exclamation c) tt (find r)
-find (reading.inside {c = c} {ts = ts} {o = Got a rest} r) = finds_closed c ts a rest (head rest) refl (find r)
+find (reading.not {c = c} {o = o} r) = finds_next (sign_at Exclamation c) tt (finds_any o tt (find r))
+find (reading.inside {c = c} {ts = ts} {o = Got a rest} r) = finds_closed c ts a (look rest) (find r)
 find (reading.inside {o = GotAll xs rest} r) = absurd (sound r)
 find (reading.inside {c = c} {o = Stops kind rest} r) = finds_next (sign_at OpenParenthesis c) tt (find r)
-find (whole {o = Got a us} r m) = finds_then (finds_any (Got a us) tt (find r)) (find m)
-find (whole {o = GotAll xs us} r m) = absurd (sound r)
 find (whole r stopped) = find r
-find (more {k = k} {s = s} {o = Got b us} op e r m) =
-    finds_next s (no_name s.token op (below_some k (operator_of s.token) op e).0)
-    (finds_then (finds_any (Got b us) tt (find r)) (find m))
-find (more {o = GotAll xs us} op e r m) = absurd (sound r)
-find (more {k = k} {s = s} op e r stopped) =
+find (whole {o = o} r m) = finds_then (finds_any o tt (find r)) (find m)
+find (more {k = k} {s = s} {o = Stops kind us} op e r stopped) =
     finds_next s (no_name s.token op (below_some k (operator_of s.token) op e).0) (find r)
-find (expression {o = Got a us} r m) = finds_then (finds_any (Got a us) tt (find r)) (find m)
-find (expression {o = GotAll xs us} r m) = absurd (sound r)
+find (more {k = k} {s = s} {o = o} op e r m) =
+    finds_next s (no_name s.token op (below_some k (operator_of s.token) op e).0)
+    (finds_then (finds_any o tt (find r)) (find m))
 find (expression r unread) = find r
-find (asked {c = c} {o = Got a us} r m) =
-    finds_next (sign_at Question c) tt (finds_then (finds_any (Got a us) tt (find r)) (find m))
-find (asked {o = GotAll xs us} r m) = absurd (sound r)
+find (expression {o = o} r m) = finds_then (finds_any o tt (find r)) (find m)
 find (asked {c = c} r unasked) = finds_next (sign_at Question c) tt (find r)
-find (otherwise {c = c} {o = Got a rest} r) = finds_next (sign_at Colon c) tt (finds_any (Got a rest) tt (find r))
-find (otherwise {o = GotAll xs rest} r) = absurd (sound r)
+find (asked {c = c} {o = o} r m) =
+    finds_next (sign_at Question c) tt (finds_then (finds_any o tt (find r)) (find m))
 find (otherwise {c = c} {o = Stops kind rest} r) = finds_next (sign_at Colon c) tt (find r)
+find (otherwise {c = c} {o = o} r) = finds_next (sign_at Colon c) tt (finds_any o tt (find r))
 find (reading.none {c = c}) = finds_next (sign_at CloseParenthesis c) tt finds_nothing
 find (reading.some n r) = find r
-find (arguments {o = Got a us} r m) = finds_then (finds_any (Got a us) tt (find r)) (find m)
-find (arguments {o = GotAll xs us} r m) = absurd (sound r)
 find (arguments r halted) = find r
+find (arguments {o = o} r m) = finds_then (finds_any o tt (find r)) (find m)
 find (reading.last {c = c}) = finds_next (sign_at CloseParenthesis c) tt finds_nothing
-find (reading.another {o = Got b rest} r) = absurd (sound r)
-find (reading.another {c = c} {o = GotAll xs rest} r) =
-    finds_next (sign_at Comma c) tt (finds_any (GotAll xs rest) tt (find r))
 find (reading.another {c = c} {o = Stops kind rest} r) = finds_next (sign_at Comma c) tt (find r)
+find (reading.another {c = c} {o = o} r) = finds_next (sign_at Comma c) tt (finds_any o tt (find r))
 find _ = finds_nothing

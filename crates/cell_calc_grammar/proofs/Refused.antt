@@ -1,6 +1,5 @@
 -- Where more is expected, the walk of the tokens by their shape ends too.
 use Rattle.std.proofs.Common.{◌≡◌, ℕ, ℤ, List, [], ◌∷◌, ◌++◌, Option, Some, None, Ok, Err, Bool, true, false, refl, sym, ap, ◌∙◌, subst}
-use Rattle.std.specs.Prelude.{nat_lt, if◌then◌else◌}
 use Rattle.cell_calc_tokens.specs.declared.calc_fault.CalcKind.{CalcKind}
 use Rattle.cell_calc_tokens.specs.declared.calc_fault.CalcKind.TheVariants.{Expected}
 use Rattle.cell_calc_tokens.specs.declared.operator.Operator.{Operator}
@@ -10,16 +9,16 @@ use Rattle.cell_calc_tokens.specs.declared.token.Sign.TheVariants.{Plus, Minus, 
 use Rattle.cell_calc_tokens.specs.declared.token.Token.{Token}
 use Rattle.cell_calc_tokens.specs.declared.token.Token.TheVariants as token
 use Rattle.cell_calc_tokens.specs.Function.{accepts}
-use Rattle.cell_calc_tokens.specs.Operator.{operator_of, level_of, top}
+use Rattle.cell_calc_tokens.specs.Operator.{operator_of, top}
 use Rattle.cell_calc_grammar.specs.TokensRead as reading
 use Rattle.cell_calc_grammar.specs.TokensRead.{PartOfExpression, tail, read_then, distance_at, distance, offset_signed, offset_at, offset, comma_at, bracket_at, to_bracket, ReadOutcome, Got, GotAll, Stops, State, Operand, Whole, More, Expression, Choice, AfterQuestion, Called, Arguments, Onward, below_level, next, IsNot, IsAlone, BeginsNone, after_bracket, close, join, choose, move, call_judged, call, add, GrammarReads, nothing, whole, stopped, done, more, expression, unread, unchosen, asked, unasked, no_colon, otherwise, arguments, halted, unended}
 use Rattle.cell_calc_grammar.specs.Shape.{shape_of, shape}
 use Rattle.cell_calc_grammar.specs.Term.{Term, count}
 use Rattle.cell_calc_tokens.specs.Token.{token_number_at, name_at, sign_at, head}
 use Rattle.cell_calc_grammar.proofs.Occurs.{left}
-use Rattle.cell_calc_grammar.proofs.Sound.{below_some, front_is, unsigned, minus, plus, IsNoNumber, none, NoOffset, NoOffsets, first, no_comma, second, no_bracket, IsPart, AreBoth, offsets_part, both_parts, IsSound, sound}
+use Rattle.cell_calc_grammar.proofs.Sound.{below_some, Looks, ASign, look, unsigned, IsNoNumber, none, NoOffset, NoOffsets, first, no_comma, second, no_bracket, IsPart, AreBoth, offsets_part, both_parts, IsSound, sound}
 use Rattle.cell_calc_grammar.proofs.Walk as place
-use Rattle.cell_calc_grammar.proofs.Walk.{Frame, Parenthesis, Argument, Choosing, Place, First, FirstNumber, Between, Second, SecondNumber, Last, Opened, Named, After, operand_step, ends_step, asks_step, joins_step, after_step, named_step, opened_step, offset_step, number_step, step, step_on, walk, walk_both, operator_shape, operator_after, named_alone, opened_walk, first_makes, comma_makes, second_makes, offsets_make}
+use Rattle.cell_calc_grammar.proofs.Walk.{Frame, Parenthesis, Argument, Choosing, Place, Offset, Signed, Between, Opened, Named, After, operand_step, ends_step, asks_step, joins_step, after_step, step, step_on, walk, walk_both, operator_shape, operator_after, named_alone, opened_walk, offset_makes, comma_makes, offsets_make}
 
 -- the place is one after an operand, for this next token
 abbrev pub GoesAs : List Frame → Option Token → Option Place → Type 0
@@ -67,55 +66,43 @@ walks_from : {Q : Option Place → Type 0} {p q : Option Place} {ts rest : List 
     → Walks Q p ts rest
 walks_from {Q = Q} {ts = ts} {rest = rest} e w = subst (λ x. Walks Q x ts rest) (sym e) w
 
-number_refused : (signed number : Place) → ((t : Token) → step signed t ≡ number_step number t) → (t : Option Token)
-    → IsNoNumber t
-    → Refuses t (Some signed)
-number_refused signed number e None n = tt
-number_refused signed number e (Some (token.Number k)) n = absurd n
-number_refused signed number e (Some (token.Name k)) n = e (token.Name [])
-number_refused signed number e (Some (token.Sign s)) n = e (token.Sign s)
+number_refused : (b : Bool) (st : List Frame) (t : Option Token) → IsNoNumber t → Refuses t (Some (Signed b st))
+number_refused b st None n = tt
+number_refused b st (Some (token.Number k)) n = absurd n
+number_refused b st (Some _) n = refl
 
-start_refused : (begin signed number : Place) → ((t : Token) → step begin t ≡ offset_step signed number t)
-    → (t : Option Token)
-    → IsNoNumber t → IsNot Minus t × IsNot Plus t → Refuses t (Some begin)
-start_refused begin signed number e None n q = tt
-start_refused begin signed number e (Some (token.Number k)) n q = absurd n
-start_refused begin signed number e (Some (token.Name k)) n q = e (token.Name [])
-start_refused begin signed number e (Some (token.Sign Minus)) n q = absurd (q.0 refl)
-start_refused begin signed number e (Some (token.Sign Plus)) n q = absurd (q.1 refl)
-start_refused begin signed number e (Some (token.Sign s)) n q = e (token.Sign s)
+offset_refused : (b : Bool) (st : List Frame) (t : Option Token) → IsNoNumber t → IsNot Minus t × IsNot Plus t
+    → Refuses t (Some (Offset b st))
+offset_refused b st None n q = tt
+offset_refused b st (Some (token.Number k)) n q = absurd n
+offset_refused b st (Some (token.Sign Minus)) n q = absurd (q.0 refl)
+offset_refused b st (Some (token.Sign Plus)) n q = absurd (q.1 refl)
+offset_refused b st (Some _) n q = refl
 
-offset_refused : (begin signed number : Place) → ((t : Token) → step begin t ≡ offset_step signed number t)
-    → ((t : Token) → step signed t ≡ number_step number t) → {front rest : List Placed} → NoOffset Expected front rest
-    → Refuses (head rest) (walk (Some begin) (shape front))
-offset_refused begin signed number e g {rest = rest} (f, unsigned, q, none n) =
-    start_refused begin signed number e (head rest) n (q refl)
-offset_refused begin signed number e g {rest = rest} (f, minus, q, none n) =
-    subst (Refuses (head rest)) (sym (e (token.Sign Minus))) (number_refused signed number g (head rest) n)
-offset_refused begin signed number e g {rest = rest} (f, plus, q, none n) =
-    subst (Refuses (head rest)) (sym (e (token.Sign Plus))) (number_refused signed number g (head rest) n)
+-- where an offset stops the next token cannot come
+stop_refused : (b : Bool) (st : List Frame) {front rest : List Placed} → NoOffset Expected front rest
+    → Refuses (head rest) (walk (Some (Offset b st)) (shape front))
+stop_refused b st {rest = rest} (f, unsigned, q, none n) = offset_refused b st (head rest) n (q refl)
+stop_refused b st {rest = rest} (f, _, q, none n) = number_refused b st (head rest) n
 
-comma_refused : (st : List Frame) (t : Option Token) → IsNot Comma t → Refuses t (Some (Between st))
+comma_refused : (st : List Frame) (t : Option Token) → IsNot Comma t → Refuses t (Some (Between false st))
 comma_refused st None n = tt
 comma_refused st (Some (token.Sign Comma)) n = absurd (n refl)
 comma_refused st (Some _) n = refl
 
-bracket_refused : (st : List Frame) (t : Option Token) → IsNot CloseBracket t → Refuses t (Some (Last st))
+bracket_refused : (st : List Frame) (t : Option Token) → IsNot CloseBracket t → Refuses t (Some (Between true st))
 bracket_refused st None n = tt
 bracket_refused st (Some (token.Sign CloseBracket)) n = absurd (n refl)
 bracket_refused st (Some _) n = refl
 
 -- where offsets stop the next token cannot come
 offsets_refused : (st : List Frame) {front rest : List Placed} → NoOffsets Expected front rest
-    → Refuses (head rest) (walk (Some (First st)) (shape front))
-offsets_refused st (first h) = offset_refused (First st) (FirstNumber st) (Between st) (λ t. refl) (λ t. refl) h
-offsets_refused st {rest = rest} (no_comma o n) =
-    subst (Refuses (head rest)) (sym (first_makes st o)) (comma_refused st (head rest) n)
-offsets_refused st {rest = rest} (second {front = front} {mid = mid} c o h) =
-    subst (Refuses (head rest)) (sym (comma_makes st c mid o))
-    (offset_refused (Second st) (SecondNumber st) (Last st) (λ t. refl) (λ t. refl) h)
-offsets_refused st {rest = rest} (no_bracket {front = front} {mid = mid} c o i n) =
-    subst (Refuses (head rest)) (sym (comma_makes st c mid o ∙ second_makes st i)) (bracket_refused st (head rest) n)
+    → Refuses (head rest) (walk (Some (Offset false st)) (shape front))
+offsets_refused st (first h) = stop_refused false st h
+offsets_refused st {rest = rest} (no_comma o n) = rw (offset_makes false st o) (comma_refused st (head rest) n)
+offsets_refused st (second {mid = mid} c o h) = rw (comma_makes st c mid o) (stop_refused true st h)
+offsets_refused st {rest = rest} (no_bracket {mid = mid} c o i n) =
+    rw (comma_makes st c mid o, offset_makes true st i) (bracket_refused st (head rest) n)
 
 -- what holds of the place that the tokens are walked to, by the outcome
 abbrev pub Ends : List Frame → ReadOutcome → Option Place → Type 0
@@ -154,10 +141,6 @@ IsWalked (Onward o) p =
 after_goes : (st : List Frame) (t : Option Token) → GoesAs st t (Some (After st))
 after_goes st None = tt
 after_goes st (Some t) = refl
-
--- one place after an operand
-is_after : (st : List Frame) (t : Option Token) (q : Option Place) → q ≡ Some (After st) → GoesAs st t q
-is_after st t q e = subst (GoesAs st t) (sym e) (after_goes st t)
 
 alone_shape : (t : Token) → IsAlone (Some t) → IsAlone (Some (shape_of t))
 alone_shape (token.Number n) h = (λ e. cc, λ e. cc)
@@ -212,41 +195,26 @@ walked_moved name c d ts (Ok x) (front, e, h) = λ st.
     let goes = subst (GoesAs st (head x.1)) (sym (offsets_make st h)) (after_goes st (head x.1)) in
     walks_next (name_at name c) (walks_next (sign_at OpenBracket d) (record { before = front; all = e; ends = goes }))
 walked_moved name c d ts (Err (kind, rest)) (front, e, h) = λ st.
-    let refused : Ends st (Stops kind rest) (walk (Some (First st)) (shape front)) = λ k.
+    let refused : Ends st (Stops kind rest) (walk (Some (Offset false st)) (shape front)) = λ k.
     offsets_refused st (subst (λ x. NoOffsets x front rest) k h) in
     walks_next (name_at name c)
     (walks_next (sign_at OpenBracket d) (record { before = front; all = e; ends = refused }))
 
-walked_closed : (c : ℕ) (ts : List Placed) (a : Term) (rest : List Placed) (t : Option Token) → head rest ≡ t
-    → IsWalked (Expression ts) (Got a rest)
-    → IsWalked (Operand (sign_at OpenParenthesis c ∷ ts)) (after_bracket t a rest)
-walked_closed c ts a rest (Some (token.Sign CloseParenthesis)) e h = λ st.
-    let f = front_is rest (token.Sign CloseParenthesis) e in
-    let closed : (q : Option Place) → GoesAs (Parenthesis ∷ st) (head rest) q
-    → Walks (GoesAs st (head (tail rest))) q rest (tail rest) = λ q g.
-    let goes = walks_here (after_goes st (head (tail rest))) in
-    subst (λ l. Walks (GoesAs st (head (tail rest))) q l (tail rest)) (sym f.1)
-    (walks_next (sign_at CloseParenthesis f.0) (walks_from (subst (λ t. GoesAs (Parenthesis ∷ st) t q) e g) goes)) in
+walked_closed : (c : ℕ) (ts : List Placed) (a : Term) {rest : List Placed} → Looks rest
+    → IsWalked (Expression ts) (Got a rest) → IsWalked (Operand (sign_at OpenParenthesis c ∷ ts)) (after_bracket (head rest) a rest)
+walked_closed c ts a (ASign CloseParenthesis d rest) h = λ st.
+    let closed = λ (q : Option Place) (g : GoesAs (Parenthesis ∷ st) (Some (token.Sign CloseParenthesis)) q).
+    walks_next (sign_at CloseParenthesis d) (walks_from g (walks_here {Q = GoesAs st (head rest)} (after_goes st (head rest)))) in
     walks_next (sign_at OpenParenthesis c) (walks_then (h.1 (Parenthesis ∷ st)) closed)
-walked_closed c ts a rest t e h = not_closed (subst (IsNot CloseParenthesis) (sym e) (λ k. cc))
-  where
-    not_closed : IsNot CloseParenthesis (head rest) → IsWalked (Operand (sign_at OpenParenthesis c ∷ ts)) (Stops Expected rest)
-    not_closed n = λ st.
-        let refused : (q : Option Place) → GoesAs (Parenthesis ∷ st) (head rest) q → Ends st
-        (Stops Expected rest) q = λ q g _.
-        quiet_refused (Parenthesis ∷ st) (head rest) q h.0 g (parenthesis_refused st (head rest) n) in
-        walks_next (sign_at OpenParenthesis c) (walks_weaken refused (h.1 (Parenthesis ∷ st)))
-
-lower : (op : Operator) → nat_lt (level_of op) top ≡ true
-lower Times = refl
-lower _ = refl
+walked_closed c ts a {rest = rest} _ h = λ st.
+    let open_on = parenthesis_refused st (head rest) (λ k. cc) in
+    walks_next (sign_at OpenParenthesis c)
+    (walks_weaken (λ q g _. quiet_refused (Parenthesis ∷ st) (head rest) q h.0 g open_on) (h.1 (Parenthesis ∷ st)))
 
 none_joins : (x : Option Operator) → below_level top x ≡ None → x ≡ None
 none_joins None e = refl
-none_joins (Some op) e =
-    let go : below_level top (Some op) ≡ Some op = ap (λ b. if b then Some op else None) (lower op) in
-    let h : ⊥ = cc in
-    absurd h
+none_joins (Some Times) e = absurd (let h : ⊥ = cc in h)
+none_joins (Some _) e = absurd (let h : ⊥ = cc in h)
 
 quiet : (ts : List Placed) → next top ts ≡ None → IsNot Question (head ts) → IsQuiet (head ts)
 quiet [] e n = tt
@@ -257,7 +225,7 @@ ends_whole ts (Got a rest) h = h.3
 ends_whole ts (GotAll xs rest) h = tt
 ends_whole ts (Stops kind rest) h = tt
 
-opened_as : (st : List Frame) (t : Token) → IsNot CloseParenthesis (Some t) → opened_step st (shape_of t) ≡ operand_step (Argument ∷ st) (shape_of t)
+opened_as : (st : List Frame) (t : Token) → IsNot CloseParenthesis (Some t) → step (Opened st) (shape_of t) ≡ operand_step (Argument ∷ st) (shape_of t)
 opened_as st (token.Sign CloseParenthesis) n = absurd (n refl)
 opened_as st _ n = refl
 
@@ -302,15 +270,13 @@ walked (reading.called {name = name} {c = c} {d = d} {ts = ts} {o = GotAll xs re
         → IsWalked (Operand (opens ++ ts)) (call_judged b f xs (opens ++ ts) rest)
     go true w = λ st.
         walks_next (name_at name c)
-        (walks_next (sign_at OpenParenthesis d) (walks_weaken (is_after st (head rest)) (w st)))
+        (walks_next (sign_at OpenParenthesis d) (walks_weaken (λ q e. subst (GoesAs st (head rest)) (sym e) (after_goes st (head rest))) (w st)))
     go false w = λ st. walks_here (λ k. absurd (let n : ⊥ = cc in n))
-walked (reading.negated {c = c} {o = Got a rest} r) = λ st. walks_next (sign_at Minus c) (walked r st)
 walked (reading.negated {o = GotAll xs rest} r) = absurd (sound r)
-walked (reading.negated {c = c} {o = Stops kind rest} r) = λ st. walks_next (sign_at Minus c) (walked r st)
-walked (reading.not {c = c} {o = Got a rest} r) = λ st. walks_next (sign_at Exclamation c) (walked r st)
+walked (reading.negated {c = c} r) = λ st. walks_next (sign_at Minus c) (walked r st)
 walked (reading.not {o = GotAll xs rest} r) = absurd (sound r)
-walked (reading.not {c = c} {o = Stops kind rest} r) = λ st. walks_next (sign_at Exclamation c) (walked r st)
-walked (reading.inside {c = c} {ts = ts} {o = Got a rest} r) = walked_closed c ts a rest (head rest) refl (walked r)
+walked (reading.not {c = c} r) = λ st. walks_next (sign_at Exclamation c) (walked r st)
+walked (reading.inside {c = c} {ts = ts} {o = Got a rest} r) = walked_closed c ts a (look rest) (walked r)
 walked (reading.inside {o = GotAll xs rest} r) = absurd (sound r)
 walked (reading.inside {c = c} {o = Stops kind rest} r) =
     let h = walked r in
@@ -337,13 +303,10 @@ walked (asked {c = c} r m) =
 walked unasked = λ i. (tt, λ st q g. walks_here g)
 walked (no_colon {ts = ts} n) = λ i.
     (tt, λ st q g. walks_here (λ k. quiet_refused (Choosing ∷ st) (head ts) q i g (choosing_refused st (head ts) n)))
-walked (otherwise {c = c} {o = Got b rest} r) =
+walked (otherwise {o = GotAll xs rest} r) = absurd (sound r)
+walked (otherwise {c = c} r) =
     let h = walked r in
     λ i. (h.0, λ st q g. walks_next (sign_at Colon c) (walks_from g (h.1 st)))
-walked (otherwise {o = GotAll xs rest} r) = absurd (sound r)
-walked (otherwise {c = c} {o = Stops kind rest} r) =
-    let h = walked r in
-    λ i. (tt, λ st q g. walks_next (sign_at Colon c) (walks_from g (h.1 st)))
 walked (reading.none {c = c}) = λ st. walks_next (sign_at CloseParenthesis c) (walks_here refl)
 walked (reading.some {o = Got a rest} n r) = absurd (sound r)
 walked (reading.some {o = GotAll xs rest} n r) = λ st.
@@ -357,9 +320,7 @@ walked (arguments r m) =
 walked halted = λ i st q g. walks_here g
 walked (reading.last {c = c}) = λ i st q g. walks_next (sign_at CloseParenthesis c) (walks_from g (walks_here refl))
 walked (reading.another {o = Got b rest} r) = absurd (sound r)
-walked (reading.another {c = c} {o = GotAll xs rest} r) = λ i st q g.
-    walks_next (sign_at Comma c) (walks_from g (walked r st))
-walked (reading.another {c = c} {o = Stops kind rest} r) = λ i st q g.
+walked (reading.another {c = c} r) = λ i st q g.
     walks_next (sign_at Comma c) (walks_from g (walked r st))
 walked (unended {ts = ts} n m) = λ i st q g.
     walks_here (λ k. quiet_refused (Argument ∷ st) (head ts) q i g (argument_refused st (head ts) n m))

@@ -6,6 +6,7 @@ use Rattle.cell_calc_tokens.specs.declared.calc_fault.CalcKind.{CalcKind}
 use Rattle.cell_calc_tokens.specs.declared.calc_fault.CalcKind.TheVariants.{Expected, BadOffset}
 use Rattle.cell_calc_tokens.specs.declared.operator.Operator.{Operator}
 use Rattle.cell_calc_tokens.specs.declared.token.Placed.{Placed}
+use Rattle.cell_calc_tokens.specs.declared.token.Sign.{Sign}
 use Rattle.cell_calc_tokens.specs.declared.token.Sign.TheVariants.{Plus, Minus, Exclamation, Question, Colon, OpenParenthesis, CloseParenthesis, OpenBracket, CloseBracket, Comma}
 use Rattle.cell_calc_tokens.specs.declared.token.Token.{Token}
 use Rattle.cell_calc_tokens.specs.declared.token.Token.TheVariants as token
@@ -46,6 +47,22 @@ front_is [] t e = absurd (let h : ⊥ = cc in h)
 front_is (s ∷ ts) t e =
     let same : s.token ≡ t = cc in
     (s.column, ap (λ u. let x : List Placed = record { token = u; column = s.column } ∷ ts in x) same)
+
+-- the token at the front, by what it is
+pub data Looks : List Placed → Type 0 where
+  NoToken : Looks []
+  ANumber : (n c : ℕ) (ts : List Placed) → Looks (token_number_at n c ∷ ts)
+  AName : (name : List ℕ) (c : ℕ) (ts : List Placed) → Looks (name_at name c ∷ ts)
+  ASign : (s : Sign) (c : ℕ) (ts : List Placed) → Looks (sign_at s c ∷ ts)
+
+pub look : (ts : List Placed) → Looks ts
+look [] = NoToken
+look (s ∷ ts) = go s.token s.column
+  where
+    go : (t : Token) (c : ℕ) → Looks (record { token = t; column = c } ∷ ts)
+    go (token.Number n) c = ANumber n c ts
+    go (token.Name name) c = AName name c ts
+    go (token.Sign s) c = ASign s c ts
 
 -- two parts one after the other
 pub both_parts : {ts us : List Placed} (front mid rest : List Placed) → ts ≡ front ++ us → us ≡ mid ++ rest
@@ -99,111 +116,58 @@ offset_of minus n c le = grammar.minus le
 offset_of plus n c le = grammar.plus le
 
 -- a number after its sign
-signed_part : {f : ℕ → ℤ} {front : List Placed} → Signed f front → (ts us : List Placed) → ts ≡ front ++ us
-    → (IsNoNumber (head us) → front ≡ [] → IsNot Minus (head us) × IsNot Plus (head us))
+signed_part : {f : ℕ → ℤ} {l us : List Placed} → Signed f l → (ts : List Placed) → ts ≡ l ++ us
+    → (IsNoNumber (head us) → l ≡ [] → IsNot Minus (head us) × IsNot Plus (head us)) → Looks us
     → IsPart IsOffset NoOffset ts (offset_signed f (distance us))
-signed_part {f = f} {front = front} s ts us e q = go (head us) refl
+signed_part {f = f} {l = l} s ts e q (ANumber n c us) = by (nat_le n 255) refl
   where
-    go : (t : Option Token) → head us ≡ t → IsPart IsOffset NoOffset ts (offset_signed f (distance_at t us))
-    go (Some (token.Number n)) h = by (nat_le n 255) refl
-      where
-        g : (c : ℕ) × (us ≡ token_number_at n c ∷ tail us)
-        g = front_is us (token.Number n) h
-
-        by : (b : Bool) → nat_le n 255 ≡ b
-            → IsPart IsOffset NoOffset ts (offset_signed f (if b then Ok (n, tail us) else Err (BadOffset, us)))
-        by true le =
-            let small : n ≤ 255 = grind (arith, nat_tests) in
-            let number = token_number_at n g.0 in
-            (front ++ number ∷ [], both_parts front (number ∷ []) (tail us) e g.1, offset_of s n g.0 small)
-        by false le =
-            let large : 255 < n = grind (arith, nat_tests) in
-            (front, e, (f, s, λ k. (λ m. cc, λ m. cc), subst (NoNumber BadOffset) (sym g.1) (far large)))
-    go t h =
-        let no = subst IsNoNumber (sym h) tt in
-        (front, e, (f, s, q no, none no))
+    by : (b : Bool) → nat_le n 255 ≡ b
+        → IsPart IsOffset NoOffset ts (offset_signed f (if b then Ok (n, us) else Err (BadOffset, token_number_at n c ∷ us)))
+    by true le =
+        let small : n ≤ 255 = grind (arith, nat_tests) in
+        (l ++ token_number_at n c ∷ [], both_parts l (token_number_at n c ∷ []) us e refl, offset_of s n c small)
+    by false le =
+        let large : 255 < n = grind (arith, nat_tests) in
+        (l, e, (f, s, λ k. (λ m. cc, λ m. cc), far large))
+signed_part {f = f} {l = l} s ts e q _ = (l, e, (f, s, q tt, none tt))
 
 offset_part : (ts : List Placed) → IsPart IsOffset NoOffset ts (offset ts)
-offset_part ts = go (head ts) refl
+offset_part ts = go (look ts)
   where
-    go : (t : Option Token) → head ts ≡ t → IsPart IsOffset NoOffset ts (offset_at t ts)
-    go (Some (token.Sign Minus)) e =
-        signed_part minus ts (tail ts) (front_is ts (token.Sign Minus) e).1 (λ _ k. absurd (let h : ⊥ = cc in h))
-    go (Some (token.Sign Plus)) e =
-        signed_part plus ts (tail ts) (front_is ts (token.Sign Plus) e).1 (λ _ k. absurd (let h : ⊥ = cc in h))
-    go _ e =
-        signed_part unsigned ts ts refl
-        (λ n _. (subst (IsNot Minus) (sym e) (λ k. cc), subst (IsNot Plus) (sym e) (λ k. cc)))
-
--- one part and then another
-part_then : {A B : Type 0} (P : List Placed → A → Type 0) (Q : List Placed → B → Type 0)
-    (E F : CalcKind → List Placed → List Placed → Type 0)
-    (ts : List Placed) (f : A → List Placed → PartOfExpression B)
-    → ((kind : CalcKind) (front rest : List Placed) → E kind front rest → F kind front rest)
-    → ((x : A) (front us : List Placed) → P front x → IsPart (λ mid. Q (front ++ mid))
-    (λ kind mid. F kind (front ++ mid)) us (f x us))
-    → (p : PartOfExpression A) → IsPart P E ts p → IsPart Q F ts (read_then p f)
-part_then P Q E F ts f w g (Err e) h = (h.0, h.1, w e.0 h.0 e.1 h.2)
-part_then {B = B} P Q E F ts f w g (Ok x) h = go (f x.0 x.1) (g x.0 h.0 x.1 h.2)
-  where
-    go : (q : PartOfExpression B) → IsPart (λ mid. Q (h.0 ++ mid)) (λ kind mid. F kind (h.0 ++ mid)) x.1 q
-        → IsPart Q F ts q
-    go (Ok y) n = (h.0 ++ n.0, both_parts h.0 n.0 y.1 h.1 n.1, n.2)
-    go (Err y) n = (h.0 ++ n.0, both_parts h.0 n.0 y.1 h.1 n.1, n.2)
+    go : {us : List Placed} → Looks us → IsPart IsOffset NoOffset us (offset us)
+    go (ASign Minus c us) = signed_part minus (sign_at Minus c ∷ us) refl (λ _ k. absurd (let h : ⊥ = cc in h)) (look us)
+    go (ASign Plus c us) = signed_part plus (sign_at Plus c ∷ us) refl (λ _ k. absurd (let h : ⊥ = cc in h)) (look us)
+    go {us = us} _ = signed_part unsigned us refl (λ _ _. (λ k. cc, λ k. cc)) (look us)
 
 pub offsets_part : (ts : List Placed) → IsPart AreBoth NoOffsets ts (reading.offsets ts)
-offsets_part ts =
-    part_then IsOffset AreBoth NoOffset NoOffsets ts
-    (λ down us. read_then (comma_at (head us) us) (λ _ vs. to_bracket down vs))
-    (λ kind front rest h. first h) (λ down front us o. comma down front us o (head us) refl) (offset ts)
-    (offset_part ts)
+offsets_part ts = one (offset ts) (offset_part ts)
   where
-    bracket : (down right : ℤ) (c : ℕ) (front mid us : List Placed) → IsOffset front down → IsOffset mid right
-        → (t : Option Token) → head us ≡ t
-        → IsPart (λ l. AreBoth (front ++ sign_at Comma c ∷ (mid ++ l)))
-        (λ kind l. NoOffsets kind (front ++ sign_at Comma c ∷ (mid ++ l)))
-        us (read_then (bracket_at t us) (λ _ vs. Ok ((down, right), vs)))
-    bracket down right c front mid us o i (Some (token.Sign CloseBracket)) e =
-        let f = front_is us (token.Sign CloseBracket) e in
-        (sign_at CloseBracket f.0 ∷ [], f.1, grammar.offsets c f.0 o i)
-    bracket down right c front mid us o i t e =
-        let stop = no_bracket c o i (subst (IsNot CloseBracket) (sym e) (λ k. cc)) in
-        ([], refl, subst (λ l. NoOffsets Expected (front ++ sign_at Comma c ∷ l) us) (sym (append-nil mid)) stop)
+    bracket : (l mid : List Placed) (down right : ℤ) (c : ℕ) {us : List Placed} → ts ≡ (l ++ sign_at Comma c ∷ mid) ++ us
+        → IsOffset l down → IsOffset mid right → Looks us
+        → IsPart AreBoth NoOffsets ts (read_then (bracket_at (head us) us) (λ _ vs. Ok ((down, right), vs)))
+    bracket l mid down right c e o i (ASign CloseBracket d us) =
+        (l ++ sign_at Comma c ∷ (mid ++ sign_at CloseBracket d ∷ []), e ∙ simp append_assoc, grammar.offsets c d o i)
+    bracket l mid down right c e o i _ = (l ++ sign_at Comma c ∷ mid, e, no_bracket c o i (λ k. cc))
 
-    after : (down : ℤ) (c : ℕ) (front us : List Placed) → IsOffset front down
-        → IsPart (λ l. AreBoth (front ++ sign_at Comma c ∷ l))
-        (λ kind l. NoOffsets kind (front ++ sign_at Comma c ∷ l)) us (to_bracket down us)
-    after down c front us o =
-        part_then IsOffset (λ l. AreBoth (front ++ sign_at Comma c ∷ l)) NoOffset
-        (λ kind l. NoOffsets kind (front ++ sign_at Comma c ∷ l)) us
-        (λ right vs. read_then (bracket_at (head vs) vs) (λ _ ws. Ok ((down, right), ws)))
-        (λ kind l rest h. second c o h)
-        (λ right mid vs i. bracket down right c front mid vs o i (head vs) refl) (offset us) (offset_part us)
+    two : (l : List Placed) (down : ℤ) (c : ℕ) (us : List Placed) → ts ≡ l ++ sign_at Comma c ∷ us → IsOffset l down
+        → (p : PartOfExpression ℤ) → IsPart IsOffset NoOffset us p
+        → IsPart AreBoth NoOffsets ts
+        (read_then p (λ right vs. read_then (bracket_at (head vs) vs) (λ _ ws. Ok ((down, right), ws))))
+    two l down c us e o (Ok (right, vs)) (mid, f, i) =
+        bracket l mid down right c (both_parts l (sign_at Comma c ∷ mid) vs e (ap (λ l. sign_at Comma c ∷ l) f)) o i (look vs)
+    two l down c us e o (Err x) (mid, f, h) =
+        (l ++ sign_at Comma c ∷ mid, both_parts l (sign_at Comma c ∷ mid) x.1 e (ap (λ l. sign_at Comma c ∷ l) f), second c o h)
 
-    comma : (down : ℤ) (front us : List Placed) → IsOffset front down → (t : Option Token) → head us ≡ t
-        → IsPart (λ l. AreBoth (front ++ l)) (λ kind l. NoOffsets kind (front ++ l)) us
-        (read_then (comma_at t us) (λ _ vs. to_bracket down vs))
-    comma down front us o (Some (token.Sign Comma)) e =
-        go (to_bracket down (tail us)) (after down f.0 front (tail us) o)
-      where
-        f : (c : ℕ) × (us ≡ sign_at Comma c ∷ tail us)
-        f = front_is us (token.Sign Comma) e
+    comma : (l : List Placed) (down : ℤ) {us : List Placed} → ts ≡ l ++ us → IsOffset l down → Looks us
+        → IsPart AreBoth NoOffsets ts (read_then (comma_at (head us) us) (λ _ vs. to_bracket down vs))
+    comma l down e o (ASign Comma c us) = two l down c us e o (offset us) (offset_part us)
+    comma l down e o _ = (l, e, no_comma o (λ k. cc))
 
-        go : (q : PartOfExpression (ℤ × ℤ))
-            → IsPart (λ l. AreBoth (front ++ sign_at Comma f.0 ∷ l))
-            (λ kind l. NoOffsets kind (front ++ sign_at Comma f.0 ∷ l)) (tail us) q
-            → IsPart (λ l. AreBoth (front ++ l)) (λ kind l. NoOffsets kind (front ++ l)) us q
-        go (Ok y) n = (sign_at Comma f.0 ∷ n.0, f.1 ∙ ap (λ l. sign_at Comma f.0 ∷ l) n.1, n.2)
-        go (Err y) n = (sign_at Comma f.0 ∷ n.0, f.1 ∙ ap (λ l. sign_at Comma f.0 ∷ l) n.1, n.2)
-    comma down front us o t e =
-        let stop = no_comma o (subst (IsNot Comma) (sym e) (λ k. cc)) in
-        ([], refl, subst (λ l. NoOffsets Expected l us) (sym (append-nil front)) stop)
-
--- after what was read: a fault goes on
-abbrev pub mapped : (Term → Term) → ReadOutcome → ReadOutcome
-mapped f (Got a rest) = Got (f a) rest
-mapped f (GotAll xs rest) = Stops Expected rest
-mapped f (Stops kind rest) = Stops kind rest
+    one : (p : PartOfExpression ℤ) → IsPart IsOffset NoOffset ts p
+        → IsPart AreBoth NoOffsets ts
+        (read_then p (λ down us. read_then (comma_at (head us) us) (λ _ vs. to_bracket down vs)))
+    one (Ok (down, us)) (l, e, o) = comma l down e o (look us)
+    one (Err x) (l, e, h) = (l, e, first h)
 
 -- the front of the tokens stands for the expression, and does not go on
 abbrev Fronts : ℕ → List Placed → Term → List Placed → Type 0
@@ -243,13 +207,12 @@ sound_moved name c d ts (Ok x) h =
     let opens : List Placed = name_at name c ∷ sign_at OpenBracket d ∷ [] in
     (opens ++ h.0, ap (λ l. opens ++ l) h.1, grammar.moved h.2, next_zero x.1)
 
-sound_closed : (c : ℕ) (ts : List Placed) (a : Term) (rest : List Placed) (t : Option Token) → head rest ≡ t
-    → IsSound (Expression ts) (Got a rest) → IsSound (Operand (sign_at OpenParenthesis c ∷ ts)) (after_bracket t a rest)
-sound_closed c ts a rest (Some (token.Sign CloseParenthesis)) e h =
-    let f = front_is rest (token.Sign CloseParenthesis) e in
-    let all = both_parts h.0 (sign_at CloseParenthesis f.0 ∷ []) (tail rest) h.1 f.1 in
-    (_, ap (λ l. sign_at OpenParenthesis c ∷ l) all, grammar.inside f.0 h.2, next_zero (tail rest))
-sound_closed c ts a rest _ e h = tt
+sound_closed : (c : ℕ) (ts : List Placed) (a : Term) {rest : List Placed} → Looks rest
+    → IsSound (Expression ts) (Got a rest) → IsSound (Operand (sign_at OpenParenthesis c ∷ ts)) (after_bracket (head rest) a rest)
+sound_closed c ts a (ASign CloseParenthesis d rest) h =
+    let all = both_parts h.0 (sign_at CloseParenthesis d ∷ []) rest h.1 refl in
+    (_, ap (λ l. sign_at OpenParenthesis c ∷ l) all, grammar.inside d h.2, next_zero rest)
+sound_closed c ts a _ h = tt
 
 pub sound : {s : State} {o : ReadOutcome} → GrammarReads s o → IsSound s o
 sound (reading.number {n = n} {c = c} {ts = ts}) = (token_number_at n c ∷ [], refl, grammar.number, next_zero ts)
@@ -272,7 +235,7 @@ sound (reading.negated {c = c} {o = Got a rest} r) =
 sound (reading.not {c = c} {o = Got a rest} r) =
     let h = sound r in
     (sign_at Exclamation c ∷ h.0, ap (λ l. sign_at Exclamation c ∷ l) h.1, grammar.not h.2, h.3)
-sound (reading.inside {c = c} {ts = ts} {o = Got a rest} r) = sound_closed c ts a rest (head rest) refl (sound r)
+sound (reading.inside {c = c} {ts = ts} {o = Got a rest} r) = sound_closed c ts a (look rest) (sound r)
 sound (whole {o = Got a us} {p = Got b rest} r m) =
     let h = sound r in
     let n = sound m zero h.0 (omega arith) (next_zero us) h.2 in

@@ -1,5 +1,5 @@
 -- Two cuts of one list.
-use Rattle.std.proofs.Common.{◌≡◌, List, [], ◌∷◌, ◌++◌, length, refl, sym, ap, ◌∙◌, arith, length-append}
+use Rattle.std.proofs.Common.{◌≡◌, List, [], ◌∷◌, ◌++◌, length, refl, sym, ap, ◌∙◌, arith, length-append, append-nil}
 
 -- the cuts are at one place, or the first is before the second, or behind it
 pub data Cuts {A : Type 0} (b : List A) (x : A) (r : List A) (b' : List A) (x' : A) (r' : List A) : Type 0 where
@@ -7,37 +7,10 @@ pub data Cuts {A : Type 0} (b : List A) (x : A) (r : List A) (b' : List A) (x' :
   before : (m : List A) → b' ≡ b ++ x ∷ m → r ≡ m ++ x' ∷ r' → Cuts b x r b' x' r'
   behind : (m : List A) → b ≡ b' ++ x' ∷ m → r' ≡ m ++ x ∷ r → Cuts b x r b' x' r'
 
-next_cut : {A : Type 0} (y y' : A) (b : List A) (x : A) (r b' : List A) (x' : A) (r' : List A) → y ≡ y' → Cuts b x r b' x' r' → Cuts (y ∷ b) x r (y' ∷ b') x' r'
-next_cut y y' b x r b' x' r' h (same e f g) = same (ap (λ z. z ∷ b) h ∙ ap (λ l. y' ∷ l) e) f g
-next_cut y y' b x r b' x' r' h (before m e f) = before m (ap (λ z. z ∷ b') (sym h) ∙ ap (λ l. y ∷ l) e) f
-next_cut y y' b x r b' x' r' h (behind m e f) = behind m (ap (λ z. z ∷ b) h ∙ ap (λ l. y' ∷ l) e) f
-
-pub cuts : {A : Type 0} (b : List A) (x : A) (r b' : List A) (x' : A) (r' : List A) → b ++ x ∷ r ≡ b' ++ x' ∷ r' → Cuts b x r b' x' r'
-cuts [] x r [] x' r' e =
-    let f : x ≡ x' = cc in
-    let g : r ≡ r' = cc in
-    same refl f g
-cuts [] x r (y ∷ b') x' r' e =
-    let f : x ≡ y = cc in
-    let g : r ≡ b' ++ x' ∷ r' = cc in
-    before b' (ap (λ z. z ∷ b') (sym f)) g
-cuts (y ∷ b) x r [] x' r' e =
-    let f : y ≡ x' = cc in
-    let g : b ++ x ∷ r ≡ r' = cc in
-    behind b (ap (λ z. z ∷ b) f) (sym g)
-cuts (y ∷ b) x r (y' ∷ b') x' r' e =
-    let f : y ≡ y' = cc in
-    let g : b ++ x ∷ r ≡ b' ++ x' ∷ r' = cc in
-    next_cut y y' b x r b' x' r' f (cuts b x r b' x' r' g)
-
 -- one stands in the first part, or in the second
 pub data Stays {A : Type 0} (l k b : List A) (x : A) (r : List A) : Type 0 where
   in_first : (m : List A) → l ≡ b ++ x ∷ m → r ≡ m ++ k → Stays l k b x r
   in_second : (m : List A) → k ≡ m ++ x ∷ r → b ≡ l ++ m → Stays l k b x r
-
-next_stays : {A : Type 0} (y y' : A) (l k b : List A) (x : A) (r : List A) → y ≡ y' → Stays l k b x r → Stays (y ∷ l) k (y' ∷ b) x r
-next_stays y y' l k b x r h (in_first m e f) = in_first m (ap (λ z. z ∷ l) h ∙ ap (λ u. y' ∷ u) e) f
-next_stays y y' l k b x r h (in_second m e f) = in_second m e (ap (λ u. y' ∷ u) f ∙ ap (λ z. z ∷ (l ++ m)) (sym h))
 
 pub stays : {A : Type 0} (l k b : List A) (x : A) (r : List A) → l ++ k ≡ b ++ x ∷ r → Stays l k b x r
 stays [] k b x r e = in_second b e refl
@@ -48,7 +21,15 @@ stays (y ∷ l) k [] x r e =
 stays (y ∷ l) k (y' ∷ b) x r e =
     let f : y ≡ y' = cc in
     let g : l ++ k ≡ b ++ x ∷ r = cc in
-    next_stays y y' l k b x r f (stays l k b x r g)
+    elim (stays l k b x r g) [ in_first m h i ↦ in_first m (cc) i | in_second m h i ↦ in_second m h (cc) ]
+
+pub cuts : {A : Type 0} (b : List A) (x : A) (r b' : List A) (x' : A) (r' : List A) → b ++ x ∷ r ≡ b' ++ x' ∷ r' → Cuts b x r b' x' r'
+cuts b x r b' x' r' e = go (stays b (x ∷ r) b' x' r' e)
+  where
+    go : Stays b (x ∷ r) b' x' r' → Cuts b x r b' x' r'
+    go (in_first m f g) = behind m f g
+    go (in_second [] f g) = same (sym (g ∙ append-nil b)) (cc) (cc)
+    go (in_second (y ∷ m) f g) = before m (cc) (cc)
 
 pub not_longer : {A : Type 0} (x : A) (m l : List A) → l ≡ x ∷ (m ++ l) → ⊥
 not_longer x m l e =
@@ -59,11 +40,11 @@ pub not_nothing : {A : Type 0} (b : List A) (x : A) (r : List A) → [] ≡ b ++
 not_nothing [] x r e = cc
 not_nothing (y ∷ b) x r e = cc
 
--- what is last
-pub same_last : {A : Type 0} (b : List A) (x : A) (b' : List A) (x' : A) → b ++ x ∷ [] ≡ b' ++ x' ∷ [] → x ≡ x'
-same_last b x b' x' e = go (cuts b x [] b' x' [] e)
-  where
-    go : Cuts b x [] b' x' [] → x ≡ x'
-    go (same f g h) = g
-    go (before m f g) = absurd (not_nothing m x' [] g)
-    go (behind m f g) = absurd (not_nothing m x [] g)
+-- what is last, and what stands before it
+pub same_ends : {A : Type 0} (b : List A) (x : A) (b' : List A) (x' : A) → b ++ x ∷ [] ≡ b' ++ x' ∷ [] → (b ≡ b') × (x ≡ x')
+same_ends b x b' x' e =
+    elim (cuts b x [] b' x' [] e) [
+      | same f g h ↦ (f, g)
+      | before m f g ↦ absurd (not_nothing m x' [] g)
+      | behind m f g ↦ absurd (not_nothing m x [] g)
+    ]

@@ -1,5 +1,5 @@
 -- What is read before a fault can go on, by its shape.
-use Rattle.std.proofs.Common.{◌≡◌, ℕ, zero, suc, pred, ◌<◌, ◌≤◌, ℤ, pos, List, [], ◌∷◌, ◌++◌, Option, Some, None, Ok, Err, Bool, true, false, refl, sym, ap, ◌∙◌, subst, arith, append_assoc, append-nil, ◌⊎◌, inl, inr}
+use Rattle.std.proofs.Common.{◌≡◌, ℕ, zero, suc, pred, ◌<◌, ◌≤◌, ℤ, pos, List, [], ◌∷◌, ◌++◌, Some, None, Ok, Err, Bool, true, false, refl, sym, ap, ◌∙◌, subst, arith, append_assoc, append-nil, ◌⊎◌, inl, inr}
 use Rattle.std.specs.Prelude.{nat_le, codes}
 use Rattle.std.proofs.lemmas.Bool.Decides.{nat_tests}
 use Rattle.cell_calc_tokens.specs.declared.calc_fault.CalcKind.{CalcKind}
@@ -8,8 +8,6 @@ use Rattle.cell_calc_tokens.specs.declared.function.Function.{Function}
 use Rattle.cell_calc_tokens.specs.declared.function.Function.TheVariants.{Null, Eval}
 use Rattle.cell_calc_tokens.specs.declared.token.Placed.{Placed}
 use Rattle.cell_calc_tokens.specs.declared.token.Sign.TheVariants.{Minus, Exclamation, Question, Colon, OpenParenthesis, CloseParenthesis, OpenBracket, CloseBracket, Comma}
-use Rattle.cell_calc_tokens.specs.declared.token.Token.{Token}
-use Rattle.cell_calc_tokens.specs.declared.token.Token.TheVariants as token
 use Rattle.cell_calc_tokens.specs.Function.{function_of, accepts}
 use Rattle.cell_calc_grammar.specs.Grammar as grammar
 use Rattle.cell_calc_grammar.specs.Grammar.{IsOffset, AreOffsets, Stands, IsExpression, AreCalled, AreArguments, below, joined, choice}
@@ -20,7 +18,7 @@ use Rattle.cell_calc_grammar.specs.Shape.{shape}
 use Rattle.cell_calc_grammar.specs.Tree.{Tree}
 use Rattle.cell_calc_grammar.specs.Term.{Term, Terms, NoTrees, Negated, Not, count, map_name}
 use Rattle.cell_calc_tokens.specs.Token.{token_number_at, name_at, sign_at, head}
-use Rattle.cell_calc_grammar.proofs.Sound.{raise, next_zero, offset_of, NoNumber, none, far, NoOffsets, first, no_comma, second, no_bracket, IsPart, AreBoth, offsets_part, goes_joined, IsSound, sound}
+use Rattle.cell_calc_grammar.proofs.Sound.{raise, next_zero, Looks, ASign, look, offset_of, NoNumber, none, far, NoOffsets, first, no_comma, second, no_bracket, IsPart, AreBoth, offsets_part, goes_joined, IsSound, sound}
 use Rattle.cell_calc_grammar.proofs.Walk.{shape_append}
 
 -- after the opening bracket of a map, where an offset stops at a number
@@ -61,39 +59,29 @@ segment_after BadOffset f before seg (n, c, e, over, (front, inner, rest, name, 
     (n, c, e, over, (f ++ front, inner, rest, name, d, d', ap (λ l. f ++ l) all ∙ sym (append_assoc f front opens), stop))
 segment_after _ f before seg t = t
 
--- after other tokens
-viable_after : (P Q : List Placed → Type 0) (f g : List Placed) {ts : List Placed} {kind : CalcKind}
-    {rest : List Placed}
-    → shape g ≡ shape f → ((l : List Placed) → P l → Q (g ++ l)) → Viable P ts kind rest → Viable Q (f ++ ts) kind rest
-viable_after P Q f g {kind = kind} {rest = rest} e w v = record {
+-- between other tokens
+viable_between : (P Q : List Placed → Type 0) (f g ends : List Placed) {ts : List Placed} {kind : CalcKind} {rest : List Placed}
+    → shape g ≡ shape f → ((l : List Placed) → P l → Q (g ++ (l ++ ends))) → Viable P ts kind rest
+    → Viable Q (f ++ ts) kind rest
+viable_between P Q f g ends {kind = kind} {rest = rest} e w v = record {
   before = f ++ v.before;
   seg = v.seg;
   more = v.more;
   us = g ++ v.us;
-  after = v.after;
+  after = v.after ++ ends;
   all = ap (λ l. f ++ l) v.all ∙ sym (append_assoc f v.before rest);
   front = v.front;
   told = segment_after kind f v.before v.seg v.told;
   same = shape_append g v.us ∙ ap (λ l. l ++ shape v.us) e ∙ ap (λ l. shape f ++ l) v.same
       ∙ sym (shape_append f (v.before ++ v.seg)) ∙ ap shape (sym (append_assoc f v.before v.seg));
-  goes = subst Q (sym (append_assoc g v.us v.after)) (w (v.us ++ v.after) v.goes);
+  goes = simp append_assoc (simp append_assoc at (w (v.us ++ v.after) v.goes));
 }
 
--- before other tokens
-viable_to : (P Q : List Placed → Type 0) (ends : List Placed) {ts : List Placed} {kind : CalcKind} {rest : List Placed}
-    → ((l : List Placed) → P l → Q (l ++ ends)) → Viable P ts kind rest → Viable Q ts kind rest
-viable_to P Q ends w v = record {
-  before = v.before;
-  seg = v.seg;
-  more = v.more;
-  us = v.us;
-  after = v.after ++ ends;
-  all = v.all;
-  front = v.front;
-  told = v.told;
-  same = v.same;
-  goes = subst Q (append_assoc v.us v.after ends) (w (v.us ++ v.after) v.goes);
-}
+-- after other tokens
+viable_after : (P Q : List Placed → Type 0) (f g : List Placed) {ts : List Placed} {kind : CalcKind}
+    {rest : List Placed}
+    → shape g ≡ shape f → ((l : List Placed) → P l → Q (g ++ l)) → Viable P ts kind rest → Viable Q (f ++ ts) kind rest
+viable_after P Q f g e w v = viable_between P Q f g [] e (λ l x. rw append-nil (w l x)) v
 
 -- other names and numbers of one shape, and what follows them
 viable_made : (P : List Placed → Type 0) (before seg rest us after : List Placed) {ts : List Placed} {kind : CalcKind}
@@ -126,7 +114,7 @@ viable_past Q f {kind = kind} {rest = rest} e v =
 zero_offset : IsOffset (token_number_at 0 0 ∷ []) (pos 0)
 zero_offset = IsOffset.plain (omega arith)
 
-zero_expression : IsExpression (token_number_at 0 0 ∷ []) (Tree.Number 0)
+pub zero_expression : IsExpression (token_number_at 0 0 ∷ []) (Tree.Number 0)
 zero_expression =
     grammar.IsExpression.plain (raise zero top (token_number_at 0 0 ∷ []) (Tree.Number 0) (omega arith) grammar.number)
 
@@ -236,13 +224,11 @@ closing : (c d : ℕ) (l : List Placed) → SomeExpression l
     → SomeOf zero (sign_at OpenParenthesis c ∷ (l ++ sign_at CloseParenthesis d ∷ []))
 closing c d l h = (h.0, grammar.inside d h.1)
 
-viable_closed : (c : ℕ) (ts : List Placed) (a : Term) (rest : List Placed) (t : Option Token)
-    → IsSound (Expression ts) (Got a rest)
-    → IsViable (Operand (sign_at OpenParenthesis c ∷ ts)) (after_bracket t a rest)
-viable_closed c ts a rest (Some (token.Sign CloseParenthesis)) h = tt
-viable_closed c ts a rest _ h =
-    let opens : List Placed = sign_at OpenParenthesis c ∷ h.0 in
-    viable_front (SomeOf zero) opens (sign_at CloseParenthesis 0 ∷ []) (ap (λ l. sign_at OpenParenthesis c ∷ l) h.1)
+viable_closed : (c : ℕ) (ts : List Placed) (a : Term) {rest : List Placed} → Looks rest → IsSound (Expression ts) (Got a rest)
+    → IsViable (Operand (sign_at OpenParenthesis c ∷ ts)) (after_bracket (head rest) a rest)
+viable_closed c ts a (ASign CloseParenthesis d rest) h = tt
+viable_closed c ts a _ h =
+    viable_front (SomeOf zero) (sign_at OpenParenthesis c ∷ h.0) (sign_at CloseParenthesis 0 ∷ []) (ap (λ l. sign_at OpenParenthesis c ∷ l) h.1)
     (closing c 0 h.0 (a, h.2))
 
 pub viable : {s : State} {o : ReadOutcome} → GrammarReads s o → IsViable s o
@@ -282,19 +268,17 @@ viable (reading.not {o = GotAll xs rest} r) = absurd (sound r)
 viable (reading.not {c = c} {o = Stops kind rest} r) =
     viable_after (SomeOf zero) (SomeOf zero) (sign_at Exclamation c ∷ []) (sign_at Exclamation c ∷ []) refl
     (λ l x. (Not x.0, grammar.not x.1)) (viable r)
-viable (reading.inside {c = c} {ts = ts} {o = Got a rest} r) = viable_closed c ts a rest (head rest) (sound r)
+viable (reading.inside {c = c} {ts = ts} {o = Got a rest} r) = viable_closed c ts a (look rest) (sound r)
 viable (reading.inside {o = GotAll xs rest} r) = absurd (sound r)
 viable (reading.inside {c = c} {o = Stops kind rest} r) =
-    let P : List Placed → Type 0 = λ l. SomeOf zero (sign_at OpenParenthesis c ∷ l) in
-    viable_past (SomeOf zero) (sign_at OpenParenthesis c ∷ []) refl
-    (viable_to SomeExpression P (sign_at CloseParenthesis 0 ∷ []) (closing c 0) (viable r))
+    let open_at : List Placed = sign_at OpenParenthesis c ∷ [] in
+    viable_between SomeExpression (SomeOf zero) open_at open_at (sign_at CloseParenthesis 0 ∷ []) refl (closing c 0) (viable r)
 viable (nothing b) = viable_front (SomeOf zero) [] (token_number_at 0 0 ∷ []) refl (_, grammar.number)
+viable (whole {k = k} {p = Stops kind rest} r stopped) =
+    viable_after (SomeOf zero) (SomeOf k) [] [] refl (λ l x. (x.0, raise zero k l x.0 (omega arith) x.1)) (viable r)
 viable (whole {k = k} {o = Got a us} {p = Stops kind rest} r m) =
     let h = sound r in
     viable_past (SomeOf k) h.0 h.1 (viable m zero h.0 (omega arith) (next_zero us) h.2)
-viable (whole {o = GotAll xs us} r m) = absurd (sound r)
-viable (whole {k = k} {p = Stops kind rest} r stopped) =
-    viable_after (SomeOf zero) (SomeOf k) [] [] refl (λ l x. (x.0, raise zero k l x.0 (omega arith) x.1)) (viable r)
 viable (more {k = k} {s = s} {ts = ts} {o = Got b us} {p = Stops kind rest} op e r m) = λ j front le stop st.
     let h = sound r in
     let both = goes_joined j k s ts op e stop st h.2 in
@@ -308,22 +292,20 @@ viable (more {k = k} {s = s} {ts = ts} {p = Stops kind rest} op e r stopped) = �
     viable_after (SomeOf (level_of op)) (λ l. SomeOf k (front ++ l)) (s ∷ []) (s ∷ []) refl
     (λ l x. let both = goes_joined j k s ts op e stop st x.1 in
     (_, raise (suc (level_of op)) k (front ++ s ∷ l) _ both.1 both.0)) (viable r)
+viable (expression {p = Stops kind rest} r unread) =
+    viable_after (SomeOf top) SomeExpression [] [] refl (λ l x. (x.0, grammar.IsExpression.plain x.1)) (viable r)
 viable (expression {o = Got a us} {p = Stops kind rest} r m) =
     let h = sound r in
     viable_past SomeExpression h.0 h.1 (viable m h.0 h.2)
-viable (expression {o = GotAll xs us} r m) = absurd (sound r)
-viable (expression {p = Stops kind rest} r unread) =
-    viable_after (SomeOf top) SomeExpression [] [] refl (λ l x. (x.0, grammar.IsExpression.plain x.1)) (viable r)
 viable (asked {c = c} {o = Got a us} {p = Stops kind rest} r m) = λ front st.
     let h = sound r in
     viable_past (λ l. SomeExpression (front ++ l)) (sign_at Question c ∷ h.0) (ap (λ l. sign_at Question c ∷ l) h.1)
     (viable m front h.0 c st h.2)
 viable (asked {o = GotAll xs us} r m) = absurd (sound r)
 viable (asked {c = c} {p = Stops kind rest} r unasked) = λ front st.
-    let P : List Placed → Type 0 = λ l. SomeExpression (front ++ sign_at Question c ∷ l) in
-    viable_past (λ l. SomeExpression (front ++ l)) (sign_at Question c ∷ []) refl
-    (viable_to SomeExpression P (sign_at Colon 0 ∷ token_number_at 0 0 ∷ [])
-    (λ l y. (_, choice c 0 st y.1 zero_expression)) (viable r))
+    let ask : List Placed = sign_at Question c ∷ [] in
+    viable_between SomeExpression (λ l. SomeExpression (front ++ l)) ask ask (sign_at Colon 0 ∷ token_number_at 0 0 ∷ []) refl
+    (λ l y. (_, choice c 0 st y.1 zero_expression)) (viable r)
 viable (no_colon {ts = ts} n) = λ front us c st ex.
     let P : List Placed → Type 0 = λ l. SomeExpression (front ++ sign_at Question c ∷ (us ++ l)) in
     viable_front P [] (sign_at Colon 0 ∷ token_number_at 0 0 ∷ []) refl (_, choice c 0 st ex zero_expression)
@@ -338,7 +320,7 @@ viable (arguments {o = Got a us} {p = Stops kind rest} r m) =
     viable_past SomeArguments h.0 h.1 (viable m h.0 h.2)
 viable (arguments {o = GotAll xs us} r m) = absurd (sound r)
 viable (arguments {p = Stops kind rest} r halted) =
-    viable_to SomeExpression SomeArguments (sign_at CloseParenthesis 0 ∷ []) (λ l x. (_, grammar.last 0 x.1)) (viable r)
+    viable_between SomeExpression SomeArguments [] [] (sign_at CloseParenthesis 0 ∷ []) refl (λ l x. (_, grammar.last 0 x.1)) (viable r)
 viable (reading.another {o = Got b rest} r) = absurd (sound r)
 viable (reading.another {c = c} {o = Stops kind rest} r) = λ front ex.
     viable_after SomeArguments (λ l. SomeArguments (front ++ l)) (sign_at Comma c ∷ []) (sign_at Comma c ∷ []) refl

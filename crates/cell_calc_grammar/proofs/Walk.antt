@@ -1,9 +1,8 @@
 -- Where a list of tokens stands after each of them, by their shape alone.
-use Rattle.std.proofs.Common.{◌≡◌, ℕ, ℤ, List, [], ◌∷◌, ◌++◌, Option, Some, None, refl, sym, ap, ◌∙◌, subst, ◌⊎◌, inl, inr}
+use Rattle.std.proofs.Common.{◌≡◌, ℕ, ℤ, List, [], ◌∷◌, ◌++◌, Option, Some, None, Bool, true, false, refl, sym, ap, ◌∙◌, subst, ◌⊎◌, inl, inr}
 use Rattle.std.proofs.lemmas.List.{map-append}
 use Rattle.cell_calc_tokens.specs.declared.operator.Operator.{Operator}
 use Rattle.cell_calc_tokens.specs.declared.token.Placed.{Placed}
-use Rattle.cell_calc_tokens.specs.declared.token.Sign.{Sign}
 use Rattle.cell_calc_tokens.specs.declared.token.Sign.TheVariants.{Plus, Minus, Exclamation, Question, Colon, OpenParenthesis, CloseParenthesis, OpenBracket, CloseBracket, Comma, Assign}
 use Rattle.cell_calc_tokens.specs.declared.token.Token.{Token}
 use Rattle.cell_calc_tokens.specs.declared.token.Token.TheVariants as token
@@ -29,12 +28,9 @@ pub data Place : Type 0 where
   Opened : (st : List Frame) → Place
   Named : (st : List Frame) → Place
   After : (st : List Frame) → Place
-  First : (st : List Frame) → Place
-  FirstNumber : (st : List Frame) → Place
-  Between : (st : List Frame) → Place
-  Second : (st : List Frame) → Place
-  SecondNumber : (st : List Frame) → Place
-  Last : (st : List Frame) → Place
+  Offset : (second : Bool) (st : List Frame) → Place
+  Signed : (second : Bool) (st : List Frame) → Place
+  Between : (second : Bool) (st : List Frame) → Place
 
 -- where an operand may begin
 abbrev pub operand_step : List Frame → Token → Option Place
@@ -65,56 +61,24 @@ joins_step st t None = asks_step st t
 abbrev pub after_step : List Frame → Token → Option Place
 after_step st t = joins_step st t (operator_of t)
 
-abbrev pub named_step : List Frame → Token → Option Place
-named_step st (token.Sign OpenParenthesis) = Some (Opened st)
-named_step st (token.Sign OpenBracket) = Some (First st)
-named_step st t = after_step st t
-
-abbrev pub opened_step : List Frame → Token → Option Place
-opened_step st (token.Sign CloseParenthesis) = Some (After st)
-opened_step st t = operand_step (Argument ∷ st) t
-
--- where a number may come, or a sign before it
-abbrev pub offset_step : (signed number : Place) → Token → Option Place
-offset_step signed number (token.Number n) = Some number
-offset_step signed number (token.Sign Minus) = Some signed
-offset_step signed number (token.Sign Plus) = Some signed
-offset_step signed number _ = None
-
-abbrev pub number_step : Place → Token → Option Place
-number_step number (token.Number n) = Some number
-number_step number _ = None
-
-abbrev pub start_step : Token → Option Place
-start_step (token.Name n) = Some Target
-start_step _ = None
-
-abbrev pub target_step : Token → Option Place
-target_step (token.Sign Assign) = Some (Operand [])
-target_step _ = None
-
-abbrev pub comma_step : List Frame → Token → Option Place
-comma_step st (token.Sign Comma) = Some (Second st)
-comma_step st _ = None
-
-abbrev pub bracket_step : List Frame → Token → Option Place
-bracket_step st (token.Sign CloseBracket) = Some (After st)
-bracket_step st _ = None
-
 -- the place after the next token
 abbrev pub step : Place → Token → Option Place
-step Start t = start_step t
-step Target t = target_step t
+step Start (token.Name n) = Some Target
+step Target (token.Sign Assign) = Some (Operand [])
 step (Operand st) t = operand_step st t
-step (Opened st) t = opened_step st t
-step (Named st) t = named_step st t
+step (Opened st) (token.Sign CloseParenthesis) = Some (After st)
+step (Opened st) t = operand_step (Argument ∷ st) t
+step (Named st) (token.Sign OpenParenthesis) = Some (Opened st)
+step (Named st) (token.Sign OpenBracket) = Some (Offset false st)
+step (Named st) t = after_step st t
 step (After st) t = after_step st t
-step (First st) t = offset_step (FirstNumber st) (Between st) t
-step (FirstNumber st) t = number_step (Between st) t
-step (Between st) t = comma_step st t
-step (Second st) t = offset_step (SecondNumber st) (Last st) t
-step (SecondNumber st) t = number_step (Last st) t
-step (Last st) t = bracket_step st t
+step (Offset second st) (token.Number n) = Some (Between second st)
+step (Offset second st) (token.Sign Minus) = Some (Signed second st)
+step (Offset second st) (token.Sign Plus) = Some (Signed second st)
+step (Signed second st) (token.Number n) = Some (Between second st)
+step (Between false st) (token.Sign Comma) = Some (Offset true st)
+step (Between true st) (token.Sign CloseBracket) = Some (After st)
+step _ _ = None
 
 abbrev pub step_on : Option Place → Token → Option Place
 step_on None t = None
@@ -144,7 +108,7 @@ walk_both p ts us = ap (walk p) (shape_append ts us) ∙ walk_append p (shape ts
 abbrev pub Lands : List Frame → Option Place → Type 0
 Lands st p = (p ≡ Some (After st)) ⊎ (p ≡ Some (Named st))
 
-pub named_alone : (st : List Frame) (t : Token) → IsAlone (Some t) → named_step st t ≡ after_step st t
+pub named_alone : (st : List Frame) (t : Token) → IsAlone (Some t) → step (Named st) t ≡ after_step st t
 named_alone st (token.Sign OpenParenthesis) n = absurd (n.0 refl)
 named_alone st (token.Sign OpenBracket) n = absurd (n.1 refl)
 named_alone st _ n = refl
@@ -158,31 +122,23 @@ landed st p t (inr e) n = ap (λ q. step_on q t) e ∙ named_alone st t n
 abbrev pub Makes : List Placed → Type 0
 Makes ts = (st : List Frame) → Lands st (walk (Some (Operand st)) (shape ts))
 
-offset_makes : {ts : List Placed} {z : ℤ} (first : Place) → IsOffset ts z → (signed number : Place) → ((t : Token) → step first t ≡ offset_step signed number t) → ((t : Token) → step signed t ≡ number_step number t)
-    → walk (Some first) (shape ts) ≡ Some number
-offset_makes first (grammar.IsOffset.plain h) signed number e f = e _
-offset_makes first (grammar.minus h) signed number e f = ap (λ p. step_on p (token.Number 0)) (e (token.Sign Minus)) ∙ f _
-offset_makes first (grammar.plus h) signed number e f = ap (λ p. step_on p (token.Number 0)) (e (token.Sign Plus)) ∙ f _
-
-pub first_makes : {ts : List Placed} {z : ℤ} (st : List Frame) → IsOffset ts z → walk (Some (First st)) (shape ts) ≡ Some (Between st)
-first_makes st h = offset_makes (First st) h (FirstNumber st) (Between st) (λ t. refl) (λ t. refl)
-
-pub second_makes : {ts : List Placed} {z : ℤ} (st : List Frame) → IsOffset ts z → walk (Some (Second st)) (shape ts) ≡ Some (Last st)
-second_makes st h = offset_makes (Second st) h (SecondNumber st) (Last st) (λ t. refl) (λ t. refl)
+pub offset_makes : {ts : List Placed} {z : ℤ} (second : Bool) (st : List Frame) → IsOffset ts z → walk (Some (Offset second st)) (shape ts) ≡ Some (Between second st)
+offset_makes second st (grammar.IsOffset.plain h) = refl
+offset_makes second st _ = refl
 
 -- the first offset and the comma
 pub comma_makes : {ts : List Placed} {z : ℤ} (st : List Frame) (c : ℕ) (us : List Placed) → IsOffset ts z
-    → walk (Some (First st)) (shape (ts ++ sign_at Comma c ∷ us)) ≡ walk (Some (Second st)) (shape us)
+    → walk (Some (Offset false st)) (shape (ts ++ sign_at Comma c ∷ us)) ≡ walk (Some (Offset true st)) (shape us)
 comma_makes {ts = ts} st c us h =
-    walk_both (Some (First st)) ts (sign_at Comma c ∷ us)
-    ∙ ap (λ p. walk p (shape (sign_at Comma c ∷ us))) (first_makes st h)
+    walk_both (Some (Offset false st)) ts (sign_at Comma c ∷ us)
+    ∙ ap (λ p. walk p (shape (sign_at Comma c ∷ us))) (offset_makes false st h)
 
 pub offsets_make : {ts : List Placed} {down right : ℤ} (st : List Frame) → AreOffsets ts down right
-    → walk (Some (First st)) (shape ts) ≡ Some (After st)
+    → walk (Some (Offset false st)) (shape ts) ≡ Some (After st)
 offsets_make st (grammar.offsets {ts = ts} {us = us} c d h g) =
     comma_makes st c (us ++ sign_at CloseBracket d ∷ []) h
-    ∙ walk_both (Some (Second st)) us (sign_at CloseBracket d ∷ [])
-    ∙ ap (λ p. walk p (shape (sign_at CloseBracket d ∷ []))) (second_makes st g)
+    ∙ walk_both (Some (Offset true st)) us (sign_at CloseBracket d ∷ [])
+    ∙ ap (λ p. walk p (shape (sign_at CloseBracket d ∷ []))) (offset_makes true st g)
 
 -- tokens, and another that goes on after them
 pub then_walk : (st : List Frame) (p : Option Place) (ts us : List Placed) (s : Placed) (q : Option Place) → Lands st (walk p (shape ts)) → IsAlone (Some (shape_of s.token)) → after_step st (shape_of s.token) ≡ q
@@ -196,31 +152,14 @@ operator_shape (token.Number n) = refl
 operator_shape (token.Name n) = refl
 operator_shape (token.Sign s) = refl
 
-no_operator : (s : Sign) (t : Token) (op : Operator) → operator_of t ≡ Some op → operator_of (token.Sign s) ≡ None → Some t ≡ Some (token.Sign s) → ⊥
-no_operator s t op e n h =
-    let same : t ≡ token.Sign s = cc in
-    let is : operator_of (token.Sign s) ≡ Some op = ap operator_of (sym same) ∙ e in
-    cc
-
 pub operator_after : (st : List Frame) (t : Token) (op : Operator) → operator_of t ≡ Some op → after_step st (shape_of t) ≡ Some (Operand st)
 operator_after st t op e = ap (joins_step st (shape_of t)) (operator_shape t ∙ e)
 
-operator_alone : (t : Token) (op : Operator) → operator_of t ≡ Some op → IsAlone (Some (shape_of t))
-operator_alone t op e =
-    let f = operator_shape t ∙ e in
-    (no_operator OpenParenthesis (shape_of t) op f refl, no_operator OpenBracket (shape_of t) op f refl)
-
-close_alone : IsAlone (Some (token.Sign CloseParenthesis))
-close_alone = (λ e. cc, λ e. cc)
-
-comma_alone : IsAlone (Some (token.Sign Comma))
-comma_alone = (λ e. cc, λ e. cc)
-
-colon_alone : IsAlone (Some (token.Sign Colon))
-colon_alone = (λ e. cc, λ e. cc)
-
-question_alone : IsAlone (Some (token.Sign Question))
-question_alone = (λ e. cc, λ e. cc)
+-- an operator opens nothing
+pub operator_alone : (t : Token) (op : Operator) → operator_of t ≡ Some op → IsAlone (Some t)
+operator_alone (token.Sign OpenParenthesis) op e = absurd (let h : ⊥ = cc in h)
+operator_alone (token.Sign OpenBracket) op e = absurd (let h : ⊥ = cc in h)
+operator_alone _ op e = (λ h. cc, λ h. cc)
 
 -- no argument begins with the closing parenthesis
 pub opened_walk : (st : List Frame) (ts : List Token) → walk (Some (Operand (Argument ∷ st))) ts ≡ Some (After st) → walk (Some (Opened st)) ts ≡ Some (After st)
@@ -239,16 +178,16 @@ mutual
   stands_makes (grammar.negated s) st = stands_makes s st
   stands_makes (grammar.not s) st = stands_makes s st
   stands_makes (grammar.inside {c = c} {ts = ts} d s) st =
-      inl (then_walk (Parenthesis ∷ st) (Some (Operand (Parenthesis ∷ st))) ts [] (sign_at CloseParenthesis d) (Some (After st)) (expression_makes s (Parenthesis ∷ st)) close_alone refl)
+      inl (then_walk (Parenthesis ∷ st) (Some (Operand (Parenthesis ∷ st))) ts [] (sign_at CloseParenthesis d) (Some (After st)) (expression_makes s (Parenthesis ∷ st)) (λ e. cc, λ e. cc) refl)
   stands_makes (below s) st = stands_makes s st
   stands_makes (joined {ts = ts} {us = us} s op e l sa sb) st =
-      subst (Lands st) (sym (then_walk st (Some (Operand st)) ts us s (Some (Operand st)) (stands_makes sa st) (operator_alone s.token op e) (operator_after st s.token op e))) (stands_makes sb st)
+      subst (Lands st) (sym (then_walk st (Some (Operand st)) ts us s (Some (Operand st)) (stands_makes sa st) (operator_alone (shape_of s.token) op (operator_shape s.token ∙ e)) (operator_after st s.token op e))) (stands_makes sb st)
 
   pub expression_makes : {ts : List Placed} {a : Term} → IsExpression ts a → Makes ts
   expression_makes (grammar.IsExpression.plain s) st = stands_makes s st
   expression_makes (choice {ts = ts} {us = us} {vs = vs} c d s t u) st =
-      let first = then_walk st (Some (Operand st)) ts (us ++ sign_at Colon d ∷ vs) (sign_at Question c) (Some (Operand (Choosing ∷ st))) (stands_makes s st) question_alone refl in
-      let second = then_walk (Choosing ∷ st) (Some (Operand (Choosing ∷ st))) us vs (sign_at Colon d) (Some (Operand st)) (expression_makes t (Choosing ∷ st)) colon_alone refl in
+      let first = then_walk st (Some (Operand st)) ts (us ++ sign_at Colon d ∷ vs) (sign_at Question c) (Some (Operand (Choosing ∷ st))) (stands_makes s st) (λ e. cc, λ e. cc) refl in
+      let second = then_walk (Choosing ∷ st) (Some (Operand (Choosing ∷ st))) us vs (sign_at Colon d) (Some (Operand st)) (expression_makes t (Choosing ∷ st)) (λ e. cc, λ e. cc) refl in
       subst (Lands st) (sym (first ∙ second)) (expression_makes u st)
 
   pub called_walks : {ts : List Placed} {xs : Terms} → AreCalled ts xs → (st : List Frame) → walk (Some (Opened st)) (shape ts) ≡ Some (After st)
@@ -257,6 +196,6 @@ mutual
 
   pub arguments_walk : {ts : List Placed} {xs : Terms} → AreArguments ts xs → (st : List Frame) → walk (Some (Operand (Argument ∷ st))) (shape ts) ≡ Some (After st)
   arguments_walk (grammar.last {ts = ts} c s) st =
-      then_walk (Argument ∷ st) (Some (Operand (Argument ∷ st))) ts [] (sign_at CloseParenthesis c) (Some (After st)) (expression_makes s (Argument ∷ st)) close_alone refl
+      then_walk (Argument ∷ st) (Some (Operand (Argument ∷ st))) ts [] (sign_at CloseParenthesis c) (Some (After st)) (expression_makes s (Argument ∷ st)) (λ e. cc, λ e. cc) refl
   arguments_walk (grammar.another {ts = ts} {us = us} c s q) st =
-      then_walk (Argument ∷ st) (Some (Operand (Argument ∷ st))) ts us (sign_at Comma c) (Some (Operand (Argument ∷ st))) (expression_makes s (Argument ∷ st)) comma_alone refl ∙ arguments_walk q st
+      then_walk (Argument ∷ st) (Some (Operand (Argument ∷ st))) ts us (sign_at Comma c) (Some (Operand (Argument ∷ st))) (expression_makes s (Argument ∷ st)) (λ e. cc, λ e. cc) refl ∙ arguments_walk q st

@@ -161,9 +161,6 @@ none_in_one s kind ts bad (x ∷ m) mid e =
     let f : [] ≡ m ++ name_at bad.name bad.column ∷ (bad.ends ++ mid) = cc in
     not_nothing m (name_at bad.name bad.column) (bad.ends ++ mid) f
 
-stop_kind : (k k' : CalcKind) (r r' : List Placed) → Stops k r ≡ Stops k' r' → k ≡ k'
-stop_kind k k' r r' e = cc
-
 -- none ends in what is read before the outcome, where this goes on with more
 none_before : {s : State} {o : ReadOutcome} (r : GrammarReads s o) (extra more : List Placed) → left o ≡ extra ++ more → ((rest : List Placed) → o ≡ Stops BadOffset rest → extra ≡ [])
     → (kind : CalcKind) (ts : List Placed) (bad : Bad kind ts) (front m mid : List Placed) → (find r).before ≡ front ++ name_at bad.name bad.column ∷ m → bad.ends ++ mid ≡ m ++ extra → ⊥
@@ -218,19 +215,13 @@ pub called_end : {ts : List Placed} {xs : Terms} → AreCalled ts xs → (front 
 called_end (grammar.none {c = c}) = ([], c, refl)
 called_end (grammar.some h) = arguments_end h
 
-never_stops : {A : Type 0} (kind : CalcKind) (xs : Terms) (ts us : List Placed) → GotAll xs ts ≡ Stops kind us → A
-never_stops kind xs ts us e = let h : ⊥ = cc in absurd h
-
 -- none ends within what is called
 pub none_inside : (inside : List Placed) (xs : Terms) → AreCalled inside xs → HasNoBad inside
 none_inside inside xs h kind ts bad m mid e =
     let r = is_called_read h [] in
     let w = find r in
     let same : w.before ≡ inside = append_cancel_right w.before inside [] (sym w.all) in
-    none_before r [] [] refl (λ rest k. never_stops BadOffset xs [] rest k) kind ts bad m (bad.ends ++ mid) mid (same ∙ e) (sym (append-nil (bad.ends ++ mid)))
-
-longer : {A : Type 0} (m : List A) (x : A) → [] ≡ m ++ x ∷ [] → ⊥
-longer m x e = not_nothing m x [] e
+    none_before r [] [] refl (λ rest k. cc) kind ts bad m (bad.ends ++ mid) mid (same ∙ e) (sym (append-nil (bad.ends ++ mid)))
 
 -- nor in a call without its closing parenthesis
 pub none_in_call : (name : List ℕ) (c d : ℕ) (init : List Placed) (last : Placed) (f : Function) (xs : Terms) → function_of name ≡ Some f → AreCalled (init ++ last ∷ []) xs → accepts f (count xs) ≡ false
@@ -243,7 +234,7 @@ none_in_call name c d init last f xs u h a kind ts bad [] mid e =
     let stop = bad.stops (mid ++ last ∷ []) in
     let own = subst (λ l. GrammarReads (Operand l) (Stops kind stop.0)) (ap (λ x. x ∷ (bad.ends ++ (mid ++ last ∷ []))) (sym n) ∙ ap (λ l. name_at name c ∷ l) all) stop.1 in
     let one = one_outcome own (miscounted_read name c d (init ++ last ∷ []) f xs u h a []) in
-    let k : kind ≡ BadArguments = stop_kind kind BadArguments stop.0 _ one in
+    let k : kind ≡ BadArguments = cc one in
     again g (bad.calls k)
   where
     again : sign_at OpenParenthesis d ∷ init ≡ bad.ends ++ mid → (d' : ℕ) × (inside : List Placed) × (ys : Terms) × (bad.ends ≡ sign_at OpenParenthesis d' ∷ inside) × AreCalled inside ys → ⊥
@@ -252,7 +243,7 @@ none_in_call name c d init last f xs u h a kind ts bad [] mid e =
         let k : init ≡ inside ++ mid = cc in
         let all : inside ++ (mid ++ last ∷ []) ≡ (init ++ last ∷ []) ++ [] = sym (append_assoc inside mid (last ∷ [])) ∙ ap (λ l. l ++ last ∷ []) (sym k) ∙ sym (append-nil (init ++ last ∷ [])) in
         let one = one_outcome (subst (λ l. GrammarReads (Called l) (GotAll ys (mid ++ last ∷ []))) all (is_called_read h' (mid ++ last ∷ []))) (is_called_read h []) in
-        longer mid last (sym (ap left one))
+        not_nothing mid last [] (sym (ap left one))
 none_in_call name c d init last f xs u h a kind ts bad (x ∷ []) mid e =
     let g : sign_at OpenParenthesis d ≡ name_at bad.name bad.column = cc in
     let i : token.Sign OpenParenthesis ≡ token.Name bad.name = ap (λ (x : Placed). x.token) g in

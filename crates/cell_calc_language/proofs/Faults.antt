@@ -29,9 +29,9 @@ use Rattle.cell_calc_grammar.proofs.Complete.{one_outcome, read_all}
 use Rattle.cell_calc_language.proofs.Law.{one}
 use Rattle.cell_calc_grammar.proofs.Occurs.{find}
 use Rattle.cell_calc_grammar.proofs.Refused.{Refuses, quiet_step, walked}
-use Rattle.cell_calc_grammar.proofs.Sound.{raise, sound, sound_all, front_is, Signed, unsigned, minus, plus, NoOffsets, first, second}
+use Rattle.cell_calc_grammar.proofs.Sound.{sound, sound_all, front_is, Signed, unsigned, minus, plus, NoOffsets, first, second}
 use Rattle.cell_calc_language.proofs.Steps.{after_is}
-use Rattle.cell_calc_grammar.proofs.Viable.{IsSegment, SomeExpression, viable}
+use Rattle.cell_calc_grammar.proofs.Viable.{IsSegment, SomeExpression, viable, zero_expression}
 use Rattle.cell_calc_grammar.proofs.Walk as place
 use Rattle.cell_calc_grammar.proofs.Walk.{Place, Start, Lands, step_on, walk, walk_none, walk_both, expression_makes}
 
@@ -39,19 +39,16 @@ use Rattle.cell_calc_grammar.proofs.Walk.{Place, Start, Lands, step_on, walk, wa
 assignment_makes : (ts : List Placed) (a : Assignment) → IsAssignment ts a → Lands [] (walk (Some Start) (shape ts))
 assignment_makes ts a h = subst (λ l. Lands [] (walk (Some Start) (shape l))) (sym h.3) (expression_makes h.4 [])
 
-not_landed : (p : Option Place) (ts : List Token) → p ≡ None → Lands [] (walk p ts) → ⊥
-not_landed p ts e (inl l) =
-    let n : walk p ts ≡ None = ap (λ q. walk q ts) e ∙ walk_none ts in
-    cc
-not_landed p ts e (inr l) =
-    let n : walk p ts ≡ None = ap (λ q. walk q ts) e ∙ walk_none ts in
-    cc
+not_landed : Lands [] None → ⊥
+not_landed (inl l) = cc
+not_landed (inr l) = cc
 
 -- tokens that cannot be walked cannot go on
 cannot : (ts : List Placed) → walk (Some Start) (shape ts) ≡ None → CanGoOn ts → ⊥
 cannot ts e (us, after, a, alike, h) =
-    not_landed (walk (Some Start) (shape us)) (shape after) (ap (walk (Some Start)) alike ∙ e)
-    (subst (Lands []) (walk_both (Some Start) us after) (assignment_makes (us ++ after) a h))
+    let stuck : walk (Some Start) (shape us) ≡ None = ap (walk (Some Start)) alike ∙ e in
+    let all = walk_both (Some Start) us after ∙ ap (λ q. walk q (shape after)) stuck ∙ walk_none (shape after) in
+    not_landed (subst (Lands []) all (assignment_makes (us ++ after) a h))
 
 none_of_nothing : IsNone []
 none_of_nothing a h =
@@ -75,9 +72,6 @@ expression_goes_on name c d ts us after e (a, h) =
     let x : Assignment = record { target = name; expr = a } in
     (name_at name c ∷ sign_at Assign d ∷ us, after, x, ap (λ l. token.Name [] ∷ token.Sign Assign ∷ l) e, (c, d, us ++ after, refl, h))
 
-zero_expression : IsExpression (token_number_at 0 0 ∷ []) (Tree.Number 0)
-zero_expression = grammar.IsExpression.plain (raise 0 6 (token_number_at 0 0 ∷ []) (Tree.Number 0) (omega arith) grammar.number)
-
 name_goes_on : (name : List ℕ) (c : ℕ) → CanGoOn (name_at name c ∷ [])
 name_goes_on name c =
     can_before (name_at name c ∷ []) (sign_at Assign 0 ∷ []) (expression_goes_on name c 0 [] [] (token_number_at 0 0 ∷ []) refl (Tree.Number 0, zero_expression))
@@ -94,14 +88,11 @@ unexpected : (end : ℕ) (before rest : List Placed) (next : Placed) → CanGoOn
 unexpected end before rest next can free not none = (inl (before, rest, next, refl, (refl, can, not), tells_none before can free), none)
 
 pub no_name : (end : ℕ) (s : Placed) (ts : List Placed) → ((name : List ℕ) → s.token ≡ token.Name name → ⊥) → IsGrammarFault end (s ∷ ts) (token_fault Expected s.column)
-no_name end s ts n = unexpected end [] ts s nothing_goes_on none_in_nothing (cannot (s ∷ []) (refused s n)) (none_without_name s ts n)
+no_name end s ts n = unexpected end [] ts s nothing_goes_on none_in_nothing (cannot (s ∷ []) (at s.token n)) (none_without_name s ts n)
   where
     at : (t : Token) → ((name : List ℕ) → t ≡ token.Name name → ⊥) → step_on (Some Start) (shape_of t) ≡ None
     at (token.Name name) n = absurd (n name refl)
     at _ n = refl
-
-    refused : (s : Placed) → ((name : List ℕ) → s.token ≡ token.Name name → ⊥) → walk (Some Start) (shape (s ∷ [])) ≡ None
-    refused s n = at s.token n
 
 pub no_assign : (end : ℕ) (name : List ℕ) (c : ℕ) (ts : List Placed) → IsNot Assign (head ts) → IsGrammarFault end (name_at name c ∷ ts) (token_fault Expected (column_of end ts))
 no_assign end name c [] n = expected_at_end end (name_at name c ∷ []) (name_goes_on name c) (none_in_one (name_at name c)) (none_without_assign (name_at name c) [] n)
@@ -180,9 +171,6 @@ stops_later end name c d ts kind rest r extra more next e far free can told none
     subst (λ k. IsGrammarFault end (opens ++ ts) (token_fault kind k)) (sym (ap (column_of end) e))
     (inl (before, more, next, all, told can', tells_none before (can_before before (next ∷ []) can') free'), none)
 
-stops_no_end : (kind : CalcKind) (rest : List Placed) → IsNoEnd (Stops kind rest)
-stops_no_end kind rest a e = cc
-
 offset_sign : {f : ℕ → ℤ} {ts : List Placed} → Signed f ts → IsOffsetSign ts
 offset_sign unsigned = grammar_fault.unsigned
 offset_sign minus = grammar_fault.minus _
@@ -191,10 +179,6 @@ offset_sign plus = grammar_fault.plus _
 before_number : {front rest : List Placed} → NoOffsets BadOffset front rest → IsBeforeNumber front
 before_number (first h) = grammar_fault.first (offset_sign h.1)
 before_number (second c o h) = grammar_fault.second c o (offset_sign h.1)
-
-not_far : {A : Type 0} {kind : CalcKind} {rest q : List Placed} → (kind ≡ BadOffset → ⊥)
-    → Stops kind rest ≡ Stops BadOffset q → A
-not_far n e = absurd (n cc)
 
 -- by the segment that tells the fault
 stops_as : (end : ℕ) (name : List ℕ) (c d : ℕ) (ts : List Placed) (kind : CalcKind) (rest : List Placed)
@@ -210,7 +194,7 @@ stops_as end name c d ts UnknownFunction rest r seg more e (f, c', d', s, u) can
     let same = append_assoc front (name_at f c' ∷ []) (sign_at OpenParenthesis d' ∷ []) in
     stops_later end name c d ts UnknownFunction rest r (name_at f c' ∷ []) more (sign_at OpenParenthesis d')
     (e ∙ ap (λ l. l ++ more) s)
-    (λ q. not_far (λ k. cc)) (none_in_one (name_at f c')) (subst (λ l. CanGoOn (front ++ l)) s can)
+    (λ q k. cc) (none_in_one (name_at f c')) (subst (λ l. CanGoOn (front ++ l)) s can)
     (λ can'. ((front, f, d', same, u), can')) none
 stops_as end name c d ts BadArguments rest r seg more e (f, g, xs, c', d', inside, s, u, h, a) can none =
     let z = called_end h in
@@ -221,7 +205,7 @@ stops_as end name c d ts BadArguments rest r seg more e (f, g, xs, c', d', insid
     let call : (front ++ (opens ++ z.0)) ++ last ∷ [] ≡ front ++ (opens ++ inside) =
     append_assoc front (opens ++ z.0) (last ∷ []) ∙ ap (λ l. front ++ (opens ++ l)) (sym z.2) in
     stops_later end name c d ts BadArguments rest r (opens ++ z.0) more last (e ∙ ap (λ l. l ++ more) seg')
-    (λ q. not_far (λ k. cc))
+    (λ q k. cc)
     (none_in_call f c' d' z.0 last g xs u (subst (λ l. grammar.AreCalled l xs) z.2 h) a)
     (subst (λ l. CanGoOn (front ++ l)) seg' can)
     (λ can'. ((front, inside, f, d', g, xs, call, u, h, a), can')) none
@@ -245,11 +229,8 @@ stops end name c d ts kind rest r =
     let one = one_before ts v.before w.before rest v.all w.all in
     let shape_is = v.same ∙ ap (λ l. shape (l ++ v.seg)) one in
     let can = expression_goes_on name c d (w.before ++ v.seg) v.us v.after shape_is v.goes in
-    let none = none_of_expression (name_at name c) (sign_at Assign d) ts (no_expression ts (Stops kind rest) r (stops_no_end kind rest)) in
+    let none = none_of_expression (name_at name c) (sign_at Assign d) ts (no_expression ts (Stops kind rest) r (λ a e. cc)) in
     stops_as end name c d ts kind rest r v.seg v.more v.front (subst (λ b. IsSegment kind b v.seg) one v.told) can none
-
-got_no_end : (a : Term) (s : Placed) (rest : List Placed) → IsNoEnd (Got a (s ∷ rest))
-got_no_end a s rest b e = cc
 
 pub goes_on : (end : ℕ) (name : List ℕ) (c d : ℕ) (ts : List Placed) (a : Term) (u : Placed) (rest : List Placed) → GrammarReads (Expression ts) (Got a (u ∷ rest)) → IsFaultAt end (name_at name c ∷ sign_at Assign d ∷ ts) Expected (u ∷ rest)
 goes_on end name c d ts a u rest r =
@@ -265,7 +246,7 @@ goes_on end name c d ts a u rest r =
     let refused : step_on (walk (Some (place.Operand [])) (shape w.before)) (shape_of u.token) ≡ None =
     subst (λ l. step_on (walk (Some (place.Operand [])) (shape l)) (shape_of u.token) ≡ None) one (y.ends ∙ quiet_step [] u.token x.0) in
     let all : name_at name c ∷ sign_at Assign d ∷ ts ≡ before ++ u ∷ rest = ap (λ l. name_at name c ∷ sign_at Assign d ∷ l) w.all in
-    let none = none_of_expression (name_at name c) (sign_at Assign d) ts (no_expression ts (Got a (u ∷ rest)) r (got_no_end a u rest)) in
+    let none = none_of_expression (name_at name c) (sign_at Assign d) ts (no_expression ts (Got a (u ∷ rest)) r (λ b e. cc)) in
     subst (λ l. IsGrammarFault end l (token_fault Expected u.column)) (sym all) (unexpected end before rest u can free (refused_after name c d w.before u refused) (subst IsNone all none))
 
 -- a name and the sign of assignment, as the code finds them before the expression

@@ -1,5 +1,5 @@
 -- A list of tokens has one first fault at most, and stands for an assignment or has one.
-use Rattle.std.proofs.Common.{◌≡◌, ℕ, List, [], ◌∷◌, ◌++◌, Option, Some, refl, sym, ap, ◌∙◌, subst, append_assoc, append-nil, ◌⊎◌, inl, inr}
+use Rattle.std.proofs.Common.{◌≡◌, ℕ, List, [], ◌∷◌, ◌++◌, refl, sym, ap, ◌∙◌, subst, append_assoc, append-nil, ◌⊎◌, inl, inr}
 use Rattle.cell_calc_language.specs.declared.assignment.Assignment.{Assignment}
 use Rattle.cell_calc_tokens.specs.declared.calc_fault.CalcFault.{CalcFault}
 use Rattle.cell_calc_tokens.specs.declared.calc_fault.CalcKind.{CalcKind}
@@ -10,15 +10,15 @@ use Rattle.cell_calc_tokens.specs.declared.token.Token.{Token}
 use Rattle.cell_calc_tokens.specs.declared.token.Token.TheVariants as token
 use Rattle.cell_calc_language.specs.Assignment.{IsAssignment}
 use Rattle.cell_calc_grammar.specs.Grammar.{AreCalled}
-use Rattle.cell_calc_language.specs.GrammarFault.{column_of, IsUnknown, IsMiscounted, IsFar, Tells, IsGrammarFault}
-use Rattle.cell_calc_grammar.specs.TokensRead.{ReadOutcome, Got, GotAll, Stops, Expression, IsNot, GrammarReads, tail}
+use Rattle.cell_calc_language.specs.GrammarFault.{CanGoOn, column_of, IsUnknown, IsMiscounted, IsFar, Tells, IsGrammarFault}
+use Rattle.cell_calc_grammar.specs.TokensRead.{ReadOutcome, Got, GotAll, Stops, Expression, GrammarReads}
 use Rattle.cell_calc_grammar.specs.Term.{Terms}
-use Rattle.cell_calc_tokens.specs.Token.{token_number_at, name_at, sign_at, head}
+use Rattle.cell_calc_tokens.specs.Token.{token_number_at, name_at, sign_at}
 use Rattle.cell_calc_tokens.specs.Tokens.{token_fault}
 use Rattle.cell_calc_language.proofs.Bad.{Bad, bad_call, called_end, none_inside}
 use Rattle.cell_calc_language.proofs.Faults.{no_name, no_assign, nothing_at_all, stops, goes_on}
-use Rattle.cell_calc_grammar.proofs.Sound.{front_is, sound, sound_all}
-use Rattle.cell_calc_grammar.proofs.Splits.{Cuts, same, before, behind, cuts, not_nothing, same_last}
+use Rattle.cell_calc_grammar.proofs.Sound.{Looks, NoToken, ANumber, AName, ASign, look, sound, sound_all}
+use Rattle.cell_calc_grammar.proofs.Splits.{Cuts, same, before, behind, cuts, same_ends}
 use Rattle.cell_calc_language_law.proofs.Total.{read_somehow}
 
 same_fault : (f g : CalcFault) → f.kind ≡ g.kind → f.column ≡ g.column → f ≡ g
@@ -34,36 +34,24 @@ same_token s t e = ap (λ (x : Placed). x.token) e
 
 unknown_last : (column : ℕ) (b : List Placed) (n : Placed) → IsUnknown column (b ++ n ∷ []) → n.token ≡ token.Sign OpenParenthesis
 unknown_last column b n (front, name, d, e, u) =
-    same_token n (sign_at OpenParenthesis d) (same_last b n (front ++ name_at name column ∷ []) (sign_at OpenParenthesis d) (e ∙ sym (append_assoc front (name_at name column ∷ []) (sign_at OpenParenthesis d ∷ []))))
+    same_token n (sign_at OpenParenthesis d) (same_ends b n (front ++ name_at name column ∷ []) (sign_at OpenParenthesis d) (e ∙ sym (append_assoc front (name_at name column ∷ []) (sign_at OpenParenthesis d ∷ [])))).1
 
 miscounted_last : (column : ℕ) (b : List Placed) (n : Placed) → IsMiscounted column (b ++ n ∷ []) → n.token ≡ token.Sign CloseParenthesis
 miscounted_last column b n (front, inside, name, d, f, xs, e, u, h, a) =
     let z = called_end h in
     let call : List Placed = name_at name column ∷ sign_at OpenParenthesis d ∷ z.0 in
-    same_token n (sign_at CloseParenthesis z.1) (same_last b n (front ++ call) (sign_at CloseParenthesis z.1)
-    (e ∙ ap (λ l. front ++ name_at name column ∷ sign_at OpenParenthesis d ∷ l) z.2 ∙ sym (append_assoc front call (sign_at CloseParenthesis z.1 ∷ []))))
+    same_token n (sign_at CloseParenthesis z.1) (same_ends b n (front ++ call) (sign_at CloseParenthesis z.1)
+    (e ∙ ap (λ l. front ++ name_at name column ∷ sign_at OpenParenthesis d ∷ l) z.2 ∙ sym (append_assoc front call (sign_at CloseParenthesis z.1 ∷ [])))).1
 
 far_last : (column : ℕ) (b : List Placed) (n : Placed) → IsFar column (b ++ n ∷ []) → (m : ℕ) × (n ≡ token_number_at m column)
-far_last column b n (front, m, e, far, inside) = (m, same_last b n front (token_number_at m column) e)
-
--- two kinds at one token
-not_both : {A : Type 0} (t u v : Token) → t ≡ u → t ≡ v → (u ≡ v → ⊥) → A
-not_both t u v e f n = absurd (n (sym e ∙ f))
-
-two_short : (s : Placed) (m : List Placed) (x y : Placed) → s ∷ [] ≡ m ++ x ∷ y ∷ [] → ⊥
-two_short s [] x y e = cc
-two_short s (z ∷ m) x y e =
-    let f : [] ≡ m ++ x ∷ y ∷ [] = cc in
-    not_nothing m x (y ∷ []) f
+far_last column b n (front, m, e, far, inside) = (m, (same_ends b n front (token_number_at m column) e).1)
 
 one_unknown : (c c' : ℕ) (read : List Placed) → IsUnknown c read → IsUnknown c' read → c ≡ c'
 one_unknown c c' read (front, name, d, e, u) (front', name', d', e', u') =
-    go (cuts front (name_at name c) (sign_at OpenParenthesis d ∷ []) front' (name_at name' c') (sign_at OpenParenthesis d' ∷ []) (sym e ∙ e'))
-  where
-    go : Cuts front (name_at name c) (sign_at OpenParenthesis d ∷ []) front' (name_at name' c') (sign_at OpenParenthesis d' ∷ []) → c ≡ c'
-    go (same f g h) = same_column (name_at name c) (name_at name' c') g
-    go (before m f g) = absurd (two_short (sign_at OpenParenthesis d) m (name_at name' c') (sign_at OpenParenthesis d') g)
-    go (behind m f g) = absurd (two_short (sign_at OpenParenthesis d') m (name_at name c) (sign_at OpenParenthesis d) g)
+    let last = same_ends (front ++ name_at name c ∷ []) (sign_at OpenParenthesis d) (front' ++ name_at name' c' ∷ []) (sign_at OpenParenthesis d')
+    (append_assoc front (name_at name c ∷ []) (sign_at OpenParenthesis d ∷ []) ∙ sym e ∙ e'
+    ∙ sym (append_assoc front' (name_at name' c' ∷ []) (sign_at OpenParenthesis d' ∷ []))) in
+    same_column (name_at name c) (name_at name' c') (same_ends front (name_at name c) front' (name_at name' c') last.0).1
 
 -- no call that ends there begins within another
 not_within : (c d : ℕ) (inside : List Placed) (xs : Terms) → AreCalled inside xs → (ts : List Placed) (bad : Bad BadArguments ts) (m : List Placed) → sign_at OpenParenthesis d ∷ inside ≡ m ++ name_at bad.name bad.column ∷ bad.ends → ⊥
@@ -84,40 +72,39 @@ one_miscounted c c' b n ((front, inside, name, d, f, xs, e, u, h, a), can) ((fro
     go (before m i j) = absurd (not_within c d inside xs h (b ++ n ∷ []) (bad_call (b ++ n ∷ []) front' inside' name' c' d' f' xs' e' u' h' a') m j)
     go (behind m i j) = absurd (not_within c' d' inside' xs' h' (b ++ n ∷ []) (bad_call (b ++ n ∷ []) front inside name c d f xs e u h a) m j)
 
--- a token tells one fault at most
-one_told : (k k' : CalcKind) (c c' : ℕ) (b : List Placed) (n : Placed) → Tells k c b n → Tells k' c' b n → (k ≡ k') × (c ≡ c')
-one_told Expected Expected c c' b n t t' = (refl, sym t.0 ∙ t'.0)
-one_told Expected UnknownFunction c c' b n t t' = absurd (t.2 t'.1)
-one_told Expected BadArguments c c' b n t t' = absurd (t.2 t'.1)
-one_told Expected BadOffset c c' b n t t' = absurd (t.2 t'.1)
-one_told UnknownFunction Expected c c' b n t t' = absurd (t'.2 t.1)
-one_told BadArguments Expected c c' b n t t' = absurd (t'.2 t.1)
-one_told BadOffset Expected c c' b n t t' = absurd (t'.2 t.1)
-one_told UnknownFunction UnknownFunction c c' b n t t' = (refl, one_unknown c c' (b ++ n ∷ []) t.0 t'.0)
-one_told UnknownFunction BadArguments c c' b n t t' = not_both n.token (token.Sign OpenParenthesis) (token.Sign CloseParenthesis) (unknown_last c b n t.0) (miscounted_last c' b n t'.0) (λ k. cc)
-one_told UnknownFunction BadOffset c c' b n t t' =
-    let f = far_last c' b n t'.0 in
-    not_both n.token (token.Sign OpenParenthesis) (token.Number f.0) (unknown_last c b n t.0) (same_token n (token_number_at f.0 c') f.1) (λ k. cc)
-one_told BadArguments UnknownFunction c c' b n t t' = not_both n.token (token.Sign CloseParenthesis) (token.Sign OpenParenthesis) (miscounted_last c b n t.0) (unknown_last c' b n t'.0) (λ k. cc)
-one_told BadArguments BadArguments c c' b n t t' = (refl, one_miscounted c c' b n t t')
-one_told BadArguments BadOffset c c' b n t t' =
-    let f = far_last c' b n t'.0 in
-    not_both n.token (token.Sign CloseParenthesis) (token.Number f.0) (miscounted_last c b n t.0) (same_token n (token_number_at f.0 c') f.1) (λ k. cc)
-one_told BadOffset UnknownFunction c c' b n t t' =
-    let f = far_last c b n t.0 in
-    not_both n.token (token.Number f.0) (token.Sign OpenParenthesis) (same_token n (token_number_at f.0 c) f.1) (unknown_last c' b n t'.0) (λ k. cc)
-one_told BadOffset BadArguments c c' b n t t' =
-    let f = far_last c b n t.0 in
-    not_both n.token (token.Number f.0) (token.Sign CloseParenthesis) (same_token n (token_number_at f.0 c) f.1) (miscounted_last c' b n t'.0) (λ k. cc)
-one_told BadOffset BadOffset c c' b n t t' =
+-- the kind that a token tells where all up to it can go on
+abbrev told_by : Token → CalcKind
+told_by (token.Sign OpenParenthesis) = UnknownFunction
+told_by (token.Sign _) = BadArguments
+told_by _ = BadOffset
+
+told_so : (k : CalcKind) (c : ℕ) (b : List Placed) (n : Placed) → Tells k c b n
+    → ((k ≡ Expected) × (CanGoOn (b ++ n ∷ []) → ⊥)) ⊎ ((k ≡ told_by n.token) × CanGoOn (b ++ n ∷ []))
+told_so Expected c b n t = inl (refl, t.2)
+told_so UnknownFunction c b n t = inr (sym (ap told_by (unknown_last c b n t.0)), t.1)
+told_so BadArguments c b n t = inr (sym (ap told_by (miscounted_last c b n t.0)), t.1)
+told_so BadOffset c b n t = inr (sym (ap (λ (x : Placed). told_by x.token) (far_last c b n t.0).1), t.1)
+told_so _ c b n t = absurd t
+
+one_kind : (k k' : CalcKind) (c c' : ℕ) (b : List Placed) (n : Placed) → Tells k c b n → Tells k' c' b n → k ≡ k'
+one_kind k k' c c' b n t t' = go (told_so k c b n t) (told_so k' c' b n t')
+  where
+    go : ((k ≡ Expected) × (CanGoOn (b ++ n ∷ []) → ⊥)) ⊎ ((k ≡ told_by n.token) × CanGoOn (b ++ n ∷ []))
+        → ((k' ≡ Expected) × (CanGoOn (b ++ n ∷ []) → ⊥)) ⊎ ((k' ≡ told_by n.token) × CanGoOn (b ++ n ∷ [])) → k ≡ k'
+    go (inl x) (inl y) = x.0 ∙ sym y.0
+    go (inl x) (inr y) = absurd (x.1 y.1)
+    go (inr x) (inl y) = absurd (y.1 x.1)
+    go (inr x) (inr y) = x.0 ∙ sym y.0
+
+one_place : (k : CalcKind) (c c' : ℕ) (b : List Placed) (n : Placed) → Tells k c b n → Tells k c' b n → c ≡ c'
+one_place Expected c c' b n t t' = sym t.0 ∙ t'.0
+one_place UnknownFunction c c' b n t t' = one_unknown c c' (b ++ n ∷ []) t.0 t'.0
+one_place BadArguments c c' b n t t' = one_miscounted c c' b n t t'
+one_place BadOffset c c' b n t t' =
     let f = far_last c b n t.0 in
     let g = far_last c' b n t'.0 in
-    (refl, sym (same_column n (token_number_at f.0 c) f.1) ∙ same_column n (token_number_at g.0 c') g.1)
-one_told _ Expected c c' b n t t' = absurd t
-one_told _ UnknownFunction c c' b n t t' = absurd t
-one_told _ BadArguments c c' b n t t' = absurd t
-one_told _ BadOffset c c' b n t t' = absurd t
-one_told _ _ c c' b n t t' = absurd t'
+    sym (same_column n (token_number_at f.0 c) f.1) ∙ same_column n (token_number_at g.0 c') g.1
+one_place _ c c' b n t t' = absurd t
 
 pub one_fault : (end : ℕ) (ts : List Placed) (f g : CalcFault) → IsGrammarFault end ts f → IsGrammarFault end ts g → f ≡ g
 one_fault end ts f g (inl (b, r, n, e, t, none), _) (inl (b', r', n', e', t', none'), _) = go (cuts b n r b' n' r' (sym e ∙ e'))
@@ -125,8 +112,8 @@ one_fault end ts f g (inl (b, r, n, e, t, none), _) (inl (b', r', n', e', t', no
     go : Cuts b n r b' n' r' → f ≡ g
     go (same h i j) =
         let s = subst (λ x. Tells f.kind f.column b' x) i (subst (λ l. Tells f.kind f.column l n) h t) in
-        let o = one_told f.kind g.kind f.column g.column b' n' s t' in
-        same_fault f g o.0 o.1
+        let kind = one_kind f.kind g.kind f.column g.column b' n' s t' in
+        same_fault f g kind (one_place g.kind f.column g.column b' n' (subst (λ k. Tells k f.column b' n') kind s) t')
     go (before m h i) = absurd (none' b m n f.kind f.column h t)
     go (behind m h i) = absurd (none b' m n' g.kind g.column h t')
 one_fault end ts f g (inl (b, r, n, e, t, none), _) (inr (e', can, none'), _) = absurd (none' b r n f.kind f.column e t)
@@ -145,29 +132,15 @@ judged_read end name c d us (Got a (u ∷ rest)) r = inr (token_fault Expected u
 judged_read end name c d us (GotAll xs rest) r = absurd (sound r)
 judged_read end name c d us (Stops kind rest) r = inr (token_fault kind (column_of end rest), stops end name c d us kind rest r)
 
-judged_named : (end : ℕ) (name : List ℕ) (c : ℕ) (ts : List Placed) → IsJudged end (name_at name c ∷ ts)
-judged_named end name c ts = go (head ts) refl
-  where
-    others : IsNot Assign (head ts) → IsJudged end (name_at name c ∷ ts)
-    others n = inr (token_fault Expected (column_of end ts), no_assign end name c ts n)
-
-    go : (t : Option Token) → head ts ≡ t → IsJudged end (name_at name c ∷ ts)
-    go (Some (token.Sign Assign)) e =
-        let f = front_is ts (token.Sign Assign) e in
-        let x = read_somehow (tail ts) in
-        subst (λ l. IsJudged end (name_at name c ∷ l)) (sym f.1) (judged_read end name c f.0 (tail ts) x.0 x.1)
-    go _ e = others (subst (IsNot Assign) (sym e) (λ k. cc))
+judged_named : (end : ℕ) (name : List ℕ) (c : ℕ) {ts : List Placed} → Looks ts → IsJudged end (name_at name c ∷ ts)
+judged_named end name c (ASign Assign d us) = let x = read_somehow us in judged_read end name c d us x.0 x.1
+judged_named end name c {ts = ts} _ = inr (token_fault Expected (column_of end ts), no_assign end name c ts (λ k. cc))
 
 pub each_judged : (end : ℕ) (ts : List Placed) → IsJudged end ts
-each_judged end [] = inr (token_fault Expected end, nothing_at_all end)
-each_judged end (s ∷ ts) = go s.token refl
+each_judged end ts = go (look ts)
   where
-    others : ((name : List ℕ) → s.token ≡ token.Name name → ⊥) → IsJudged end (s ∷ ts)
-    others n = inr (token_fault Expected s.column, no_name end s ts n)
-
-    go : (t : Token) → s.token ≡ t → IsJudged end (s ∷ ts)
-    go (token.Name name) e =
-        let f = front_is (s ∷ ts) (token.Name name) (ap (λ x. Some x) e) in
-        subst (IsJudged end) (sym f.1) (judged_named end name f.0 ts)
-    go (token.Number m) e = others (λ name k. let x : token.Number m ≡ token.Name name = sym e ∙ k in cc)
-    go (token.Sign z) e = others (λ name k. let x : token.Sign z ≡ token.Name name = sym e ∙ k in cc)
+    go : {us : List Placed} → Looks us → IsJudged end us
+    go NoToken = inr (token_fault Expected end, nothing_at_all end)
+    go (AName name c us) = judged_named end name c (look us)
+    go (ANumber m c us) = inr (token_fault Expected c, no_name end (token_number_at m c) us (λ name k. cc))
+    go (ASign s c us) = inr (token_fault Expected c, no_name end (sign_at s c) us (λ name k. cc))

@@ -9,6 +9,7 @@ use Rattle.cell_cats_areas.specs.declared.clump.Joining.TheVariants.{Edges, Edge
 use Rattle.cell_cats_areas.specs.Areas.{Position, cell_at_spot, IsEarlierCell, AreNeighbours, ShareEdge, AreAdjacent, LeadsTo, AreJoined, IsFirst, IsClumping}
 use Rattle.cell_cats_areas.proofs.PathLemmas.{AreJoined-refl, AreJoined-sym, AreJoined-first, AreJoined-last, AreJoined-adjacent, AreJoined-trans}
 use Rattle.cell_cats_areas.proofs.LawLemmas.{cases_before}
+use Rattle.cell_cats_areas.proofs.MeetingLemmas.{some_of}
 use Rattle.cell_stats.proofs.SortedLemmas.{both_true}
 use Rattle.cell_tiles_law.specs.Parts.{Rectangle, is_in}
 use Rattle.cell_tiles_law.specs.AreaParts.{Tile, moved_position, IsIn, IsTile, AreJoinedIn, AreLinked, IsChain, AreasJoin, Numbered, AreLinkedByNumbers, NumbersJoin, FirstsAreFirsts, FirstsOfTheWhole}
@@ -183,14 +184,10 @@ path-chains j whole Link links v p (x ∷ others) q h alike =
     let second = All-head (λ s. cell_at_spot whole s ≡ Some v) x others rest in
     (links p x v h.0 first second, path-chains j whole Link links v x others q h.1 rest)
 
-some-is : (c : CellValue) → IsSome c → (v : ℤ) × (c ≡ Some v)
-some-is None h = cc
-some-is (Some v) h = (v, refl)
-
 pub joined-chained : (j : Joining) (whole : Grid) (Link : Position → Position → Type 0) → ((p q : Position) → Link p q → AreJoined j whole p q) → ((p q : Position) (v : ℤ) → AreAdjacent j p q → cell_at_spot whole p ≡ Some v → cell_at_spot whole q ≡ Some v → Link p q) → (p q : Position) → IsSome (cell_at_spot whole p) → AreJoined j whole p q ↔ ((others : List Position) × IsChain Link p others q)
 joined-chained j whole Link joins links p q some = (
   λ h. (h.others, path-chains j whole Link links h.category p h.others q h.leads h.alike),
-  λ h. let is = some-is (cell_at_spot whole p) some in chain-joins j whole Link joins is.0 p h.0 q is.1 h.1,
+  λ h. let is = some_of (cell_at_spot whole p) some in chain-joins j whole Link joins is.0 p h.0 q is.1 h.1,
 )
 
 module _ (j : Joining) (whole : Grid) (tiles : List Tile) (all : All (IsTile whole) tiles) where
@@ -266,7 +263,7 @@ firsts-are-firsts j whole t tile p row col h = record {
   none_before = λ q before joined. h.none_before (moved_position t.place q) (before-moved t.place q p before) (joined-moved whole t tile j q p joined);
 }
 
-before-then : (p q s : Position) → IsEarlierCell p q → IsEarlierCell q s → IsEarlierCell p s
+pub before-then : (p q s : Position) → IsEarlierCell p q → IsEarlierCell q s → IsEarlierCell p s
 before-then p q s (inl a) (inl b) = inl (omega (arith, a, b))
 before-then p q s (inl a) (inr b) = inl (let e = b.0 in omega (arith, a, e))
 before-then p q s (inr a) (inl b) = inl (let e = a.0 in omega (arith, e, b))

@@ -21,9 +21,8 @@ use Rattle.cell_tiles_law.specs.HaloParts.{left_of, left_of_all, right_of, right
 -- ---- an item of a stretch of a list, by an offset
 
 pub length-take-most : {A : Type 0} (n : ℕ) (xs : List A) → length (take n xs) ≤ n
-length-take-most zero xs = omega arith
-length-take-most (suc n) [] = omega arith
 length-take-most (suc n) (x ∷ xs) = omega (arith, length-take-most n xs)
+length-take-most _ _ = omega arith
 
 -- by a number from 0
 window : {A : Type 0} (outside : A) (xs : List A) (first height total i : ℕ) → length xs ≤ total → ((total ≤ first + height) ⊎ (i < height)) → get_or (take height (drop first xs)) i outside ≡ get_or xs (first + i) outside
@@ -36,7 +35,7 @@ window outside xs first height total i most (inl ends) =
     get_or_past (take height (drop first xs)) i outside short ∙ sym (get_or_past xs (first + i) outside long))
     (cases_lt i height)
 
-sub-pos : (p n : ℕ) → suc n ≤ p → sub_ℕ p (suc n) ≡ pos (p - suc n)
+pub sub-pos : (p n : ℕ) → suc n ≤ p → sub_ℕ p (suc n) ≡ pos (p - suc n)
 sub-pos p n le = ap (λ b. cond b (negsuc (suc n - suc p)) (pos (p - suc n))) (le-ltb p (suc n) le)
 
 module _ {A : Type 0} (outside : A) (xs : List A) (first height total p : ℕ) (most : length xs ≤ total) where
@@ -71,23 +70,18 @@ module _ {A : Type 0} (outside : A) (xs : List A) (first height total p : ℕ) (
 
 -- ---- a cell of a part, by offsets
 
-pub row-cut : (r : Rectangle) (rows : List (List CellValue)) (i : ℕ) → get_or (cut_out r rows) i [] ≡ take r.cols (drop r.left (get_or (take r.rows (drop r.top rows)) i []))
-row-cut r rows i = mapped (take r.rows (drop r.top rows)) i
-  where
-    nothing : (n m : ℕ) → ◌≡◌ {A = List CellValue} (take n (drop m [])) []
-    nothing zero m = refl
-    nothing (suc n) zero = refl
-    nothing (suc n) (suc m) = refl
-
-    mapped : (xs : List (List CellValue)) (i : ℕ) → get_or (map (λ row. take r.cols (drop r.left row)) xs) i [] ≡ take r.cols (drop r.left (get_or xs i []))
-    mapped [] i = sym (nothing r.cols r.left)
-    mapped (x ∷ xs) zero = refl
-    mapped (x ∷ xs) (suc i) = mapped xs i
-
 pub nothing-cut : (n m : ℕ) → ◌≡◌ {A = List CellValue} (take n (drop m [])) []
 nothing-cut zero m = refl
 nothing-cut (suc n) zero = refl
 nothing-cut (suc n) (suc m) = refl
+
+pub row-cut : (r : Rectangle) (rows : List (List CellValue)) (i : ℕ) → get_or (cut_out r rows) i [] ≡ take r.cols (drop r.left (get_or (take r.rows (drop r.top rows)) i []))
+row-cut r rows i = mapped (take r.rows (drop r.top rows)) i
+  where
+    mapped : (xs : List (List CellValue)) (i : ℕ) → get_or (map (λ row. take r.cols (drop r.left row)) xs) i [] ≡ take r.cols (drop r.left (get_or xs i []))
+    mapped [] i = sym (nothing-cut r.cols r.left)
+    mapped (x ∷ xs) zero = refl
+    mapped (x ∷ xs) (suc i) = mapped xs i
 
 -- the row of a part, by any number
 row-item : (r : Rectangle) (rows : List (List CellValue)) (z : ℤ) → item_at [] (cut_out r rows) z ≡ take r.cols (drop r.left (item_at [] (take r.rows (drop r.top rows)) z))
@@ -257,12 +251,11 @@ module _ (region : RegionValue) (r : Rectangle) (row col : ℕ) where
 
 mutual
   pub told-of-itself : ToldOfItself
-  told-of-itself (Number n) maps s = refl
-  told-of-itself (Map i down right) maps s = refl
   told-of-itself (Negated a) maps s = ap negated_cell (told-of-itself a maps s)
   told-of-itself (Not a) maps s = ap inverted_cell (told-of-itself a maps s)
   told-of-itself (Binary op a b) maps s = ap (λ x. operator_value op x (value_told b maps s s)) (told-of-itself a maps s) ∙ ap (λ y. operator_value op (value a maps s) y) (told-of-itself b maps s)
   told-of-itself (Call g xs) maps s = ap (call_result g s) (all-of-itself xs maps s)
+  told-of-itself _ maps s = refl
 
   all-of-itself : (xs : Formulas) (maps : List Grid) (s : Spot) → values_told xs maps s s ≡ argument_values xs maps s
   all-of-itself NoTrees maps s = refl

@@ -18,23 +18,23 @@ use Rattle.cell_tiles_law.proofs.BlockLemmas.{block, part-block}
 -- ---- sums along a line
 
 -- the sum of so many terms, from the a-th on
-abbrev line : (ℕ → ℕ) → ℕ → ℕ → ℕ
+abbrev pub line : (ℕ → ℕ) → ℕ → ℕ → ℕ
 line g a zero = 0
 line g a (suc n) = g a + line g (a + 1) n
 
-line-same : (g h : ℕ → ℕ) (a n : ℕ) → ((i : ℕ) → a ≤ i → i < a + n → g i ≡ h i) → line g a n ≡ line h a n
+pub line-same : (g h : ℕ → ℕ) (a n : ℕ) → ((i : ℕ) → a ≤ i → i < a + n → g i ≡ h i) → line g a n ≡ line h a n
 line-same g h a zero same = refl
 line-same g h a (suc n) same =
     let here : g a ≡ h a = same a (omega arith) (omega arith) in
     omega (arith, here, line-same g h (a + 1) n (λ i le lt. same i (omega arith) (omega arith)))
 
-line-none : (g : ℕ → ℕ) (a n : ℕ) → ((i : ℕ) → a ≤ i → i < a + n → g i ≡ 0) → line g a n ≡ 0
+pub line-none : (g : ℕ → ℕ) (a n : ℕ) → ((i : ℕ) → a ≤ i → i < a + n → g i ≡ 0) → line g a n ≡ 0
 line-none g a zero none = refl
 line-none g a (suc n) none =
     let here : g a ≡ 0 = none a (omega arith) (omega arith) in
     omega (arith, here, line-none g (a + 1) n (λ i le lt. none i (omega arith) (omega arith)))
 
-line-cut : (g : ℕ → ℕ) (a n m : ℕ) → line g a (n + m) ≡ line g a n + line g (a + n) m
+pub line-cut : (g : ℕ → ℕ) (a n m : ℕ) → line g a (n + m) ≡ line g a n + line g (a + n) m
 line-cut g a zero m = ap (line g a) (zero-add m) ∙ ap (λ b. line g b m) (sym (add-zero a)) ∙ sym (zero-add (line g (a + 0) m))
 line-cut g a (suc n) m =
     let more : suc n + m ≡ suc (n + m) = omega arith in
@@ -115,11 +115,11 @@ total-add f h rows cols =
 abbrev one-at : (whole : List Grid) (picks : List ℕ) (k : Combination) → ℕ → ℕ → ℕ
 one-at whole picks k row col = cond (eq_by_cmp combination_cmp k (combination_at whole picks row col)) 1 0
 
-count-line : (f : ℕ → Combination) (k : Combination) (a n : ℕ) → count_of k (map f (range_with_len a n)) ≡ line (λ i. cond (eq_by_cmp combination_cmp k (f i)) 1 0) a n
+pub count-line : (f : ℕ → Combination) (k : Combination) (a n : ℕ) → count_of k (map f (range_with_len a n)) ≡ line (λ i. cond (eq_by_cmp combination_cmp k (f i)) 1 0) a n
 count-line f k a zero = refl
 count-line f k a (suc n) = count_cons k (f a) (map f (range_with_len (a + 1) n)) ∙ ap (λ m. cond (eq_by_cmp combination_cmp k (f a)) 1 0 + m) (count-line f k (a + 1) n)
 
-count-lines : (f : ℕ → List Combination) (k : Combination) (a n : ℕ) → count_of k (flat_map f (range_with_len a n)) ≡ line (λ i. count_of k (f i)) a n
+pub count-lines : (f : ℕ → List Combination) (k : Combination) (a n : ℕ) → count_of k (flat_map f (range_with_len a n)) ≡ line (λ i. count_of k (f i)) a n
 count-lines f k a zero = refl
 count-lines f k a (suc n) = count-append k (f a) (flat_map f (range_with_len (a + 1) n)) ∙ ap (λ m. count_of k (f a) + m) (count-lines f k (a + 1) n)
 

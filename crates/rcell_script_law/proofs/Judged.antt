@@ -28,19 +28,10 @@ use Rattle.rcell_script_law.specs.JudgedLaw.{IsGoodText, IsBadText, ScriptTextsA
 use Rattle.rcell_script_law.proofs.Plain.{IsPlain, plain_list}
 
 -- a fault of the grammar is not one of memory
-told_plain : (kind : CalcKind) (column : ℕ) (before : List Placed) (next : Placed) → Tells kind column before next → kind ≡ calc.Memory → ⊥
-told_plain calc.Memory column before next told e = told
-told_plain calc.Expected column before next told e = cc
-told_plain calc.UnknownFunction column before next told e = cc
-told_plain calc.Arguments column before next told e = cc
-told_plain calc.BadOffset column before next told e = cc
-told_plain _ column before next told e = told
-
-grammar_plain : (end : ℕ) (ts : List Placed) (told : CalcFault) → IsGrammarFault end ts told → told.kind ≡ calc.Memory → ⊥
-grammar_plain end ts told (inl (before, rest, next, cut, tells, none), is) e = told_plain told.kind told.column before next tells e
-grammar_plain end ts told (inr (at, can, none), is) e =
-    let f : calc.Expected ≡ calc.Memory = sym (ap (λ (x : CalcFault). x.kind) at) ∙ e in
-    cc
+grammar_plain : (end : ℕ) (ts : List Placed) (told : CalcFault) → IsGrammarFault end ts told
+    → told.kind ≡ calc.Memory → ⊥
+grammar_plain end ts told (inl (before, rest, next, cut, tells, none), is) e = subst (λ k. Tells k told.column before next) e tells
+grammar_plain end ts told (inr (at, can, none), is) e = cc (ap (λ (x : CalcFault). x.kind) at)
 
 -- a text is an assignment, or has a fault that is not one of memory
 abbrev IsJudgedText : List ℕ → Type 0
@@ -60,38 +51,27 @@ judged_text text = go (token_list text) refl (plain_list text)
             inr (told, inr (subst (λ x. MatchResult x (λ us. IsGrammarFault (length text + 1) us told) (λ first. told ≡ first)) (sym e) is), grammar_plain (length text + 1) ts told is)
 
 -- the line of an r.mapcalc comes to something
-mapcalc_head : (known : List (List ℕ)) (line : List ℕ) → (head : Result Head ScriptKind) × IsMapcalc known line head
-mapcalc_head known line = go (judged_text (assignment_text line))
-  where
-    go : IsJudgedText (assignment_text line) → (head : Result Head ScriptKind) × IsMapcalc known line head
-    go (inl (a, is)) = (mapcalc_of known a, inl (a, is, refl))
-    go (inr (told, is, plain)) = (Err (Calc told), inr (told, is, plain, refl))
+mapcalc_head : (known : List (List ℕ)) (line : List ℕ) → IsJudgedText (assignment_text line)
+    → (head : Result Head ScriptKind) × IsMapcalc known line head
+mapcalc_head known line (inl (a, is)) = (mapcalc_of known a, inl (a, is, refl))
+mapcalc_head known line (inr (told, is, plain)) = (Err (Calc told), inr (told, is, plain, refl))
 
 short_head : (mapcalc : Bool) (known : List (List ℕ)) (line : List ℕ) → (head : Result Head ScriptKind) × IsShortHead mapcalc known line head
-short_head true known line = mapcalc_head known line
+short_head true known line = mapcalc_head known line (judged_text (assignment_text line))
 short_head false known line = (head_of_words known (words_of line), refl)
 
 head_of : (long : Bool) (known : List (List ℕ)) (line : List ℕ) → (head : Result Head ScriptKind) × IsHeadOf long known line head
 head_of true known line = (Err LongLine, refl)
 head_of false known line = short_head (is_mapcalc (words_of line)) known line
 
-line_head : EachLineIsHead
-line_head known line = head_of (nat_lt 65535 (length line)) known line
-
 pub texts_are_judged : ScriptTextsAreJudged
 unfolding IsReadAs IsScriptFault
 texts_are_judged known text =
-    let read = read_somehow line_head known text in
+    let read = read_somehow (λ known line. head_of (nat_lt 65535 (length line)) known line) known text in
     go read.0 read.1
   where
-    good : (statements : List Statement) → IsReadAs known text statements → IsGoodText known text
-    good statements is =
-        let script = (reading-denotes known text statements).0 is in
-        (statements, script, λ told token_fault. no_fault_of_a_script one known text statements told script token_fault)
-
-    bad : (told : ScriptFault) → IsScriptFault known text told → IsBadText known text
-    bad told token_fault = (told, token_fault, λ statements script. no_fault_of_a_script one known text statements told script token_fault)
-
     go : (r : Result (List Statement) ScriptFault) → IsScriptReading 1 (start known) (script_lines text) r → IsGoodText known text ⊎ IsBadText known text
-    go (Ok statements) is = inl (good statements is)
-    go (Err told) is = inr (bad told is)
+    go (Ok statements) is =
+        let script = (reading-denotes known text statements).0 is in
+        inl (statements, script, λ told token_fault. no_fault_of_a_script one known text statements told script token_fault)
+    go (Err told) is = inr (told, is, λ statements script. no_fault_of_a_script one known text statements told script is)

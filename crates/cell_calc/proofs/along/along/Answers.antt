@@ -11,18 +11,16 @@ step_value-requires-clause-strip c = c.requires.strip
 pub step_value-requires-clause-ready : goal.step_value-requires-clause-ready
 step_value-requires-clause-ready c = c.loop-step.invariant.ready
 
-pub row_of-requires-clause-strip : goal.row_of-requires-clause-strip
-row_of-requires-clause-strip c = c.requires.strip
+pub row_of-requires : goal.row_of-requires
+row_of-requires c = record {
+  strip = c.requires.strip;
+  ready = of_last (IsOperandReady c.args.windows.now c.args.strip.now) c.loop-step.operands.items c.pop_operand-last.new.operands.items c.pop_operand-last.result c.pop_operand-last.ensures c.loop-step.invariant.ready;
+}
 
-pub row_of-requires-clause-ready : goal.row_of-requires-clause-ready
-row_of-requires-clause-ready c =
-    of_last (IsOperandReady c.args.windows.now c.args.strip.now) c.loop-step.operands.items c.pop_operand-last.new.operands.items c.pop_operand-last.result c.pop_operand-last.ensures c.loop-step.invariant.ready
-
-pub returns-in_err-operand-clause-width : goal.returns-in_err-operand-clause-width
-returns-in_err-operand-clause-width c = IfOk-from_err c.from_residual.result _ c.from_residual.ensures.0
-
-pub returns-in_err-operand-clause-each : goal.returns-in_err-operand-clause-each
-returns-in_err-operand-clause-each c = IfOk-from_err c.from_residual.result _ c.from_residual.ensures.0
+pub returns-in_err-operand : goal.returns-in_err-operand
+returns-in_err-operand c =
+    let failed = IfOk-from_err c.from_residual.result in
+    record { width = failed _ c.from_residual.ensures.0; each = failed _ c.from_residual.ensures.0 }
 
 pub returns-in_err-push-clause-width : goal.returns-in_err-push-clause-width
 returns-in_err-push-clause-width c = IfOk-from_err c.from_residual-in_err-push.result _ c.from_residual-in_err-push.ensures.0

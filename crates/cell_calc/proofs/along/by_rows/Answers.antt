@@ -7,62 +7,32 @@ use Rattle.cell_calc.specs.parts.Operands.{spot_at}
 use Rattle.cell_calc.proofs.Written.{at_written, changed_width}
 use Rattle.cell_calc.proofs.along.by_rows.Goals as goal
 
-pub gather_arguments-requires-clause-strip : goal.gather_arguments-requires-clause-strip
-gather_arguments-requires-clause-strip c = c.requires.strip
+pub gather_arguments-requires : goal.gather_arguments-requires
+gather_arguments-requires c = record { strip = c.requires.strip; enough = c.requires.enough; ready = c.requires.ready }
 
-pub gather_arguments-requires-clause-enough : goal.gather_arguments-requires-clause-enough
-gather_arguments-requires-clause-enough c = c.requires.enough
+pub returns-in_err-gather_arguments : goal.returns-in_err-gather_arguments
+returns-in_err-gather_arguments c =
+    let failed = IfOk-from_err c.from_residual.result in
+    let is = c.from_residual.ensures.0 in
+    record { rest = failed _ is; width = failed _ is; each = failed _ is }
 
-pub gather_arguments-requires-clause-ready : goal.gather_arguments-requires-clause-ready
-gather_arguments-requires-clause-ready c = c.requires.ready
+pub returns-in_err-row : goal.returns-in_err-row
+returns-in_err-row c =
+    let failed = IfOk-from_err c.from_residual-in_err-row.result in
+    let is = c.from_residual-in_err-row.ensures.0 in
+    record { rest = failed _ is; width = failed _ is; each = failed _ is }
 
-pub returns-in_err-gather_arguments-clause-rest : goal.returns-in_err-gather_arguments-clause-rest
-returns-in_err-gather_arguments-clause-rest c = IfOk-from_err c.from_residual.result _ c.from_residual.ensures.0
+pub returns-in_err-call_values : goal.returns-in_err-call_values
+returns-in_err-call_values c =
+    let failed = IfOk-from_err c.from_residual-in_err-call_values.result in
+    let is = c.from_residual-in_err-call_values.ensures.0 in
+    record { rest = failed _ is; width = failed _ is; each = failed _ is }
 
-pub returns-in_err-gather_arguments-clause-width : goal.returns-in_err-gather_arguments-clause-width
-returns-in_err-gather_arguments-clause-width c = IfOk-from_err c.from_residual.result _ c.from_residual.ensures.0
-
-pub returns-in_err-gather_arguments-clause-each : goal.returns-in_err-gather_arguments-clause-each
-returns-in_err-gather_arguments-clause-each c = IfOk-from_err c.from_residual.result _ c.from_residual.ensures.0
-
-pub returns-in_err-row-clause-rest : goal.returns-in_err-row-clause-rest
-returns-in_err-row-clause-rest c =
-    IfOk-from_err c.from_residual-in_err-row.result _ c.from_residual-in_err-row.ensures.0
-
-pub returns-in_err-row-clause-width : goal.returns-in_err-row-clause-width
-returns-in_err-row-clause-width c =
-    IfOk-from_err c.from_residual-in_err-row.result _ c.from_residual-in_err-row.ensures.0
-
-pub returns-in_err-row-clause-each : goal.returns-in_err-row-clause-each
-returns-in_err-row-clause-each c =
-    IfOk-from_err c.from_residual-in_err-row.result _ c.from_residual-in_err-row.ensures.0
-
-pub returns-in_err-call_values-clause-rest : goal.returns-in_err-call_values-clause-rest
-returns-in_err-call_values-clause-rest c =
-    IfOk-from_err c.from_residual-in_err-call_values.result _ c.from_residual-in_err-call_values.ensures.0
-
-pub returns-in_err-call_values-clause-width : goal.returns-in_err-call_values-clause-width
-returns-in_err-call_values-clause-width c =
-    IfOk-from_err c.from_residual-in_err-call_values.result _ c.from_residual-in_err-call_values.ensures.0
-
-pub returns-in_err-call_values-clause-each : goal.returns-in_err-call_values-clause-each
-returns-in_err-call_values-clause-each c =
-    IfOk-from_err c.from_residual-in_err-call_values.result _ c.from_residual-in_err-call_values.ensures.0
-
-pub returns-in_err-append-clause-rest : goal.returns-in_err-append-clause-rest
-returns-in_err-append-clause-rest c =
-    IfOk-from_err c.from_residual-in_err-append.result _ c.from_residual-in_err-append.ensures.0
-
-pub returns-in_err-append-clause-width : goal.returns-in_err-append-clause-width
-returns-in_err-append-clause-width c =
-    IfOk-from_err c.from_residual-in_err-append.result _ c.from_residual-in_err-append.ensures.0
-
-pub returns-in_err-append-clause-each : goal.returns-in_err-append-clause-each
-returns-in_err-append-clause-each c =
-    IfOk-from_err c.from_residual-in_err-append.result _ c.from_residual-in_err-append.ensures.0
-
-pub returns-clause-rest : goal.returns-clause-rest
-returns-clause-rest c = c.in_ok-gather_arguments.ensures.rest
+pub returns-in_err-append : goal.returns-in_err-append
+returns-in_err-append c =
+    let failed = IfOk-from_err c.from_residual-in_err-append.result in
+    let is = c.from_residual-in_err-append.ensures.0 in
+    record { rest = failed _ is; width = failed _ is; each = failed _ is }
 
 pub call_values-requires-clause-at_row : goal.call_values-requires-clause-at_row
 call_values-requires-clause-at_row c = c.requires.strip.row
@@ -79,23 +49,24 @@ call_values-requires-clause-widths c =
     c.as_slice-arguments.ensures.value c.in_ok-gather_arguments.ensures.width in
     λ k d lt. all k d lt ∙ sym start
 
-pub returns-clause-width : goal.returns-clause-width
-returns-clause-width c =
-    let row = c.in_ok-row.row in
-    let all : row.len ≡ length row.items = search rules in
-    changed_width row.len c.args.strip.now.width row.items c.as_mut_slice-cells.result.now c.call_values.new.row all
-    c.as_mut_slice-cells.ensures.value c.in_ok-call_values.ensures.width c.in_ok-row.ensures
-
-pub returns-clause-each : goal.returns-clause-each
-returns-clause-each c =
-    let row = c.in_ok-row.row in
-    let all : row.len ≡ length row.items = search rules in
-    let strip = c.args.strip.now in
-    let same = ap (λ l. length l) c.as_mut_slice-cells.ensures.value in
-    let start = same ∙ c.in_ok-row.ensures in
-    λ k h.
-    at_written row.len c.call_values.new.row row.items k all (c.in_ok-call_values.ensures.width ∙ same)
-    ∙ c.in_ok-call_values.ensures.each k (subst (λ n. k < n) (sym start) h)
-    ∙ ap (λ l. call_result c.args.function (spot_at strip k) (column k (map (λ v. v.items) l)))
-    c.as_slice-arguments.ensures.value
-    ∙ ap (λ l. call_result c.args.function (spot_at strip k) l) (c.in_ok-gather_arguments.ensures.each k h)
+pub returns : goal.returns
+returns c = record {
+  rest = c.in_ok-gather_arguments.ensures.rest;
+  width =
+      let row = c.in_ok-row.row in
+      let all : row.len ≡ length row.items = search rules in
+      changed_width row.len c.args.strip.now.width row.items c.as_mut_slice-cells.result.now c.call_values.new.row all
+      c.as_mut_slice-cells.ensures.value c.in_ok-call_values.ensures.width c.in_ok-row.ensures;
+  each =
+      let row = c.in_ok-row.row in
+      let all : row.len ≡ length row.items = search rules in
+      let strip = c.args.strip.now in
+      let same = ap (λ l. length l) c.as_mut_slice-cells.ensures.value in
+      let start = same ∙ c.in_ok-row.ensures in
+      λ k h.
+      at_written row.len c.call_values.new.row row.items k all (c.in_ok-call_values.ensures.width ∙ same)
+      ∙ c.in_ok-call_values.ensures.each k (subst (λ n. k < n) (sym start) h)
+      ∙ ap (λ l. call_result c.args.function (spot_at strip k) (column k (map (λ v. v.items) l)))
+      c.as_slice-arguments.ensures.value
+      ∙ ap (λ l. call_result c.args.function (spot_at strip k) l) (c.in_ok-gather_arguments.ensures.each k h);
+}

@@ -18,35 +18,29 @@ row_of-requires-clause-ready c =
     of_last (IsOperandReady c.args.windows.now c.args.strip.now) c.args.operands.now.items c.pop_operand.new.operands.items c.pop_operand.result c.pop_operand.ensures
     c.requires.ready
 
-pub returns-in_err-row-in-If-eq1-clause-rest : goal.returns-in_err-row-in-If-eq1-clause-rest
-returns-in_err-row-in-If-eq1-clause-rest c = IfOk-from_err c.from_residual.result _ c.from_residual.ensures.0
+pub returns-in_err-row-in-If-eq1 : goal.returns-in_err-row-in-If-eq1
+returns-in_err-row-in-If-eq1 c =
+    let failed = IfOk-from_err c.from_residual.result in
+    let is = c.from_residual.ensures.0 in
+    record { rest = failed _ is; width = failed _ is; each = failed _ is }
 
-pub returns-in_err-row-in-If-eq1-clause-width : goal.returns-in_err-row-in-If-eq1-clause-width
-returns-in_err-row-in-If-eq1-clause-width c = IfOk-from_err c.from_residual.result _ c.from_residual.ensures.0
-
-pub returns-in_err-row-in-If-eq1-clause-each : goal.returns-in_err-row-in-If-eq1-clause-each
-returns-in_err-row-in-If-eq1-clause-each c = IfOk-from_err c.from_residual.result _ c.from_residual.ensures.0
-
-pub returns-in_ok-row-in-If-eq1-clause-rest : goal.returns-in_ok-row-in-If-eq1-clause-rest
-returns-in_ok-row-in-If-eq1-clause-rest c =
-    rw c.in-If-eq1.is-1 (front_is c.args.operands.now.items c.pop_operand.new.operands.items (c.pop_operand.result ∷ []) 1 c.pop_operand.ensures refl)
-
-pub returns-in_ok-row-in-If-eq1-clause-width : goal.returns-in_ok-row-in-If-eq1-clause-width
-returns-in_ok-row-in-If-eq1-clause-width c =
-    let row = c.in_ok-row-in-If-eq1.row in
-    let all : row.len ≡ length row.items = search rules in
-    changed_width row.len c.args.strip.now.width row.items c.as_mut_slice.result.now c.one_or_zero.new.row all c.as_mut_slice.ensures.value
-    c.one_or_zero.ensures.width c.in_ok-row-in-If-eq1.ensures.width
-
-pub returns-in_ok-row-in-If-eq1-clause-each : goal.returns-in_ok-row-in-If-eq1-clause-each
-returns-in_ok-row-in-If-eq1-clause-each c =
-    let row = c.in_ok-row-in-If-eq1.row in
-    let all : row.len ≡ length row.items = search rules in
-    let last = back_is c.args.operands.now.items c.pop_operand.new.operands.items (c.pop_operand.result ∷ []) 1 c.pop_operand.ensures refl in
-    rw (c.in-If-eq1.is-0, c.in-If-eq1.is-1, ← last) (λ k h. changed (λ v. chosen_cell v (Some (pos 1)) (Some (pos 0))) row.len c.args.strip.now.width k
-    row.items c.as_mut_slice.result.now c.one_or_zero.new.row
-    (operand_at c.args.windows.now c.args.strip.now k c.pop_operand.result) all c.as_mut_slice.ensures.value c.one_or_zero.ensures.width c.one_or_zero.ensures.each
-    c.in_ok-row-in-If-eq1.ensures.width h (c.in_ok-row-in-If-eq1.ensures.each k h))
+pub returns-in_ok-row-in-If-eq1 : goal.returns-in_ok-row-in-If-eq1
+returns-in_ok-row-in-If-eq1 c = record {
+  rest = rw c.in-If-eq1.is-1 (front_is c.args.operands.now.items c.pop_operand.new.operands.items (c.pop_operand.result ∷ []) 1 c.pop_operand.ensures refl);
+  width =
+      let row = c.in_ok-row-in-If-eq1.row in
+      let all : row.len ≡ length row.items = search rules in
+      changed_width row.len c.args.strip.now.width row.items c.as_mut_slice.result.now c.one_or_zero.new.row all c.as_mut_slice.ensures.value
+      c.one_or_zero.ensures.width c.in_ok-row-in-If-eq1.ensures.width;
+  each =
+      let row = c.in_ok-row-in-If-eq1.row in
+      let all : row.len ≡ length row.items = search rules in
+      let last = back_is c.args.operands.now.items c.pop_operand.new.operands.items (c.pop_operand.result ∷ []) 1 c.pop_operand.ensures refl in
+      rw (c.in-If-eq1.is-0, c.in-If-eq1.is-1, ← last) (λ k h. changed (λ v. chosen_cell v (Some (pos 1)) (Some (pos 0))) row.len c.args.strip.now.width k
+      row.items c.as_mut_slice.result.now c.one_or_zero.new.row
+      (operand_at c.args.windows.now c.args.strip.now k c.pop_operand.result) all c.as_mut_slice.ensures.value c.one_or_zero.ensures.width c.one_or_zero.ensures.each
+      c.in_ok-row-in-If-eq1.ensures.width h (c.in_ok-row-in-If-eq1.ensures.each k h));
+}
 
 pub pop_operand-requires-in-IsNull-eq1 : goal.pop_operand-requires-in-IsNull-eq1
 pop_operand-requires-in-IsNull-eq1 c = rw c.in-IsNull-eq1.is-1 at c.requires.enough
@@ -71,28 +65,26 @@ pub returns-in_err-row-in-IsNull-eq1-clause-each : goal.returns-in_err-row-in-Is
 returns-in_err-row-in-IsNull-eq1-clause-each c = IfOk-from_err c.from_residual-in_err-row-in-IsNull-eq1.result _
     c.from_residual-in_err-row-in-IsNull-eq1.ensures.0
 
-pub returns-in_ok-row-in-IsNull-eq1-clause-rest : goal.returns-in_ok-row-in-IsNull-eq1-clause-rest
-returns-in_ok-row-in-IsNull-eq1-clause-rest c =
-    rw c.in-IsNull-eq1.is-1 (front_is c.args.operands.now.items c.pop_operand-in-IsNull-eq1.new.operands.items (c.pop_operand-in-IsNull-eq1.result ∷ []) 1
-    c.pop_operand-in-IsNull-eq1.ensures refl)
-
-pub returns-in_ok-row-in-IsNull-eq1-clause-width : goal.returns-in_ok-row-in-IsNull-eq1-clause-width
-returns-in_ok-row-in-IsNull-eq1-clause-width c =
-    let row = c.in_ok-row-in-IsNull-eq1.row in
-    let all : row.len ≡ length row.items = search rules in
-    changed_width row.len c.args.strip.now.width row.items c.as_mut_slice-in-IsNull-eq1.result.now c.nullness.new.row all
-    c.as_mut_slice-in-IsNull-eq1.ensures.value c.nullness.ensures.width c.in_ok-row-in-IsNull-eq1.ensures.width
-
-pub returns-in_ok-row-in-IsNull-eq1-clause-each : goal.returns-in_ok-row-in-IsNull-eq1-clause-each
-returns-in_ok-row-in-IsNull-eq1-clause-each c =
-    let row = c.in_ok-row-in-IsNull-eq1.row in
-    let all : row.len ≡ length row.items = search rules in
-    let last = back_is c.args.operands.now.items c.pop_operand-in-IsNull-eq1.new.operands.items (c.pop_operand-in-IsNull-eq1.result ∷ []) 1
-    c.pop_operand-in-IsNull-eq1.ensures refl in
-    rw (c.in-IsNull-eq1.is-0, c.in-IsNull-eq1.is-1, ← last) (λ k h. changed (λ v. truth (is_null v)) row.len c.args.strip.now.width k row.items
-    c.as_mut_slice-in-IsNull-eq1.result.now c.nullness.new.row
-    (operand_at c.args.windows.now c.args.strip.now k c.pop_operand-in-IsNull-eq1.result) all c.as_mut_slice-in-IsNull-eq1.ensures.value
-    c.nullness.ensures.width c.nullness.ensures.each c.in_ok-row-in-IsNull-eq1.ensures.width h (c.in_ok-row-in-IsNull-eq1.ensures.each k h))
+pub returns-in_ok-row-in-IsNull-eq1 : goal.returns-in_ok-row-in-IsNull-eq1
+returns-in_ok-row-in-IsNull-eq1 c = record {
+  rest =
+      rw c.in-IsNull-eq1.is-1 (front_is c.args.operands.now.items c.pop_operand-in-IsNull-eq1.new.operands.items (c.pop_operand-in-IsNull-eq1.result ∷ []) 1
+      c.pop_operand-in-IsNull-eq1.ensures refl);
+  width =
+      let row = c.in_ok-row-in-IsNull-eq1.row in
+      let all : row.len ≡ length row.items = search rules in
+      changed_width row.len c.args.strip.now.width row.items c.as_mut_slice-in-IsNull-eq1.result.now c.nullness.new.row all
+      c.as_mut_slice-in-IsNull-eq1.ensures.value c.nullness.ensures.width c.in_ok-row-in-IsNull-eq1.ensures.width;
+  each =
+      let row = c.in_ok-row-in-IsNull-eq1.row in
+      let all : row.len ≡ length row.items = search rules in
+      let last = back_is c.args.operands.now.items c.pop_operand-in-IsNull-eq1.new.operands.items (c.pop_operand-in-IsNull-eq1.result ∷ []) 1
+      c.pop_operand-in-IsNull-eq1.ensures refl in
+      rw (c.in-IsNull-eq1.is-0, c.in-IsNull-eq1.is-1, ← last) (λ k h. changed (λ v. truth (is_null v)) row.len c.args.strip.now.width k row.items
+      c.as_mut_slice-in-IsNull-eq1.result.now c.nullness.new.row
+      (operand_at c.args.windows.now c.args.strip.now k c.pop_operand-in-IsNull-eq1.result) all c.as_mut_slice-in-IsNull-eq1.ensures.value
+      c.nullness.ensures.width c.nullness.ensures.each c.in_ok-row-in-IsNull-eq1.ensures.width h (c.in_ok-row-in-IsNull-eq1.ensures.each k h));
+}
 
 pub pop_operand-requires-in-Abs-eq1 : goal.pop_operand-requires-in-Abs-eq1
 pop_operand-requires-in-Abs-eq1 c = rw c.in-Abs-eq1.is-1 at c.requires.enough
@@ -105,37 +97,32 @@ row_of-requires-in-Abs-eq1-clause-ready c =
     of_last (IsOperandReady c.args.windows.now c.args.strip.now) c.args.operands.now.items c.pop_operand-in-Abs-eq1.new.operands.items c.pop_operand-in-Abs-eq1.result
     c.pop_operand-in-Abs-eq1.ensures c.requires.ready
 
-pub returns-in_err-row-in-Abs-eq1-clause-rest : goal.returns-in_err-row-in-Abs-eq1-clause-rest
-returns-in_err-row-in-Abs-eq1-clause-rest c = IfOk-from_err c.from_residual-in_err-row-in-Abs-eq1.result _ c.from_residual-in_err-row-in-Abs-eq1.ensures.0
+pub returns-in_err-row-in-Abs-eq1 : goal.returns-in_err-row-in-Abs-eq1
+returns-in_err-row-in-Abs-eq1 c =
+    let failed = IfOk-from_err c.from_residual-in_err-row-in-Abs-eq1.result in
+    let is = c.from_residual-in_err-row-in-Abs-eq1.ensures.0 in
+    record { rest = failed _ is; width = failed _ is; each = failed _ is }
 
-pub returns-in_err-row-in-Abs-eq1-clause-width : goal.returns-in_err-row-in-Abs-eq1-clause-width
-returns-in_err-row-in-Abs-eq1-clause-width c = IfOk-from_err c.from_residual-in_err-row-in-Abs-eq1.result _ c.from_residual-in_err-row-in-Abs-eq1.ensures.0
-
-pub returns-in_err-row-in-Abs-eq1-clause-each : goal.returns-in_err-row-in-Abs-eq1-clause-each
-returns-in_err-row-in-Abs-eq1-clause-each c = IfOk-from_err c.from_residual-in_err-row-in-Abs-eq1.result _ c.from_residual-in_err-row-in-Abs-eq1.ensures.0
-
-pub returns-in_ok-row-in-Abs-eq1-clause-rest : goal.returns-in_ok-row-in-Abs-eq1-clause-rest
-returns-in_ok-row-in-Abs-eq1-clause-rest c =
-    rw c.in-Abs-eq1.is-1 (front_is c.args.operands.now.items c.pop_operand-in-Abs-eq1.new.operands.items (c.pop_operand-in-Abs-eq1.result ∷ []) 1
-    c.pop_operand-in-Abs-eq1.ensures refl)
-
-pub returns-in_ok-row-in-Abs-eq1-clause-width : goal.returns-in_ok-row-in-Abs-eq1-clause-width
-returns-in_ok-row-in-Abs-eq1-clause-width c =
-    let row = c.in_ok-row-in-Abs-eq1.row in
-    let all : row.len ≡ length row.items = search rules in
-    changed_width row.len c.args.strip.now.width row.items c.as_mut_slice-in-Abs-eq1.result.now c.size.new.row all
-    c.as_mut_slice-in-Abs-eq1.ensures.value c.size.ensures.width c.in_ok-row-in-Abs-eq1.ensures.width
-
-pub returns-in_ok-row-in-Abs-eq1-clause-each : goal.returns-in_ok-row-in-Abs-eq1-clause-each
-returns-in_ok-row-in-Abs-eq1-clause-each c =
-    let row = c.in_ok-row-in-Abs-eq1.row in
-    let all : row.len ≡ length row.items = search rules in
-    let last = back_is c.args.operands.now.items c.pop_operand-in-Abs-eq1.new.operands.items (c.pop_operand-in-Abs-eq1.result ∷ []) 1
-    c.pop_operand-in-Abs-eq1.ensures refl in
-    rw (c.in-Abs-eq1.is-0, c.in-Abs-eq1.is-1, ← last) (λ k h. changed (λ v. size_of v) row.len c.args.strip.now.width k row.items
-    c.as_mut_slice-in-Abs-eq1.result.now c.size.new.row
-    (operand_at c.args.windows.now c.args.strip.now k c.pop_operand-in-Abs-eq1.result) all c.as_mut_slice-in-Abs-eq1.ensures.value c.size.ensures.width
-    c.size.ensures.each c.in_ok-row-in-Abs-eq1.ensures.width h (c.in_ok-row-in-Abs-eq1.ensures.each k h))
+pub returns-in_ok-row-in-Abs-eq1 : goal.returns-in_ok-row-in-Abs-eq1
+returns-in_ok-row-in-Abs-eq1 c = record {
+  rest =
+      rw c.in-Abs-eq1.is-1 (front_is c.args.operands.now.items c.pop_operand-in-Abs-eq1.new.operands.items (c.pop_operand-in-Abs-eq1.result ∷ []) 1
+      c.pop_operand-in-Abs-eq1.ensures refl);
+  width =
+      let row = c.in_ok-row-in-Abs-eq1.row in
+      let all : row.len ≡ length row.items = search rules in
+      changed_width row.len c.args.strip.now.width row.items c.as_mut_slice-in-Abs-eq1.result.now c.size.new.row all
+      c.as_mut_slice-in-Abs-eq1.ensures.value c.size.ensures.width c.in_ok-row-in-Abs-eq1.ensures.width;
+  each =
+      let row = c.in_ok-row-in-Abs-eq1.row in
+      let all : row.len ≡ length row.items = search rules in
+      let last = back_is c.args.operands.now.items c.pop_operand-in-Abs-eq1.new.operands.items (c.pop_operand-in-Abs-eq1.result ∷ []) 1
+      c.pop_operand-in-Abs-eq1.ensures refl in
+      rw (c.in-Abs-eq1.is-0, c.in-Abs-eq1.is-1, ← last) (λ k h. changed (λ v. size_of v) row.len c.args.strip.now.width k row.items
+      c.as_mut_slice-in-Abs-eq1.result.now c.size.new.row
+      (operand_at c.args.windows.now c.args.strip.now k c.pop_operand-in-Abs-eq1.result) all c.as_mut_slice-in-Abs-eq1.ensures.value c.size.ensures.width
+      c.size.ensures.each c.in_ok-row-in-Abs-eq1.ensures.width h (c.in_ok-row-in-Abs-eq1.ensures.each k h));
+}
 
 pub pop_operand-no-requires : goal.pop_operand-no-requires
 pop_operand-no-requires c =
@@ -153,67 +140,50 @@ pop_operand-condition-requires c =
     more_before 0 c.pop_operand-no.new.operands.items c.pop_operand-yes.new.operands.items c.pop_operand-yes.result c.pop_operand-yes.ensures
     (more_before 1 c.args.operands.now.items c.pop_operand-no.new.operands.items c.pop_operand-no.result c.pop_operand-no.ensures three)
 
-pub choice_value-requires-clause-strip : goal.choice_value-requires-clause-strip
-choice_value-requires-clause-strip c = c.requires.strip
+pub choice_value-requires : goal.choice_value-requires
+choice_value-requires c = record {
+  strip = c.requires.strip;
+  condition =
+      let is = IsOperandReady c.args.windows.now c.args.strip.now in
+      of_last is c.pop_operand-yes.new.operands.items c.pop_operand-condition.new.operands.items c.pop_operand-condition.result c.pop_operand-condition.ensures
+      (of_front is c.pop_operand-no.new.operands.items c.pop_operand-yes.new.operands.items c.pop_operand-yes.result
+      c.pop_operand-yes.ensures
+      (of_front is c.args.operands.now.items c.pop_operand-no.new.operands.items c.pop_operand-no.result c.pop_operand-no.ensures c.requires.ready));
+  yes =
+      let is = IsOperandReady c.args.windows.now c.args.strip.now in
+      of_last is c.pop_operand-no.new.operands.items c.pop_operand-yes.new.operands.items c.pop_operand-yes.result
+      c.pop_operand-yes.ensures
+      (of_front is c.args.operands.now.items c.pop_operand-no.new.operands.items c.pop_operand-no.result c.pop_operand-no.ensures c.requires.ready);
+  no =
+      of_last (IsOperandReady c.args.windows.now c.args.strip.now) c.args.operands.now.items c.pop_operand-no.new.operands.items c.pop_operand-no.result
+      c.pop_operand-no.ensures c.requires.ready;
+}
 
-pub choice_value-requires-clause-no : goal.choice_value-requires-clause-no
-choice_value-requires-clause-no c =
-    of_last (IsOperandReady c.args.windows.now c.args.strip.now) c.args.operands.now.items c.pop_operand-no.new.operands.items c.pop_operand-no.result
-    c.pop_operand-no.ensures c.requires.ready
+pub returns-in-If-eq3 : goal.returns-in-If-eq3
+returns-in-If-eq3 c = record {
+  rest =
+      let last = c.pop_operand-condition.result ∷ c.pop_operand-yes.result ∷ c.pop_operand-no.result ∷ [] in
+      let three = three_last c.args.operands.now.items c.pop_operand-no.new.operands.items
+      c.pop_operand-yes.new.operands.items
+      c.pop_operand-condition.new.operands.items c.pop_operand-condition.result c.pop_operand-yes.result
+      c.pop_operand-no.result
+      c.pop_operand-no.ensures c.pop_operand-yes.ensures c.pop_operand-condition.ensures in
+      rw c.in-If-eq3.is-1 (on_ok c.choice_value.result (front_is c.args.operands.now.items c.pop_operand-condition.new.operands.items last 3 three refl));
+  width = c.choice_value.ensures.width;
+  each =
+      let last = c.pop_operand-condition.result ∷ c.pop_operand-yes.result ∷ c.pop_operand-no.result ∷ [] in
+      let three = three_last c.args.operands.now.items c.pop_operand-no.new.operands.items
+      c.pop_operand-yes.new.operands.items
+      c.pop_operand-condition.new.operands.items c.pop_operand-condition.result c.pop_operand-yes.result
+      c.pop_operand-no.result
+      c.pop_operand-no.ensures c.pop_operand-yes.ensures c.pop_operand-condition.ensures in
+      let back = back_is c.args.operands.now.items c.pop_operand-condition.new.operands.items last 3 three refl in
+      rw (c.in-If-eq3.is-0, c.in-If-eq3.is-1, ← back) c.choice_value.ensures.each;
+}
 
-pub choice_value-requires-clause-yes : goal.choice_value-requires-clause-yes
-choice_value-requires-clause-yes c =
-    let is = IsOperandReady c.args.windows.now c.args.strip.now in
-    of_last is c.pop_operand-no.new.operands.items c.pop_operand-yes.new.operands.items c.pop_operand-yes.result
-    c.pop_operand-yes.ensures
-    (of_front is c.args.operands.now.items c.pop_operand-no.new.operands.items c.pop_operand-no.result c.pop_operand-no.ensures c.requires.ready)
+pub by_rows-requires : goal.by_rows-requires
+by_rows-requires c = record { strip = c.requires.strip; enough = c.requires.enough; ready = c.requires.ready }
 
-pub choice_value-requires-clause-condition : goal.choice_value-requires-clause-condition
-choice_value-requires-clause-condition c =
-    let is = IsOperandReady c.args.windows.now c.args.strip.now in
-    of_last is c.pop_operand-yes.new.operands.items c.pop_operand-condition.new.operands.items c.pop_operand-condition.result c.pop_operand-condition.ensures
-    (of_front is c.pop_operand-no.new.operands.items c.pop_operand-yes.new.operands.items c.pop_operand-yes.result
-    c.pop_operand-yes.ensures
-    (of_front is c.args.operands.now.items c.pop_operand-no.new.operands.items c.pop_operand-no.result c.pop_operand-no.ensures c.requires.ready))
-
-pub returns-in-If-eq3-clause-rest : goal.returns-in-If-eq3-clause-rest
-returns-in-If-eq3-clause-rest c =
-    let last = c.pop_operand-condition.result ∷ c.pop_operand-yes.result ∷ c.pop_operand-no.result ∷ [] in
-    let three = three_last c.args.operands.now.items c.pop_operand-no.new.operands.items
-    c.pop_operand-yes.new.operands.items
-    c.pop_operand-condition.new.operands.items c.pop_operand-condition.result c.pop_operand-yes.result
-    c.pop_operand-no.result
-    c.pop_operand-no.ensures c.pop_operand-yes.ensures c.pop_operand-condition.ensures in
-    rw c.in-If-eq3.is-1 (on_ok c.choice_value.result (front_is c.args.operands.now.items c.pop_operand-condition.new.operands.items last 3 three refl))
-
-pub returns-in-If-eq3-clause-width : goal.returns-in-If-eq3-clause-width
-returns-in-If-eq3-clause-width c = c.choice_value.ensures.width
-
-pub returns-in-If-eq3-clause-each : goal.returns-in-If-eq3-clause-each
-returns-in-If-eq3-clause-each c =
-    let last = c.pop_operand-condition.result ∷ c.pop_operand-yes.result ∷ c.pop_operand-no.result ∷ [] in
-    let three = three_last c.args.operands.now.items c.pop_operand-no.new.operands.items
-    c.pop_operand-yes.new.operands.items
-    c.pop_operand-condition.new.operands.items c.pop_operand-condition.result c.pop_operand-yes.result
-    c.pop_operand-no.result
-    c.pop_operand-no.ensures c.pop_operand-yes.ensures c.pop_operand-condition.ensures in
-    let back = back_is c.args.operands.now.items c.pop_operand-condition.new.operands.items last 3 three refl in
-    rw (c.in-If-eq3.is-0, c.in-If-eq3.is-1, ← back) c.choice_value.ensures.each
-
-pub by_rows-requires-clause-strip : goal.by_rows-requires-clause-strip
-by_rows-requires-clause-strip c = c.requires.strip
-
-pub by_rows-requires-clause-enough : goal.by_rows-requires-clause-enough
-by_rows-requires-clause-enough c = c.requires.enough
-
-pub by_rows-requires-clause-ready : goal.by_rows-requires-clause-ready
-by_rows-requires-clause-ready c = c.requires.ready
-
-pub returns-in_default-clause-rest : goal.returns-in_default-clause-rest
-returns-in_default-clause-rest c = c.by_rows.ensures.rest
-
-pub returns-in_default-clause-width : goal.returns-in_default-clause-width
-returns-in_default-clause-width c = c.by_rows.ensures.width
-
-pub returns-in_default-clause-each : goal.returns-in_default-clause-each
-returns-in_default-clause-each c = c.by_rows.ensures.each
+pub returns-in_default : goal.returns-in_default
+returns-in_default c =
+    record { rest = c.by_rows.ensures.rest; width = c.by_rows.ensures.width; each = c.by_rows.ensures.each }

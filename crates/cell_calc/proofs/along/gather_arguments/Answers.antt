@@ -28,23 +28,17 @@ row_of-requires-clause-ready c =
     of_last is c.operands.operands.items c.pop_operand.new.operands.items c.pop_operand.result c.pop_operand.ensures
     (rw c.operands.invariant.rest (All-take is _ c.args.operands.now.items c.requires.ready))
 
-pub returns-in_err-row-clause-rest : goal.returns-in_err-row-clause-rest
-returns-in_err-row-clause-rest c = IfOk-from_err c.from_residual.result _ c.from_residual.ensures.0
+pub returns-in_err-row : goal.returns-in_err-row
+returns-in_err-row c =
+    let failed = IfOk-from_err c.from_residual.result in
+    let is = c.from_residual.ensures.0 in
+    record { rest = failed _ is; width = failed _ is; each = failed _ is }
 
-pub returns-in_err-row-clause-width : goal.returns-in_err-row-clause-width
-returns-in_err-row-clause-width c = IfOk-from_err c.from_residual.result _ c.from_residual.ensures.0
-
-pub returns-in_err-row-clause-each : goal.returns-in_err-row-clause-each
-returns-in_err-row-clause-each c = IfOk-from_err c.from_residual.result _ c.from_residual.ensures.0
-
-pub returns-in_err-push-clause-rest : goal.returns-in_err-push-clause-rest
-returns-in_err-push-clause-rest c = IfOk-from_err c.from_residual-in_err-push.result _ c.from_residual-in_err-push.ensures.0
-
-pub returns-in_err-push-clause-width : goal.returns-in_err-push-clause-width
-returns-in_err-push-clause-width c = IfOk-from_err c.from_residual-in_err-push.result _ c.from_residual-in_err-push.ensures.0
-
-pub returns-in_err-push-clause-each : goal.returns-in_err-push-clause-each
-returns-in_err-push-clause-each c = IfOk-from_err c.from_residual-in_err-push.result _ c.from_residual-in_err-push.ensures.0
+pub returns-in_err-push : goal.returns-in_err-push
+returns-in_err-push c =
+    let failed = IfOk-from_err c.from_residual-in_err-push.result in
+    let is = c.from_residual-in_err-push.ensures.0 in
+    record { rest = failed _ is; width = failed _ is; each = failed _ is }
 
 pub operands-preserved : goal.operands-preserved
 operands-preserved c =
@@ -58,16 +52,13 @@ operands-preserved c =
           c.operands.counter c.operands.spare.arguments.items c.in_ok-row.row le so_far.rest c.pop_operand.ensures (so_far.each k h) (c.in_ok-row.ensures.each k h));
     }
 
-pub returns-clause-rest : goal.returns-clause-rest
-returns-clause-rest c =
-    let all : c.operands.counter ≡ c.args.count = omega (arith, c.operands-test.false, c.operands.auto.counter-end) in
-    rw (← all) c.operands.invariant.rest
-
-pub returns-clause-width : goal.returns-clause-width
-returns-clause-width c =
-    rw c.reverse.ensures.items (all_reversed (λ cells. length cells.items ≡ c.args.strip.now.width) c.operands.spare.arguments.items c.operands.invariant.width)
-
-pub returns-clause-each : goal.returns-clause-each
-returns-clause-each c =
-    let all : c.operands.counter ≡ c.args.count = omega (arith, c.operands-test.false, c.operands.auto.counter-end) in
-    rw (← all, c.reverse.ensures.items) (λ k h. gathered (λ cells. cells.items) k c.operands.spare.arguments.items _ (c.operands.invariant.each k h))
+pub returns : goal.returns
+returns c = record {
+  rest =
+      let all : c.operands.counter ≡ c.args.count = omega (arith, c.operands-test.false, c.operands.auto.counter-end) in
+      rw (← all) c.operands.invariant.rest;
+  width = rw c.reverse.ensures.items (all_reversed (λ cells. length cells.items ≡ c.args.strip.now.width) c.operands.spare.arguments.items c.operands.invariant.width);
+  each =
+      let all : c.operands.counter ≡ c.args.count = omega (arith, c.operands-test.false, c.operands.auto.counter-end) in
+      rw (← all, c.reverse.ensures.items) (λ k h. gathered (λ cells. cells.items) k c.operands.spare.arguments.items _ (c.operands.invariant.each k h));
+}

@@ -18,34 +18,28 @@ row_of-requires-clause-ready c =
     of_last (IsOperandReady c.args.windows.now c.args.strip.now) c.args.operands.now.items c.pop_operand.new.operands.items c.pop_operand.result c.pop_operand.ensures
     c.requires.ready
 
-pub returns-in_err-row-in-Negated-clause-rest : goal.returns-in_err-row-in-Negated-clause-rest
-returns-in_err-row-in-Negated-clause-rest c = IfOk-from_err c.from_residual.result _ c.from_residual.ensures.0
+pub returns-in_err-row-in-Negated : goal.returns-in_err-row-in-Negated
+returns-in_err-row-in-Negated c =
+    let failed = IfOk-from_err c.from_residual.result in
+    let is = c.from_residual.ensures.0 in
+    record { rest = failed _ is; ready = failed _ is; each = failed _ is }
 
-pub returns-in_err-row-in-Negated-clause-ready : goal.returns-in_err-row-in-Negated-clause-ready
-returns-in_err-row-in-Negated-clause-ready c = IfOk-from_err c.from_residual.result _ c.from_residual.ensures.0
-
-pub returns-in_err-row-in-Negated-clause-each : goal.returns-in_err-row-in-Negated-clause-each
-returns-in_err-row-in-Negated-clause-each c = IfOk-from_err c.from_residual.result _ c.from_residual.ensures.0
-
-pub returns-in_ok-row-in-Negated-clause-rest : goal.returns-in_ok-row-in-Negated-clause-rest
-returns-in_ok-row-in-Negated-clause-rest c =
-    rw c.in-Negated.is (front_is c.args.operands.now.items c.pop_operand.new.operands.items (c.pop_operand.result ∷ []) 1 c.pop_operand.ensures refl)
-
-pub returns-in_ok-row-in-Negated-clause-ready : goal.returns-in_ok-row-in-Negated-clause-ready
-returns-in_ok-row-in-Negated-clause-ready c =
-    let row = c.in_ok-row-in-Negated.row in
-    let all : row.len ≡ length row.items = search rules in
-    changed_width row.len c.args.strip.now.width row.items c.as_mut_slice.result.now c.negate.new.row all c.as_mut_slice.ensures.value
-    c.negate.ensures.width c.in_ok-row-in-Negated.ensures.width
-
-pub returns-in_ok-row-in-Negated-clause-each : goal.returns-in_ok-row-in-Negated-clause-each
-returns-in_ok-row-in-Negated-clause-each c =
-    let row = c.in_ok-row-in-Negated.row in
-    let all : row.len ≡ length row.items = search rules in
-    let last = back_is c.args.operands.now.items c.pop_operand.new.operands.items (c.pop_operand.result ∷ []) 1 c.pop_operand.ensures refl in
-    rw (c.in-Negated.is, ← last) (λ k h. changed (λ v. negated_cell v) row.len c.args.strip.now.width k row.items c.as_mut_slice.result.now c.negate.new.row
-    (operand_at c.args.windows.now c.args.strip.now k c.pop_operand.result) all c.as_mut_slice.ensures.value c.negate.ensures.width c.negate.ensures.each
-    c.in_ok-row-in-Negated.ensures.width h (c.in_ok-row-in-Negated.ensures.each k h))
+pub returns-in_ok-row-in-Negated : goal.returns-in_ok-row-in-Negated
+returns-in_ok-row-in-Negated c = record {
+  rest = rw c.in-Negated.is (front_is c.args.operands.now.items c.pop_operand.new.operands.items (c.pop_operand.result ∷ []) 1 c.pop_operand.ensures refl);
+  ready =
+      let row = c.in_ok-row-in-Negated.row in
+      let all : row.len ≡ length row.items = search rules in
+      changed_width row.len c.args.strip.now.width row.items c.as_mut_slice.result.now c.negate.new.row all c.as_mut_slice.ensures.value
+      c.negate.ensures.width c.in_ok-row-in-Negated.ensures.width;
+  each =
+      let row = c.in_ok-row-in-Negated.row in
+      let all : row.len ≡ length row.items = search rules in
+      let last = back_is c.args.operands.now.items c.pop_operand.new.operands.items (c.pop_operand.result ∷ []) 1 c.pop_operand.ensures refl in
+      rw (c.in-Negated.is, ← last) (λ k h. changed (λ v. negated_cell v) row.len c.args.strip.now.width k row.items c.as_mut_slice.result.now c.negate.new.row
+      (operand_at c.args.windows.now c.args.strip.now k c.pop_operand.result) all c.as_mut_slice.ensures.value c.negate.ensures.width c.negate.ensures.each
+      c.in_ok-row-in-Negated.ensures.width h (c.in_ok-row-in-Negated.ensures.each k h));
+}
 
 pub pop_operand-requires-in-Not : goal.pop_operand-requires-in-Not
 pop_operand-requires-in-Not c = rw c.in-Not.is at c.requires.enough
@@ -58,34 +52,28 @@ row_of-requires-in-Not-clause-ready c =
     of_last (IsOperandReady c.args.windows.now c.args.strip.now) c.args.operands.now.items c.pop_operand-in-Not.new.operands.items c.pop_operand-in-Not.result
     c.pop_operand-in-Not.ensures c.requires.ready
 
-pub returns-in_err-row-in-Not-clause-rest : goal.returns-in_err-row-in-Not-clause-rest
-returns-in_err-row-in-Not-clause-rest c = IfOk-from_err c.from_residual-in_err-row-in-Not.result _ c.from_residual-in_err-row-in-Not.ensures.0
+pub returns-in_err-row-in-Not : goal.returns-in_err-row-in-Not
+returns-in_err-row-in-Not c =
+    let failed = IfOk-from_err c.from_residual-in_err-row-in-Not.result in
+    let is = c.from_residual-in_err-row-in-Not.ensures.0 in
+    record { rest = failed _ is; ready = failed _ is; each = failed _ is }
 
-pub returns-in_err-row-in-Not-clause-ready : goal.returns-in_err-row-in-Not-clause-ready
-returns-in_err-row-in-Not-clause-ready c = IfOk-from_err c.from_residual-in_err-row-in-Not.result _ c.from_residual-in_err-row-in-Not.ensures.0
-
-pub returns-in_err-row-in-Not-clause-each : goal.returns-in_err-row-in-Not-clause-each
-returns-in_err-row-in-Not-clause-each c = IfOk-from_err c.from_residual-in_err-row-in-Not.result _ c.from_residual-in_err-row-in-Not.ensures.0
-
-pub returns-in_ok-row-in-Not-clause-rest : goal.returns-in_ok-row-in-Not-clause-rest
-returns-in_ok-row-in-Not-clause-rest c =
-    rw c.in-Not.is (front_is c.args.operands.now.items c.pop_operand-in-Not.new.operands.items (c.pop_operand-in-Not.result ∷ []) 1 c.pop_operand-in-Not.ensures refl)
-
-pub returns-in_ok-row-in-Not-clause-ready : goal.returns-in_ok-row-in-Not-clause-ready
-returns-in_ok-row-in-Not-clause-ready c =
-    let row = c.in_ok-row-in-Not.row in
-    let all : row.len ≡ length row.items = search rules in
-    changed_width row.len c.args.strip.now.width row.items c.as_mut_slice-in-Not.result.now c.invert.new.row all c.as_mut_slice-in-Not.ensures.value
-    c.invert.ensures.width c.in_ok-row-in-Not.ensures.width
-
-pub returns-in_ok-row-in-Not-clause-each : goal.returns-in_ok-row-in-Not-clause-each
-returns-in_ok-row-in-Not-clause-each c =
-    let row = c.in_ok-row-in-Not.row in
-    let all : row.len ≡ length row.items = search rules in
-    let last = back_is c.args.operands.now.items c.pop_operand-in-Not.new.operands.items (c.pop_operand-in-Not.result ∷ []) 1 c.pop_operand-in-Not.ensures refl in
-    rw (c.in-Not.is, ← last) (λ k h. changed (λ v. inverted_cell v) row.len c.args.strip.now.width k row.items c.as_mut_slice-in-Not.result.now c.invert.new.row
-    (operand_at c.args.windows.now c.args.strip.now k c.pop_operand-in-Not.result) all c.as_mut_slice-in-Not.ensures.value c.invert.ensures.width
-    c.invert.ensures.each c.in_ok-row-in-Not.ensures.width h (c.in_ok-row-in-Not.ensures.each k h))
+pub returns-in_ok-row-in-Not : goal.returns-in_ok-row-in-Not
+returns-in_ok-row-in-Not c = record {
+  rest = rw c.in-Not.is (front_is c.args.operands.now.items c.pop_operand-in-Not.new.operands.items (c.pop_operand-in-Not.result ∷ []) 1 c.pop_operand-in-Not.ensures refl);
+  ready =
+      let row = c.in_ok-row-in-Not.row in
+      let all : row.len ≡ length row.items = search rules in
+      changed_width row.len c.args.strip.now.width row.items c.as_mut_slice-in-Not.result.now c.invert.new.row all c.as_mut_slice-in-Not.ensures.value
+      c.invert.ensures.width c.in_ok-row-in-Not.ensures.width;
+  each =
+      let row = c.in_ok-row-in-Not.row in
+      let all : row.len ≡ length row.items = search rules in
+      let last = back_is c.args.operands.now.items c.pop_operand-in-Not.new.operands.items (c.pop_operand-in-Not.result ∷ []) 1 c.pop_operand-in-Not.ensures refl in
+      rw (c.in-Not.is, ← last) (λ k h. changed (λ v. inverted_cell v) row.len c.args.strip.now.width k row.items c.as_mut_slice-in-Not.result.now c.invert.new.row
+      (operand_at c.args.windows.now c.args.strip.now k c.pop_operand-in-Not.result) all c.as_mut_slice-in-Not.ensures.value c.invert.ensures.width
+      c.invert.ensures.each c.in_ok-row-in-Not.ensures.width h (c.in_ok-row-in-Not.ensures.each k h));
+}
 
 pub pop_operand-right-requires : goal.pop_operand-right-requires
 pop_operand-right-requires c = let h = rw c.in-Binary.is at c.requires.enough in omega (arith, h)
@@ -95,94 +83,73 @@ pop_operand-left-requires c =
     more_before 0 c.args.operands.now.items c.pop_operand-right.new.operands.items c.pop_operand-right.result c.pop_operand-right.ensures (rw c.in-Binary.is at
     c.requires.enough)
 
-pub binary_value-requires-clause-strip : goal.binary_value-requires-clause-strip
-binary_value-requires-clause-strip c = c.requires.strip
+pub binary_value-requires : goal.binary_value-requires
+binary_value-requires c = record {
+  strip = c.requires.strip;
+  left =
+      let is = IsOperandReady c.args.windows.now c.args.strip.now in
+      let before = c.pop_operand-right.new.operands.items in
+      of_last is before c.pop_operand-left.new.operands.items c.pop_operand-left.result c.pop_operand-left.ensures
+      (of_front is c.args.operands.now.items before c.pop_operand-right.result c.pop_operand-right.ensures
+      c.requires.ready);
+  right =
+      of_last (IsOperandReady c.args.windows.now c.args.strip.now) c.args.operands.now.items c.pop_operand-right.new.operands.items c.pop_operand-right.result
+      c.pop_operand-right.ensures c.requires.ready;
+}
 
-pub binary_value-requires-clause-left : goal.binary_value-requires-clause-left
-binary_value-requires-clause-left c =
-    let is = IsOperandReady c.args.windows.now c.args.strip.now in
-    let before = c.pop_operand-right.new.operands.items in
-    of_last is before c.pop_operand-left.new.operands.items c.pop_operand-left.result c.pop_operand-left.ensures
-    (of_front is c.args.operands.now.items before c.pop_operand-right.result c.pop_operand-right.ensures
-    c.requires.ready)
+pub returns-in_err-row-in-Binary : goal.returns-in_err-row-in-Binary
+returns-in_err-row-in-Binary c =
+    let failed = IfOk-from_err c.from_residual-in_err-row-in-Binary.result in
+    let is = c.from_residual-in_err-row-in-Binary.ensures.0 in
+    record { rest = failed _ is; ready = failed _ is; each = failed _ is }
 
-pub binary_value-requires-clause-right : goal.binary_value-requires-clause-right
-binary_value-requires-clause-right c =
-    of_last (IsOperandReady c.args.windows.now c.args.strip.now) c.args.operands.now.items c.pop_operand-right.new.operands.items c.pop_operand-right.result
-    c.pop_operand-right.ensures c.requires.ready
+pub returns-in_err-row-in-Call : goal.returns-in_err-row-in-Call
+returns-in_err-row-in-Call c =
+    let failed = IfOk-from_err c.from_residual-in_err-row-in-Call.result in
+    let is = c.from_residual-in_err-row-in-Call.ensures.0 in
+    record { rest = failed _ is; ready = failed _ is; each = failed _ is }
 
-pub returns-in_err-row-in-Binary-clause-rest : goal.returns-in_err-row-in-Binary-clause-rest
-returns-in_err-row-in-Binary-clause-rest c = IfOk-from_err c.from_residual-in_err-row-in-Binary.result _ c.from_residual-in_err-row-in-Binary.ensures.0
+pub returns-in_ok-row-in-Binary : goal.returns-in_ok-row-in-Binary
+returns-in_ok-row-in-Binary c = record {
+  rest =
+      let two = two_last c.args.operands.now.items c.pop_operand-right.new.operands.items c.pop_operand-left.new.operands.items c.pop_operand-left.result c.pop_operand-right.result
+      c.pop_operand-right.ensures c.pop_operand-left.ensures in
+      rw c.in-Binary.is (front_is c.args.operands.now.items c.pop_operand-left.new.operands.items (c.pop_operand-left.result ∷ c.pop_operand-right.result ∷ []) 2 two refl);
+  ready = c.in_ok-row-in-Binary.ensures.width;
+  each =
+      let two = two_last c.args.operands.now.items c.pop_operand-right.new.operands.items c.pop_operand-left.new.operands.items c.pop_operand-left.result c.pop_operand-right.result
+      c.pop_operand-right.ensures c.pop_operand-left.ensures in
+      let last = back_is c.args.operands.now.items c.pop_operand-left.new.operands.items (c.pop_operand-left.result ∷ c.pop_operand-right.result ∷ []) 2 two refl in
+      rw (c.in-Binary.is, ← last) c.in_ok-row-in-Binary.ensures.each;
+}
 
-pub returns-in_err-row-in-Binary-clause-ready : goal.returns-in_err-row-in-Binary-clause-ready
-returns-in_err-row-in-Binary-clause-ready c = IfOk-from_err c.from_residual-in_err-row-in-Binary.result _ c.from_residual-in_err-row-in-Binary.ensures.0
+pub call_value-requires : goal.call_value-requires
+call_value-requires c =
+    record { strip = c.requires.strip; enough = rw c.in-Call.is at c.requires.enough; ready = c.requires.ready }
 
-pub returns-in_err-row-in-Binary-clause-each : goal.returns-in_err-row-in-Binary-clause-each
-returns-in_err-row-in-Binary-clause-each c = IfOk-from_err c.from_residual-in_err-row-in-Binary.result _ c.from_residual-in_err-row-in-Binary.ensures.0
+pub returns-in_ok-row-in-Call : goal.returns-in_ok-row-in-Call
+returns-in_ok-row-in-Call c = record {
+  rest = rw c.in-Call.is c.in_ok-row-in-Call.ensures.rest;
+  ready = c.in_ok-row-in-Call.ensures.width;
+  each = rw c.in-Call.is c.in_ok-row-in-Call.ensures.each;
+}
 
-pub returns-in_err-row-in-Call-clause-rest : goal.returns-in_err-row-in-Call-clause-rest
-returns-in_err-row-in-Call-clause-rest c = IfOk-from_err c.from_residual-in_err-row-in-Call.result _ c.from_residual-in_err-row-in-Call.ensures.0
+pub returns-in-Number : goal.returns-in-Number
+returns-in-Number c = record {
+  rest = rw c.in-Number.is (none_taken c.args.operands.now.items);
+  ready = rw c.in-Number.is at c.requires.step;
+  each = rw c.in-Number.is (λ k h. refl);
+}
 
-pub returns-in_err-row-in-Call-clause-ready : goal.returns-in_err-row-in-Call-clause-ready
-returns-in_err-row-in-Call-clause-ready c = IfOk-from_err c.from_residual-in_err-row-in-Call.result _ c.from_residual-in_err-row-in-Call.ensures.0
-
-pub returns-in_err-row-in-Call-clause-each : goal.returns-in_err-row-in-Call-clause-each
-returns-in_err-row-in-Call-clause-each c = IfOk-from_err c.from_residual-in_err-row-in-Call.result _ c.from_residual-in_err-row-in-Call.ensures.0
-
-pub returns-in_ok-row-in-Binary-clause-rest : goal.returns-in_ok-row-in-Binary-clause-rest
-returns-in_ok-row-in-Binary-clause-rest c =
-    let two = two_last c.args.operands.now.items c.pop_operand-right.new.operands.items c.pop_operand-left.new.operands.items c.pop_operand-left.result c.pop_operand-right.result
-    c.pop_operand-right.ensures c.pop_operand-left.ensures in
-    rw c.in-Binary.is (front_is c.args.operands.now.items c.pop_operand-left.new.operands.items (c.pop_operand-left.result ∷ c.pop_operand-right.result ∷ []) 2 two refl)
-
-pub returns-in_ok-row-in-Binary-clause-ready : goal.returns-in_ok-row-in-Binary-clause-ready
-returns-in_ok-row-in-Binary-clause-ready c = c.in_ok-row-in-Binary.ensures.width
-
-pub returns-in_ok-row-in-Binary-clause-each : goal.returns-in_ok-row-in-Binary-clause-each
-returns-in_ok-row-in-Binary-clause-each c =
-    let two = two_last c.args.operands.now.items c.pop_operand-right.new.operands.items c.pop_operand-left.new.operands.items c.pop_operand-left.result c.pop_operand-right.result
-    c.pop_operand-right.ensures c.pop_operand-left.ensures in
-    let last = back_is c.args.operands.now.items c.pop_operand-left.new.operands.items (c.pop_operand-left.result ∷ c.pop_operand-right.result ∷ []) 2 two refl in
-    rw (c.in-Binary.is, ← last) c.in_ok-row-in-Binary.ensures.each
-
-pub call_value-requires-clause-strip : goal.call_value-requires-clause-strip
-call_value-requires-clause-strip c = c.requires.strip
-
-pub call_value-requires-clause-enough : goal.call_value-requires-clause-enough
-call_value-requires-clause-enough c = rw c.in-Call.is at c.requires.enough
-
-pub call_value-requires-clause-ready : goal.call_value-requires-clause-ready
-call_value-requires-clause-ready c = c.requires.ready
-
-pub returns-in_ok-row-in-Call-clause-rest : goal.returns-in_ok-row-in-Call-clause-rest
-returns-in_ok-row-in-Call-clause-rest c = rw c.in-Call.is c.in_ok-row-in-Call.ensures.rest
-
-pub returns-in_ok-row-in-Call-clause-ready : goal.returns-in_ok-row-in-Call-clause-ready
-returns-in_ok-row-in-Call-clause-ready c = c.in_ok-row-in-Call.ensures.width
-
-pub returns-in_ok-row-in-Call-clause-each : goal.returns-in_ok-row-in-Call-clause-each
-returns-in_ok-row-in-Call-clause-each c = rw c.in-Call.is c.in_ok-row-in-Call.ensures.each
-
-pub returns-in-Number-clause-rest : goal.returns-in-Number-clause-rest
-returns-in-Number-clause-rest c = rw c.in-Number.is (none_taken c.args.operands.now.items)
-
-pub returns-in-Number-clause-ready : goal.returns-in-Number-clause-ready
-returns-in-Number-clause-ready c = rw c.in-Number.is at c.requires.step
-
-pub returns-in-Number-clause-each : goal.returns-in-Number-clause-each
-returns-in-Number-clause-each c = rw c.in-Number.is (λ k h. refl)
-
-pub returns-in-Map-clause-rest : goal.returns-in-Map-clause-rest
-returns-in-Map-clause-rest c = rw c.in-Map.is (none_taken c.args.operands.now.items)
-
-pub returns-in-Map-clause-ready : goal.returns-in-Map-clause-ready
-returns-in-Map-clause-ready c =
-    let fits : FitsSigned w32 c.in-Map.down = search rules in
-    let ready = rw c.in-Map.is at c.requires.step in
-    rw (to_z-of_z w32 c.in-Map.down fits) ready
-
-pub returns-in-Map-clause-each : goal.returns-in-Map-clause-each
-returns-in-Map-clause-each c =
-    let fits : FitsSigned w32 c.in-Map.down = search rules in
-    let fits_right : FitsSigned w32 c.in-Map.right = search rules in
-    rw (c.in-Map.is, to_z-of_z w32 c.in-Map.down fits, to_z-of_z w32 c.in-Map.right fits_right) (λ k h. refl)
+pub returns-in-Map : goal.returns-in-Map
+returns-in-Map c = record {
+  rest = rw c.in-Map.is (none_taken c.args.operands.now.items);
+  ready =
+      let fits : FitsSigned w32 c.in-Map.down = search rules in
+      let ready = rw c.in-Map.is at c.requires.step in
+      rw (to_z-of_z w32 c.in-Map.down fits) ready;
+  each =
+      let fits : FitsSigned w32 c.in-Map.down = search rules in
+      let fits_right : FitsSigned w32 c.in-Map.right = search rules in
+      rw (c.in-Map.is, to_z-of_z w32 c.in-Map.down fits, to_z-of_z w32 c.in-Map.right fits_right) (λ k h. refl);
+}

@@ -7,34 +7,26 @@ use Rattle.cell_calc.proofs.Rings.{written}
 use Rattle.cell_calc.proofs.Written.{at_written}
 use Rattle.cell_calc.proofs.operand.binary_value.Goals as goal
 
-pub row_of-requires-clause-strip : goal.row_of-requires-clause-strip
-row_of-requires-clause-strip c = c.requires.strip
+pub row_of-requires : goal.row_of-requires
+row_of-requires c = record { strip = c.requires.strip; ready = c.requires.left }
 
-pub row_of-requires-clause-ready : goal.row_of-requires-clause-ready
-row_of-requires-clause-ready c = c.requires.left
+pub apply_to_operands-requires : goal.apply_to_operands-requires
+apply_to_operands-requires c = record {
+  strip = c.requires.strip;
+  right = c.requires.right;
+  width = ap (λ l. length l) c.as_mut_slice.ensures.value ∙ c.in_ok-row.ensures.width;
+}
 
-pub apply_to_operands-requires-clause-strip : goal.apply_to_operands-requires-clause-strip
-apply_to_operands-requires-clause-strip c = c.requires.strip
+pub returns-in_err-row : goal.returns-in_err-row
+returns-in_err-row c =
+    let failed = IfOk-from_err c.from_residual.result in
+    record { width = failed _ c.from_residual.ensures.0; each = failed _ c.from_residual.ensures.0 }
 
-pub apply_to_operands-requires-clause-right : goal.apply_to_operands-requires-clause-right
-apply_to_operands-requires-clause-right c = c.requires.right
-
-pub apply_to_operands-requires-clause-width : goal.apply_to_operands-requires-clause-width
-apply_to_operands-requires-clause-width c = ap (λ l. length l) c.as_mut_slice.ensures.value ∙ c.in_ok-row.ensures.width
-
-pub returns-in_err-row-clause-width : goal.returns-in_err-row-clause-width
-returns-in_err-row-clause-width c = IfOk-from_err c.from_residual.result _ c.from_residual.ensures.0
-
-pub returns-in_err-row-clause-each : goal.returns-in_err-row-clause-each
-returns-in_err-row-clause-each c = IfOk-from_err c.from_residual.result _ c.from_residual.ensures.0
-
-pub returns-in_err-apply_to_operands-clause-width : goal.returns-in_err-apply_to_operands-clause-width
-returns-in_err-apply_to_operands-clause-width c =
-    IfOk-from_err c.from_residual-in_err-apply_to_operands.result _ c.from_residual-in_err-apply_to_operands.ensures.0
-
-pub returns-in_err-apply_to_operands-clause-each : goal.returns-in_err-apply_to_operands-clause-each
-returns-in_err-apply_to_operands-clause-each c =
-    IfOk-from_err c.from_residual-in_err-apply_to_operands.result _ c.from_residual-in_err-apply_to_operands.ensures.0
+pub returns-in_err-apply_to_operands : goal.returns-in_err-apply_to_operands
+returns-in_err-apply_to_operands c =
+    let failed = IfOk-from_err c.from_residual-in_err-apply_to_operands.result in
+    let is = c.from_residual-in_err-apply_to_operands.ensures.0 in
+    record { width = failed _ is; each = failed _ is }
 
 pub returns-clause-width : goal.returns-clause-width
 returns-clause-width c =

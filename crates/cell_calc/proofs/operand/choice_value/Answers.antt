@@ -7,60 +7,42 @@ use Rattle.cell_calc.proofs.Rings.{written}
 use Rattle.cell_calc.proofs.Written.{at_written}
 use Rattle.cell_calc.proofs.operand.choice_value.Goals as goal
 
-pub row_of-requires-clause-strip : goal.row_of-requires-clause-strip
-row_of-requires-clause-strip c = c.requires.strip
+pub row_of-requires : goal.row_of-requires
+row_of-requires c = record { strip = c.requires.strip; ready = c.requires.no }
 
-pub row_of-requires-clause-ready : goal.row_of-requires-clause-ready
-row_of-requires-clause-ready c = c.requires.no
+pub row_of-requires-2 : goal.row_of-requires-2
+row_of-requires-2 c = record { strip = c.requires.strip; ready = c.requires.condition }
 
-pub row_of-requires-2-clause-strip : goal.row_of-requires-2-clause-strip
-row_of-requires-2-clause-strip c = c.requires.strip
+pub choose_operands-requires : goal.choose_operands-requires
+choose_operands-requires c = record {
+  strip = c.requires.strip;
+  yes = c.requires.yes;
+  width = ap (λ l. length l) c.as_mut_slice.ensures.value ∙ c.in_ok-row.ensures.width;
+  conditions = ap (λ l. length l) c.as_slice-others.ensures.value ∙ c.in_ok-conditions.ensures.width;
+}
 
-pub row_of-requires-2-clause-ready : goal.row_of-requires-2-clause-ready
-row_of-requires-2-clause-ready c = c.requires.condition
+pub returns-in_err-row : goal.returns-in_err-row
+returns-in_err-row c =
+    let failed = IfOk-from_err c.from_residual.result in
+    record { width = failed _ c.from_residual.ensures.0; each = failed _ c.from_residual.ensures.0 }
 
-pub choose_operands-requires-clause-strip : goal.choose_operands-requires-clause-strip
-choose_operands-requires-clause-strip c = c.requires.strip
+pub returns-in_err-conditions : goal.returns-in_err-conditions
+returns-in_err-conditions c =
+    let failed = IfOk-from_err c.from_residual-in_err-conditions.result in
+    let is = c.from_residual-in_err-conditions.ensures.0 in
+    record { width = failed _ is; each = failed _ is }
 
-pub choose_operands-requires-clause-yes : goal.choose_operands-requires-clause-yes
-choose_operands-requires-clause-yes c = c.requires.yes
+pub returns-in_err-choose_operands : goal.returns-in_err-choose_operands
+returns-in_err-choose_operands c =
+    let failed = IfOk-from_err c.from_residual-in_err-choose_operands.result in
+    let is = c.from_residual-in_err-choose_operands.ensures.0 in
+    record { width = failed _ is; each = failed _ is }
 
-pub choose_operands-requires-clause-width : goal.choose_operands-requires-clause-width
-choose_operands-requires-clause-width c = ap (λ l. length l) c.as_mut_slice.ensures.value ∙ c.in_ok-row.ensures.width
-
-pub choose_operands-requires-clause-conditions : goal.choose_operands-requires-clause-conditions
-choose_operands-requires-clause-conditions c =
-    ap (λ l. length l) c.as_slice-others.ensures.value ∙ c.in_ok-conditions.ensures.width
-
-pub returns-in_err-row-clause-width : goal.returns-in_err-row-clause-width
-returns-in_err-row-clause-width c = IfOk-from_err c.from_residual.result _ c.from_residual.ensures.0
-
-pub returns-in_err-row-clause-each : goal.returns-in_err-row-clause-each
-returns-in_err-row-clause-each c = IfOk-from_err c.from_residual.result _ c.from_residual.ensures.0
-
-pub returns-in_err-conditions-clause-width : goal.returns-in_err-conditions-clause-width
-returns-in_err-conditions-clause-width c =
-    IfOk-from_err c.from_residual-in_err-conditions.result _ c.from_residual-in_err-conditions.ensures.0
-
-pub returns-in_err-conditions-clause-each : goal.returns-in_err-conditions-clause-each
-returns-in_err-conditions-clause-each c =
-    IfOk-from_err c.from_residual-in_err-conditions.result _ c.from_residual-in_err-conditions.ensures.0
-
-pub returns-in_err-choose_operands-clause-width : goal.returns-in_err-choose_operands-clause-width
-returns-in_err-choose_operands-clause-width c =
-    IfOk-from_err c.from_residual-in_err-choose_operands.result _ c.from_residual-in_err-choose_operands.ensures.0
-
-pub returns-in_err-choose_operands-clause-each : goal.returns-in_err-choose_operands-clause-each
-returns-in_err-choose_operands-clause-each c =
-    IfOk-from_err c.from_residual-in_err-choose_operands.result _ c.from_residual-in_err-choose_operands.ensures.0
-
-pub returns-in_err-push-clause-width : goal.returns-in_err-push-clause-width
-returns-in_err-push-clause-width c =
-    IfOk-from_err c.from_residual-in_err-push.result _ c.from_residual-in_err-push.ensures.0
-
-pub returns-in_err-push-clause-each : goal.returns-in_err-push-clause-each
-returns-in_err-push-clause-each c =
-    IfOk-from_err c.from_residual-in_err-push.result _ c.from_residual-in_err-push.ensures.0
+pub returns-in_err-push : goal.returns-in_err-push
+returns-in_err-push c =
+    let failed = IfOk-from_err c.from_residual-in_err-push.result in
+    let is = c.from_residual-in_err-push.ensures.0 in
+    record { width = failed _ is; each = failed _ is }
 
 pub returns-clause-width : goal.returns-clause-width
 returns-clause-width c =

@@ -5,11 +5,10 @@ use Rattle.cell_calc_operators.specs.Offsets.{item_at}
 use Rattle.cell_calc.proofs.Written.{at_written, changed_width}
 use Rattle.cell_calc.proofs.operand.row_of.Goals as goal
 
-pub returns-in_err-row-in-Number-clause-width : goal.returns-in_err-row-in-Number-clause-width
-returns-in_err-row-in-Number-clause-width c = IfOk-from_err c.from_residual.result _ c.from_residual.ensures.0
-
-pub returns-in_err-row-in-Number-clause-each : goal.returns-in_err-row-in-Number-clause-each
-returns-in_err-row-in-Number-clause-each c = IfOk-from_err c.from_residual.result _ c.from_residual.ensures.0
+pub returns-in_err-row-in-Number : goal.returns-in_err-row-in-Number
+returns-in_err-row-in-Number c =
+    let failed = IfOk-from_err c.from_residual.result in
+    record { width = failed _ c.from_residual.ensures.0; each = failed _ c.from_residual.ensures.0 }
 
 pub returns-in_err-row-in-Map-clause-width : goal.returns-in_err-row-in-Map-clause-width
 returns-in_err-row-in-Map-clause-width c = IfOk-from_err c.from_residual-in_err-row-in-Map.result _ c.from_residual-in_err-row-in-Map.ensures.0
@@ -23,11 +22,8 @@ window_row-source-requires c =
     let ready = rw c.in-Map.is at c.requires.ready in
     rw (to_z-of_z w32 c.in-Map.down fits) ready
 
-pub returns-in-Row-clause-width : goal.returns-in-Row-clause-width
-returns-in-Row-clause-width c = rw c.in-Row.is at c.requires.ready
-
-pub returns-in-Row-clause-each : goal.returns-in-Row-clause-each
-returns-in-Row-clause-each c = rw c.in-Row.is (λ k h. refl)
+pub returns-in-Row : goal.returns-in-Row
+returns-in-Row c = record { width = rw c.in-Row.is at c.requires.ready; each = rw c.in-Row.is (λ k h. refl) }
 
 pub returns-in_ok-row-in-Number-clause-width : goal.returns-in_ok-row-in-Number-clause-width
 returns-in_ok-row-in-Number-clause-width c =

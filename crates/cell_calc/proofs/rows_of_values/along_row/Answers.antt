@@ -50,11 +50,10 @@ module _ (old strip values new : List CellValue) (from width : ℕ) (is : new �
       rw (is, same) (get_or-append_right old values from c None count above) in
       subst (P c) (sym new_c) (subst (λ k. P k (at values (c - from))) place (there (c - from) (omega (arith, lt))))
 
-pub returns-in_err-cells-clause-width : goal.returns-in_err-cells-clause-width
-returns-in_err-cells-clause-width c = IfOk-from_err c.from_residual.result _ c.from_residual.ensures.0
-
-pub returns-in_err-cells-clause-each : goal.returns-in_err-cells-clause-each
-returns-in_err-cells-clause-each c = IfOk-from_err c.from_residual.result _ c.from_residual.ensures.0
+pub returns-in_err-cells : goal.returns-in_err-cells
+returns-in_err-cells c =
+    let failed = IfOk-from_err c.from_residual.result in
+    record { width = failed _ c.from_residual.ensures.0; each = failed _ c.from_residual.ensures.0 }
 
 pub strips-init : goal.strips-init
 strips-init c = record {
@@ -66,46 +65,38 @@ strips-init c = record {
 pub overflow_sub-cols : goal.overflow_sub-cols
 overflow_sub-cols c = c.strips.invariant.within
 
-pub along-requires-clause-strip : goal.along-requires-clause-strip
-along-requires-clause-strip c =
-    let from = c.strips.from in
-    let width = c.min-width.result in
-    let inside = within from width c.cols-cols.result c.strips.invariant.within c.min-width.ensures in
-    record {
-      row = c.requires.row;
-      columns = subst (λ n. from + width ≤ n) c.cols-cols.ensures.value inside;
-      most = c.cols-cols.ensures.region.cols_most;
-    }
+pub along-requires : goal.along-requires
+along-requires c = record {
+  strip =
+      let from = c.strips.from in
+      let width = c.min-width.result in
+      let inside = within from width c.cols-cols.result c.strips.invariant.within c.min-width.ensures in
+      record {
+        row = c.requires.row;
+        columns = subst (λ n. from + width ≤ n) c.cols-cols.ensures.value inside;
+        most = c.cols-cols.ensures.region.cols_most;
+      };
+  ready = c.requires.ready;
+  enough = c.requires.enough;
+}
 
-pub along-requires-clause-ready : goal.along-requires-clause-ready
-along-requires-clause-ready c = c.requires.ready
+pub returns-in_err-values : goal.returns-in_err-values
+returns-in_err-values c =
+    let failed = IfOk-from_err c.from_residual-in_err-values.result in
+    let is = c.from_residual-in_err-values.ensures.0 in
+    record { width = failed _ is; each = failed _ is }
 
-pub along-requires-clause-enough : goal.along-requires-clause-enough
-along-requires-clause-enough c = c.requires.enough
+pub returns-in_err-extend_from_slice : goal.returns-in_err-extend_from_slice
+returns-in_err-extend_from_slice c =
+    let failed = IfOk-from_err c.from_residual-in_err-extend_from_slice.result in
+    let is = c.from_residual-in_err-extend_from_slice.ensures.0 in
+    record { width = failed _ is; each = failed _ is }
 
-pub returns-in_err-values-clause-width : goal.returns-in_err-values-clause-width
-returns-in_err-values-clause-width c =
-    IfOk-from_err c.from_residual-in_err-values.result _ c.from_residual-in_err-values.ensures.0
-
-pub returns-in_err-values-clause-each : goal.returns-in_err-values-clause-each
-returns-in_err-values-clause-each c =
-    IfOk-from_err c.from_residual-in_err-values.result _ c.from_residual-in_err-values.ensures.0
-
-pub returns-in_err-extend_from_slice-clause-width : goal.returns-in_err-extend_from_slice-clause-width
-returns-in_err-extend_from_slice-clause-width c =
-    IfOk-from_err c.from_residual-in_err-extend_from_slice.result _ c.from_residual-in_err-extend_from_slice.ensures.0
-
-pub returns-in_err-extend_from_slice-clause-each : goal.returns-in_err-extend_from_slice-clause-each
-returns-in_err-extend_from_slice-clause-each c =
-    IfOk-from_err c.from_residual-in_err-extend_from_slice.result _ c.from_residual-in_err-extend_from_slice.ensures.0
-
-pub returns-in_err-push-clause-width : goal.returns-in_err-push-clause-width
-returns-in_err-push-clause-width c =
-    IfOk-from_err c.from_residual-in_err-push.result _ c.from_residual-in_err-push.ensures.0
-
-pub returns-in_err-push-clause-each : goal.returns-in_err-push-clause-each
-returns-in_err-push-clause-each c =
-    IfOk-from_err c.from_residual-in_err-push.result _ c.from_residual-in_err-push.ensures.0
+pub returns-in_err-push : goal.returns-in_err-push
+returns-in_err-push c =
+    let failed = IfOk-from_err c.from_residual-in_err-push.result in
+    let is = c.from_residual-in_err-push.ensures.0 in
+    record { width = failed _ is; each = failed _ is }
 
 pub strips-smaller : goal.strips-smaller
 strips-smaller c =

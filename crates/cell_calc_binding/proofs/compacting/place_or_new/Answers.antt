@@ -5,28 +5,22 @@ use Rattle.cell_calc_binding.proofs.Index.{index_last, index_kept, index_absent,
 use Rattle.cell_calc_binding.proofs.Compact.{read_push}
 use Rattle.cell_calc_binding.proofs.compacting.place_or_new.Goals as goal
 
-pub returns-clause-there : goal.returns-clause-there
-returns-clause-there c =
-    let places = c.args.places.now.items in
-    let absent : length places ≤ index_in places c.args.place = search rules in
-    let k : c.listed_place-k.result ≡ index_in places c.args.place = c.listed_place-k.ensures ∙ ap (λ l. index_in l c.args.place) c.as_slice.ensures.value in
-    rw (c.in_ok-push.ensures.items, index_last places c.args.place absent) (omega (arith, k, absent, index_within places c.args.place))
-
-pub returns-clause-count : goal.returns-clause-count
-returns-clause-count c =
-    let places = c.args.places.now.items in
-    let absent : length places ≤ index_in places c.args.place = search rules in
-    let k : c.listed_place-k.result ≡ index_in places c.args.place = c.listed_place-k.ensures ∙ ap (λ l. index_in l c.args.place) c.as_slice.ensures.value in
-    rw (c.in_ok-push.ensures.items, length-append places (c.args.place ∷ [])) (omega (arith, k, absent, index_within places c.args.place))
-
-pub returns-clause-kept : goal.returns-clause-kept
-returns-clause-kept c = rw c.in_ok-push.ensures.items (λ i lt. index_kept c.args.places.now.items (c.args.place ∷ []) i lt)
-
-pub returns-clause-distinct : goal.returns-clause-distinct
-returns-clause-distinct c =
-    let places = c.args.places.now.items in
-    let absent : length places ≤ index_in places c.args.place = search rules in
-    rw c.in_ok-push.ensures.items (λ distinct. all_pairs_push (λ a b. a ≢ b) places c.args.place distinct (λ k d lt e. index_absent places c.args.place absent k d lt e))
-
-pub returns-clause-read : goal.returns-clause-read
-returns-clause-read c = rw c.in_ok-push.ensures.items (λ f here there. read_push f c.args.places.now.items c.args.place here there)
+pub returns : goal.returns
+returns c = record {
+  there =
+      let places = c.args.places.now.items in
+      let absent : length places ≤ index_in places c.args.place = search rules in
+      let k : c.listed_place-k.result ≡ index_in places c.args.place = c.listed_place-k.ensures ∙ ap (λ l. index_in l c.args.place) c.as_slice.ensures.value in
+      rw (c.in_ok-push.ensures.items, index_last places c.args.place absent) (omega (arith, k, absent, index_within places c.args.place));
+  count =
+      let places = c.args.places.now.items in
+      let absent : length places ≤ index_in places c.args.place = search rules in
+      let k : c.listed_place-k.result ≡ index_in places c.args.place = c.listed_place-k.ensures ∙ ap (λ l. index_in l c.args.place) c.as_slice.ensures.value in
+      rw (c.in_ok-push.ensures.items, length-append places (c.args.place ∷ [])) (omega (arith, k, absent, index_within places c.args.place));
+  kept = rw c.in_ok-push.ensures.items (λ i lt. index_kept c.args.places.now.items (c.args.place ∷ []) i lt);
+  distinct =
+      let places = c.args.places.now.items in
+      let absent : length places ≤ index_in places c.args.place = search rules in
+      rw c.in_ok-push.ensures.items (λ distinct. all_pairs_push (λ a b. a ≢ b) places c.args.place distinct (λ k d lt e. index_absent places c.args.place absent k d lt e));
+  read = rw c.in_ok-push.ensures.items (λ f here there. read_push f c.args.places.now.items c.args.place here there);
+}

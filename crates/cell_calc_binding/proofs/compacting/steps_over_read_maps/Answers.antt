@@ -24,20 +24,14 @@ none_equal none = rw none (λ i j d before below same. none_below below)
 none_read : {places : List ℕ} (f : Formula) → places ≡ [] → AreMapsRead places f
 none_read f none = rw none (λ k i is. cc)
 
-pub returns-in_err-others-clause-steps : goal.returns-in_err-others-clause-steps
-returns-in_err-others-clause-steps c = IfOk-from_err c.from_residual.result _ c.from_residual.ensures.0
-
-pub returns-in_err-others-clause-listed : goal.returns-in_err-others-clause-listed
-returns-in_err-others-clause-listed c = IfOk-from_err c.from_residual.result _ c.from_residual.ensures.0
-
-pub returns-in_err-others-clause-count : goal.returns-in_err-others-clause-count
-returns-in_err-others-clause-count c = IfOk-from_err c.from_residual.result _ c.from_residual.ensures.0
-
-pub returns-in_err-others-clause-distinct : goal.returns-in_err-others-clause-distinct
-returns-in_err-others-clause-distinct c = IfOk-from_err c.from_residual.result _ c.from_residual.ensures.0
-
-pub returns-in_err-others-clause-read : goal.returns-in_err-others-clause-read
-returns-in_err-others-clause-read c = IfOk-from_err c.from_residual.result _ c.from_residual.ensures.0
+pub returns-in_err-others : goal.returns-in_err-others
+returns-in_err-others c = record {
+  steps = IfOk-from_err c.from_residual.result _ c.from_residual.ensures.0;
+  listed = IfOk-from_err c.from_residual.result _ c.from_residual.ensures.0;
+  count = IfOk-from_err c.from_residual.result _ c.from_residual.ensures.0;
+  distinct = IfOk-from_err c.from_residual.result _ c.from_residual.ensures.0;
+  read = IfOk-from_err c.from_residual.result _ c.from_residual.ensures.0;
+}
 
 pub loop-step-init : goal.loop-step-init
 loop-step-init c =
@@ -50,45 +44,23 @@ loop-step-init c =
       read = λ f all. none_read f none;
     }
 
-pub returns-in_err-other-clause-steps : goal.returns-in_err-other-clause-steps
-returns-in_err-other-clause-steps c =
-    IfOk-from_err c.from_residual-in_err-other.result _ c.from_residual-in_err-other.ensures.0
+pub returns-in_err-other : goal.returns-in_err-other
+returns-in_err-other c = record {
+  steps = IfOk-from_err c.from_residual-in_err-other.result _ c.from_residual-in_err-other.ensures.0;
+  listed = IfOk-from_err c.from_residual-in_err-other.result _ c.from_residual-in_err-other.ensures.0;
+  count = IfOk-from_err c.from_residual-in_err-other.result _ c.from_residual-in_err-other.ensures.0;
+  distinct = IfOk-from_err c.from_residual-in_err-other.result _ c.from_residual-in_err-other.ensures.0;
+  read = IfOk-from_err c.from_residual-in_err-other.result _ c.from_residual-in_err-other.ensures.0;
+}
 
-pub returns-in_err-other-clause-listed : goal.returns-in_err-other-clause-listed
-returns-in_err-other-clause-listed c =
-    IfOk-from_err c.from_residual-in_err-other.result _ c.from_residual-in_err-other.ensures.0
-
-pub returns-in_err-other-clause-count : goal.returns-in_err-other-clause-count
-returns-in_err-other-clause-count c =
-    IfOk-from_err c.from_residual-in_err-other.result _ c.from_residual-in_err-other.ensures.0
-
-pub returns-in_err-other-clause-distinct : goal.returns-in_err-other-clause-distinct
-returns-in_err-other-clause-distinct c =
-    IfOk-from_err c.from_residual-in_err-other.result _ c.from_residual-in_err-other.ensures.0
-
-pub returns-in_err-other-clause-read : goal.returns-in_err-other-clause-read
-returns-in_err-other-clause-read c =
-    IfOk-from_err c.from_residual-in_err-other.result _ c.from_residual-in_err-other.ensures.0
-
-pub returns-in_err-push-clause-steps : goal.returns-in_err-push-clause-steps
-returns-in_err-push-clause-steps c =
-    IfOk-from_err c.from_residual-in_err-push.result _ c.from_residual-in_err-push.ensures.0
-
-pub returns-in_err-push-clause-listed : goal.returns-in_err-push-clause-listed
-returns-in_err-push-clause-listed c =
-    IfOk-from_err c.from_residual-in_err-push.result _ c.from_residual-in_err-push.ensures.0
-
-pub returns-in_err-push-clause-count : goal.returns-in_err-push-clause-count
-returns-in_err-push-clause-count c =
-    IfOk-from_err c.from_residual-in_err-push.result _ c.from_residual-in_err-push.ensures.0
-
-pub returns-in_err-push-clause-distinct : goal.returns-in_err-push-clause-distinct
-returns-in_err-push-clause-distinct c =
-    IfOk-from_err c.from_residual-in_err-push.result _ c.from_residual-in_err-push.ensures.0
-
-pub returns-in_err-push-clause-read : goal.returns-in_err-push-clause-read
-returns-in_err-push-clause-read c =
-    IfOk-from_err c.from_residual-in_err-push.result _ c.from_residual-in_err-push.ensures.0
+pub returns-in_err-push : goal.returns-in_err-push
+returns-in_err-push c = record {
+  steps = IfOk-from_err c.from_residual-in_err-push.result _ c.from_residual-in_err-push.ensures.0;
+  listed = IfOk-from_err c.from_residual-in_err-push.result _ c.from_residual-in_err-push.ensures.0;
+  count = IfOk-from_err c.from_residual-in_err-push.result _ c.from_residual-in_err-push.ensures.0;
+  distinct = IfOk-from_err c.from_residual-in_err-push.result _ c.from_residual-in_err-push.ensures.0;
+  read = IfOk-from_err c.from_residual-in_err-push.result _ c.from_residual-in_err-push.ensures.0;
+}
 
 pub loop-step-preserved : goal.loop-step-preserved
 loop-step-preserved c =
@@ -114,20 +86,13 @@ loop-step-preserved c =
 pub loop-step-smaller : goal.loop-step-smaller
 loop-step-smaller c = falls (length c.args.steps.now) c.loop-step.step-index c.loop-step-test.true
 
-pub returns-clause-steps : goal.returns-clause-steps
-returns-clause-steps c =
-    let all = take_all c.loop-step.step-index c.args.steps.now c.loop-step-test.false in
-    c.loop-step.invariant.steps ∙ ap (λ l. map (step_over (index_in c.loop-step.places.items)) l) all
-
-pub returns-clause-listed : goal.returns-clause-listed
-returns-clause-listed c =
-    rw (take_all c.loop-step.step-index c.args.steps.now c.loop-step-test.false) at c.loop-step.invariant.listed
-
-pub returns-clause-count : goal.returns-clause-count
-returns-clause-count c = c.loop-step.invariant.count
-
-pub returns-clause-distinct : goal.returns-clause-distinct
-returns-clause-distinct c = c.loop-step.invariant.distinct
-
-pub returns-clause-read : goal.returns-clause-read
-returns-clause-read c = c.loop-step.invariant.read
+pub returns : goal.returns
+returns c = record {
+  steps =
+      let all = take_all c.loop-step.step-index c.args.steps.now c.loop-step-test.false in
+      c.loop-step.invariant.steps ∙ ap (λ l. map (step_over (index_in c.loop-step.places.items)) l) all;
+  listed = rw (take_all c.loop-step.step-index c.args.steps.now c.loop-step-test.false) at c.loop-step.invariant.listed;
+  count = c.loop-step.invariant.count;
+  distinct = c.loop-step.invariant.distinct;
+  read = c.loop-step.invariant.read;
+}

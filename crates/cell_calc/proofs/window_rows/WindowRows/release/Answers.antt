@@ -34,23 +34,21 @@ invariant_of-self c =
           c.self.invariant.room_waiting;
     }
 
-pub returns-in-Some-clause-rows : goal.returns-in-Some-clause-rows
-returns-in-Some-clause-rows c =
-    let_go (λ row. row.items) c.self.inside.rows.items c.pop_front.new.self.items _ c.args.above c.args.centre
-    (ap (λ b. b.items) c.pop_front.ensures.items) (ap (λ k. k.rows) c.self.view_is) c.if-above-centre.true
-
-pub returns-in-Some-clause-free : goal.returns-in-Some-clause-free
-returns-in-Some-clause-free c =
-    let rows = c.self.inside.rows.items in
-    let waiting = c.self.inside.waiting.items in
-    let front = sym c.pop_front.ensures.value ∙ c.in-Some.is in
-    let same = as_many waiting rows c.put_row_last.new.ring.items c.pop_front.new.self.items c.in-Some.row c.in-Some.row
-    front (ap (λ b. b.items) c.put_row_last.ensures) (ap (λ b. b.items) c.pop_front.ensures.items) in
-    as_many_left (λ row. row.items) waiting rows c.put_row_last.new.ring.items c.pop_front.new.self.items _ _ same
-    (ap (λ k. k.rows) c.self.view_is) (ap (λ k. k.free) c.self.view_is)
-
-pub returns-in-Some-clause-cols : goal.returns-in-Some-clause-cols
-returns-in-Some-clause-cols c = ap (λ k. k.cols) c.self.view_is
+pub returns-in-Some : goal.returns-in-Some
+returns-in-Some c = record {
+  rows =
+      let_go (λ row. row.items) c.self.inside.rows.items c.pop_front.new.self.items _ c.args.above c.args.centre
+      (ap (λ b. b.items) c.pop_front.ensures.items) (ap (λ k. k.rows) c.self.view_is) c.if-above-centre.true;
+  free =
+      let rows = c.self.inside.rows.items in
+      let waiting = c.self.inside.waiting.items in
+      let front = sym c.pop_front.ensures.value ∙ c.in-Some.is in
+      let same = as_many waiting rows c.put_row_last.new.ring.items c.pop_front.new.self.items c.in-Some.row c.in-Some.row
+      front (ap (λ b. b.items) c.put_row_last.ensures) (ap (λ b. b.items) c.pop_front.ensures.items) in
+      as_many_left (λ row. row.items) waiting rows c.put_row_last.new.ring.items c.pop_front.new.self.items _ _ same
+      (ap (λ k. k.rows) c.self.view_is) (ap (λ k. k.free) c.self.view_is);
+  cols = ap (λ k. k.cols) c.self.view_is;
+}
 
 pub returns-in_default-clause-rows : goal.returns-in_default-clause-rows
 returns-in_default-clause-rows c =

@@ -53,27 +53,25 @@ invariant_of-self c =
           c.self.invariant.room_waiting;
     }
 
-pub returns-in-Some-clause-rows : goal.returns-in-Some-clause-rows
-returns-in-Some-clause-rows c =
-    let count = c.rows.ensures.value ∙ ap (λ r. r.rows) c.region.ensures.value in
-    let lt = below c.args.row _ _ (count ∙ sym c.region.ensures.filled.count) c.if-row-rows.true in
-    one_last (λ row. row.items) c.self.inside.rows.items c.put_row_last.new.ring.items c.row_copy.result
-    c.args.self.now.rows _
-    (ap (λ b. b.items) c.put_row_last.ensures) (ap (λ k. k.rows) c.self.view_is) c.row_copy.ensures
-    ∙ ap (λ l. c.args.self.now.rows ++ l) (sym (next_row c.args.map.now.rows c.args.row [] lt))
-
-pub returns-in-Some-clause-free : goal.returns-in-Some-clause-free
-returns-in-Some-clause-free c =
-    let rows = c.self.inside.rows.items in
-    let queue = c.self.inside.waiting.items in
-    let front = sym c.pop_front.ensures.value ∙ c.in-Some.is in
-    let same = as_many rows queue c.put_row_last.new.ring.items c.pop_front.new.self.items c.in-Some.cells
-    c.row_copy.result front (ap (λ b. b.items) c.put_row_last.ensures) (ap (λ b. b.items) c.pop_front.ensures.items) in
-    as_many_seen (λ row. row.items) rows queue c.put_row_last.new.ring.items c.pop_front.new.self.items _ _ same
-    (ap (λ k. k.rows) c.self.view_is) (ap (λ k. k.free) c.self.view_is)
-
-pub returns-in-Some-clause-cols : goal.returns-in-Some-clause-cols
-returns-in-Some-clause-cols c = ap (λ k. k.cols) c.self.view_is
+pub returns-in-Some : goal.returns-in-Some
+returns-in-Some c = record {
+  rows =
+      let count = c.rows.ensures.value ∙ ap (λ r. r.rows) c.region.ensures.value in
+      let lt = below c.args.row _ _ (count ∙ sym c.region.ensures.filled.count) c.if-row-rows.true in
+      one_last (λ row. row.items) c.self.inside.rows.items c.put_row_last.new.ring.items c.row_copy.result
+      c.args.self.now.rows _
+      (ap (λ b. b.items) c.put_row_last.ensures) (ap (λ k. k.rows) c.self.view_is) c.row_copy.ensures
+      ∙ ap (λ l. c.args.self.now.rows ++ l) (sym (next_row c.args.map.now.rows c.args.row [] lt));
+  free =
+      let rows = c.self.inside.rows.items in
+      let queue = c.self.inside.waiting.items in
+      let front = sym c.pop_front.ensures.value ∙ c.in-Some.is in
+      let same = as_many rows queue c.put_row_last.new.ring.items c.pop_front.new.self.items c.in-Some.cells
+      c.row_copy.result front (ap (λ b. b.items) c.put_row_last.ensures) (ap (λ b. b.items) c.pop_front.ensures.items) in
+      as_many_seen (λ row. row.items) rows queue c.put_row_last.new.ring.items c.pop_front.new.self.items _ _ same
+      (ap (λ k. k.rows) c.self.view_is) (ap (λ k. k.free) c.self.view_is);
+  cols = ap (λ k. k.cols) c.self.view_is;
+}
 
 pub returns-in_default-clause-rows : goal.returns-in_default-clause-rows
 returns-in_default-clause-rows c =
