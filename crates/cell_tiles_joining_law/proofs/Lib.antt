@@ -1,0 +1,2 @@
+pub mod NumberedBands
+pub mod SizeLemmas

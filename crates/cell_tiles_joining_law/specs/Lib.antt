@@ -1,0 +1,2 @@
+-- Sizes of the areas of a map in bands.
+pub mod SizeLaw

@@ -1,0 +1,4 @@
+//! The sizes of areas that were joined from bands count the cells of the areas of the whole map.
+#![tactic(auto)]
+
+pub mod law;
