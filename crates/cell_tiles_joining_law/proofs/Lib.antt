@@ -1,2 +1,4 @@
+pub mod BandTableLemmas
+pub mod NumberTableLemmas
 pub mod NumberedBands
 pub mod SizeLemmas

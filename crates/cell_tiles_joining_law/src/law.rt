@@ -1,9 +1,22 @@
-//! What the sizes of the bands' areas say of the areas of the whole map.
+//! What the sizes and the tables of the areas of bands say of the areas of the whole map.
 
+ghost use Rattle.cell_tiles_joining_law.specs.NumberTables.{BandTablesGiveTheWhole, NumbersAreListed};
 ghost use Rattle.cell_tiles_joining_law.specs.SizeLaw.{SizesCountCells};
 
-/// The sizes of the areas of bands, added up by their numbers in the whole, are the sizes of the areas of the whole: for
-/// each number, how many cells of the clump map of the undivided map have it.
+/// The sizes of the areas of bands, added up by their numbers in the whole, are the sizes of the areas of the whole:
+/// for each number, how many cells of the clump map of the undivided map have it.
 pub fn sizes_count_cells()
     ensures { SizesCountCells }
+{}
+
+/// The table of a clump map lists the sizes of its areas in the order of their numbers, and then the cells that are
+/// null.
+pub fn numbers_are_listed()
+    ensures { NumbersAreListed }
+{}
+
+/// A map is cut into bands, each is clumped and counted, and the sizes that their tables list are joined: in order they
+/// are the table of the clump map of the undivided map, and no other list is.
+pub fn band_tables_give_the_whole()
+    ensures { BandTablesGiveTheWhole }
 {}
