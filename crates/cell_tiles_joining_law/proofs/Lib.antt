@@ -1,4 +1,6 @@
 pub mod BandTableLemmas
 pub mod NumberTableLemmas
 pub mod NumberedBands
+pub mod PlaceLemmas
 pub mod SizeLemmas
+pub mod SparseLemmas

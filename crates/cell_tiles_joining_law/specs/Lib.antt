@@ -1,3 +1,4 @@
--- Sizes of the areas of a map in bands, and the tables of their numbers.
+-- Sizes of the areas of a map in bands, the tables of their numbers, and labels of the areas that touch a cut.
 pub mod NumberTables
 pub mod SizeLaw
+pub mod SparseLabels

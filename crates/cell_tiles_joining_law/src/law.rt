@@ -2,6 +2,7 @@
 
 ghost use Rattle.cell_tiles_joining_law.specs.NumberTables.{BandTablesGiveTheWhole, NumbersAreListed};
 ghost use Rattle.cell_tiles_joining_law.specs.SizeLaw.{SizesCountCells};
+ghost use Rattle.cell_tiles_joining_law.specs.SparseLabels.{SparseBandsNumber, SparseLabelsNumber};
 
 /// The sizes of the areas of bands, added up by their numbers in the whole, are the sizes of the areas of the whole:
 /// for each number, how many cells of the clump map of the undivided map have it.
@@ -19,4 +20,15 @@ pub fn numbers_are_listed()
 /// are the table of the clump map of the undivided map, and no other list is.
 pub fn band_tables_give_the_whole()
     ensures { BandTablesGiveTheWhole }
+{}
+
+/// Of the areas of tiles, whatever their shape, those alone that touch a cut need a label in the table. The number of an
+/// area that touches none is how many others like it come before it, and how many open labels, and one.
+pub fn sparse_labels_number()
+    ensures { SparseLabelsNumber }
+{}
+
+/// The same of bands: each area of each band has the number that it has in the whole.
+pub fn sparse_bands_number()
+    ensures { SparseBandsNumber }
 {}

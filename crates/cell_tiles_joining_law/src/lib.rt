@@ -1,4 +1,4 @@
-//! The sizes of areas that were joined from bands count the cells of the areas of the whole map.
+//! Laws of areas that are joined from those of bands: their sizes, the tables of their numbers, and which need labels.
 #![tactic(auto)]
 
 pub mod law;
