@@ -1,4 +1,5 @@
 pub mod BandTableLemmas
+pub mod CutLabelLemmas
 pub mod NumberTableLemmas
 pub mod NumberedBands
 pub mod PlaceLemmas

@@ -321,13 +321,15 @@ sparse-labels-number j m starts label_of pairs labelled ts sparse touching is =
     )
 
 pub sparse-bands-number : SparseBandsNumber
-sparse-bands-number j whole bands edges cut ts sparse touching is numbers are =
+sparse-bands-number j edges ts sparse touching is numbers are =
     let n = areas_of_bands edges in
     let pairs = all_meetings j 0 edges in
     let h = full-table n pairs ts sparse touching is in (
-      tell-numbers j whole bands edges cut h.table h.leads h.long numbers (λ k within.
+      λ whole bands cut.
+          tell-numbers j whole bands edges cut h.table h.leads h.long numbers (λ k within.
           let low : k < n = omega (arith, within, h.long) in
           are k low ∙ sym (number-of-label n pairs ts sparse touching is h.table h.long h.leads k low)),
-      subst (HasAreas j whole) (areas-are n pairs ts sparse touching is h.table h.long h.leads)
+      λ whole bands cut.
+          subst (HasAreas j whole) (areas-are n pairs ts sparse touching is h.table h.long h.leads)
           (count-areas j whole bands edges cut h.table h.leads h.long),
     )

@@ -6,7 +6,7 @@ use Rattle.cell_core.specs.Grid.{Grid}
 use Rattle.cell_cats_areas.specs.declared.clump.Joining.{Joining}
 use Rattle.cell_cats_areas.specs.Areas.{Position, cell_at_spot, HasNumber}
 use Rattle.cell_tiles_joining.specs.declared.edges.BandEdges.{BandEdges}
-use Rattle.cell_tiles_joining.specs.Bands.{Band, HasAreas, IsCutInto, TellNumbers}
+use Rattle.cell_tiles_joining.specs.Bands.{HasAreas, JoinNumbers, JoinAreas}
 use Rattle.cell_tiles_joining.specs.Labelled.{AreLabelled}
 use Rattle.cell_tiles_joining.specs.parts.TileLabels.{LeadTo, after_all}
 use Rattle.cell_tiles_joining.specs.parts.TileMeetings.{all_meetings}
@@ -73,10 +73,9 @@ areas_of_bands edges = sum_by (λ one. one.areas) edges
 
 -- bands: the number in the whole of each area of each band, and how many areas the whole has
 abbrev pub SparseBandsNumber : Type 0
-SparseBandsNumber = (j : Joining) (whole : Grid) (bands : List Band) (edges : List BandEdges)
-    → IsCutInto j whole bands edges → (touching table : List ℕ)
+SparseBandsNumber = (j : Joining) (edges : List BandEdges) (touching table : List ℕ)
     → AreTouching (areas_of_bands edges) (all_meetings j 0 edges) touching
     → IsSparse (all_meetings j 0 edges) touching table → (numbers : List ℕ)
     → ((label : ℕ) → label < areas_of_bands edges
     → slice_index numbers label ≡ sparse_number (all_meetings j 0 edges) touching table label)
-    → TellNumbers j whole bands edges numbers × HasAreas j whole (sparse_areas (areas_of_bands edges) touching table)
+    → JoinNumbers j edges numbers × JoinAreas j edges (sparse_areas (areas_of_bands edges) touching table)

@@ -1,5 +1,6 @@
 //! What the sizes and the tables of the areas of bands say of the areas of the whole map.
 
+ghost use Rattle.cell_tiles_joining_law.specs.CutLabels.{CutLabelsAreEnough};
 ghost use Rattle.cell_tiles_joining_law.specs.NumberTables.{BandTablesGiveTheWhole, NumbersAreListed};
 ghost use Rattle.cell_tiles_joining_law.specs.SizeLaw.{SizesCountCells};
 ghost use Rattle.cell_tiles_joining_law.specs.SparseLabels.{SparseBandsNumber, SparseLabelsNumber};
@@ -22,8 +23,8 @@ pub fn band_tables_give_the_whole()
     ensures { BandTablesGiveTheWhole }
 {}
 
-/// Of the areas of tiles, whatever their shape, those alone that touch a cut need a label in the table. The number of an
-/// area that touches none is how many others like it come before it, and how many open labels, and one.
+/// Of the areas of tiles, whatever their shape, those alone that touch a cut need a label in the table. The number of
+/// an area that touches none is how many others like it come before it, and how many open labels, and one.
 pub fn sparse_labels_number()
     ensures { SparseLabelsNumber }
 {}
@@ -31,4 +32,10 @@ pub fn sparse_labels_number()
 /// The same of bands: each area of each band has the number that it has in the whole.
 pub fn sparse_bands_number()
     ensures { SparseBandsNumber }
+{}
+
+/// The areas that have cells in the rows at the cuts between bands are enough: no others are paired, by edges or by
+/// corners. There are no more of them than cells in these rows.
+pub fn cut_labels_are_enough()
+    ensures { CutLabelsAreEnough }
 {}
