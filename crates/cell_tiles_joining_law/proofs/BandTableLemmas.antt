@@ -54,7 +54,7 @@ null-lists skip (suc nulls) = by (is_left_out skip (None ∷ []))
     by true = refl
     by false = refl
 
-table-lists : (n : ℕ) (sizes : List ℕ) (skip : Skip) (nulls : ℕ) →
+pub table-lists : (n : ℕ) (sizes : List ℕ) (skip : Skip) (nulls : ℕ) →
     listed_sizes (entries_from n sizes ++ entry_of_null skip nulls) ≡ sizes
 table-lists n [] skip nulls = null-lists skip nulls
 table-lists n (size ∷ sizes) skip nulls = ap (λ (l : List ℕ). size ∷ l) (table-lists (n + 1) sizes skip nulls)
@@ -66,7 +66,7 @@ null-counts skip zero kept_in = refl
 null-counts skip (suc nulls) kept_in =
     ap (λ (b : Bool). count_in (None ∷ []) (cond b [] ((None ∷ [], suc nulls) ∷ []))) kept_in
 
-table-counts : (n : ℕ) (sizes : List ℕ) (skip : Skip) (nulls : ℕ) → is_left_out skip (None ∷ []) ≡ false →
+pub table-counts : (n : ℕ) (sizes : List ℕ) (skip : Skip) (nulls : ℕ) → is_left_out skip (None ∷ []) ≡ false →
     count_in (None ∷ []) (entries_from n sizes ++ entry_of_null skip nulls) ≡ nulls
 table-counts n [] skip nulls kept_in = null-counts skip nulls kept_in
 table-counts n (size ∷ sizes) skip nulls kept_in = table-counts (n + 1) sizes skip nulls kept_in
@@ -76,7 +76,7 @@ null-left-out skip zero left = refl
 null-left-out skip (suc nulls) left =
     ap (λ (b : Bool). cond b [] ((None ∷ [], suc nulls) ∷ [])) left
 
-same-null : (skip : Skip) (one other : ℕ) → (is_left_out skip (None ∷ []) ≡ false → one ≡ other) →
+pub same-null : (skip : Skip) (one other : ℕ) → (is_left_out skip (None ∷ []) ≡ false → one ≡ other) →
     entry_of_null skip one ≡ entry_of_null skip other
 same-null skip one other same = by (is_left_out skip (None ∷ [])) refl
   where
@@ -109,7 +109,7 @@ module _ (j : Joining) (m numbers_map : Grid) (is : IsClumping j m numbers_map) 
       (λ e. equal-itself (None ∷ []) (d ∷ []) (ap (λ (x : CellValue). x ∷ []) (sym (renumbered
       ∙ ap (number_there numbers) (sym (ap first-cell (equal-only (None ∷ []) (c ∷ []) e)))))))
 
-  band-nulls : (rows cols : ℕ) →
+  pub band-nulls : (rows cols : ℕ) →
       count_of (None ∷ []) (cells_of (renumbered_band numbers numbers_map) rows cols)
       ≡ count_of (None ∷ []) (cells_of numbers_map rows cols)
   band-nulls rows cols =

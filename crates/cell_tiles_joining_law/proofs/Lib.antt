@@ -5,3 +5,4 @@ pub mod NumberedBands
 pub mod PlaceLemmas
 pub mod SizeLemmas
 pub mod SparseLemmas
+pub mod TileSizeLemmas

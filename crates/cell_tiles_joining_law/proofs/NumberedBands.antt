@@ -86,6 +86,22 @@ module _ (j : Joining) (whole numbered : Grid) (clumping : IsClumping j whole nu
   moved : (p q : Position) (n m : ℕ) → p ≡ q → n ≡ m → HasNumber j whole p n → HasNumber j whole q m
   moved p q n m e f h = subst (HasNumber j whole q) f (subst (λ (x : Position). HasNumber j whole x n) e h)
 
+  -- a cell of a band or of a tile has, by its own number, that of the whole
+  pub number-here : (m numbers_map : Grid) → IsClumping j m numbers_map → (numbers : List ℕ) (p q : Position) →
+      cell_at_spot whole q ≡ cell_at_spot m p →
+      ((k : ℕ) → cell_at_spot numbers_map p ≡ Some (pos k) → HasNumber j whole q (get_or numbers (k - 1) 0)) →
+      number_there numbers (cell_at_spot numbers_map p) ≡ cell_at_spot numbered q
+  number-here m numbers_map has numbers p q cell tells = by (cell_at_spot m p) refl
+    where
+      by : (c : CellValue) → cell_at_spot m p ≡ c →
+          number_there numbers (cell_at_spot numbers_map p) ≡ cell_at_spot numbered q
+      by None none = ap (number_there numbers) (has.nulls p none) ∙ sym (clumping.nulls q (cell ∙ none))
+      by (Some v) some =
+          let t = has.numbered p (is-some (cell_at_spot m p) v some) in
+          let u = clumping.numbered q (is-some (cell_at_spot whole q) v (cell ∙ some)) in
+          let same = HasNumber-one j whole q (get_or numbers (t.0 - 1) 0) u.0 (tells t.0 t.2) u.1 in
+          ap (number_there numbers) t.2 ∙ ap (λ (n : ℕ). Some (pos n)) same ∙ sym u.2
+
   -- each number of the bands from one on, which begins at a row, has its number of the whole
   abbrev Tell : ℕ → List Band → List BandEdges → List ℕ → Type 0
   Tell top bands edges numbers =
@@ -132,29 +148,14 @@ module _ (j : Joining) (whole numbered : Grid) (clumping : IsClumping j whole nu
   module _ (top : ℕ) (band : Band) (numbers : List ℕ) (has : IsClumping j band.map band.numbers)
       (cells : (p : Position) → p.row < length band.map.rows →
       cell_at_spot whole (lowered_position top p) ≡ cell_at_spot band.map p) (tells : TellsFirst top band numbers) where
-    -- a cell of the band has, by the numbers, the number of the whole
-    number-here : (p : Position) → p.row < length band.map.rows →
-        number_there numbers (cell_at_spot band.numbers p) ≡ cell_at_spot numbered (lowered_position top p)
-    number-here p high = by (cell_at_spot band.map p) refl
-      where
-        by : (c : CellValue) → cell_at_spot band.map p ≡ c →
-            number_there numbers (cell_at_spot band.numbers p) ≡ cell_at_spot numbered (lowered_position top p)
-        by None none =
-            ap (number_there numbers) (has.nulls p none)
-            ∙ sym (clumping.nulls (lowered_position top p) (cells p high ∙ none))
-        by (Some v) some =
-            let q : Position = lowered_position top p in
-            let t = has.numbered p (is-some (cell_at_spot band.map p) v some) in
-            let u = clumping.numbered q (is-some (cell_at_spot whole q) v (cells p high ∙ some)) in
-            let same = HasNumber-one j whole q (get_or numbers (t.0 - 1) 0) u.0 (tells p t.0 t.2) u.1 in
-            ap (number_there numbers) t.2 ∙ ap (λ (n : ℕ). Some (pos n)) same ∙ sym u.2
-
     part-here : (cols : ℕ) →
         IsPart (record { top = top; left = 0; rows = length band.map.rows; cols = cols }) (numbered ∷ [])
         (renumbered_band numbers band.numbers ∷ [])
     part-here cols row col zero high wide =
         cell-renumbered numbers band.numbers (position row col)
-        ∙ number-here (position row col) high
+        ∙ number-here band.map band.numbers has numbers (position row col)
+        (lowered_position top (position row col)) (cells (position row col) high)
+        (λ k is. tells (position row col) k is)
         ∙ ap (λ (c : ℕ). cell_at_spot numbered (position (top + row) c)) (sym (zero-add col))
     part-here cols row col (suc place) high wide = refl
 

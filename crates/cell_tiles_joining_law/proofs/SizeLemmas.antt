@@ -264,7 +264,7 @@ module _ (j : Joining) (m numbers_map : Grid) (is : IsClumping j m numbers_map) 
       (sym (renumbered ∙ there-stands c (stands-only n numbers 1 areas (c ∷ []) e)))))
 
   -- so a band has as many of its cells as its areas of that number have
-  band-count : (rows cols : ℕ) →
+  pub band-count : (rows cols : ℕ) →
       count_of (Some (pos n) ∷ []) (cells_of (renumbered_band numbers numbers_map) rows cols)
       ≡ size_of_area n numbers (sizes_of_areas areas numbers_map rows cols)
   band-count rows cols =

@@ -4,6 +4,7 @@ ghost use Rattle.cell_tiles_joining_law.specs.CutLabels.{CutLabelsAreEnough};
 ghost use Rattle.cell_tiles_joining_law.specs.NumberTables.{BandTablesGiveTheWhole, NumbersAreListed};
 ghost use Rattle.cell_tiles_joining_law.specs.SizeLaw.{SizesCountCells};
 ghost use Rattle.cell_tiles_joining_law.specs.SparseLabels.{SparseBandsNumber, SparseLabelsNumber};
+ghost use Rattle.cell_tiles_joining_law.specs.TileSizes.{TileSizesCountCells, TileTablesGiveTheWhole};
 
 /// The sizes of the areas of bands, added up by their numbers in the whole, are the sizes of the areas of the whole:
 /// for each number, how many cells of the clump map of the undivided map have it.
@@ -21,6 +22,17 @@ pub fn numbers_are_listed()
 /// are the table of the clump map of the undivided map, and no other list is.
 pub fn band_tables_give_the_whole()
     ensures { BandTablesGiveTheWhole }
+{}
+
+/// Tiles of whatever shape that have each cell once: the sizes of their areas, added up by their numbers in the whole,
+/// are the sizes of the areas of the whole.
+pub fn tile_sizes_count_cells()
+    ensures { TileSizesCountCells }
+{}
+
+/// And the sizes that their tables list, joined, are the table of the clump map of the undivided map.
+pub fn tile_tables_give_the_whole()
+    ensures { TileTablesGiveTheWhole }
 {}
 
 /// Of the areas of tiles, whatever their shape, those alone that touch a cut need a label in the table. The number of
