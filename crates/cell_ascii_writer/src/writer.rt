@@ -6,7 +6,7 @@ ghost use Rattle.cell_core_values.specs.Letters.{byte};
 ghost use Rattle.cell_core_devices.specs.Blocks.{Appends};
 ghost use Rattle.cell_core_devices.specs.Device.{append_known, after_put};
 ghost use Rattle.cell_core.specs.Grid.{row_at};
-ghost use Rattle.cell_core.specs.Runs.{AreRuns, written_out};
+ghost use Rattle.cell_core.specs.Runs.{written_out};
 ghost use Rattle.cell_ascii_meaning.specs.Writing.{IsNullText, coordinate_text, fraction_text, grid_text, line_of_key, null_line, region_text, row_text, units_text, without_zeros};
 ghost use Rattle.cell_ascii_writer.specs.Fields.{IsField, AppendsBut, low_bytes};
 ghost use Rattle.cell_ascii_writer.specs.WrittenRuns.{spaced_cells, joined_cells, times};
@@ -17,8 +17,8 @@ use cell_core::cell::Cell;
 use cell_core::map::CellMap;
 use cell_core::printed_cell::write_cell;
 use cell_core::region::Region;
-use cell_core::runs::Runs;
 use cell_core::sink::{Sink, WriteFault};
+use cell_core::stretches::Stretches;
 use itoa::Buffer;
 
 // The bytes of a space and of the longest text of a cell.
@@ -316,7 +316,7 @@ fn write_runs<W: Sink>(
     fields: &mut [Field],
     line: &mut [u8],
     start: usize,
-    runs: Runs<'_>,
+    runs: Stretches<'_>,
     null_text: &[u8],
 )
     requires null { length null_text.now ≤ 64 }
@@ -342,11 +342,11 @@ fn write_row_cells<W: Sink>(
     block: &mut OutputBlock,
     fields: &mut [Field],
     line: &mut [u8],
-    runs: Runs<'_>,
+    runs: Stretches<'_>,
     null_text: &[u8],
 )
     requires null { length null_text.now ≤ 64 }
-    requires runs { AreRuns runs }
+    requires some { All (λ run. 0 < run.1) runs }
     requires kept { length fields.old ≡ 1024 }
     requires known { All (IsField null_text.now) fields.old }
     requires room { length line.old ≡ 1024 }
@@ -383,7 +383,7 @@ fn write_grid_row<W: Sink>(
         (row_text null_text.now (row_at map.now row)) out.new block.new }
     ensures known { All (IsField null_text.now) fields.new }
 {
-    write_row_cells(out, block, fields, line, map.runs(row), null_text);
+    write_row_cells(out, block, fields, line, map.stretches(row), null_text);
     block.push(out, b"\n");
 }
 
