@@ -1,8 +1,8 @@
 #!/usr/bin/env python3
-"""Prints a table of the instructions that rcell and the yardstick take for a cell, function by function, with their page faults.
+"""Prints a table of the instructions that rcell and both yardsticks take for a cell, function by function, with their page faults.
 
 instructions.py [--program PATH] [--write]; they are counted by callgrind, so valgrind has to be installed. Grids of 4 million cells.
-The yardstick is built anew without AVX-512, which valgrind does not know. Functions that the compiler put into others count
+The yardsticks are built anew without AVX-512, which valgrind does not know. Functions that the compiler put into others count
 with these. What takes less than one instruction a cell is left out. --write puts the table into docs/SPEED.md.
 """
 import argparse
@@ -11,20 +11,25 @@ import os
 import re
 import subprocess
 
-from run import HERE, OUT, READ, ROOT, STATS, WRITE, Contest, build, grid_file
+from run import (CLUMP, CLUMP_CORNERS, CLUMP_WRITE, KNOWS_WORDS, LONG_IF_STATS, OUT, READ, RECLASS_STATS, ROOT, STATS, STATS_TWO,
+                 SUM_WRITE, WRITE, YARDSTICK, Contest, build, compile_to, grid_file)
 from shares import place, print_table
 
 SIDE = 2000
 CELLS = SIDE * SIDE
 LEAST = 1
 MARKS = ("<!-- The table of bench/instructions.py -->\n", "<!-- End of the instructions -->\n")
-TASKS = {"patchy": (READ, WRITE, STATS), "noise": (READ, WRITE, STATS), "negative": (READ,), "apart": (READ, WRITE, STATS)}
-YARDSTICK = f"{OUT}/yardstick-for-valgrind"
+ALL = (READ, STATS, STATS_TWO, RECLASS_STATS, LONG_IF_STATS, CLUMP, CLUMP_CORNERS, CLUMP_WRITE, SUM_WRITE, WRITE)
+TASKS = {"patchy": ALL, "noise": ALL, "zones": (READ, STATS, WRITE), "heights": (READ, STATS, WRITE), "negative": (READ,),
+         "apart": (READ, WRITE, STATS)}
+# What the file of a contender is named where valgrind runs it.
+FOR_VALGRIND = "-for-valgrind"
 LINE = re.compile(r"\s*([\d,]+) \([ \d.]+%\)  (?:\S*?):(.*?) \[(\S+)\]$")
 
 
-def build_yardstick():
-    subprocess.run(["clang++", "-std=c++20", "-O3", "-march=x86-64-v3", "-o", YARDSTICK, f"{HERE}/yardstick.cpp"], check=True)
+def build_yardsticks():
+    compile_to(YARDSTICK + FOR_VALGRIND, YARDSTICK, machine="x86-64-v3")
+    compile_to(KNOWS_WORDS + FOR_VALGRIND, YARDSTICK, "-DKNOWS_WORDS", machine="x86-64-v3")
 
 
 def counted(words):
@@ -51,8 +56,10 @@ def rows(program):
     yield "| --- | --- | --- | --- | --- |"
     for kind, tasks in TASKS.items():
         for task in tasks:
-            ours, theirs = Contest(task, [grid_file(kind, 1, SIDE)], program, 0).words()
-            for name, words in (("rcell", ours), ("yardstick", [YARDSTICK, *theirs[1:]])):
+            paths = [grid_file(kind, seed + 1, SIDE) for seed in range(task.maps)]
+            ours, *others = Contest(task, paths, program, 0, (YARDSTICK, KNOWS_WORDS)).words()
+            theirs, knowing = ([word + FOR_VALGRIND, *words] for word, *words in others)
+            for name, words in (("rcell", ours), ("yardstick", theirs), ("knowing words", knowing)):
                 found = counted(words)
                 parts = [f"{part} {count / CELLS:.0f}" for part, count in found.most_common() if count >= LEAST * CELLS]
                 yield f"| {kind}, {task.title} | {name} | {found.total() / CELLS:.0f} | {', '.join(parts)} | {page_faults(words)} |"
@@ -64,7 +71,7 @@ def main():
     parser.add_argument("--write", action="store_true")
     wanted = parser.parse_args()
     build()
-    build_yardstick()
+    build_yardsticks()
     print_table(rows(os.path.abspath(wanted.program)), MARKS, wanted.write)
 
 

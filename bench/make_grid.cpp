@@ -1,4 +1,4 @@
-// Writes a grid to standard output: make_grid KIND ROWS COLS [SEED]. The same words give the same grid.
+// Writes a grid to standard output: make_grid KIND[@SPELLING] ROWS COLS [SEED]. The same words give the same grid.
 //
 //   patchy       land cover of 15 categories in areas of some hundred cells, one patch in 40 null
 //   cover        the same without null
@@ -11,6 +11,11 @@
 //   comb         teeth of 1 that meet in the last row, with 2 between them
 //   spiral       one way of 1 to the middle, with 2 between its turns
 //   checkerboard 1 and 2 by turns
+//   zones        a coarse zoning: 900 zones in runs of some hundred and fifty cells
+//   heights      numbers of four digits: a surface of hills with a little noise
+//
+// Cells are apart by one blank, or as SPELLING says: `two` blanks, `tabs`, a cell a line (`lines`), or each word set right in
+// five places and a blank behind it (`padded`).
 #include <algorithm>
 #include <charconv>
 #include <cstdint>
@@ -18,6 +23,7 @@
 #include <cstdlib>
 #include <string>
 #include <string_view>
+#include <utility>
 #include <vector>
 
 namespace {
@@ -29,6 +35,13 @@ constexpr int32_t COVERS[] = {11, 21, 22, 23, 24, 31, 41, 42, 43, 52, 71, 81, 82
 constexpr uint64_t NULL_PATCH_IN = 40;
 constexpr uint64_t LONGEST_PATCH = 59;
 constexpr size_t COLS_OF_A_NEW_PATCH = 200;
+constexpr uint64_t ZONES = 900;
+constexpr uint64_t LONGEST_ZONE = 600;
+constexpr size_t COLS_OF_A_NEW_ZONE = 2000;
+constexpr int32_t LOWEST = 900;
+// Hills of three sizes: the cells from one summit or hollow to the next, and how much they differ at most.
+constexpr std::pair<size_t, uint64_t> HILLS[] = {{256, 2200}, {64, 700}, {16, 150}};
+constexpr size_t PLACES = 5;
 
 // Numbers at random: splitmix64.
 class Random {
@@ -74,6 +87,8 @@ public:
         else if (name == "blocks") each([this, r](size_t c) { return block(r / number, c / number); });
         else if (name == "comb") each([this, r](size_t c) { return r + 1 < size.rows && c % 2 == 1 ? 2 : 1; });
         else if (name == "spiral") each([this, r](size_t c) { return turn(r, c); });
+        else if (name == "zones") zones(r);
+        else if (name == "heights") each([this, r](size_t c) { return height(r, c); });
         else if (name == "checkerboard") each([r](size_t c) { return (r + c) % 2 + 1; });
         else std::exit((std::fprintf(stderr, "make_grid: unknown kind\n"), 2));
         return row;
@@ -103,6 +118,32 @@ private:
         }
     }
 
+    // The first row is zones throughout, and each row begins some new ones over those above.
+    void zones(size_t r) {
+        for (size_t n = r == 0 ? size.cols / 20 + 1 : std::max<size_t>(1, size.cols / COLS_OF_A_NEW_ZONE); n > 0; n--) {
+            const size_t from = random.below(size.cols), to = std::min<size_t>(size.cols, from + 1 + random.below(LONGEST_ZONE));
+            std::fill(row.begin() + from, row.begin() + to, int32_t(random.below(ZONES)) + 1);
+        }
+    }
+
+    // A corner of a square of hills: a number of its place.
+    static uint64_t corner(size_t down, size_t right, size_t side) {
+        return Random(down * 65536 + right + side * 1000003).below(65536);
+    }
+
+    // What stands between the four corners of its square for each size of hills, and a little noise.
+    int32_t height(size_t r, size_t c) {
+        uint64_t sum = LOWEST + random.below(4);
+        for (const auto &[side, most] : HILLS) {
+            const uint64_t down = r % side, right = c % side;
+            const auto between = [side = side, c, right](size_t row) {
+                return corner(row, c / side, side) * (side - right) + corner(row, c / side + 1, side) * right;
+            };
+            sum += (between(r / side) * (side - down) + between(r / side + 1) * down) / side * most / side / 65536;
+        }
+        return int32_t(sum);
+    }
+
     // A category for a block: its place times a prime, so that neighbours are far apart.
     uint64_t block(size_t down, size_t right) const {
         const uint64_t across = (size.cols + number - 1) / number, blocks = across * ((size.rows + number - 1) / number);
@@ -126,9 +167,11 @@ private:
 }  // namespace
 
 int main(int count, char **words) {
-    if (count < 4) return std::fprintf(stderr, "usage: make_grid KIND ROWS COLS [SEED]\n"), 2;
+    if (count < 4) return std::fprintf(stderr, "usage: make_grid KIND[@SPELLING] ROWS COLS [SEED]\n"), 2;
+    const std::string_view word = words[1], kind = word.substr(0, word.find('@')), spelling = word.substr(std::min(word.size(), kind.size() + 1));
+    const std::string gap = spelling == "two" ? "  " : spelling == "tabs" ? "\t" : spelling == "lines" ? "\n" : " ";
     const Size size{std::strtoull(words[2], nullptr, 10), std::strtoull(words[3], nullptr, 10)};
-    Maker maker(words[1], size, count > 4 ? std::strtoull(words[4], nullptr, 10) : 1);
+    Maker maker(kind, size, count > 4 ? std::strtoull(words[4], nullptr, 10) : 1);
     const std::string null_text(maker.null_text());
     std::printf("north: %zu\nsouth: 0\neast: %zu\nwest: 0\nrows: %zu\ncols: %zu\n", size.rows * 30, size.cols * 30, size.rows, size.cols);
     if (null_text != "*") std::printf("null: %s\n", null_text.c_str());
@@ -137,10 +180,12 @@ int main(int count, char **words) {
         line.clear();
         for (const int32_t cell : maker.next(r)) {
             char text[12];
-            line.append(cell == NULL_CELL ? null_text : std::string(text, std::to_chars(text, text + 12, cell).ptr));
-            line.push_back(' ');
+            const std::string word = cell == NULL_CELL ? null_text : std::string(text, std::to_chars(text, text + 12, cell).ptr);
+            if (spelling == "padded" && word.size() < PLACES) line.append(PLACES - word.size(), ' ');
+            line.append(word).append(gap);
         }
-        line.back() = '\n';
+        line.resize(line.size() - gap.size());
+        line.push_back('\n');
         std::fwrite(line.data(), 1, line.size(), stdout);
     }
     return std::fflush(stdout) == 0 ? 0 : 1;

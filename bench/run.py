@@ -38,7 +38,11 @@ SHORT_SIDE = 1000
 FEW_SIDE = 2000
 ROUNDS_FOR_FEW = 3
 ROUNDS_OF_GRASS = 3
+# How often all three contenders run, each time by the rounds that are asked for.
+RUNS = 3
 REAL = "real-"
+# The yardstick as it is, and the one that knows words (yardstick.cpp), by the names of their files.
+YARDSTICK, KNOWS_WORDS = "yardstick", "yardstick-words"
 HEADER_LINES = 6
 MILLION = 1e6
 
@@ -74,6 +78,15 @@ class Least:
 
     def add(self, seconds, peak):
         self.seconds, self.peak = min(self.seconds, seconds), max(self.peak, peak)
+
+
+@dataclass(frozen=True)
+class Race:
+    """Tasks over grids of one kind, of seeds 1, 2, .., by rcell and both yardsticks. Each task has the ratio aimed at, or None."""
+    title: str
+    kind: str
+    tasks: tuple[tuple[Task, float | None], ...]
+    side: int = FEW_SIDE
 
 
 NINE = " + ".join(f"g[{row},{col}]" for row in (-1, 0, 1) for col in (-1, 0, 1))
@@ -141,6 +154,23 @@ PARTS = {
     ),
 }
 
+RUNS_AND_WORDS = "Runs and words"
+# The tasks, and the ratios aimed at for patches and for noise.
+RACED = ((READ, 0.5, 0.6), (STATS, 0.5, 0.6), (STATS_TWO, 0.6, 0.7), (RECLASS_STATS, 0.5, 0.5), (LONG_IF_STATS, 0.6, 0.8),
+         (CLUMP, 0.8, 0.8), (CLUMP_CORNERS, 0.8, 0.8), (CLUMP_WRITE, 0.7, 0.9), (SUM_WRITE, 0.9, 0.8), (WRITE, 0.7, 0.7))
+SPELLED = ((READ, 1.0),)
+PARTS[RUNS_AND_WORDS] = (
+    Race("patchy land cover, 4 million cells", "patchy", tuple((task, patchy) for task, patchy, _ in RACED)),
+    Race("noise, 4 million cells", "noise", tuple((task, noise) for task, _, noise in RACED)),
+    Race("a coarse zoning, 4 million cells", "zones", tuple((task, None) for task, *_ in RACED)),
+    Race("heights of four digits, 4 million cells", "heights", tuple((task, None) for task, *_ in RACED)),
+    Race("noise, two blanks between cells, 4 million cells", "noise@two", SPELLED),
+    Race("noise, tabs between cells, 4 million cells", "noise@tabs", SPELLED),
+    Race("noise, a cell a line, 4 million cells", "noise@lines", SPELLED),
+    Race("noise, each cell set right in five places, 4 million cells", "noise@padded", SPELLED),
+    Race("patchy land cover, each cell set right in five places, 4 million cells", "patchy@padded", SPELLED),
+)
+
 REAL_MAPS = "Real maps"
 PARTS[REAL_MAPS] = tuple(
     Bench(title, ((kind, 0),), 0, REAL_TASKS)
@@ -164,8 +194,14 @@ def say(text):
 def build():
     """The programs in C++, for this machine: by clang, which makes the faster yardstick, where it is installed."""
     os.makedirs(OUT, exist_ok=True)
-    for name in ("make_grid", "measure", "yardstick"):
-        subprocess.run([compiler(), "-std=c++20", "-O3", "-march=native", "-o", f"{OUT}/{name}", f"{HERE}/{name}.cpp"], check=True)
+    for name in ("make_grid", "measure", YARDSTICK):
+        compile_to(name, name)
+    compile_to(KNOWS_WORDS, YARDSTICK, "-DKNOWS_WORDS")
+
+
+def compile_to(program, name, *flags, machine="native"):
+    words = [compiler(), "-std=c++20", "-O3", f"-march={machine}", *flags, "-o", f"{OUT}/{program}", f"{HERE}/{name}.cpp"]
+    subprocess.run(words, check=True)
 
 
 def grid_file(kind, seed, side):
@@ -200,33 +236,37 @@ def measure(words, output="/dev/null", environment=None):
 
 @dataclass
 class Contest:
-    """One task by both programs over given grids."""
+    """One task by rcell, the yardstick and, if that takes part, the one that knows words, over given grids."""
     task: Task
     paths: list[str]
     program: str
     number: int
+    yardsticks: tuple[str, ...] = (YARDSTICK,)
     rcell: Least = field(default_factory=Least)
     yardstick: Least = field(default_factory=Least)
+    knowing: Least = field(default_factory=Least)
 
     def words(self):
         script = f"{OUT}/script-{self.number}"
         with open(script, "w", encoding="ascii") as file:
             file.write(self.task.script)
         named = [f"{name}={path}" for name, path in zip(NAMES, self.paths)]
-        return [self.program, script, *named], [f"{OUT}/yardstick", *self.task.words, *self.paths]
+        return [self.program, script, *named], *([f"{OUT}/{name}", *self.task.words, *self.paths] for name in self.yardsticks)
 
     def check(self):
-        """Both write the same bytes."""
-        outputs = [f"{OUT}/output-of-{by}" for by in ("rcell", "yardstick")]
-        for words, output in zip(self.words(), outputs):
-            measure(words, output)
-        if not filecmp.cmp(*outputs, shallow=False):
-            sys.exit(f"the two programs wrote different texts: {self.task.title}")
-        for output in outputs:
-            os.remove(output)
+        """All write the same bytes."""
+        first, other = (f"{OUT}/output-of-{by}" for by in ("rcell", "yardstick"))
+        ours, *others = self.words()
+        measure(ours, first)
+        for words in others:
+            measure(words, other)
+            if not filecmp.cmp(first, other, shallow=False):
+                sys.exit(f"the programs wrote different texts: {self.task.title}")
+            os.remove(other)
+        os.remove(first)
 
     def turn(self):
-        for words, least in zip(self.words(), (self.rcell, self.yardstick)):
+        for words, least in zip(self.words(), (self.rcell, self.yardstick, self.knowing)):
             least.add(*measure(words))
 
 
@@ -259,15 +299,43 @@ def run(bench, program, rounds, side):
     paths = [grid_file(kind, seed, side) for kind, seed in bench.grids]
     tasks = bench.tasks if bench.tasks[0].title == READ.title else (READ, *bench.tasks)
     contests = [Contest(task, paths, program, number) for number, task in enumerate(tasks)]
+    cells = cells_of(paths[0])
+    take_turns(contests, rounds * (ROUNDS_FOR_FEW if cells <= FEW_SIDE * FEW_SIDE else 1))
+    return [row(contest, contests[0], cells) for contest in contests]
+
+
+def take_turns(contests, rounds):
     for contest in contests:
         contest.check()
-    cells = cells_of(paths[0])
-    rounds *= ROUNDS_FOR_FEW if cells <= FEW_SIDE * FEW_SIDE else 1
     for number in range(rounds):
         print(f"\r  round {number + 1} of {rounds}", end="\n" if number + 1 == rounds else "", file=sys.stderr, flush=True)
         for contest in contests:
             contest.turn()
-    return [row(contest, contests[0], cells) for contest in contests]
+
+
+RACE_HEAD = ("Task", "rcell ms", "yardstick ms", "ratio, by runs", "knowing words ms", "ratio, by runs")
+
+
+def race(bench, program, rounds, side):
+    """The lines of a table of all three contenders: the least times of all runs, and the ratios of each run. The goal is
+    missed where the middle one is above it."""
+    paths = [grid_file(bench.kind, seed + 1, side) for seed in range(max(task.maps for task, _ in bench.tasks))]
+    both = (YARDSTICK, KNOWS_WORDS)
+    runs = []
+    for _ in range(RUNS):
+        runs.append([Contest(task, paths[:task.maps], program, number, both) for number, (task, _) in enumerate(bench.tasks)])
+        take_turns(runs[-1], rounds)
+    for contests, (task, most) in zip(zip(*runs), bench.tasks):
+        ours, theirs, knowing = ([least.seconds for least in leasts] for leasts in zip(*((it.rcell, it.yardstick, it.knowing) for it in contests)))
+        times = [f"{min(seconds) * 1000 * MILLION / side ** 2:.1f}" for seconds in (ours, theirs, knowing)]
+        yield task.title, times[0], times[1], ratios_cell(ours, theirs, most), times[2], ratios_cell(ours, knowing, None)
+
+
+def ratios_cell(ours, theirs, most):
+    """The ratios of runs, and beside them what they are to be at most where the middle one is more."""
+    ratios = [own / other for own, other in zip(ours, theirs)]
+    is_missed = most is not None and sorted(ratios)[len(ratios) // 2] > most
+    return ", ".join(f"{ratio:.2f}" for ratio in ratios) + (f" (missed: {most:g})" if is_missed else "")
 
 
 def lines_of(title, head, rows):
@@ -290,9 +358,10 @@ def tables(benches, wanted):
     for bench in benches:
         side = SHORT_SIDE if wanted.short else bench.side
         say(f"{bench.title}")
-        rows = run(bench, os.path.abspath(wanted.program), wanted.rounds, side)
+        table, head = (race, RACE_HEAD) if isinstance(bench, Race) else (run, HEAD)
+        rows = table(bench, os.path.abspath(wanted.program), wanted.rounds, side)
         title = bench.title + (" (here 1 million)" if wanted.short and bench.side != SHORT_SIDE else "")
-        yield from lines_of(title, HEAD, rows)
+        yield from lines_of(title, head, rows)
 
 
 def grass_tables(wanted):

@@ -1,8 +1,9 @@
 -- The cells of a row, run by run.
+use Rattle.std.specs.List.{All}
 use Rattle.std.proofs.Common.{◌≡◌, ℕ, zero, suc, ◌+◌, ◌-◌, ◌<◌, List, [], ◌∷◌, ◌++◌, replicate, refl, ap, sym, ◌∙◌, arith, append_assoc, append-nil}
 use Rattle.std.proofs.lemmas.List.Concat.{flat_map-append}
 use Rattle.cell_core.specs.Grid.{CellValue}
-use Rattle.cell_core.specs.Runs.{RunValue, AreRuns, written_out}
+use Rattle.cell_core.specs.Runs.{RunValue, written_out}
 use Rattle.cell_core.specs.Text.{cell_text}
 use Rattle.cell_core.proofs.RunLemmas.{written_out-push}
 use Rattle.cell_ascii_writer.specs.WrittenRuns.{times, spaced_cells, joined_cells}
@@ -15,8 +16,9 @@ times-more (suc n) text =
     rw count (ap (λ (t : List ℕ). text ++ t) (times-more n text) ∙ sym (append_assoc text (times n text) text))
 
 -- a run has a cell or more
-pub first-some : (runs rest : List RunValue) (cell : CellValue) (n : ℕ) → AreRuns runs → runs ≡ (cell, n) ∷ rest → 0 < n
-first-some runs rest cell n are e = (rw e at are.lengths) 0 (cell, n) (omega arith)
+pub first-some : (runs rest : List RunValue) (cell : CellValue) (n : ℕ) → All (λ run. 0 < run.1) runs
+    → runs ≡ (cell, n) ∷ rest → 0 < n
+first-some runs rest cell n some e = (rw e at some) 0 (cell, n) (omega arith)
 
 module _ (null : List ℕ) where
   -- a cell, so many times

@@ -1,6 +1,6 @@
 //! Fields of a grid text that were written before: each is made once, and then copied as eight bytes.
 
-ghost use Rattle.std.specs.Prelude.{◌≡◌, ◌+◌, ◌<◌, ◌≤◌, ◌∷◌, ◌++◌, ℕ, codes, length, take, IfSome};
+ghost use Rattle.std.specs.Prelude.{◌≡◌, ◌+◌, ◌<◌, ◌≤◌, ◌∷◌, ◌++◌, ◌^◌, ℕ, codes, decimal, length, take, IfSome};
 ghost use Rattle.std.specs.List.{All};
 ghost use Rattle.cell_core.specs.Text.{cell_text};
 ghost use Rattle.cell_ascii_writer.specs.Fields.{IsField, IsFieldOf, low_bytes};
@@ -63,6 +63,24 @@ fn field_with(text: &[u8]) -> (u64, u32)
     (bytes, text.len() as u32 + 1)
 }
 
+// The digits of a number, as the lowest bytes of another, and how many they are.
+fn digit_bytes(number: u32) -> (u64, u32)
+    requires { number < 10000000 }
+    ensures few { result.1 ≤ 7 }
+    ensures small { result.0 < 256 ^ 7 }
+    ensures text { low_bytes result.0 result.1 ≡ decimal number }
+{
+    let mut rest = number;
+    let mut bytes: u64 = 0;
+    let mut size: u32 = 0;
+    while rest >= 10 {
+        bytes = bytes * 256 + (48 + rest % 10) as u64;
+        rest /= 10;
+        size += 1;
+    }
+    (bytes * 256 + (48 + rest) as u64, size + 1)
+}
+
 // A space and the text of a cell, or None where that is long.
 fn made_field(cell: Cell, null_text: &[u8]) -> Option<(u64, u32)>
     ensures { IfSome result (λ field. IsFieldOf null_text.now cell field.0 field.1) }
@@ -75,6 +93,10 @@ fn made_field(cell: Cell, null_text: &[u8]) -> Option<(u64, u32)>
     };
     if category < LEAST_KEPT || category > GREATEST_KEPT {
         return None;
+    }
+    if category >= 0 {
+        let (digits, size) = digit_bytes(category.unsigned_abs());
+        return Some((digits * 256 + b' ' as u64, size + 1));
     }
     let mut buffer = Buffer::new();
     let text = buffer.format(category).as_bytes();

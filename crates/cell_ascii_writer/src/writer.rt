@@ -6,7 +6,7 @@ ghost use Rattle.cell_core_values.specs.Letters.{byte};
 ghost use Rattle.cell_core_devices.specs.Blocks.{Appends};
 ghost use Rattle.cell_core_devices.specs.Device.{append_known, after_put};
 ghost use Rattle.cell_core.specs.Grid.{row_at};
-ghost use Rattle.cell_core.specs.Runs.{AreRuns, written_out};
+ghost use Rattle.cell_core.specs.Runs.{written_out};
 ghost use Rattle.cell_ascii_meaning.specs.Writing.{IsNullText, coordinate_text, fraction_text, grid_text, line_of_key, null_line, region_text, row_text, units_text, without_zeros};
 ghost use Rattle.cell_ascii_writer.specs.Fields.{AppendsBut, low_bytes};
 ghost use Rattle.cell_ascii_writer.specs.WrittenRuns.{spaced_cells, joined_cells, times};
@@ -18,8 +18,8 @@ use cell_core::cell::Cell;
 use cell_core::map::CellMap;
 use cell_core::printed_cell::write_cell;
 use cell_core::region::Region;
-use cell_core::runs::Runs;
 use cell_core::sink::{Sink, WriteFault};
+use cell_core::stretches::Stretches;
 use itoa::Buffer;
 
 // The bytes of a space and of the longest text of a cell.
@@ -307,7 +307,7 @@ fn write_runs<W: Sink>(
     fields: &mut [Field],
     line: &mut [u8],
     start: usize,
-    runs: Runs<'_>,
+    runs: Stretches<'_>,
     null_text: &[u8],
 )
     requires { AreKept null_text.now fields.old line.old start }
@@ -329,10 +329,10 @@ fn write_row_cells<W: Sink>(
     block: &mut OutputBlock,
     fields: &mut [Field],
     line: &mut [u8],
-    runs: Runs<'_>,
+    runs: Stretches<'_>,
     null_text: &[u8],
 )
-    requires runs { AreRuns runs }
+    requires some { All (λ run. 0 < run.1) runs }
     requires kept { AreKept null_text.now fields.old line.old 0 }
     ensures text { Appends W.taken W.faults out.old block.old
         (joined_cells null_text.now (written_out runs.entry)) out.new block.new }
@@ -364,7 +364,7 @@ fn write_grid_row<W: Sink>(
         (row_text null_text.now (row_at map.now row)) out.new block.new }
     ensures kept { AreKept null_text.now fields.new line.new 0 }
 {
-    write_row_cells(out, block, fields, line, map.runs(row), null_text);
+    write_row_cells(out, block, fields, line, map.stretches(row), null_text);
     block.push(out, b"\n");
 }
 

@@ -6,7 +6,7 @@ use Rattle.std.proofs.lemmas.List.Elements.{All-cons, All-nil}
 use Rattle.cell_core_values.specs.Cell.{cell_eq, cell_eq-Decides}
 use Rattle.cell_core.specs.Grid.{CellValue}
 use Rattle.cell_core.specs.Runs.{RunValue, written_out, AreApart, AreRuns}
-use Rattle.cell_core.specs.parts.RowForms.{alike, breaks, with_cell, runs_in}
+use Rattle.cell_core.specs.parts.RowForms.{alike, breaks, with_cell, runs_in, one_by_one}
 
 module _ (x : CellValue) where
   written_out-with : (runs : List RunValue) → written_out (with_cell x runs) ≡ x ∷ written_out runs
@@ -48,6 +48,17 @@ written_out-runs_in (x ∷ cells) = written_out-with x (runs_in cells) ∙ ap (�
 pub AreRuns-runs_in : (cells : List CellValue) → AreRuns (runs_in cells)
 AreRuns-runs_in [] = record { lengths = All-nil (λ (run : RunValue). 0 < run.1); apart = tt }
 AreRuns-runs_in (x ∷ cells) = AreRuns-with x (runs_in cells) (AreRuns-runs_in cells)
+
+-- so are the cells one by one, each of which is there once
+pub written_out-one_by_one : (cells : List CellValue) → written_out (one_by_one cells) ≡ cells
+written_out-one_by_one [] = refl
+written_out-one_by_one (x ∷ cells) =
+    ap (λ (l : List CellValue). x ∷ l) (written_out-one_by_one cells)
+
+pub some-one_by_one : (cells : List CellValue) → All (λ run. 0 < run.1) (one_by_one cells)
+some-one_by_one [] = All-nil (λ (run : RunValue). 0 < run.1)
+some-one_by_one (x ∷ cells) =
+    All-cons (λ (run : RunValue). 0 < run.1) (x, 1) (one_by_one cells) (omega arith) (some-one_by_one cells)
 
 -- the first run, and those of the cells after it
 pub runs_in-next : (x : CellValue) (cells : List CellValue) → runs_in (x ∷ cells) ≡ (x, suc (alike x cells)) ∷ runs_in (drop (alike x cells) cells)

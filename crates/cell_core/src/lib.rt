@@ -9,6 +9,7 @@ pub mod printed_cell;
 mod row;
 pub mod runs;
 pub mod shelf;
+pub mod stretches;
 
 pub use cell_core_devices::{block, device, sink, source};
 pub use cell_core_values::{cell, memory, name, region};

@@ -1,6 +1,6 @@
 //! Maps of cells, and maps in the making.
 
-ghost use Rattle.std.specs.Prelude.{◌≡◌, ◌≢◌, ◌+◌, ◌<◌, ◌++◌, [], ◌∷◌, length, OnOk, OnErr};
+ghost use Rattle.std.specs.Prelude.{◌≡◌, ◌≢◌, ◌+◌, ◌<◌, ◌++◌, [], ◌∷◌, length, All, OnOk, OnErr};
 ghost use Rattle.std.specs.Option.{option_map};
 ghost use Rattle.std.specs.FinMap.{get, insert};
 ghost use Rattle.cell_core.specs.Grid.{Grid, Draft, cell_at, row_at, IsFilled, IsDraft, AreCells, no_labels};
@@ -8,6 +8,7 @@ ghost use Rattle.cell_core.specs.Runs.{AreRuns, written_out};
 
 use crate::row::Row;
 use crate::runs::Runs;
+use crate::stretches::Stretches;
 use cell_core_values::cell::Cell;
 use cell_core_values::memory::Memory;
 use cell_core_values::region::Region;
@@ -77,6 +78,16 @@ impl CellMap {
         ensures runs { AreRuns result }
     {
         self.rows[row as usize].runs()
+    }
+
+    /// The stretches of a row, from left to right: its runs, or its cells one by one, as they are kept.
+    pub fn stretches(&self, row: u32) -> Stretches<'_>
+        requires row_in_range { row < self.now.region.rows }
+        ensures written { written_out result ≡ row_at self.now row }
+        ensures width { length (written_out result) ≡ self.now.region.cols }
+        ensures some { All (λ run. 0 < run.1) result }
+    {
+        self.rows[row as usize].stretches()
     }
 
     /// Says that each cell of a map is null or a category. Does nothing.

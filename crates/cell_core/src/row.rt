@@ -5,6 +5,7 @@ ghost use Rattle.cell_core_values.specs.Cell.{IsCell};
 ghost use Rattle.cell_core.specs.Runs.{AreRuns, written_out};
 
 use crate::runs::{Runs, cell_of_runs, number_of_runs, runs_of, write_out};
+use crate::stretches::Stretches;
 use cell_core_values::cell::Cell;
 use cell_core_values::memory::Memory;
 use std::alloc::Global;
@@ -86,6 +87,17 @@ impl Row {
         match &self.kept {
             RowForm::Runs(runs) => Runs::over(runs),
             RowForm::Cells(cells) => Runs::of_cells(cells),
+        }
+    }
+
+    // The stretches, from left to right.
+    pub(crate) fn stretches(&self) -> Stretches<'_>
+        ensures written { written_out result ≡ self.now }
+        ensures some { All (λ run. 0 < run.1) result }
+    {
+        match &self.kept {
+            RowForm::Runs(runs) => Stretches::of_runs(runs),
+            RowForm::Cells(cells) => Stretches::of_cells(cells),
         }
     }
 }

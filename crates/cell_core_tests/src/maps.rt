@@ -84,6 +84,32 @@ fn keeps_a_long_row_as_one_run(rt: HostRuntime) -> Result<(), Fail> {
     expect_runs(&rt, &map, 0, &[(5, 32767)])
 }
 
+// The stretches of a row are these, given as categories with their numbers.
+fn expect_stretches<R: Abort + AllocGlobal>(
+    rt: &R,
+    map: &CellMap,
+    row: u32,
+    wanted: &[(i32, u32)],
+) -> Result<(), Fail> {
+    assert!(rt; row < map.region().rows());
+    let found: Vec<(Cell, u32)> = map.stretches(row).collect(rt.alloc())?;
+    assert_eq!(rt; found.len(), wanted.len(), "row {row}");
+    for (stretch, wanted) in found.iter().zip(wanted) {
+        assert_eq!(rt; *stretch, (cell(wanted.0), wanted.1), "row {row}");
+    }
+    Ok(())
+}
+
+// A row of few runs is in stretches as long, and another one cell by cell.
+#[test]
+fn gives_its_stretches(rt: HostRuntime) -> Result<(), Fail> {
+    let rows = [1, 1, 2, 2, 2, NULL, 1, 1, 2, 3, 1, NULL];
+    let map = map_of(rt.alloc(), 2, 6, &rows)?.ok_or("a map")?;
+    expect_stretches(&rt, &map, 0, &[(1, 2), (2, 3), (NULL, 1)])?;
+    let cells = [(1, 1), (1, 1), (2, 1), (3, 1), (1, 1), (NULL, 1)];
+    expect_stretches(&rt, &map, 1, &cells)
+}
+
 const FIVE: [i32; 5] = [7, -2147483647, -2147483647, NULL, 0];
 
 #[test]

@@ -16,30 +16,30 @@ use crate::gathered::{Gathered, ordered_entries};
 use crate::selection::Selection;
 use cell_core::cell::Cell;
 use cell_core::memory::Memory;
-use cell_core::runs::Runs;
 use cell_core::shelf::Shelf;
+use cell_core::stretches::Stretches;
 use cell_stats_combinations::combination::Combo;
 use cell_stats_combinations::skip::{Skip, is_left_out};
 use std::alloc::Global;
 
-// Counts the cells of the runs of one map.
-fn count_cells_by_runs(
+// Counts the cells of the stretches of one map.
+fn count_stretches(
     alloc: Global,
-    runs: Runs<'_>,
+    stretches: Stretches<'_>,
     skip: Skip,
     spare: &mut Combo,
     places: &mut [CountPlace],
     counted: &mut Gathered,
 ) -> Result<(), Memory>
     requires going { IsCounting 1 spare.old places.old counted.old }
-    requires fits { HasRoom 1 places.old counted.old (length (written_out runs)) }
+    requires fits { HasRoom 1 places.old counted.old (length (written_out stretches)) }
     ensures ok { OnOk result ((k : Combination)
         → total_of 1 k places.new counted.new
         ≡ total_of 1 k places.old counted.old
-        + count_of k (kept_cells skip (map alone (written_out runs.entry)))) }
+        + count_of k (kept_cells skip (map alone (written_out stretches.entry)))) }
     ensures going { OnOk result (IsCounting 1 spare.new places.new counted.new) }
 {
-    for (cell, count) in runs {
+    for (cell, count) in stretches {
         let cells = [cell];
         if !is_left_out(skip, &cells) {
             add_count(alloc, &cells, u64::from(count), spare, places, counted)?;
@@ -48,7 +48,7 @@ fn count_cells_by_runs(
     Ok(())
 }
 
-// Counts the cells of a row: of one map run by run, else stretch by stretch, the columns in which no map changes.
+// Counts the cells of a row: of one map as they are kept, else by the columns in which no map changes.
 fn count_row<'a>(
     alloc: Global,
     selection: Selection<'a, '_>,
@@ -73,8 +73,8 @@ fn count_row<'a>(
         (IsCounting (length selection.entry.picks.now) spare.new places.new counted.new) }
 {
     if let [place] = selection.picks {
-        let runs = selection.shelf.map(*place).runs(row);
-        count_cells_by_runs(alloc, runs, selection.skip, spare, places, counted)?;
+        let stretches = selection.shelf.map(*place).stretches(row);
+        count_stretches(alloc, stretches, selection.skip, spare, places, counted)?;
         return Ok(());
     }
     let cols = selection.shelf.region().cols();

@@ -9,15 +9,15 @@ ghost use Rattle.cell_stats_counts.specs.Cursors.{to_come, AreCursorsReady, AreW
 use cell_core::cell::Cell;
 use cell_core::map::CellMap;
 use cell_core::memory::Memory;
-use cell_core::runs::Runs;
 use cell_core::shelf::Shelf;
+use cell_core::stretches::Stretches;
 use std::alloc::Global;
 use std::marker::Model;
 
 /// A place in a row: the cell there, in how many columns from there on it is the same, and the runs after these.
 #[derive(Drop)]
 pub struct Cursor<'a> {
-    runs: Runs<'a>,
+    runs: Stretches<'a>,
     cell: Cell,
     left: u32,
 }
@@ -34,7 +34,7 @@ impl<'a> Model for Cursor<'a> {
 
 impl<'a> Cursor<'a> {
     // At the first cell of a row.
-    fn over(mut runs: Runs<'a>) -> Cursor<'a>
+    fn over(mut runs: Stretches<'a>) -> Cursor<'a>
         requires { All (λ run. 0 < run.1) runs }
         ensures cells { to_come result ≡ written_out runs.entry }
         ensures ready { AreCursorsReady result }
@@ -73,7 +73,7 @@ fn start<'a>(map: &'a CellMap, row: u32) -> Cursor<'a>
     ensures width { length (row_at map.now row) ≡ map.now.region.cols }
     ensures ready { AreCursorsReady result }
 {
-    Cursor::over(map.runs(row))
+    Cursor::over(map.stretches(row))
 }
 
 // The first cells of a row of the picked maps.

@@ -8,6 +8,8 @@ use Rattle.cell_core.specs.declared.row.RowForm.{RowForm}
 use Rattle.cell_core.specs.declared.row.RowForm.TheVariants as kept
 use Rattle.cell_core.specs.declared.runs.Rest.{Rest}
 use Rattle.cell_core.specs.declared.runs.Rest.TheVariants as rest
+use Rattle.cell_core.specs.declared.stretches.Unread.{Unread}
+use Rattle.cell_core.specs.declared.stretches.Unread.TheVariants as unread
 
 -- the cells that are kept
 abbrev pub cells_of_row : RowForm → List CellValue
@@ -65,3 +67,12 @@ runs_left (rest.Cells cells) = runs_in cells.now
 abbrev pub IsShort : Rest → Type 0
 IsShort (rest.Runs runs) = Unit {0}
 IsShort (rest.Cells cells) = length cells.now < 2 ^ 32
+
+-- each cell a stretch of its own
+abbrev pub one_by_one : List CellValue → List RunValue
+one_by_one cells = map (λ cell. (cell, 1)) cells
+
+-- the stretches still to come
+abbrev pub stretches_left : Unread → List RunValue
+stretches_left (unread.Runs runs) = runs.now
+stretches_left (unread.Cells cells) = one_by_one cells.now

@@ -11,7 +11,7 @@ pub overflow_sub-others_alike : goal.overflow_sub-others_alike
 overflow_sub-others_alike g c =
     let rest : List RunValue = c.next.new.self in
     let whole : c.args.runs ≡ c.in-Some.first ∷ rest = c.in-Some.ensures.steps in
-    omega (arith, first-some c.args.runs rest c.in-Some.first.0 c.in-Some.first.1 c.requires.runs whole)
+    omega (arith, first-some c.args.runs rest c.in-Some.first.0 c.in-Some.first.1 c.requires.some whole)
 
 pub returns-clause-text : goal.returns-clause-text
 returns-clause-text g c =
@@ -20,7 +20,7 @@ returns-clause-text g c =
     let n = c.in-Some.first.1 in
     let rest : List RunValue = c.next.new.self in
     let whole : c.args.runs ≡ c.in-Some.first ∷ rest = c.in-Some.ensures.steps in
-    let some = first-some c.args.runs rest cell n c.requires.runs whole in
+    let some = first-some c.args.runs rest cell n c.requires.some whole in
     let others = spaced_cells null (written_out rest) in
     let alike = spaced_cells null (replicate (n - 1) cell) in
     rw (whole, joined-runs null rest cell n some, append_assoc (cell_text null cell) alike others)

@@ -57,14 +57,14 @@ sum_fits : (col : ℕ) {total counted count more cols : ℕ} → total ≡ count
     → col + count ≤ cols → cols ≤ 65535 → total + more < 2 ^ 64
 sum_fits col same small is within wide = omega arith
 
-pub count_cells_by_runs-requires-clause-fits : goal.count_cells_by_runs-requires-clause-fits
-count_cells_by_runs-requires-clause-fits c = λ k.
+pub count_stretches-requires-clause-fits : goal.count_stretches-requires-clause-fits
+count_stretches-requires-clause-fits c = λ k.
     let picks = c.args.selection.picks.now in
     let region = c.requires.region in
     let one = just_one c.in-len1.len_at_least c.in-len1.len_below in
     let few = before c.requires.row_in_range region.rows_most in
     let was = sym (ap (λ w. total_of w k c.args.places.now c.args.counted.now) one) ∙ c.requires.counted k in
-    let wide = c.runs-runs.ensures.width ∙ ap (λ (r : RegionValue). r.cols) c.map.ensures.region in
+    let wide = c.stretches-stretches.ensures.width ∙ ap (λ (r : RegionValue). r.cols) c.map.ensures.region in
     fits-alone c.args.selection.skip k c.args.selection.shelf.now.maps picks c.args.row c.args.selection.shelf.now.region.cols (total_of 1 k c.args.places.now c.args.counted.now) _ few region.cols_most was wide
 
 pub returns-in-len1-clause-ok : goal.returns-in-len1-clause-ok
@@ -72,11 +72,11 @@ returns-in-len1-clause-ok c = λ k.
     let picks = c.args.selection.picks.now in
     let one = just_one c.in-len1.len_at_least c.in-len1.len_below in
     let was = sym (ap (λ w. total_of w k c.args.places.now c.args.counted.now) one) ∙ c.requires.counted k in
-    let wide = c.runs-runs.ensures.width ∙ ap (λ (r : RegionValue). r.cols) c.map.ensures.region in
-    ap (λ w. total_of w k c.count_cells_by_runs.new.places c.count_cells_by_runs.new.counted) one
-    ∙ counted-alone c.args.selection.skip k c.args.selection.shelf.now.maps picks c.args.row _ c.args.selection.shelf.now.region.cols c.map.result.now c.runs-runs.result (total_of 1 k c.args.places.now c.args.counted.now) (total_of 1 k c.count_cells_by_runs.new.places c.count_cells_by_runs.new.counted)
-    (single picks _ one) c.map.ensures.value c.runs-runs.ensures.written wide was
-    (c.in_ok-count_cells_by_runs.ensures.ok k)
+    let wide = c.stretches-stretches.ensures.width ∙ ap (λ (r : RegionValue). r.cols) c.map.ensures.region in
+    ap (λ w. total_of w k c.count_stretches.new.places c.count_stretches.new.counted) one
+    ∙ counted-alone c.args.selection.skip k c.args.selection.shelf.now.maps picks c.args.row _ c.args.selection.shelf.now.region.cols c.map.result.now c.stretches-stretches.result (total_of 1 k c.args.places.now c.args.counted.now) (total_of 1 k c.count_stretches.new.places c.count_stretches.new.counted)
+    (single picks _ one) c.map.ensures.value c.stretches-stretches.ensures.written wide was
+    (c.in_ok-count_stretches.ensures.ok k)
 
 pub loop-col-init : goal.loop-col-init
 loop-col-init c =
@@ -186,25 +186,25 @@ returns-clause-ok c = λ k.
 pub map-requires : goal.map-requires
 map-requires c = c.requires.picked 0 0 c.in-len1.len_at_least
 
-pub runs-runs-requires : goal.runs-runs-requires
-runs-runs-requires c =
+pub stretches-stretches-requires : goal.stretches-stretches-requires
+stretches-stretches-requires c =
     record {
       row_in_range = below c.requires.row_in_range
           (ap (λ (r : RegionValue). r.rows) (sym c.map.ensures.region));
     }
 
-pub count_cells_by_runs-requires-clause-going : goal.count_cells_by_runs-requires-clause-going
-count_cells_by_runs-requires-clause-going c = going_of (just_one c.in-len1.len_at_least c.in-len1.len_below) c.requires.going
+pub count_stretches-requires-clause-going : goal.count_stretches-requires-clause-going
+count_stretches-requires-clause-going c = going_of (just_one c.in-len1.len_at_least c.in-len1.len_below) c.requires.going
 
-pub returns-in_err-count_cells_by_runs-clause-ok : goal.returns-in_err-count_cells_by_runs-clause-ok
-returns-in_err-count_cells_by_runs-clause-ok c = IfOk-from_err c.from_residual.result _ c.from_residual.ensures.0
+pub returns-in_err-count_stretches-clause-ok : goal.returns-in_err-count_stretches-clause-ok
+returns-in_err-count_stretches-clause-ok c = IfOk-from_err c.from_residual.result _ c.from_residual.ensures.0
 
-pub returns-in_err-count_cells_by_runs-clause-going : goal.returns-in_err-count_cells_by_runs-clause-going
-returns-in_err-count_cells_by_runs-clause-going c = IfOk-from_err c.from_residual.result _ c.from_residual.ensures.0
+pub returns-in_err-count_stretches-clause-going : goal.returns-in_err-count_stretches-clause-going
+returns-in_err-count_stretches-clause-going c = IfOk-from_err c.from_residual.result _ c.from_residual.ensures.0
 
 pub returns-in-len1-clause-going : goal.returns-in-len1-clause-going
 returns-in-len1-clause-going c =
-    going_of (sym (just_one c.in-len1.len_at_least c.in-len1.len_below)) c.in_ok-count_cells_by_runs.ensures.going
+    going_of (sym (just_one c.in-len1.len_at_least c.in-len1.len_below)) c.in_ok-count_stretches.ensures.going
 
 pub restart_all-requires-clause-picked : goal.restart_all-requires-clause-picked
 restart_all-requires-clause-picked c = c.requires.picked

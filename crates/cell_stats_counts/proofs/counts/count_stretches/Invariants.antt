@@ -6,11 +6,11 @@ use Rattle.cell_stats_counts.specs.parts.HeldPlaces.{IsCounting}
 use Rattle.cell_stats_counts.specs.parts.Alone.{alone}
 use Rattle.cell_stats_counts.specs.parts.HeldPlaces.{total_of}
 use Rattle.cell_stats_combinations.specs.LeftOut.{kept_cells}
-use Rattle.cell_stats_counts.proofs.counts.count_cells_by_runs.Given as goal
+use Rattle.cell_stats_counts.proofs.counts.count_stretches.Given as goal
 
 abbrev pub invariant-loop-cell : goal.invariant-loop-cell
 invariant-loop-cell l = record {
-  counted : (k : Combination) → total_of 1 k l.places l.counted + count_of k (kept_cells l.skip (map alone (written_out l.cell-iterator))) ≡ total_of 1 k l.fn.places l.fn.counted + count_of k (kept_cells l.skip (map alone (written_out l.fn.runs)));
+  counted : (k : Combination) → total_of 1 k l.places l.counted + count_of k (kept_cells l.skip (map alone (written_out l.cell-iterator))) ≡ total_of 1 k l.fn.places l.fn.counted + count_of k (kept_cells l.skip (map alone (written_out l.fn.stretches)));
   room : (k : Combination) → total_of 1 k l.places l.counted + length (written_out l.cell-iterator) < 2 ^ 64;
   going : IsCounting 1 l.spare l.places l.counted;
 }

@@ -1,0 +1,56 @@
+use Rattle.std.proofs.Common.{◌≡◌, ◌∙◌, ◌<◌, ◌∷◌, List, length, sym, ap, arith}
+use Rattle.std.proofs.lemmas.List.{nil_from_length}
+use Rattle.cell_core.specs.Runs.{RunValue}
+use Rattle.cell_core.specs.parts.RowForms.{one_by_one, stretches_left}
+use Rattle.cell_core.proofs.stretches.StretchesIterator.next.Goals as goal
+
+fewer : (run : RunValue) (runs all : List RunValue) → all ≡ run ∷ runs → length runs < length all
+fewer run runs all e = rw e (omega arith)
+
+pub returns-in_err-first-in-Runs-clause-steps : goal.returns-in_err-first-in-Runs-clause-steps
+returns-in_err-first-in-Runs-clause-steps c =
+    let none = nil_from_length c.in-Runs.runs.now c.in_err-first-in-Runs.ensures.cases in
+    let all = sym c.self.view_is ∙ ap stretches_left c.in-Runs.is ∙ none in
+    rw c.from_residual.ensures (all, all)
+
+pub returns-in_err-first-in-Runs-clause-goes : goal.returns-in_err-first-in-Runs-clause-goes
+returns-in_err-first-in-Runs-clause-goes c =
+    rw c.from_residual.ensures (record { on = λ finite. tt; keeps = tt; rests = λ finite. finite })
+
+pub returns-in_err-first-in-Cells-clause-steps : goal.returns-in_err-first-in-Cells-clause-steps
+returns-in_err-first-in-Cells-clause-steps c =
+    let none = nil_from_length c.in-Cells.cells.now c.in_err-first-in-Cells.ensures.cases in
+    let all = sym c.self.view_is ∙ ap stretches_left c.in-Cells.is ∙ ap one_by_one none in
+    rw c.from_residual-in_err-first-in-Cells.ensures (all, all)
+
+pub returns-in_err-first-in-Cells-clause-goes : goal.returns-in_err-first-in-Cells-clause-goes
+returns-in_err-first-in-Cells-clause-goes c =
+    rw c.from_residual-in_err-first-in-Cells.ensures
+    (record { on = λ finite. tt; keeps = tt; rests = λ finite. finite })
+
+pub returns-in_ok-first-in-Runs-clause-steps : goal.returns-in_ok-first-in-Runs-clause-steps
+returns-in_ok-first-in-Runs-clause-steps c =
+    sym c.self.view_is ∙ ap stretches_left c.in-Runs.is ∙ c.in_ok-first-in-Runs.ensures.cases.0
+
+pub returns-in_ok-first-in-Runs-clause-goes : goal.returns-in_ok-first-in-Runs-clause-goes
+returns-in_ok-first-in-Runs-clause-goes c =
+    let first = sym c.self.view_is ∙ ap stretches_left c.in-Runs.is ∙ c.in_ok-first-in-Runs.ensures.cases.0 in
+    record {
+      on = λ finite. (tt, tt, fewer _ _ _ first);
+      keeps = tt;
+      rests = λ finite. tt;
+    }
+
+pub returns-in_ok-first-in-Cells-clause-steps : goal.returns-in_ok-first-in-Cells-clause-steps
+returns-in_ok-first-in-Cells-clause-steps c =
+    sym c.self.view_is ∙ ap stretches_left c.in-Cells.is ∙ ap one_by_one c.in_ok-first-in-Cells.ensures.cases.0
+
+pub returns-in_ok-first-in-Cells-clause-goes : goal.returns-in_ok-first-in-Cells-clause-goes
+returns-in_ok-first-in-Cells-clause-goes c =
+    let first = sym c.self.view_is ∙ ap stretches_left c.in-Cells.is
+    ∙ ap one_by_one c.in_ok-first-in-Cells.ensures.cases.0 in
+    record {
+      on = λ finite. (tt, tt, fewer _ _ _ first);
+      keeps = tt;
+      rests = λ finite. tt;
+    }

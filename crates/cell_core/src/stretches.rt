@@ -1,0 +1,77 @@
+//! The cells of a row in stretches, as they are kept.
+
+ghost use Rattle.std.specs.Prelude.{◌≡◌};
+ghost use Rattle.std.specs.Iterator.{YieldsFirst, item_count};
+ghost use Rattle.cell_core.specs.parts.RowForms.{one_by_one};
+
+use cell_core_values::cell::Cell;
+use std::marker::Model;
+
+/// The cells of a row in stretches, from left to right: a cell and how often it stands there, at least once. They are the runs of
+/// a row that is kept as runs, and the cells of another one by one, so that neighbours may have equal cells: where most runs are
+/// short, this is faster than to tell where each ends. It is seen as the list of the stretches still to come.
+#[derive(Drop)]
+pub struct Stretches<'a> {
+    rest: Unread<'a>,
+}
+
+// What the stretches still to come are read from.
+#[derive(Drop)]
+enum Unread<'a> {
+    Runs(&'a [(Cell, u32)]),
+    Cells(&'a [Cell]),
+}
+
+impl<'a> Model for Stretches<'a> {
+    ghost use Rattle.std.specs.Prelude.{List};
+    ghost use Rattle.cell_core.specs.Runs.{RunValue};
+    ghost use Rattle.cell_core.specs.parts.RowForms.{stretches_left};
+
+    ghost Value = { List RunValue };
+
+    ghost view = { λ stretches. stretches_left stretches.rest };
+}
+
+impl<'a> Stretches<'a> {
+    // Over runs.
+    pub(crate) fn of_runs(runs: &'a [(Cell, u32)]) -> Stretches<'a>
+        ensures { result ≡ runs.now }
+    {
+        Stretches {
+            rest: Unread::Runs(runs),
+        }
+    }
+
+    // Over cells.
+    pub(crate) fn of_cells(cells: &'a [Cell]) -> Stretches<'a>
+        ensures { result ≡ one_by_one cells.now }
+    {
+        Stretches {
+            rest: Unread::Cells(cells),
+        }
+    }
+}
+
+impl<'a> Iterator for Stretches<'a> {
+    type Item = (Cell, u32);
+
+    ghost next_gives = { YieldsFirst (λ s. s) };
+
+    ghost remaining = { item_count (λ s. s) };
+
+    #[inline]
+    fn next(&mut self) -> Option<(Cell, u32)> {
+        match &self.rest {
+            Unread::Runs(runs) => {
+                let (first, others) = runs.split_first()?;
+                self.rest = Unread::Runs(others);
+                Some(*first)
+            }
+            Unread::Cells(cells) => {
+                let (first, others) = cells.split_first()?;
+                self.rest = Unread::Cells(others);
+                Some((*first, 1))
+            }
+        }
+    }
+}
