@@ -1,4 +1,5 @@
 -- Texts of tables: what their lines are, and how they are read.
+pub mod ClearFormats
 pub mod LineFields
 pub mod LineReading
 pub mod SourceLines

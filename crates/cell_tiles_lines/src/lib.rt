@@ -1,6 +1,7 @@
 //! Texts of tables: the entry of each line, and the first fault of the lines.
 #![tactic(auto)]
 
+pub mod clear_formats;
 pub mod line_fields;
 mod places;
 pub mod source_lines;

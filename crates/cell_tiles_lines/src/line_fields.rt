@@ -10,7 +10,7 @@ use cell_core_text::whole_numbers::whole_in_range;
 use itoa::Buffer;
 
 // The category that is printed so.
-fn category_of(field: &[u8]) -> Option<i32>
+pub(crate) fn category_of(field: &[u8]) -> Option<i32>
     ensures { result ≡ category_of_field field.now }
 {
     match whole_in_range(field) {

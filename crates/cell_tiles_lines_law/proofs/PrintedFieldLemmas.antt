@@ -20,7 +20,7 @@ use Rattle.cell_stats.specs.TableText.{FormatValue}
 use Rattle.cell_tiles_lines.specs.LineFields.{capped_value, category_of_field, cell_of_field, count_of_field, entry_of_fields, entry_of_line, cell_before, with_count}
 use Rattle.cell_tiles_lines.specs.TableLines.{entry_fields}
 use Rattle.cell_tiles_lines.specs.declared.table_fault.TableKind.{TableKind}
-use Rattle.cell_tiles_lines_law.specs.PrintedTables.{IsClear, is_clear_byte}
+use Rattle.cell_tiles_lines_law.specs.PrintedTables.{IsClear}
 
 same : (xs : List ℕ) → bytes_eq xs xs ≡ true
 same xs = (bytes_eq-Decides xs xs).1 refl

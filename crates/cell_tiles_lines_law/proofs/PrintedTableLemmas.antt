@@ -1,5 +1,5 @@
 -- A text is read as the entries that it was printed of.
-use Rattle.std.proofs.Common.{◌≡◌, ℕ, zero, suc, ◌+◌, ◌-◌, ◌<◌, ◌≤◌, ◌^◌, List, [], ◌∷◌, ◌++◌, length, map, flat_map, Bool, true, false, ◌&&◌, ◌||◌, ◌==◌, not, nat_lt, Option, Some, None, Result, Ok, Err, refl, ap, sym, ◌∙◌, arith, cond, decimal, subst, ◌⊎◌, inl, inr, ⊎_elim}
+use Rattle.std.proofs.Common.{◌≡◌, ℕ, ℤ, zero, suc, ◌+◌, ◌-◌, ◌<◌, ◌≤◌, ◌^◌, List, [], ◌∷◌, ◌++◌, length, map, flat_map, Bool, true, false, ◌&&◌, ◌||◌, ◌==◌, not, nat_lt, Option, Some, None, is_none, Result, Ok, Err, refl, ap, sym, ◌∙◌, arith, cond, decimal, subst, ◌⊎◌, inl, inr, ⊎_elim}
 use Rattle.std.proofs.lemmas.Bool.{lt-ltb, le-ltb, and_parts}
 use Rattle.std.proofs.lemmas.Bool.Decides.{Decides-eqb, nat_tests}
 use Rattle.std.proofs.lemmas.List.{append_assoc}
@@ -18,6 +18,7 @@ use Rattle.cell_core_values.specs.Cell.{IsCell}
 use Rattle.cell_stats_combinations.specs.Combinations.{Combination, combination_cmp}
 use Rattle.cell_stats.specs.CategoryTables.{Pairs}
 use Rattle.cell_stats.specs.TableText.{FormatValue, combination_fields, count_fields, line_text, pair_line, table_text}
+use Rattle.cell_tiles_lines.specs.ClearFormats.{is_clear, is_clear_byte}
 use Rattle.cell_tiles_lines.specs.LineFields.{category_of_field, entry_of_fields, entry_of_line}
 use Rattle.cell_tiles_lines.specs.LineReading.{TableReading, ordered_entry, in_order, is_as_wide, is_line_feed, line_after, next_entry, reading_of_lines, reading_of, then_reads, with_entry, stopped}
 use Rattle.cell_tiles_lines.specs.TableLines.{entries_text, entry_fields, entry_line}
@@ -25,7 +26,7 @@ use Rattle.cell_tiles_lines.specs.declared.table_fault.TableKind.{TableKind}
 use Rattle.cell_tiles_lines.specs.declared.table_fault.TableKind.TheVariants.{LongLine, BadWidth}
 use Rattle.cell_tiles_lines.specs.declared.table_fault.TheConstants.{MOST_BYTES}
 use Rattle.cell_tiles_lines.proofs.TextLemmas.{more-lines, one_line}
-use Rattle.cell_tiles_lines_law.specs.PrintedTables.{IsClear, IsPrintedEntry, PrintedReadsAsItself, PrintsAsTables, is_clear_byte}
+use Rattle.cell_tiles_lines_law.specs.PrintedTables.{IsClear, IsPrintedEntry, PrintedReadsAsItself, PrintsAsTables, ClearIsTested}
 use Rattle.cell_tiles_lines_law.proofs.PrintedFieldLemmas.{fields-back, fields-free, joined-free, null-free, split-joined}
 
 -- a byte that is apart is no digit, no minus sign and no line feed
@@ -48,6 +49,26 @@ feed-apart c apart = grind (arith, nat_tests)
 
 digit-feed : (b : ℕ) → is_digit b ≡ true → (b == 10) ≡ false
 digit-feed b digit = grind (arith, nat_tests)
+
+-- what is tested of a format
+no-category : (o : Option ℤ) → is_none o ≡ true → o ≡ None
+no-category None e = refl
+no-category (Some z) e = cc
+
+pub clear-tested : ClearIsTested
+clear-tested format tested =
+    let apart : Bool = list_all (λ b. not (b == format.separator)) format.null_text in
+    let one : Bool = list_all (λ b. not (is_line_feed b)) format.null_text in
+    let none : Bool = is_none (category_of_field format.null_text) in
+    let first = and_parts (is_clear_byte format.separator) (apart && (one && none)) tested in
+    let second = and_parts apart (one && none) first.1 in
+    let third = and_parts one none second.1 in
+    record {
+      separator = first.0;
+      apart = second.0;
+      one_line = third.0;
+      null = no-category (category_of_field format.null_text) third.1;
+    }
 
 module _ (format : FormatValue) (clear : IsClear format) (width : ℕ) (some_width : 0 < width) where
   abbrev line_bytes : Combination × ℕ → List ℕ

@@ -1,28 +1,28 @@
 -- Which tables are printed so that they are read back.
-use Rattle.std.specs.Prelude.{ℕ, ◌≡◌, ◌<◌, ◌≤◌, ◌^◌, ◌==◌, ◌||◌, ◌⊎◌, not, Bool, true, false, List, All, length, map, None}
+use Rattle.std.specs.Prelude.{ℕ, ◌≡◌, ◌<◌, ◌≤◌, ◌^◌, ◌==◌, ◌⊎◌, not, true, false, List, All, length, map, None}
 use Rattle.std.specs.List.{list_all, join_with_byte}
 use Rattle.std.specs.List.Sorted.{IsStrictlySortedBy}
-use Rattle.cell_core_text.specs.Digits.{is_digit}
 use Rattle.cell_core_values.specs.Cell.{IsCell}
 use Rattle.cell_core.specs.Grid.{Grid}
 use Rattle.cell_stats_combinations.specs.Combinations.{Combination, combination_cmp}
 use Rattle.cell_stats.specs.CategoryTables.{Pairs}
 use Rattle.cell_stats.specs.TableText.{FormatValue, table_text}
+use Rattle.cell_tiles_lines.specs.ClearFormats.{is_clear, is_clear_byte}
 use Rattle.cell_tiles_lines.specs.LineFields.{category_of_field}
-use Rattle.cell_tiles_lines.specs.LineReading.{reading_of}
+use Rattle.cell_tiles_lines.specs.LineReading.{is_line_feed, reading_of}
 use Rattle.cell_tiles_lines.specs.TableLines.{entries_text, entry_fields}
 use Rattle.cell_tiles_lines.specs.declared.table_fault.TheConstants.{MOST_BYTES}
-
--- a byte that no number is printed with, and no line feed
-abbrev pub is_clear_byte : ℕ → Bool
-is_clear_byte b = not (is_digit b || (b == 45 || b == 10))
 
 -- fields can be told apart: by a separator that stands in none of them, and a null text that is no category
 pub record IsClear (format : FormatValue) : Type 0 where
   pub separator : is_clear_byte format.separator ≡ true
   pub apart : list_all (λ b. not (b == format.separator)) format.null_text ≡ true
-  pub one_line : list_all (λ b. not (b == 10)) format.null_text ≡ true
+  pub one_line : list_all (λ b. not (is_line_feed b)) format.null_text ≡ true
   pub null : category_of_field format.null_text ≡ None
+
+-- the test of a format tells that they can
+abbrev pub ClearIsTested : Type 0
+ClearIsTested = (format : FormatValue) → is_clear format ≡ true → IsClear format
 
 -- an entry of so many cells, with a count from 1 to 2^64 - 1, whose line is not too long
 pub record IsPrintedEntry (format : FormatValue) (width : ℕ) (entry : Combination × ℕ) : Type 0 where

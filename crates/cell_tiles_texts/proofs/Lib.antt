@@ -1,4 +1,11 @@
 pub mod EntryLemmas
+pub mod FaultLemmas
 pub mod HeadLemmas
 pub mod ListLemmas
+pub mod JoinLemmas
+pub mod MergeLemmas
+pub mod MergingLemmas
+pub mod OpeningLemmas
+pub mod ReadingLemmas
 pub mod StepLemmas
+pub mod TakingLemmas

@@ -1,9 +1,10 @@
 -- Texts taken one after the other, and the least of their heads.
-use Rattle.std.proofs.Common.{◌≡◌, ◌≢◌, ℕ, suc, ◌+◌, ◌-◌, ◌<◌, ◌≤◌, List, [], ◌∷◌, ◌++◌, length, take, drop, get_or, map, fold, Bool, true, false, Option, Some, None, MatchOption, refl, ap, sym, ◌∙◌, arith, cond, subst, option_map}
+use Rattle.std.proofs.Common.{◌≡◌, ◌≢◌, ℕ, suc, ◌+◌, ◌-◌, ◌<◌, ◌≤◌, List, [], ◌∷◌, ◌++◌, length, take, drop, get_or, map, fold, Bool, true, false, Option, Some, None, MatchOption, ◌⊎◌, inl, inr, ⊎_elim, refl, ap, sym, ◌∙◌, arith, cond, subst, option_map}
 use Rattle.std.proofs.Math.ListN.{set}
 use Rattle.std.proofs.lemmas.List.{map-append, take_more, take_more_set, drop-set-lt, drop-drop, get_or-drop, length-drop}
 use Rattle.std.proofs.lemmas.List.Elements.{All-nil, All-cons}
 use Rattle.std.proofs.lemmas.List.Sums.{fold-append}
+use Rattle.std.specs.List.{Contains}
 use Rattle.std.specs.Prelude.{All, IfSome}
 use Rattle.std.specs.Ordering.{is_lt, ordering_reverse}
 use Rattle.std.specs.declared.cmp.Ordering.{Ordering}
@@ -101,6 +102,31 @@ module _ {X : Type 0} (head : X → Option (Combination × ℕ)) where
       let rest = fold-some xs (lesser_of least (own x)) k e in
       let both = lesser-both least (own x) k rest.0 in
       (both.0, All-cons (IsBehind k) x xs (some-own k (head x) both.1) rest.1)
+
+  lesser-one : (a b : Option Combination) (k : Combination) → lesser_of a b ≡ Some k → (a ≡ Some k) ⊎ (b ≡ Some k)
+  lesser-one None None k e = inl e
+  lesser-one (Some a) None k e = inl e
+  lesser-one None (Some b) k e = inr e
+  lesser-one (Some a) (Some b) k e = by (is_lt (combination_cmp b a)) e
+    where
+      by : (t : Bool) → cond t (Some b) (Some a) ≡ Some k → (Some a ≡ Some k) ⊎ (Some b ≡ Some k)
+      by true e = inr e
+      by false e = inl e
+
+  fold-own : (xs : List X) (least : Option Combination) (k : Combination) → fold lesser_of least (map own xs) ≡ Some k → (least ≡ Some k) ⊎ Contains (map own xs) (Some k)
+  fold-own [] least k e = inl e
+  fold-own (x ∷ xs) least k e = ⊎_elim here (λ at. inr (suc at.0, omega (arith, at.1), at.2)) (fold-own xs (lesser_of least (own x)) k e)
+    where
+      first : own x ≡ Some k → Contains (map own (x ∷ xs)) (Some k)
+      first is = (0, omega arith, is)
+
+      here : lesser_of least (own x) ≡ Some k → (least ≡ Some k) ⊎ Contains (map own (x ∷ xs)) (Some k)
+      here is = ⊎_elim (λ one. inl one) (λ two. inr (first two)) (lesser-one least (own x) k is)
+
+  -- it is one of them
+  pub least-own : {B : Type 0} (see : B → Combination) (least : Option B) (xs : List X) → option_map see least ≡ fold lesser_of None (map own xs) → IfSome least (λ b. Contains (map own xs) (Some (see b)))
+  least-own see None xs e = tt
+  least-own see (Some b) xs e = ⊎_elim (λ none. cc) (λ at. at) (fold-own xs None (see b) (sym e))
 
   -- the least of the heads, told by whatever is seen as a combination
   pub least-told : {B : Type 0} (see : B → Combination) (least : Option B) (xs : List X) → option_map see least ≡ fold lesser_of None (map own xs) → MatchOption least (All IsDone xs) (λ b. All (IsBehind (see b)) xs)

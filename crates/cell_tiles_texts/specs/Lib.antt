@@ -1,3 +1,4 @@
 -- Texts of tables merged.
+pub mod JoinedTexts
 pub mod MergedTables
 pub mod parts

@@ -40,7 +40,7 @@ fn write_count<W: Sink>(out: &mut W, block: &mut OutputBlock, count: u64)
 }
 
 /// Writes the line of an entry. Takes no memory.
-pub fn write_entry<W: Sink>(
+pub(crate) fn write_entry<W: Sink>(
     out: &mut W,
     block: &mut OutputBlock,
     format: &Format,

@@ -9,6 +9,10 @@ pub enum JoinFault {
     Text { text: usize, fault: TableFault },
     /// Together the texts count more than 2^64 - 1 cells of a combination.
     TooMany,
+    /// Together the texts have 2^64 - 1 combinations or more.
+    TooLong,
     /// Memory was refused.
     Memory,
+    /// A write failed.
+    Write,
 }

@@ -4,5 +4,6 @@
 
 pub mod entry_lines;
 pub mod join_fault;
+pub mod joining;
 pub mod law;
 pub mod text_heads;

@@ -1,10 +1,13 @@
 //! The entries that texts begin with.
 
-ghost use Rattle.std.specs.Prelude.{◌≡◌, ◌≢◌, All, MatchOption, None, Some, IfOk, IfErr, IfSome, OnOk, map, option_map};
+ghost use Rattle.std.specs.Prelude.{◌≡◌, ◌≢◌, ◌≤◌, ◌^◌, List, All, MatchOption, None, Some, Err, IfOk, IfErr, IfSome, OnOk, map, option_map, unwrap_or};
+ghost use Rattle.std.specs.List.{Contains};
 ghost use Rattle.std.specs.declared.cmp.Ordering.TheVariants.{Less};
 ghost use Rattle.cell_stats_combinations.specs.Combinations.{combination_cmp};
+ghost use Rattle.cell_tiles_lines.specs.LineReading.{TableReading};
 ghost use Rattle.cell_tiles_lines.specs.TextReading.{combination_of, reading_from};
 ghost use Rattle.cell_tiles_texts.specs.parts.Steps.{IsBeyondCounts, sum_if_any, head_count, lesser_of, past, sum_of_counts};
+ghost use Rattle.cell_tiles_texts.specs.parts.Taking.{IsTextFault};
 
 use crate::join_fault::JoinFault;
 use cell_core::source::Source;
@@ -48,9 +51,10 @@ fn take<R: Source>(
 }
 
 // The fault of a text, where it is not of memory.
-fn of_text(text: usize, fault: TableFault) -> JoinFault
+pub(crate) fn of_text(text: usize, fault: TableFault) -> JoinFault
     ensures memory { fault.kind ≡ TableKind.Memory → result ≡ JoinFault.Memory }
     ensures text { fault.kind ≢ TableKind.Memory → result ≡ JoinFault.Text text fault }
+    ensures unwritten { result ≢ JoinFault.Write }
 {
     match fault.kind {
         TableKind::Memory => JoinFault::Memory,
@@ -97,7 +101,7 @@ fn add(total: Option<u64>, count: Option<u64>) -> Option<Option<u64>>
 ///
 /// [`JoinFault::Text`] of the first text that has a fault behind its head, [`JoinFault::TooMany`] where the counts are
 /// beyond 64 bits, [`JoinFault::Memory`].
-pub fn take_all<R: Source>(
+pub(crate) fn take_all<R: Source>(
     alloc: Global,
     format: &Format,
     texts: &mut [TableText<R>],
@@ -107,6 +111,12 @@ pub fn take_all<R: Source>(
         ≡ sum_of_counts (map (λ text. head_count combo.now text.head) texts.old)) }
     ensures taken { OnOk result (map (λ text. reading_from format.now text) texts.new
         ≡ map (λ text. option_map (past combo.now) (reading_from format.now text)) texts.old) }
+    ensures fault { (readings : List TableReading)
+        → map (λ text. reading_from format.now text) texts.old ≡ map Some readings
+        → IfErr result (IsTextFault readings) }
+    ensures unwritten { IfErr result (λ fault. fault ≢ JoinFault.Write) }
+    ensures beyond { result ≡ Err JoinFault.TooMany → 2 ^ 64
+        ≤ unwrap_or (sum_of_counts (map (λ text. head_count combo.now text.head) texts.old)) 0 }
 {
     let mut total = None;
     'texts: for text in 0..texts.len() {
@@ -123,10 +133,12 @@ pub fn take_all<R: Source>(
 }
 
 /// The least combination that a text begins with; None where each is at its end.
-pub fn least_of<'a, R: Source>(texts: &'a [TableText<R>]) -> Option<&'a Combo>
-    ensures { MatchOption result
+pub(crate) fn least_of<'a, R: Source>(texts: &'a [TableText<R>]) -> Option<&'a Combo>
+    ensures least { MatchOption result
         (All (λ text. text.head ≡ None) texts.now)
         (λ combo. All (λ text. IfSome text.head (λ entry. combination_cmp entry.0 combo.now ≢ Less)) texts.now) }
+    ensures own { IfSome result
+        (λ combo. Contains (map (λ text. combination_of text.head) texts.now) (Some combo.now)) }
 {
     let mut least = None;
     'texts: for text in texts {

@@ -1,0 +1,44 @@
+-- Entries of a merge that were taken from texts, one after the other.
+use Rattle.std.specs.Prelude.{ℕ, ◌≡◌, ◌≤◌, ◌^◌, List, ◌++◌, map, sum_by, Option, Some}
+use Rattle.std.specs.List.{AllByRecursion}
+use Rattle.cell_stats_combinations.specs.Combinations.{Combination}
+use Rattle.cell_stats.specs.CategoryTables.{Pairs}
+use Rattle.cell_tiles_law.specs.TableParts.{count_in}
+use Rattle.cell_tiles_lines.specs.LineReading.{TableReading}
+use Rattle.cell_tiles_merging.specs.Merging.{IsListing}
+use Rattle.cell_tiles_texts.specs.JoinedTexts.{HasFault, tables_of}
+use Rattle.cell_tiles_texts.specs.MergedTables.{merge_of}
+use Rattle.cell_tiles_texts.specs.declared.join_fault.JoinFault.{JoinFault}
+use Rattle.cell_tiles_texts.specs.declared.join_fault.JoinFault.TheVariants.{Text, TooMany, TooLong, Memory, Write}
+
+-- these entries were taken: what is left makes the rest of the merge, with the same faults
+pub record HasTaken {X : Type 0} (read : X → Option TableReading) (readings : List TableReading) (texts : List X) (done : Pairs) : Type 0 where
+  pub after : List TableReading
+  pub known : map read texts ≡ map Some after
+  pub listings : AllByRecursion IsListing (tables_of after)
+  pub merged : merge_of (tables_of readings) ≡ done ++ merge_of (tables_of after)
+  pub faults : map (λ reading. reading.fault) after ≡ map (λ reading. reading.fault) readings
+
+-- the same of whatever texts are read as, in order
+abbrev pub Takes : {X : Type 0} → (X → Option TableReading) → List X → List X → Pairs → Type 0
+Takes read old new done = (readings : List TableReading) → map read old ≡ map Some readings → AllByRecursion IsListing (tables_of readings) → HasTaken read readings new done
+
+-- of a fault of a text, that it has it; of any other nothing
+abbrev pub IsTextFault : List TableReading → JoinFault → Type 0
+IsTextFault readings (Text text fault) = HasFault readings text fault
+IsTextFault readings TooMany = Unit {0}
+IsTextFault readings TooLong = ⊥
+IsTextFault readings Memory = Unit {0}
+IsTextFault readings Write = ⊥
+
+-- why no more is taken
+abbrev pub IsStepFault : List TableReading → JoinFault → Type 0
+IsStepFault readings (Text text fault) = HasFault readings text fault
+IsStepFault readings TooMany = (k : Combination) × (2 ^ 64 ≤ sum_by (count_in k) (tables_of readings))
+IsStepFault readings TooLong = ⊥
+IsStepFault readings Memory = Unit {0}
+IsStepFault readings Write = ⊥
+
+-- the same of whatever texts are read as, in order
+abbrev pub StepFails : {X : Type 0} → (X → Option TableReading) → List X → JoinFault → Type 0
+StepFails read texts fault = (readings : List TableReading) → map read texts ≡ map Some readings → AllByRecursion IsListing (tables_of readings) → IsStepFault readings fault
