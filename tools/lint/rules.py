@@ -12,6 +12,7 @@ COMMON_FUNCTIONS = {"new", "len", "get", "next", "from", "is_empty", "bytes", "d
 COMMON_FILES = {"lib", "main", "law"}
 COMMON_SPECS = {"Lib", "parts"}
 ANSWERS = {"Answers.antt", "Invariants.antt", "Proof.antt"}
+WORKED = "Worked.antt"
 # The crates that the steps of an expression are for: those that make them, and the one that evaluates them.
 CRATES_OF_STEPS = {"cell_calc_steps", "cell_calc_language", "cell_calc_binding", "cell_calc"}
 STEPS = re.compile(r"\.steps\(|\bstep::Step\b|declared\.step\b")
@@ -152,6 +153,13 @@ def uncited():
     return [f"{it.path} {it.name}" for it in sorted(found, key=lambda it: (it.path, it.line))]
 
 
+def dead_lemmas():
+    """Definitions and lemmas of proofs that nothing stands on which is proved, but for worked examples (Worked.antt)."""
+    seen = reached_from(citations(("specs", "proofs")), [None])
+    return [f"{it.path} {it.name}" for key, it in sorted(sources.read_definitions("proofs", True).items(), key=lambda pair: (pair[1].path, pair[1].line))
+            if key not in seen and it.path.rpartition("/")[2] not in {*ANSWERS, WORKED} and not is_infix(it.name)]
+
+
 def is_infix(name):
     """Whether a name is that of an operator, which stands among its operands without its marks."""
     return "◌" in name
@@ -192,5 +200,5 @@ def unused_edges():
     return found
 
 
-ALL = {it.__name__: it for it in (wide_clauses, widest_clauses, wide_proofs, crate_limits, undocumented, names, uncited, parts, steps, unused_edges)}
+ALL = {it.__name__: it for it in (wide_clauses, widest_clauses, wide_proofs, crate_limits, undocumented, names, uncited, dead_lemmas, parts, steps, unused_edges)}
 COUNTED = {"wide_clauses", "widest_clauses", "wide_proofs"}

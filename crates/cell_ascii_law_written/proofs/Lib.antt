@@ -5,4 +5,4 @@ pub mod WritingTokenLemmas
 pub mod WritingDataLemmas
 pub mod WritingHeaderLemmas
 pub mod WritingLawLemmas
-pub mod ExampleLemmas
+pub mod Worked

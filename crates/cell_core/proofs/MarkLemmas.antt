@@ -10,7 +10,7 @@ use Rattle.cell_core.specs.parts.RowForms.{alike, runs_in, runs_from, marks, mar
 use Rattle.cell_core.proofs.RowLemmas.{runs_in-next}
 use Rattle.std.proofs.Math.Nat.{pow-succ', div-div-eq-div-mul}
 use Rattle.std.proofs.Math.Seq.{drop-cons, drop-append-add}
-use Rattle.std.proofs.lemmas.List.{drop-drop, drop-append-le, drop_all, take_more_set, take-append-drop, get_or-drop}
+use Rattle.std.proofs.lemmas.List.{drop-drop, drop-append-le, drop_all, take-append-drop, get_or-drop}
 use lib.Count.{count_trailing_zeros}
 use lib.Lanes.{mask_l}
 
@@ -157,21 +157,8 @@ module _ (x : CellValue) (count : ℕ) (y : CellValue) (rest : List CellValue) w
       let sum : count + 0 ≡ count = omega arith in
       ap before other ∙ ap (λ (k : ℕ). (x, k) ∷ runs_in (y ∷ rest)) sum ∙ ap (λ (l : List RunValue). (x, count) ∷ l) (run_begins y rest)
 
-pub run_is_last : (x : CellValue) (count : ℕ) → runs_from (x, count) [] ≡ (x, count) ∷ []
-run_is_last x count = let sum : count + 0 ≡ count = omega arith in ap (λ (k : ℕ). (x, k) ∷ []) sum
-
 pub next_cell : (cells : List CellValue) (i : ℕ) (y : CellValue) → i < length cells → y ≡ get_or cells i y → drop i cells ≡ y ∷ drop (i + 1) cells
 next_cell cells i y within read = rw add-one (drop-cons cells i y within ∙ ap (λ (z : CellValue). z ∷ drop (suc i) cells) (sym read))
-
--- one more cell is marked
-pub marked_more : (flags : List ℕ) (block : List CellValue) (last next : CellValue) (j v : ℕ) (all : List ℕ) → j < length flags → j < length block → next ≡ get_or block j next
-    → v ≡ flag (not (cell_eq next last)) → take j flags ++ map flag (marks last (drop j block)) ≡ all → take (j + 1) (set flags j v) ++ map flag (marks next (drop (j + 1) block)) ≡ all
-marked_more flags block last next j v all room within read is so_far =
-    let others = map flag (marks next (drop (j + 1) block)) in
-    ap (λ (l : List ℕ). l ++ others) (take_more_set flags j v room ∙ ap (λ (k : ℕ). take j flags ++ k ∷ []) is)
-    ∙ append_assoc (take j flags) (flag (not (cell_eq next last)) ∷ []) others
-    ∙ sym (ap (λ (l : List CellValue). take j flags ++ map flag (marks last l)) (next_cell block j next within read))
-    ∙ so_far
 
 -- when all are marked
 pub all_marked : (flags : List ℕ) (block : List CellValue) (last cell : CellValue) (j : ℕ) → length flags ≡ 64 → length block ≡ 64 → 64 ≤ j

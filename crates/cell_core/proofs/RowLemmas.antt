@@ -1,5 +1,5 @@
 -- The runs of cells that are kept as they are.
-use Rattle.std.proofs.Common.{◌≡◌, ◌≢◌, ℕ, suc, Bool, true, false, ◌+◌, ◌-◌, ◌<◌, ◌≤◌, List, [], ◌∷◌, ◌++◌, length, take, drop, replicate, get_or, All, refl, ap, sym, ◌∙◌, arith, add-one, take_all, length-drop}
+use Rattle.std.proofs.Common.{◌≡◌, ◌≢◌, ℕ, suc, Bool, true, false, ◌+◌, ◌-◌, ◌<◌, List, [], ◌∷◌, ◌++◌, length, take, drop, replicate, get_or, All, refl, ap, sym, ◌∙◌, arith, add-one, take_all, length-drop}
 use Rattle.std.specs.Prelude.{if◌then◌else◌}
 use Rattle.std.proofs.Math.Seq.{drop-cons}
 use Rattle.std.proofs.lemmas.List.Elements.{All-cons, All-nil}
@@ -98,15 +98,6 @@ breaks-whole (y ∷ cells) x some read =
     let other : breaks x (y ∷ cells) ≡ breaks y cells = ap (λ (z : CellValue). breaks z (y ∷ cells)) read ∙ ap (λ (b : Bool). if b then breaks y cells else suc (breaks y cells)) itself in
     omega (arith, other, length-runs_in y cells)
 
--- no more cells are alike than there are
-pub alike-within : (x : CellValue) (cells : List CellValue) → alike x cells ≤ length cells
-alike-within x [] = omega arith
-alike-within x (y ∷ cells) = by-test (cell_eq y x) (alike-within x cells)
-  where
-    by-test : (b : Bool) → alike x cells ≤ length cells → (if b then suc (alike x cells) else 0) ≤ suc (length cells)
-    by-test true others = omega (arith, others)
-    by-test false others = omega arith
-
 module _ (x y : CellValue) (cells : List CellValue) (i : ℕ) (within : i < length cells) (read : y ≡ get_or cells i y) where
   next-cell : drop i cells ≡ y ∷ drop (i + 1) cells
   next-cell = rw add-one (drop-cons cells i y within ∙ ap (λ z. z ∷ drop (suc i) cells) (sym read))
@@ -117,10 +108,3 @@ module _ (x y : CellValue) (cells : List CellValue) (i : ℕ) (within : i < leng
 
   pub breaks-one : cell_eq y x ≡ false → breaks x (drop i cells) ≡ suc (breaks y (drop (i + 1) cells))
   breaks-one other = ap (breaks x) next-cell ∙ ap (λ (b : Bool). if b then breaks y (drop (i + 1) cells) else suc (breaks y (drop (i + 1) cells))) other
-
-  -- a cell that is alike, and one that is not
-  pub alike-more : cell_eq y x ≡ true → alike x (drop i cells) ≡ suc (alike x (drop (i + 1) cells))
-  alike-more same = ap (alike x) next-cell ∙ ap (λ (b : Bool). if b then suc (alike x (drop (i + 1) cells)) else 0) same
-
-  pub alike-ends : cell_eq y x ≡ false → alike x (drop i cells) ≡ 0
-  alike-ends other = ap (alike x) next-cell ∙ ap (λ (b : Bool). if b then suc (alike x (drop (i + 1) cells)) else 0) other

@@ -20,10 +20,6 @@ count_after front sent count e = rw (e, length-append) (capped_sum (length front
 some_after : (rest bytes : List ℕ) → 0 < length rest → 0 < length (rest ++ bytes)
 some_after rest bytes some = omega (arith, some, length-append rest bytes)
 
-rest_keep : (failed : Bool) (held rest bytes : List ℕ) → IsRest failed held rest → IsRest failed (held ++ bytes) (rest ++ bytes)
-rest_keep false held rest bytes is = ap (λ (l : List ℕ). l ++ bytes) is
-rest_keep true held rest bytes some = some_after rest bytes some
-
 rest_lost : (failed : Bool) (held rest bytes : List ℕ) → failed ≡ true → IsRest failed held rest → IsRest failed held (rest ++ bytes)
 rest_lost false held rest bytes e is = cc
 rest_lost true held rest bytes e some = some_after rest bytes some
@@ -31,18 +27,6 @@ rest_lost true held rest bytes e some = some_after rest bytes some
 module _ {before now : Option (List ℕ)} {start faults : Faults} {all : List ℕ} {block : BlockValue} (p : Appended before start all now faults block) where
   whole_after : (bytes : List ℕ) → p.front ++ (p.rest ++ bytes) ≡ all ++ bytes
   whole_after bytes = sym (append_assoc p.front p.rest bytes) ∙ ap (λ (l : List ℕ). l ++ bytes) p.whole
-
-  -- more bytes are held
-  kept : (bytes : List ℕ) → Appended before start (all ++ bytes) now faults (record { held = block.held ++ bytes; written = block.written; failed = block.failed })
-  kept bytes = record {
-    front = p.front;
-    rest = p.rest ++ bytes;
-    whole = whole_after bytes;
-    taken = p.taken;
-    count = p.count;
-    fails = p.fails;
-    held = rest_keep block.failed block.held p.rest bytes p.held;
-  }
 
   -- after a refused put they are lost
   lost : (bytes : List ℕ) → block.failed ≡ true → Appended before start (all ++ bytes) now faults block
@@ -100,14 +84,6 @@ module _ {S : Type 0} {taken : S → Option (List ℕ)} {faults : S → Faults} 
   -- nothing is added
   pub appends_none : Appends taken faults old block [] old block
   appends_none = record { adds = λ before start all p. rw append-nil p }
-
-  -- bytes are held
-  pub appends_kept : (bytes : List ℕ) → Appends taken faults old block bytes old (record { held = block.held ++ bytes; written = block.written; failed = block.failed })
-  appends_kept bytes = record { adds = λ before start all p. kept p bytes }
-
-  -- after a refused put nothing is done, whatever the text
-  pub appends_lost : (bytes : List ℕ) → block.failed ≡ true → Appends taken faults old block bytes old block
-  appends_lost bytes failed = record { adds = λ before start all p. lost p bytes failed }
 
   -- one text after another
   pub appends_then : {a b : List ℕ} {mid now : S} {middle new : BlockValue} → Appends taken faults old block a mid middle → Appends taken faults mid middle b now new → Appends taken faults old block (a ++ b) now new

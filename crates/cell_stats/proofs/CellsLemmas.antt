@@ -1,7 +1,6 @@
 -- The lines of cells: stretch after stretch, row after row.
-use Rattle.std.proofs.Common.{◌≡◌, ℕ, zero, suc, ◌+◌, ◌-◌, ◌<◌, ◌≤◌, List, [], ◌∷◌, ◌++◌, map, replicate, true, false, not, ap, sym, ◌∙◌, arith, append_assoc, append-nil, zero-add, add-zero}
+use Rattle.std.proofs.Common.{◌≡◌, ℕ, zero, suc, ◌+◌, ◌-◌, ◌<◌, List, [], ◌∷◌, ◌++◌, map, replicate, true, false, not, ap, sym, ◌∙◌, arith, append_assoc, append-nil, zero-add, add-zero}
 use Rattle.std.proofs.lemmas.Grind.{flat_map-append}
-use Rattle.std.proofs.lemmas.List.{map-append}
 use Rattle.std.proofs.lemmas.List.Elements.{filter-append}
 use Rattle.std.specs.List.{flat_map, range_with_len}
 use Rattle.cell_core.specs.Grid.{Grid}
@@ -37,20 +36,6 @@ module _ (format : FormatValue) (maps : List Grid) (picks : List ℕ) (skip : Sk
   pub lines-stretch : (row col n : ℕ) (k : Combination) → ((j : ℕ) → j < n → combination_at maps picks row (col + j) ≡ k) → lines (map (combination_at maps picks row) (range_with_len 0 (col + n))) ≡ lines (map (combination_at maps picks row) (range_with_len 0 col)) ++ lines (replicate n k)
   lines-stretch row col n k same = ap lines (stretch (combination_at maps picks row) k col n same) ∙ lines-append (map (combination_at maps picks row) (range_with_len 0 col)) (replicate n k)
 
-  -- and the columns behind it
-  pub lines-row : (row col n cols : ℕ) (k : Combination) → ((j : ℕ) → j < n → combination_at maps picks row (col + j) ≡ k) → col + n ≤ cols → (lines (map (combination_at maps picks row) (range_with_len 0 col)) ++ lines (replicate n k)) ++ lines (map (combination_at maps picks row) (range_with_len (col + n) (cols - (col + n)))) ≡ lines (row_combinations maps picks cols row)
-  lines-row row col n cols k same most =
-      let f = combination_at maps picks row in
-      let whole : col + n + (cols - (col + n)) ≡ cols = omega (arith, most) in
-      let start : 0 + (col + n) ≡ col + n = zero-add (col + n) in
-      let behind = cols - (col + n) in
-      ap (λ (l : List ℕ). l ++ lines (map f (range_with_len (col + n) behind))) (sym (lines-stretch row col n k same))
-      ∙ sym (lines-append (map f (range_with_len 0 (col + n))) (map f (range_with_len (col + n) behind)))
-      ∙ ap lines (sym (map-append f (range_with_len 0 (col + n)) (range_with_len (col + n) behind))
-      ∙ ap (λ (s : ℕ). map f (range_with_len 0 (col + n) ++ range_with_len s behind)) (sym start)
-      ∙ ap (map f) (sym (range-append 0 (col + n) behind))
-      ∙ ap (λ (m : ℕ). map f (range_with_len 0 m)) whole)
-
   -- a row more
   pub lines-more : (cols row : ℕ) → lines (all_combinations maps picks (row + 1) cols) ≡ lines (all_combinations maps picks row cols) ++ lines (row_combinations maps picks cols row)
   lines-more cols row =
@@ -81,15 +66,3 @@ flat_map-replicate-more f n x =
     by : (n : ℕ) → flat_map f (replicate (suc n) x) ≡ flat_map f (replicate n x) ++ f x
     by zero = append-nil (f x)
     by (suc n) = ap (λ (l : List ℕ). f x ++ l) (by n) ∙ sym (append_assoc (f x) (flat_map f (replicate n x)) (f x))
-
--- and those behind it
-pub flat_map-replicate-rest : {X : Type 0} (f : X → List ℕ) (i n : ℕ) (x : X) → i < n → (flat_map f (replicate i x) ++ f x) ++ flat_map f (replicate (n - (i + 1)) x) ≡ flat_map f (replicate n x)
-flat_map-replicate-rest f i n x within =
-    let whole : i + 1 + (n - (i + 1)) ≡ n = omega (arith, within) in
-    ap (λ (l : List ℕ). l ++ flat_map f (replicate (n - (i + 1)) x)) (sym (flat_map-replicate-more f i x)) ∙ join (i + 1) (n - (i + 1)) ∙ ap (λ (m : ℕ). flat_map f (replicate m x)) whole
-  where
-    join : (a b : ℕ) → flat_map f (replicate a x) ++ flat_map f (replicate b x) ≡ flat_map f (replicate (a + b) x)
-    join zero b = ap (λ (m : ℕ). flat_map f (replicate m x)) (sym (zero-add b))
-    join (suc a) b =
-        let sum : suc (a + b) ≡ suc a + b = omega arith in
-        append_assoc (f x) (flat_map f (replicate a x)) (flat_map f (replicate b x)) ∙ ap (λ (l : List ℕ). f x ++ l) (join a b) ∙ ap (λ (m : ℕ). flat_map f (replicate m x)) sum

@@ -2,14 +2,11 @@
 use Rattle.std.proofs.Common.{◌≡◌, ℕ, zero, suc, ◌+◌, ◌<◌, ◌≤◌, length, take, replicate, [], ◌∷◌, Bool, true, false, List, cond, get_or, set, length-set, subst, ap, sym, ◌∙◌, refl, arith, add-zero, zero-add}
 use Rattle.cell_stats_counts.specs.declared.gathered.Gathered.{Gathered}
 use Rattle.std.specs.Cmp.{eq_by_cmp_equiv}
-use Rattle.std.proofs.lemmas.List.Sums.{sum_by-append, sum_by-set, get_or-le-sum_by}
+use Rattle.std.proofs.lemmas.List.Sums.{sum_by-append, sum_by-set}
 use Rattle.cell_stats_counts.specs.declared.counting.CountPlace.{CountPlace}
 use Rattle.cell_stats_combinations.specs.Combinations.{Combination, combination_cmp_total}
 use Rattle.cell_stats_counts.specs.parts.HeldPlaces.{is_same, held_by, held_of, total_of, gathered_of, IsCounting}
 use Rattle.cell_stats_combinations.proofs.OrderLemmas.{combination_cmp-exact, is_equal}
-
-pub same-flip : (a b : Combination) → is_same a b ≡ is_same b a
-same-flip a b = (eq_by_cmp_equiv combination_cmp_total).symm a b
 
 pub same-itself : (a : Combination) → is_same a a ≡ true
 same-itself a = (eq_by_cmp_equiv combination_cmp_total).refl a
@@ -20,13 +17,6 @@ same-is a b e = combination_cmp-exact a b (is_equal _ e)
 -- what a place holds of its own combination
 pub held_by-own : (w : ℕ) (k : Combination) (h : CountPlace) → k ≡ take w h.cells → held_by w k h ≡ h.count
 held_by-own w k h e = ap (λ x. cond (is_same k x) h.count 0) (sym e) ∙ ap (λ b. cond b h.count 0) (same-itself k)
-
--- a place holds no more than all places
-pub held_by-le : (w : ℕ) (k : Combination) (places : List CountPlace) (i : ℕ) (h : CountPlace) → i < length places → h ≡ get_or places i h → held_by w k h ≤ held_of w k places
-held_by-le w k places i h within read =
-    let le = get_or-le-sum_by (held_by w k) places i h within in
-    let same : held_by w k h ≡ held_by w k (get_or places i h) = ap (held_by w k) read in
-    omega (arith, le, same)
 
 -- what a place holds, of a combination that stands there
 held_by-of : (w : ℕ) (k cells : Combination) (h : CountPlace) (n : ℕ) → take w h.cells ≡ cells → h.count ≡ n → held_by w k h ≡ cond (is_same k cells) n 0

@@ -1,13 +1,13 @@
 -- Entries of one combination added up in a list in order.
 use Rattle.std.proofs.Common.{◌≡◌, ℕ, zero, suc, ◌+◌, ◌<◌, ◌≤◌, List, [], ◌∷◌, length, get_or, set, take, drop, map, cond, false, refl, ap, sym, ◌∙◌, arith, add-one, length-take, subst, ◌⊎◌, inl, inr}
-use Rattle.std.proofs.lemmas.List.{take_more, take_more_set, take-set-le, get_or-take, get_or-set_other, length-set, get_or-map, drop_all}
+use Rattle.std.proofs.lemmas.List.{take_more, take_more_set, take-set-le, get_or-take, get_or-set_other, length-set, get_or-map}
 use Rattle.std.proofs.Math.Seq.{map-set_same}
 use Rattle.std.proofs.lemmas.Bool.{cases_lt}
 use Rattle.std.proofs.lemmas.List.Elements.{All-push, All-take}
 use Rattle.std.proofs.lemmas.List.Sums.{sum_by_more, sum_by-drop_more, sum_by-take-drop, sum_by_push}
 use Rattle.std.specs.List.{SwappedAt, AllByRecursion}
 use Rattle.std.specs.List.Sorted.{IsStrictlySortedBy}
-use Rattle.std.specs.Ordering.{is_lt, is_eq, ordering_reverse, ordering_then, nat_cmp}
+use Rattle.std.specs.Ordering.{is_lt, is_eq, ordering_reverse}
 use Rattle.std.specs.declared.cmp.Ordering.{Ordering}
 use Rattle.std.specs.declared.cmp.Ordering.TheVariants.{Less, Equal, Greater}
 use Rattle.cell_stats_combinations.specs.Combinations.{Combination, combination_cmp, combination_cmp_total}
@@ -188,11 +188,6 @@ module _ (old : Counts) (rising : IsRising old) (zeros : HasNoZero old) (now : C
 -- ---- what is joined at the end
 
 module _ (old now : Counts) (last at : ℕ) (joined : IsJoined old now last at) (end : length old ≤ at) where
-  pub end-counts : (k : Combination) → listed_of k (take (last + 1) now) ≡ listed_of k old
-  end-counts k =
-      let none : listed_of k (drop at old) ≡ 0 = ap (listed_of k) (drop_all at old end) in
-      omega (arith, none, joined.counts k)
-
   pub end-ascends : IsStrictlySortedBy combination_cmp (map (λ e. e.0) (take (last + 1) now))
   end-ascends = strictly (take (last + 1) now) up
     where
@@ -203,13 +198,3 @@ module _ (old now : Counts) (last at : ℕ) (joined : IsJoined old now last at) 
           let second = get_or-take (last + 1) now (suc i) d size in
           ap (λ (x : Combination × ℕ). combination_cmp x.0 (get_or (take (last + 1) now) (suc i) d).0) first ∙ ap (λ (x : Combination × ℕ). combination_cmp (get_or now i d).0 x.0) second
           ∙ ap (λ n. combination_cmp (get_or now i d).0 (get_or now n d).0) (sym (add-one i)) ∙ joined.ascends i d (omega (arith, size))
-
--- ---- a list sorted by combinations and then by counts
-
-rises_first : (o p : Ordering) → is_lt (ordering_then o p) ≡ false → is_lt o ≡ false
-rises_first Less p e = cc
-rises_first Equal p e = refl
-rises_first Greater p e = refl
-
-pub rising-from : (es : Counts) → ((i : ℕ) (d : Combination × ℕ) → 0 ≤ i → i + 1 < length es → is_lt (ordering_then (combination_cmp (get_or es (i + 1) d).0 (get_or es i d).0) (nat_cmp (get_or es (i + 1) d).1 (get_or es i d).1)) ≡ false) → IsRising es
-rising-from es sorted i d within = rises_first _ _ (sorted i d (omega arith) within)
