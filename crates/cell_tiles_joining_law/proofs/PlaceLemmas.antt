@@ -43,7 +43,7 @@ later-order t ts order i k d less within = order (suc i) (suc k) d (omega (arith
 
 -- ---- places
 
-place-is : (ts : List ℕ) → AllPairs ◌<◌ ts → (r d : ℕ) → r < length ts → labels_before ts (get_or ts r d) ≡ r
+pub place-is : (ts : List ℕ) → AllPairs ◌<◌ ts → (r d : ℕ) → r < length ts → labels_before ts (get_or ts r d) ≡ r
 place-is [] order r d within = absurd (omega (arith, within))
 place-is (t ∷ ts) order zero d within =
     before-no t ts t (omega arith)

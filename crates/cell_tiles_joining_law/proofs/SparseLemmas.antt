@@ -23,10 +23,10 @@ use Rattle.cell_tiles_joining.specs.Bands.{HasAreas}
 use Rattle.cell_tiles_joining_law.specs.SparseLabels.{AreTouching, IsSparse, labels_before, is_touching, pair_places}
 use Rattle.cell_tiles_joining_law.specs.SparseLabels.{joined_places, label_led_to, number_among, sparse_number}
 use Rattle.cell_tiles_joining_law.specs.SparseLabels.{sparse_areas, areas_of_bands}
-use Rattle.cell_tiles_joining_law.specs.SparseLabels.{SparseLabelsNumber, SparseBandsNumber}
+use Rattle.cell_tiles_joining_law.specs.SparseLabels.{SparseLabelsNumber, SparseBandsNumber, SparsePlacesNumber}
 use Rattle.cell_tiles_joining_law.proofs.SizeLemmas.{same-answer}
 use Rattle.cell_tiles_joining_law.proofs.PlaceLemmas.{HasPlace, contained-place, touching-place, touching-at}
-use Rattle.cell_tiles_joining_law.proofs.PlaceLemmas.{next-before, before-zero, before-all, few-before}
+use Rattle.cell_tiles_joining_law.proofs.PlaceLemmas.{place-is, next-before, before-zero, before-all, few-before}
 use Rattle.cell_tiles_joining_law.proofs.PlaceLemmas.{one-place, max-at, min-at}
 
 -- ---- labels are joined as their places are
@@ -216,6 +216,27 @@ module _ (n : ℕ) (pairs : List (ℕ × ℕ)) (ts sparse : List ℕ) (touching 
           follows.stays l e
           ∙ sym (cond-false (is_touching ts l) (get_or ts (place_leads (labels_before ts l)) 0) l e)
 
+  -- the label at a place
+  place-number : (r : ℕ) → r < length ts →
+      sparse_number pairs ts sparse (get_or ts r 0)
+      ≡ (get_or ts (place_leads r) 0 - place_leads r) + label_number sparse (place_leads r)
+  place-number r within =
+      let l = get_or ts r 0 in
+      let q = place_leads r in
+      let own : labels_before ts l ≡ r = place-is ts touching.in_order r 0 within in
+      let led : label_led_to ts pairs l ≡ get_or ts q 0 =
+      cond-true (is_touching ts l) (get_or ts (place_leads (labels_before ts l)) 0) l (touching-at ts r 0 within)
+      ∙ ap (λ (i : ℕ). get_or ts (place_leads i) 0) own in
+      let there : labels_before ts (get_or ts q 0) ≡ q =
+      place-is ts touching.in_order q 0 (follows.few r within) in
+      let q_open : get_or sparse q 0 ≡ q = is.leads.tells.is_open r (omega (arith, within, is.long)) in
+      let one : one-if (is_open sparse q) ≡ 1 = ap one-if (eq-eqb (get_or sparse q 0) q q_open) in
+      let before : length (open_below sparse (labels_before ts (get_or ts q 0))) ≡ length (open_below sparse q) =
+      ap (λ (i : ℕ). length (open_below sparse i)) there in
+      let number : number_among ts sparse (get_or ts q 0) ≡ (get_or ts q 0 - q) + label_number sparse q =
+      omega (arith, open-step sparse q, one, there, before) in
+      ap (number_among ts sparse) led ∙ number
+
   contained-few : (l : ℕ) → Contains ts l → l < n
   contained-few l c = subst (λ (k : ℕ). k < n) c.2 (touching.few c.0 l c.1)
 
@@ -306,6 +327,10 @@ module _ (n : ℕ) (pairs : List (ℕ × ℕ)) (ts sparse : List ℕ) (touching 
         let whole : length (open_below full (length full)) ≡ length (open_below full n) =
         ap (λ (k : ℕ). length (open_below full k)) long in
         omega (arith, whole, count-open n (omega arith), all, there)
+
+pub sparse-places-number : SparsePlacesNumber
+sparse-places-number labels pairs ts sparse touching is place within =
+    place-number labels pairs ts sparse touching is place within
 
 pub sparse-labels-number : SparseLabelsNumber
 sparse-labels-number j m starts label_of pairs labelled ts sparse touching is =

@@ -10,7 +10,7 @@ use Rattle.cell_tiles_joining.specs.Bands.{HasAreas, JoinNumbers, JoinAreas}
 use Rattle.cell_tiles_joining.specs.Labelled.{AreLabelled}
 use Rattle.cell_tiles_joining.specs.parts.TileLabels.{LeadTo, after_all}
 use Rattle.cell_tiles_joining.specs.parts.TileMeetings.{all_meetings}
-use Rattle.cell_tiles_joining.specs.parts.LabelNumbers.{open_below}
+use Rattle.cell_tiles_joining.specs.parts.LabelNumbers.{open_below, label_number}
 
 -- some of so many labels, in their order, and among them each that is paired
 pub record AreTouching (labels : ℕ) (pairs : List (ℕ × ℕ)) (touching : List ℕ) : Type 0 where
@@ -35,6 +35,7 @@ pub record IsSparse (pairs : List (ℕ × ℕ)) (touching table : List ℕ) : Ty
   pub long : length table ≡ length touching
   pub leads : LeadTo table (joined_places touching pairs)
 
+-- whether a label is one of them
 abbrev pub is_touching : List ℕ → ℕ → Bool
 is_touching touching label = list_any (nat_eq label) touching
 
@@ -58,6 +59,16 @@ sparse_number pairs touching table label = number_among touching table (label_le
 -- how many labels lead to themselves
 abbrev pub sparse_areas : ℕ → (touching table : List ℕ) → ℕ
 sparse_areas labels touching table = (labels - length touching) + length (open_below table (length table))
+
+-- the number of the label at a place, by that of the place among the places: as many more as come before the label
+-- that it leads to and are none of them
+abbrev pub SparsePlacesNumber : Type 0
+SparsePlacesNumber = (labels : ℕ) (pairs : List (ℕ × ℕ)) (touching table : List ℕ)
+    → AreTouching labels pairs touching → IsSparse pairs touching table
+    → (place : ℕ) → place < length touching
+    → sparse_number pairs touching table (slice_index touching place)
+    ≡ (slice_index touching (joined_places touching pairs place) - joined_places touching pairs place)
+    + label_number table (joined_places touching pairs place)
 
 -- tiles of whatever shape: the number of each cell, and how many areas there are
 abbrev pub SparseLabelsNumber : Type 0

@@ -3,7 +3,7 @@
 ghost use Rattle.cell_tiles_joining_law.specs.CutLabels.{CutLabelsAreEnough};
 ghost use Rattle.cell_tiles_joining_law.specs.NumberTables.{BandTablesGiveTheWhole, NumbersAreListed};
 ghost use Rattle.cell_tiles_joining_law.specs.SizeLaw.{SizesCountCells};
-ghost use Rattle.cell_tiles_joining_law.specs.SparseLabels.{SparseBandsNumber, SparseLabelsNumber};
+ghost use Rattle.cell_tiles_joining_law.specs.SparseLabels.{SparseBandsNumber, SparseLabelsNumber, SparsePlacesNumber};
 ghost use Rattle.cell_tiles_joining_law.specs.TileSizes.{TileSizesCountCells, TileTablesGiveTheWhole};
 
 /// The sizes of the areas of bands, added up by their numbers in the whole, are the sizes of the areas of the whole:
@@ -39,6 +39,11 @@ pub fn tile_tables_give_the_whole()
 /// an area that touches none is how many others like it come before it, and how many open labels, and one.
 pub fn sparse_labels_number()
     ensures { SparseLabelsNumber }
+{}
+
+/// The number of an area that touches a cut follows from that of its place in the table.
+pub fn sparse_places_number()
+    ensures { SparsePlacesNumber }
 {}
 
 /// The same of bands: each area of each band has the number that it has in the whole.
