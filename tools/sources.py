@@ -15,6 +15,7 @@ KEYWORD = re.compile(r"requires\b|ensures\b|decreases\b|\{|;")
 CONTAINER = re.compile(r"^(impl\b[^{;]*|(?:pub )?trait [^{;]*)\{", re.MULTILINE)
 IMPORT = re.compile(r"\s*(?:pub )?(?:ghost )?use Rattle\.([^\s{}]+?)(?:\.\{(.*)\})?(?: as (\w+))?;?\s*$")
 USE = re.compile(r"\s*(?:pub )?(?:ghost )?use ")
+USE_OF_MANY_LINES = re.compile(r"^(\s*(?:pub )?(?:ghost )?use [^{}\n]*\{)([^{}]*\n[^{}]*)(\}.*)$", re.MULTILINE)
 CITED_PATH = re.compile(r"(?:crate|\w+)::(?:specs|proofs)::[\w:\-]+")
 WORD = re.compile(r"[^\s(){}\[\],;=]+")
 DEFINITION = re.compile(r"(\s*)(abbrev |unfoldable )?(pub )?([^\s:(){}]+) (?:\([^:]*\) )*: ")
@@ -98,6 +99,14 @@ class Imports:
 def crate_names(with_tests=False):
     found = sorted(it.name for it in CRATES.iterdir() if it.is_dir())
     return [name for name in found if with_tests or not OF_TESTS.match(name)]
+
+
+def with_short_imports(text):
+    """A text whose imports stand on one line each, with blank lines after them, so that the others keep their numbers."""
+    def joined(match):
+        names = ", ".join(name.strip() for name in match[2].split(",") if name.strip())
+        return match[1] + names + match[3] + "\n" * match[2].count("\n")
+    return USE_OF_MANY_LINES.sub(joined, text)
 
 
 @functools.cache
@@ -203,7 +212,7 @@ def read_functions(with_tests=False):
 
 def read_imports(text):
     found = Imports()
-    for line in text.split("\n"):
+    for line in with_short_imports(text).split("\n"):
         match = IMPORT.match(line)
         if match is None:
             continue

@@ -119,7 +119,7 @@ def cite_file(edges, crate, path, text, definitions):
     is_root = path.endswith(".rt") or path.rpartition("/")[2] in ANSWERS
     starts = {it.line: it for it in definitions}
     current = None
-    for number, line in enumerate(text.split("\n"), 1):
+    for number, line in enumerate(sources.with_short_imports(text).split("\n"), 1):
         current = None if re.match(r"\s*module ", line) else starts.get(number, current)
         if sources.is_import(line):
             continue
