@@ -196,8 +196,7 @@ read_all ts a s = subst (λ l. GrammarReads (Expression l) (Got a [])) (append-n
 
 abbrev term_of : ReadOutcome → Term
 term_of (Got a rest) = a
-term_of (GotAll xs rest) = Number 0
-term_of (Stops kind rest) = Number 0
+term_of _ = Number 0
 
 -- a list stands for no second expression
 pub one_expression : (ts : List Placed) (a b : Term) → IsExpression ts a → IsExpression ts b → a ≡ b

@@ -58,10 +58,6 @@ walks_then {R = R} {p = p} {rest = rest} w f =
       ends = subst R (sym (walk_both p w.before v.before)) v.ends;
     }
 
-walks_weaken : {Q R : Option Place → Type 0} {p : Option Place} {ts rest : List Placed}
-    → ((q : Option Place) → Q q → R q) → Walks Q p ts rest → Walks R p ts rest
-walks_weaken {p = p} f w = record { before = w.before; all = w.all; ends = f (walk p (shape w.before)) w.ends }
-
 walks_from : {Q : Option Place → Type 0} {p q : Option Place} {ts rest : List Placed} → p ≡ q → Walks Q q ts rest
     → Walks Q p ts rest
 walks_from {Q = Q} {ts = ts} {rest = rest} e w = subst (λ x. Walks Q x ts rest) (sym e) w
@@ -143,9 +139,8 @@ after_goes st None = tt
 after_goes st (Some t) = refl
 
 alone_shape : (t : Token) → IsAlone (Some t) → IsAlone (Some (shape_of t))
-alone_shape (token.Number n) h = (λ e. cc, λ e. cc)
-alone_shape (token.Name n) h = (λ e. cc, λ e. cc)
 alone_shape (token.Sign s) h = h
+alone_shape _ h = (λ e. cc, λ e. cc)
 
 named_goes : (st : List Frame) (t : Option Token) → IsAlone t → GoesAs st t (Some (Named st))
 named_goes st None h = tt
@@ -209,7 +204,7 @@ walked_closed c ts a (ASign CloseParenthesis d rest) h = λ st.
 walked_closed c ts a {rest = rest} _ h = λ st.
     let open_on = parenthesis_refused st (head rest) (λ k. cc) in
     walks_next (sign_at OpenParenthesis c)
-    (walks_weaken (λ q g _. quiet_refused (Parenthesis ∷ st) (head rest) q h.0 g open_on) (h.1 (Parenthesis ∷ st)))
+    (walks_then (h.1 (Parenthesis ∷ st)) (λ q g. walks_here (λ _. quiet_refused (Parenthesis ∷ st) (head rest) q h.0 g open_on)))
 
 none_joins : (x : Option Operator) → below_level top x ≡ None → x ≡ None
 none_joins None e = refl
@@ -222,8 +217,7 @@ quiet (s ∷ ts) e n = (none_joins (operator_of s.token) e, n)
 
 ends_whole : (ts : List Placed) (o : ReadOutcome) → IsSound (Whole top ts) o → EndsWhole o
 ends_whole ts (Got a rest) h = h.3
-ends_whole ts (GotAll xs rest) h = tt
-ends_whole ts (Stops kind rest) h = tt
+ends_whole ts _ h = tt
 
 opened_as : (st : List Frame) (t : Token) → IsNot CloseParenthesis (Some t) → step (Opened st) (shape_of t) ≡ operand_step (Argument ∷ st) (shape_of t)
 opened_as st (token.Sign CloseParenthesis) n = absurd (n refl)
@@ -270,7 +264,8 @@ walked (reading.called {name = name} {c = c} {d = d} {ts = ts} {o = GotAll xs re
         → IsWalked (Operand (opens ++ ts)) (call_judged b f xs (opens ++ ts) rest)
     go true w = λ st.
         walks_next (name_at name c)
-        (walks_next (sign_at OpenParenthesis d) (walks_weaken (λ q e. subst (GoesAs st (head rest)) (sym e) (after_goes st (head rest))) (w st)))
+        (walks_next (sign_at OpenParenthesis d)
+        (walks_then (w st) (λ q e. walks_here (subst (GoesAs st (head rest)) (sym e) (after_goes st (head rest))))))
     go false w = λ st. walks_here (λ k. absurd (let n : ⊥ = cc in n))
 walked (reading.negated {o = GotAll xs rest} r) = absurd (sound r)
 walked (reading.negated {c = c} r) = λ st. walks_next (sign_at Minus c) (walked r st)

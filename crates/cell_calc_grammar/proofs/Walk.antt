@@ -149,8 +149,7 @@ then_walk st p ts us s q l n e =
 -- an operator has no other shape
 pub operator_shape : (t : Token) → operator_of (shape_of t) ≡ operator_of t
 operator_shape (token.Number n) = refl
-operator_shape (token.Name n) = refl
-operator_shape (token.Sign s) = refl
+operator_shape _ = refl
 
 pub operator_after : (st : List Frame) (t : Token) (op : Operator) → operator_of t ≡ Some op → after_step st (shape_of t) ≡ Some (Operand st)
 operator_after st t op e = ap (joins_step st (shape_of t)) (operator_shape t ∙ e)

@@ -30,18 +30,16 @@ use Rattle.cell_calc_law.proofs.FollowLemmas.{all-mapped}
 
 then-assoc : (o p q : Ordering) → ordering_then o (ordering_then p q) ≡ ordering_then (ordering_then o p) q
 then-assoc Less p q = refl
-then-assoc Equal p q = refl
-then-assoc Greater p q = refl
+then-assoc _ p q = refl
 
 more-cmp : (k l : Combination) (v w : CellValue) → length k ≡ length l
     → combination_cmp (k ++ v ∷ []) (l ++ w ∷ [])
     ≡ ordering_then (combination_cmp k l) (ordering_then (cell_cmp v w) Equal)
 more-cmp [] [] v w same = refl
-more-cmp [] (y ∷ l) v w same = absurd (omega (arith, same))
-more-cmp (x ∷ k) [] v w same = absurd (omega (arith, same))
 more-cmp (x ∷ k) (y ∷ l) v w same =
     ap (ordering_then (cell_cmp x y)) (more-cmp k l v w (omega (arith, same)))
     ∙ then-assoc (cell_cmp x y) (combination_cmp k l) (ordering_then (cell_cmp v w) Equal)
+more-cmp _ _ v w same = absurd (omega (arith, same))
 
 module _ (given : Combination → CellValue) (wide : ℕ) where
   -- with the cell that is given behind

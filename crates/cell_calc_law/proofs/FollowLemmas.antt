@@ -4,7 +4,7 @@ use Rattle.std.specs.Prelude.{count_by}
 use Rattle.std.specs.List.{flat_map, range_with_len}
 use Rattle.std.specs.Ordering.{eq_by_cmp, is_eq, ordering_then}
 use Rattle.std.specs.declared.cmp.Ordering.{Ordering}
-use Rattle.std.specs.declared.cmp.Ordering.TheVariants.{Less, Equal, Greater}
+use Rattle.std.specs.declared.cmp.Ordering.TheVariants.{Less, Equal}
 use Rattle.std.proofs.lemmas.List.{map-append}
 use Rattle.cell_core.specs.Grid.{CellValue}
 use Rattle.cell_core_values.specs.Cell.{cell_cmp, cell_eq}
@@ -13,7 +13,8 @@ use Rattle.cell_stats_combinations.specs.Combinations.{Combination, combination_
 use Rattle.cell_stats_counts.specs.Counts.{count_of}
 use Rattle.cell_stats.proofs.TableLemmas.{count_cons}
 use Rattle.cell_calc_law.specs.LocalLaw.{cells_alone, cells_of_shelf, CountsFollow}
-use Rattle.cell_calc_law.proofs.TallyLemmas.{sum-cons, table-counts}
+use Rattle.cell_calc_law.proofs.TallyLemmas.{table-counts}
+use Rattle.cell_tiles_law.proofs.SumLemmas.{sum-cons}
 
 -- ---- combinations of all cells, each by a function of others
 
@@ -46,8 +47,7 @@ one-eq v w = by (cell_cmp v w)
   where
     by : (o : Ordering) → is_eq (ordering_then o Equal) ≡ is_eq o
     by Less = refl
-    by Equal = refl
-    by Greater = refl
+    by _ = refl
 
 count-mapped : (given : Combination → CellValue) (v : CellValue) (cells : List Combination)
     → count_of (v ∷ []) (map (λ k. given k ∷ []) cells) ≡ count_by (λ k. cell_eq v (given k)) cells

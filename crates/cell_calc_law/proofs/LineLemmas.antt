@@ -2,40 +2,15 @@
 use Rattle.std.proofs.Common.{◌≡◌, ℕ, zero, suc, ℤ, pos, negsuc, ◌+◌, ◌-◌, ◌<◌, ◌≤◌, ◌+ℤ◌, cond}
 use Rattle.std.proofs.Common.{refl, ap, sym, ◌∙◌, arith, zero-add, add-zero}
 use Rattle.std.proofs.Math.IntN.{sub_ℕ}
-use Rattle.std.proofs.lemmas.Bool.{le-ltb, lt-ltb}
-
--- the sum of so many terms, from the a-th on
-abbrev pub line : (ℕ → ℕ) → ℕ → ℕ → ℕ
-line g a zero = 0
-line g a (suc n) = g a + line g (a + 1) n
-
-pub line-same : (g h : ℕ → ℕ) (a n : ℕ) → ((i : ℕ) → a ≤ i → i < a + n → g i ≡ h i) → line g a n ≡ line h a n
-line-same g h a zero same = refl
-line-same g h a (suc n) same =
-    let first : g a ≡ h a = same a (omega arith) (omega arith) in
-    omega (arith, first, line-same g h (a + 1) n (λ i le lt. same i (omega arith) (omega arith)))
+use Rattle.std.proofs.lemmas.Bool.{lt-ltb}
+use Rattle.cell_tiles_law.proofs.HaloLemmas.{sub-pos}
+use Rattle.cell_tiles_law.proofs.SumLemmas.{line, line-same, line-none, line-cut}
 
 pub line-most : (g h : ℕ → ℕ) (a n : ℕ) → ((i : ℕ) → a ≤ i → i < a + n → g i ≤ h i) → line g a n ≤ line h a n
 line-most g h a zero most = omega arith
 line-most g h a (suc n) most =
     let first : g a ≤ h a = most a (omega arith) (omega arith) in
     omega (arith, first, line-most g h (a + 1) n (λ i le lt. most i (omega arith) (omega arith)))
-
-line-none : (g : ℕ → ℕ) (a n : ℕ) → ((i : ℕ) → a ≤ i → i < a + n → g i ≡ 0) → line g a n ≡ 0
-line-none g a zero none = refl
-line-none g a (suc n) none =
-    let first : g a ≡ 0 = none a (omega arith) (omega arith) in
-    omega (arith, first, line-none g (a + 1) n (λ i le lt. none i (omega arith) (omega arith)))
-
-line-cut : (g : ℕ → ℕ) (a n m : ℕ) → line g a (n + m) ≡ line g a n + line g (a + n) m
-line-cut g a zero m =
-    ap (line g a) (zero-add m) ∙ ap (λ b. line g b m) (sym (add-zero a)) ∙ sym (zero-add (line g (a + 0) m))
-line-cut g a (suc n) m =
-    let more : suc n + m ≡ suc (n + m) = omega arith in
-    let on : line g (a + 1 + n) m ≡ line g (a + suc n) m =
-    let e : a + 1 + n ≡ a + suc n = omega arith in ap (λ b. line g b m) e in
-    let whole : line g a (suc n + m) ≡ line g a (suc (n + m)) = ap (line g a) more in
-    omega (arith, whole, line-cut g (a + 1) n m, on)
 
 line-moved : (g h : ℕ → ℕ) (a b n : ℕ) → ((i : ℕ) → g (a + i) ≡ h (b + i)) → line g a n ≡ line h b n
 line-moved g h a b zero same = refl
@@ -49,9 +24,6 @@ line-moved g h a b (suc n) same =
           let right : b + suc i ≡ b + 1 + i = omega arith in
           ap g left ∙ same (suc i) ∙ ap h right),
     )
-
-sub-pos : (p n : ℕ) → suc n ≤ p → sub_ℕ p (suc n) ≡ pos (p - suc n)
-sub-pos p n le = ap (λ b. cond b (negsuc (suc n - suc p)) (pos (p - suc n))) (le-ltb p (suc n) le)
 
 sub-neg : (p n : ℕ) → p < suc n → sub_ℕ p (suc n) ≡ negsuc (suc n - suc p)
 sub-neg p n lt = ap (λ b. cond b (negsuc (suc n - suc p)) (pos (p - suc n))) (lt-ltb p (suc n) lt)
@@ -95,7 +67,3 @@ pub total-same : (f h : ℕ → ℕ → ℕ) (rows cols : ℕ)
 total-same f h rows cols same =
     line-same (λ row. line (f row) 0 cols) (λ row. line (h row) 0 cols) 0 rows (λ row _ row_lt.
     line-same (f row) (h row) 0 cols (λ col _ col_lt. same row col (omega (arith, row_lt)) (omega (arith, col_lt))))
-
-pub none-line : (g : ℕ → ℕ) (a n : ℕ) → ((i : ℕ) → g i ≡ 0) → line g a n ≡ 0
-none-line g a zero none = refl
-none-line g a (suc n) none = omega (arith, none a, none-line g (a + 1) n none)

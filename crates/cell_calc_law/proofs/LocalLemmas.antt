@@ -35,9 +35,8 @@ value-here maps place down right s no_rows no_cols =
 -- ---- the cell of a place in a combination
 
 abbrev picked : List ℕ → Combination → ℕ → CellValue
-picked [] k place = None
-picked (p ∷ picks) [] place = None
 picked (p ∷ picks) (c ∷ k) place = cond (eqb p place) c (picked picks k place)
+picked _ _ place = None
 
 contains-rest : (p place : ℕ) (picks : List ℕ) → Contains (p ∷ picks) place → (p ≡ place) ⊎ Contains picks place
 contains-rest p place picks (zero, within, is) = inl is
@@ -90,10 +89,7 @@ abbrev mutual
 call-anywhere : (f : Function) (s t : Spot) (xs : List CellValue) → asks_where f ≡ false
     → call_result f s xs ≡ call_result f t xs
 call-anywhere function.Row s t xs e = cc
-call-anywhere function.Column s t xs e = cc
-call-anywhere function.RowCount s t xs e = cc
-call-anywhere function.ColumnCount s t xs e = cc
-call-anywhere f s t xs e = refl
+call-anywhere _ s t xs e = cc
 
 module _ (picks : List ℕ) (maps : List Grid) (s : Spot) where
   abbrev k : Combination

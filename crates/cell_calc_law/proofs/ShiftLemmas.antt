@@ -1,8 +1,8 @@
 -- Maps at offsets: what they read, and how many cells they have.
-use Rattle.std.proofs.Common.{◌≡◌, ℕ, zero, suc, ℤ, pos, negsuc, ◌+◌, ◌≤◌, ◌+ℤ◌, List, [], ◌∷◌, ◌++◌, map, length}
+use Rattle.std.proofs.Common.{◌≡◌, ℕ, zero, suc, ℤ, pos, negsuc, ◌≤◌, ◌+ℤ◌, List, [], ◌∷◌, ◌++◌, map, length}
 use Rattle.std.proofs.Common.{get_or, Option, Some, None, All, cond, refl, ap, sym, ◌∙◌, arith, inl, inr, ⊎_elim, ◌⊎◌}
 use Rattle.std.specs.Prelude.{slice_get}
-use Rattle.std.specs.List.{flat_map, range_with_len}
+use Rattle.std.specs.List.{range_with_len}
 use Rattle.std.specs.Option.{option_map_or}
 use Rattle.std.specs.Ordering.{eq_by_cmp}
 use Rattle.std.proofs.Math.IntN.{+ℤ_assoc, +ℤ_comm}
@@ -11,13 +11,12 @@ use Rattle.std.proofs.lemmas.List.{get_or_past}
 use Rattle.cell_core_values.specs.Region.{RegionValue}
 use Rattle.cell_core.specs.Grid.{Grid, CellValue, IsFilled, cell_at}
 use Rattle.cell_calc_operators.specs.Offsets.{item_at, cell_in, cell_at_offset, row_of}
-use Rattle.cell_stats.proofs.TableLemmas.{count_cons}
 use Rattle.cell_stats_combinations.specs.Combinations.{Combination, combination_cmp, combination_at, all_combinations}
-use Rattle.cell_stats_counts.proofs.WalkLemmas.{count-append}
 use Rattle.cell_stats_counts.specs.Counts.{count_of}
 use Rattle.cell_calc_law.specs.LocalLaw.{cells_alone, cells_of_shelf}
 use Rattle.cell_calc_law.specs.ShiftLaw.{ShiftsAddUp, NullBeyondTheEdge, ShiftsOnlyLose}
-use Rattle.cell_calc_law.proofs.LineLemmas.{line, line-same, line-most, line-shifted, total, total-same, none-line}
+use Rattle.cell_calc_law.proofs.LineLemmas.{line-most, line-shifted, total, total-same}
+use Rattle.cell_tiles_law.proofs.SumLemmas.{line, line-same, line-none, count-line, count-lines}
 
 -- ---- offsets add up
 
@@ -99,20 +98,6 @@ null-beyond-the-edge shelf place a b x all are row col row_lt col_lt far = are.c
 
 -- ---- counts of a shifted map
 
-count-line : (f : ℕ → Combination) (k : Combination) (a n : ℕ)
-    → count_of k (map f (range_with_len a n)) ≡ line (λ i. cond (eq_by_cmp combination_cmp k (f i)) 1 0) a n
-count-line f k a zero = refl
-count-line f k a (suc n) =
-    count_cons k (f a) (map f (range_with_len (a + 1) n))
-    ∙ ap (λ m. cond (eq_by_cmp combination_cmp k (f a)) 1 0 + m) (count-line f k (a + 1) n)
-
-count-lines : (f : ℕ → List Combination) (k : Combination) (a n : ℕ)
-    → count_of k (flat_map f (range_with_len a n)) ≡ line (λ i. count_of k (f i)) a n
-count-lines f k a zero = refl
-count-lines f k a (suc n) =
-    count-append k (f a) (flat_map f (range_with_len (a + 1) n))
-    ∙ ap (λ m. count_of k (f a) + m) (count-lines f k (a + 1) n)
-
 -- 1 where a combination is the one
 abbrev is-one : Combination → Combination → ℕ
 is-one k l = cond (eq_by_cmp combination_cmp k l) 1 0
@@ -153,7 +138,7 @@ module _ (category : ℤ) (region : RegionValue) (o : Option Grid) (fills : Fill
   row-none : (b r : ℤ) → ((to : ℕ) → r ≡ pos to → region.rows ≤ to)
       → line (λ col. at r (pos col +ℤ b)) 0 region.cols ≡ 0
   row-none b r far =
-      none-line (λ col. at r (pos col +ℤ b)) 0 region.cols (λ col.
+      line-none (λ col. at r (pos col +ℤ b)) 0 region.cols (λ col _ _.
       ap (has category) (row-beyond region o fills r (pos col +ℤ b) far))
 
   rows-shifted : (a b : ℤ)

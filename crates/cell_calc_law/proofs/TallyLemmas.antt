@@ -4,10 +4,9 @@ use Rattle.std.proofs.Common.{Bool, true, false, cond, refl, ap, sym, subst, ◌
 use Rattle.std.specs.Prelude.{sum_by, count_by}
 use Rattle.std.specs.Ordering.{eq_by_cmp, is_eq, ordering_reverse}
 use Rattle.std.specs.declared.cmp.Ordering.{Ordering}
-use Rattle.std.specs.declared.cmp.Ordering.TheVariants.{Less, Equal, Greater}
+use Rattle.std.specs.declared.cmp.Ordering.TheVariants.{Less}
 use Rattle.std.specs.Cmp.{tied_itself}
 use Rattle.std.specs.FinMap.Entries.{find, is_sorted, below_all}
-use Rattle.std.proofs.lemmas.List.Sums.{sum_by-append}
 use Rattle.cell_stats_combinations.specs.declared.skip.Skip.TheVariants.{Nothing}
 use Rattle.cell_stats_combinations.specs.Combinations.{Combination, combination_cmp}
 use Rattle.cell_stats_combinations.specs.LeftOut.{kept_cells}
@@ -15,6 +14,7 @@ use Rattle.cell_stats_combinations.proofs.OrderLemmas.{combination_cmp-total, co
 use Rattle.cell_stats_counts.specs.Counts.{count_of}
 use Rattle.cell_stats.specs.CategoryTables.{Pairs, table_of}
 use Rattle.cell_stats.proofs.SortedLemmas.{both_true, is_less}
+use Rattle.cell_tiles_law.proofs.SumLemmas.{sum-cons}
 use Rattle.cell_stats.proofs.TableLemmas.{IsTally, IsFound-from, counts_of-IsTally, count_cons, found}
 
 pub kept-nothing : (cells : List Combination) → kept_cells Nothing cells ≡ cells
@@ -32,16 +32,12 @@ whole-tally cells =
 abbrev mark : Combination → Combination × ℕ → ℕ
 mark k e = cond (eq_by_cmp combination_cmp e.0 k) 1 0
 
-pub sum-cons : {X : Type 0} (f : X → ℕ) (x : X) (xs : List X) → sum_by f (x ∷ xs) ≡ f x + sum_by f xs
-sum-cons f x xs = sum_by-append f (x ∷ []) xs ∙ ap (λ n. n + sum_by f xs) (zero-add (f x))
-
 eq-swap : (a b : Combination) → eq_by_cmp combination_cmp a b ≡ eq_by_cmp combination_cmp b a
 eq-swap a b = ap is_eq (combination_cmp-total.antisymm a b) ∙ reversed (combination_cmp b a)
   where
     reversed : (o : Ordering) → is_eq (ordering_reverse o) ≡ is_eq o
     reversed Less = refl
-    reversed Equal = refl
-    reversed Greater = refl
+    reversed _ = refl
 
 mark-none : (k : Combination) (es : Pairs) → below_all combination_cmp k es ≡ true → sum_by (mark k) es ≡ 0
 mark-none k [] below = refl

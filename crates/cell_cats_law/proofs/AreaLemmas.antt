@@ -30,6 +30,7 @@ use Rattle.std.proofs.Common.{
   arith,
 }
 use Rattle.std.specs.Prelude.{Contains}
+use Rattle.std.proofs.Math.Bool.{and-false}
 use Rattle.std.specs.Ordering.{eq_by_cmp, is_eq}
 use Rattle.std.specs.Cmp.{tied_itself}
 use Rattle.cell_core.specs.Grid.{Grid, CellValue, IsFilled}
@@ -37,11 +38,13 @@ use Rattle.cell_cats_areas.specs.declared.clump.Joining.{Joining}
 use Rattle.cell_cats_areas.specs.Areas.{Position, cell_at_spot, IsClumping}
 use Rattle.cell_cats_areas.proofs.PathLemmas.{AreJoined-first, AreJoined-last}
 use Rattle.cell_stats_combinations.specs.declared.skip.Skip.{Skip}
-use Rattle.cell_stats_combinations.specs.declared.skip.Skip.TheVariants.{Nothing, AnyNull, AllNull}
+use Rattle.cell_stats_combinations.specs.declared.skip.Skip.TheVariants.{Nothing}
 use Rattle.cell_stats_combinations.specs.Combinations.{Combination, combination_cmp, combination_cmp_total}
 use Rattle.cell_stats_combinations.specs.LeftOut.{is_left_out}
 use Rattle.cell_stats_combinations.proofs.OrderLemmas.{combination_cmp-exact, is_equal}
 use Rattle.cell_stats.specs.CategoryTables.{Pairs, IsTable}
+use Rattle.cell_cats_areas.proofs.MeetingLemmas.{some_of}
+use Rattle.cell_tiles_law.proofs.AreaLemmas.{is-some}
 use Rattle.cell_stats_law.proofs.CountLemmas.{counts-same, counted-cell, entry-at, table-sums}
 use Rattle.cell_cats_law.specs.AreaLaw.{
   NumbersHaveOneCategory,
@@ -52,14 +55,6 @@ use Rattle.cell_cats_law.specs.AreaLaw.{
 }
 
 -- ---- cells that are not null
-
-pub some-is : (c : CellValue) → IsSome c → (v : ℤ) × (c ≡ Some v)
-some-is None h = cc
-some-is (Some v) h = (v, refl)
-
-pub is-some : (c : CellValue) (v : ℤ) → c ≡ Some v → IsSome c
-is-some None v e = cc
-is-some (Some w) v e = refl
 
 -- a cell with a number is not null in the map
 pub some-below : (j : Joining) (m numbers : Grid) → IsClumping j m numbers → (p : Position) (v : ℤ) →
@@ -157,12 +152,7 @@ entries-are-whole j m numbers is skip rows cols table is_table category number n
 -- an entry of a category and its number is left out by no rule
 kept-number : (skip : Skip) (v n : ℤ) → is_left_out skip (Some v ∷ Some n ∷ []) ≡ false
 kept-number Nothing v n = refl
-kept-number AnyNull v n = refl
-kept-number AllNull v n = refl
-
-either-false : (b : Bool) → (b && false) ≡ false
-either-false true = refl
-either-false false = refl
+kept-number _ v n = refl
 
 module _ (j : Joining) (m numbers : Grid) (is : IsClumping j m numbers) (skip : Skip) (category : ℤ) where
   abbrev is-of : Position → Bool
@@ -173,7 +163,7 @@ module _ (j : Joining) (m numbers : Grid) (is : IsClumping j m numbers) (skip : 
 
   -- no cell of the category is left out
   kept-of : (q : Position) (b : Bool) → is-of q ≡ b → (not (is-left q) && is-of q) ≡ is-of q
-  kept-of q false e = ap (λ b. not (is-left q) && b) e ∙ either-false (not (is-left q)) ∙ sym e
+  kept-of q false e = ap (λ b. not (is-left q) && b) e ∙ and-false (not (is-left q)) ∙ sym e
   kept-of q true e =
       let same = combination_cmp-exact (Some category ∷ []) (cell_at_spot m q ∷ []) (is_equal _ e) in
       let here : cell_at_spot m q ≡ Some category = sym (ap first-cell same) in
@@ -222,7 +212,7 @@ no-area-is-empty j m numbers is filled skip table is_table category last size st
     let same : all.0 ≡ last = let e = sym all.1 ∙ p.second in cc in
     let occurs = all.3 number least (omega (arith, most, same)) in
     let q = occurs.0 in
-    let v = some-is (cell_at_spot m q) (some-below j m numbers is q (pos number) occurs.1) in
+    let v = some_of (cell_at_spot m q) (some-below j m numbers is q (pos number) occurs.1) in
     let k : Combination = Some v.0 ∷ Some (pos number) ∷ [] in
     let is_k : k ≡ cell_at_spot m q ∷ cell_at_spot numbers q ∷ [] = λ i. sym v.1 i ∷ sym occurs.1 i ∷ [] in
     let inside = in-region numbers filled q (pos number) occurs.1 in

@@ -1,13 +1,15 @@
 -- What a path by edges joins, one by edges and corners joins.
-use Rattle.std.proofs.Common.{◌≡◌, ℕ, pos, ◌≤◌, [], ◌∷◌, List, Some, None, sym, ◌∙◌, arith, subst, inl, inr, ⊎_elim}
+use Rattle.std.proofs.Common.{◌≡◌, ℕ, pos, ◌≤◌, [], ◌∷◌, List, Some, None, sym, ◌∙◌, arith, subst, inl, ⊎_elim}
 use Rattle.cell_core.specs.Grid.{Grid, CellValue}
 use Rattle.cell_cats_areas.specs.declared.clump.Joining.TheVariants.{Edges, EdgesAndCorners}
 use Rattle.cell_cats_areas.specs.Areas.{Position, cell_at_spot, IsEarlierCell, LeadsTo, AreJoined, IsFirst, HasNumber}
 use Rattle.cell_cats_areas.proofs.PathLemmas.{AreJoined-sym, AreJoined-trans}
 use Rattle.cell_cats_areas.proofs.LawLemmas.{cases_before, within_le}
 use Rattle.cell_cats_areas.proofs.CountLemmas.{no_number_is_left_out}
+use Rattle.cell_cats_areas.proofs.MeetingLemmas.{some_of}
+use Rattle.cell_tiles_law.proofs.AreaLemmas.{before-then, is-some}
 use Rattle.cell_cats_law.specs.CornerLaw.{CornersOnlyJoin, NumbersOnlyFall, CornersAddNoArea, OneByCorners}
-use Rattle.cell_cats_law.proofs.AreaLemmas.{is-some, some-is, some-below, none-below, stands-at}
+use Rattle.cell_cats_law.proofs.AreaLemmas.{some-below, none-below, stands-at}
 
 widen-leads : (p : Position) (others : List Position) (q : Position) → LeadsTo Edges p others q →
     LeadsTo EdgesAndCorners p others q
@@ -24,18 +26,12 @@ widen m p q h = record {
 
 pub corners-only-join : CornersOnlyJoin
 corners-only-join m edges corners both p q some same =
-    let v = some-is (cell_at_spot edges p) some in
+    let v = some_of (cell_at_spot edges p) some in
     let here = some-below Edges m edges both.by_edges p v.0 v.1 in
     let there = some-below Edges m edges both.by_edges q v.0 (sym same ∙ v.1) in
     (both.by_corners.same p q here there).1 (widen m p q ((both.by_edges.same p q here there).0 same))
 
 -- ---- numbers
-
-pub earlier-trans : (p q r : Position) → IsEarlierCell p q → IsEarlierCell q r → IsEarlierCell p r
-earlier-trans p q r (inl a) (inl b) = inl (omega (arith, a, b))
-earlier-trans p q r (inl a) (inr b) = inl (omega (arith, a, b.0))
-earlier-trans p q r (inr a) (inl b) = inl (omega (arith, a.0, b))
-earlier-trans p q r (inr a) (inr b) = inr (a.0 ∙ b.0, omega (arith, a.1, b.1))
 
 -- a first cell by corners is one by edges
 first-by-edges : (m : Grid) (p : Position) → IsFirst EdgesAndCorners m p → IsFirst Edges m p
@@ -58,7 +54,7 @@ module _ (m : Grid) (p : Position) (n k : ℕ) (by_edges : HasNumber Edges m p n
       ⊎_elim
       (λ same. not_behind (subst (λ (s : Position). IsEarlierCell s q) (sym same) behind))
       (λ apart.
-      ⊎_elim (λ before. not_behind (earlier-trans by_corners.first by_edges.first q before behind)) not-later apart)
+      ⊎_elim (λ before. not_behind (before-then by_corners.first by_edges.first q before behind)) not-later apart)
       (cases_before by_corners.first by_edges.first)
 
   no-greater : k ≤ n

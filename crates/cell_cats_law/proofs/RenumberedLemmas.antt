@@ -47,8 +47,9 @@ use Rattle.cell_cats_areas.specs.Areas.{
 use Rattle.cell_cats_areas.proofs.PathLemmas.{AreJoined-first, AreJoined-last, AreJoined-sym, AreJoined-trans}
 use Rattle.cell_cats_areas.proofs.LawLemmas.{IsBefore-asym, cases_before, within_le}
 use Rattle.cell_cats_law.specs.AreaLaw.{IsWithout, NumbersCloseUp}
-use Rattle.cell_cats_law.proofs.AreaLemmas.{is-some, some-is, some-below}
-use Rattle.cell_cats_law.proofs.CornerLemmas.{earlier-trans}
+use Rattle.cell_cats_areas.proofs.MeetingLemmas.{some_of}
+use Rattle.cell_tiles_law.proofs.AreaLemmas.{before-then, is-some}
+use Rattle.cell_cats_law.proofs.AreaLemmas.{some-below}
 use Rattle.cell_cats_law.proofs.WithoutLemmas.{gone, kept-cell, stays-some, some-before, joined-before, joined-after}
 
 -- of one area there is one first cell
@@ -65,7 +66,7 @@ not-after-trans : (f g s : Position) → ¬ IsEarlierCell f g → ¬ IsEarlierCe
 not-after-trans f g s one two before =
     ⊎_elim
     (λ same. two (subst (λ (x : Position). IsEarlierCell x s) (sym same) before))
-    (λ apart. ⊎_elim (λ earlier. two (earlier-trans g f s earlier before)) one apart)
+    (λ apart. ⊎_elim (λ earlier. two (before-then g f s earlier before)) one apart)
     (cases_before g f)
 
 -- up to a cell that comes no later there are no more first cells
@@ -130,7 +131,7 @@ module _ (j : Joining) (m numbers : Grid) (is : IsClumping j m numbers) (number 
 
   first-stays : (q : Position) → IsFirst j m q → goes q ≡ false → IsFirst j less q
   first-stays q first stays =
-      let v = some-is (cell_at_spot m q) first.category in record {
+      let v = some_of (cell_at_spot m q) first.category in record {
         category = is-some (cell_at_spot less q) v.0 (kept-cell j m numbers is (pos number) less without q stays ∙ v.1);
         none_before = λ s before joined.
             first.none_before s before (joined-before j m numbers is (pos number) less without s q joined);
@@ -138,7 +139,7 @@ module _ (j : Joining) (m numbers : Grid) (is : IsClumping j m numbers) (number 
 
   first-was : (q : Position) → IsFirst j less q → IsFirst j m q × (goes q ≡ false)
   first-was q first =
-      let v = some-is (cell_at_spot less q) first.category in
+      let v = some_of (cell_at_spot less q) first.category in
       let stays = stays-some j m numbers is (pos number) less without q v.0 v.1 in (
         record {
           category = is-some (cell_at_spot m q) v.0 (some-before j m numbers is (pos number) less without q v.0 v.1);
@@ -265,7 +266,7 @@ numbers-close-up j m numbers is number occurs less renumbered without is_less p 
     let same_number : area.0 ≡ number = let e = sym area.2 ∙ occurs.1 in cc in
     let h : HasNumber j m p n = subst (λ (x : ℕ). HasNumber j m p x) same_n was.1 in
     let g : HasNumber j m c number = subst (λ (x : ℕ). HasNumber j m c x) same_number area.1 in
-    let v = some-is (cell_at_spot m p) some in
+    let v = some_of (cell_at_spot m p) some in
     let left = λ (stays : goes j m numbers is number less without p ≡ false).
     is-some (cell_at_spot less p) v.0 (kept-cell j m numbers is (pos number) less without p stays ∙ v.1) in (
       λ lt.

@@ -30,7 +30,9 @@ use Rattle.cell_cats_areas.proofs.PathLemmas.{AreJoined-adjacent}
 use Rattle.cell_stats_combinations.specs.Combinations.{combination_cmp}
 use Rattle.cell_stats_law.proofs.CountLemmas.{counts-same}
 use Rattle.cell_cats_law.specs.AreaLaw.{IsWithout, OtherAreasStay, OtherAreasKeepTheirSize}
-use Rattle.cell_cats_law.proofs.AreaLemmas.{is-some, some-is, some-below, first-cell, tests-same}
+use Rattle.cell_cats_areas.proofs.MeetingLemmas.{some_of}
+use Rattle.cell_tiles_law.proofs.AreaLemmas.{is-some}
+use Rattle.cell_cats_law.proofs.AreaLemmas.{some-below, first-cell, tests-same}
 
 module _ (j : Joining) (m numbers : Grid) (is : IsClumping j m numbers) (number : ℤ) (less : Grid)
     (without : IsWithout m numbers number less) where
@@ -101,8 +103,8 @@ module _ (j : Joining) (m numbers : Grid) (is : IsClumping j m numbers) (number 
     pub others-stay : (p q : Position) → IsSome (cell_at_spot less p) → IsSome (cell_at_spot less q) →
         (cell_at_spot renumbered p ≡ cell_at_spot renumbered q) ↔ (cell_at_spot numbers p ≡ cell_at_spot numbers q)
     others-stay p q some_p some_q =
-        let v = some-is (cell_at_spot less p) some_p in
-        let w = some-is (cell_at_spot less q) some_q in
+        let v = some_of (cell_at_spot less p) some_p in
+        let w = some_of (cell_at_spot less q) some_q in
         let was_p = is-some (cell_at_spot m p) v.0 (some-before p v.0 v.1) in
         let was_q = is-some (cell_at_spot m q) w.0 (some-before q w.0 w.1) in (
           λ now. (is.same p q was_p was_q).1 (joined-before p q ((is_less.same p q some_p some_q).0 now)),
@@ -114,7 +116,7 @@ module _ (j : Joining) (m numbers : Grid) (is : IsClumping j m numbers) (number 
     left-over : (p : Position) (was : ℤ) → was ≢ number → cell_at_spot numbers p ≡ Some was →
         IsSome (cell_at_spot less p)
     left-over p was other here =
-        let v = some-is (cell_at_spot m p) (some-below j m numbers is p was here) in
+        let v = some_of (cell_at_spot m p) (some-below j m numbers is p was here) in
         is-some (cell_at_spot less p) v.0 (kept-cell p (by (gone p) refl) ∙ v.1)
       where
         by : (b : Bool) → gone p ≡ b → b ≡ false

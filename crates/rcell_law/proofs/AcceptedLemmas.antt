@@ -22,11 +22,9 @@ use Rattle.rcell_law.proofs.ExistLemmas.{HasMaps, CanMake, CanMakeAll, executes_
 
 -- a line that spells a command names a known map
 spelled_can : (known : List (List ℕ)) (line : List ℕ) (c : Command) → SpellsCommand known line c → CanMake known c
-spelled_can known line (Mapcalc target bound) h = tt
 spelled_can known line (Reclass place target rules) h = absurd h
 spelled_can known line (Clump place target joining) h = place_of-within h.maps.input known place h.maps.read
-spelled_can known line (Stats places options) h = tt
-spelled_can known line (OutAscii place null_text) h = tt
+spelled_can known line _ h = tt
 
 group_can : (known : List (List ℕ)) (lines : List ScriptLine) (statements : List Statement)
     → Group known lines statements
@@ -47,19 +45,17 @@ script_can known text statements is = group_can known (numbered_lines 1 (script_
 
 all_filled : (grids : List Named) (maps : List Grid) → AllDenote grids maps → All (λ m. IsFilled m.region m.rows) maps
 all_filled [] [] denote = All-nil (λ m. IsFilled m.region m.rows)
-all_filled [] (m ∷ maps) denote = absurd denote
-all_filled (g ∷ grids) [] denote = absurd denote
 all_filled (g ∷ grids) (m ∷ maps) denote =
     let h : Denotes g.1 m = denote.0 in
     All-cons (λ m. IsFilled m.region m.rows) m maps
     (subst (λ (e : RegionValue). IsFilled e m.rows) (sym h.region) h.cells.shape)
     (all_filled grids maps denote.1)
+all_filled _ _ denote = absurd denote
 
 pub as_many : (grids : List Named) (maps : List Grid) → AllDenote grids maps → length grids ≡ length maps
 as_many [] [] denote = refl
-as_many [] (m ∷ maps) denote = absurd denote
-as_many (g ∷ grids) [] denote = absurd denote
 as_many (g ∷ grids) (m ∷ maps) denote = ap suc (as_many grids maps denote.1)
+as_many _ _ denote = absurd denote
 
 both : (region : RegionValue) (maps : List Grid) → All (λ m. m.region ≡ region) maps → All
     (λ m. IsFilled m.region m.rows) maps → All (λ m. (m.region ≡ region) × IsFilled m.region m.rows) maps

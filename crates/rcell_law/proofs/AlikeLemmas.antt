@@ -85,11 +85,9 @@ module _ (a b : ShelfValue) (alike : AreAlike a b) where
       ∙ sym (grid_text_bare null_text b.maps place)
 
   same_text : (c : Command) → prints_labels c ≡ false → command_text a c ≡ command_text b c
-  same_text (Mapcalc target bound) none = refl
-  same_text (Reclass place target rules) none = refl
-  same_text (Clump place target joining) none = refl
   same_text (Stats places options) none = same_stats places options none
   same_text (OutAscii place null_text) none = same_grid_text place null_text
+  same_text _ none = refl
 
 -- ---- areas read no labels
 

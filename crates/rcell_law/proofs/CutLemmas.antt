@@ -71,16 +71,14 @@ bare_denotes c m h = record {
 all_denote_bare : (grids : List Named) (maps : List Grid) → AllDenote grids maps → AllDenote grids
     (map without_labels maps)
 all_denote_bare [] [] h = tt
-all_denote_bare [] (m ∷ maps) h = absurd h
-all_denote_bare (g ∷ grids) [] h = absurd h
 all_denote_bare (g ∷ grids) (m ∷ maps) h = (bare_denotes g.1 m h.0, all_denote_bare grids maps h.1)
+all_denote_bare _ _ h = absurd h
 
 all_denote_both : (grids others : List Named) (maps more : List Grid) → AllDenote grids maps → AllDenote others more
     → AllDenote (grids ++ others) (maps ++ more)
 all_denote_both [] others [] more h k = k
-all_denote_both [] others (m ∷ maps) more h k = absurd h
-all_denote_both (g ∷ grids) others [] more h k = absurd h
 all_denote_both (g ∷ grids) others (m ∷ maps) more h k = (h.0, all_denote_both grids others maps more h.1 k)
+all_denote_both _ others _ more h k = absurd h
 
 behind_there : (front back : List Grid) (i : ℕ) → slice_get (front ++ back) (length front + i) ≡ slice_get back i
 behind_there [] back i = let e : 0 + i ≡ i = omega arith in ap (slice_get back) e

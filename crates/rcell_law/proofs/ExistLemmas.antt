@@ -87,11 +87,9 @@ map_there shelf place h lt =
 
 -- where a command reads a map to make another of it, the map is known
 abbrev pub CanMake : List (List ℕ) → Command → Type 0
-CanMake known (Mapcalc target bound) = Unit {0}
 CanMake known (Reclass place target rules) = place < length known
 CanMake known (Clump place target joining) = place < length known
-CanMake known (Stats places options) = Unit {0}
-CanMake known (OutAscii place null_text) = Unit {0}
+CanMake known _ = Unit {0}
 
 abbrev pub CanMakeAll : List (List ℕ) → List Statement → Type 0
 CanMakeAll known [] = Unit {0}
@@ -157,11 +155,9 @@ executes_somehow (s ∷ ss) shelf h can =
     (command_text shelf s.command ++ rest.0, (rest.1.0, (next.after, (rest.0, (next.is_after, (rest.1.1, refl))))))
 
 fits_can : (known : List (List ℕ)) (c : Command) → FitsCommand known c → CanMake known c
-fits_can known (Mapcalc target bound) h = tt
 fits_can known (Reclass place target rules) h = h.0
 fits_can known (Clump place target joining) h = h.0
-fits_can known (Stats places options) h = tt
-fits_can known (OutAscii place null_text) h = tt
+fits_can known _ h = tt
 
 all_fit : (known : List (List ℕ)) (statements : List Statement) → Fits known statements → CanMakeAll known statements
 all_fit known [] h = tt

@@ -32,8 +32,7 @@ abbrev pub IsNewTo : List (List ℕ) → Command → Type 0
 IsNewTo known (Mapcalc target bound) = place_of target known ≡ None
 IsNewTo known (Reclass place target rules) = place_of target known ≡ None
 IsNewTo known (Clump place target joining) = place_of target known ≡ None
-IsNewTo known (Stats places options) = Unit {0}
-IsNewTo known (OutAscii place null_text) = Unit {0}
+IsNewTo known _ = Unit {0}
 
 abbrev pub AreNewTo : List (List ℕ) → List Statement → Type 0
 AreNewTo known [] = Unit {0}
@@ -43,8 +42,7 @@ spelled_new : (known : List (List ℕ)) (line : List ℕ) (c : Command) → Spel
 spelled_new known line (Mapcalc target bound) h = ap (λ (t : List ℕ). place_of t known) (sym h.target_is) ∙ h.made
 spelled_new known line (Reclass place target rules) h = absurd h
 spelled_new known line (Clump place target joining) h = h.maps.made
-spelled_new known line (Stats places options) h = tt
-spelled_new known line (OutAscii place null_text) h = tt
+spelled_new known line _ h = tt
 
 group_new : (known : List (List ℕ)) (lines : List ScriptLine) (statements : List Statement)
     → Group known lines statements
@@ -156,8 +154,7 @@ names_after shelf (Reclass place target rules) after h = by (slice_get shelf.map
     by None h = absurd h
     by (Some m) h = ap (λ (s : ShelfValue). s.names) h
 names_after shelf (Clump place target joining) after h = ap (λ (s : ShelfValue). s.names) h.1.1
-names_after shelf (Stats places options) after h = ap (λ (s : ShelfValue). s.names) h
-names_after shelf (OutAscii place null_text) after h = ap (λ (s : ShelfValue). s.names) h
+names_after shelf _ after h = ap (λ (s : ShelfValue). s.names) h
 
 pub executes_grown : (statements : List Statement) (region : RegionValue) (shelf : ShelfValue) → IsOrdered region shelf
     → AreNewTo shelf.names statements

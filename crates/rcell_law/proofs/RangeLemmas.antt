@@ -57,9 +57,8 @@ one_in f h None = tt
 one_in f h (Some x) = h x
 
 both_in : (f : ℤ → ℤ → CellValue) → ((x y : ℤ) → InRange (f x y)) → (a b : CellValue) → InRange (of_both f a b)
-both_in f h None b = tt
-both_in f h (Some x) None = tt
 both_in f h (Some x) (Some y) = h x y
+both_in f h _ _ = tt
 
 if_in : (t : Bool) (a b : CellValue) → InRange a → InRange b → InRange (if t then a else b)
 if_in true a b h k = h
@@ -110,14 +109,12 @@ of_two true x y h k = h
 of_two false x y h k = k
 
 lesser_in : (a b : CellValue) → InRange a → InRange b → InRange (lesser a b)
-lesser_in None b h k = tt
-lesser_in (Some x) None h k = tt
 lesser_in (Some x) (Some y) h k = of_two (int_lt y x) y x k h
+lesser_in _ _ h k = tt
 
 greater_in : (a b : CellValue) → InRange a → InRange b → InRange (greater a b)
-greater_in None b h k = tt
-greater_in (Some x) None h k = tt
 greater_in (Some x) (Some y) h k = of_two (int_lt y x) x y h k
+greater_in _ _ h k = tt
 
 fold_in : (f : CellValue → CellValue → CellValue) → ((a b : CellValue) → InRange a → InRange b → InRange (f a b)) →
     (a : CellValue) (xs : List CellValue) → InRange a → All InRange xs → InRange (fold f a xs)
@@ -149,12 +146,11 @@ item_in xs i all =
     (cases_lt i (length xs))
 
 if_of_in : (xs : List CellValue) → All InRange xs → InRange (if_of xs)
-if_of_in [] all = tt
 if_of_in (x ∷ []) all = chosen_in x (Some (pos 1)) (Some (pos 0)) (number_in 1 (omega arith))
     (number_in 0 (omega arith))
 if_of_in (x ∷ a ∷ []) all = chosen_in x a (Some (pos 0)) (item_in (x ∷ a ∷ []) 1 all) (number_in 0 (omega arith))
 if_of_in (x ∷ a ∷ b ∷ []) all = chosen_in x a b (item_in (x ∷ a ∷ b ∷ []) 1 all) (item_in (x ∷ a ∷ b ∷ []) 2 all)
-if_of_in (x ∷ a ∷ b ∷ c ∷ xs) all = tt
+if_of_in _ all = tt
 
 -- a row and a column of a region
 pub record IsSpot (s : Spot) : Type 0 where

@@ -95,9 +95,8 @@ whole_in word = by (whole_number word)
     by (Some n) = if_in n (is_in_range n) refl
 
 good_output : (word : List ℕ) (output : Output) → SpellsOutput word output → IsGoodOutput output
-good_output word Same spells = tt
-good_output word (To None) spells = tt
 good_output word (To (Some category)) spells = subst InRange spells (whole_in word)
+good_output word _ spells = tt
 
 good_rule : (line : List ℕ) (rule : RuleValue) → SpellsRule line rule → IsGoodOutput rule.output
 good_rule line rule spells = good_output (output_word (trimmed_text spells.right)) rule.output spells.output
@@ -249,11 +248,8 @@ region_is e accepted = by (parts (is_rectangle e) (is_side e.rows) (is_side e.co
         (if not b then Err BadRows else
         (if not c then Err BadCols else (if not d then Err TooManyCells else Ok e)))) ≡ Ok e
         → (b ≡ true) × ((c ≡ true) × (d ≡ true))
-    parts false b c d h = cc
-    parts true false c d h = cc
-    parts true true false d h = cc
-    parts true true true false h = cc
     parts true true true true h = (refl, (refl, refl))
+    parts _ _ _ _ h = cc
 
     by : (is_side e.rows ≡ true) × ((is_side e.cols ≡ true) × (is_countable e ≡ true)) → IsRegion e
     by (b, (c, d)) =
@@ -279,8 +275,6 @@ record IsSound (region : RegionValue) (m : Grid) : Type 0 where
 grids_sound : (region : RegionValue) (grids : List Named) (maps : List Grid) → AllDenote grids maps → All
     (λ m. m.region ≡ region) maps → All (IsSound region) maps
 grids_sound region [] [] denote same = All-nil (IsSound region)
-grids_sound region [] (m ∷ maps) denote same = absurd denote
-grids_sound region (g ∷ grids) [] denote same = absurd denote
 grids_sound region (g ∷ grids) (m ∷ maps) denote same =
     let h : Denotes g.1 m = denote.0 in
     All-cons (IsSound region) m maps
@@ -290,6 +284,7 @@ grids_sound region (g ∷ grids) (m ∷ maps) denote same =
       range = denoted_in g.1 m h;
     })
     (grids_sound region grids maps denote.1 (All-tail (λ m. m.region ≡ region) m maps same))
+grids_sound region _ _ denote same = absurd denote
 
 grids_region : (region : RegionValue) (grids : List Named) (maps : List Grid) → 0 < length grids → AllDenote grids maps
     → All (λ m. m.region ≡ region) maps → IsRegion region
@@ -305,9 +300,7 @@ grids_region region (g ∷ grids) (m ∷ maps) some denote same =
 abbrev IsGood : Command → Type 0
 IsGood (Mapcalc target bound) = HasCategories bound
 IsGood (Reclass place target given) = AreGoodRules given
-IsGood (Clump place target joining) = Unit {0}
-IsGood (Stats places options) = Unit {0}
-IsGood (OutAscii place null_text) = Unit {0}
+IsGood _ = Unit {0}
 
 mutual
   placed_categories : (names : List (List ℕ)) (e : Term) → IsGrammatical e → HasCategories (with_places names e)
@@ -339,9 +332,7 @@ spelled_good known line (Mapcalc target bound) h =
     subst HasCategories h.bound_is
     (placed_categories known h.assignment.expr (assigned (assignment_text line) h.assignment h.says))
 spelled_good known line (Reclass place target given) h = absurd h
-spelled_good known line (Clump place target joining) h = tt
-spelled_good known line (Stats places options) h = tt
-spelled_good known line (OutAscii place null_text) h = tt
+spelled_good known line _ h = tt
 
 abbrev AreGood : List Statement → Type 0
 AreGood [] = Unit {0}

@@ -3,7 +3,6 @@ use Rattle.std.proofs.Common.{◌≡◌, ℕ, ◌+◌, Bool, true, false, List, 
 use Rattle.std.specs.Prelude.{nat_lt, length, IsOkAnd}
 use Rattle.cell_core_text.specs.Words.{words_of}
 use Rattle.cell_calc_tokens.specs.declared.calc_fault.CalcFault.{CalcFault}
-use Rattle.cell_calc_tokens.specs.declared.calc_fault.CalcKind.{CalcKind}
 use Rattle.cell_calc_tokens.specs.declared.calc_fault.CalcKind.TheVariants as calc
 use Rattle.cell_calc_tokens.specs.declared.token.Placed.{Placed}
 use Rattle.cell_calc_tokens.specs.Tokens.{token_fault, token_list}
@@ -23,7 +22,7 @@ use Rattle.rcell_script.specs.ScriptsRead.{start, IsScriptReading}
 use Rattle.rcell_script.specs.ReadScripts.{IsReadAs, IsScriptFault}
 use Rattle.rcell_script.specs.declared.statement.Statement.{Statement}
 use Rattle.rcell_script.proofs.LawLemmas.{no_fault_of_a_script, reading-denotes}
-use Rattle.rcell_script.proofs.TotalLemmas.{EachLineIsHead, read_somehow}
+use Rattle.rcell_script.proofs.TotalLemmas.{read_somehow}
 use Rattle.rcell_script_law.specs.JudgedLaw.{IsGoodText, IsBadText, ScriptTextsAreJudged}
 use Rattle.rcell_script_law.proofs.Plain.{IsPlain, plain_list}
 
