@@ -5,7 +5,8 @@ run.py [--short] [--rounds N] [--only WORD] [--program PATH] [--write]
 
 First each task is done once by both, and their outputs are compared byte for byte. Then they take turns, and the least
 processor time (user and system) of all rounds counts, so that other work on the machine disturbs little; grids of up to 4
-million cells have three times N rounds. All times are
+million cells have three times N rounds. In "Runs and words" a second yardstick takes part, which looks up what texts repeat
+(words.h), and there are three runs of N rounds each. All times are
 milliseconds for a million cells of one map, from the start of a program to its end, output to /dev/null. What a task costs
 beyond reading is its time without that of reading the same grids by the same program. Memory is the peak of the process,
 in bytes a cell of one map.
@@ -82,7 +83,7 @@ class Least:
 
 @dataclass(frozen=True)
 class Race:
-    """Tasks over grids of one kind, of seeds 1, 2, .., by rcell and both yardsticks. Each task has the ratio aimed at, or None."""
+    """Tasks over grids of one kind, of seeds 1, 2, .., by rcell and both yardsticks; with each the ratio aimed at, or None."""
     title: str
     kind: str
     tasks: tuple[tuple[Task, float | None], ...]
@@ -326,7 +327,9 @@ def race(bench, program, rounds, side):
         runs.append([Contest(task, paths[:task.maps], program, number, both) for number, (task, _) in enumerate(bench.tasks)])
         take_turns(runs[-1], rounds)
     for contests, (task, most) in zip(zip(*runs), bench.tasks):
-        ours, theirs, knowing = ([least.seconds for least in leasts] for leasts in zip(*((it.rcell, it.yardstick, it.knowing) for it in contests)))
+        ours = [it.rcell.seconds for it in contests]
+        theirs = [it.yardstick.seconds for it in contests]
+        knowing = [it.knowing.seconds for it in contests]
         times = [f"{min(seconds) * 1000 * MILLION / side ** 2:.1f}" for seconds in (ours, theirs, knowing)]
         yield task.title, times[0], times[1], ratios_cell(ours, theirs, most), times[2], ratios_cell(ours, knowing, None)
 
