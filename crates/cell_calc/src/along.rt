@@ -2,7 +2,7 @@
 
 ghost use Rattle.std.specs.Prelude.{◌≡◌, ◌≤◌, [], ◌∷◌, length, map, All, IfOk, OnOk};
 ghost use Rattle.cell_calc_operators.specs.Applied.{call_result};
-ghost use Rattle.cell_calc.specs.parts.Operands.{IsStrip, IsReadyStep, IsOperandReady, AtColumns};
+ghost use Rattle.cell_calc.specs.parts.Operands.{IsStrip, IsReadyStep, IsOperandReady, AtColumns, IsAsWide, HasCells};
 ghost use Rattle.cell_calc.specs.parts.Operands.{top_operands, lower_operands, operand_at, cells_at, seen_cell, spot_at};
 ghost use Rattle.cell_calc_steps.specs.Postfix.{arity, values_after, AreEnough};
 ghost use Rattle.cell_calc_rows.specs.RowValues.{at, column};
@@ -30,7 +30,7 @@ pub(crate) fn along(
     requires strip { IsStrip strip.now }
     requires ready { All (IsReadyStep windows.now) steps.now }
     requires enough { AreEnough steps.now 0 }
-    ensures width { IfOk result (λ row. length row.items ≡ strip.now.width) }
+    ensures width { IfOk result (IsAsWide strip.now) }
     ensures each { IfOk result (λ row. AtColumns strip.now (λ c. at row.items c ∷ []
         ≡ values_after (seen_cell windows.now (spot_at strip.now c)) steps.now [])) }
 {
@@ -128,9 +128,9 @@ fn call_value(
     requires enough { count ≤ length operands.old.items }
     requires ready { All (IsOperandReady windows.now strip.now) operands.old.items }
     ensures rest { OnOk result (operands.new.items ≡ lower_operands count operands.old.items) }
-    ensures width { IfOk result (λ row. length row.items ≡ strip.now.width) }
-    ensures each { IfOk result (λ row. AtColumns strip.now (λ c. at row.items c
-        ≡ call_result function (spot_at strip.now c)
+    ensures width { IfOk result (IsAsWide strip.now) }
+    ensures each { IfOk result (HasCells strip.now
+        (λ c. call_result function (spot_at strip.now c)
         (cells_at windows.now strip.now c (top_operands count operands.old.items)))) }
 {
     match (function, count) {
@@ -191,9 +191,9 @@ fn by_rows(
     requires enough { count ≤ length operands.old.items }
     requires ready { All (IsOperandReady windows.now strip.now) operands.old.items }
     ensures rest { OnOk result (operands.new.items ≡ lower_operands count operands.old.items) }
-    ensures width { IfOk result (λ row. length row.items ≡ strip.now.width) }
-    ensures each { IfOk result (λ row. AtColumns strip.now (λ c. at row.items c
-        ≡ call_result function (spot_at strip.now c)
+    ensures width { IfOk result (IsAsWide strip.now) }
+    ensures each { IfOk result (HasCells strip.now
+        (λ c. call_result function (spot_at strip.now c)
         (cells_at windows.now strip.now c (top_operands count operands.old.items)))) }
 {
     gather_arguments(alloc, count, operands, strip, windows, spare)?;

@@ -1,11 +1,11 @@
 //! Operands of the steps of an expression, along strips.
 
-ghost use Rattle.std.specs.Prelude.{◌≡◌, ◌<◌, ◌++◌, [], ◌∷◌, ℕ, length, slice_get, IfOk, OnOk};
+ghost use Rattle.std.specs.Prelude.{◌≡◌, ◌<◌, ◌++◌, [], ◌∷◌, length, slice_get, IfOk, OnOk};
 ghost use Rattle.cell_calc_operators.specs.Applied.{operator_value};
 ghost use Rattle.cell_calc_operators.specs.CellOperators.{chosen_cell};
-ghost use Rattle.cell_calc.specs.parts.Operands.{IsStrip, IsOperandReady, AtColumns, operand_at};
+ghost use Rattle.cell_calc.specs.parts.Operands.{IsStrip, IsOperandReady, AtColumns, operand_at, IsAsWide, HasCells};
 ghost use Rattle.cell_calc.specs.parts.WindowsOver.{IsInReach, row_below};
-ghost use Rattle.cell_calc_rows.specs.RowValues.{at};
+ghost use Rattle.cell_calc_rows.specs.RowValues.{at, Becomes};
 
 use crate::strip::{Operand, Strip};
 use crate::window::RowWindow;
@@ -59,9 +59,9 @@ pub(crate) fn row_of(
 ) -> Result<Vec<Cell>, Memory>
     requires strip { IsStrip strip.now }
     requires ready { IsOperandReady windows.now strip.now operand }
-    ensures width { IfOk result (λ row. length row.items ≡ strip.now.width) }
-    ensures each { IfOk result (λ row. AtColumns strip.now (λ c.
-        at row.items c ≡ operand_at windows.now strip.now c operand)) }
+    ensures width { IfOk result (IsAsWide strip.now) }
+    ensures each { IfOk result (HasCells strip.now
+        (λ c. operand_at windows.now strip.now c operand)) }
 {
     let (from, width) = (strip.from, strip.width);
     match operand {
@@ -93,9 +93,9 @@ pub(crate) fn binary_value(
     requires strip { IsStrip strip.now }
     requires left { IsOperandReady windows.now strip.now left }
     requires right { IsOperandReady windows.now strip.now right }
-    ensures width { IfOk result (λ row. length row.items ≡ strip.now.width) }
-    ensures each { IfOk result (λ row. AtColumns strip.now (λ c. at row.items c
-        ≡ operator_value operator (operand_at windows.now strip.now c left)
+    ensures width { IfOk result (IsAsWide strip.now) }
+    ensures each { IfOk result (HasCells strip.now
+        (λ c. operator_value operator (operand_at windows.now strip.now c left)
         (operand_at windows.now strip.now c right))) }
 {
     let mut row = row_of(alloc, left, strip, windows, free)?;
@@ -154,9 +154,9 @@ pub(crate) fn choice_value(
     requires condition { IsOperandReady windows.now strip.now condition }
     requires yes { IsOperandReady windows.now strip.now yes }
     requires no { IsOperandReady windows.now strip.now no }
-    ensures width { IfOk result (λ row. length row.items ≡ strip.now.width) }
-    ensures each { IfOk result (λ row. AtColumns strip.now (λ c. at row.items c
-        ≡ chosen_cell (operand_at windows.now strip.now c condition)
+    ensures width { IfOk result (IsAsWide strip.now) }
+    ensures each { IfOk result (HasCells strip.now
+        (λ c. chosen_cell (operand_at windows.now strip.now c condition)
         (operand_at windows.now strip.now c yes) (operand_at windows.now strip.now c no))) }
 {
     let mut row = row_of(alloc, no, strip, windows, free)?;
@@ -215,8 +215,8 @@ fn choose_row(
     requires width { length others.items ≡ length row.old }
     requires conditions { length conditions.now ≡ length row.old }
     ensures width { length row.new ≡ length row.old }
-    ensures each { (c : ℕ) → c < length row.old
-        → at row.new c ≡ chosen_cell (at conditions.now c) (at others.items c) (at row.old c) }
+    ensures each { Becomes row.old row.new
+        (λ c. chosen_cell (at conditions.now c) (at others.items c) (at row.old c)) }
 {
     rows::choose(row, conditions, others.as_slice());
     free.push(others)?;

@@ -1,9 +1,9 @@
 //! What functions do with rows of arguments.
 
-ghost use Rattle.std.specs.Prelude.{◌≡◌, ◌≤◌, ◌<◌, ◌+◌, ℕ, length, map, All, OnOk};
+ghost use Rattle.std.specs.Prelude.{◌≡◌, ◌≤◌, ◌<◌, ◌+◌, length, OnOk};
 ghost use Rattle.cell_calc_operators.specs.CellOperators.{if_of, least, greatest_cell, known_cells, first_known, last_argument, truth, is_null};
 ghost use Rattle.cell_calc_operators.specs.Applied.{spot, size_of, call_result};
-ghost use Rattle.cell_calc_rows.specs.RowValues.{at, column};
+ghost use Rattle.cell_calc_rows.specs.RowValues.{Becomes, AreWide, arguments_at};
 
 use crate::{modes, rows};
 use cell_calc_operators::cell_operators;
@@ -14,10 +14,9 @@ use cell_core::region::Region;
 use std::alloc::Global;
 
 fn choose_call(arguments: &[Vec<Cell>], row: &mut [Cell])
-    requires { All (λ cells. length cells.items ≡ length row.old) arguments.now }
+    requires { AreWide (length row.old) arguments.now }
     ensures width { length row.new ≡ length row.old }
-    ensures each { (c : ℕ) → c < length row.old
-        → at row.new c ≡ if_of (column c (map (λ cells. cells.items) arguments.now)) }
+    ensures each { Becomes row.old row.new (λ c. if_of (arguments_at c arguments.now)) }
 {
     match arguments {
         [x] => {
@@ -37,10 +36,9 @@ fn choose_call(arguments: &[Vec<Cell>], row: &mut [Cell])
 }
 
 fn least(arguments: &[Vec<Cell>], row: &mut [Cell])
-    requires { All (λ cells. length cells.items ≡ length row.old) arguments.now }
+    requires { AreWide (length row.old) arguments.now }
     ensures width { length row.new ≡ length row.old }
-    ensures each { (c : ℕ) → c < length row.old
-        → at row.new c ≡ least (column c (map (λ cells. cells.items) arguments.now)) }
+    ensures each { Becomes row.old row.new (λ c. least (arguments_at c arguments.now)) }
 {
     let [first, others @ ..] = arguments else {
         rows::fill(row, Cell::null());
@@ -53,10 +51,9 @@ fn least(arguments: &[Vec<Cell>], row: &mut [Cell])
 }
 
 fn greatest(arguments: &[Vec<Cell>], row: &mut [Cell])
-    requires { All (λ cells. length cells.items ≡ length row.old) arguments.now }
+    requires { AreWide (length row.old) arguments.now }
     ensures width { length row.new ≡ length row.old }
-    ensures each { (c : ℕ) → c < length row.old
-        → at row.new c ≡ greatest_cell (column c (map (λ cells. cells.items) arguments.now)) }
+    ensures each { Becomes row.old row.new (λ c. greatest_cell (arguments_at c arguments.now)) }
 {
     let [first, others @ ..] = arguments else {
         rows::fill(row, Cell::null());
@@ -69,10 +66,10 @@ fn greatest(arguments: &[Vec<Cell>], row: &mut [Cell])
 }
 
 fn known_least(arguments: &[Vec<Cell>], row: &mut [Cell])
-    requires { All (λ cells. length cells.items ≡ length row.old) arguments.now }
+    requires { AreWide (length row.old) arguments.now }
     ensures width { length row.new ≡ length row.old }
-    ensures each { (c : ℕ) → c < length row.old
-        → at row.new c ≡ least (known_cells (column c (map (λ cells. cells.items) arguments.now))) }
+    ensures each { Becomes row.old row.new
+        (λ c. least (known_cells (arguments_at c arguments.now))) }
 {
     rows::fill(row, Cell::null());
     for other in arguments {
@@ -81,11 +78,10 @@ fn known_least(arguments: &[Vec<Cell>], row: &mut [Cell])
 }
 
 fn known_greatest(arguments: &[Vec<Cell>], row: &mut [Cell])
-    requires { All (λ cells. length cells.items ≡ length row.old) arguments.now }
+    requires { AreWide (length row.old) arguments.now }
     ensures width { length row.new ≡ length row.old }
-    ensures each { (c : ℕ) → c < length row.old
-        → at row.new c
-        ≡ greatest_cell (known_cells (column c (map (λ cells. cells.items) arguments.now))) }
+    ensures each { Becomes row.old row.new
+        (λ c. greatest_cell (known_cells (arguments_at c arguments.now))) }
 {
     rows::fill(row, Cell::null());
     for other in arguments {
@@ -94,10 +90,9 @@ fn known_greatest(arguments: &[Vec<Cell>], row: &mut [Cell])
 }
 
 fn last(arguments: &[Vec<Cell>], row: &mut [Cell])
-    requires { All (λ cells. length cells.items ≡ length row.old) arguments.now }
+    requires { AreWide (length row.old) arguments.now }
     ensures width { length row.new ≡ length row.old }
-    ensures each { (c : ℕ) → c < length row.old
-        → at row.new c ≡ last_argument (column c (map (λ cells. cells.items) arguments.now)) }
+    ensures each { Becomes row.old row.new (λ c. last_argument (arguments_at c arguments.now)) }
 {
     match arguments {
         [.., x] => row.copy_from_slice(x.as_slice()),
@@ -106,10 +101,9 @@ fn last(arguments: &[Vec<Cell>], row: &mut [Cell])
 }
 
 fn copy_first_argument(arguments: &[Vec<Cell>], row: &mut [Cell])
-    requires { All (λ cells. length cells.items ≡ length row.old) arguments.now }
+    requires { AreWide (length row.old) arguments.now }
     ensures width { length row.new ≡ length row.old }
-    ensures each { (c : ℕ) → c < length row.old
-        → at row.new c ≡ first_known (column c (map (λ cells. cells.items) arguments.now)) }
+    ensures each { Becomes row.old row.new (λ c. first_known (arguments_at c arguments.now)) }
 {
     match arguments {
         [x, ..] => row.copy_from_slice(x.as_slice()),
@@ -118,22 +112,20 @@ fn copy_first_argument(arguments: &[Vec<Cell>], row: &mut [Cell])
 }
 
 fn nullness(arguments: &[Vec<Cell>], row: &mut [Cell])
-    requires { All (λ cells. length cells.items ≡ length row.old) arguments.now }
+    requires { AreWide (length row.old) arguments.now }
     ensures width { length row.new ≡ length row.old }
-    ensures each { (c : ℕ) → c < length row.old
-        → at row.new c
-        ≡ truth (is_null (first_known (column c (map (λ cells. cells.items) arguments.now)))) }
+    ensures each { Becomes row.old row.new
+        (λ c. truth (is_null (first_known (arguments_at c arguments.now)))) }
 {
     copy_first_argument(arguments, row);
     rows::nullness(row);
 }
 
 fn size(arguments: &[Vec<Cell>], row: &mut [Cell])
-    requires { All (λ cells. length cells.items ≡ length row.old) arguments.now }
+    requires { AreWide (length row.old) arguments.now }
     ensures width { length row.new ≡ length row.old }
-    ensures each { (c : ℕ) → c < length row.old
-        → at row.new c
-        ≡ size_of (first_known (column c (map (λ cells. cells.items) arguments.now))) }
+    ensures each { Becomes row.old row.new
+        (λ c. size_of (first_known (arguments_at c arguments.now))) }
 {
     copy_first_argument(arguments, row);
     rows::size(row);
@@ -151,12 +143,11 @@ pub fn call_values(
 ) -> Result<(), Memory>
     requires at_row { number < region.rows }
     requires width { from + length row.old ≤ region.cols }
-    requires widths { All (λ cells. length cells.items ≡ length row.old) arguments.now }
+    requires widths { AreWide (length row.old) arguments.now }
     ensures width { length row.new ≡ length row.old }
-    ensures each { OnOk result ((c : ℕ) → c < length row.old
-        → at row.new c
-        ≡ call_result function (spot region number (from + c))
-        (column c (map (λ cells. cells.items) arguments.now))) }
+    ensures each { OnOk result (Becomes row.old row.new
+        (λ c. call_result function (spot region number (from + c))
+        (arguments_at c arguments.now))) }
 {
     let (count, width) = (region.rows(), region.cols());
     match function {

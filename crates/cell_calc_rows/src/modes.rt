@@ -1,11 +1,11 @@
 //! The most frequent cells of rows, column by column: the categories of a column are put in order, and the longest run of
 //! equal ones is found.
 
-ghost use Rattle.std.specs.Prelude.{◌≡◌, ◌≤◌, ◌<◌, ◌+◌, ℕ, List, length, map, take, All, IsPermutation, IsSorted, OnOk, nat_lt, if◌then◌else◌, false};
+ghost use Rattle.std.specs.Prelude.{◌≡◌, ◌≤◌, ◌<◌, ◌+◌, List, length, take, All, IsPermutation, IsSorted, OnOk, nat_lt, if◌then◌else◌, false};
 ghost use Rattle.cell_core_values.specs.Cell.{cell_cmp, cell_eq};
 ghost use Rattle.cell_core.specs.Grid.{CellValue};
 ghost use Rattle.cell_calc_operators.specs.CellOperators.{most_frequent, mode, known_cells, is_null};
-ghost use Rattle.cell_calc_rows.specs.RowValues.{at, column};
+ghost use Rattle.cell_calc_rows.specs.RowValues.{at, column, Becomes, AreWide, arguments_at};
 
 use cell_calc_operators::cell_operators::is_null;
 use cell_core::cell::Cell;
@@ -32,8 +32,7 @@ fn gather_column(arguments: &[Vec<Cell>], c: usize, cells: &mut [Cell]) -> usize
     requires room { length cells.old ≡ length arguments.now }
     ensures length { length cells.new ≡ length cells.old }
     ensures count { result ≤ length cells.old }
-    ensures known { take result cells.new
-        ≡ known_cells (column c (map (λ row. row.items) arguments.now)) }
+    ensures known { take result cells.new ≡ known_cells (arguments_at c arguments.now) }
 {
     let mut count = 0;
     for other in arguments {
@@ -91,8 +90,7 @@ fn known_mode_at(arguments: &[Vec<Cell>], c: usize, cells: &mut [Cell]) -> Cell
     requires column { All (λ row. c < length row.items) arguments.now }
     requires room { length cells.old ≡ length arguments.now }
     ensures room { length cells.new ≡ length cells.old }
-    ensures mode { result
-        ≡ most_frequent (known_cells (column c (map (λ row. row.items) arguments.now))) }
+    ensures mode { result ≡ most_frequent (known_cells (arguments_at c arguments.now)) }
 {
     let count = gather_column(arguments, c, cells);
     most_frequent(&mut cells[..count])
@@ -102,7 +100,7 @@ fn mode_at(arguments: &[Vec<Cell>], c: usize, cells: &mut [Cell]) -> Cell
     requires column { All (λ row. c < length row.items) arguments.now }
     requires room { length cells.old ≡ length arguments.now }
     ensures room { length cells.new ≡ length cells.old }
-    ensures mode { result ≡ mode (column c (map (λ row. row.items) arguments.now)) }
+    ensures mode { result ≡ mode (arguments_at c arguments.now) }
 {
     let count = gather_column(arguments, c, cells);
     if count < arguments.len() {
@@ -113,10 +111,10 @@ fn mode_at(arguments: &[Vec<Cell>], c: usize, cells: &mut [Cell]) -> Cell
 
 /// The most frequent cells of the columns, null where one is null.
 pub(crate) fn mode(alloc: Global, arguments: &[Vec<Cell>], row: &mut [Cell]) -> Result<(), Memory>
-    requires { All (λ cells. length cells.items ≡ length row.old) arguments.now }
+    requires { AreWide (length row.old) arguments.now }
     ensures width { length row.new ≡ length row.old }
-    ensures each { OnOk result ((c : ℕ) → c < length row.old
-        → at row.new c ≡ mode (column c (map (λ cells. cells.items) arguments.now))) }
+    ensures each { OnOk result (Becomes row.old row.new
+        (λ c. mode (arguments_at c arguments.now))) }
 {
     let mut spare = Vec::from_elem(alloc, Cell::null(), arguments.len())?;
     let cells = spare.as_mut_slice();
@@ -132,11 +130,10 @@ pub(crate) fn known_mode(
     arguments: &[Vec<Cell>],
     row: &mut [Cell],
 ) -> Result<(), Memory>
-    requires { All (λ cells. length cells.items ≡ length row.old) arguments.now }
+    requires { AreWide (length row.old) arguments.now }
     ensures width { length row.new ≡ length row.old }
-    ensures each { OnOk result ((c : ℕ) → c < length row.old
-        → at row.new c
-        ≡ most_frequent (known_cells (column c (map (λ cells. cells.items) arguments.now)))) }
+    ensures each { OnOk result (Becomes row.old row.new
+        (λ c. most_frequent (known_cells (arguments_at c arguments.now)))) }
 {
     let mut spare = Vec::from_elem(alloc, Cell::null(), arguments.len())?;
     let cells = spare.as_mut_slice();

@@ -5,7 +5,7 @@ ghost use Rattle.cell_calc_operators.specs.CellOperators.{chosen_cell, truth, is
 ghost use Rattle.cell_calc_operators.specs.Applied.{operator_value, size_of, negated_cell, inverted_cell};
 ghost use Rattle.cell_calc_operators.specs.Offsets.{item_at};
 ghost use Rattle.cell_calc_operators.specs.Joins.{known_lesser, known_greater};
-ghost use Rattle.cell_calc_rows.specs.RowValues.{at};
+ghost use Rattle.cell_calc_rows.specs.RowValues.{at, Becomes};
 
 use cell_calc_operators::cell_operators;
 use cell_calc_tokens::operator::Operator;
@@ -14,7 +14,7 @@ use cell_core::cell::Cell;
 /// Writes a cell into each place of a row.
 pub fn fill(row: &mut [Cell], cell: Cell)
     ensures width { length row.new ≡ length row.old }
-    ensures each { (c : ℕ) → c < length row.old → at row.new c ≡ cell }
+    ensures each { Becomes row.old row.new (λ c. cell) }
 {
     for i in 0..row.len() {
         row[i] = cell;
@@ -61,8 +61,8 @@ pub fn choose(row: &mut [Cell], conditions: &[Cell], yes: &[Cell])
     requires width_conditions { length conditions.now ≡ length row.old }
     requires width_yes { length yes.now ≡ length row.old }
     ensures width { length row.new ≡ length row.old }
-    ensures each { (c : ℕ) → c < length row.old
-        → at row.new c ≡ chosen_cell (at conditions.now c) (at yes.now c) (at row.old c) }
+    ensures each { Becomes row.old row.new
+        (λ c. chosen_cell (at conditions.now c) (at yes.now c) (at row.old c)) }
 {
     for i in 0..row.len() {
         row[i] = cell_operators::chosen_cell(conditions[i], yes[i], row[i]);
@@ -73,8 +73,8 @@ pub fn choose(row: &mut [Cell], conditions: &[Cell], yes: &[Cell])
 pub fn choose_one(row: &mut [Cell], conditions: &[Cell], yes: Cell)
     requires width { length conditions.now ≡ length row.old }
     ensures width { length row.new ≡ length row.old }
-    ensures each { (c : ℕ) → c < length row.old
-        → at row.new c ≡ chosen_cell (at conditions.now c) yes (at row.old c) }
+    ensures each { Becomes row.old row.new
+        (λ c. chosen_cell (at conditions.now c) yes (at row.old c)) }
 {
     for i in 0..row.len() {
         row[i] = cell_operators::chosen_cell(conditions[i], yes, row[i]);
@@ -85,7 +85,7 @@ pub fn choose_one(row: &mut [Cell], conditions: &[Cell], yes: Cell)
 pub(crate) fn number(row: &mut [Cell], from: usize)
     requires { from + length row.old ≤ 65535 }
     ensures width { length row.new ≡ length row.old }
-    ensures each { (c : ℕ) → c < length row.old → at row.new c ≡ Some (pos (from + c + 1)) }
+    ensures each { Becomes row.old row.new (λ c. Some (pos (from + c + 1))) }
 {
     for i in 0..row.len() {
         row[i] = cell_operators::number((from + i) as u32 + 1);
@@ -96,7 +96,7 @@ pub(crate) fn number(row: &mut [Cell], from: usize)
 fn from_right(source: &[Cell], skip: usize, row: &mut [Cell])
     requires { (c : ℕ) → c < length row.old → at row.old c ≡ None }
     ensures width { length row.new ≡ length row.old }
-    ensures each { (c : ℕ) → c < length row.old → at row.new c ≡ at source.now (c + skip) }
+    ensures each { Becomes row.old row.new (λ c. at source.now (c + skip)) }
 {
     if skip < source.len() {
         let count = (source.len() - skip).min(row.len());
@@ -151,8 +151,8 @@ pub fn inside<'a>(source: &'a [Cell], from: usize, right: i32, width: usize) -> 
 pub fn shift(source: &[Cell], from: usize, right: i32, row: &mut [Cell])
     requires { from ≤ 65535 }
     ensures width { length row.new ≡ length row.old }
-    ensures each { (c : ℕ) → c < length row.old
-        → at row.new c ≡ item_at None source.now (pos (from + c) +ℤ right) }
+    ensures each { Becomes row.old row.new
+        (λ c. item_at None source.now (pos (from + c) +ℤ right)) }
 {
     match inside(source, from, right, row.len()) {
         Some(part) => row.copy_from_slice(part),
@@ -164,8 +164,8 @@ pub fn shift(source: &[Cell], from: usize, right: i32, row: &mut [Cell])
 fn shift_over_the_edge(source: &[Cell], from: usize, right: i32, row: &mut [Cell])
     requires { from ≤ 65535 }
     ensures width { length row.new ≡ length row.old }
-    ensures each { (c : ℕ) → c < length row.old
-        → at row.new c ≡ item_at None source.now (pos (from + c) +ℤ right) }
+    ensures each { Becomes row.old row.new
+        (λ c. item_at None source.now (pos (from + c) +ℤ right)) }
 {
     fill(row, Cell::null());
     let skip = shifted_column(from, right);
@@ -179,7 +179,7 @@ fn shift_over_the_edge(source: &[Cell], from: usize, right: i32, row: &mut [Cell
 /// `isnull` of each cell of a row, in place.
 pub fn nullness(row: &mut [Cell])
     ensures width { length row.new ≡ length row.old }
-    ensures each { (c : ℕ) → c < length row.old → at row.new c ≡ truth (is_null (at row.old c)) }
+    ensures each { Becomes row.old row.new (λ c. truth (is_null (at row.old c))) }
 {
     each(row, cell_operators::nullness);
 }
@@ -187,7 +187,7 @@ pub fn nullness(row: &mut [Cell])
 /// `abs` of each cell of a row, in place.
 pub fn size(row: &mut [Cell])
     ensures width { length row.new ≡ length row.old }
-    ensures each { (c : ℕ) → c < length row.old → at row.new c ≡ size_of (at row.old c) }
+    ensures each { Becomes row.old row.new (λ c. size_of (at row.old c)) }
 {
     each(row, cell_operators::size);
 }
@@ -195,7 +195,7 @@ pub fn size(row: &mut [Cell])
 /// `-` of each cell of a row, in place.
 pub fn negate(row: &mut [Cell])
     ensures width { length row.new ≡ length row.old }
-    ensures each { (c : ℕ) → c < length row.old → at row.new c ≡ negated_cell (at row.old c) }
+    ensures each { Becomes row.old row.new (λ c. negated_cell (at row.old c)) }
 {
     each(row, cell_operators::negated_cell);
 }
@@ -203,7 +203,7 @@ pub fn negate(row: &mut [Cell])
 /// `!` of each cell of a row, in place.
 pub fn invert(row: &mut [Cell])
     ensures width { length row.new ≡ length row.old }
-    ensures each { (c : ℕ) → c < length row.old → at row.new c ≡ inverted_cell (at row.old c) }
+    ensures each { Becomes row.old row.new (λ c. inverted_cell (at row.old c)) }
 {
     each(row, cell_operators::inverted_cell);
 }
@@ -211,8 +211,8 @@ pub fn invert(row: &mut [Cell])
 /// `if(a)` of each cell of a row, in place: 1 where it is neither null nor 0.
 pub fn one_or_zero(row: &mut [Cell])
     ensures width { length row.new ≡ length row.old }
-    ensures each { (c : ℕ) → c < length row.old
-        → at row.new c ≡ chosen_cell (at row.old c) (Some (pos 1)) (Some (pos 0)) }
+    ensures each { Becomes row.old row.new
+        (λ c. chosen_cell (at row.old c) (Some (pos 1)) (Some (pos 0))) }
 {
     let (yes, no) = (cell_operators::truth(true), cell_operators::truth(false));
     for i in 0..row.len() {
@@ -223,8 +223,7 @@ pub fn one_or_zero(row: &mut [Cell])
 pub(crate) fn lesser(row: &mut [Cell], other: &[Cell])
     requires width { length other.now ≡ length row.old }
     ensures width { length row.new ≡ length row.old }
-    ensures each { (c : ℕ) → c < length row.old
-        → at row.new c ≡ lesser (at row.old c) (at other.now c) }
+    ensures each { Becomes row.old row.new (λ c. lesser (at row.old c) (at other.now c)) }
 {
     combine(row, other, cell_operators::lesser);
 }
@@ -232,8 +231,7 @@ pub(crate) fn lesser(row: &mut [Cell], other: &[Cell])
 pub(crate) fn larger(row: &mut [Cell], other: &[Cell])
     requires width { length other.now ≡ length row.old }
     ensures width { length row.new ≡ length row.old }
-    ensures each { (c : ℕ) → c < length row.old
-        → at row.new c ≡ greater (at row.old c) (at other.now c) }
+    ensures each { Becomes row.old row.new (λ c. greater (at row.old c) (at other.now c)) }
 {
     combine(row, other, cell_operators::larger);
 }
@@ -241,8 +239,7 @@ pub(crate) fn larger(row: &mut [Cell], other: &[Cell])
 pub(crate) fn known_lesser(row: &mut [Cell], other: &[Cell])
     requires width { length other.now ≡ length row.old }
     ensures width { length row.new ≡ length row.old }
-    ensures each { (c : ℕ) → c < length row.old
-        → at row.new c ≡ known_lesser (at row.old c) (at other.now c) }
+    ensures each { Becomes row.old row.new (λ c. known_lesser (at row.old c) (at other.now c)) }
 {
     combine(row, other, cell_operators::known_lesser);
 }
@@ -250,8 +247,7 @@ pub(crate) fn known_lesser(row: &mut [Cell], other: &[Cell])
 pub(crate) fn known_larger(row: &mut [Cell], other: &[Cell])
     requires width { length other.now ≡ length row.old }
     ensures width { length row.new ≡ length row.old }
-    ensures each { (c : ℕ) → c < length row.old
-        → at row.new c ≡ known_greater (at row.old c) (at other.now c) }
+    ensures each { Becomes row.old row.new (λ c. known_greater (at row.old c) (at other.now c)) }
 {
     combine(row, other, cell_operators::known_larger);
 }
@@ -259,8 +255,8 @@ pub(crate) fn known_larger(row: &mut [Cell], other: &[Cell])
 pub(crate) fn choose_or_zero(row: &mut [Cell], other: &[Cell])
     requires width { length other.now ≡ length row.old }
     ensures width { length row.new ≡ length row.old }
-    ensures each { (c : ℕ) → c < length row.old
-        → at row.new c ≡ chosen_cell (at row.old c) (at other.now c) (Some (pos 0)) }
+    ensures each { Becomes row.old row.new
+        (λ c. chosen_cell (at row.old c) (at other.now c) (Some (pos 0))) }
 {
     let no = cell_operators::truth(false);
     for i in 0..row.len() {
@@ -272,8 +268,8 @@ pub(crate) fn choose_or_zero(row: &mut [Cell], other: &[Cell])
 pub fn apply_operator(operator: Operator, row: &mut [Cell], other: &[Cell])
     requires width { length other.now ≡ length row.old }
     ensures width { length row.new ≡ length row.old }
-    ensures each { (c : ℕ) → c < length row.old
-        → at row.new c ≡ operator_value operator (at row.old c) (at other.now c) }
+    ensures each { Becomes row.old row.new
+        (λ c. operator_value operator (at row.old c) (at other.now c)) }
 {
     match operator {
         Operator::Times => combine(row, other, cell_operators::product),
@@ -297,8 +293,7 @@ pub fn apply_operator(operator: Operator, row: &mut [Cell], other: &[Cell])
 /// The values of an operator along a row, which holds its left operands; the right one is the same cell everywhere.
 pub fn apply_one(operator: Operator, row: &mut [Cell], b: Cell)
     ensures width { length row.new ≡ length row.old }
-    ensures each { (c : ℕ) → c < length row.old
-        → at row.new c ≡ operator_value operator (at row.old c) b }
+    ensures each { Becomes row.old row.new (λ c. operator_value operator (at row.old c) b) }
 {
     match operator {
         Operator::Times => combine_one(row, b, cell_operators::product),
@@ -363,10 +358,9 @@ fn overlap_of(cells: usize, right: i32, from: usize, width: usize) -> Overlap
 pub fn apply_shifted(operator: Operator, row: &mut [Cell], source: &[Cell], right: i32, from: usize)
     requires { from ≤ 65535 }
     ensures width { length row.new ≡ length row.old }
-    ensures each { (c : ℕ) → c < length row.old
-        → at row.new c
-        ≡ operator_value operator (at row.old c)
-        (item_at None source.now (pos (from + c) +ℤ right)) }
+    ensures each { Becomes row.old row.new
+        (λ c. operator_value operator (at row.old c)
+        (item_at None source.now (pos (from + c) +ℤ right))) }
 {
     let overlap = overlap_of(source.len(), right, from, row.len());
     let part = &source[overlap.first..overlap.first + overlap.count];

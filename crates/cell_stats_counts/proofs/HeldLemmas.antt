@@ -54,8 +54,15 @@ held-nothing w k h (suc n) none =
     nothing false = refl
 
 -- a place that holds something else
-pub going_at : {width : ℕ} {spare : Combination} {places : List CountPlace} {m : Gathered} (at : ℕ) (held : CountPlace) → IsCounting width spare places m → IsCounting width spare (set places at held) m
-going_at {places = places} at held going = record { few = going.few; wide = going.wide; some = rw (length-set places at held) going.some; no_zero = going.no_zero }
+pub going_at : {width : ℕ} {spare : Combination} {places : List CountPlace} {m : Gathered} (at : ℕ) (held : CountPlace)
+    → IsCounting width spare places m → IsCounting width spare (set places at held) m
+going_at {places = places} at held going = record {
+  few = going.few;
+  wide = going.wide;
+  some = rw (length-set places at held) going.some;
+  no_zero = going.no_zero;
+}
 
-pub going_of : {w width : ℕ} {spare : Combination} {places : List CountPlace} {m : Gathered} → w ≡ width → IsCounting w spare places m → IsCounting width spare places m
+pub going_of : {w width : ℕ} {spare : Combination} {places : List CountPlace} {m : Gathered} → w ≡ width
+    → IsCounting w spare places m → IsCounting width spare places m
 going_of {spare = spare} {places = places} {m = m} same going = subst (λ n. IsCounting n spare places m) same going

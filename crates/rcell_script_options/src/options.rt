@@ -317,7 +317,7 @@ impl Options {
         self.separator
     }
 
-    /// The text of `after_text`, where it was given.
+    /// The text of `after`, where it was given.
     pub fn after_text(&self) -> Option<&[u8]>
         ensures { option_map (λ text. text.now) result ≡ self.now.after }
     {

@@ -1,5 +1,6 @@
 -- Values along a strip: some columns of a row, from one on.
-use Rattle.std.specs.Prelude.{◌≡◌, ◌≤◌, ◌<◌, ◌+◌, ◌-◌, ◌+ℤ◌, ℕ, pos, List, Some, None, length, take, drop, map, slice_get, slice_index_or}
+use Rattle.std.specs.Prelude.{◌≡◌, ◌≤◌, ◌<◌, ◌+◌, ◌-◌, ◌+ℤ◌, ℕ, pos, List, Vec, Some, None, length, take, drop, map, slice_get, slice_index_or}
+use Rattle.std.specs.Global.{Global}
 use Rattle.cell_core.specs.Grid.{CellValue}
 use Rattle.cell_calc_operators.specs.Applied.{Spot, spot, operator_value, call_result, negated_cell, inverted_cell}
 use Rattle.cell_calc_operators.specs.Offsets.{item_at}
@@ -28,6 +29,14 @@ pub record IsStrip (strip : Strip) : Type 0 where
 -- it holds of each column of a strip
 abbrev pub AtColumns : Strip → (ℕ → Type 0) → Type 0
 AtColumns strip P = (c : ℕ) → c < strip.width → P c
+
+-- a row is as wide as a strip
+abbrev pub IsAsWide : Strip → Vec CellValue Global → Type 0
+IsAsWide strip row = length row.items ≡ strip.width
+
+-- a row has these cells along a strip
+abbrev pub HasCells : Strip → (ℕ → CellValue) → Vec CellValue Global → Type 0
+HasCells strip cell row = AtColumns strip (λ c. at row.items c ≡ cell c)
 
 -- a number that is a category, or a map whose window reaches the offset
 abbrev pub IsReadyStep : List Window → Step ℕ → Type 0

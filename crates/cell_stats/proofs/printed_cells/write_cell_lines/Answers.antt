@@ -111,10 +111,12 @@ pub pass_all-count-requires-clause-ready : goal.pass_all-count-requires-clause-r
 pass_all-count-requires-clause-ready g c = c.restart_all.ensures.ready
 
 pub pass_all-count-requires-clause-width : goal.pass_all-count-requires-clause-width
-pass_all-count-requires-clause-width g c = c.requires.picks.width ∙ sym (c.restart_all.auto.cursors ∙ c.requires.cursors)
+pass_all-count-requires-clause-width g c =
+    c.requires.picks.width ∙ sym (c.restart_all.auto.cursors ∙ c.requires.cursors)
 
 pub write_lines-requires : goal.write_lines-requires
-write_lines-requires g c = record { picked = c.requires.picks.picked; some = c.requires.picks.some; width = c.loop-col.invariant.width }
+write_lines-requires g c =
+    record { picked = c.requires.picks.picked; some = c.requires.picks.some; width = c.loop-col.invariant.width }
 
 pub overflow_add-col : goal.overflow_add-col
 overflow_add-col g c = fit c.loop-col.invariant.most c.cols-cols.ensures.value c.cols-cols.ensures.region.cols_most

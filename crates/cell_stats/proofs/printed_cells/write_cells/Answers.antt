@@ -37,7 +37,8 @@ loop-row-init g c =
     }
 
 pub write_cell_lines-requires-clause-picks : goal.write_cell_lines-requires-clause-picks
-write_cell_lines-requires-clause-picks g c = record { picked = c.requires.picked; some = c.requires.some; width = c.loop-row.invariant.cells }
+write_cell_lines-requires-clause-picks g c =
+    record { picked = c.requires.picked; some = c.requires.some; width = c.loop-row.invariant.cells }
 
 pub write_cell_lines-requires-clause-row_in_range : goal.write_cell_lines-requires-clause-row_in_range
 write_cell_lines-requires-clause-row_in_range g c =

@@ -31,7 +31,8 @@ pub returns-then-is_held : goal.returns-then-is_held
 returns-then-is_held c =
     let same = c.is_held.ensures.0 c.if-is_held.true in
     record {
-      counts = λ k. total-held (length c.args.cells.now) k c.args.cells.now c.args.count c.args.places.now c.own_place-own.result
+      counts = λ k. total-held (length c.args.cells.now) k c.args.cells.now c.args.count c.args.places.now
+          c.own_place-own.result
           c.index-places-own.result c.args.counted.now c.own_place-own.ensures _ same same refl;
       going = going_at c.own_place-own.result _ c.requires.going;
     }

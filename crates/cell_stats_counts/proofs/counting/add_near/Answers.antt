@@ -37,7 +37,8 @@ pub returns-then-is_held : goal.returns-then-is_held
 returns-then-is_held c =
     let same = c.is_held.ensures.0 c.if-is_held.true in
     record {
-      counts = λ k. total-held (length c.args.cells.now) k c.args.cells.now c.args.count c.args.places.now c.place_near-at.result
+      counts = λ k. total-held (length c.args.cells.now) k c.args.cells.now c.args.count c.args.places.now
+          c.place_near-at.result
           c.index-places-at.result c.args.counted.now c.place_near-at.ensures _ same same refl;
       going = going_at c.place_near-at.result _ c.requires.going;
     }
@@ -62,8 +63,14 @@ hold-requires c = c.requires.going.few
 
 pub returns : goal.returns
 returns c = record {
-  counts = λ k. total-turned (length c.args.cells.now) k c.args.cells.now c.args.count c.args.places.now c.place_near-at.result
+  counts = λ k. total-turned (length c.args.cells.now) k c.args.cells.now c.args.count c.args.places.now
+      c.place_near-at.result
       c.index-places-at.result c.args.counted.now c.place_near-at.ensures
       c.hold.new.held c.flush.new.counted c.hold.ensures.cells c.hold.ensures.count (c.in_ok-flush.ensures.ok k);
-  going = going_at c.place_near-at.result _ (record { few = c.requires.going.few; wide = c.flush.ensures.spare; some = c.requires.going.some; no_zero = c.in_ok-flush.ensures.no_zero });
+  going = going_at c.place_near-at.result _ (record {
+    few = c.requires.going.few;
+    wide = c.flush.ensures.spare;
+    some = c.requires.going.some;
+    no_zero = c.in_ok-flush.ensures.no_zero;
+  });
 }

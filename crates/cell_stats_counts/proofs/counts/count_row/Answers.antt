@@ -154,7 +154,8 @@ loop-col-preserved c =
     ] in
     let going : IsCounting (length picks) joined.spare joined.places joined.counted =
     elim joined.branch [
-      | then-not-is_left_out+in_ok-add_count w ↦ rw (w.counted-is, w.spare-is, w.places-is) (going_of width w.in_ok-add_count.ensures.going)
+      | then-not-is_left_out+in_ok-add_count w ↦ rw (w.counted-is, w.spare-is, w.places-is)
+          (going_of width w.in_ok-add_count.ensures.going)
       | else-not-is_left_out w ↦ rw (w.counted-is, w.spare-is, w.places-is) inv.going
     ] in
     record {
@@ -194,7 +195,8 @@ stretches-stretches-requires c =
     }
 
 pub count_stretches-requires-clause-going : goal.count_stretches-requires-clause-going
-count_stretches-requires-clause-going c = going_of (just_one c.in-len1.len_at_least c.in-len1.len_below) c.requires.going
+count_stretches-requires-clause-going c =
+    going_of (just_one c.in-len1.len_at_least c.in-len1.len_below) c.requires.going
 
 pub returns-in_err-count_stretches-clause-ok : goal.returns-in_err-count_stretches-clause-ok
 returns-in_err-count_stretches-clause-ok c = IfOk-from_err c.from_residual.result _ c.from_residual.ensures.0
