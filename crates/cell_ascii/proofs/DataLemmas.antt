@@ -15,11 +15,10 @@ use Rattle.cell_ascii_meaning.specs.FaultPlaces.{opening_fault}
 use Rattle.cell_ascii_meaning.specs.RowPlaces.{IsPlaceOf, end_fault}
 use Rattle.cell_ascii.specs.GridReaders.{ReaderValue, reader_place, opened_in, fault_of_reading}
 use Rattle.cell_ascii_header.specs.Opening.{header_seen}
-use Rattle.cell_ascii_scanner.specs.Ahead.{before_coming}
 use Rattle.cell_ascii_meaning.specs.declared.grid_fault.GridFault.{GridFault}
 use Rattle.cell_ascii_meaning.specs.declared.grid_fault.GridKind.{GridKind}
 use Rattle.cell_ascii_meaning.specs.declared.grid_fault.GridKind.TheVariants.{MissingKey, Region}
-use Rattle.cell_ascii_header.proofs.MapLemmas.{known, map_same}
+use Rattle.cell_ascii_header.proofs.MapLemmas.{known}
 use Rattle.cell_ascii.proofs.CellLemmas.{with_front, more_fails}
 use Rattle.cell_ascii_law_faults.proofs.GridFaultLemmas.{opening_agrees, opening_keeps_places}
 use Rattle.cell_ascii.proofs.RowReadLemmas.{implied, rows_kept, end_is}
@@ -106,26 +105,12 @@ header_faults (Some x) f h = rw h refl
 pub opening_fails : (a : Option Coming) (f : GridFault) → IfSome a (λ c. opening_fault c ≡ Some f) → IfSome a (λ c. grid_of c ≡ Err f)
 opening_fails a f told = header_faults a f (implied (λ c. opening_fault c ≡ Some f) (λ c. header_of_text c ≡ Err f) a (λ c. (opening_agrees c f).1) told)
 
--- a text of which nothing is held
-pub nothing_held : (r : Option Coming) → option_map (before_coming []) r ≡ r
-nothing_held None = refl
-nothing_held (Some c) = refl
-
 -- the keys give no header
 pub open_fails : (keys : KeyValues) (word : List ℕ) (line : ℕ) (waiting : Bool) (a b : Option Coming) (f : GridFault)
     → option_map (header_from 10 no_keys 1 0) a ≡ option_map (header_seen (Ok waiting) keys word line) b
     → Err f ≡ at_line line (header_of keys) → IfSome a (λ c. header_of_text c ≡ Err f)
 open_fails keys word line waiting a b f e bad =
     known (header_from 10 no_keys 1 0) (header_seen (Ok waiting) keys word line) a b (Err f) e (λ c. rw (← bad) refl)
-
--- the keys give a header
-pub open_reads : (keys : KeyValues) (word : List ℕ) (line : ℕ) (waiting : Bool) (a b : Option Coming) (h : HeaderValue)
-    → option_map (header_from 10 no_keys 1 0) a ≡ option_map (header_seen (Ok waiting) keys word line) b
-    → Ok h ≡ at_line line (header_of keys)
-    → option_map header_of_text a ≡ option_map (λ c. Ok (record { header = h; at = record { pending = (if waiting then Some word else None); line = line; run = 0; coming = c } })) b
-open_reads keys word line waiting a b h e good =
-    e
-    ∙ map_same (header_seen (Ok waiting) keys word line) (λ c. Ok (record { header = h; at = record { pending = (if waiting then Some word else None); line = line; run = 0; coming = c } })) b (λ c. rw (← good) refl)
 
 -- where each of the six keys stood, the header is judged by their region
 all_given : (k : KeyValues) (north south east west : ℤ) (rows cols : ℕ) → k.north ≡ Some north → k.south ≡ Some south → k.east ≡ Some east → k.west ≡ Some west → k.rows ≡ Some rows → k.cols ≡ Some cols

@@ -29,9 +29,6 @@ comes_again bs n all times e enough (suc i) few =
     ∙ alike_part all (i * n) (n + 1) (drop n bs) bs e within
     ∙ comes_again bs n all times e enough i fewer
 
-pub none_again : (bs : List ℕ) (n : ℕ) → ComesAgain bs n 0
-none_again bs n i few = let none : i * n ≡ 0 = (let e : i ≡ 0 = omega arith in ap (λ (k : ℕ). k * n) e ∙ omega arith) in ap (λ (k : ℕ). take (n + 1) (drop k bs)) none
-
 pub fewer_again : (bs : List ℕ) (n times fewer : ℕ) → fewer ≤ times → ComesAgain bs n times → ComesAgain bs n fewer
 fewer_again bs n times fewer le again i few = again i (omega arith)
 

@@ -1,5 +1,5 @@
 -- Cells whose bytes are held.
-use Rattle.std.proofs.Common.{◌≡◌, ℕ, pos, suc, ◌+◌, ◌-◌, ◌*◌, ◌^◌, ◌<◌, ◌≤◌, List, [], ◌∷◌, ◌++◌, Some, None, Bool, true, false, drop, take, zero, length, length-take, drop-cons, add-one, refl, ap, sym, ◌∙◌, arith, append-nil, append_assoc, length-append, Ok, not}
+use Rattle.std.proofs.Common.{◌≡◌, ℕ, pos, suc, ◌+◌, ◌-◌, ◌*◌, ◌^◌, ◌<◌, ◌≤◌, List, [], ◌∷◌, ◌++◌, Some, Bool, true, false, drop, take, zero, length, length-take, drop-cons, add-one, refl, ap, sym, ◌∙◌, arith, append-nil, append_assoc, length-append, Ok, not}
 use Rattle.std.specs.Prelude.{◌==◌, ◌&&◌, neg_ℤ, slice_index_or, if◌then◌else◌}
 use Rattle.std.specs.List.{list_all}
 use Rattle.std.proofs.lemmas.Bool.Decides.{nat_tests}
@@ -214,21 +214,3 @@ front_minus (x ∷ y ∷ a ∷ []) l e m = absurd (omega arith)
 front_minus (x ∷ y ∷ a ∷ b ∷ []) l e m = absurd (omega arith)
 front_minus (x ∷ y ∷ a ∷ b ∷ c ∷ []) l e m = absurd (omega arith)
 front_minus (x ∷ y ∷ a ∷ b ∷ c ∷ d ∷ bs) l e m = rw (e, m) refl
-
--- digits and no other byte
-pub all_digits : (bs : List ℕ) → 0 < length bs → list_all is_digit bs ≡ true → digits_of bs ≡ Some (value_of_digits bs)
-all_digits [] some e = absurd (omega arith)
-all_digits (b ∷ bs) some e = rw e refl
-
--- their number
-pub number_of_digits : (bs : List ℕ) (value : ℕ) → digits_of bs ≡ Some value → whole_number bs ≡ Some (pos value)
-number_of_digits [] value e = cc
-number_of_digits (b ∷ bs) value e = by (list_all is_digit (b ∷ bs)) refl e
-  where
-    by : (t : Bool) → list_all is_digit (b ∷ bs) ≡ t → (if t then Some (value_of_digits (b ∷ bs)) else None) ≡ Some value → whole_number (b ∷ bs) ≡ Some (pos value)
-    by true digits o = let same : value_of_digits (b ∷ bs) ≡ value = cc in digits_number b bs digits ∙ ap (λ (m : ℕ). Some (pos m)) same
-    by false digits o = cc
-
--- and behind a minus
-pub number_behind_minus : (word bs : List ℕ) (value : ℕ) → word ≡ 45 ∷ bs → digits_of bs ≡ Some value → whole_number word ≡ Some (neg_ℤ (pos value))
-number_behind_minus word bs value is e = rw (is, e) refl

@@ -1,15 +1,13 @@
 -- Cells that are held one after another.
-use Rattle.std.proofs.Common.{◌≡◌, ℕ, zero, suc, ◌+◌, ◌-◌, ◌<◌, ◌≤◌, List, [], ◌∷◌, ◌++◌, length, take, drop, Option, Some, None, Ok, refl, ap, sym, ◌∙◌, arith, append-nil, length-append, length-drop, length-take, take_all}
-use Rattle.std.specs.Option.{option_map}
+use Rattle.std.proofs.Common.{◌≡◌, ℕ, zero, suc, ◌+◌, ◌-◌, ◌<◌, ◌≤◌, List, [], ◌∷◌, ◌++◌, length, take, drop, Ok, refl, ap, sym, ◌∙◌, arith, append-nil, length-append, length-drop, length-take, take_all}
 use Rattle.std.proofs.Math.Seq.{take-append-add, drop-append-add}
 use Rattle.std.proofs.lemmas.List.{drop_all, drop-append-le, drop-drop, take-append-drop, take-append-le, take_at}
-use Rattle.cell_core_devices.specs.Device.{Coming}
 use Rattle.cell_core.specs.Grid.{CellValue}
 use Rattle.cell_ascii_scanner.specs.Ahead.{before_coming}
 use Rattle.cell_ascii_meaning.specs.Header.{◌>>=◌, HeaderValue}
-use Rattle.cell_ascii_meaning.specs.CellTexts.{Reading, cell_from, at_of, many}
+use Rattle.cell_ascii_meaning.specs.CellTexts.{Reading, cell_from, at_of}
 use Rattle.cell_ascii_held.specs.HeldCells.{HoldsCell, HoldsCells, run_after}
-use Rattle.cell_ascii_held.proofs.ManyLemmas.{many_more, many_add, snoc, with_last, glue, and_then}
+use Rattle.cell_ascii_held.proofs.ManyLemmas.{many_more, snoc, with_last}
 
 run-below : (run count : ℕ) → run < 1048576 → run_after run count < 1048576
 run-below run zero below = below
@@ -19,8 +17,6 @@ run-none : (run count : ℕ) → run_after run (count + 1) ≡ 0
 run-none run count = let e : count + 1 ≡ suc count = omega arith in ap (run_after run) e
 
 module _ (h : HeaderValue) (bs : List ℕ) where
-  pub HoldsCells-none : HoldsCells h bs [] 0 0
-  HoldsCells-none = λ line run below c. refl
 
   -- one more
   pub HoldsCells-more : (cells : List CellValue) (count n : ℕ) (v : CellValue) (m : ℕ) → HoldsCells h bs cells count n → HoldsCell h (drop n bs) v m
@@ -31,27 +27,6 @@ module _ (h : HeaderValue) (bs : List ℕ) where
       ∙ ap (λ (r : Reading CellValue). r >>= snoc (cell_from h) cells) (next line (run_after run count) (run-below run count below) c)
       ∙ ap (λ (k : ℕ). Ok (cells ++ v ∷ [], at_of line k (before_coming (drop m (drop n bs)) c))) (sym (run-none run count))
       ∙ ap (λ (rest : List ℕ). Ok (cells ++ v ∷ [], at_of line (run_after run (count + 1)) (before_coming rest c))) (drop-drop m n bs)
-
-  run-both : (run count more : ℕ) → run_after (run_after run count) more ≡ run_after run (count + more)
-  run-both run count zero = let e : count ≡ count + 0 = omega arith in ap (run_after run) e
-  run-both run count (suc more) = let e : suc (count + more) ≡ count + suc more = omega arith in ap (run_after run) e
-
-  -- some more
-  pub HoldsCells-append : (cells others : List CellValue) (count more n m : ℕ) → HoldsCells h bs cells count n → HoldsCells h (drop n bs) others more m
-      → HoldsCells h bs (cells ++ others) (count + more) (n + m)
-  HoldsCells-append cells others count more n m held next = λ line run below c.
-      many_add (cell_from h) count more (at_of line run (before_coming bs c))
-      ∙ ap (λ (r : Reading (List CellValue)). r >>= and_then (cell_from h) more) (held line run below c)
-      ∙ ap (λ (r : Reading (List CellValue)). r >>= glue (cell_from h) cells) (next line (run_after run count) (run-below run count below) c)
-      ∙ ap (λ (k : ℕ). Ok (cells ++ others, at_of line k (before_coming (drop m (drop n bs)) c))) (run-both run count more)
-      ∙ ap (λ (rest : List ℕ). Ok (cells ++ others, at_of line (run_after run (count + more)) (before_coming rest c))) (drop-drop m n bs)
-
--- what the next cells say of all that is to come
-pub cells_held : (h : HeaderValue) (line run : ℕ) (bs : List ℕ) (rest : Option Coming) (cells : List CellValue) (count n : ℕ) → run < 1048576 → 0 < count → HoldsCells h bs cells count n
-    → option_map (λ c. many (cell_from h) count (at_of line run c)) (option_map (before_coming bs) rest) ≡ option_map (λ d. Ok (cells, at_of line 0 d)) (option_map (before_coming (drop n bs)) rest)
-cells_held h line run bs None cells count n below some held = refl
-cells_held h line run bs (Some c) cells zero n below some held = absurd (omega arith)
-cells_held h line run bs (Some c) cells (suc count) n below some held = ap Some (held line run below c)
 
 -- a row whose last cells were lent
 abbrev pub filled : ℕ → List CellValue → List CellValue → List CellValue

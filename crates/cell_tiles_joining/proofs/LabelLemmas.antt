@@ -1,37 +1,16 @@
 -- What labels lead to, while some are joined.
-use Rattle.std.proofs.Common.{◌≡◌, ℕ, zero, suc, ◌<◌, ◌≤◌, List, [], ◌∷◌, ◌++◌, length, get_or, set, refl, ap, sym, ◌∙◌, arith, subst, ⊎_elim, eqb, max, min}
+use Rattle.std.proofs.Common.{◌≡◌, ℕ, zero, suc, ◌<◌, ◌≤◌, List, [], ◌∷◌, ◌++◌, length, get_or, set, refl, ap, sym, ◌∙◌, arith, subst, ⊎_elim, max, min}
 use Rattle.std.proofs.Math.ListN.{length-set}
-use Rattle.std.proofs.lemmas.List.{length_push}
-use Rattle.std.proofs.lemmas.Bool.{cases_eq, ne_eqb, cond-false}
+use Rattle.std.proofs.lemmas.Bool.{cases_eq}
 use Rattle.std.specs.Prelude.{Contains}
-use Rattle.cell_cats_areas.specs.parts.Labels.{PointDown, TellsOpen, closed_labels, after_join}
-use Rattle.cell_cats_areas.proofs.LabelLemmas.{closed_high, closed_other, by_order, extended, extended_new, TellsOpen-halved, TellsOpen-joined, TellsOpen-push}
+use Rattle.cell_cats_areas.specs.parts.Labels.{PointDown, closed_labels, after_join}
+use Rattle.cell_cats_areas.proofs.LabelLemmas.{closed_high, closed_other, by_order, TellsOpen-halved, TellsOpen-joined}
 use Rattle.cell_cats_areas.proofs.MeetingLemmas.{after_join_one, after_join_keeps}
 use Rattle.cell_tiles_joining.specs.parts.TileLabels.{LeadTo, after_all}
 
 -- ---- a function that is the same at each label
 
-same-tells : (table : List ℕ) (f g : ℕ → ℕ) → ((k : ℕ) → f k ≡ g k) → TellsOpen table f → TellsOpen table g
-same-tells table f g same h = record {
-  points = λ k lt. sym (same (get_or table k 0)) ∙ h.points k lt ∙ same k;
-  itself = λ k lt is. sym (same k) ∙ h.itself k lt is;
-  is_open = λ k lt. ap (λ (i : ℕ). get_or table i 0) (sym (same k)) ∙ h.is_open k lt ∙ same k;
-  low = λ k lt. subst (λ (i : ℕ). i ≤ k) (same k) (h.low k lt);
-}
-
 -- ---- a label more
-
-same-extended : (table : List ℕ) (f : ℕ → ℕ) → LeadTo table f → (k : ℕ) → extended f (length table) k ≡ f k
-same-extended table f h k =
-    ⊎_elim
-    (λ e. let past = h.beyond k (omega (arith, e)) in ap (extended f (length table)) e ∙ extended_new f (length table) ∙ sym e ∙ sym past)
-    (λ ne. cond-false (eqb k (length table)) (length table) (f k) (ne_eqb k (length table) ne)) (cases_eq k (length table))
-
-pub LeadTo-push : (table : List ℕ) (f : ℕ → ℕ) → PointDown table → LeadTo table f → LeadTo (table ++ length table ∷ []) f
-LeadTo-push table f down h = record {
-  tells = same-tells (table ++ length table ∷ []) (extended f (length table)) f (same-extended table f h) (TellsOpen-push table f down h.tells);
-  beyond = λ k le. h.beyond k (omega (arith, le, length_push table (length table)));
-}
 
 -- ---- a way is halved
 

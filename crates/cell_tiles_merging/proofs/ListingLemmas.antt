@@ -169,14 +169,6 @@ refused-two (TooMany k) tables n one other first second left right beyond =
     )
 refused-two Memory tables n one other first second left right beyond = tt
 
-pub refused-first : (fault : MergeFault) (tables : List Pairs) (n : ℕ) → IsMergeRefused fault (take n tables) → IsMergeRefused fault tables
-refused-first (TooMany k) tables n beyond = omega (arith, beyond, sum_by-take-drop (count_in k) tables n)
-refused-first Memory tables n beyond = tt
-
-pub refused-last : (fault : MergeFault) (tables : List Pairs) (n : ℕ) → IsMergeRefused fault (drop n tables) → IsMergeRefused fault tables
-refused-last (TooMany k) tables n beyond = omega (arith, beyond, sum_by-take-drop (count_in k) tables n)
-refused-last Memory tables n beyond = tt
-
 -- ---- tables of parts
 
 pub whole-table : (skip : Skip) (picks : List ℕ) (rows cols : ℕ) (whole : List Grid) (tables : List Pairs) (merged : Pairs) → IsMerge tables merged → AreTablesOf skip picks rows cols whole tables → IsTable skip (all_combinations whole picks rows cols) merged
@@ -206,12 +198,6 @@ module _ {X : Type 0} (pairs_of : X → Pairs) where
 
     backs : map pairs_of second ≡ drop n (map pairs_of xs)
     backs = ap (map pairs_of) back ∙ sym (drop-map pairs_of n xs)
-
-    pub refused-front : (fault : MergeFault) → IsMergeRefused fault (map pairs_of first) → IsMergeRefused fault (map pairs_of xs)
-    refused-front fault h = refused-first fault (map pairs_of xs) n (subst (IsMergeRefused fault) fronts h)
-
-    pub refused-back : (fault : MergeFault) → IsMergeRefused fault (map pairs_of second) → IsMergeRefused fault (map pairs_of xs)
-    refused-back fault h = refused-last fault (map pairs_of xs) n (subst (IsMergeRefused fault) backs h)
 
     module _ (one other : Pairs) (listing : IsListing one) (listing_too : IsListing other) (left : IsMerge (map pairs_of first) one) (right : IsMerge (map pairs_of second) other) where
       pub merge-halves : IsMerge (map pairs_of xs) (merged_of one other)

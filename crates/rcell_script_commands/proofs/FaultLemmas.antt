@@ -1,5 +1,5 @@
 -- Faults of options, told as those of a script.
-use Rattle.std.proofs.Common.{◌≡◌, ◌≢◌, Result, Ok, Err, ap, sym, ◌∙◌}
+use Rattle.std.proofs.Common.{◌≡◌, ◌≢◌, Result, Err, ap, sym, ◌∙◌}
 use Rattle.rcell_script_options.specs.declared.option_fault.OptionFault.{OptionFault}
 use Rattle.rcell_script_options.specs.declared.option_fault.OptionFault.TheVariants as option
 use Rattle.rcell_script_commands.specs.ScriptFaults.{kind_of, in_script}
@@ -10,7 +10,3 @@ use Rattle.rcell_script_commands.specs.declared.script_fault.ScriptKind.TheVaria
 pub told : {A : Type 0} (r : Result A OptionFault) (fault : OptionFault) (kind : ScriptKind) → kind ≡ kind_of fault → kind ≢ script.Memory
     → (fault ≢ option.Memory → r ≡ Err fault) → in_script r ≡ Err kind
 told r fault kind same other fails = rw (fails (λ memory. other (same ∙ ap kind_of memory))) (ap Err (sym same))
-
--- what is given
-pub given : {A : Type 0} (r : Result A OptionFault) (x : A) → r ≡ Ok x → in_script r ≡ Ok x
-given r x e = ap in_script e

@@ -95,18 +95,6 @@ executed_within shelf after statements i before now start faults block executed 
   count = executed.appended.count;
 }
 
--- all statements were executed
-pub executed_all : (shelf after : ShelfValue) (statements first : List Statement) (before now : Option (List ℕ)) (start faults : Faults) (block : BlockValue) → first ≡ statements → block.failed ≡ false → block.held ≡ []
-    → HasExecuted shelf first before start now faults block after → IsDone shelf statements before now block.written
-executed_all shelf after statements first before now start faults block all good none executed =
-    let put = appended_put executed.appended good none in
-    record {
-      text = executed.text;
-      output = (after, subst (λ (l : List Statement). Executes shelf l executed.text after) all executed.executed);
-      taken = put.0;
-      count = put.1.0;
-    }
-
 -- where all was written and the flush failed, the prefix is the whole output
 pub done_within : (shelf : ShelfValue) (statements : List Statement) (before now : Option (List ℕ)) (written : ℕ) → IsDone shelf statements before now written → IsWithin shelf statements before now written
 done_within shelf statements before now written done = record {
