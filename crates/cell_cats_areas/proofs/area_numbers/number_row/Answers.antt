@@ -55,6 +55,7 @@ loop-col-preserved c =
 pub returns : goal.returns
 returns c =
     let e : c.loop-col.col ≡ c.args.map.now.region.cols = omega (arith, c.copy_row.auto.cells, c.requires.wide, c.loop-col-test.false, c.loop-col.auto.col-end, c.loop-col.auto.cells) in
-    λ labels h n have.
-    (numbering_down c.args.joining c.args.map.now labels h c.loop-col.next c.loop-col.line c.args.row c.loop-col.col e (c.loop-col.invariant.numbers labels h n have),
-    subst (λ (k : ℕ). AreWritten c.args.joining c.args.map.now labels h c.args.row k c.loop-col.cells) e (c.loop-col.invariant.written labels h n have))
+    λ labels h n have. (
+      numbering_down c.args.joining c.args.map.now labels h c.loop-col.next c.loop-col.line c.args.row c.loop-col.col e (c.loop-col.invariant.numbers labels h n have),
+      subst (λ (k : ℕ). AreWritten c.args.joining c.args.map.now labels h c.args.row k c.loop-col.cells) e (c.loop-col.invariant.written labels h n have),
+    )
