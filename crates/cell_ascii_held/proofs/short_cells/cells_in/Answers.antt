@@ -16,8 +16,7 @@ parts-preserved c =
     let part = c.some_cells_in-found.new.row in
     let within : i ≤ length row = c.parts.invariant.low in
     let size : length part ≡ length row - i = omega (arith, c.some_cells_in-found.auto.row, length-drop i row, length-take (length row - i) (drop i row)) in
-    let few : k ≤ length row - i = omega (arith, c.some_cells_in-found.ensures.cells.count, length-drop i row,
-        length-take (length row - i) (drop i row)) in
+    let few : k ≤ length row - i = omega (arith, c.some_cells_in-found.ensures.cells.count, length-drop i row, length-take (length row - i) (drop i row)) in
     let front = part-front i k row part old within size few in
     let whole : length (filled i row part) ≡ length row = filled-length i k row part old within size few in
     let here = take_rest held passed in
@@ -45,10 +44,8 @@ returns-then-found-eq0-clause-cells c =
     let part = found.new.row in
     let is = found.ensures.cells in
     let within : i ≤ length row = inv.low in
-    let size : length part ≡ length row - i = omega (arith, found.auto.row, length-drop i row, length-take
-        (length row - i) (drop i row)) in
-    let few : k ≤ length row - i = omega (arith, is.count, length-drop i row, length-take (length row - i)
-        (drop i row)) in
+    let size : length part ≡ length row - i = omega (arith, found.auto.row, length-drop i row, length-take (length row - i) (drop i row)) in
+    let few : k ≤ length row - i = omega (arith, is.count, length-drop i row, length-take (length row - i) (drop i row)) in
     let none : i + k ≡ i = omega (arith, c.if-found-eq0.true) in
     record {
       cells = rw (part-none i k row part old within size few) inv.cells;
@@ -63,5 +60,11 @@ returns-then-found-eq0-clause-cells c =
 pub returns-clause-cells : goal.returns-clause-cells
 returns-clause-cells c =
     let inv = c.parts.invariant in
-    record { cells = inv.cells; count = omega (arith, inv.low, c.parts.auto.row); within = inv.within; among =
-        inv.among; lines = inv.lines; rest = inv.rest }
+    record {
+      cells = inv.cells;
+      count = omega (arith, inv.low, c.parts.auto.row);
+      within = inv.within;
+      among = inv.among;
+      lines = inv.lines;
+      rest = inv.rest;
+    }

@@ -5,4 +5,4 @@ pub returns : goal.returns
 returns c =
     let found = c.single_cells_in-found in
     lent_in_line c.args.header.now c.args.held.now c.min-end.result found.new.row c.args.row.now found.result
-        found.auto.row found.ensures
+    found.auto.row found.ensures

@@ -25,8 +25,7 @@ blocks-2-preserved c =
     let n = found.result.1 in
     let part = found.new.row in
     let within : i ≤ length row = c.blocks-2.invariant.low in
-    let size : length part ≡ length row - i = omega (arith, found.auto.row, length-drop i row, length-take
-        (length row - i) (drop i row)) in
+    let size : length part ≡ length row - i = omega (arith, found.auto.row, length-drop i row, length-take (length row - i) (drop i row)) in
     let few : k ≤ length row - i = omega (arith, found.ensures.count, length-drop i row, length-take (length row - i) (drop i row)) in
     let front = part-front i k row part old within size few in
     let whole : length (filled i row part) ≡ length row = filled-length i k row part old within size few in
@@ -59,10 +58,8 @@ returns-then-found-eq0-clause-cells c =
     let part = found.new.row in
     let is = found.ensures in
     let within : i ≤ length row = inv.low in
-    let size : length part ≡ length row - i = omega (arith, found.auto.row, length-drop i row, length-take
-        (length row - i) (drop i row)) in
-    let few : k ≤ length row - i = omega (arith, is.count, length-drop i row, length-take (length row - i)
-        (drop i row)) in
+    let size : length part ≡ length row - i = omega (arith, found.auto.row, length-drop i row, length-take (length row - i) (drop i row)) in
+    let few : k ≤ length row - i = omega (arith, is.count, length-drop i row, length-take (length row - i) (drop i row)) in
     let none : i + k ≡ i = omega (arith, c.if-found-eq0.true) in
     record {
       cells = rw (part-none i k row part old within size few) inv.cells;

@@ -16,4 +16,4 @@ returns-in_default-clause-kept g c = kept_none c.requires c.new_field.auto.field
 pub returns-clause-kept : goal.returns-clause-kept
 returns-clause-kept g c =
     kept_at c.requires c.new_field.auto.fields c.new_field.ensures.known c.write_field.auto.line
-        c.write_field.ensures.within
+    c.write_field.ensures.within

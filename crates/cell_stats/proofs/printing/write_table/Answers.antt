@@ -18,7 +18,7 @@ write_pair-requires g c =
       some = c.requires.some;
       width = ap length c.cells.ensures ∙ ap (λ (e : Combination × ℕ). length e.0) c.loop-combo-item.is
           ∙ c.printed_entries-entries.ensures.wide c.loop-combo.combo-index item c.loop-combo-test.true
-              ∙ c.requires.width;
+          ∙ c.requires.width;
     }
 
 pub returns-then-has_failed : goal.returns-then-has_failed

@@ -79,9 +79,13 @@ returns c =
       counts = λ k.
           let first = gathered_of k c.args.counted.now in
           c.in_ok-settle.ensures.ok k ∙ c.loop-held.invariant.counted k
-              ∙ ap (λ (l : List CountPlace). first + held_of c.args.width k l) all
+          ∙ ap (λ (l : List CountPlace). first + held_of c.args.width k l) all
           ∙ turned first (held_of c.args.width k c.args.places.now);
-      going = record { few = c.requires.going.few; wide = c.loop-held.invariant.spare; some = c.requires.going.some;
-          no_zero = c.in_ok-settle.ensures.no_zero };
+      going = record {
+        few = c.requires.going.few;
+        wide = c.loop-held.invariant.spare;
+        some = c.requires.going.some;
+        no_zero = c.in_ok-settle.ensures.no_zero;
+      };
       settled = c.in_ok-settle.ensures.settled;
     }

@@ -13,8 +13,8 @@ pub returns-clause-ok : goal.returns-clause-ok
 returns-clause-ok c = λ k.
     let map = c.flush_all.new.counted in
     ap (λ n. n + gathered_of k map) (c.in_ok-more.ensures.nothing c.args.width k) ∙ zero-add (gathered_of k map)
-        ∙ c.in_ok-flush_all.ensures.counts k
-        ∙ ap (λ (p : List CountPlace). total_of c.args.width k p c.args.counted.now) c.as_slice.ensures.value
+    ∙ c.in_ok-flush_all.ensures.counts k
+    ∙ ap (λ (p : List CountPlace). total_of c.args.width k p c.args.counted.now) c.as_slice.ensures.value
 
 pub returns-then-not-are_crowded-clause-ok : goal.returns-then-not-are_crowded-clause-ok
 returns-then-not-are_crowded-clause-ok c = λ k. refl

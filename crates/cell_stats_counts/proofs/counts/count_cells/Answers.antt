@@ -139,8 +139,8 @@ returns c =
       ascending = c.ordered_entries.ensures.ascending;
       counts = λ k.
           c.ordered_entries.ensures.counts k ∙ c.in_ok-flush_all.ensures.counts k
-              ∙ ap (λ (p : List CountPlace). total_of (length picks) k p c.loop-row.counted) c.deref-2.ensures.value
-              ∙ c.loop-row.invariant.counted k
+          ∙ ap (λ (p : List CountPlace). total_of (length picks) k p c.loop-row.counted) c.deref-2.ensures.value
+          ∙ c.loop-row.invariant.counted k
           ∙ ap (λ r. count_of k (kept_cells skip (all_combinations maps picks r value.cols))) last;
       no_zero = c.ordered_entries.ensures.no_zero;
     }
@@ -153,8 +153,8 @@ ordered_entries-requires-clause-fits c = λ k.
     fits shelf.maps c.args.picks.now shelf.region.cols c.args.skip k c.loop-row.row shelf.region.rows _
     (at_most c.loop-row.auto.row-end rows) region.rows_most region.cols_most
     (c.in_ok-flush_all.ensures.counts k
-        ∙ ap (λ (p : List CountPlace). total_of (length c.args.picks.now) k p c.loop-row.counted)
-            c.deref-2.ensures.value
+    ∙ ap (λ (p : List CountPlace). total_of (length c.args.picks.now) k p c.loop-row.counted)
+    c.deref-2.ensures.value
     ∙ c.loop-row.invariant.counted k)
 
 pub returns-in_err-cells : goal.returns-in_err-cells

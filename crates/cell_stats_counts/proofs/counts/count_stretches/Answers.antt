@@ -46,8 +46,8 @@ loop-cell-preserved-in-Continue-1 c =
     let kept_in : is_left_out skip (alone x) ≡ false = sym c.is_left_out.ensures ∙ c.if-not-is_left_out.true in
     let grown : (k : Combination) → total_of 1 k c.add_count.new.places c.add_count.new.counted ≡ total_of 1 k c.loop-cell.places c.loop-cell.counted + cond (is_same k (alone x)) n 0 = λ k.
     c.in_ok-add_count.ensures.counts k
-        ∙ ap (λ (m : ℕ). total_of 1 k c.loop-cell.places c.loop-cell.counted + cond (is_same k (alone x)) m 0)
-            c.from.ensures in
+    ∙ ap (λ (m : ℕ). total_of 1 k c.loop-cell.places c.loop-cell.counted + cond (is_same k (alone x)) m 0)
+    c.from.ensures in
     record {
       counted = λ k. run-more skip k runs rest x n steps _ _ _ kept_in (grown k) (inv.counted k);
       room = λ k. room-more skip k runs rest x n steps _ _ (2 ^ 64) (grown k) (inv.room k);
