@@ -12,6 +12,7 @@ use Rattle.cell_ascii_scanner.specs.Ahead.{before_coming}
 use Rattle.cell_ascii_meaning.specs.GridTokens.{is_space, is_word_byte, newlines, grid_start}
 use Rattle.cell_ascii_meaning.specs.Header.{◌>>=◌, HeaderValue}
 use Rattle.cell_ascii_meaning.specs.CellTexts.{Reading, cell_from, cell_of_word, after_start, cell_after_word, after_cell, at_of, many}
+use Rattle.cell_ascii_held.specs.HeldCells.{HoldsCells, run_after}
 use Rattle.cell_ascii_held.specs.TableWords.{HoldsLines, AreCellsRead}
 use Rattle.cell_ascii_held.proofs.HeldLemmas.{both, no_space, word_ahead}
 use Rattle.cell_ascii_held.proofs.ManyLemmas.{many_more, many_add, snoc, with_last, glue, and_then}
@@ -79,6 +80,8 @@ next_cell h bs g n v blank few some short within word space cell line c =
     ∙ ap (λ (l : List ℕ). Ok (v, at_of (line + newlines gap) 0 (record { bytes = l ++ c.bytes; fails = c.fails }))) (sym behind)
 
 module _ (h : HeaderValue) (bs : List ℕ) where
+  pub HoldsLines-none : HoldsLines h bs [] 0 0 0
+  HoldsLines-none = λ line c. let same : line ≡ line + 0 = omega arith in ap (λ (l : ℕ). Ok ([], at_of l 0 (before_coming bs c))) same
 
   -- one more
   lines-more : (cells : List CellValue) (count n lines : ℕ) (v : CellValue) (m k : ℕ) → HoldsLines h bs cells count n lines
@@ -102,6 +105,17 @@ module _ (h : HeaderValue) (bs : List ℕ) where
       ∙ ap (λ (r : Reading (List CellValue)). r >>= glue (cell_from h) cells) (next (line + lines) c)
       ∙ ap (λ (l : ℕ). Ok (cells ++ others, at_of l 0 (before_coming (drop m (drop n bs)) c))) all
       ∙ ap (λ (rest : List ℕ). Ok (cells ++ others, at_of (line + (lines + k)) 0 (before_coming rest c))) (drop-drop m n bs)
+
+  run-none : (count : ℕ) → run_after 0 count ≡ 0
+  run-none zero = refl
+  run-none (suc count) = refl
+
+  -- cells that are apart by single spaces
+  pub on_one_line : (cells : List CellValue) (count n : ℕ) → HoldsCells h bs cells count n → HoldsLines h bs cells count n 0
+  on_one_line cells count n held = λ line c.
+      let low : 0 < 1048576 = omega arith in
+      let same : line ≡ line + 0 = omega arith in
+      held line 0 low c ∙ ap₂ (λ (l : ℕ) (r : ℕ). Ok (cells, at_of l r (before_coming (drop n bs) c))) same (run-none count)
 
 -- no line feed stands in a word
 word_feeds : (word : List ℕ) → list_all is_word_byte word ≡ true → newlines word ≡ 0
