@@ -96,10 +96,7 @@ ready_step : (windows : List Window) (row : ℕ) (s : Step ℕ) → IsProperStep
     → ((i : ℕ) (down right : ℤ) → s ≡ step.Map i down right → HasReach row (up_by down) (down_by down) (slice_get windows i)) → IsReadyStep windows s
 ready_step windows row (step.Number n) p reach = p
 ready_step windows row (step.Map i down right) p reach = in_reach down row (slice_get windows i) (reach i down right refl)
-ready_step windows row step.Negated p reach = tt
-ready_step windows row step.Not p reach = tt
-ready_step windows row (step.Binary op) p reach = tt
-ready_step windows row (step.Call g n) p reach = tt
+ready_step windows row _ p reach = tt
 
 pub ready_steps : (f : Formula) (row : ℕ) (windows : List Window) → IsProper f
     → ((i : ℕ) → i < top_of f → HasReach row (up_of i f) (down_of i f) (slice_get windows i)) → All (IsReadyStep windows) (postfix f)
@@ -109,22 +106,17 @@ ready_steps f row windows proper h = λ k d lt.
 -- a cell of a row that a window holds is the map's
 over_window : (row c : ℕ) (down right : ℤ) (o : Option Window) (m : Option Grid) → IsOver o m → HasReach row (up_by down) (down_by down) o
     → item_at None (row_below down o) (pos c +ℤ right) ≡ cell_in m (pos row +ℤ down) (pos c +ℤ right)
-over_window row c down right None m over h = absurd over
-over_window row c down right (Some w) None over h = absurd over
 over_window row c down right (Some w) (Some m) over h =
     ap (λ l. item_at None l (pos c +ℤ right)) (window_row w m down over (reaches_offset down row w h) ∙ ap (λ r. row_of m (pos r +ℤ down)) h.0)
+over_window row c down right _ _ over h = absurd over
 
 same_step : (windows : List Window) (maps : List Grid) (s : Spot) (t : Step ℕ)
     → ((i : ℕ) (down right : ℤ) → t ≡ step.Map i down right → IsOver (slice_get windows i) (slice_get maps i) × HasReach s.row (up_by down) (down_by down) (slice_get windows i))
     → (xs : List CellValue) → seen_cell windows s t xs ≡ over_maps maps s t xs
-same_step windows maps s (step.Number n) reach xs = refl
 same_step windows maps s (step.Map i down right) reach xs =
     let there = reach i down right refl in
     over_window s.row s.col down right (slice_get windows i) (slice_get maps i) there.0 there.1
-same_step windows maps s step.Negated reach xs = refl
-same_step windows maps s step.Not reach xs = refl
-same_step windows maps s (step.Binary op) reach xs = refl
-same_step windows maps s (step.Call g n) reach xs = refl
+same_step windows maps s _ reach xs = refl
 
 -- steps that make the same of operands
 after_same : {X : Type 0} (g h : Step ℕ → List X → X) (steps : List (Step ℕ)) → All (λ s. (xs : List X) → g s xs ≡ h s xs) steps

@@ -63,11 +63,7 @@ same-moved places more kept (s ∷ steps) all =
   where
     one : (s : Step ℕ) → IsListed places s → step_over (index_in more) s ≡ step_over (index_in places) s
     one (step.Map i down right) h = ap (λ k. step.Map k down right) (kept i h)
-    one (step.Number n) h = refl
-    one step.Negated h = refl
-    one step.Not h = refl
-    one (step.Binary op) h = refl
-    one (step.Call f n) h = refl
+    one _ h = refl
 
 -- one more step over the places of a list
 pub moved_more : (places more : List ℕ) (steps : List (Step ℕ)) (i : ℕ) (d : Step ℕ) (others : List (Step ℕ)) (other : Step ℕ) → i < length steps
@@ -83,11 +79,7 @@ moved_more places more steps i d others other lt kept listed is here =
 pub still_listed : (places more : List ℕ) → ((i : ℕ) → index_in places i < length places → index_in more i ≡ index_in places i)
     → length places ≤ length more → (s : Step ℕ) → IsListed places s → IsListed more s
 still_listed places more kept longer (step.Map i down right) h = rw (kept i h) (omega (arith, longer, h))
-still_listed places more kept longer (step.Number n) h = tt
-still_listed places more kept longer step.Negated h = tt
-still_listed places more kept longer step.Not h = tt
-still_listed places more kept longer (step.Binary op) h = tt
-still_listed places more kept longer (step.Call f n) h = tt
+still_listed places more kept longer _ h = tt
 
 pub listed_more : (places more : List ℕ) (steps : List (Step ℕ)) (i : ℕ) (d : Step ℕ) → i < length steps
     → ((i : ℕ) → index_in places i < length places → index_in more i ≡ index_in places i) → length places ≤ length more

@@ -63,8 +63,7 @@ too_far n h = grind (arith, nat_tests)
 
 sign_far : {us : List Placed} → IsOffsetSign us → (n c : ℕ) → 255 < n → (rest : List Placed) → offset (us ++ token_number_at n c ∷ rest) ≡ Err (BadOffset, token_number_at n c ∷ rest)
 sign_far grammar_fault.unsigned n c h rest = rw (too_far n h)
-sign_far (grammar_fault.minus d) n c h rest = rw (too_far n h)
-sign_far (grammar_fault.plus d) n c h rest = rw (too_far n h)
+sign_far _ n c h rest = rw (too_far n h)
 
 far_read : {us : List Placed} → IsBeforeNumber us → (n c : ℕ) → 255 < n → (rest : List Placed) → reading.offsets (us ++ token_number_at n c ∷ rest) ≡ Err (BadOffset, token_number_at n c ∷ rest)
 far_read (grammar_fault.first s) n c h rest = rw (sign_far s n c h rest)
@@ -142,10 +141,7 @@ tells_none l can free = λ before rest next kind column e t. go before rest next
     go : (before rest : List Placed) (next : Placed) (kind : CalcKind) (column : ℕ) → l ≡ before ++ next ∷ rest → Tells kind column before next → ⊥
     go before rest next Expected column e (c, can', cannot) =
         cannot (can_before (before ++ next ∷ []) rest (subst CanGoOn (e ∙ sym (append_assoc before (next ∷ []) rest)) can))
-    go before rest next UnknownFunction column e t = other before rest next UnknownFunction column e (λ k. cc) t
-    go before rest next BadArguments column e t = other before rest next BadArguments column e (λ k. cc) t
-    go before rest next BadOffset column e t = other before rest next BadOffset column e (λ k. cc) t
-    go before rest next _ column e t = t
+    go before rest next kind column e t = other before rest next kind column e (λ k. cc) t
 
 pub none_in_nothing : HasNoBad []
 none_in_nothing kind ts bad m mid e = not_nothing m (name_at bad.name bad.column) (bad.ends ++ mid) e

@@ -63,16 +63,14 @@ add_all_stops (Then a xs) kind ts = ap (add a) (add_all_stops xs kind ts)
 -- a fault goes through whatever waits
 stops : (s : State) (fs : List Frame) (steps : List (Step MapName)) (kind : CalcKind) (ts : List Placed) → Fills s fs steps (Stops kind ts) → GrammarReads s (Stops kind ts)
 stops s [] steps kind ts h = h.1
-stops s (frame.Negated ∷ fs) steps kind ts h = stops s fs steps kind ts h
-stops s (frame.Not ∷ fs) steps kind ts h = stops s fs steps kind ts h
 stops s (frame.Level k ∷ fs) steps kind ts h = stops s fs steps kind ts (h (Stops kind ts) stopped)
 stops s (frame.Joined k op ∷ fs) steps kind ts h = stops s fs h.1 kind ts (h.3 (Stops kind ts) stopped)
 stops s (frame.Choice ∷ fs) steps kind ts h = stops s fs steps kind ts (h (Stops kind ts) unread)
 stops s (frame.AfterQuestion ∷ fs) steps kind ts h = stops s fs h.1 kind ts (h.3 (Stops kind ts) unasked)
 stops s (frame.AfterColon ∷ fs) steps kind ts h = stops s fs h.2 kind ts h.4
-stops s (frame.Parenthesis ∷ fs) steps kind ts h = stops s fs steps kind ts h
 stops s (frame.Call f from n ∷ fs) steps kind ts h =
     stops s fs h.1 kind ts (subst (λ o. Fills s fs h.1 (call f from.now o)) (add_all_stops h.0 kind ts) (h.4 (Stops kind ts) halted))
+stops s (_ ∷ fs) steps kind ts h = stops s fs steps kind ts h
 
 -- where an operand or an expression is to be read
 module _ (s : State) (fs : List Frame) (steps : List (Step MapName)) (ts : List Placed) where

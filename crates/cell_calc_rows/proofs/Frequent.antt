@@ -6,6 +6,7 @@ use Rattle.std.specs.Cmp.{int_ranks, signed_Decides}
 use Rattle.std.specs.Int.{int_min}
 use Rattle.std.specs.Int.Signed.{<ℤ_irrefl}
 use Rattle.std.specs.List.{list_all, list_any}
+use Rattle.std.proofs.Math.Bool.{and-false}
 use Rattle.std.proofs.lemmas.Int.{ints, int_min_is, by_lt_z}
 use Rattle.std.proofs.lemmas.List.{take_more, take_more_set, take-set}
 use Rattle.std.proofs.lemmas.List.Elements.{All-nil, All-cons, All-head, All-tail, All-weaker, All-get_or, filter-append}
@@ -271,13 +272,9 @@ fails_one q b (y ∷ cells) fails there = by_case (cell_eq (Some b) y) refl (λ 
     later : cell_eq (Some b) y ≡ false → 0 < occurrences (Some b) cells
     later e = let k = count ∙ ap (λ t. (if t then 1 else 0) + occurrences (Some b) cells) e in omega (arith, k, there)
 
-    and_false : (t : Bool) → (t && false) ≡ false
-    and_false true = refl
-    and_false false = refl
-
     by_case : (t : Bool) → cell_eq (Some b) y ≡ t → (cell_eq (Some b) y ≡ false → list_all q cells ≡ false) → (q y && list_all q cells) ≡ false
     by_case true e others = ap (λ x. q x && list_all q cells) (sym ((cell_eq-Decides (Some b) y).0 e)) ∙ ap (λ t. t && list_all q cells) fails
-    by_case false e others = ap (λ t. q y && t) (others e) ∙ and_false (q y)
+    by_case false e others = ap (λ t. q y && t) (others e) ∙ and-false (q y)
 
 -- the least category that occurs most often is the most frequent one
 frequent_is : (cells : List CellValue) (b : ℤ) (most : ℕ) → All (λ cell. is_null cell ≡ false) cells

@@ -1,5 +1,5 @@
 -- What clap finds among words without a hyphen.
-use Rattle.std.proofs.Common.{Bor, Global, String, map, ◌≡◌, ◌||◌, ◌&&◌, ◌+◌, ◌<◌, ◌≤◌, nat_le, nat_lt, ◌∷◌, ◌++◌, ◌∙◌, ap, ap₂, sym, ℕ, Bool, List, [], Some, None, true, false, refl, is_some, length, codes, drop, arith}
+use Rattle.std.proofs.Common.{Result, Ok, Err, MatchResult, if◌then◌else◌, Bor, Global, String, map, ◌≡◌, ◌||◌, ◌&&◌, ◌+◌, ◌<◌, ◌≤◌, nat_le, nat_lt, ◌∷◌, ◌++◌, ◌∙◌, ap, ap₂, sym, ℕ, Bool, List, [], Some, None, true, false, refl, is_some, length, codes, drop, arith}
 use Rattle.std.specs.List.{fold, list_all, list_any, slice_index_or}
 use Rattle.std.specs.Str.{bytes_eq}
 use Rattle.std.specs.String.{string_bytes}
@@ -64,6 +64,16 @@ neither false b h = (refl, h)
 
 apart : {X : Type 0} → true ≡ false → X
 apart bad = cc
+
+pub when_ok : {X : Type 0} (ok : Bool) {z : X} (x y : X) → true ≡ ok → z ≡ (if ok then x else y) → z ≡ x
+when_ok true x y taken is = is
+when_ok false x y taken is = cc
+
+-- what a failed call tells
+pub made_told : {T E F : Type 0} {Q : E → Type 0} {P : Type 0} (r : Result T E) (y : F)
+    → MatchResult r (λ x. ◌≡◌ {A = Result T F} (Err y) (Ok x)) Q → ((e : E) → Q e → P) → P
+made_told (Ok x) y is f = cc
+made_told (Err e) y is f = f e is
 
 pub by_contradiction : (b : Bool) → (b ≡ false → ⊥) → b ≡ true
 by_contradiction true impossible = refl

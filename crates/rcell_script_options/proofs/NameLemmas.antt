@@ -1,4 +1,5 @@
 -- Texts that are all names.
+use Rattle.std.proofs.Math.Bool.{and-false}
 use Rattle.std.proofs.Common.{◌≡◌, ℕ, zero, suc, map, Bor, Result, Ok, Err, ◌<◌, Bool, true, false, List, [], ◌∷◌, length, get_or, refl, ap, sym, ◌∙◌, arith, ◌≤◌, ◌==◌}
 use Rattle.std.proofs.lemmas.List.{length-map}
 use Rattle.std.proofs.lemmas.List.Splits.{length-slice_split}
@@ -10,15 +11,11 @@ use Rattle.rcell_script_options.specs.declared.option_fault.OptionFault.TheVaria
 use Rattle.rcell_script_options.specs.OptionReading.{texts, option_name, names_from}
 use Rattle.rcell_script_options.specs.declared.option_fault.OptionFault.{OptionFault}
 
-and_no : (b : Bool) → (b && false) ≡ false
-and_no true = refl
-and_no false = refl
-
 list_all-no : (xs : List (Bor (List ℕ))) (i : ℕ) (d : Bor (List ℕ)) → i < length xs
     → is_name (get_or xs i d).now ≡ false → list_all is_name (map (λ text. text.now) xs) ≡ false
 list_all-no [] i d h bad = absurd (omega arith)
 list_all-no (x ∷ xs) zero d h bad = rw bad refl
-list_all-no (x ∷ xs) (suc i) d h bad = rw (list_all-no xs i d (omega arith) bad) (and_no _)
+list_all-no (x ∷ xs) (suc i) d h bad = rw (list_all-no xs i d (omega arith) bad) (and-false _)
 
 -- one text is no name
 pub names_from-fails : (xs : List (Bor (List ℕ))) (i : ℕ) (d : Bor (List ℕ)) (fault : OptionFault) → i < length xs

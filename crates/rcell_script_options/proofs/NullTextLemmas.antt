@@ -15,7 +15,7 @@ is_word-null b e = grind (arith, nat_tests)
 no_colon-null : (b : ℕ) → is_null_byte b ≡ true → is_colon b ≡ false
 no_colon-null b e = grind (arith, nat_tests)
 
-and_true : (a b : Bool) → (a && b) ≡ true → (a ≡ true) × (b ≡ true)
+pub and_true : (a b : Bool) → (a && b) ≡ true → (a ≡ true) × (b ≡ true)
 and_true true b e = (refl, e)
 and_true false b e = cc
 

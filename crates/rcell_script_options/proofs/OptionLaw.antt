@@ -17,11 +17,8 @@ use Rattle.rcell_script_options.specs.declared.options.Form.{Form}
 use Rattle.rcell_script_options.specs.declared.options.Form.TheVariants.{Reclass, Clump, Stats, OutAscii}
 use Rattle.rcell_script_options.specs.declared.options.OptionKey.{OptionKey}
 use Rattle.rcell_script_options.specs.declared.options.OptionKey.TheVariants.{Input, Inputs, Output, Separator, NullText, TableNullText, After}
+use Rattle.rcell_script_options.proofs.NullTextLemmas.{and_true as both}
 use Rattle.rcell_script_options.proofs.OptionLemmas.{tag, value_for, setting_in, key_values, IsWord, Extends, More, listed, separated, kept, words-read, read-words}
-
-both : (a b : Bool) → (a && b) ≡ true → (a ≡ true) × (b ≡ true)
-both true b e = (refl, e)
-both false b e = cc
 
 -- ---- the keys of a command, by their texts
 

@@ -16,28 +16,22 @@ below_same k new old e lt = rw e lt
 module _ {V : Type 0} (f : V → List CellValue) (k : ℕ) where
   only : (xs : List V) (x : V) → 1 ≤ length xs → length xs < 2 → x ≡ get_or xs 0 x
       → column k (map f xs) ≡ at (f x) k ∷ []
-  only [] x some few is = absurd (let no : ⊥ = omega arith in no)
   only (v ∷ []) x some few is = ap (λ o. at (f o) k ∷ []) (sym is)
-  only (v ∷ w ∷ rest) x some few is = absurd (let no : ⊥ = omega arith in no)
+  only _ x some few is = absurd (let no : ⊥ = omega arith in no)
 
   both : (xs : List V) (x a : V) → 2 ≤ length xs → length xs < 3 → x ≡ get_or xs 0 x → a ≡ get_or xs 1 a
       → column k (map f xs) ≡ at (f x) k ∷ at (f a) k ∷ []
-  both [] x a some few is_x is_a = absurd (let no : ⊥ = omega arith in no)
-  both (v ∷ []) x a some few is_x is_a = absurd (let no : ⊥ = omega arith in no)
   both (v ∷ w ∷ []) x a some few is_x is_a =
       ap (λ o. at (f o) k ∷ at (f w) k ∷ []) (sym is_x) ∙ ap (λ o. at (f x) k ∷ at (f o) k ∷ []) (sym is_a)
-  both (v ∷ w ∷ u ∷ rest) x a some few is_x is_a = absurd (let no : ⊥ = omega arith in no)
+  both _ x a some few is_x is_a = absurd (let no : ⊥ = omega arith in no)
 
   three : (xs : List V) (x a b : V) → 3 ≤ length xs → length xs < 4 → x ≡ get_or xs 0 x → a ≡ get_or xs 1 a
       → b ≡ get_or xs 2 b → column k (map f xs) ≡ at (f x) k ∷ at (f a) k ∷ at (f b) k ∷ []
-  three [] x a b some few is_x is_a is_b = absurd (let no : ⊥ = omega arith in no)
-  three (v ∷ []) x a b some few is_x is_a is_b = absurd (let no : ⊥ = omega arith in no)
-  three (v ∷ w ∷ []) x a b some few is_x is_a is_b = absurd (let no : ⊥ = omega arith in no)
   three (v ∷ w ∷ u ∷ []) x a b some few is_x is_a is_b =
       ap (λ o. at (f o) k ∷ at (f w) k ∷ at (f u) k ∷ []) (sym is_x)
       ∙ ap (λ o. at (f x) k ∷ at (f o) k ∷ at (f u) k ∷ []) (sym is_a)
       ∙ ap (λ o. at (f x) k ∷ at (f a) k ∷ at (f o) k ∷ []) (sym is_b)
-  three (v ∷ w ∷ u ∷ t ∷ rest) x a b some few is_x is_a is_b = absurd (let no : ⊥ = omega arith in no)
+  three _ x a b some few is_x is_a is_b = absurd (let no : ⊥ = omega arith in no)
 
 pub copy_from_slice-requires : goal.copy_from_slice-requires
 copy_from_slice-requires c =

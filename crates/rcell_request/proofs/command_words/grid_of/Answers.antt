@@ -1,4 +1,5 @@
 use Rattle.std.proofs.Common.{ℕ, List, [], Bool, true, false, Err, nat_lt, ap, ap₂, sym, refl, get_or, arith, length, ◌≡◌, ◌<◌, ◌∙◌, ◌+◌, ◌++◌, ◌∷◌, ◌&&◌, ◌==◌}
+use Rattle.std.proofs.Math.Bool.{and-false}
 use Rattle.std.specs.List.{after_first, before_first, position_or_len}
 use Rattle.std.proofs.lemmas.List.{drop_all}
 use Rattle.std.proofs.lemmas.List.Sums.{passes_at_first, split_at_first}
@@ -6,10 +7,6 @@ use Rattle.std.proofs.lemmas.Bool.{eqb-false, eqb-true, le-ltb, lt-ltb}
 use Rattle.cell_core_values.specs.Name.{is_name}
 use Rattle.rcell_request.specs.CommandLine.{is_grid_argument}
 use Rattle.rcell_request.proofs.command_words.grid_of.Goals as goal
-
-and_false : (b : Bool) → (b && false) ≡ false
-and_false true = refl
-and_false false = refl
 
 none_in : (n : ℕ) → (n == 0) ≡ true → nat_lt 0 n ≡ false
 none_in n is = le-ltb 0 n (omega (arith, eqb-true n 0 is))
@@ -21,13 +18,13 @@ some_in n is = lt-ltb 0 n (omega (arith, eqb-false n 0 is))
 no_equals : (word : List ℕ) → position_or_len (λ byte. byte == 61) word ≡ length word → is_grid_argument word ≡ false
 no_equals word none =
     let empty : after_first (λ byte. byte == 61) word ≡ [] = drop_all (position_or_len (λ byte. byte == 61) word + 1) word (omega arith) in
-    ap (λ after. is_name (before_first (λ byte. byte == 61) word) && nat_lt 0 (length after)) empty ∙ and_false (is_name (before_first (λ byte. byte == 61) word))
+    ap (λ after. is_name (before_first (λ byte. byte == 61) word) && nat_lt 0 (length after)) empty ∙ and-false (is_name (before_first (λ byte. byte == 61) word))
 
 -- with nothing after it
 no_path : (word path : List ℕ) → path ≡ after_first (λ byte. byte == 61) word → (length path == 0) ≡ true → is_grid_argument word ≡ false
 no_path word path after empty =
     ap (λ some. is_name (before_first (λ byte. byte == 61) word) && some) (ap (λ p. nat_lt 0 (length p)) (sym after) ∙ none_in (length path) empty)
-    ∙ and_false (is_name (before_first (λ byte. byte == 61) word))
+    ∙ and-false (is_name (before_first (λ byte. byte == 61) word))
 
 -- with no name before it
 no_name : (word name : List ℕ) → name ≡ before_first (λ byte. byte == 61) word → is_name name ≡ false → is_grid_argument word ≡ false

@@ -7,18 +7,9 @@ use Rattle.clap.specs.Walk.{Text, texts}
 use Rattle.rcell_request.specs.declared.refusal.Refusal.{Refusal}
 use Rattle.rcell_request.specs.declared.refusal.Refusal.TheVariants.{GridWord, Memory}
 use Rattle.rcell_request.specs.CommandLine.{first_bad, grid_words, is_grid_argument}
-use Rattle.rcell_request.proofs.ParseLemmas.{first_bad_next, grid_words_more}
+use Rattle.rcell_request.proofs.ParseLemmas.{first_bad_next, grid_words_more, when_ok, made_told}
 use borrow.Author.Count.{falls}
 use Rattle.rcell_request.proofs.command_words.grids_of.Goals as goal
-
-when_ok : {X : Type 0} (ok : Bool) {z : X} (x y : X) → true ≡ ok → z ≡ (if ok then x else y) → z ≡ x
-when_ok true x y taken is = is
-when_ok false x y taken is = cc
-
-made_told : {T E F : Type 0} {Q : E → Type 0} {P : Type 0} (r : Result T E) (y : F)
-    → MatchResult r (λ x. ◌≡◌ {A = Result T F} (Err y) (Ok x)) Q → ((e : E) → Q e → P) → P
-made_told (Ok x) y is f = cc
-made_told (Err e) y is f = f e is
 
 first_bad_here : (place : ℕ) (words : List (Bor Text)) (i : ℕ) (word : Bor Text) → i < length words → is_grid_argument (slice_index_or words i word).now ≡ false
     → first_bad place (texts (drop i words)) ≡ Some place
@@ -31,57 +22,45 @@ refused_here is at told = rw (is, told, at) refl
 one_more : (index : ℕ) → index + 2 + 1 ≡ index + 1 + 2
 one_more index = omega arith
 
-pub returns-in_err-name-clause-words : goal.returns-in_err-name-clause-words
-returns-in_err-name-clause-words c = IfOk-from_err c.from_residual.result _ c.from_residual.ensures.0
+pub returns-in_err-name : goal.returns-in_err-name
+returns-in_err-name c = record {
+  words = IfOk-from_err c.from_residual.result _ c.from_residual.ensures.0;
+  paths = IfOk-from_err c.from_residual.result _ c.from_residual.ensures.0;
+  good = let p = err_from_is_err_and c.from_residual.result c.from_residual.ensures.1 in rw p.1 tt;
+  bad =
+      let bad = c.in_err-name.ensures.bad in
+      let p = err_from_is_err_and c.from_residual.result c.from_residual.ensures.1 in
+      let place : c.saturating_add-place.result ≡ c.loop-word.word-index + 2 = omega arith in
+      rw (p.1, p.2) (λ other.
+      let told = bad other in
+      refused_here (c.loop-word.invariant.good ∙ first_bad_here (c.loop-word.word-index + 2) c.args.words.now c.loop-word.word-index _ c.loop-word-test.true told.0) place told.1);
+}
 
-pub returns-in_err-name-clause-paths : goal.returns-in_err-name-clause-paths
-returns-in_err-name-clause-paths c = IfOk-from_err c.from_residual.result _ c.from_residual.ensures.0
+pub returns-in_err-map_err : goal.returns-in_err-map_err
+returns-in_err-map_err c = record {
+  words = IfOk-from_err c.from_residual-in_err-map_err.result _ c.from_residual-in_err-map_err.ensures.0;
+  paths = IfOk-from_err c.from_residual-in_err-map_err.result _ c.from_residual-in_err-map_err.ensures.0;
+  good =
+      let p = err_from_is_err_and c.from_residual-in_err-map_err.result c.from_residual-in_err-map_err.ensures.1 in
+      rw p.1 tt;
+  bad =
+      let p = err_from_is_err_and c.from_residual-in_err-map_err.result c.from_residual-in_err-map_err.ensures.1 in
+      rw (p.1, p.2) (made_told c.push.result _ c.in_err-map_err.ensures.cases
+      (λ e h. let made : c.in_err-map_err.field-0.0 ≡ Memory = search rules in λ other. absurd (other made)));
+}
 
-pub returns-in_err-name-clause-good : goal.returns-in_err-name-clause-good
-returns-in_err-name-clause-good c = let p = err_from_is_err_and c.from_residual.result c.from_residual.ensures.1 in rw p.1 tt
-
-pub returns-in_err-name-clause-bad : goal.returns-in_err-name-clause-bad
-returns-in_err-name-clause-bad c =
-    let bad = c.in_err-name.ensures.bad in
-    let p = err_from_is_err_and c.from_residual.result c.from_residual.ensures.1 in
-    let place : c.saturating_add-place.result ≡ c.loop-word.word-index + 2 = omega arith in
-    rw (p.1, p.2) (λ other.
-    let told = bad other in
-    refused_here (c.loop-word.invariant.good ∙ first_bad_here (c.loop-word.word-index + 2) c.args.words.now c.loop-word.word-index _ c.loop-word-test.true told.0) place told.1)
-
-pub returns-in_err-map_err-clause-words : goal.returns-in_err-map_err-clause-words
-returns-in_err-map_err-clause-words c = IfOk-from_err c.from_residual-in_err-map_err.result _ c.from_residual-in_err-map_err.ensures.0
-
-pub returns-in_err-map_err-clause-paths : goal.returns-in_err-map_err-clause-paths
-returns-in_err-map_err-clause-paths c = IfOk-from_err c.from_residual-in_err-map_err.result _ c.from_residual-in_err-map_err.ensures.0
-
-pub returns-in_err-map_err-clause-good : goal.returns-in_err-map_err-clause-good
-returns-in_err-map_err-clause-good c =
-    let p = err_from_is_err_and c.from_residual-in_err-map_err.result c.from_residual-in_err-map_err.ensures.1 in
-    rw p.1 tt
-
-pub returns-in_err-map_err-2-clause-words : goal.returns-in_err-map_err-2-clause-words
-returns-in_err-map_err-2-clause-words c = IfOk-from_err c.from_residual-in_err-map_err-2.result _ c.from_residual-in_err-map_err-2.ensures.0
-
-pub returns-in_err-map_err-2-clause-paths : goal.returns-in_err-map_err-2-clause-paths
-returns-in_err-map_err-2-clause-paths c = IfOk-from_err c.from_residual-in_err-map_err-2.result _ c.from_residual-in_err-map_err-2.ensures.0
-
-pub returns-in_err-map_err-2-clause-good : goal.returns-in_err-map_err-2-clause-good
-returns-in_err-map_err-2-clause-good c =
-    let p = err_from_is_err_and c.from_residual-in_err-map_err-2.result c.from_residual-in_err-map_err-2.ensures.1 in
-    rw p.1 tt
-
-pub returns-in_err-map_err-clause-bad : goal.returns-in_err-map_err-clause-bad
-returns-in_err-map_err-clause-bad c =
-    let p = err_from_is_err_and c.from_residual-in_err-map_err.result c.from_residual-in_err-map_err.ensures.1 in
-    rw (p.1, p.2) (made_told c.push.result _ c.in_err-map_err.ensures.cases
-    (λ e h. let made : c.in_err-map_err.field-0.0 ≡ Memory = search rules in λ other. absurd (other made)))
-
-pub returns-in_err-map_err-2-clause-bad : goal.returns-in_err-map_err-2-clause-bad
-returns-in_err-map_err-2-clause-bad c =
-    let p = err_from_is_err_and c.from_residual-in_err-map_err-2.result c.from_residual-in_err-map_err-2.ensures.1 in
-    rw (p.1, p.2) (made_told c.push-in-loop-word.result _ c.in_err-map_err-2.ensures.cases
-    (λ e h. let made : c.in_err-map_err-2.field-0.0 ≡ Memory = search rules in λ other. absurd (other made)))
+pub returns-in_err-map_err-2 : goal.returns-in_err-map_err-2
+returns-in_err-map_err-2 c = record {
+  words = IfOk-from_err c.from_residual-in_err-map_err-2.result _ c.from_residual-in_err-map_err-2.ensures.0;
+  paths = IfOk-from_err c.from_residual-in_err-map_err-2.result _ c.from_residual-in_err-map_err-2.ensures.0;
+  good =
+      let p = err_from_is_err_and c.from_residual-in_err-map_err-2.result c.from_residual-in_err-map_err-2.ensures.1 in
+      rw p.1 tt;
+  bad =
+      let p = err_from_is_err_and c.from_residual-in_err-map_err-2.result c.from_residual-in_err-map_err-2.ensures.1 in
+      rw (p.1, p.2) (made_told c.push-in-loop-word.result _ c.in_err-map_err-2.ensures.cases
+      (λ e h. let made : c.in_err-map_err-2.field-0.0 ≡ Memory = search rules in λ other. absurd (other made)));
+}
 
 pub loop-word-init : goal.loop-word-init
 loop-word-init c =
@@ -121,16 +100,10 @@ loop-word-preserved c =
           ∙ ap (λ (words : List Text). words ++ (name ++ 61 ∷ path) ∷ []) is.words ∙ sym words_are;
     }
 
-pub returns-clause-words : goal.returns-clause-words
-returns-clause-words c =
-    c.loop-word.invariant.words ∙ ap texts (take_all c.loop-word.word-index c.args.words.now c.loop-word-test.false)
-
-pub returns-clause-paths : goal.returns-clause-paths
-returns-clause-paths c = c.loop-word.invariant.paths
-
-pub returns-clause-good : goal.returns-clause-good
-returns-clause-good c =
-    c.loop-word.invariant.good ∙ ap (λ left. first_bad (c.loop-word.word-index + 2) (texts left)) (drop_all c.loop-word.word-index c.args.words.now c.loop-word-test.false)
-
-pub returns-clause-bad : goal.returns-clause-bad
-returns-clause-bad c = tt
+pub returns : goal.returns
+returns c = record {
+  words = c.loop-word.invariant.words ∙ ap texts (take_all c.loop-word.word-index c.args.words.now c.loop-word-test.false);
+  paths = c.loop-word.invariant.paths;
+  good = c.loop-word.invariant.good ∙ ap (λ left. first_bad (c.loop-word.word-index + 2) (texts left)) (drop_all c.loop-word.word-index c.args.words.now c.loop-word-test.false);
+  bad = tt;
+}

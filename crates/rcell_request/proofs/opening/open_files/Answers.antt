@@ -21,22 +21,6 @@ no_grids f xs ys n m are some all empty = omega (arith, eqb-true n 0 empty, leng
 some_grid : (n : ℕ) → (n == 0) ≡ false → 0 < n
 some_grid n is = omega (arith, eqb-false n 0 is)
 
-pub returns-in_err-script-clause-names : goal.returns-in_err-script-clause-names
-returns-in_err-script-clause-names g c = IfOk-from_err c.from_residual.result _ c.from_residual.ensures.0
-
-pub returns-in_err-script-clause-told : goal.returns-in_err-script-clause-told
-returns-in_err-script-clause-told g c =
-    let p = err_from_is_err_and c.from_residual.result c.from_residual.ensures.1 in
-    rw (p.1, p.2) (of_script _ c.in_err-script.field-0.0 c.in_err-script.ensures.told)
-
-pub returns-in_err-grids-clause-names : goal.returns-in_err-grids-clause-names
-returns-in_err-grids-clause-names g c = IfOk-from_err c.from_residual-in_err-grids.result _ c.from_residual-in_err-grids.ensures.0
-
-pub returns-in_err-grids-clause-told : goal.returns-in_err-grids-clause-told
-returns-in_err-grids-clause-told g c =
-    let p = err_from_is_err_and c.from_residual-in_err-grids.result c.from_residual-in_err-grids.ensures.1 in
-    rw (p.1, p.2) c.in_err-grids.ensures.told
-
 pub returns-then-is_empty-clause-told : goal.returns-then-is_empty-clause-told
 returns-then-is_empty-clause-told g c =
     let names = c.args.request.now.names in
@@ -51,12 +35,23 @@ invariant_of-result g c =
 pub returns-clause-names : goal.returns-clause-names
 returns-clause-names g c = c.in_ok-grids.ensures.names
 
-pub returns-in_err-script-clause-asked : goal.returns-in_err-script-clause-asked
-returns-in_err-script-clause-asked g c = IfOk-from_err c.from_residual.result _ c.from_residual.ensures.0
+pub returns-in_err-script : goal.returns-in_err-script
+returns-in_err-script g c = record {
+  names = IfOk-from_err c.from_residual.result _ c.from_residual.ensures.0;
+  asked = IfOk-from_err c.from_residual.result _ c.from_residual.ensures.0;
+  told =
+      let p = err_from_is_err_and c.from_residual.result c.from_residual.ensures.1 in
+      rw (p.1, p.2) (of_script _ c.in_err-script.field-0.0 c.in_err-script.ensures.told);
+}
 
-pub returns-in_err-grids-clause-asked : goal.returns-in_err-grids-clause-asked
-returns-in_err-grids-clause-asked g c =
-    IfOk-from_err c.from_residual-in_err-grids.result _ c.from_residual-in_err-grids.ensures.0
+pub returns-in_err-grids : goal.returns-in_err-grids
+returns-in_err-grids g c = record {
+  names = IfOk-from_err c.from_residual-in_err-grids.result _ c.from_residual-in_err-grids.ensures.0;
+  asked = IfOk-from_err c.from_residual-in_err-grids.result _ c.from_residual-in_err-grids.ensures.0;
+  told =
+      let p = err_from_is_err_and c.from_residual-in_err-grids.result c.from_residual-in_err-grids.ensures.1 in
+      rw (p.1, p.2) c.in_err-grids.ensures.told;
+}
 
 pub returns-clause-asked : goal.returns-clause-asked
 returns-clause-asked g c = (c.in_ok-script.ensures.asked, c.in_ok-grids.ensures.asked)

@@ -6,12 +6,9 @@ use Rattle.cell_core_devices.specs.declared.source.Asked.TheVariants.{Going}
 use Rattle.rcell_request.specs.Refusals.{IsOfOpening}
 use Rattle.rcell_request.specs.declared.refusal.Refusal.{Refusal}
 use Rattle.rcell_request.specs.declared.refusal.Refusal.TheVariants.{Usage, GridWord, Memory, ScriptFile, GridFile}
+use Rattle.rcell_request.proofs.ParseLemmas.{when_ok, made_told}
 use borrow.Author.Count.{falls}
 use Rattle.rcell_request.proofs.opening.open_grids.Goals as goal
-
-when_ok : {X : Type 0} (ok : Bool) {z : X} (x y : X) → true ≡ ok → z ≡ (if ok then x else y) → z ≡ x
-when_ok true x y taken is = is
-when_ok false x y taken is = cc
 
 -- a refusal that is out of memory or one of a grid among these is of an opening
 of_grid : (grids grid : ℕ) (refusal : Refusal) → grid < grids → (refusal ≢ Memory → refusal ≡ GridFile grid) → IsOfOpening grids refusal
@@ -21,32 +18,11 @@ of_grid grids grid Memory within told = tt
 of_grid grids grid ScriptFile within told = tt
 of_grid grids grid (GridFile other) within told = subst (IsOfOpening grids) (sym (told (λ same. cc))) within
 
-made_told : {T E F : Type 0} {Q : E → Type 0} {P : Type 0} (r : Result T E) (y : F)
-    → MatchResult r (λ x. ◌≡◌ {A = Result T F} (Err y) (Ok x)) Q → ((e : E) → Q e → P) → P
-made_told (Ok x) y is f = cc
-made_told (Err e) y is f = f e is
-
 below : {grid end n : ℕ} → grid < end → end ≡ n → grid < n
 below lower same = omega arith
 
 at_least : {grid end n : ℕ} → end ≤ grid → end ≡ n → n ≤ grid
 at_least ended same = omega arith
-
-pub returns-in_err-opened-clause-names : goal.returns-in_err-opened-clause-names
-returns-in_err-opened-clause-names g c = IfOk-from_err c.from_residual.result _ c.from_residual.ensures.0
-
-pub returns-in_err-opened-clause-told : goal.returns-in_err-opened-clause-told
-returns-in_err-opened-clause-told g c =
-    let p = err_from_is_err_and c.from_residual.result c.from_residual.ensures.1 in
-    rw (p.1, p.2) (of_grid _ c.loop-grid.grid c.in_err-opened.field-0.0 (below c.loop-grid-test.true c.len-grid-end.ensures) c.in_err-opened.ensures.told)
-
-pub returns-in_err-map_err-clause-names : goal.returns-in_err-map_err-clause-names
-returns-in_err-map_err-clause-names g c = IfOk-from_err c.from_residual-in_err-map_err.result _ c.from_residual-in_err-map_err.ensures.0
-
-pub returns-in_err-map_err-clause-told : goal.returns-in_err-map_err-clause-told
-returns-in_err-map_err-clause-told g c =
-    let p = err_from_is_err_and c.from_residual-in_err-map_err.result c.from_residual-in_err-map_err.ensures.1 in
-    rw (p.1, p.2) (made_told c.push.result _ c.in_err-map_err.ensures.cases (λ e h. let made : c.in_err-map_err.field-0.0 ≡ Memory = search rules in subst (IsOfOpening _) (sym made) tt))
 
 pub loop-grid-init : goal.loop-grid-init
 loop-grid-init g c = record {
@@ -72,12 +48,23 @@ loop-grid-preserved g c =
           (All-push (λ grid. grid.1.1 ≡ Going) grids _ c.loop-grid.invariant.asked c.in_ok-opened.ensures.asked);
     }
 
-pub returns-in_err-opened-clause-asked : goal.returns-in_err-opened-clause-asked
-returns-in_err-opened-clause-asked g c = IfOk-from_err c.from_residual.result _ c.from_residual.ensures.0
+pub returns-in_err-opened : goal.returns-in_err-opened
+returns-in_err-opened g c = record {
+  names = IfOk-from_err c.from_residual.result _ c.from_residual.ensures.0;
+  asked = IfOk-from_err c.from_residual.result _ c.from_residual.ensures.0;
+  told =
+      let p = err_from_is_err_and c.from_residual.result c.from_residual.ensures.1 in
+      rw (p.1, p.2) (of_grid _ c.loop-grid.grid c.in_err-opened.field-0.0 (below c.loop-grid-test.true c.len-grid-end.ensures) c.in_err-opened.ensures.told);
+}
 
-pub returns-in_err-map_err-clause-asked : goal.returns-in_err-map_err-clause-asked
-returns-in_err-map_err-clause-asked g c =
-    IfOk-from_err c.from_residual-in_err-map_err.result _ c.from_residual-in_err-map_err.ensures.0
+pub returns-in_err-map_err : goal.returns-in_err-map_err
+returns-in_err-map_err g c = record {
+  names = IfOk-from_err c.from_residual-in_err-map_err.result _ c.from_residual-in_err-map_err.ensures.0;
+  asked = IfOk-from_err c.from_residual-in_err-map_err.result _ c.from_residual-in_err-map_err.ensures.0;
+  told =
+      let p = err_from_is_err_and c.from_residual-in_err-map_err.result c.from_residual-in_err-map_err.ensures.1 in
+      rw (p.1, p.2) (made_told c.push.result _ c.in_err-map_err.ensures.cases (λ e h. let made : c.in_err-map_err.field-0.0 ≡ Memory = search rules in subst (IsOfOpening _) (sym made) tt));
+}
 
 pub returns-clause-names : goal.returns-clause-names
 returns-clause-names g c =
