@@ -20,7 +20,7 @@ pub(crate) struct Known {
     reclassed: Cell,
 }
 
-// The place of a cell among so many.
+// The place of a cell among so many. Their number is a power of two, so that no division is needed.
 fn category_place(cell: Cell, places: usize) -> usize
     requires { 0 < places }
     ensures { result < places }
@@ -29,7 +29,8 @@ fn category_place(cell: Cell, places: usize) -> usize
         Some(category) => (i64::from(category) + 2147483648) as usize,
         None => 0,
     };
-    number % places
+    let last = places - 1;
+    (number & last).min(last)
 }
 
 // Places in which only null is known: every list of rules keeps it.

@@ -15,20 +15,21 @@ use crate::rules::Rules;
 use cell_core::cell::Cell;
 use cell_core::map::{CellMap, MapBuilder};
 use cell_core::memory::Memory;
-use cell_core::runs::{Runs, fill_run};
+use cell_core::runs::fill_run;
+use cell_core::stretches::Stretches;
 use std::alloc::Global;
 
-// Writes the new categories of a row's runs. The slice is as long as that row.
-fn write_new(pieces: &Pieces, known: &mut [Known], runs: Runs<'_>, row: &mut [Cell])
-    requires width { length row.old ≡ length (written_out runs) }
+// Writes the new categories of a row's stretches. The slice is as long as that row.
+fn write_new(pieces: &Pieces, known: &mut [Known], stretches: Stretches<'_>, row: &mut [Cell])
+    requires width { length row.old ≡ length (written_out stretches) }
     requires some { 0 < length known.old }
     ensures row { (rules : List RuleValue) → AreOfRules rules pieces.now → AreRight rules known.old
-        → row.new ≡ new_row rules (written_out runs.entry) }
+        → row.new ≡ new_row rules (written_out stretches.entry) }
     ensures right { (rules : List RuleValue) → AreOfRules rules pieces.now
         → AreRight rules known.old → AreRight rules known.new }
 {
     let mut at = 0;
-    for (cell, count) in runs {
+    for (cell, count) in stretches {
         fill_run(row, at, (look_up(pieces, known, cell), count));
         at += count as usize;
     }
@@ -65,7 +66,7 @@ pub fn reclass(alloc: Global, given: &CellMap, rules: &Rules) -> Result<CellMap,
     let known = places.as_mut_slice();
     let mut builder = MapBuilder::new(alloc, region);
     for r in 0..region.rows() {
-        write_new(&pieces, known, given.runs(r), row);
+        write_new(&pieces, known, given.stretches(r), row);
         builder.push_row(row)?;
     }
     let mut made = builder.finish();

@@ -76,14 +76,14 @@ loop-r-init c =
       right = rw known (c.in_ok-places.ensures.right c.args.rules.now);
     }
 
-pub runs-requires : goal.runs-requires
-runs-requires c = record {
+pub stretches-requires : goal.stretches-requires
+stretches-requires c = record {
   row_in_range =
       row_inside c.loop-r-test.true (c.rows-r-end.ensures.value ∙ ap (λ r. r.rows) c.region-region.ensures.value);
 }
 
 pub write_new-requires-clause-width : goal.write_new-requires-clause-width
-write_new-requires-clause-width c = c.loop-r.invariant.width ∙ sym c.runs.ensures.width
+write_new-requires-clause-width c = c.loop-r.invariant.width ∙ sym c.stretches.ensures.width
 
 pub write_new-requires-clause-some : goal.write_new-requires-clause-some
 write_new-requires-clause-some c = c.loop-r.invariant.some
@@ -118,7 +118,7 @@ loop-r-preserved c =
     let within : c.loop-r.r < length c.args.given.now.rows =
     row_inside c.loop-r-test.true (c.rows-r-end.ensures.value ∙ ap (λ r. r.rows) is.value ∙ sym is.filled.count) in
     let row : c.write_new.new.row ≡ new_row rules (row_at c.args.given.now c.loop-r.r)
-    = c.write_new.ensures.row rules c.in_ok-pieces.ensures c.loop-r.invariant.right ∙ ap (new_row rules) c.runs.ensures.written in
+    = c.write_new.ensures.row rules c.in_ok-pieces.ensures c.loop-r.invariant.right ∙ ap (new_row rules) c.stretches.ensures.written in
     let pushed : c.push_row.new.self.rows ≡ done ++ c.write_new.new.row ∷ [] = ap (λ (b : Draft). b.rows) c.in_ok-push_row.ensures.ok in
     record {
       rows = rows-more rules c.args.given.now done c.push_row.new.self.rows c.loop-r.r within c.loop-r.invariant.rows (pushed ∙ ap (λ (cells : List CellValue). done ++ cells ∷ []) row);
