@@ -1,4 +1,4 @@
-# make           proves and builds the program, bin/rcell; JOBS=1 where memory is short
+# make           proves and builds the programs, bin/rcell and bin/rcell-join; JOBS=1 where memory is short
 # make install   puts the program, helpers, manual pages, documents and examples below PREFIX (/usr/local; DESTDIR goes before it)
 # make uninstall removes them
 # make example   builds the program, and runs it on the land cover of examples/land-cover
@@ -26,14 +26,18 @@ JOBS ?=
 # Of Debian: python3-matplotlib, which is not seen by a Python of one's own.
 PICTURES = /usr/bin/python3 tools/pictures.py
 
-# What the program is built from: neither tests nor the edits that must fail.
+# What the programs are built from: neither tests nor the edits that must fail.
 CRATES = $(filter-out %_tests %/cell_core_test_maps,$(wildcard crates/*))
 SOURCES = crates.txt $(shell find $(wildcard $(CRATES:%=%/src) $(CRATES:%=%/specs) $(CRATES:%=%/proofs)) -type f)
 
 .PHONY: all install uninstall example documents check static dist debian11 edits hostile fuzz bench figures pictures exchange clean help
 
-all: bin/rcell
+all: bin/rcell bin/rcell-join
 
+bin/rcell-join: bin/rcell
+	@test -x $@ || python3 tools/build.py $(if $(JOBS),--jobs $(JOBS))
+
+# Both are built.
 bin/rcell: $(SOURCES)
 	@sh tools/needs.sh
 	@python3 tools/build.py $(if $(JOBS),--jobs $(JOBS))

@@ -1,5 +1,5 @@
 #!/usr/bin/env python3
-"""Proves the crates that the program is built from, several at a time, and builds bin/rcell.
+"""Proves the crates that the programs are built from, several at a time, and builds bin/rcell and bin/rcell-join.
 
     build.py [--jobs N]
 
@@ -23,6 +23,7 @@ import time
 
 ROOT = os.path.dirname(os.path.dirname(os.path.abspath(__file__)))
 PROGRAM = "rcell_program"
+PROGRAMS = {PROGRAM: "rcell", "rcell_join": "rcell-join"}
 TARGET = "x86_64-unknown-linux-gnu"
 LINES_OF_A_LOG = 40
 SECONDS_BETWEEN_NEWS = 60
@@ -37,7 +38,7 @@ class Crate:
     def __init__(self, name, uses, crates):
         self.name, self.folder = name, f"{ROOT}/crates/{name}"
         self.out = f"{self.folder}/out/build"
-        self.made = f"{self.out}/{name}.{'o' if name == PROGRAM else 'rlib'}"
+        self.made = f"{self.out}/{name}.{'o' if name in PROGRAMS else 'rlib'}"
         self.below = [crates[it] for it in uses if it in crates]
         self.of_kit = ["std", *[it for it in uses if it not in crates]]
 
@@ -70,13 +71,13 @@ class Crate:
 
     def command(self, jobs):
         """What proves the crate, and makes a library's statements or a program's object file."""
-        words = [f"{kit()}/bin/rattle", "build", "--crate-name", self.name, f"src/{'main' if self.name == PROGRAM else 'lib'}.rt"]
+        words = [f"{kit()}/bin/rattle", "build", "--crate-name", self.name, f"src/{'main' if self.name in PROGRAMS else 'lib'}.rt"]
         words += [word for it in self.of_kit for word in ("--extern", f"{it}={kit()}/rlibs/{it}.rlib")]
         words += [word for it in self.below for word in ("--extern", f"{it.name}={it.made}")]
         words += ["-L", f"dependency={kit()}/rlibs"]
         words += [word for it in self.all_below.values() for word in ("-L", f"dependency={it.out}")]
         words += ["--antt-project", f"{kit()}/rattle/logic/antt-project.json", "--logic-built", f"{kit()}/logic_built"]
-        words += ["--toolchain", f"{kit()}/toolchain"] if self.name == PROGRAM else ["--statements"]
+        words += ["--toolchain", f"{kit()}/toolchain"] if self.name in PROGRAMS else ["--statements"]
         return [*words, "--links", f"{self.name}=", "--jobs", str(jobs), "-o", self.made]
 
     def prove(self, jobs):
@@ -105,8 +106,8 @@ def kit_version():
     return subprocess.check_output(["rt", "version"], text=True)
 
 
-def crates_of_the_program(kind=Crate):
-    """The crates that the program stands on and itself, each after those below it."""
+def crates_of(programs, kind=Crate):
+    """The crates that programs stand on and themselves, each after those below it."""
     with open(f"{ROOT}/crates.txt", encoding="utf-8") as file:
         lines = [line.split("#")[0].split(":") for line in file if ":" in line]
     uses, crates = {name.strip(): used.split() for name, used in lines}, {}
@@ -117,12 +118,18 @@ def crates_of_the_program(kind=Crate):
                 visit(it)
         crates[name] = kind(name, uses[name], crates)
 
-    visit(PROGRAM)
+    for program in programs:
+        visit(program)
     return list(crates.values())
 
 
+def crates_of_the_program(kind=Crate):
+    """Those of rcell, its own the last."""
+    return crates_of([PROGRAM], kind)
+
+
 def ways(crates):
-    """The lines of source on the longest way from each crate up to the program."""
+    """The lines of source on the longest way from each crate up to a program."""
     found = {}
     for crate in reversed(crates):
         found[crate] = crate.lines + max((found[it] for it in found if crate in it.below), default=0)
@@ -194,23 +201,24 @@ def linked(made, output):
 
 
 def link(program):
-    """Links the program to bin/rcell, and returns the linker's status."""
+    """Links a program to its place in bin/, and returns the linker's status."""
     os.makedirs(f"{ROOT}/bin", exist_ok=True)
-    run = linked(program.made, f"{ROOT}/bin/rcell.new")
+    output = f"{ROOT}/bin/{PROGRAMS[program.name]}"
+    run = linked(program.made, f"{output}.new")
     if run.returncode:
         print(run.stdout, end="")
     else:
-        os.replace(f"{ROOT}/bin/rcell.new", f"{ROOT}/bin/rcell")
+        os.replace(f"{output}.new", output)
         # The static program of the release is linked from the same object.
-        shutil.copyfile(program.made, f"{ROOT}/bin/rcell.o")
+        shutil.copyfile(program.made, f"{output}.o")
     return run.returncode
 
 
 def build(jobs):
     """Proves and builds all, and returns the status of the process."""
-    crates, news = crates_of_the_program(), News()
+    crates, news = crates_of(PROGRAMS), News()
     by = "1 process" if jobs == 1 else f"{jobs} processes at a time"
-    print(f"Proving {len(crates)} crates by {by}, and building bin/rcell.", flush=True)
+    print(f"Proving {len(crates)} crates by {by}, and building bin/rcell and bin/rcell-join.", flush=True)
     failed = prove_all(crates, jobs, news)
     for crate in failed:
         with open(f"{crate.out}/log", encoding="utf-8", errors="replace") as log:
@@ -219,13 +227,16 @@ def build(jobs):
     if failed:
         print("Where that says nothing of a fault, memory may have run out: try make JOBS=1.")
         return 1
-    status = link(crates[-1])
-    news.say("bin/rcell is NOT linked" if status else "bin/rcell is built")
+    status = 0
+    for program in (it for it in crates if it.name in PROGRAMS):
+        refused = link(program)
+        news.say(f"bin/{PROGRAMS[program.name]} is {'NOT linked' if refused else 'built'}")
+        status = status or refused
     return status
 
 
 def main():
-    parser = argparse.ArgumentParser(description="Proves the crates that the program is built from, and builds bin/rcell.")
+    parser = argparse.ArgumentParser(description="Proves the crates that the programs are built from, and builds them.")
     parser.add_argument("--jobs", type=int, default=at_once(), help="how many processes prove at a time")
     sys.exit(build(max(1, parser.parse_args().jobs)))
 

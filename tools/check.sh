@@ -54,9 +54,12 @@ if [ "$(cat "$room/status")" != 0 ]; then
 fi
 logs=$room/proofs
 
-mkdir -p bin && cp crates/rcell_program/out/rcell_program bin/rcell || exit 1
+mkdir -p bin && cp crates/rcell_program/out/rcell_program bin/rcell && cp crates/rcell_join/out/rcell_join bin/rcell-join || exit 1
 kit=$(dirname "$(rt doc)")
 try cases python3 tools/cases.py "$kit/toolchain/bin/clang"
+
+# The joiner of tables, beside a plain one.
+try joined python3 tools/test_join.py "$kit/toolchain/bin/clang"
 
 # What the documents show.
 try documents python3 tools/documents.py

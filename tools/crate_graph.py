@@ -18,7 +18,7 @@ ROOT = os.path.dirname(os.path.dirname(os.path.abspath(__file__)))
 PICTURE = f"{ROOT}/docs/crates.svg"
 ROOMS = {"core": "#dcecf7", "ascii": "#e4f3df", "calc": "#fdf1d3", "cats": "#f9e2e2", "stats": "#ece3f5", "tiles": "#eeeeee",
          "rcell": "#dff2f0"}
-PROGRAM = "rcell_program"
+PROGRAMS = ("rcell_program", "rcell_join")
 TITLE = re.compile(r"<title>([^<]+)</title>")
 HEAD = """digraph crates {
     rankdir=BT; ranksep=0.45; nodesep=0.18; newrank=true; bgcolor=white;
@@ -58,12 +58,12 @@ def room(name):
 def dot():
     """The graph in the language of dot, with a frame around each room; what the program does not stand on has a dashed line."""
     uses, lines = crates(), []
-    of_the_program = {PROGRAM} | all_below(PROGRAM, uses)
+    of_the_program = {it for program in PROGRAMS for it in (program, *all_below(program, uses))}
     for place, colour in ROOMS.items():
         lines.append(f'    subgraph cluster_{place} {{ label="{place}"; color="{colour}";')
         for name in (name for name in uses if room(name) == place):
             style = "" if name in of_the_program else ' [style="filled,rounded,dashed"]'
-            lines.append(f"        {name}{' [penwidth=2]' if name == PROGRAM else style};")
+            lines.append(f"        {name}{' [penwidth=2]' if name in PROGRAMS else style};")
         lines.append("    }")
     lines += [f"    {name} -> {below};" for name, below in edges(uses)]
     return HEAD + "\n".join(lines) + "\n}\n"

@@ -100,6 +100,8 @@ class Room:
         self.top = self.here = os.path.realpath(path)
         os.mkdir(f"{path}/bin")
         shutil.copy(program, f"{path}/bin/rcell")
+        if os.path.exists(f"{ROOT}/bin/rcell-join"):
+            shutil.copy(f"{ROOT}/bin/rcell-join", f"{path}/bin")
         for helper in glob.glob(f"{ROOT}/helpers/rcell-*[a-z]"):
             shutil.copy(helper, f"{path}/bin")
         shutil.copytree(f"{ROOT}/helpers", f"{path}/share/rcell", ignore=shutil.ignore_patterns("__pycache__", "rcell-*"))

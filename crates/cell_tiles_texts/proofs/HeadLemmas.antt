@@ -22,34 +22,48 @@ module _ (format : FormatValue) (text : TextValue) (k : Combination) where
   abbrev behind : Option (Combination × ℕ) → Coming → TableReading
   behind head coming = reading_of_rest format text.width text.number (combination_of head) coming
 
-  some-head : (head : Option (Combination × ℕ)) (n : ℕ) (o : Option Coming) → head_count k head ≡ Some n → option_map (past k) (reading_from_head format (record text { coming = o }) head) ≡ option_map (behind head) o
+  some-head : (head : Option (Combination × ℕ)) (n : ℕ) (o : Option Coming) → head_count k head ≡ Some n
+      → option_map (past k) (reading_from_head format (record text { coming = o }) head) ≡ option_map (behind head) o
   some-head None n o e = cc
   some-head (Some entry) n None e = refl
   some-head (Some entry) n (Some coming) e =
       let r : TableReading = behind (Some entry) coming in
-      ap (λ t. let o : Option TableReading = Some (record { entries = cond t r.entries (entry ∷ r.entries); fault = r.fault }) in o) (is-some (is_of k entry) entry.1 n e)
+      ap (λ t. let o : Option TableReading = Some
+      (record { entries = cond t r.entries (entry ∷ r.entries); fault = r.fault }) in o)
+      (is-some (is_of k entry) entry.1 n e)
 
-  none-head : (head : Option (Combination × ℕ)) (o : Option Coming) → head_count k head ≡ None → option_map (past k) (reading_from_head format (record text { coming = o }) head) ≡ reading_from_head format (record text { coming = o }) head
+  none-head : (head : Option (Combination × ℕ)) (o : Option Coming) → head_count k head ≡ None
+      → option_map (past k) (reading_from_head format (record text { coming = o }) head) ≡ reading_from_head format
+      (record text { coming = o }) head
   none-head None None e = refl
   none-head None (Some coming) e = refl
   none-head (Some entry) None e = refl
   none-head (Some entry) (Some coming) e =
       let r : TableReading = behind (Some entry) coming in
-      ap (λ t. let o : Option TableReading = Some (record { entries = cond t r.entries (entry ∷ r.entries); fault = r.fault }) in o) (is-none (is_of k entry) entry.1 e)
+      ap (λ t. let o : Option TableReading = Some
+      (record { entries = cond t r.entries (entry ∷ r.entries); fault = r.fault }) in o)
+      (is-none (is_of k entry) entry.1 e)
 
-  fault-head : (head : Option (Combination × ℕ)) (n : ℕ) (o : Option Coming) (fault : TableFault) → head_count k head ≡ Some n → IfSome (option_map (behind head) o) (λ reading. reading ≡ stopped fault.line fault.kind) → IfSome (reading_from_head format (record text { coming = o }) head) (λ reading. reading.fault ≡ Some fault)
+  fault-head : (head : Option (Combination × ℕ)) (n : ℕ) (o : Option Coming) (fault : TableFault)
+      → head_count k head ≡ Some n
+      → IfSome (option_map (behind head) o) (λ reading. reading ≡ stopped fault.line fault.kind)
+      → IfSome (reading_from_head format (record text { coming = o }) head) (λ reading. reading.fault ≡ Some fault)
   fault-head None n o fault e h = cc
   fault-head (Some entry) n None fault e h = tt
   fault-head (Some entry) n (Some coming) fault e h = ap (λ (reading : TableReading). reading.fault) h
 
   -- what is read after the head was taken
-  pub taken-some : (n : ℕ) → head_count k text.head ≡ Some n → option_map (past k) (reading_from format text) ≡ reading_behind format text
+  pub taken-some : (n : ℕ) → head_count k text.head ≡ Some n
+      → option_map (past k) (reading_from format text) ≡ reading_behind format text
   taken-some n e = some-head text.head n text.coming e
 
   -- it was left
-  pub taken-none : head_count k text.head ≡ None → option_map (past k) (reading_from format text) ≡ reading_from format text
+  pub taken-none : head_count k text.head ≡ None
+      → option_map (past k) (reading_from format text) ≡ reading_from format text
   taken-none e = none-head text.head text.coming e
 
   -- there is a fault behind it
-  pub taken-fault : (n : ℕ) (fault : TableFault) → head_count k text.head ≡ Some n → IfSome (reading_behind format text) (λ reading. reading ≡ stopped fault.line fault.kind) → IfSome (reading_from format text) (λ reading. reading.fault ≡ Some fault)
+  pub taken-fault : (n : ℕ) (fault : TableFault) → head_count k text.head ≡ Some n
+      → IfSome (reading_behind format text) (λ reading. reading ≡ stopped fault.line fault.kind)
+      → IfSome (reading_from format text) (λ reading. reading.fault ≡ Some fault)
   taken-fault n fault e h = fault-head text.head n text.coming fault e h

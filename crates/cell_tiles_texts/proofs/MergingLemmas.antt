@@ -15,20 +15,22 @@ use Rattle.cell_tiles_lines.specs.TableLines.{entries_text, entry_line}
 use Rattle.cell_tiles_merging.specs.Merging.{IsListing}
 use Rattle.cell_tiles_texts.specs.JoinedTexts.{AreTables, HasFault, IsJoinFault, tables_of}
 use Rattle.cell_tiles_texts.specs.MergedTables.{merge_of}
-use Rattle.cell_tiles_texts.specs.parts.Merging.{AreEnded, EndsSo, HasMerged, HasStepped, IsMergeEnd}
-use Rattle.cell_tiles_texts.specs.parts.Taking.{HasTaken, IsStepFault, StepFails, Takes}
+use Rattle.cell_tiles_texts.specs.parts.MergeEnds.{AreEnded, EndsSo, HasMerged, HasStepped, IsMergeEnd}
+use Rattle.cell_tiles_texts.specs.parts.Taking.{HasTaken, IsStepFault, StepFails, TakesEntries}
 use Rattle.cell_tiles_texts.specs.declared.join_fault.JoinFault.{JoinFault}
 use Rattle.cell_tiles_texts.specs.declared.join_fault.JoinFault.TheVariants.{Text, TooMany, TooLong, Memory, Write}
 use Rattle.cell_tiles_texts.proofs.StepLemmas.{merges-all}
 
 -- ---- entries taken after others
 
-entries-more : (format : FormatValue) (done : Pairs) (e : Combination × ℕ) → entries_text format done ++ entry_line format e ≡ entries_text format (done ++ e ∷ [])
+entries-more : (format : FormatValue) (done : Pairs) (e : Combination × ℕ)
+    → entries_text format done ++ entry_line format e ≡ entries_text format (done ++ e ∷ [])
 entries-more format [] e = sym (append-nil (entry_line format e))
-entries-more format (x ∷ done) e = append_assoc (entry_line format x) (entries_text format done) (entry_line format e) ∙ ap (λ text. entry_line format x ++ text) (entries-more format done e)
+entries-more format (x ∷ done) e = append_assoc (entry_line format x) (entries_text format done) (entry_line format e)
+    ∙ ap (λ text. entry_line format x ++ text) (entries-more format done e)
 
 module _ {X : Type 0} (read : X → Option TableReading) where
-  pub takes-none : (texts : List X) → Takes read texts texts []
+  pub takes-none : (texts : List X) → TakesEntries read texts texts []
   takes-none texts readings known all = record {
     after = readings;
     known = known;
@@ -37,7 +39,8 @@ module _ {X : Type 0} (read : X → Option TableReading) where
     faults = refl;
   }
 
-  pub takes-more : (old mid new : List X) (done : Pairs) (e : Combination × ℕ) → Takes read old mid done → Takes read mid new (e ∷ []) → Takes read old new (done ++ e ∷ [])
+  pub takes-more : (old mid new : List X) (done : Pairs) (e : Combination × ℕ) → TakesEntries read old mid done
+      → TakesEntries read mid new (e ∷ []) → TakesEntries read old new (done ++ e ∷ [])
   takes-more old mid new done e first second readings known all =
       let one = first readings known all in
       let two = second one.after one.known one.listings in
@@ -45,7 +48,8 @@ module _ {X : Type 0} (read : X → Option TableReading) where
         after = two.after;
         known = two.known;
         listings = two.listings;
-        merged = one.merged ∙ ap (λ es. done ++ es) two.merged ∙ sym (append_assoc done (e ∷ []) (merge_of (tables_of two.after)));
+        merged = one.merged ∙ ap (λ es. done ++ es) two.merged
+            ∙ sym (append_assoc done (e ∷ []) (merge_of (tables_of two.after)));
         faults = two.faults ∙ one.faults;
       }
 
@@ -61,19 +65,26 @@ all-tables (r ∷ rs) = (refl, all-tables rs)
 
 -- what is listed behind others is listed
 contains-behind : (xs ys : Pairs) (e : Combination × ℕ) → Contains ys e → Contains (xs ++ ys) e
-contains-behind xs ys e at = (length xs + at.0, omega (arith, at.1, length-append xs ys), get_or-append-add xs ys at.0 e ∙ at.2)
+contains-behind xs ys e at =
+    (length xs + at.0, omega (arith, at.1, length-append xs ys), get_or-append-add xs ys at.0 e ∙ at.2)
 
-sum-more : (k : Combination) (readings after : List TableReading) (done : Pairs) → AllByRecursion IsListing (tables_of readings) → AllByRecursion IsListing (tables_of after)
-    → merge_of (tables_of readings) ≡ done ++ merge_of (tables_of after) → 2 ^ 64 ≤ sum_by (count_in k) (tables_of after) → 2 ^ 64 ≤ sum_by (count_in k) (tables_of readings)
+sum-more : (k : Combination) (readings after : List TableReading) (done : Pairs)
+    → AllByRecursion IsListing (tables_of readings) → AllByRecursion IsListing (tables_of after)
+    → merge_of (tables_of readings) ≡ done ++ merge_of (tables_of after)
+    → 2 ^ 64 ≤ sum_by (count_in k) (tables_of after) → 2 ^ 64 ≤ sum_by (count_in k) (tables_of readings)
 sum-more k readings after done all left merged high =
     let n = sum_by (count_in k) (tables_of after) in
     let some : 0 < n = omega (arith, high) in
-    let at : Contains (merge_of (tables_of after)) (k, n) = ((merges-all (tables_of after) left).counted k n).1 (some, refl) in
-    let in_all : Contains (merge_of (tables_of readings)) (k, n) = subst (λ es. Contains es (k, n)) (sym merged) (contains-behind done (merge_of (tables_of after)) (k, n) at) in
+    let at : Contains (merge_of (tables_of after)) (k, n) = ((merges-all (tables_of after) left).counted k n).1
+    (some, refl) in
+    let in_all : Contains (merge_of (tables_of readings)) (k, n) = subst (λ es. Contains es (k, n)) (sym merged)
+    (contains-behind done (merge_of (tables_of after)) (k, n) at) in
     let sum = (((merges-all (tables_of readings) all).counted k n).0 in_all).1 in
     subst (λ m. 2 ^ 64 ≤ m) sum high
 
-module _ {X : Type 0} (read : X → Option TableReading) (readings : List TableReading) (all : AllByRecursion IsListing (tables_of readings)) (texts : List X) (done : Pairs) (taken : HasTaken read readings texts done) where
+module _ {X : Type 0} (read : X → Option TableReading) (readings : List TableReading)
+    (all : AllByRecursion IsListing (tables_of readings)) (texts : List X) (done : Pairs)
+    (taken : HasTaken read readings texts done) where
   -- a fault of what is left is one of all
   fault-of-all : (fault : JoinFault) → IsStepFault taken.after fault → IsJoinFault readings fault
   fault-of-all (Text text fault) is = ap (λ faults. slice_get faults text) (sym taken.faults) ∙ is
@@ -87,23 +98,29 @@ module _ {X : Type 0} (read : X → Option TableReading) (readings : List TableR
 
   ends-ok : taken.after ≡ map (λ r. ended) taken.after → EndsSo readings done (Ok tt)
   ends-ok is =
-      let none : merge_of (tables_of taken.after) ≡ [] = ap (λ rs. merge_of (tables_of rs)) is ∙ none-left taken.after in
+      let none : merge_of (tables_of taken.after) ≡ [] = ap (λ rs. merge_of (tables_of rs)) is
+      ∙ none-left taken.after in
       let tables : AreTables taken.after = subst AreTables (sym is) (all-tables taken.after) in (
         subst (λ (faults : List _). AllByRecursion (λ fault. fault ≡ None) faults) taken.faults tables,
         taken.merged ∙ ap (λ es. done ++ es) none ∙ append-nil done,
       )
 
   too-long : (count : ℕ) → length done ≡ count → 2 ^ 64 - 1 ≤ count → IsJoinFault readings TooLong
-  too-long count counted high = omega (arith, counted, high, ap length taken.merged, length-append done (merge_of (tables_of taken.after)))
+  too-long count counted high = omega
+      (arith, counted, high, ap length taken.merged, length-append done (merge_of (tables_of taken.after)))
 
-module _ {X S : Type 0} (read : X → Option TableReading) (format : FormatValue) (texts mid : List X) (taken : S → Option (List ℕ)) (faults : S → Faults) (out : S) (block : BlockValue) where
+module _ {X S : Type 0} (read : X → Option TableReading) (format : FormatValue) (texts mid : List X)
+    (taken : S → Option (List ℕ)) (faults : S → Faults) (out : S) (block : BlockValue) where
   -- at the start
   pub merged-none : HasMerged read format texts texts taken faults out block out block 0
   merged-none = record { done = []; counted = refl; takes = takes-none read texts; appends = appends_none }
 
-  module _ (now : S) (after : BlockValue) (count : ℕ) (merged : HasMerged read format texts mid taken faults out block now after count) where
+  module _ (now : S) (after : BlockValue) (count : ℕ)
+      (merged : HasMerged read format texts mid taken faults out block now after count) where
     -- one more
-    pub merged-more : (new : List X) (next : S) (then : BlockValue) → HasStepped read format mid new taken faults now after next then → HasMerged read format texts new taken faults out block next then (count + 1)
+    pub merged-more : (new : List X) (next : S) (then : BlockValue)
+        → HasStepped read format mid new taken faults now after next then
+        → HasMerged read format texts new taken faults out block next then (count + 1)
     merged-more new next then step = record {
       done = merged.done ++ step.entry ∷ [];
       counted = length-append merged.done (step.entry ∷ []) ∙ ap (λ n. n + 1) merged.counted;
@@ -122,13 +139,15 @@ module _ {X S : Type 0} (read : X → Option TableReading) (format : FormatValue
     }
 
     -- no more is taken
-    pub merged-fault : (fault : JoinFault) → StepFails read mid fault → IsMergeEnd read format texts taken faults out block now after (Err fault)
+    pub merged-fault : (fault : JoinFault) → StepFails read mid fault
+        → IsMergeEnd read format texts taken faults out block now after (Err fault)
     merged-fault fault fails = record {
       done = merged.done;
       appends = merged.appends;
       ends = λ readings known all.
           let so = merged.takes readings known all in
-          ends-err read readings all mid merged.done so fault (fault-of-all read readings all mid merged.done so fault (fails so.after so.known so.listings));
+          ends-err read readings all mid merged.done so fault
+          (fault-of-all read readings all mid merged.done so fault (fails so.after so.known so.listings));
     }
 
     pub merged-write : IsMergeEnd read format texts taken faults out block now after (Err Write)
@@ -146,5 +165,6 @@ module _ {X S : Type 0} (read : X → Option TableReading) (format : FormatValue
       appends = merged.appends;
       ends = λ readings known all.
           let so = merged.takes readings known all in
-          ends-err read readings all mid merged.done so TooLong (too-long read readings all mid merged.done so count merged.counted high);
+          ends-err read readings all mid merged.done so TooLong
+          (too-long read readings all mid merged.done so count merged.counted high);
     }

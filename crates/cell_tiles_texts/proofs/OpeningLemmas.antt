@@ -8,7 +8,7 @@ use Rattle.cell_stats.specs.TableText.{FormatValue}
 use Rattle.cell_tiles_lines.specs.LineReading.{TableReading, reading_of, stopped}
 use Rattle.cell_tiles_lines.specs.declared.table_fault.TableFault.{TableFault}
 use Rattle.cell_tiles_texts.specs.JoinedTexts.{Give, HasFault, first_entry, readings_from, readings_of, width_behind}
-use Rattle.cell_tiles_texts.specs.parts.Merging.{HasOpened}
+use Rattle.cell_tiles_texts.specs.parts.MergeEnds.{HasOpened}
 
 pub no-more : {A : Type 0} (xs : List A) → length xs ≡ 0 → xs ≡ []
 no-more [] none = refl
@@ -19,7 +19,8 @@ slice-behind [] ys y = refl
 slice-behind (x ∷ xs) ys y = slice-behind xs ys y
 
 module _ {R X : Type 0} (coming : R → Option Coming) (read : X → Option TableReading) (format : FormatValue) where
-  pub opened-none : (sources : List R) (comings : List Coming) → Give coming sources comings → HasOpened coming read format sources [] 0 comings
+  pub opened-none : (sources : List R) (comings : List Coming) → Give coming sources comings
+      → HasOpened coming read format sources [] 0 comings
   opened-none sources comings give = record {
     others = comings;
     give = give;
@@ -34,8 +35,10 @@ module _ {R X : Type 0} (coming : R → Option Coming) (read : X → Option Tabl
   mapped-one : (o : Option Coming) (c : Coming) (f : Coming → TableReading) → o ≡ Some c → option_map f o ≡ Some (f c)
   mapped-one o c f is = ap (option_map f) is
 
-  more : (source : R) (left : List R) (texts : List X) (text : X) (width : ℕ) (head : Option (Combination × ℕ)) (others : List Coming) (first : List TableReading) (comings : List Coming)
-      → Give coming (source ∷ left) others → map read texts ≡ map Some first → readings_of format comings ≡ first ++ readings_from format width others
+  more : (source : R) (left : List R) (texts : List X) (text : X) (width : ℕ) (head : Option (Combination × ℕ))
+      (others : List Coming) (first : List TableReading) (comings : List Coming)
+      → Give coming (source ∷ left) others → map read texts ≡ map Some first
+      → readings_of format comings ≡ first ++ readings_from format width others
       → option_map (reading_of format width) (coming source) ≡ read text
       → ((r : TableReading) → read text ≡ Some r → first_entry r.entries ≡ head)
       → HasOpened coming read format left (texts ++ text ∷ []) (width_behind width head) comings
@@ -50,29 +53,38 @@ module _ {R X : Type 0} (coming : R → Option Coming) (read : X → Option Tabl
         give = rest;
         first = first ++ r ∷ [];
         known = map-append read texts (text ∷ []) ∙ (λ i. known i ++ so i ∷ []) ∙ sym (map-append Some first (r ∷ []));
-        whole = whole ∙ ap (λ h. first ++ r ∷ readings_from format (width_behind width h) others) (heads r so) ∙ sym (append_assoc first (r ∷ []) (readings_from format (width_behind width head) others));
+        whole = whole ∙ ap (λ h. first ++ r ∷ readings_from format (width_behind width h) others) (heads r so)
+            ∙ sym (append_assoc first (r ∷ []) (readings_from format (width_behind width head) others));
       }
 
-  module _ (source : R) (left sources : List R) (texts : List X) (width : ℕ) (comings : List Coming) (is : sources ≡ source ∷ left) (opened : HasOpened coming read format sources texts width comings) where
+  module _ (source : R) (left sources : List R) (texts : List X) (width : ℕ) (comings : List Coming)
+      (is : sources ≡ source ∷ left) (opened : HasOpened coming read format sources texts width comings) where
     given : Give coming (source ∷ left) opened.others
     given = subst (λ rs. Give coming rs opened.others) is opened.give
 
     -- one more
-    pub opened-more : (text : X) (head : Option (Combination × ℕ)) → option_map (reading_of format width) (coming source) ≡ read text → ((r : TableReading) → read text ≡ Some r → first_entry r.entries ≡ head)
+    pub opened-more : (text : X) (head : Option (Combination × ℕ))
+        → option_map (reading_of format width) (coming source) ≡ read text
+        → ((r : TableReading) → read text ≡ Some r → first_entry r.entries ≡ head)
         → HasOpened coming read format left (texts ++ text ∷ []) (width_behind width head) comings
-    opened-more text head same heads = more source left texts text width head opened.others opened.first comings given opened.known opened.whole same heads
+    opened-more text head same heads = more source left texts text width head opened.others opened.first comings given
+        opened.known opened.whole same heads
 
-    refused : (others : List Coming) (fault : TableFault) → Give coming (source ∷ left) others → readings_of format comings ≡ opened.first ++ readings_from format width others
-        → IfSome (coming source) (λ c. reading_of format width c ≡ stopped fault.line fault.kind) → HasFault (readings_of format comings) (length texts) fault
+    refused : (others : List Coming) (fault : TableFault) → Give coming (source ∷ left) others
+        → readings_of format comings ≡ opened.first ++ readings_from format width others
+        → IfSome (coming source) (λ c. reading_of format width c ≡ stopped fault.line fault.kind)
+        → HasFault (readings_of format comings) (length texts) fault
     refused [] fault give whole stops = cc
     refused (c ∷ others) fault give whole stops =
         let one : coming source ≡ Some c = cc in
         let r : TableReading = reading_of format width c in
-        let stop : r ≡ stopped fault.line fault.kind = known-one (coming source) c (λ x. reading_of format width x ≡ stopped fault.line fault.kind) one stops in
+        let stop : r ≡ stopped fault.line fault.kind = known-one (coming source) c
+        (λ x. reading_of format width x ≡ stopped fault.line fault.kind) one stops in
         let rest : List TableReading = readings_from format (width_behind width (first_entry r.entries)) others in
         let faults : List TableReading → List (Option TableFault) = λ rs. map (λ (x : TableReading). x.fault) rs in
         let long : length texts ≡ length (faults opened.first) =
-        sym (length-map texts read) ∙ ap length opened.known ∙ length-map opened.first (λ (x : TableReading). Some x) ∙ sym (length-map opened.first (λ (x : TableReading). x.fault)) in
+        sym (length-map texts read) ∙ ap length opened.known ∙ length-map opened.first (λ (x : TableReading). Some x)
+        ∙ sym (length-map opened.first (λ (x : TableReading). x.fault)) in
         ap (λ rs. slice_get (faults rs) (length texts)) whole
         ∙ ap (λ fs. slice_get fs (length texts)) (map-append (λ (x : TableReading). x.fault) opened.first (r ∷ rest))
         ∙ ap (λ n. slice_get (faults opened.first ++ r.fault ∷ faults rest) n) long
@@ -80,12 +92,19 @@ module _ {R X : Type 0} (coming : R → Option Coming) (read : X → Option Tabl
         ∙ ap (λ (x : TableReading). Some x.fault) stop
 
     -- one that is refused
-    pub opened-refused : (fault : TableFault) → IfSome (coming source) (λ c. reading_of format width c ≡ stopped fault.line fault.kind) → HasFault (readings_of format comings) (length texts) fault
+    pub opened-refused : (fault : TableFault)
+        → IfSome (coming source) (λ c. reading_of format width c ≡ stopped fault.line fault.kind)
+        → HasFault (readings_of format comings) (length texts) fault
     opened-refused fault stops = refused opened.others fault given opened.whole stops
 
   -- all of them
-  pub opened-all : (left : List R) (texts : List X) (width : ℕ) (comings : List Coming) → left ≡ [] → HasOpened coming read format left texts width comings → map read texts ≡ map Some (readings_of format comings)
-  opened-all left texts width comings none opened = opened.known ∙ ap (map Some) (sym (opened.whole ∙ ap (λ others. opened.first ++ readings_from format width others) (nothing opened.others (subst (λ rs. Give coming rs opened.others) none opened.give)) ∙ append-nil opened.first))
+  pub opened-all : (left : List R) (texts : List X) (width : ℕ) (comings : List Coming) → left ≡ []
+      → HasOpened coming read format left texts width comings → map read texts ≡ map Some (readings_of format comings)
+  opened-all left texts width comings none opened = opened.known
+      ∙ ap (map Some) (sym (opened.whole
+      ∙ ap (λ others. opened.first ++ readings_from format width others)
+      (nothing opened.others (subst (λ rs. Give coming rs opened.others) none opened.give))
+      ∙ append-nil opened.first))
     where
       nothing : (others : List Coming) → Give coming [] others → others ≡ []
       nothing [] give = refl

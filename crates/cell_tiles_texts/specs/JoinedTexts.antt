@@ -62,7 +62,7 @@ IsJoinFault readings Memory = Unit {0}
 IsJoinFault readings Write = Unit {0}
 
 -- each text is a table to its end, and the sink took exactly the text of their merge, and its length is told
-pub record IsJoined (format : FormatValue) (readings : List TableReading) (before now : Option (List ℕ)) (written : ℕ) : Type 0 where
+pub record AreJoinedTexts (format : FormatValue) (readings : List TableReading) (before now : Option (List ℕ)) (written : ℕ) : Type 0 where
   pub tables : AreTables readings
   pub merged : Pairs
   pub merge : IsMerge (tables_of readings) merged

@@ -1,5 +1,5 @@
 -- What a merge takes from each text, and the parts of a line.
 pub mod EntryParts
-pub mod Merging
+pub mod MergeEnds
 pub mod Steps
 pub mod Taking

@@ -4,6 +4,6 @@
 
 pub mod entry_lines;
 pub mod join_fault;
-pub mod joining;
 pub mod law;
 pub mod text_heads;
+pub mod text_joining;

@@ -7,7 +7,7 @@ ghost use Rattle.cell_stats_combinations.specs.Combinations.{combination_cmp};
 ghost use Rattle.cell_tiles_lines.specs.LineReading.{TableReading};
 ghost use Rattle.cell_tiles_lines.specs.TextReading.{combination_of, reading_from};
 ghost use Rattle.cell_tiles_texts.specs.parts.Steps.{IsBeyondCounts, sum_if_any, head_count, lesser_of, past, sum_of_counts};
-ghost use Rattle.cell_tiles_texts.specs.parts.Taking.{IsTextFault};
+ghost use Rattle.cell_tiles_texts.specs.parts.Taking.{IsFaultOfText};
 
 use crate::join_fault::JoinFault;
 use cell_core::source::Source;
@@ -28,7 +28,7 @@ fn count_at(head: &Option<(Combo, u64)>, combo: &Combo) -> Option<u64>
     }
 }
 
-// Takes the head of a text, where it is of the combination, and tells its count.
+// TakesEntries the head of a text, where it is of the combination, and tells its count.
 fn take<R: Source>(
     alloc: Global,
     format: &Format,
@@ -95,7 +95,7 @@ fn add(total: Option<u64>, count: Option<u64>) -> Option<Option<u64>>
     }
 }
 
-/// Takes the heads that are of the combination, and tells their counts together; None where there are none.
+/// TakesEntries the heads that are of the combination, and tells their counts together; None where there are none.
 ///
 /// # Errors
 ///
@@ -113,7 +113,7 @@ pub(crate) fn take_all<R: Source>(
         ≡ map (λ text. option_map (past combo.now) (reading_from format.now text)) texts.old) }
     ensures fault { (readings : List TableReading)
         → map (λ text. reading_from format.now text) texts.old ≡ map Some readings
-        → IfErr result (IsTextFault readings) }
+        → IfErr result (IsFaultOfText readings) }
     ensures unwritten { IfErr result (λ fault. fault ≢ JoinFault.Write) }
     ensures beyond { result ≡ Err JoinFault.TooMany → 2 ^ 64
         ≤ unwrap_or (sum_of_counts (map (λ text. head_count combo.now text.head) texts.old)) 0 }

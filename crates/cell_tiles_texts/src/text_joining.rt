@@ -9,8 +9,8 @@ ghost use Rattle.cell_core_devices.specs.Blocks.{Appends};
 ghost use Rattle.cell_core_devices.specs.Device.{Coming, append_known, has_failed};
 ghost use Rattle.cell_tiles_lines.specs.TableLines.{entries_text};
 ghost use Rattle.cell_tiles_lines.specs.TextReading.{combination_of, reading_from};
-ghost use Rattle.cell_tiles_texts.specs.JoinedTexts.{Give, HasWritten, IsJoined, IsJoinFault, IsMergeOf, readings_of, width_behind};
-ghost use Rattle.cell_tiles_texts.specs.parts.Merging.{AreEnded, HasStepped, IsAnswered, IsMergeEnd, IsOpeningFault, settled};
+ghost use Rattle.cell_tiles_texts.specs.JoinedTexts.{Give, HasWritten, AreJoinedTexts, IsJoinFault, IsMergeOf, readings_of, width_behind};
+ghost use Rattle.cell_tiles_texts.specs.parts.MergeEnds.{AreEnded, HasStepped, IsAnswered, IsMergeEnd, IsOpeningFault, settled};
 ghost use Rattle.cell_tiles_texts.specs.parts.Taking.{StepFails};
 
 use crate::entry_lines::write_entry;
@@ -94,7 +94,7 @@ fn least_copy<R: Source>(alloc: Global, texts: &[TableText<R>]) -> Result<Option
     }
 }
 
-// Takes the least entry of all, writes its line, and tells whether there was one.
+// TakesEntries the least entry of all, writes its line, and tells whether there was one.
 fn write_least<R: Source, W: Sink>(
     alloc: Global,
     format: &Format,
@@ -205,7 +205,7 @@ pub fn join_texts<R: Source + Drop, W: Sink>(
     // Without a fault each text is a table to its end, and the sink has taken exactly the text of their merge.
     ensures joined { (texts : List Coming) → Give R.coming sources.items texts
         → result.fault ≡ None
-        → IsJoined format.now (readings_of format.now texts) (W.taken out.old) (W.taken out.new)
+        → AreJoinedTexts format.now (readings_of format.now texts) (W.taken out.old) (W.taken out.new)
         result.written }
     // A fault of a text is its first one; counts or entries that are too many are those of the merge.
     ensures fault { (texts : List Coming) → Give R.coming sources.items texts

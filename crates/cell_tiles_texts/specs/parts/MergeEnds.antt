@@ -11,7 +11,7 @@ use Rattle.cell_tiles_lines.specs.TableLines.{entries_text, entry_line}
 use Rattle.cell_tiles_merging.specs.Merging.{IsListing}
 use Rattle.cell_tiles_texts.specs.JoinedTexts.{AreTables, Give, HasFault, IsJoinFault, readings_from, readings_of, tables_of}
 use Rattle.cell_tiles_texts.specs.MergedTables.{merge_of}
-use Rattle.cell_tiles_texts.specs.parts.Taking.{Takes}
+use Rattle.cell_tiles_texts.specs.parts.Taking.{TakesEntries}
 use Rattle.cell_tiles_texts.specs.declared.join_fault.JoinFault.{JoinFault}
 use Rattle.cell_tiles_texts.specs.declared.join_fault.JoinFault.TheVariants.{Text, TooMany, TooLong, Memory, Write}
 
@@ -38,14 +38,14 @@ AreEnded read texts = (readings : List TableReading) → map read texts ≡ map 
 -- an entry was taken, and its line was appended
 pub record HasStepped {X S : Type 0} (read : X → Option TableReading) (format : FormatValue) (old new : List X) (taken : S → Option (List ℕ)) (faults : S → Faults) (out : S) (block : BlockValue) (now : S) (after : BlockValue) : Type 0 where
   pub entry : Combination × ℕ
-  pub takes : Takes read old new (entry ∷ [])
+  pub takes : TakesEntries read old new (entry ∷ [])
   pub appends : Appends taken faults out block (entry_line format entry) now after
 
 -- so many entries were taken, and their lines were appended
 pub record HasMerged {X S : Type 0} (read : X → Option TableReading) (format : FormatValue) (old new : List X) (taken : S → Option (List ℕ)) (faults : S → Faults) (out : S) (block : BlockValue) (now : S) (after : BlockValue) (count : ℕ) : Type 0 where
   pub done : Pairs
   pub counted : length done ≡ count
-  pub takes : Takes read old new done
+  pub takes : TakesEntries read old new done
   pub appends : Appends taken faults out block (entries_text format done) now after
 
 -- what the lines that were appended are of the merge, by the answer: all of it, or the first of it before a fault
@@ -76,12 +76,12 @@ fault_flush TooLong fails = fails
 fault_flush Memory fails = fails
 fault_flush Write fails = false
 
-abbrev pub flush_failed : Result Unit JoinFault → Bool → Bool
-flush_failed (Ok unit) fails = fails
-flush_failed (Err fault) fails = fault_flush fault fails
+abbrev pub join_flush_failed : Result Unit JoinFault → Bool → Bool
+join_flush_failed (Ok unit) fails = fails
+join_flush_failed (Err fault) fails = fault_flush fault fails
 
 -- an answer is given, and the sink flushed
 pub record IsAnswered (answer : Result Unit JoinFault) (old new : Faults) (fault : Option JoinFault) : Type 0 where
   pub fails : Bool
   pub told : fault ≡ answered answer fails
-  pub flushed : new ≡ after_flush old (flush_failed answer fails)
+  pub flushed : new ≡ after_flush old (join_flush_failed answer fails)

@@ -20,16 +20,16 @@ pub record HasTaken {X : Type 0} (read : X → Option TableReading) (readings : 
   pub faults : map (λ reading. reading.fault) after ≡ map (λ reading. reading.fault) readings
 
 -- the same of whatever texts are read as, in order
-abbrev pub Takes : {X : Type 0} → (X → Option TableReading) → List X → List X → Pairs → Type 0
-Takes read old new done = (readings : List TableReading) → map read old ≡ map Some readings → AllByRecursion IsListing (tables_of readings) → HasTaken read readings new done
+abbrev pub TakesEntries : {X : Type 0} → (X → Option TableReading) → List X → List X → Pairs → Type 0
+TakesEntries read old new done = (readings : List TableReading) → map read old ≡ map Some readings → AllByRecursion IsListing (tables_of readings) → HasTaken read readings new done
 
 -- of a fault of a text, that it has it; of any other nothing
-abbrev pub IsTextFault : List TableReading → JoinFault → Type 0
-IsTextFault readings (Text text fault) = HasFault readings text fault
-IsTextFault readings TooMany = Unit {0}
-IsTextFault readings TooLong = ⊥
-IsTextFault readings Memory = Unit {0}
-IsTextFault readings Write = ⊥
+abbrev pub IsFaultOfText : List TableReading → JoinFault → Type 0
+IsFaultOfText readings (Text text fault) = HasFault readings text fault
+IsFaultOfText readings TooMany = Unit {0}
+IsFaultOfText readings TooLong = ⊥
+IsFaultOfText readings Memory = Unit {0}
+IsFaultOfText readings Write = ⊥
 
 -- why no more is taken
 abbrev pub IsStepFault : List TableReading → JoinFault → Type 0

@@ -7,4 +7,5 @@ use Rattle.cell_tiles_texts.proofs.entry_lines.write_entry.Goals as goal
 pub returns : goal.returns
 returns g c =
     rw (← entry-parts c.args.format.now c.args.combo.now c.args.count)
-    (rw (ap (flat_map (cell_and_separator c.args.format.now)) c.cells.ensures) at (appends_then (appends_then c.write_fields.ensures c.write_count.ensures) c.push.ensures))
+    (rw (ap (flat_map (cell_and_separator c.args.format.now)) c.cells.ensures) at
+    (appends_then (appends_then c.write_fields.ensures c.write_count.ensures) c.push.ensures))

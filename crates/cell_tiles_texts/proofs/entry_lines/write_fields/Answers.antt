@@ -7,7 +7,8 @@ use Rattle.cell_tiles_texts.proofs.entry_lines.write_fields.Goals as goal
 pub cells-preserved : goal.cells-preserved
 cells-preserved g c =
     let cells = c.args.cells.now in
-    rw (flat_map-take (cell_and_separator c.args.format.now) cells c.cells.i c.index-cells-i.result c.index-cells-i.result c.cells-test.true c.index-cells-i.is)
+    rw (flat_map-take (cell_and_separator c.args.format.now) cells c.cells.i c.index-cells-i.result
+    c.index-cells-i.result c.cells-test.true c.index-cells-i.is)
     (appends_then c.cells.invariant c.write_field.ensures)
 
 pub returns : goal.returns

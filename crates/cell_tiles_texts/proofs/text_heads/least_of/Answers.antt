@@ -6,7 +6,11 @@ use Rattle.cell_tiles_texts.proofs.ListLemmas.{least-own, least-told}
 use Rattle.cell_tiles_texts.proofs.text_heads.least_of.Goals as goal
 
 pub returns-clause-least : goal.returns-clause-least
-returns-clause-least g c = least-told (λ text. text.head) (λ k. k.now) c.texts.least c.args.texts.now (c.texts.invariant ∙ ap (λ xs. fold lesser_of None (map (λ text. combination_of text.head) xs)) (take_all c.texts.text-index c.args.texts.now (omega arith)))
+returns-clause-least g c = least-told (λ text. text.head) (λ k. k.now) c.texts.least c.args.texts.now
+    (c.texts.invariant ∙ ap (λ xs. fold lesser_of None (map (λ text. combination_of text.head) xs))
+    (take_all c.texts.text-index c.args.texts.now (omega arith)))
 
 pub returns-clause-own : goal.returns-clause-own
-returns-clause-own g c = least-own (λ text. text.head) (λ k. k.now) c.texts.least c.args.texts.now (c.texts.invariant ∙ ap (λ xs. fold lesser_of None (map (λ text. combination_of text.head) xs)) (take_all c.texts.text-index c.args.texts.now (omega arith)))
+returns-clause-own g c = least-own (λ text. text.head) (λ k. k.now) c.texts.least c.args.texts.now
+    (c.texts.invariant ∙ ap (λ xs. fold lesser_of None (map (λ text. combination_of text.head) xs))
+    (take_all c.texts.text-index c.args.texts.now (omega arith)))

@@ -4,4 +4,5 @@ use Rattle.cell_tiles_texts.specs.parts.Steps.{lesser_of}
 use Rattle.cell_tiles_texts.proofs.text_heads.least_of.Given as goal
 
 abbrev pub invariant-texts : goal.invariant-texts
-invariant-texts g l = option_map (λ k. k.now) l.least ≡ fold lesser_of None (map (λ text. combination_of text.head) (take l.text-index l.texts))
+invariant-texts g l = option_map (λ k. k.now) l.least ≡ fold lesser_of None
+    (map (λ text. combination_of text.head) (take l.text-index l.texts))

@@ -7,16 +7,25 @@ use Rattle.cell_tiles_texts.proofs.text_heads.take_all.Goals as goal
 
 pub texts-preserved : goal.texts-preserved
 texts-preserved g c =
-    one-more (λ text. head_count c.args.combo.now text.head) (λ text. reading_from c.args.format.now text) (λ text. option_map (past c.args.combo.now) (reading_from c.args.format.now text))
-    c.args.texts.now c.texts.texts c.texts.text (get_or c.texts.texts c.texts.text c.index-texts-text.result) c.take.new.text c.texts.total c.in-Some.sum c.in-Ok.count (omega arith) (ap (get_or c.texts.texts c.texts.text) c.index-texts-text.is) c.texts.invariant c.in-Ok.ensures.count c.in-Ok.ensures.taken c.in-Some.ensures
+    one-more (λ text. head_count c.args.combo.now text.head) (λ text. reading_from c.args.format.now text)
+    (λ text. option_map (past c.args.combo.now) (reading_from c.args.format.now text))
+    c.args.texts.now c.texts.texts c.texts.text (get_or c.texts.texts c.texts.text c.index-texts-text.result)
+    c.take.new.text c.texts.total c.in-Some.sum c.in-Ok.count (omega arith)
+    (ap (get_or c.texts.texts c.texts.text) c.index-texts-text.is) c.texts.invariant c.in-Ok.ensures.count
+    c.in-Ok.ensures.taken c.in-Some.ensures
 
 pub returns-in-Err-clause-fault : goal.returns-in-Err-clause-fault
 returns-in-Err-clause-fault g c = λ readings known.
-    text-fault c.in-Err.fault c.of_text.result c.of_text.ensures.memory readings c.texts.text c.of_text.ensures.text (λ not.
-    fault-at (λ text. reading_from c.args.format.now text) c.args.texts.now c.texts.texts readings c.texts.text (get_or c.texts.texts c.texts.text c.index-texts-text.result) c.in-Err.fault (omega arith)
-    (ap (get_or c.texts.texts c.texts.text) c.index-texts-text.is) c.texts.invariant.2 known (c.in-Err.ensures.fault not))
+    text-fault c.in-Err.fault c.of_text.result c.of_text.ensures.memory readings c.texts.text c.of_text.ensures.text
+    (λ not.
+    fault-at (λ text. reading_from c.args.format.now text) c.args.texts.now c.texts.texts readings c.texts.text
+    (get_or c.texts.texts c.texts.text c.index-texts-text.result) c.in-Err.fault (omega arith)
+    (ap (get_or c.texts.texts c.texts.text) c.index-texts-text.is) c.texts.invariant.2 known
+    (c.in-Err.ensures.fault not))
 
 pub returns-in-None-clause-beyond : goal.returns-in-None-clause-beyond
 returns-in-None-clause-beyond g c = λ e.
-    beyond-at (λ text. head_count c.args.combo.now text.head) c.args.texts.now c.texts.texts c.texts.text (get_or c.texts.texts c.texts.text c.index-texts-text.result) c.texts.total c.in-Ok.count (omega arith)
-    (ap (get_or c.texts.texts c.texts.text) c.index-texts-text.is) c.texts.invariant.2 c.texts.invariant.0 c.in-Ok.ensures.count c.in-None.ensures
+    beyond-at (λ text. head_count c.args.combo.now text.head) c.args.texts.now c.texts.texts c.texts.text
+    (get_or c.texts.texts c.texts.text c.index-texts-text.result) c.texts.total c.in-Ok.count (omega arith)
+    (ap (get_or c.texts.texts c.texts.text) c.index-texts-text.is) c.texts.invariant.2 c.texts.invariant.0
+    c.in-Ok.ensures.count c.in-None.ensures

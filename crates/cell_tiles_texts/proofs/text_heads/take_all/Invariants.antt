@@ -4,6 +4,8 @@ use Rattle.cell_tiles_texts.specs.parts.Steps.{head_count, past, sum_of_counts}
 use Rattle.cell_tiles_texts.proofs.text_heads.take_all.Given as goal
 
 abbrev pub invariant-texts : goal.invariant-texts
-invariant-texts g l = (l.total ≡ sum_of_counts (map (λ text. head_count l.combo text.head) (take l.text l.initial.texts)))
-    × (map (λ text. reading_from l.format text) (take l.text l.texts) ≡ map (λ text. option_map (past l.combo) (reading_from l.format text)) (take l.text l.initial.texts))
+invariant-texts g l =
+    (l.total ≡ sum_of_counts (map (λ text. head_count l.combo text.head) (take l.text l.initial.texts)))
+    × (map (λ text. reading_from l.format text) (take l.text l.texts) ≡ map
+    (λ text. option_map (past l.combo) (reading_from l.format text)) (take l.text l.initial.texts))
     × (drop l.text l.texts ≡ drop l.text l.initial.texts)

@@ -2,11 +2,11 @@ use Rattle.std.proofs.Common.{rules, ◌≡◌, ◌++◌, ◌∷◌, [], ℕ, Li
 use Rattle.std.specs.Vec.Iter.{into_iter_items}
 use Rattle.cell_tiles_lines.specs.TextReading.{TextValue, reading_from}
 use Rattle.cell_tiles_texts.specs.JoinedTexts.{HasFault, readings_of, width_behind}
-use Rattle.cell_tiles_texts.specs.parts.Merging.{HasOpened}
+use Rattle.cell_tiles_texts.specs.parts.MergeEnds.{HasOpened}
 use Rattle.cell_tiles_texts.proofs.FaultLemmas.{opening-fault}
 use Rattle.cell_tiles_texts.proofs.OpeningLemmas.{no-more, opened-all, opened-more, opened-refused}
 use Rattle.cell_tiles_texts.proofs.TakingLemmas.{head-read}
-use Rattle.cell_tiles_texts.proofs.joining.open_texts.Goals as goal
+use Rattle.cell_tiles_texts.proofs.text_joining.open_texts.Goals as goal
 
 pub returns-in-Err-clause-fault : goal.returns-in-Err-clause-fault
 returns-in-Err-clause-fault g c = λ comings give.
@@ -14,9 +14,12 @@ returns-in-Err-clause-fault g c = λ comings give.
     let format = c.args.format.now in
     let so = at.invariant.opened comings give in
     let long : c.len.result ≡ length at.texts.items = c.len.ensures ∙ at.texts.ok.0 in
-    opening-fault c.in-Err.fault c.of_text.result c.of_text.ensures.memory (readings_of format comings) c.len.result c.of_text.ensures.text (λ not.
+    opening-fault c.in-Err.fault c.of_text.result c.of_text.ensures.memory (readings_of format comings) c.len.result
+    c.of_text.ensures.text (λ not.
     subst (λ (n : ℕ). HasFault (readings_of format comings) n c.in-Err.fault) (sym long)
-    (opened-refused g.R.Source.coming (λ (text : TextValue). reading_from format text) format c.in-Some.source (into_iter_items c.next.new.self) (into_iter_items at.source-iterator) at.texts.items at.width comings c.in-Some.ensures.steps.0 so c.in-Err.fault (c.in-Err.ensures.fault not)))
+    (opened-refused g.R.Source.coming (λ (text : TextValue). reading_from format text) format c.in-Some.source
+    (into_iter_items c.next.new.self) (into_iter_items at.source-iterator) at.texts.items at.width comings
+    c.in-Some.ensures.steps.0 so c.in-Err.fault (c.in-Err.ensures.fault not)))
 
 pub loop-source-preserved : goal.loop-source-preserved
 loop-source-preserved g c =
@@ -26,13 +29,19 @@ loop-source-preserved g c =
     let is = c.in-Some.ensures.steps.0 in
     let text = c.in-Ok.text in
     let items : c.push.new.self.items ≡ at.texts.items ++ text ∷ [] = search rules in
-    let width : c.width_behind-width.result ≡ width_behind at.width text.head = c.width_behind-width.ensures ∙ ap (width_behind at.width) c.head.ensures in
+    let width : c.width_behind-width.result ≡ width_behind at.width text.head = c.width_behind-width.ensures
+    ∙ ap (width_behind at.width) c.head.ensures in
     record {
       opened = λ comings give.
           let so = at.invariant.opened comings give in
-          let more = opened-more g.R.Source.coming (λ (text : TextValue). reading_from format text) format c.in-Some.source left (into_iter_items at.source-iterator) at.texts.items at.width comings is so text text.head c.in-Ok.ensures.read (head-read format text) in
-          let wide = subst (λ (w : ℕ). HasOpened g.R.Source.coming (λ (text : TextValue). reading_from format text) format left (at.texts.items ++ text ∷ []) w comings) (sym width) more in
-          subst (λ (texts : List TextValue). HasOpened g.R.Source.coming (λ (text : TextValue). reading_from format text) format left texts c.width_behind-width.result comings) (sym items) wide;
+          let more = opened-more g.R.Source.coming (λ (text : TextValue). reading_from format text) format
+          c.in-Some.source left (into_iter_items at.source-iterator) at.texts.items at.width comings is so text
+          text.head c.in-Ok.ensures.read (head-read format text) in
+          let wide = subst (λ (w : ℕ). HasOpened g.R.Source.coming (λ (text : TextValue). reading_from format text)
+          format left (at.texts.items ++ text ∷ []) w comings) (sym width) more in
+          subst (λ (texts : List TextValue). HasOpened g.R.Source.coming
+          (λ (text : TextValue). reading_from format text) format left texts c.width_behind-width.result comings)
+          (sym items) wide;
       len = let was = at.invariant.len in
           let gone = c.in-Some.ensures.steps.1 in
           let short = ap (λ l. length l) is in
@@ -45,4 +54,5 @@ returns-clause-read g c = λ comings give.
     let format = c.args.format.now in
     let left = into_iter_items at.source-iterator in
     let none : left ≡ [] = no-more left (sym at.invariant.len ∙ c.in-None.ensures.steps.0) in
-    opened-all g.R.Source.coming (λ (text : TextValue). reading_from format text) format left at.texts.items at.width comings none (at.invariant.opened comings give)
+    opened-all g.R.Source.coming (λ (text : TextValue). reading_from format text) format left at.texts.items at.width
+    comings none (at.invariant.opened comings give)

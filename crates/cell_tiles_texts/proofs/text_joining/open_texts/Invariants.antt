@@ -3,8 +3,8 @@ use Rattle.std.specs.Vec.Iter.{into_iter_items, into_iter_len}
 use Rattle.cell_core_devices.specs.Device.{Coming}
 use Rattle.cell_tiles_lines.specs.TextReading.{reading_from}
 use Rattle.cell_tiles_texts.specs.JoinedTexts.{Give}
-use Rattle.cell_tiles_texts.specs.parts.Merging.{HasOpened}
-use Rattle.cell_tiles_texts.proofs.joining.open_texts.Given as goal
+use Rattle.cell_tiles_texts.specs.parts.MergeEnds.{HasOpened}
+use Rattle.cell_tiles_texts.proofs.text_joining.open_texts.Given as goal
 
 abbrev pub invariant-loop-source : goal.invariant-loop-source
 invariant-loop-source g l =
