@@ -1,6 +1,6 @@
 -- The tables of the numbers of bands give that of the whole.
 use Rattle.std.proofs.Common.{◌≡◌, ℕ, zero, suc, pos, negsuc, ◌+◌, flat_map, [], ◌∷◌, ◌++◌, List, length, drop}
-use Rattle.std.proofs.Common.{Some, None, Bool, true, false, not, cond, refl, ap, sym, ◌∙◌, arith, subst}
+use Rattle.std.proofs.Common.{Some, None, Bool, true, false, cond, refl, ap, sym, ◌∙◌, arith, subst}
 use Rattle.std.specs.Prelude.{sum_by}
 use Rattle.std.specs.List.{AllZip}
 use Rattle.std.specs.Ordering.{eq_by_cmp}
@@ -10,8 +10,7 @@ use Rattle.cell_cats_areas.specs.declared.clump.Joining.{Joining}
 use Rattle.cell_cats_areas.specs.Areas.{Position, cell_at_spot, IsClumping}
 use Rattle.cell_cats_areas.specs.parts.CellPlaces.{position}
 use Rattle.cell_stats_combinations.specs.declared.skip.Skip.{Skip}
-use Rattle.cell_stats_combinations.specs.declared.skip.Skip.TheVariants.{AnyNull}
-use Rattle.cell_stats_combinations.specs.Combinations.{Combination, combination_cmp, all_combinations}
+use Rattle.cell_stats_combinations.specs.Combinations.{combination_cmp, all_combinations}
 use Rattle.cell_stats_combinations.specs.LeftOut.{is_left_out}
 use Rattle.cell_stats_counts.specs.Counts.{count_of}
 use Rattle.cell_stats.specs.CategoryTables.{Pairs}
@@ -42,9 +41,6 @@ use Rattle.cell_tiles_joining_law.proofs.SizeLemmas.{equal-itself, equal-only, s
 use Rattle.cell_tiles_joining_law.proofs.NumberTableLemmas.{numbers-are-listed}
 
 -- ---- what a table of numbers lists
-
-abbrev is_number : Combination × ℕ → Bool
-is_number pair = not (is_left_out AnyNull pair.0)
 
 null-lists : (skip : Skip) (nulls : ℕ) → listed_sizes (entry_of_null skip nulls) ≡ []
 null-lists skip zero = refl

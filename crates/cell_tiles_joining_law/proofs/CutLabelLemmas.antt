@@ -46,12 +46,6 @@ module _ (h : ℕ → Option ℕ) where
       above : (a ≡ c → ⊥) → a + 1 ≤ c
       above ne = ⊎_elim (λ lt. omega (arith, lt)) (λ le. absurd (ne (omega (arith, le, low)))) (cases_lt a c)
 
-  given-cases : (o : Option ℕ) (ls : List ℕ) (l i : ℕ) → i < length (cons_option o ls) →
-      get_or (cons_option o ls) i l ≡ l → (o ≡ Some l → ⊥) → Contains ls l
-  given-cases None ls l i within is other = (i, within, is)
-  given-cases (Some k) ls l zero within is other = absurd (other (ap Some is))
-  given-cases (Some k) ls l (suc i) within is other = (i, omega (arith, within), is)
-
   -- what is so of all that it gives
   given-all : (P : ℕ → Type 0) → ((c l : ℕ) → h c ≡ Some l → P l) → (cols : List ℕ) (l : ℕ) →
       Contains (filter_map h cols) l → P l
