@@ -103,9 +103,6 @@ module _ (grids : List Named) (shelf between : ShelfValue) (null_text : List ℕ
   maps_left : drop (length grids) between.maps ≡ grown.maps
   maps_left = ap (drop (length grids)) grown.maps_are ∙ drop_at shelf.maps grown.maps (length grids) (sym many)
 
-  made : List Named
-  made = written_from between null_text (length grids) grown.names
-
   made_is : drop (length grids) (written_grids null_text between) ≡ written_from between null_text
       (length grids) grown.names
   made_is =

@@ -136,10 +136,6 @@ known_in xs all = All-filter (λ a. not (is_null a)) InRange xs all
 frequent_in : (xs : List CellValue) → All InRange xs → InRange (most_frequent xs)
 frequent_in xs all = least_in (filter (is_most_frequent xs) xs) (All-filter (is_most_frequent xs) InRange xs all)
 
-first_in : (xs : List CellValue) → All InRange xs → InRange (first_known xs)
-first_in [] all = tt
-first_in (x ∷ xs) all = All-head InRange x xs all
-
 pub item_in : (xs : List CellValue) (i : ℕ) → All InRange xs → InRange (get_or xs i None)
 item_in xs i all =
     ⊎_elim (λ lt. All-get_or InRange xs i None lt all) (λ le. subst InRange (sym (get_or_past xs i None le)) tt)
