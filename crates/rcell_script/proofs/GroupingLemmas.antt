@@ -94,9 +94,6 @@ rule-read : (rules : List RuleValue) (l : List ℕ) (rule : RuleValue) → lengt
 rule-read rules l rule s spells = short-rule rules l s
     ∙ rw (spells.not_skipped, no_end l spells.not_end, rule_law.rule-complete l rule spells) refl
 
-end-skipped : is_skipped (codes "end") ≡ false
-end-skipped = refl
-
 end-read : (rules : List RuleValue) (l : List ℕ) → length l ≤ 65535 → IsEnd l → rule_line rules l ≡ Ok (line_kind.End, rules)
 end-read rules l s e =
     let other : is_skipped (trimmed_text l) ≡ false = ap is_skipped e in
@@ -136,10 +133,6 @@ progress known before pending = record { known = known; statements = before; pen
 
 short-cons : (l : List ℕ) (ls : List (List ℕ)) → length l ≤ 65535 → All (λ l. length l ≤ 65535) ls → All (λ l. length l ≤ 65535) (l ∷ ls)
 short-cons l ls s rest = All-cons (λ (l : List ℕ). length l ≤ 65535) l ls s rest
-
--- one statement more at the head
-one-more : (before more : List Statement) (s : Statement) (statements : List Statement) → before ++ s ∷ [] ++ more ≡ statements → before ++ s ∷ more ≡ statements
-one-more before more s statements e = sym (append_assoc before (s ∷ []) more) ∙ e
 
 opened-rest : (line : ℕ) (known : List (List ℕ)) (l : List ℕ) (place : ℕ) (target : List ℕ) (lines : List ScriptLine) (statements : List Statement)
     → SpellsReclass known l place target → Inside known (record { line = line; place = place; target = target; rules = [] }) lines statements
