@@ -17,7 +17,6 @@ run-none : (run count : ℕ) → run_after run (count + 1) ≡ 0
 run-none run count = let e : count + 1 ≡ suc count = omega arith in ap (run_after run) e
 
 module _ (h : HeaderValue) (bs : List ℕ) where
-
   -- one more
   pub HoldsCells-more : (cells : List CellValue) (count n : ℕ) (v : CellValue) (m : ℕ) → HoldsCells h bs cells count n → HoldsCell h (drop n bs) v m
       → HoldsCells h bs (cells ++ v ∷ []) (count + 1) (n + m)

@@ -41,7 +41,6 @@ position_from-other p i [] name other = rw other refl
 position_from-other p i (x ∷ xs) name other = ap (cond (p x) (Some i)) (position_from-other p (i + 1) xs name other)
 
 module _ {K : Type 0} (bytes : K → List ℕ) where
-
   keeps : (test : K → Bool) (old new : List (K × ℕ)) → KeepsOthers (eq_by_cmp (λ x y. slice_cmp nat_cmp (bytes x) (bytes y))) test old new
       → (other : K → Bool) → IsKeyTest (eq_by_cmp (λ x y. slice_cmp nat_cmp (bytes x) (bytes y))) other → AreApart test other → lookup other new ≡ lookup other old
   unfolding KeepsOthers
