@@ -14,6 +14,7 @@ only `workers` tells those of the clock, which say something where nothing else 
 from __future__ import annotations
 
 import argparse
+import contextlib
 import os
 import resource
 import signal
@@ -44,6 +45,7 @@ from rcell.tiles.joining import Edges, Rectangle, join
 from watching import MILLION, Figures, measured
 
 MEMORY_SIDE = 4096
+WAIT_SECONDS = 60
 KILLED_AFTER = 1 / 3
 """When a worker is killed: so much of the time that the same work took as many workers of which none was."""
 
@@ -164,7 +166,8 @@ def _worked(mosaic: rcell.tiles.Mosaic, count: int, work: Work, out: Path, kille
     """What is told of an answer, and what it took; a worker is killed after so many seconds, where they are not 0."""
     mosaic.table(TABLE)  # workers have imported what they need
     client = mosaic._engine.cluster.client
-    client.wait_for_workers(count)
+    with contextlib.suppress(TimeoutError):  # one that was killed is not always started anew
+        client.wait_for_workers(count, WAIT_SECONDS)
     killed = next(iter(client.run(os.getpid).values()))
     timer = threading.Timer(killed_after, os.kill, (killed, signal.SIGKILL))
     if killed_after:
