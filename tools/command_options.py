@@ -7,7 +7,8 @@ Of each command docs/COMMANDS.md has a synopsis and a table of its flags and opt
 name the same. Then the program is run with each letter and digit as a flag, and with each key that any command or GRASS has: it
 must take those that are named and no other, and must miss a key exactly where the table says that it is required. Of r.mapcalc
 the functions are compared and tried in this way. Of rcell-join the synopses of docs/COMMANDS.md and docs/rcell-join.1 must be its
-usage, and it is tried with the same flags and keys, where an unknown key is a file. The last line is 'N passed, M failed'.
+usage, the page must have all messages of the document, and it is tried with the same flags and keys, where an unknown key is a
+file. The last line is 'N passed, M failed'.
 """
 import argparse
 import os
@@ -90,6 +91,17 @@ def synopsis_of_joiner_page():
     words = [re.sub(r"\\f.|^\.B |^\.RI ", "", line.replace("\\-", "-")) for line in lines.splitlines()]
     # .RI sets the pieces that blanks part in turns, and none of these blanks.
     return words[0] + " " + re.sub(r'"([^"]*)"|\s', lambda found: found[1] or "", words[1])
+
+
+def messages_of_joiner():
+    """The texts that docs/COMMANDS.md has in its table of the messages of rcell-join."""
+    table = re.search(r"^### Messages\n(.*)", section(JOINER), re.MULTILINE | re.DOTALL)[1]
+    return [text for row in re.findall(r"^\| (`[^|]*`) \|", table, re.MULTILINE) for text in re.findall(r"`([^`]+)`", row)]
+
+
+def text_of_joiner_page():
+    """The lines under DIAGNOSTICS in the manual page of rcell-join, without their fonts."""
+    return FONT.sub("", re.search(r"^\.SH DIAGNOSTICS\n(.*?)^\.SH ", read(PAGE_OF_JOINER), re.MULTILINE | re.DOTALL)[1])
 
 
 def functions_of_document():
@@ -175,6 +187,9 @@ def faults_of_joiner(tried):
     yield "" if usage.endswith(f" usage: {other}") else f"{PAGE_OF_JOINER}: {other!r}, and not {synopsis(JOINER)!r}"
     other = Named.of_synopsis(synopsis(JOINER))
     yield "" if other == named else f"{DOCUMENT}, synopsis: {JOINER} has {other}, but {named} in its table"
+    page = text_of_joiner_page()
+    for text in messages_of_joiner():
+        yield "" if text in page else f"{PAGE_OF_JOINER}: it says nothing of {text!r}"
     for flag in FLAGS:
         said = tried.refusal(f"-{flag}")
         yield "" if said == usage else f"{JOINER} -{flag}: {said or 'taken'}, and not its usage"
