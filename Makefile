@@ -1,10 +1,10 @@
 # make           proves and builds the programs, bin/rcell and bin/rcell-join; JOBS=1 where memory is short
-# make install   puts the program, helpers, manual pages, documents and examples below PREFIX (/usr/local; DESTDIR goes before it)
+# make install   puts the programs, helpers, manual pages, documents and examples below PREFIX (/usr/local; DESTDIR goes before it)
 # make uninstall removes them
 # make example   builds the program, and runs it on the land cover of examples/land-cover
-# make documents runs each example of the documents on bin/rcell, and compares
-# make check     the gate: every proof from nothing, then the program on each case, example and document, and the release
-# make static    links bin/rcell-static from the object of bin/rcell: one file for each Linux on x86-64
+# make documents runs each example of the documents on bin/rcell and bin/rcell-join, and compares
+# make check     the gate: every proof from nothing, then the programs on each case, example and document, and the release
+# make static    links bin/rcell-static and bin/rcell-join-static, each from the object of its program: for each Linux on x86-64
 # make dist      makes the release: dist/rcell-VERSION-linux-x86_64.tar.gz, dist/rcell_VERSION_amd64.deb, dist/SHA256SUMS
 # make debian11  runs the release's quick start in a root of Debian 11 (as root, with debootstrap)
 # make edits     tries the edits of crates/NAME/edits/, which the gate leaves alone: each must be refused
@@ -52,7 +52,7 @@ uninstall:
 example: bin/rcell
 	cd examples/land-cover && ../../bin/rcell script landuse=landuse.txt
 
-documents: bin/rcell
+documents: all
 	python3 tools/documents.py
 
 check:
@@ -60,9 +60,9 @@ check:
 
 # Of what was built last: whoever packs the program (the wheel of Python, the package of R) takes bin/rcell-static.
 static:
-	@sh tools/static.sh bin/rcell-static
+	@sh tools/static.sh bin
 
-dist: bin/rcell static
+dist: all static
 	@sh tools/dist.sh dist
 
 debian11: dist

@@ -1,8 +1,8 @@
 #!/bin/sh
-# Installs what a user gets below PREFIX, or removes it: the program, the helpers, the manual pages, the documents, the
+# Installs what a user gets below PREFIX, or removes it: the programs, the helpers, the manual pages, the documents, the
 # examples and the add-on for GRASS. `make install`, the tarball and the package all use this one list.
 #
-#     packaging/install.sh PREFIX [PROGRAM]        PROGRAM is bin/rcell where it is not given
+#     packaging/install.sh PREFIX [ENDING]         bin/rcell and bin/rcell-join, or with -static as ENDING the static ones
 #     packaging/install.sh --remove PREFIX
 set -eu
 cd "$(dirname "$0")/.."
@@ -10,11 +10,14 @@ cd "$(dirname "$0")/.."
 documents=share/doc/rcell
 shared=share/rcell
 pages=share/man/man1
+programs='rcell rcell-join'
 
-# A line for each file: its mode, where it stands here, and where below PREFIX it goes.
+# A line for each file: its mode, where it stands here, and where below PREFIX it goes. $1 is what the programs here end in.
 list() {
-    echo "755 $1 bin/rcell"
-    echo "644 docs/rcell.1 $pages/rcell.1"
+    for name in $programs; do
+        echo "755 bin/$name$1 bin/$name"
+        echo "644 docs/$name.1 $pages/$name.1"
+    done
     helpers
     for file in README.md CHANGELOG.md VERSION; do
         echo "644 $file $documents/$file"
@@ -66,20 +69,22 @@ put() {
 case ${1:-} in
     --remove)
         prefix=${2:?PREFIX}
-        list bin/rcell | while read -r mode file target; do rm -f "$prefix/$target"; done
+        list '' | while read -r mode file target; do rm -f "$prefix/$target"; done
         rm -rf "${prefix:?}/$documents" "${prefix:?}/$shared"
         ;;
     '')
-        echo 'usage: packaging/install.sh PREFIX [PROGRAM], or packaging/install.sh --remove PREFIX' >&2
+        echo 'usage: packaging/install.sh PREFIX [ENDING], or packaging/install.sh --remove PREFIX' >&2
         exit 2
         ;;
     *)
-        prefix=$1 program=${2:-bin/rcell}
-        if [ ! -x "$program" ]; then
-            echo "rcell: $program is missing: run make first, or unpack a release" >&2
-            exit 1
-        fi
+        prefix=$1 ending=${2:-}
+        for name in $programs; do
+            if [ ! -x "bin/$name$ending" ]; then
+                echo "rcell: bin/$name$ending is missing: run make first, or unpack a release" >&2
+                exit 1
+            fi
+        done
         umask 022
-        list "$program" | while read -r mode file target; do put "$mode" "$file" "$prefix/$target"; done
+        list "$ending" | while read -r mode file target; do put "$mode" "$file" "$prefix/$target"; done
         ;;
 esac

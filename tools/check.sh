@@ -1,5 +1,5 @@
 #!/bin/sh
-# The gate: every proof from nothing, and then the program that was proved on each case and each example of the documents, the
+# The gate: every proof from nothing, and then the programs that were proved on each case and each example of the documents, the
 # release that is made of it, and what each front has to say of itself. The last line counts them all: 'N passed, M failed'.
 # It is kept with what it was about in .gate/COMMIT, where PROVED.txt of the release finds it.
 cd "$(dirname "$0")/.." || exit 1
@@ -31,6 +31,7 @@ keep_closing() {
         echo "commit: $commit"
         echo "kit: $(rt version)"
         echo "program: $(sha256sum < bin/rcell | cut -d ' ' -f 1)"
+        echo "joiner: $(sha256sum < bin/rcell-join | cut -d ' ' -f 1)"
         echo "proofs: $(sed -n 's/^rt: ok; //p' "$room/proofs" | tail -n 1)"
         echo "closing: $1"
     } > ".gate/$commit"
@@ -73,7 +74,7 @@ try hostile python3 tools/hostile.py --short --clang "$kit/toolchain/bin/clang"
 # Laws of a report, once on outputs: maps of the examples, and made ones of a million cells.
 try laws python3 tools/laws
 
-# The release, linked from the object that was proved: used where there is neither the kit nor Python, nor a source.
+# The release, linked from the objects that were proved: used where there is neither the kit nor Python, nor a source.
 python3 tools/program_object.py || status=1
 try release python3 tools/check_release.py
 

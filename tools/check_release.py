@@ -1,14 +1,15 @@
 #!/usr/bin/env python3
-"""Makes the release of what is built twice, and tries it: the static program beside the documents and the model, the same bytes
-twice, the quick start and the helpers from the unpacked files, `make install`.
+"""Makes the release of what is built twice, and tries it: the static programs beside the documents and the models, the same bytes
+twice, the quick start, the helpers and the joiner from the unpacked files, `make install`.
 
     check_release.py [--keep FOLDER]
 
-It wants bin/rcell and the object that it was linked from, bin/rcell.o. --keep leaves the files of the release in the folder.
-The last line is 'N passed, M failed'.
+It wants bin/rcell and bin/rcell-join and the objects that they were linked from, bin/rcell.o and bin/rcell-join.o. --keep leaves
+the files of the release in the folder. The last line is 'N passed, M failed'.
 """
 import argparse
 import filecmp
+import glob
 import os
 import re
 import shutil
@@ -25,6 +26,12 @@ COUNTS = re.compile(r"^(\d+) passed, (\d+) failed$")
 PATH_WITHOUT_KIT = "/usr/bin:/bin"
 RUNS = "300"
 KIND_OF_INTERPRETER = 3  # PT_INTERP of an ELF file
+PROGRAMS = ("rcell", "rcell-join")
+PAGES = "share/man/man1"
+# Two bands of a map, and the table of the whole.
+HEADER = "north: {}\nsouth: {}\neast: 3\nwest: 0\nrows: {}\ncols: 3\n"
+BANDS = {"upper": HEADER.format(3, 1, 2) + "5 5 *\n-1 5 7\n", "lower": HEADER.format(1, 0, 1) + "7 * 9\n"}
+TABLE_OF_THE_WHOLE = "-1 1\n5 3\n7 2\n9 1\n* 2\n"
 
 
 class Count:
@@ -51,10 +58,12 @@ class Count:
 
 
 def check_static(count):
-    """The static program gives what the documents show, and answers as the plain model does on runs made at random."""
-    static = f"{ROOT}/bin/rcell-static"
-    for what, words in (("the documents by the static program", ["tools/documents.py", "--program", static, *documents.DOCUMENTS]),
-                        ("the static program beside the model", ["tools/compare.py", "--runs", RUNS, "--seed", "2", "--program", static])):
+    """The static programs give what the documents show, and answer as the plain models do on runs made at random."""
+    static, joiner = (f"{ROOT}/bin/{name}-static" for name in PROGRAMS)
+    for what, words in (("the documents by the static programs",
+                         ["tools/documents.py", "--program", static, "--joiner", joiner, *documents.DOCUMENTS]),
+                        ("the static program beside the model", ["tools/compare.py", "--runs", RUNS, "--seed", "2", "--program", static]),
+                        ("the static joiner beside a plain one", ["tools/test_join.py", "--runs", RUNS, "--program", joiner])):
         ran = subprocess.run([sys.executable, *words], cwd=ROOT, stdout=subprocess.PIPE, stderr=subprocess.STDOUT, text=True)
         count.add(what, ran.stdout if ran.returncode else "")
 
@@ -69,9 +78,10 @@ def interpreters(path):
 
 
 def check_needs(count, folder, names):
-    """The program needs no library, and the package no other."""
-    found = interpreters(f"{ROOT}/bin/rcell-static")
-    count.add("the static program needs no library", f"it names {found} loaders" if found else "")
+    """The programs need no library, and the package no other."""
+    for name in PROGRAMS:
+        found = interpreters(f"{ROOT}/bin/{name}-static")
+        count.add(f"the static {name} needs no library", f"it names {found} loaders" if found else "")
     package = next(name for name in names if name.endswith(".deb"))
     depends = subprocess.run(["dpkg-deb", "-f", f"{folder}/{package}", "Depends"], capture_output=True, text=True)
     count.add("the package depends on no other", (depends.stdout + depends.stderr).strip())
@@ -95,8 +105,44 @@ def check_same(count, room):
     return folders[0], names
 
 
+def fault_of_joining(programs, room):
+    """What is wrong where rcell of this folder counts two bands of a map and its rcell-join joins the tables, or ''."""
+    def run(name, *words):
+        return subprocess.run([f"{programs}/{name}", *words], cwd=here, capture_output=True, text=True)
+
+    with tempfile.TemporaryDirectory(prefix="bands-", dir=room) as here:
+        for name, text in {**BANDS, "counts": "r.stats -c input=land\n"}.items():
+            with open(f"{here}/{name}", "w", encoding="ascii") as file:
+                file.write(text)
+        for name in BANDS:
+            with open(f"{here}/{name}.table", "w", encoding="ascii") as file:
+                file.write(run("rcell", "counts", f"land={name}").stdout)
+        ran = run("rcell-join", "tables", *(f"{name}.table" for name in BANDS))
+    is_right = (ran.returncode, ran.stdout, ran.stderr) == (0, TABLE_OF_THE_WHOLE, "")
+    return "" if is_right else f"status {ran.returncode}, {ran.stdout!r}, {ran.stderr!r}"
+
+
+def fault_of_page(prefix, name):
+    """What is wrong with the manual page of a program below a prefix, or ''."""
+    found = next(iter(glob.glob(f"{prefix}/{PAGES}/{name}.1*")), None)
+    if found is None:
+        return f"{name}.1 is missing"
+    if not documents.has_man():
+        print(f"man or groff: not installed, {name}.1 is not shown")
+        return ""
+    with open(f"{ROOT}/VERSION", encoding="utf-8") as file:
+        wanted = [f"{name.upper()}(1)", f"rcell {file.read().strip()}", "SYNOPSIS", "EXIT STATUS", "SEE ALSO"]
+    environment = {**os.environ, "LC_ALL": "C.UTF-8", "MANWIDTH": "80"}
+    shown = subprocess.run(["man", "-l", found], capture_output=True, text=True, env=environment).stdout
+    return "; ".join([*documents.warnings_of_man(found), *(f"{name}.1 shows no {word}" for word in wanted if word not in shown)])
+
+
+def fault_of_pages(prefix):
+    return "; ".join(filter(None, (fault_of_page(prefix, name) for name in PROGRAMS)))
+
+
 def check_unpacked(count, room, folder, names):
-    """From the tarball and from the package: the quick start, and then the helpers."""
+    """From the tarball and from the package: the quick start, then the manual pages, the joiner and the helpers."""
     for kind, ending, programs in (("tarball", "linux-x86_64.tar.gz", "rcell-*/bin"), ("package", ".deb", "unpacked/usr/bin")):
         file = next((f"{folder}/{name}" for name in names if name.endswith(ending)), None)
         if file is None:
@@ -104,9 +150,11 @@ def check_unpacked(count, room, folder, names):
             continue
         here = f"{room}/{kind}"
         count.add_run(f"quick start of the {kind}", [sys.executable, "tools/quick_start.py", file, "--room", here])
+        found = next(iter(glob.glob(f"{here}/{programs}")), f"{here}/{programs}")
+        count.add(f"the manual pages of the {kind}", fault_of_pages(os.path.dirname(found)))
+        count.add(f"rcell-join of the {kind}", fault_of_joining(found, room))
         if os.path.exists(HELPERS):
-            found = subprocess.run(f"ls -d {here}/{programs}", shell=True, capture_output=True, text=True).stdout.split()
-            count.add_run(f"helpers of the {kind}", [sys.executable, HELPERS, "--bin", *found[:1]])
+            count.add_run(f"helpers of the {kind}", [sys.executable, HELPERS, "--bin", found])
     if not os.path.exists(HELPERS):
         print("helpers: tools/test_helpers.py is not here, they are not tried")
 
@@ -126,9 +174,11 @@ def check_install(count, room):
         return
     ran = run("make", "-s", "install", f"PREFIX={prefix}")
     count.add("make install without rt, with a source that is newer", ran.stderr.strip() if ran.returncode else "")
-    installed = [name for name in ("bin/rcell", "share/man/man1/rcell.1", "share/doc/rcell/examples/islands/archipelago.txt",
-                                   "share/doc/rcell/docs/GUIDE.md") if not os.path.exists(f"{prefix}/{name}")]
-    count.add("what make install puts", " ".join(installed))
+    wanted = [*(f"bin/{name}" for name in PROGRAMS), *(f"{PAGES}/{name}.1" for name in PROGRAMS),
+              "share/doc/rcell/examples/islands/archipelago.txt", "share/doc/rcell/docs/GUIDE.md"]
+    count.add("what make install puts", " ".join(name for name in wanted if not os.path.exists(f"{prefix}/{name}")))
+    count.add("the installed manual pages", fault_of_pages(prefix))
+    count.add("the installed rcell-join", fault_of_joining(f"{prefix}/bin", room))
     land = f"{prefix}/share/doc/rcell/examples/land-cover"
     ran = run(f"{prefix}/bin/rcell", f"{land}/script", f"landuse={land}/landuse.txt")
     with open(f"{ROOT}/examples/land-cover/stdout", encoding="ascii") as file:
@@ -158,7 +208,7 @@ def main():
     count = Count()
     check_version(count)
     ran = subprocess.run(["sh", "tools/static.sh"], cwd=ROOT, stdout=subprocess.PIPE, stderr=subprocess.STDOUT, text=True)
-    count.add("the static program", ran.stdout.strip() if ran.returncode else "")
+    count.add("the static programs", ran.stdout.strip() if ran.returncode else "")
     with tempfile.TemporaryDirectory(prefix="rcell-release-") as room:
         if not ran.returncode:
             check_static(count)

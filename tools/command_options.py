@@ -1,12 +1,14 @@
 #!/usr/bin/env python3
 """Compares the flags, keys and functions that the documents name with those that the program takes.
 
-    command_options.py [--program PATH]
+    command_options.py [--program PATH] [--joiner PATH]
 
 Of each command docs/COMMANDS.md has a synopsis and a table of its flags and options, and docs/rcell.1 a synopsis; the three must
 name the same. Then the program is run with each letter and digit as a flag, and with each key that any command or GRASS has: it
 must take those that are named and no other, and must miss a key exactly where the table says that it is required. Of r.mapcalc
-the functions are compared and tried in this way. The last line is 'N passed, M failed'.
+the functions are compared and tried in this way. Of rcell-join the synopses of docs/COMMANDS.md and docs/rcell-join.1 must be its
+usage, the page must have all messages of the document, and it is tried with the same flags and keys, where an unknown key is a
+file. The last line is 'N passed, M failed'.
 """
 import argparse
 import os
@@ -17,9 +19,11 @@ import sys
 import tempfile
 
 ROOT = os.path.dirname(os.path.dirname(os.path.abspath(__file__)))
-DOCUMENT, PAGE = "docs/COMMANDS.md", "docs/rcell.1"
+DOCUMENT, PAGE, PAGE_OF_JOINER = "docs/COMMANDS.md", "docs/rcell.1", "docs/rcell-join.1"
 COMMANDS = ("r.reclass", "r.clump", "r.stats", "r.out.ascii")
+JOINER = "rcell-join"
 GRID = "north: 1\nsouth: 0\neast: 2\nwest: 0\nrows: 1\ncols: 2\n1 2\n"
+EMPTY = "empty.table"
 # A value of each key that any command has, and keys of GRASS that none has here.
 VALUES = {"input": "land", "output": "made", "separator": "comma", "null_value": "NA", "after": "1"}
 KEYS_OF_GRASS = ("rules", "title", "minsize", "threshold", "sort", "nsteps", "precision", "width", "region", "expression", "map")
@@ -67,7 +71,7 @@ def rows(command):
 
 
 def in_table(command):
-    names = [name for name, _ in rows(command)]
+    names = [name.removesuffix("=") for name, _ in rows(command)]
     return Named([name[1:] for name in names if name.startswith("-")], [name for name in names if not name.startswith("-")])
 
 
@@ -79,6 +83,25 @@ def of_page(command):
     """The synopsis of a command in the manual page, without its fonts."""
     plain = FONT.sub("", read(PAGE).replace("\\-", "-"))
     return next(line for line in plain.split("\n") if re.match(rf"{re.escape(command)} .*=", line)).replace("= ", "=")
+
+
+def synopsis_of_joiner_page():
+    """The synopsis of rcell-join in its manual page, without its fonts."""
+    lines = re.search(r"^\.SH SYNOPSIS\n(.*?)^\.SH ", read(PAGE_OF_JOINER), re.MULTILINE | re.DOTALL)[1]
+    words = [re.sub(r"\\f.|^\.B |^\.RI ", "", line.replace("\\-", "-")) for line in lines.splitlines()]
+    # .RI sets the pieces that blanks part in turns, and none of these blanks.
+    return words[0] + " " + re.sub(r'"([^"]*)"|\s', lambda found: found[1] or "", words[1])
+
+
+def messages_of_joiner():
+    """The texts that docs/COMMANDS.md has in its table of the messages of rcell-join."""
+    table = re.search(r"^### Messages\n(.*)", section(JOINER), re.MULTILINE | re.DOTALL)[1]
+    return [text for row in re.findall(r"^\| (`[^|]*`) \|", table, re.MULTILINE) for text in re.findall(r"`([^`]+)`", row)]
+
+
+def text_of_joiner_page():
+    """The lines under DIAGNOSTICS in the manual page of rcell-join, without their fonts."""
+    return FONT.sub("", re.search(r"^\.SH DIAGNOSTICS\n(.*?)^\.SH ", read(PAGE_OF_JOINER), re.MULTILINE | re.DOTALL)[1])
 
 
 def functions_of_document():
@@ -142,7 +165,41 @@ def faults_of_functions(tried):
         yield "" if said == wanted else f"r.mapcalc {name}(..): {said or 'taken'}, and not {wanted or 'taken'}"
 
 
-def faults(program):
+class TriedJoiner:
+    """The joiner over an empty table, in a folder of its own."""
+
+    def __init__(self, joiner, folder):
+        self.joiner, self.folder = joiner, folder
+        with open(f"{folder}/{EMPTY}", "w", encoding="ascii"):
+            pass
+
+    def refusal(self, *words):
+        ran = subprocess.run([self.joiner, "tables", *words, EMPTY], cwd=self.folder, capture_output=True, text=True)
+        return ran.stderr.strip().removeprefix(f"{JOINER}: ") if ran.returncode else ""
+
+
+def faults_of_joiner(tried):
+    """What is wrong with each synopsis, flag and key of rcell-join, or ''."""
+    named, usage = in_table(JOINER), f"arguments:0: usage: {synopsis(JOINER).strip()}"
+    said = tried.refusal("-")
+    yield "" if said == usage else f"{DOCUMENT}, synopsis of {JOINER}: {usage!r}, and the program says {said!r}"
+    other = synopsis_of_joiner_page()
+    yield "" if usage.endswith(f" usage: {other}") else f"{PAGE_OF_JOINER}: {other!r}, and not {synopsis(JOINER)!r}"
+    other = Named.of_synopsis(synopsis(JOINER))
+    yield "" if other == named else f"{DOCUMENT}, synopsis: {JOINER} has {other}, but {named} in its table"
+    page = text_of_joiner_page()
+    for text in messages_of_joiner():
+        yield "" if text in page else f"{PAGE_OF_JOINER}: it says nothing of {text!r}"
+    for flag in FLAGS:
+        said = tried.refusal(f"-{flag}")
+        yield "" if said == usage else f"{JOINER} -{flag}: {said or 'taken'}, and not its usage"
+    for key in (*VALUES, *KEYS_OF_GRASS):
+        option = f"{key}={VALUES.get(key, '1')}"
+        wanted, said = "" if key in named.keys else f"{option}:0: cannot open", tried.refusal(option)
+        yield "" if said == wanted else f"{JOINER} {option}: {said or 'taken'}, and not {wanted or 'taken'}"
+
+
+def faults(program, joiner):
     """What is wrong with each thing that is compared, or ''."""
     with tempfile.TemporaryDirectory(prefix="rcell-options-") as folder:
         tried = Tried(os.path.abspath(program), folder)
@@ -154,18 +211,21 @@ def faults(program):
             yield from faults_of_flags(tried, command, named, needs)
             yield from faults_of_keys(tried, command, named, needs)
         yield from faults_of_functions(tried)
+        yield from faults_of_joiner(TriedJoiner(os.path.abspath(joiner), folder))
 
 
-def check(program):
+def check(program, joiner):
     """How many comparisons agree, and what is wrong with the others."""
-    found = list(faults(program))
+    found = list(faults(program, joiner))
     return found.count(""), [fault for fault in found if fault]
 
 
 def main():
-    words = argparse.ArgumentParser(description="Compares the flags and keys of the documents with those of the program.")
+    words = argparse.ArgumentParser(description="Compares the flags and keys of the documents with those of the programs.")
     words.add_argument("--program", default=f"{ROOT}/bin/rcell")
-    passed, wrong = check(words.parse_args().program)
+    words.add_argument("--joiner", default=f"{ROOT}/bin/rcell-join")
+    given = words.parse_args()
+    passed, wrong = check(given.program, given.joiner)
     print("".join(f"{fault}\n" for fault in wrong) + f"{passed} passed, {len(wrong)} failed")
     return 1 if wrong else 0
 

@@ -1,6 +1,7 @@
 #!/bin/sh
-# Makes the release of what is built: from bin/rcell-static (tools/static.sh), the tarball, the package of Debian, the object
-# that others may link with another C library, and SHA256SUMS. Made twice from the same sources they have the same bytes.
+# Makes the release of what is built: from bin/rcell-static and bin/rcell-join-static (tools/static.sh), the tarball, the package
+# of Debian, the objects that others may link with another C library, and SHA256SUMS. Made twice from the same sources they have
+# the same bytes.
 #
 #     tools/dist.sh [FOLDER]         FOLDER is dist where it is not given
 set -eu
@@ -13,7 +14,9 @@ export SOURCE_DATE_EPOCH
 umask 022
 export LC_ALL=C
 
-[ -x bin/rcell-static ] || { echo 'rcell: bin/rcell-static is missing: run make static first' >&2; exit 1; }
+for program in rcell rcell-join; do
+    [ -x "bin/$program-static" ] || { echo "rcell: bin/$program-static is missing: run make static first" >&2; exit 1; }
+done
 room=$(mktemp -d)
 trap 'rm -rf "$room"' EXIT
 mkdir -p "$dist"
@@ -21,7 +24,7 @@ rm -f "$dist"/rcell-*.tar.gz "$dist"/rcell_*_amd64.deb "$dist/SHA256SUMS"
 
 # What both have, below the folder $1 as below a prefix.
 stage() {
-    sh packaging/install.sh "$1" bin/rcell-static
+    sh packaging/install.sh "$1" -static
     documents=$1/share/doc/rcell
     python3 tools/proved.py > "$documents/PROVED.txt"
     sed "s/@VERSION@/$version/" packaging/copyright.in > "$documents/copyright"
@@ -68,7 +71,7 @@ dpkg-deb --root-owner-group -Zgzip -z9 --build "$package" "$dist/rcell_${version
 
 object=rcell-$version-object
 mkdir "$room/$object"
-install -m 644 bin/rcell.o "$(dirname "$(rt doc)")"/c/libos_c.a "$(dirname "$(rt doc)")"/c/liblibc_c.a "$room/$object"
+install -m 644 bin/rcell.o bin/rcell-join.o "$(dirname "$(rt doc)")"/c/libos_c.a "$(dirname "$(rt doc)")"/c/liblibc_c.a "$room/$object"
 install -m 644 packaging/object.md "$room/$object/README.md"
 pack "$object" "$dist/$object.tar.gz"
 

@@ -1,10 +1,10 @@
 #!/usr/bin/env python3
-"""Runs the examples of the documents on the built program, and compares what they show byte for byte.
+"""Runs the examples of the documents on the built programs, and compares what they show byte for byte.
 
-    documents.py [--program PATH] [--write] [--texts | DOCUMENT..]
+    documents.py [--program PATH] [--joiner PATH] [--write] [--texts | DOCUMENT..]
 
-A document is run in a folder of its own that has bin/rcell, the helpers beside it, examples/ and tools/. Its fenced
-blocks are taken from the top:
+A document is run in a folder of its own that has bin/rcell, bin/rcell-join, the helpers beside them, examples/ and tools/.
+Its fenced blocks are taken from the top:
     console          lines that begin with `$ ` are given to sh, those with `> ` go on with the command above; the lines
                      after a command are what it must print, standard output and standard error together
     console needs=A,B  the same where the programs A and B are installed (or files, by their paths); else it is told, and left out
@@ -12,7 +12,7 @@ blocks are taken from the top:
     text, sh         shown and not run: such a block has no command with its output
 The folder that a block goes to by `cd` is that of the next. With --write what is printed takes the place of what is shown.
 Of docs/DIFFERENCES.md the program's side of each table is run, too (tools/differences.py), and the flags and keys that
-docs/COMMANDS.md and the manual page name are tried (tools/command_options.py). What needs no program is tried
+docs/COMMANDS.md and the manual pages name are tried (tools/command_options.py). What needs no program is tried
 first, and with --texts alone: docs/COMMANDS.md has the table of helpers/messages.json (tools/messages.py), docs/crates.svg the
 crates of crates.txt (tools/crate_graph.py), docs/PROOFS.md and README.md the numbers of lines that have to be believed
 (tools/reading.py), README.md the figures of docs/SPEED.md, and the manual pages pass the warnings of man where it is installed.
@@ -96,12 +96,11 @@ def script_of(commands):
 class Room:
     """The folder that the blocks of a document are run in, and where in it they are."""
 
-    def __init__(self, path, program):
+    def __init__(self, path, programs):
         self.top = self.here = os.path.realpath(path)
         os.mkdir(f"{path}/bin")
-        shutil.copy(program, f"{path}/bin/rcell")
-        if os.path.exists(f"{ROOT}/bin/rcell-join"):
-            shutil.copy(f"{ROOT}/bin/rcell-join", f"{path}/bin")
+        for name, program in programs.items():
+            shutil.copy(program, f"{path}/bin/{name}")
         for helper in glob.glob(f"{ROOT}/helpers/rcell-*[a-z]"):
             shutil.copy(helper, f"{path}/bin")
         shutil.copytree(f"{ROOT}/helpers", f"{path}/share/rcell", ignore=shutil.ignore_patterns("__pycache__", "rcell-*"))
@@ -158,13 +157,13 @@ def judge(block, room):
     return "\n    ".join(differs) or "the last line has no end", right
 
 
-def run_document(name, program, write):
+def run_document(name, programs, write):
     """How many blocks of a document are as they say, and what is wrong with the others."""
     with open(f"{ROOT}/{name}", encoding="utf-8") as file:
         document = file.read()
     passed, faults, right, at = 0, [], "", 0
     with tempfile.TemporaryDirectory(prefix="rcell-documents-") as path:
-        room = Room(path, program)
+        room = Room(path, programs)
         for block in blocks_of(document):
             fault, text = judge(block, room)
             right, at = right + document[at : block.span[0]] + text, block.span[1]
@@ -256,19 +255,23 @@ def check_speed(write):
 
 
 def warnings_of_man(page):
-    """What man warns of on a manual page."""
+    """What man warns of on a manual page of the sources, or on that of a path."""
     environment = {**os.environ, "LC_ALL": "C.UTF-8", "MANROFFSEQ": "", "MANWIDTH": "80"}
-    ran = subprocess.run(["man", "--warnings", "-E", "UTF-8", "-l", "-Tutf8", "-Z", f"{ROOT}/{page}"], env=environment,
+    ran = subprocess.run(["man", "--warnings", "-E", "UTF-8", "-l", "-Tutf8", "-Z", os.path.join(ROOT, page)], env=environment,
                          stdout=subprocess.DEVNULL, stderr=subprocess.PIPE, text=True)
     return [f"{page}: {warning}" for warning in ran.stderr.splitlines() or ["man fails"] * bool(ran.returncode)]
 
 
+def has_man():
+    return bool(shutil.which("man") and shutil.which("groff"))
+
+
 def check_pages():
     """Whether man has nothing to warn of on the manual pages, also those of the helpers, where it is installed."""
-    if not shutil.which("man") or not shutil.which("groff"):
+    if not has_man():
         print("man or groff: not installed, the manual pages are not tried")
         return 0, []
-    pages = ["docs/rcell.1", *sorted(f"helpers/{os.path.basename(path)}" for path in glob.glob(f"{ROOT}/helpers/*.1"))]
+    pages = sorted(os.path.relpath(path, ROOT) for folder in ("docs", "helpers") for path in glob.glob(f"{ROOT}/{folder}/*.1"))
     faults = [warnings_of_man(page) for page in pages]
     return faults.count([]), [fault for found in faults for fault in found]
 
@@ -276,17 +279,19 @@ def check_pages():
 def main():
     words = argparse.ArgumentParser(description=__doc__, formatter_class=argparse.RawDescriptionHelpFormatter)
     words.add_argument("--program", default=f"{ROOT}/bin/rcell")
+    words.add_argument("--joiner", default=f"{ROOT}/bin/rcell-join")
     words.add_argument("--write", action="store_true")
     words.add_argument("--texts", action="store_true")
     words.add_argument("documents", nargs="*")
     settings = words.parse_args()
-    program = os.path.abspath(settings.program)
+    program, joiner = os.path.abspath(settings.program), os.path.abspath(settings.joiner)
+    programs = {"rcell": program, "rcell-join": joiner}
     texts = [("the messages", messages.check), ("the picture of the crates", crate_graph.check), ("the manual pages", check_pages),
              ("the numbers of lines", lambda: check_reading(settings.write)), ("the figures", lambda: check_speed(settings.write))]
-    runs = [(name, lambda name=name: run_document(name, program, settings.write)) for name in settings.documents or DOCUMENTS]
+    runs = [(name, lambda name=name: run_document(name, programs, settings.write)) for name in settings.documents or DOCUMENTS]
     if not settings.documents:
         runs += [("the tables of differences", lambda: check_differences(program)),
-                 ("the flags, keys and functions", lambda: command_options.check(program))]
+                 ("the flags, keys and functions", lambda: command_options.check(program, joiner))]
     checks = texts if settings.texts else runs if settings.documents else texts + runs
     passed = failed = 0
     for name, check in checks:

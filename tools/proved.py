@@ -1,13 +1,12 @@
 #!/usr/bin/env python3
-"""Writes PROVED.txt of a release to standard output: what the program was made from, and what is known of it, on one page.
+"""Writes PROVED.txt of a release to standard output: what the programs were made from, and what is known of them, on one page.
 
-    proved.py [--static PATH]
+    proved.py
 
-The commit, the kit and the libraries of Debian are those of this machine now. The closing line of the gate is that of
-.gate/COMMIT, which `make check` leaves; where there is none for this commit and this program, that is said. What is proved,
-only tested and trusted is the section of the README.
+The programs, dynamic and static, and their objects are those in bin/. The commit, the kit and the libraries of Debian are those of
+this machine now. The closing line of the gate is that of .gate/COMMIT, which `make check` leaves; where there is none for this
+commit and these programs, that is said. What is proved, only tested and trusted is the section of the README.
 """
-import argparse
 import collections
 import glob
 import hashlib
@@ -19,8 +18,8 @@ import sys
 import build
 
 ROOT = build.ROOT
-PROGRAM = f"{ROOT}/bin/rcell"
-OBJECT = f"{ROOT}/bin/rcell.o"
+# The key of each program in what the gate leaves.
+KEYS = {"rcell": "program", "rcell-join": "joiner"}
 PACKAGES = ("libc6-dev", "libgcc-12-dev")
 SECTION = "What is proved, tested and trusted"
 
@@ -37,8 +36,9 @@ def said_by(*words):
     return subprocess.run(words, cwd=ROOT, check=True, capture_output=True, text=True).stdout.strip()
 
 
-def sum_of(path):
-    with open(path, "rb") as file:
+def sum_of(name):
+    """The sum of a file of bin/."""
+    with open(f"{ROOT}/bin/{name}", "rb") as file:
         return hashlib.file_digest(file, "sha256").hexdigest()
 
 
@@ -49,14 +49,14 @@ def sources():
 
 
 def gate_record(commit):
-    """What the gate left for this commit and this program, by its keys; None where it left nothing."""
+    """What the gate left for this commit and these programs, by its keys; None where it left nothing."""
     lines = read(f"{ROOT}/.gate/{commit}").splitlines()
     record = dict(line.split(": ", 1) for line in lines if ": " in line)
-    return record if record.get("program") == sum_of(PROGRAM) else None
+    return record if all(record.get(key) == sum_of(name) for name, key in KEYS.items()) else None
 
 
 def counted():
-    crates = build.crates_of_the_program()
+    crates = build.crates_of(build.PROGRAMS)
     edits = glob.glob(f"{ROOT}/crates/*/must-fail/*.edit")
     functions = collections.Counter()
     for crate in crates:
@@ -65,18 +65,23 @@ def counted():
     proved = f" ({sum(functions.values())} functions with their contracts)" if all(functions.values()) else ""
     lines = read(f"{ROOT}/crates.txt").splitlines()
     every = sum(":" in line.split("#")[0] for line in lines)
-    return f"""{every} crates, {len(crates)} of which make up the program{proved};
+    return f"""{every} crates, {len(crates)} of which make up the programs{proved};
             {len(edits)} edits that each change a meaning, and that the proof must refuse"""
 
 
 def gate_text(record):
     if record is None:
-        return """left no closing line for this commit and this program where this page was made;
+        return """left no closing line for this commit and these programs where this page was made;
             `make check` in the sources makes it"""
     return f"{record['closing']}\n            (proofs: {record.get('proofs', 'not told')})"
 
 
-def page(static):
+def sums(ending=""):
+    """The sums of the programs, or of what is called after them, a line each."""
+    return "\n            ".join(f"sha256 {sum_of(name + ending)} ({name})" for name in KEYS)
+
+
+def page():
     commit, commit_text = sources()
     versions = ", ".join(f"{name} {said_by('dpkg-query', '-W', '-f', '${Version}', name)}" for name in PACKAGES)
     section = re.search(rf"^## {SECTION}\n(.*?)^## ", read(f"{ROOT}/README.md"), re.MULTILINE | re.DOTALL)[1].strip()
@@ -88,15 +93,17 @@ Kit         {build.kit_version().strip()}
 Proofs      {counted()}
 Gate        {gate_text(gate_record(commit))}
 
-Program     sha256 {sum_of(static)}
-            linked statically (static-pie) from the object
-            sha256 {sum_of(OBJECT)}
+Programs    {sums("-static")}
+            linked statically (static-pie) from the objects
+            {sums(".o")}
             by the kit's ld.lld with the C library of Debian ({versions}).
-Tested one  sha256 {sum_of(PROGRAM)}
-            linked dynamically from the same object by the kit: the program that the gate runs on all cases, with each
-            growth of memory refused in turn (which LD_PRELOAD does, and a static program does not heed). The gate tries
-            the static one on the documents, on random runs beside the model, on the quick start and with the helpers.
-            So what the static program adds to what is trusted is Debian's libc.a and startup files, and this link.
+Tested ones {sums()}
+            linked dynamically from the same objects by the kit: rcell is the one that the gate runs on all cases, with
+            each growth of memory refused in turn (which LD_PRELOAD does, and a static program does not heed), rcell-join
+            the one that it runs beside a plain joiner, on one case with each growth refused. The gate tries the static
+            ones on the documents and on random runs beside the same models, rcell on the quick start and with the helpers,
+            and rcell-join on tables that this rcell prints.
+            So what the static programs add to what is trusted is Debian's libc.a and startup files, and this link.
 
 What is proved, tested and trusted
 ----------------------------------
@@ -106,9 +113,7 @@ What is proved, tested and trusted
 
 
 def main():
-    words = argparse.ArgumentParser(description="Writes PROVED.txt of a release.")
-    words.add_argument("--static", default=f"{ROOT}/bin/rcell-static")
-    sys.stdout.write(page(words.parse_args().static))
+    sys.stdout.write(page())
 
 
 if __name__ == "__main__":
