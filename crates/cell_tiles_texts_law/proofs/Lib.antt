@@ -1,0 +1,4 @@
+pub mod JoinedPartLemmas
+pub mod LineLengthLemmas
+pub mod PartCellLemmas
+pub mod PartEntryLemmas

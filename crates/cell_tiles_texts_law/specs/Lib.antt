@@ -1,0 +1,2 @@
+-- Texts printed of parts and joined.
+pub mod PrintedParts
