@@ -1,6 +1,6 @@
 //! Writing a map as a grid text.
 
-ghost use Rattle.std.specs.Prelude.{◌≡◌, ◌+◌, ◌<◌, ◌≤◌, ◌==◌, ◌++◌, codes, decimal, drop, flat_map, length, replicate, reverse, take, OnOk, IfOk, IfErr, is_err};
+ghost use Rattle.std.specs.Prelude.{◌≡◌, ◌+◌, ◌<◌, ◌≤◌, ◌==◌, ◌++◌, codes, decimal, drop, flat_map, All, length, replicate, reverse, take, OnOk, IfOk, IfErr, is_err};
 ghost use Rattle.std.specs.List.{prefix_len};
 ghost use Rattle.cell_core_values.specs.Letters.{byte};
 ghost use Rattle.cell_core_devices.specs.Blocks.{Appends};
