@@ -1,0 +1,2 @@
+-- Runs over parts of maps.
+pub mod PartRuns
