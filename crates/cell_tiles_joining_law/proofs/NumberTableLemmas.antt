@@ -23,7 +23,8 @@ use Rattle.cell_stats.specs.CategoryTables.{Pairs, IsTable}
 use Rattle.cell_stats.proofs.TableLemmas.{one_table_kept}
 use Rattle.cell_stats_law.proofs.CountLemmas.{counted-at, counted-cell}
 use Rattle.cell_cats_law.specs.AreaLaw.{cells_of}
-use Rattle.cell_cats_law.proofs.AreaLemmas.{some-is, some-below, in-region}
+use Rattle.cell_cats_areas.proofs.MeetingLemmas.{some_of}
+use Rattle.cell_cats_law.proofs.AreaLemmas.{some-below, in-region}
 use Rattle.cell_tiles_joining.specs.Bands.{HasAreas}
 use Rattle.cell_tiles_joining_law.specs.SizeLaw.{size_of_number, sizes_of_areas}
 use Rattle.cell_tiles_joining_law.specs.NumberTables.{entries_from, entry_of_null, number_table, NumbersAreListed}
@@ -260,4 +261,4 @@ module _ (j : Joining) (m numbers : Grid) (is : IsClumping j m numbers) (areas :
 pub numbers-are-listed : NumbersAreListed
 numbers-are-listed j m numbers is filled areas has skip table =
     one-number-table j m numbers is areas has m.region.rows m.region.cols
-    (λ p some. let v = some-is (cell_at_spot m p) some in in-region m filled p v.0 v.1) skip table
+    (λ p some. let v = some_of (cell_at_spot m p) some in in-region m filled p v.0 v.1) skip table

@@ -39,7 +39,7 @@ use Rattle.cell_cats_areas.proofs.LawLemmas.{HasNumber-one}
 use Rattle.cell_stats_combinations.specs.Combinations.{Combination, all_combinations}
 use Rattle.cell_stats_counts.specs.Counts.{count_of}
 use Rattle.cell_cats_law.specs.AreaLaw.{cells_of}
-use Rattle.cell_cats_law.proofs.AreaLemmas.{is-some}
+use Rattle.cell_tiles_law.proofs.AreaLemmas.{is-some}
 use Rattle.cell_tiles_law.specs.AreaParts.{lowered_position}
 use Rattle.cell_tiles_law.specs.Parts.{IsPart}
 use Rattle.cell_tiles_law.specs.TableParts.{BandPart, AreBandsFrom}
