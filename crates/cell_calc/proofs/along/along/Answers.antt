@@ -5,11 +5,12 @@ use Rattle.cell_calc.specs.parts.Operands.{IsOperandReady}
 use Rattle.cell_calc.proofs.Operands.{enough_at, enough_more, step_more, no_steps, only_one, end_value, of_last}
 use Rattle.cell_calc.proofs.along.along.Goals as goal
 
-pub step_value-requires-clause-strip : goal.step_value-requires-clause-strip
-step_value-requires-clause-strip c = c.requires.strip
-
-pub step_value-requires-clause-ready : goal.step_value-requires-clause-ready
-step_value-requires-clause-ready c = c.loop-step.invariant.ready
+pub step_value-requires-clause-operands : goal.step_value-requires-clause-operands
+step_value-requires-clause-operands c = record {
+  strip = c.requires.strip;
+  enough = enough_at c.args.steps.now c.loop-step.step-index _ _ c.loop-step-test.true c.loop-step.invariant.enough;
+  ready = c.loop-step.invariant.ready;
+}
 
 pub row_of-requires : goal.row_of-requires
 row_of-requires c = record {
