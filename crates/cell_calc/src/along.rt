@@ -1,9 +1,8 @@
 //! Values along strips: the steps of an expression, one after another, with a stack of operands.
 
-ghost use Rattle.std.specs.Prelude.{◌≡◌, [], ◌∷◌, All, IfOk, OnOk};
-ghost use Rattle.cell_calc.specs.parts.Operands.{IsStrip, IsReadyStep, AtColumns, IsAsWide, AreReady, IsStepped, IsCalled, AreGathered, seen_cell, spot_at};
-ghost use Rattle.cell_calc_steps.specs.Postfix.{arity, values_after, AreEnough};
-ghost use Rattle.cell_calc_rows.specs.RowValues.{at};
+ghost use Rattle.std.specs.Prelude.{All, IfOk, OnOk};
+ghost use Rattle.cell_calc.specs.parts.Operands.{IsStrip, IsReadyStep, AreReady, IsStepped, IsCalled, AreGathered, HasValuesAfter};
+ghost use Rattle.cell_calc_steps.specs.Postfix.{arity, AreEnough};
 
 use crate::operand::{binary_value, choice_value, pop_operand, row_of, spare_row};
 use crate::strip::{Operand, Spare, Strip};
@@ -28,9 +27,7 @@ pub(crate) fn along(
     requires strip { IsStrip strip.now }
     requires ready { All (IsReadyStep windows.now) steps.now }
     requires enough { AreEnough steps.now 0 }
-    ensures width { IfOk result (IsAsWide strip.now) }
-    ensures each { IfOk result (λ row. AtColumns strip.now (λ c. at row.items c ∷ []
-        ≡ values_after (seen_cell windows.now (spot_at strip.now c)) steps.now [])) }
+    ensures { IfOk result (HasValuesAfter strip.now windows.now steps.now) }
 {
     operands.clear();
     for step in steps {

@@ -1,11 +1,11 @@
 -- Values along a strip: some columns of a row, from one on.
-use Rattle.std.specs.Prelude.{◌≡◌, ◌≤◌, ◌<◌, ◌+◌, ◌-◌, ◌+ℤ◌, ℕ, pos, All, List, Vec, Some, None, length, take, drop, map, slice_get, slice_index_or}
+use Rattle.std.specs.Prelude.{◌≡◌, ◌≤◌, ◌<◌, ◌+◌, ◌-◌, ◌+ℤ◌, ℕ, pos, All, List, [], ◌∷◌, Vec, Some, None, length, take, drop, map, slice_get, slice_index_or}
 use Rattle.std.specs.Global.{Global}
 use Rattle.cell_core.specs.Grid.{CellValue}
 use Rattle.cell_calc_operators.specs.Applied.{Spot, spot, operator_value, call_result, negated_cell, inverted_cell}
 use Rattle.cell_calc_operators.specs.Offsets.{item_at}
 use Rattle.cell_calc.specs.Window.{Window}
-use Rattle.cell_calc_steps.specs.Postfix.{arity}
+use Rattle.cell_calc_steps.specs.Postfix.{arity, values_after}
 use Rattle.cell_calc_steps.specs.declared.step.Step.{Step}
 use Rattle.cell_calc_tokens.specs.declared.function.Function.{Function}
 use Rattle.cell_calc_steps.specs.declared.step.Step.TheVariants as step
@@ -103,3 +103,8 @@ pub record AreGathered (strip : Strip) (windows : List Window) (count : ℕ) (ol
   pub rest : new ≡ lower_operands count old
   pub width : AreWide strip.width rows
   pub each : AtColumns strip (λ c. arguments_at c rows ≡ cells_at windows strip c (top_operands count old))
+
+-- a row is as wide as a strip, and has the values after steps along it
+pub record HasValuesAfter (strip : Strip) (windows : List Window) (steps : List (Step ℕ)) (row : Vec CellValue Global) : Type 0 where
+  pub width : IsAsWide strip row
+  pub each : AtColumns strip (λ c. at row.items c ∷ [] ≡ values_after (seen_cell windows (spot_at strip c)) steps [])
