@@ -1,11 +1,8 @@
 //! Values along strips: the steps of an expression, one after another, with a stack of operands.
 
-ghost use Rattle.std.specs.Prelude.{◌≡◌, ◌≤◌, [], ◌∷◌, length, map, All, IfOk, OnOk};
-ghost use Rattle.cell_calc_operators.specs.Applied.{call_result};
-ghost use Rattle.cell_calc.specs.parts.Operands.{IsStrip, IsReadyStep, IsOperandReady, AtColumns, IsAsWide, HasCells};
-ghost use Rattle.cell_calc.specs.parts.Operands.{top_operands, lower_operands, operand_at, cells_at, seen_cell, spot_at};
-ghost use Rattle.cell_calc_steps.specs.Postfix.{arity, values_after, AreEnough};
-ghost use Rattle.cell_calc_rows.specs.RowValues.{at, column};
+ghost use Rattle.std.specs.Prelude.{All, IfOk, OnOk};
+ghost use Rattle.cell_calc.specs.parts.Operands.{IsStrip, IsReadyStep, AreReady, IsStepped, IsCalled, AreGathered, HasValuesAfter};
+ghost use Rattle.cell_calc_steps.specs.Postfix.{arity, AreEnough};
 
 use crate::operand::{binary_value, choice_value, pop_operand, row_of, spare_row};
 use crate::strip::{Operand, Spare, Strip};
@@ -30,9 +27,7 @@ pub(crate) fn along(
     requires strip { IsStrip strip.now }
     requires ready { All (IsReadyStep windows.now) steps.now }
     requires enough { AreEnough steps.now 0 }
-    ensures width { IfOk result (IsAsWide strip.now) }
-    ensures each { IfOk result (λ row. AtColumns strip.now (λ c. at row.items c ∷ []
-        ≡ values_after (seen_cell windows.now (spot_at strip.now c)) steps.now [])) }
+    ensures { IfOk result (HasValuesAfter strip.now windows.now steps.now) }
 {
     operands.clear();
     for step in steps {
@@ -53,16 +48,10 @@ fn step_value(
     windows: &[RowWindow],
     spare: &mut Spare,
 ) -> Result<Operand, Memory>
-    requires strip { IsStrip strip.now }
     requires step { IsReadyStep windows.now step }
-    requires enough { arity step ≤ length operands.old.items }
-    requires ready { All (IsOperandReady windows.now strip.now) operands.old.items }
-    ensures rest { OnOk result
-        (operands.new.items ≡ lower_operands (arity step) operands.old.items) }
-    ensures ready { IfOk result (λ o. IsOperandReady windows.now strip.now o) }
-    ensures each { IfOk result (λ o. AtColumns strip.now (λ c. operand_at windows.now strip.now c o
-        ≡ seen_cell windows.now (spot_at strip.now c) step
-        (cells_at windows.now strip.now c (top_operands (arity step) operands.old.items)))) }
+    requires operands { AreReady strip.now windows.now (arity step) operands.old.items }
+    ensures { IfOk result
+        (IsStepped strip.now windows.now step operands.old.items operands.new.items) }
 {
     match step {
         Step::Number(n) => Ok(Operand::Number(n)),
@@ -124,14 +113,9 @@ fn call_value(
     windows: &[RowWindow],
     spare: &mut Spare,
 ) -> Result<Vec<Cell>, Memory>
-    requires strip { IsStrip strip.now }
-    requires enough { count ≤ length operands.old.items }
-    requires ready { All (IsOperandReady windows.now strip.now) operands.old.items }
-    ensures rest { OnOk result (operands.new.items ≡ lower_operands count operands.old.items) }
-    ensures width { IfOk result (IsAsWide strip.now) }
-    ensures each { IfOk result (HasCells strip.now
-        (λ c. call_result function (spot_at strip.now c)
-        (cells_at windows.now strip.now c (top_operands count operands.old.items)))) }
+    requires { AreReady strip.now windows.now count operands.old.items }
+    ensures { IfOk result (IsCalled strip.now windows.now function count operands.old.items
+        operands.new.items) }
 {
     match (function, count) {
         (Function::If, 1) => {
@@ -187,14 +171,9 @@ fn by_rows(
     windows: &[RowWindow],
     spare: &mut Spare,
 ) -> Result<Vec<Cell>, Memory>
-    requires strip { IsStrip strip.now }
-    requires enough { count ≤ length operands.old.items }
-    requires ready { All (IsOperandReady windows.now strip.now) operands.old.items }
-    ensures rest { OnOk result (operands.new.items ≡ lower_operands count operands.old.items) }
-    ensures width { IfOk result (IsAsWide strip.now) }
-    ensures each { IfOk result (HasCells strip.now
-        (λ c. call_result function (spot_at strip.now c)
-        (cells_at windows.now strip.now c (top_operands count operands.old.items)))) }
+    requires { AreReady strip.now windows.now count operands.old.items }
+    ensures { IfOk result (IsCalled strip.now windows.now function count operands.old.items
+        operands.new.items) }
 {
     gather_arguments(alloc, count, operands, strip, windows, spare)?;
     let (number, from, width) = (strip.row, strip.from, strip.width);
@@ -223,15 +202,9 @@ fn gather_arguments(
     windows: &[RowWindow],
     spare: &mut Spare,
 ) -> Result<(), Memory>
-    requires strip { IsStrip strip.now }
-    requires enough { count ≤ length operands.old.items }
-    requires ready { All (IsOperandReady windows.now strip.now) operands.old.items }
-    ensures rest { OnOk result (operands.new.items ≡ lower_operands count operands.old.items) }
-    ensures width { OnOk result
-        (All (λ cells. length cells.items ≡ strip.now.width) spare.new.arguments.items) }
-    ensures each { OnOk result (AtColumns strip.now (λ c.
-        column c (map (λ cells. cells.items) spare.new.arguments.items)
-        ≡ cells_at windows.now strip.now c (top_operands count operands.old.items))) }
+    requires { AreReady strip.now windows.now count operands.old.items }
+    ensures { OnOk result (AreGathered strip.now windows.now count operands.old.items
+        operands.new.items spare.new.arguments.items) }
 {
     spare.arguments.clear();
     'operands: for _ in 0..count {

@@ -3,7 +3,7 @@
 ghost use Rattle.std.specs.Prelude.{◌≡◌, ◌<◌, ◌++◌, [], ◌∷◌, length, slice_get, IfOk, OnOk};
 ghost use Rattle.cell_calc_operators.specs.Applied.{operator_value};
 ghost use Rattle.cell_calc_operators.specs.CellOperators.{chosen_cell};
-ghost use Rattle.cell_calc.specs.parts.Operands.{IsStrip, IsOperandReady, AtColumns, operand_at, IsAsWide, HasCells};
+ghost use Rattle.cell_calc.specs.parts.Operands.{IsStrip, IsOperandReady, AtColumns, operand_at, HasCells};
 ghost use Rattle.cell_calc.specs.parts.WindowsOver.{IsInReach, row_below};
 ghost use Rattle.cell_calc_rows.specs.RowValues.{at, Becomes};
 
@@ -59,8 +59,7 @@ pub(crate) fn row_of(
 ) -> Result<Vec<Cell>, Memory>
     requires strip { IsStrip strip.now }
     requires ready { IsOperandReady windows.now strip.now operand }
-    ensures width { IfOk result (IsAsWide strip.now) }
-    ensures each { IfOk result (HasCells strip.now
+    ensures { IfOk result (HasCells strip.now
         (λ c. operand_at windows.now strip.now c operand)) }
 {
     let (from, width) = (strip.from, strip.width);
@@ -93,8 +92,7 @@ pub(crate) fn binary_value(
     requires strip { IsStrip strip.now }
     requires left { IsOperandReady windows.now strip.now left }
     requires right { IsOperandReady windows.now strip.now right }
-    ensures width { IfOk result (IsAsWide strip.now) }
-    ensures each { IfOk result (HasCells strip.now
+    ensures { IfOk result (HasCells strip.now
         (λ c. operator_value operator (operand_at windows.now strip.now c left)
         (operand_at windows.now strip.now c right))) }
 {
@@ -116,8 +114,7 @@ fn apply_to_operands(
     requires strip { IsStrip strip.now }
     requires right { IsOperandReady windows.now strip.now right }
     requires width { length row.old ≡ strip.now.width }
-    ensures width { length row.new ≡ strip.now.width }
-    ensures each { OnOk result (AtColumns strip.now (λ c. at row.new c
+    ensures { OnOk result (AtColumns strip.now (λ c. at row.new c
         ≡ operator_value operator (at row.old c) (operand_at windows.now strip.now c right))) }
 {
     let from = strip.from;
@@ -154,8 +151,7 @@ pub(crate) fn choice_value(
     requires condition { IsOperandReady windows.now strip.now condition }
     requires yes { IsOperandReady windows.now strip.now yes }
     requires no { IsOperandReady windows.now strip.now no }
-    ensures width { IfOk result (IsAsWide strip.now) }
-    ensures each { IfOk result (HasCells strip.now
+    ensures { IfOk result (HasCells strip.now
         (λ c. chosen_cell (operand_at windows.now strip.now c condition)
         (operand_at windows.now strip.now c yes) (operand_at windows.now strip.now c no))) }
 {
@@ -181,8 +177,7 @@ fn choose_operands(
     requires yes { IsOperandReady windows.now strip.now yes }
     requires width { length row.old ≡ strip.now.width }
     requires conditions { length conditions.now ≡ strip.now.width }
-    ensures width { length row.new ≡ strip.now.width }
-    ensures each { OnOk result (AtColumns strip.now (λ c. at row.new c
+    ensures { OnOk result (AtColumns strip.now (λ c. at row.new c
         ≡ chosen_cell (at conditions.now c) (operand_at windows.now strip.now c yes) (at row.old c))) }
 {
     let (from, width) = (strip.from, strip.width);
@@ -214,8 +209,7 @@ fn choose_row(
 ) -> Result<(), Memory>
     requires width { length others.items ≡ length row.old }
     requires conditions { length conditions.now ≡ length row.old }
-    ensures width { length row.new ≡ length row.old }
-    ensures each { Becomes row.old row.new
+    ensures { Becomes row.old row.new
         (λ c. chosen_cell (at conditions.now c) (at others.items c) (at row.old c)) }
 {
     rows::choose(row, conditions, others.as_slice());

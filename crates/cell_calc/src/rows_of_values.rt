@@ -79,7 +79,6 @@ pub fn eval_row(
     requires width { length cells.old ≡ region.now.cols }
     requires windows { (i : ℕ) → i < top_of bound.now
         → HasReach row (up_of i bound.now) (down_of i bound.now) (slice_get windows.now i) }
-    ensures width { length cells.new ≡ length cells.old }
     ensures ok { OnOk result ((maps : List Grid)
         → ((i : ℕ) → i < top_of bound.now → IsOver (slice_get windows.now i) (slice_get maps i))
         → (c : ℕ) → c < region.now.cols

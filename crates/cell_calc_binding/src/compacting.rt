@@ -1,14 +1,14 @@
 //! Expressions over just the maps that they read.
 
-ghost use Rattle.std.specs.Prelude.{◌≡◌, ◌<◌, ◌+◌, ℕ, List, length, map, max, All, IfOk};
+ghost use Rattle.std.specs.Prelude.{◌≡◌, ◌<◌, ◌+◌, ℕ, List, length, max, All, IfOk};
 ghost use Rattle.cell_core.specs.Grid.{Grid};
 ghost use Rattle.cell_calc_binding.specs.Compact.{ReadsMap, AreMapsRead, ArePicked, AreDistinctPlaces};
 ghost use Rattle.cell_calc_binding.specs.Formula.{Formula};
 ghost use Rattle.cell_calc_binding.specs.Reach.{top_at, top_of};
 ghost use Rattle.cell_calc_operators.specs.Applied.{Spot};
 ghost use Rattle.cell_calc_binding.specs.Value.{value};
-ghost use Rattle.cell_calc_steps.specs.Postfix.{at_step, fold_steps, step_over};
-ghost use Rattle.cell_calc_binding.specs.parts.TreeSteps.{index_in, IsListed, ReadsPlace};
+ghost use Rattle.cell_calc_steps.specs.Postfix.{at_step, step_over};
+ghost use Rattle.cell_calc_binding.specs.parts.TreeSteps.{index_in, IsListed, ReadsPlace, KeepsPlaces, AreOverRead};
 
 use crate::bound::Bound;
 use cell_calc_steps::step::Step;
@@ -32,9 +32,7 @@ fn place_or_new(places: &mut Vec<usize>, place: usize) -> Result<usize, Memory>
     ensures there { IfOk result (λ k. k ≡ index_in places.new.items place) }
     ensures count { IfOk result (λ k. length places.new.items
         ≡ max (length places.old.items) (k + 1)) }
-    ensures kept { (i : ℕ) → index_in places.old.items i < length places.old.items
-        → index_in places.new.items i ≡ index_in places.old.items i }
-    ensures distinct { AreDistinctPlaces places.old.items → AreDistinctPlaces places.new.items }
+    ensures places { KeepsPlaces places.old.items places.new.items }
     ensures read { (f : Formula) → ReadsMap place f → AreMapsRead places.old.items f
         → AreMapsRead places.new.items f }
 {
@@ -52,9 +50,7 @@ fn step_over_new_place(step: Step<usize>, places: &mut Vec<usize>) -> Result<Ste
     ensures listed { IfOk result (λ _. IsListed places.new.items step) }
     ensures count { IfOk result (λ s. length places.new.items
         ≡ max (length places.old.items) (at_step top_at 0 s)) }
-    ensures kept { (i : ℕ) → index_in places.old.items i < length places.old.items
-        → index_in places.new.items i ≡ index_in places.old.items i }
-    ensures distinct { AreDistinctPlaces places.old.items → AreDistinctPlaces places.new.items }
+    ensures places { KeepsPlaces places.old.items places.new.items }
     ensures read { (f : Formula) → ((i : ℕ) → ReadsPlace i step → ReadsMap i f)
         → AreMapsRead places.old.items f → AreMapsRead places.new.items f }
 {
@@ -73,12 +69,7 @@ fn steps_over_read_maps(
     alloc: Global,
     steps: &[Step<usize>],
 ) -> Result<(Vec<Step<usize>>, Vec<usize>), Memory>
-    ensures steps { IfOk result (λ r. r.0.items ≡ map (step_over (index_in r.1.items)) steps.now) }
-    ensures listed { IfOk result (λ r. All (IsListed r.1.items) steps.now) }
-    ensures count { IfOk result (λ r. length r.1.items ≡ fold_steps top_at 0 max r.0.items) }
-    ensures distinct { IfOk result (λ r. AreDistinctPlaces r.1.items) }
-    ensures read { IfOk result (λ r. (f : Formula)
-        → All (λ s. (i : ℕ) → ReadsPlace i s → ReadsMap i f) steps.now → AreMapsRead r.1.items f) }
+    ensures { IfOk result (λ r. AreOverRead steps.now r.0.items r.1.items) }
 {
     let mut places = Vec::new(alloc);
     let mut others = Vec::with_capacity(alloc, steps.len())?;

@@ -1,6 +1,6 @@
 //! Expressions, read with a stack of the reader's own.
 
-ghost use Rattle.std.specs.Prelude.{◌≡◌, ◌<◌, ◌≤◌, ◌+◌, ◌*◌, ◌++◌, [], ◌∷◌, length, vec_len, IfOk, IfErr};
+ghost use Rattle.std.specs.Prelude.{◌≡◌, ◌<◌, ◌+◌, ◌*◌, ◌++◌, [], ◌∷◌, length, vec_len, IfOk, IfErr};
 ghost use Rattle.cell_calc_language.specs.declared.token_parsing.ParseStop.TheVariants.{Memory};
 ghost use Rattle.cell_calc_language.specs.declared.expression_reader.Frame.TheVariants as frame;
 ghost use Rattle.cell_calc_tokens.specs.declared.token.Sign.TheVariants.{OpenParenthesis};
@@ -9,7 +9,7 @@ ghost use Rattle.cell_calc_grammar.specs.TokensRead.{State, Operand, Expression,
 ghost use Rattle.cell_calc_language.specs.Stopping.{ParserStopsAt, FollowsSign, IsCallOf};
 ghost use Rattle.cell_calc_tokens.specs.Token.{head, name_at};
 ghost use Rattle.cell_calc_steps.specs.Postfix.{tree_of};
-ghost use Rattle.cell_calc_language.specs.parts.Waiting.{IsAwaited, IsResumed, IsReadExpression, Goes, waiting, latest_first, turn_tokens, work};
+ghost use Rattle.cell_calc_language.specs.parts.Waiting.{IsReadExpression, Goes, ReadsOn, Resumes, LeavesWork, waiting, latest_first, turn_tokens, work};
 
 use crate::token_parsing::{ParseStop, after_sign, first_token, name_copy, next_operator, offsets};
 use cell_calc_grammar::map_name::MapName;
@@ -87,10 +87,8 @@ fn push_step<'a>(steps: &mut Vec<Step<MapName>>, step: Step<MapName>) -> Result<
 impl<'a> Reader<'a> {
     // An expression begins.
     fn enter(&mut self, tokens: &'a [Placed]) -> Result<Turn<'a>, ParseStop<'a>>
-        ensures goes { (s : State) → IsAwaited s self.old (Expression tokens.now)
-            → Goes s self.new result }
-        ensures lighter { IfOk result (λ turn. work (turn_tokens turn) self.new
-            ≤ work tokens.now self.old + 2) }
+        ensures goes { ReadsOn self.old (Expression tokens.now) self.new result }
+        ensures lighter { LeavesWork (work tokens.now self.old + 2) self.new result }
     {
         push_frame(&mut self.frames, Frame::Choice)?;
         push_frame(&mut self.frames, Frame::Level(TOP_LEVEL))?;
@@ -102,16 +100,14 @@ impl<'a> Reader<'a> {
         ensures goes { (s : State)
             → IsReadExpression s (waiting self.old) (self.old.steps.items ++ step ∷ []) tokens.now
             → Goes s self.new result }
-        ensures lighter { IfOk result (λ turn. work (turn_tokens turn) self.new
-            ≤ work tokens.now self.old) }
+        ensures lighter { LeavesWork (work tokens.now self.old) self.new result }
     {
         push_step(&mut self.steps, step)?;
         Ok(Turn::After(tokens))
     }
 
     fn operand(&mut self, alloc: Global, tokens: &'a [Placed]) -> Result<Turn<'a>, ParseStop<'a>>
-        ensures goes { (s : State) → IsAwaited s self.old (Operand tokens.now)
-            → Goes s self.new result }
+        ensures goes { ReadsOn self.old (Operand tokens.now) self.new result }
         ensures lighter { IfOk result (λ turn. work (turn_tokens turn) self.new
             < work tokens.now self.old) }
     {
@@ -136,10 +132,8 @@ impl<'a> Reader<'a> {
         rest: &'a [Placed],
     ) -> Result<Turn<'a>, ParseStop<'a>>
         requires { FollowsSign sign tokens.now rest.now }
-        ensures goes { (s : State) → IsAwaited s self.old (Operand tokens.now)
-            → Goes s self.new result }
-        ensures lighter { IfOk result (λ turn. work (turn_tokens turn) self.new
-            ≤ work rest.now self.old + 3) }
+        ensures goes { ReadsOn self.old (Operand tokens.now) self.new result }
+        ensures lighter { LeavesWork (work rest.now self.old + 3) self.new result }
     {
         match sign {
             Sign::Minus => {
@@ -167,11 +161,9 @@ impl<'a> Reader<'a> {
         tokens: &'a [Placed],
     ) -> Result<Turn<'a>, ParseStop<'a>>
         requires { IsNot OpenParenthesis (head tokens.now) }
-        ensures goes { (s : State)
-            → IsAwaited s self.old (Operand (name_at name.now column ∷ tokens.now))
-            → Goes s self.new result }
-        ensures lighter { IfOk result (λ turn. work (turn_tokens turn) self.new
-            ≤ work tokens.now self.old) }
+        ensures goes { ReadsOn self.old (Operand (name_at name.now column ∷ tokens.now)) self.new
+            result }
+        ensures lighter { LeavesWork (work tokens.now self.old) self.new result }
     {
         let name = name_copy(alloc, name)?;
         let leaf = MapName { name, column };
@@ -196,10 +188,8 @@ impl<'a> Reader<'a> {
         inside: &'a [Placed],
     ) -> Result<Turn<'a>, ParseStop<'a>>
         requires { IsCallOf name.now tokens.now inside.now }
-        ensures goes { (s : State) → IsAwaited s self.old (Operand tokens.now)
-            → Goes s self.new result }
-        ensures lighter { IfOk result (λ turn. work (turn_tokens turn) self.new
-            ≤ work inside.now self.old + 3) }
+        ensures goes { ReadsOn self.old (Operand tokens.now) self.new result }
+        ensures lighter { LeavesWork (work inside.now self.old + 3) self.new result }
     {
         let Some(function) = function_of(name.bytes()) else {
             return Err(ParseStop::At(CalcKind::UnknownFunction, tokens));
@@ -226,10 +216,8 @@ impl<'a> Reader<'a> {
 
     // The frame that waited for what has been read goes on.
     fn resume(&mut self, frame: Frame<'a>, tokens: &'a [Placed]) -> Result<Turn<'a>, ParseStop<'a>>
-        ensures goes { (s : State) → IsResumed s self.old frame.entry tokens.now
-            → Goes s self.new result }
-        ensures lighter { IfOk result (λ turn. work (turn_tokens turn) self.new
-            ≤ work tokens.now self.old) }
+        ensures goes { Resumes self.old frame.entry tokens.now self.new result }
+        ensures lighter { LeavesWork (work tokens.now self.old) self.new result }
     {
         match frame {
             Frame::Negated => self.end(Step::Negated, tokens),
@@ -256,10 +244,8 @@ impl<'a> Reader<'a> {
 
     // After an expression of the level, which an operator may join to another.
     fn level(&mut self, level: u32, tokens: &'a [Placed]) -> Result<Turn<'a>, ParseStop<'a>>
-        ensures goes { (s : State) → IsResumed s self.old (frame.Level level) tokens.now
-            → Goes s self.new result }
-        ensures lighter { IfOk result (λ turn. work (turn_tokens turn) self.new
-            ≤ work tokens.now self.old) }
+        ensures goes { Resumes self.old (frame.Level level) tokens.now self.new result }
+        ensures lighter { LeavesWork (work tokens.now self.old) self.new result }
     {
         let Some((operator, rest)) = next_operator(level, tokens) else {
             return Ok(Turn::After(tokens));
@@ -271,10 +257,8 @@ impl<'a> Reader<'a> {
 
     // After a condition, or an expression that is none.
     fn choice(&mut self, tokens: &'a [Placed]) -> Result<Turn<'a>, ParseStop<'a>>
-        ensures goes { (s : State) → IsResumed s self.old frame.Choice tokens.now
-            → Goes s self.new result }
-        ensures lighter { IfOk result (λ turn. work (turn_tokens turn) self.new
-            ≤ work tokens.now self.old) }
+        ensures goes { Resumes self.old frame.Choice tokens.now self.new result }
+        ensures lighter { LeavesWork (work tokens.now self.old) self.new result }
     {
         let Some(rest) = after_sign(Sign::Question, tokens) else {
             return Ok(Turn::After(tokens));
@@ -285,10 +269,8 @@ impl<'a> Reader<'a> {
 
     // After what is chosen where the condition holds.
     fn otherwise(&mut self, tokens: &'a [Placed]) -> Result<Turn<'a>, ParseStop<'a>>
-        ensures goes { (s : State) → IsResumed s self.old frame.AfterQuestion tokens.now
-            → Goes s self.new result }
-        ensures lighter { IfOk result (λ turn. work (turn_tokens turn) self.new
-            ≤ work tokens.now self.old) }
+        ensures goes { Resumes self.old frame.AfterQuestion tokens.now self.new result }
+        ensures lighter { LeavesWork (work tokens.now self.old) self.new result }
     {
         let Some(rest) = after_sign(Sign::Colon, tokens) else {
             return Err(ParseStop::At(CalcKind::Expected, tokens));
@@ -305,11 +287,9 @@ impl<'a> Reader<'a> {
         before: usize,
         tokens: &'a [Placed],
     ) -> Result<Turn<'a>, ParseStop<'a>>
-        ensures goes { (s : State)
-            → IsResumed s self.old (frame.Call function from.entry before) tokens.now
-            → Goes s self.new result }
-        ensures lighter { IfOk result (λ turn. work (turn_tokens turn) self.new
-            ≤ work tokens.now self.old) }
+        ensures goes { Resumes self.old (frame.Call function from.entry before) tokens.now self.new
+            result }
+        ensures lighter { LeavesWork (work tokens.now self.old) self.new result }
     {
         // Each argument took a step, so that memory ends before the count does.
         let Some(count) = before.checked_add(1) else {

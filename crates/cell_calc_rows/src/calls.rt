@@ -15,8 +15,7 @@ use std::alloc::Global;
 
 fn choose_call(arguments: &[Vec<Cell>], row: &mut [Cell])
     requires { AreWide (length row.old) arguments.now }
-    ensures width { length row.new ≡ length row.old }
-    ensures each { Becomes row.old row.new (λ c. if_of (arguments_at c arguments.now)) }
+    ensures { Becomes row.old row.new (λ c. if_of (arguments_at c arguments.now)) }
 {
     match arguments {
         [x] => {
@@ -37,8 +36,7 @@ fn choose_call(arguments: &[Vec<Cell>], row: &mut [Cell])
 
 fn least(arguments: &[Vec<Cell>], row: &mut [Cell])
     requires { AreWide (length row.old) arguments.now }
-    ensures width { length row.new ≡ length row.old }
-    ensures each { Becomes row.old row.new (λ c. least (arguments_at c arguments.now)) }
+    ensures { Becomes row.old row.new (λ c. least (arguments_at c arguments.now)) }
 {
     let [first, others @ ..] = arguments else {
         rows::fill(row, Cell::null());
@@ -52,8 +50,7 @@ fn least(arguments: &[Vec<Cell>], row: &mut [Cell])
 
 fn greatest(arguments: &[Vec<Cell>], row: &mut [Cell])
     requires { AreWide (length row.old) arguments.now }
-    ensures width { length row.new ≡ length row.old }
-    ensures each { Becomes row.old row.new (λ c. greatest_cell (arguments_at c arguments.now)) }
+    ensures { Becomes row.old row.new (λ c. greatest_cell (arguments_at c arguments.now)) }
 {
     let [first, others @ ..] = arguments else {
         rows::fill(row, Cell::null());
@@ -67,8 +64,7 @@ fn greatest(arguments: &[Vec<Cell>], row: &mut [Cell])
 
 fn known_least(arguments: &[Vec<Cell>], row: &mut [Cell])
     requires { AreWide (length row.old) arguments.now }
-    ensures width { length row.new ≡ length row.old }
-    ensures each { Becomes row.old row.new
+    ensures { Becomes row.old row.new
         (λ c. least (known_cells (arguments_at c arguments.now))) }
 {
     rows::fill(row, Cell::null());
@@ -79,8 +75,7 @@ fn known_least(arguments: &[Vec<Cell>], row: &mut [Cell])
 
 fn known_greatest(arguments: &[Vec<Cell>], row: &mut [Cell])
     requires { AreWide (length row.old) arguments.now }
-    ensures width { length row.new ≡ length row.old }
-    ensures each { Becomes row.old row.new
+    ensures { Becomes row.old row.new
         (λ c. greatest_cell (known_cells (arguments_at c arguments.now))) }
 {
     rows::fill(row, Cell::null());
@@ -91,8 +86,7 @@ fn known_greatest(arguments: &[Vec<Cell>], row: &mut [Cell])
 
 fn last(arguments: &[Vec<Cell>], row: &mut [Cell])
     requires { AreWide (length row.old) arguments.now }
-    ensures width { length row.new ≡ length row.old }
-    ensures each { Becomes row.old row.new (λ c. last_argument (arguments_at c arguments.now)) }
+    ensures { Becomes row.old row.new (λ c. last_argument (arguments_at c arguments.now)) }
 {
     match arguments {
         [.., x] => row.copy_from_slice(x.as_slice()),
@@ -102,8 +96,7 @@ fn last(arguments: &[Vec<Cell>], row: &mut [Cell])
 
 fn copy_first_argument(arguments: &[Vec<Cell>], row: &mut [Cell])
     requires { AreWide (length row.old) arguments.now }
-    ensures width { length row.new ≡ length row.old }
-    ensures each { Becomes row.old row.new (λ c. first_known (arguments_at c arguments.now)) }
+    ensures { Becomes row.old row.new (λ c. first_known (arguments_at c arguments.now)) }
 {
     match arguments {
         [x, ..] => row.copy_from_slice(x.as_slice()),
@@ -113,8 +106,7 @@ fn copy_first_argument(arguments: &[Vec<Cell>], row: &mut [Cell])
 
 fn nullness(arguments: &[Vec<Cell>], row: &mut [Cell])
     requires { AreWide (length row.old) arguments.now }
-    ensures width { length row.new ≡ length row.old }
-    ensures each { Becomes row.old row.new
+    ensures { Becomes row.old row.new
         (λ c. truth (is_null (first_known (arguments_at c arguments.now)))) }
 {
     copy_first_argument(arguments, row);
@@ -123,8 +115,7 @@ fn nullness(arguments: &[Vec<Cell>], row: &mut [Cell])
 
 fn size(arguments: &[Vec<Cell>], row: &mut [Cell])
     requires { AreWide (length row.old) arguments.now }
-    ensures width { length row.new ≡ length row.old }
-    ensures each { Becomes row.old row.new
+    ensures { Becomes row.old row.new
         (λ c. size_of (first_known (arguments_at c arguments.now))) }
 {
     copy_first_argument(arguments, row);
@@ -144,8 +135,7 @@ pub fn call_values(
     requires at_row { number < region.rows }
     requires width { from + length row.old ≤ region.cols }
     requires widths { AreWide (length row.old) arguments.now }
-    ensures width { length row.new ≡ length row.old }
-    ensures each { OnOk result (Becomes row.old row.new
+    ensures { OnOk result (Becomes row.old row.new
         (λ c. call_result function (spot region number (from + c))
         (arguments_at c arguments.now))) }
 {

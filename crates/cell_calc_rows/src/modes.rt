@@ -30,7 +30,6 @@ fn category_count(cell: Cell) -> usize
 fn gather_column(arguments: &[Vec<Cell>], c: usize, cells: &mut [Cell]) -> usize
     requires column { All (λ row. c < length row.items) arguments.now }
     requires room { length cells.old ≡ length arguments.now }
-    ensures length { length cells.new ≡ length cells.old }
     ensures count { result ≤ length cells.old }
     ensures known { take result cells.new ≡ known_cells (arguments_at c arguments.now) }
 {
@@ -89,8 +88,7 @@ fn most_frequent(cells: &mut [Cell]) -> Cell
 fn known_mode_at(arguments: &[Vec<Cell>], c: usize, cells: &mut [Cell]) -> Cell
     requires column { All (λ row. c < length row.items) arguments.now }
     requires room { length cells.old ≡ length arguments.now }
-    ensures room { length cells.new ≡ length cells.old }
-    ensures mode { result ≡ most_frequent (known_cells (arguments_at c arguments.now)) }
+    ensures { result ≡ most_frequent (known_cells (arguments_at c arguments.now)) }
 {
     let count = gather_column(arguments, c, cells);
     most_frequent(&mut cells[..count])
@@ -99,8 +97,7 @@ fn known_mode_at(arguments: &[Vec<Cell>], c: usize, cells: &mut [Cell]) -> Cell
 fn mode_at(arguments: &[Vec<Cell>], c: usize, cells: &mut [Cell]) -> Cell
     requires column { All (λ row. c < length row.items) arguments.now }
     requires room { length cells.old ≡ length arguments.now }
-    ensures room { length cells.new ≡ length cells.old }
-    ensures mode { result ≡ mode (arguments_at c arguments.now) }
+    ensures { result ≡ mode (arguments_at c arguments.now) }
 {
     let count = gather_column(arguments, c, cells);
     if count < arguments.len() {
@@ -112,8 +109,7 @@ fn mode_at(arguments: &[Vec<Cell>], c: usize, cells: &mut [Cell]) -> Cell
 /// The most frequent cells of the columns, null where one is null.
 pub(crate) fn mode(alloc: Global, arguments: &[Vec<Cell>], row: &mut [Cell]) -> Result<(), Memory>
     requires { AreWide (length row.old) arguments.now }
-    ensures width { length row.new ≡ length row.old }
-    ensures each { OnOk result (Becomes row.old row.new
+    ensures { OnOk result (Becomes row.old row.new
         (λ c. mode (arguments_at c arguments.now))) }
 {
     let mut spare = Vec::from_elem(alloc, Cell::null(), arguments.len())?;
@@ -131,8 +127,7 @@ pub(crate) fn known_mode(
     row: &mut [Cell],
 ) -> Result<(), Memory>
     requires { AreWide (length row.old) arguments.now }
-    ensures width { length row.new ≡ length row.old }
-    ensures each { OnOk result (Becomes row.old row.new
+    ensures { OnOk result (Becomes row.old row.new
         (λ c. most_frequent (known_cells (arguments_at c arguments.now)))) }
 {
     let mut spare = Vec::from_elem(alloc, Cell::null(), arguments.len())?;

@@ -13,8 +13,7 @@ use cell_core::cell::Cell;
 
 /// Writes a cell into each place of a row.
 pub fn fill(row: &mut [Cell], cell: Cell)
-    ensures width { length row.new ≡ length row.old }
-    ensures each { Becomes row.old row.new (λ c. cell) }
+    ensures { Becomes row.old row.new (λ c. cell) }
 {
     for i in 0..row.len() {
         row[i] = cell;
@@ -24,8 +23,7 @@ pub fn fill(row: &mut [Cell], cell: Cell)
 /// Changes each cell of a row.
 pub(crate) fn each<F: Fn(Cell) -> Cell>(row: &mut [Cell], f: F)
     requires callable { F.IsAlwaysCallable f }
-    ensures width { length row.new ≡ length row.old }
-    ensures each { (c : ℕ) → c < length row.old → F.post f (at row.old c) (at row.new c) }
+    ensures { (c : ℕ) → c < length row.old → F.post f (at row.old c) (at row.new c) }
 {
     for i in 0..row.len() {
         row[i] = f(row[i]);
@@ -36,8 +34,7 @@ pub(crate) fn each<F: Fn(Cell) -> Cell>(row: &mut [Cell], f: F)
 pub(crate) fn combine<F: Fn(Cell, Cell) -> Cell>(row: &mut [Cell], other: &[Cell], f: F)
     requires callable { F.IsAlwaysCallable f }
     requires width { length other.now ≡ length row.old }
-    ensures width { length row.new ≡ length row.old }
-    ensures each { (c : ℕ) → c < length row.old
+    ensures { (c : ℕ) → c < length row.old
         → F.post f (at row.old c) (at other.now c) (at row.new c) }
 {
     for i in 0..row.len() {
@@ -48,8 +45,7 @@ pub(crate) fn combine<F: Fn(Cell, Cell) -> Cell>(row: &mut [Cell], other: &[Cell
 /// Changes each cell of a row by one and the same other.
 pub(crate) fn combine_one<F: Fn(Cell, Cell) -> Cell>(row: &mut [Cell], other: Cell, f: F)
     requires callable { F.IsAlwaysCallable f }
-    ensures width { length row.new ≡ length row.old }
-    ensures each { (c : ℕ) → c < length row.old → F.post f (at row.old c) other (at row.new c) }
+    ensures { (c : ℕ) → c < length row.old → F.post f (at row.old c) other (at row.new c) }
 {
     for i in 0..row.len() {
         row[i] = f(row[i], other);
@@ -60,8 +56,7 @@ pub(crate) fn combine_one<F: Fn(Cell, Cell) -> Cell>(row: &mut [Cell], other: Ce
 pub fn choose(row: &mut [Cell], conditions: &[Cell], yes: &[Cell])
     requires width_conditions { length conditions.now ≡ length row.old }
     requires width_yes { length yes.now ≡ length row.old }
-    ensures width { length row.new ≡ length row.old }
-    ensures each { Becomes row.old row.new
+    ensures { Becomes row.old row.new
         (λ c. chosen_cell (at conditions.now c) (at yes.now c) (at row.old c)) }
 {
     for i in 0..row.len() {
@@ -72,8 +67,7 @@ pub fn choose(row: &mut [Cell], conditions: &[Cell], yes: &[Cell])
 /// The same with one cell for a row.
 pub fn choose_one(row: &mut [Cell], conditions: &[Cell], yes: Cell)
     requires width { length conditions.now ≡ length row.old }
-    ensures width { length row.new ≡ length row.old }
-    ensures each { Becomes row.old row.new
+    ensures { Becomes row.old row.new
         (λ c. chosen_cell (at conditions.now c) yes (at row.old c)) }
 {
     for i in 0..row.len() {
@@ -84,8 +78,7 @@ pub fn choose_one(row: &mut [Cell], conditions: &[Cell], yes: Cell)
 /// The columns' numbers, from 1, of a strip that begins at a column from 0.
 pub(crate) fn number(row: &mut [Cell], from: usize)
     requires { from + length row.old ≤ 65535 }
-    ensures width { length row.new ≡ length row.old }
-    ensures each { Becomes row.old row.new (λ c. Some (pos (from + c + 1))) }
+    ensures { Becomes row.old row.new (λ c. Some (pos (from + c + 1))) }
 {
     for i in 0..row.len() {
         row[i] = cell_operators::number((from + i) as u32 + 1);
@@ -95,8 +88,7 @@ pub(crate) fn number(row: &mut [Cell], from: usize)
 /// Moves a row's cells to the left.
 fn from_right(source: &[Cell], skip: usize, row: &mut [Cell])
     requires { (c : ℕ) → c < length row.old → at row.old c ≡ None }
-    ensures width { length row.new ≡ length row.old }
-    ensures each { Becomes row.old row.new (λ c. at source.now (c + skip)) }
+    ensures { Becomes row.old row.new (λ c. at source.now (c + skip)) }
 {
     if skip < source.len() {
         let count = (source.len() - skip).min(row.len());
@@ -109,7 +101,6 @@ fn from_right(source: &[Cell], skip: usize, row: &mut [Cell])
 /// Moves a row's cells to the right.
 fn from_left(source: &[Cell], skip: usize, row: &mut [Cell])
     requires { (c : ℕ) → c < length row.old → at row.old c ≡ None }
-    ensures width { length row.new ≡ length row.old }
     ensures before { (c : ℕ) → c < skip → c < length row.old → at row.new c ≡ None }
     ensures each { (c : ℕ) → c + skip < length row.old → at row.new (c + skip) ≡ at source.now c }
 {
@@ -150,8 +141,7 @@ pub fn inside<'a>(source: &'a [Cell], from: usize, right: i32, width: usize) -> 
 /// The cells of a row so many columns to the right, null outside, of a strip that begins at a column.
 pub fn shift(source: &[Cell], from: usize, right: i32, row: &mut [Cell])
     requires { from ≤ 65535 }
-    ensures width { length row.new ≡ length row.old }
-    ensures each { Becomes row.old row.new
+    ensures { Becomes row.old row.new
         (λ c. item_at None source.now (pos (from + c) +ℤ right)) }
 {
     match inside(source, from, right, row.len()) {
@@ -163,8 +153,7 @@ pub fn shift(source: &[Cell], from: usize, right: i32, row: &mut [Cell])
 // The same where some of them are outside.
 fn shift_over_the_edge(source: &[Cell], from: usize, right: i32, row: &mut [Cell])
     requires { from ≤ 65535 }
-    ensures width { length row.new ≡ length row.old }
-    ensures each { Becomes row.old row.new
+    ensures { Becomes row.old row.new
         (λ c. item_at None source.now (pos (from + c) +ℤ right)) }
 {
     fill(row, Cell::null());
@@ -178,40 +167,35 @@ fn shift_over_the_edge(source: &[Cell], from: usize, right: i32, row: &mut [Cell
 
 /// `isnull` of each cell of a row, in place.
 pub fn nullness(row: &mut [Cell])
-    ensures width { length row.new ≡ length row.old }
-    ensures each { Becomes row.old row.new (λ c. truth (is_null (at row.old c))) }
+    ensures { Becomes row.old row.new (λ c. truth (is_null (at row.old c))) }
 {
     each(row, cell_operators::nullness);
 }
 
 /// `abs` of each cell of a row, in place.
 pub fn size(row: &mut [Cell])
-    ensures width { length row.new ≡ length row.old }
-    ensures each { Becomes row.old row.new (λ c. size_of (at row.old c)) }
+    ensures { Becomes row.old row.new (λ c. size_of (at row.old c)) }
 {
     each(row, cell_operators::size);
 }
 
 /// `-` of each cell of a row, in place.
 pub fn negate(row: &mut [Cell])
-    ensures width { length row.new ≡ length row.old }
-    ensures each { Becomes row.old row.new (λ c. negated_cell (at row.old c)) }
+    ensures { Becomes row.old row.new (λ c. negated_cell (at row.old c)) }
 {
     each(row, cell_operators::negated_cell);
 }
 
 /// `!` of each cell of a row, in place.
 pub fn invert(row: &mut [Cell])
-    ensures width { length row.new ≡ length row.old }
-    ensures each { Becomes row.old row.new (λ c. inverted_cell (at row.old c)) }
+    ensures { Becomes row.old row.new (λ c. inverted_cell (at row.old c)) }
 {
     each(row, cell_operators::inverted_cell);
 }
 
 /// `if(a)` of each cell of a row, in place: 1 where it is neither null nor 0.
 pub fn one_or_zero(row: &mut [Cell])
-    ensures width { length row.new ≡ length row.old }
-    ensures each { Becomes row.old row.new
+    ensures { Becomes row.old row.new
         (λ c. chosen_cell (at row.old c) (Some (pos 1)) (Some (pos 0))) }
 {
     let (yes, no) = (cell_operators::truth(true), cell_operators::truth(false));
@@ -222,40 +206,35 @@ pub fn one_or_zero(row: &mut [Cell])
 
 pub(crate) fn lesser(row: &mut [Cell], other: &[Cell])
     requires width { length other.now ≡ length row.old }
-    ensures width { length row.new ≡ length row.old }
-    ensures each { Becomes row.old row.new (λ c. lesser (at row.old c) (at other.now c)) }
+    ensures { Becomes row.old row.new (λ c. lesser (at row.old c) (at other.now c)) }
 {
     combine(row, other, cell_operators::lesser);
 }
 
 pub(crate) fn larger(row: &mut [Cell], other: &[Cell])
     requires width { length other.now ≡ length row.old }
-    ensures width { length row.new ≡ length row.old }
-    ensures each { Becomes row.old row.new (λ c. greater (at row.old c) (at other.now c)) }
+    ensures { Becomes row.old row.new (λ c. greater (at row.old c) (at other.now c)) }
 {
     combine(row, other, cell_operators::larger);
 }
 
 pub(crate) fn known_lesser(row: &mut [Cell], other: &[Cell])
     requires width { length other.now ≡ length row.old }
-    ensures width { length row.new ≡ length row.old }
-    ensures each { Becomes row.old row.new (λ c. known_lesser (at row.old c) (at other.now c)) }
+    ensures { Becomes row.old row.new (λ c. known_lesser (at row.old c) (at other.now c)) }
 {
     combine(row, other, cell_operators::known_lesser);
 }
 
 pub(crate) fn known_larger(row: &mut [Cell], other: &[Cell])
     requires width { length other.now ≡ length row.old }
-    ensures width { length row.new ≡ length row.old }
-    ensures each { Becomes row.old row.new (λ c. known_greater (at row.old c) (at other.now c)) }
+    ensures { Becomes row.old row.new (λ c. known_greater (at row.old c) (at other.now c)) }
 {
     combine(row, other, cell_operators::known_larger);
 }
 
 pub(crate) fn choose_or_zero(row: &mut [Cell], other: &[Cell])
     requires width { length other.now ≡ length row.old }
-    ensures width { length row.new ≡ length row.old }
-    ensures each { Becomes row.old row.new
+    ensures { Becomes row.old row.new
         (λ c. chosen_cell (at row.old c) (at other.now c) (Some (pos 0))) }
 {
     let no = cell_operators::truth(false);
@@ -267,8 +246,7 @@ pub(crate) fn choose_or_zero(row: &mut [Cell], other: &[Cell])
 /// The values of an operator along a row, which holds its left operands.
 pub fn apply_operator(operator: Operator, row: &mut [Cell], other: &[Cell])
     requires width { length other.now ≡ length row.old }
-    ensures width { length row.new ≡ length row.old }
-    ensures each { Becomes row.old row.new
+    ensures { Becomes row.old row.new
         (λ c. operator_value operator (at row.old c) (at other.now c)) }
 {
     match operator {
@@ -292,8 +270,7 @@ pub fn apply_operator(operator: Operator, row: &mut [Cell], other: &[Cell])
 
 /// The values of an operator along a row, which holds its left operands; the right one is the same cell everywhere.
 pub fn apply_one(operator: Operator, row: &mut [Cell], b: Cell)
-    ensures width { length row.new ≡ length row.old }
-    ensures each { Becomes row.old row.new (λ c. operator_value operator (at row.old c) b) }
+    ensures { Becomes row.old row.new (λ c. operator_value operator (at row.old c) b) }
 {
     match operator {
         Operator::Times => combine_one(row, b, cell_operators::product),
@@ -357,8 +334,7 @@ fn overlap_of(cells: usize, right: i32, from: usize, width: usize) -> Overlap
 /// cells of another row so many columns to the right, null outside.
 pub fn apply_shifted(operator: Operator, row: &mut [Cell], source: &[Cell], right: i32, from: usize)
     requires { from ≤ 65535 }
-    ensures width { length row.new ≡ length row.old }
-    ensures each { Becomes row.old row.new
+    ensures { Becomes row.old row.new
         (λ c. operator_value operator (at row.old c)
         (item_at None source.now (pos (from + c) +ℤ right))) }
 {

@@ -4,3 +4,4 @@ pub mod Operator
 pub mod TokenSpelling
 pub mod Token
 pub mod Tokens
+pub mod parts

@@ -5,6 +5,7 @@ ghost use Rattle.std.specs.List.{list_all, list_any, prefix_len, starts_with};
 ghost use Rattle.cell_core_values.specs.Name.{is_name_byte, starts_name};
 ghost use Rattle.cell_calc_tokens.specs.TokenSpelling.{AreSpelled, ListIsSpelled};
 ghost use Rattle.cell_calc_tokens.specs.Tokens.{sign_of, triple_signs, double_signs, mark_length, piece_length, is_float_byte, not_whole, token_name, token_number, word_of, mark_of, token_of, next_token, token_list, token_fault, IsTokenFault};
+ghost use Rattle.cell_calc_tokens.specs.parts.Telling.{TellsToken};
 ghost use Rattle.cell_calc_tokens.specs.declared.calc_fault.CalcKind.TheVariants.{FloatNumber, BadNumber};
 
 use crate::calc_fault::{CalcFault, CalcKind};
@@ -193,8 +194,7 @@ fn mark_of(bytes: &[u8], column: u32) -> Result<Token, CalcFault>
 fn name_token(alloc: Global, bytes: &[u8], column: u32) -> Result<Token, CalcFault>
     requires starts { starts_name bytes.now ≡ true }
     requires all { list_all is_name_byte bytes.now ≡ true }
-    ensures ok { IfOk result (λ token. token_name column bytes.now ≡ Ok token) }
-    ensures err { IfErr result (λ told. IsTokenFault (token_name column bytes.now) told) }
+    ensures { TellsToken result (token_name column bytes.now) }
 {
     match Name::read(alloc, bytes) {
         Ok(name) => Ok(Token::Name(name)),
@@ -206,8 +206,7 @@ fn name_token(alloc: Global, bytes: &[u8], column: u32) -> Result<Token, CalcFau
 #[tactic(auto, unfolding(crate::specs::Tokens::word_of))]
 fn word_of(alloc: Global, bytes: &[u8], column: u32) -> Result<Token, CalcFault>
     requires { list_all is_name_byte bytes.now ≡ true }
-    ensures ok { IfOk result (λ token. word_of column bytes.now ≡ Ok token) }
-    ensures err { IfErr result (λ told. IsTokenFault (word_of column bytes.now) told) }
+    ensures { TellsToken result (word_of column bytes.now) }
 {
     if starts_name(bytes) {
         name_token(alloc, bytes, column)
@@ -219,8 +218,7 @@ fn word_of(alloc: Global, bytes: &[u8], column: u32) -> Result<Token, CalcFault>
 }
 
 fn token_of(alloc: Global, bytes: &[u8], column: u32) -> Result<Token, CalcFault>
-    ensures ok { IfOk result (λ token. token_of column bytes.now ≡ Ok token) }
-    ensures err { IfErr result (λ told. IsTokenFault (token_of column bytes.now) told) }
+    ensures { TellsToken result (token_of column bytes.now) }
 {
     if are_name_bytes(bytes) {
         word_of(alloc, bytes, column)
@@ -231,11 +229,8 @@ fn token_of(alloc: Global, bytes: &[u8], column: u32) -> Result<Token, CalcFault
 
 // The token of a piece, where so many stand before it.
 fn next_token(alloc: Global, count: usize, bytes: &[u8], column: u32) -> Result<Placed, CalcFault>
-    ensures ok { IfOk result (λ token. next_token count
-        (record { column = column; bytes = bytes.now })
-        ≡ Ok token) }
-    ensures err { IfErr result (λ told. IsTokenFault
-        (next_token count (record { column = column; bytes = bytes.now })) told) }
+    ensures { TellsToken result
+        (next_token count (record { column = column; bytes = bytes.now })) }
 {
     if count >= TOKEN_LIMIT {
         return Err(fault(CalcKind::TooLong, column));

@@ -1,5 +1,5 @@
 -- One grid more on the shelf.
-use Rattle.std.proofs.Common.{◌≡◌, ◌≢◌, ℕ, zero, suc, ◌+◌, ◌<◌, Bool, true, false, cond, List, [], ◌∷◌, ◌++◌, length, take, Option, Some, None, Result, Ok, Err, IsSome, IfOk, IfErr, slice_get, refl, ap, sym, ◌∙◌, arith, add-one}
+use Rattle.std.proofs.Common.{◌≡◌, ◌≢◌, ℕ, zero, suc, ◌+◌, Bool, true, false, cond, List, [], ◌∷◌, ◌++◌, length, take, Option, Some, None, Result, Ok, Err, IsSome, IfOk, IfErr, slice_get, refl, ap, sym, ◌∙◌, arith, add-one}
 use Rattle.std.specs.List.{position_from}
 use Rattle.std.specs.Prelude.{IfSome}
 use Rattle.cell_core_devices.specs.Device.{Coming}
@@ -13,8 +13,8 @@ use Rattle.cell_core.specs.declared.shelf.ShelfFault.{ShelfFault}
 use Rattle.cell_core.specs.declared.shelf.ShelfFault.TheVariants.{Exists, OtherRegion, Memory}
 use Rattle.cell_ascii_meaning.specs.CellTexts.{grid_of}
 use Rattle.rcell_loading.specs.Sources.{Named, Tell}
-use Rattle.rcell_loading.specs.RunFaults.{IsOfInput, IsOfGrid, IsBeforeExecution, NamesItsGrid}
-use Rattle.rcell_loading.specs.parts.Refused.{of_shelf}
+use Rattle.rcell_loading.specs.RunFaults.{IsOfInput}
+use Rattle.rcell_loading.specs.parts.Refused.{of_shelf, IsGridFault}
 use Rattle.rcell_loading.specs.Loading.{shelf_with_map, shelf_placed, with_grid, shelf_from, then_grids}
 use Rattle.rcell_loading.specs.declared.run_fault.RunFault.{RunFault}
 use Rattle.rcell_loading.specs.declared.run_fault.RunFault.TheVariants.{GridRegion, GridTwice}
@@ -47,21 +47,11 @@ added-refused grid shelf name map Exists reason input = added-twice grid shelf n
 added-refused grid shelf name map OtherRegion reason input = added-other grid shelf name map reason.0 reason.1
 added-refused grid shelf name map Memory reason input = absurd input
 
--- it is told before execution, and names the grid
-pub refused-early : (grid : ℕ) (fault : ShelfFault) → IsBeforeExecution (of_shelf grid fault)
-refused-early grid Exists = tt
-refused-early grid OtherRegion = tt
-refused-early grid Memory = refl
-
-pub refused-told : (grid : ℕ) (fault : ShelfFault) (count : ℕ) → grid < count → NamesItsGrid count (of_shelf grid fault)
-refused-told grid Exists count within = within
-refused-told grid OtherRegion count within = within
-refused-told grid Memory count within = tt
-
-pub refused-whose : (grid : ℕ) (fault : ShelfFault) → IsOfGrid grid (of_shelf grid fault)
-refused-whose grid Exists = refl
-refused-whose grid OtherRegion = refl
-refused-whose grid Memory = tt
+-- it is the grid's, and told before execution
+pub refused-whose : (grid : ℕ) (fault : ShelfFault) → IsGridFault grid (of_shelf grid fault)
+refused-whose grid Exists = record { early = tt; told = λ count within. within; whose = refl }
+refused-whose grid OtherRegion = record { early = tt; told = λ count within. within; whose = refl }
+refused-whose grid Memory = record { early = refl; told = λ count within. tt; whose = tt }
 
 -- the first map makes the shelf
 pub added-first : (grid : ℕ) (region : RegionValue) (name : List ℕ) (map : Grid) → map.region ≡ region → shelf_with_map grid (record { region = region; names = []; maps = [] }) name map None ≡ Ok (record { region = region; names = name ∷ []; maps = map ∷ [] })

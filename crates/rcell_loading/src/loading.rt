@@ -3,10 +3,10 @@
 ghost use Rattle.std.specs.Prelude.{ℕ, ◌≡◌, ◌+◌, ◌<◌, List, IfOk, IfErr, IfSome, Ok, Err, Some, length, vec_len};
 ghost use Rattle.cell_core_values.specs.Name.{place_of};
 ghost use Rattle.cell_ascii_meaning.specs.CellTexts.{grid_of};
-ghost use Rattle.rcell_loading.specs.RunFaults.{IsOfInput, IsOfGrid, IsBeforeExecution, NamesItsGrid};
+ghost use Rattle.rcell_loading.specs.RunFaults.{IsOfInput, IsBeforeExecution, NamesItsGrid};
 ghost use Rattle.rcell_loading.specs.Loading.{shelf_with_map, shelf_placed, with_grid, shelf_of};
 ghost use Rattle.rcell_loading.specs.Sources.{Named, Tell};
-ghost use Rattle.rcell_loading.specs.parts.Refused.{of_shelf};
+ghost use Rattle.rcell_loading.specs.parts.Refused.{of_shelf, IsGridFault};
 
 use crate::run_fault::RunFault;
 use cell_ascii::grid_reader::read_map;
@@ -39,9 +39,7 @@ fn shelf_with_map(
         ≡ Ok s) }
     ensures fault { IfErr result (λ f. IsOfInput f
         → shelf_with_map grid shelf name map (place_of name shelf.names) ≡ Err f) }
-    ensures early { IfErr result IsBeforeExecution }
-    ensures told { (count : ℕ) → grid < count → IfErr result (NamesItsGrid count) }
-    ensures whose { IfErr result (IsOfGrid grid) }
+    ensures whose { IfErr result (IsGridFault grid) }
 {
     match shelf.add(name, map) {
         Ok(()) => Ok(shelf),
@@ -59,9 +57,7 @@ fn shelf_or_new(
 ) -> Result<Shelf, RunFault>
     ensures ok { IfOk result (λ s. shelf_placed grid shelf name map ≡ Ok s) }
     ensures fault { IfErr result (λ f. IsOfInput f → shelf_placed grid shelf name map ≡ Err f) }
-    ensures early { IfErr result IsBeforeExecution }
-    ensures told { (count : ℕ) → grid < count → IfErr result (NamesItsGrid count) }
-    ensures whose { IfErr result (IsOfGrid grid) }
+    ensures whose { IfErr result (IsGridFault grid) }
 {
     match shelf {
         Some(shelf) => shelf_with_map(shelf, grid, name, map),
@@ -84,9 +80,7 @@ fn shelf_with_grid<R: Source + Drop>(
         (λ s. IfSome (R.coming source) (λ c. with_grid grid shelf name (grid_of c) ≡ Ok s)) }
     ensures fault { IfErr result (λ f. IsOfInput f
         → IfSome (R.coming source) (λ c. with_grid grid shelf name (grid_of c) ≡ Err f)) }
-    ensures early { IfErr result IsBeforeExecution }
-    ensures told { (count : ℕ) → grid < count → IfErr result (NamesItsGrid count) }
-    ensures whose { IfErr result (IsOfGrid grid) }
+    ensures whose { IfErr result (IsGridFault grid) }
 {
     let map = match read_map(alloc, source) {
         Ok(map) => map,

@@ -5,7 +5,7 @@ ghost use Rattle.cell_core.specs.Grid.{cell_at, no_labels};
 ghost use Rattle.cell_calc_binding.specs.Reach.{top_of};
 ghost use Rattle.cell_calc_operators.specs.Applied.{spot};
 ghost use Rattle.cell_calc_binding.specs.Value.{value};
-ghost use Rattle.rcell_making.specs.parts.WindowsSet.{AreSet, picked_maps};
+ghost use Rattle.rcell_making.specs.parts.WindowsSet.{AreSet, HasValues, picked_maps};
 
 use cell_calc::rows_of_values::eval_row;
 use cell_calc::window::RowWindow;
@@ -59,8 +59,7 @@ fn advance_windows(
     requires within { All (λ place. place < length shelf.now.maps) places.now }
     requires set { AreSet bound.now (length windows.old) row windows.old
         (picked_maps places.now shelf.now.maps) }
-    ensures count { length windows.new ≡ length windows.old }
-    ensures set { row + 1 < shelf.now.region.rows
+    ensures { row + 1 < shelf.now.region.rows
         → AreSet bound.now (length windows.old) (row + 1) windows.new
         (picked_maps places.now shelf.now.maps) }
 {
@@ -82,12 +81,8 @@ fn evaluate_over(
 ) -> Result<CellMap, Memory>
     requires places { top_of bound.now ≡ length places.now }
     requires within { All (λ place. place < length shelf.now.maps) places.now }
-    ensures region { IfOk result (λ m. m.region ≡ shelf.now.region) }
-    ensures labels { IfOk result (λ m. m.labels ≡ no_labels) }
-    ensures cells { IfOk result (λ m. (r c : ℕ) → r < shelf.now.region.rows
-        → c < shelf.now.region.cols
-        → cell_at m r c
-        ≡ value bound.now (picked_maps places.now shelf.now.maps) (spot shelf.now.region r c)) }
+    ensures { IfOk result (HasValues bound.now shelf.now.region
+        (picked_maps places.now shelf.now.maps)) }
 {
     let region = shelf.region();
     let mut windows = open_windows(alloc, bound, places, shelf)?;

@@ -1,32 +1,24 @@
 -- What a line is that is read without a fault, and what it spells.
-use Rattle.std.proofs.Common.{◌≡◌, ℕ, ◌≤◌, Bool, true, false, cond, List, [], ◌∷◌, length, Option, Some, None, Result, Ok, Err, inl, inr, codes, refl, ap, sym, ◌∙◌, subst}
-use Rattle.std.specs.Prelude.{◌⊎◌, ◌&&◌, ◌||◌, is_some, nat_lt, bytes_eq, unwrap_or}
+use Rattle.std.proofs.Common.{◌≡◌, ℕ, ◌≤◌, Bool, true, false, cond, List, [], ◌∷◌, length, Option, Some, None, Result, Ok, Err, inl, inr, codes, refl, ap, sym, ◌∙◌, subst, rules}
+use Rattle.std.specs.Prelude.{◌⊎◌, ◌&&◌, ◌||◌, is_some, bytes_eq, unwrap_or}
 use Rattle.std.specs.Cmp.Lexicographic.{bytes_decides}
 use Rattle.std.specs.List.{flat_map}
-use Rattle.std.specs.Option.{ok_or}
-use Rattle.std.proofs.lemmas.Bool.{ltb-false, le-ltb}
+use Rattle.std.proofs.lemmas.Bool.{ltb-false}
 use Rattle.cell_ascii_meaning.specs.Header.{usual_null}
-use Rattle.cell_calc_binding.specs.Binding.{with_places}
-use Rattle.cell_core_values.specs.Name.{is_name, place_of}
-use Rattle.cell_calc_language.specs.Assignment.{IsAssignmentText}
-use Rattle.cell_calc_language.specs.Unknown.{first_unknown}
-use Rattle.cell_calc_language.specs.declared.assignment.Assignment.{Assignment}
+use Rattle.cell_core_values.specs.Name.{place_of}
 use Rattle.cell_stats_combinations.specs.Combinations.{Combination}
-use Rattle.cell_stats_combinations.specs.ComboReading.{combo_of}
 use Rattle.cell_stats_combinations.specs.ComboText.{SpellsCombination}
 use Rattle.cell_stats_combinations.proofs.ReadingLemmas.{combinations-are-read}
-use Rattle.cell_stats_combinations.specs.declared.combination_text.ComboFault.{ComboFault}
 use Rattle.cell_core_text.specs.Answers.{◌>>=◌}
 use Rattle.cell_core_text.specs.Words.{words_of}
-use Rattle.rcell_script_commands.specs.Commands.{as_whole, as_opened, head_named, head_of_words, is_mapcalc, IsShortHead, IsHeadOf, IsHead, clump_of, mapcalc_of, IsMapcalc, out_ascii_of, reclass_of, after_of, printed_with, stats_of}
+use Rattle.rcell_script_commands.specs.Commands.{as_whole, as_opened, head_named, head_of_words, is_mapcalc, IsHead, clump_of, IsMapcalc, out_ascii_of, reclass_of, after_of, printed_with, stats_of}
 use Rattle.rcell_script_commands.specs.ScriptFaults.{in_script}
-use Rattle.rcell_script_commands.specs.Skipped.{is_comment, IsSkipped}
-use Rattle.rcell_script_options.specs.Options.{letters_in, values_of, IsOptional, SpellsText, SpellsNames}
+use Rattle.rcell_script_commands.specs.Skipped.{IsSkipped}
+use Rattle.rcell_script_options.specs.Options.{letters_in, values_of, IsOptional, SpellsNames}
 use Rattle.rcell_script_options.specs.Maps.{from_to, input_place, input_places}
 use Rattle.rcell_script_options.specs.InputPlaces.{places_of}
 use Rattle.rcell_script_options.specs.OptionReading.{Given, is_torn, no_flags, with_letters, options_of}
 use Rattle.rcell_script_commands.specs.RClump.{joining_of, SpellsClump}
-use Rattle.rcell_script_commands.specs.RMapcalc.{assignment_text}
 use Rattle.rcell_script_commands.specs.RStats.{skip_of, SpellsStats}
 use Rattle.rcell_script_commands.specs.RReclass.{SpellsReclass}
 use Rattle.rcell_script_commands.specs.ROutAscii.{SpellsOutAscii}
@@ -36,7 +28,6 @@ use Rattle.rcell_script_commands.specs.declared.script_fault.ScriptKind.TheVaria
 use Rattle.rcell_script_commands.specs.declared.heads.Head.{Head}
 use Rattle.rcell_script_commands.specs.declared.heads.Head.TheVariants.{Skipped, Whole, Opened}
 use Rattle.rcell_script_options.specs.declared.option_fault.OptionFault.{OptionFault}
-use Rattle.rcell_script_options.specs.declared.option_fault.OptionFault.TheVariants.{BadOption, MissingOption, UnknownMap}
 use Rattle.rcell_script_options.specs.declared.options.Form.TheVariants as form
 use Rattle.rcell_script_commands.specs.declared.command.Command.{Command}
 use Rattle.rcell_script_commands.specs.declared.command.Command.TheVariants.{Mapcalc, Reclass, Clump, Stats, OutAscii}
@@ -70,22 +61,7 @@ record Maker (known : List (List ℕ)) (given : Given) (place : ℕ) (target : L
 
 from_to-sound : (known : List (List ℕ)) (given : Given) (maps : ℕ × List ℕ) → from_to known given ≡ Ok maps
     → Maker known given maps.0 maps.1
-from_to-sound known given maps e = by given.input given.output refl refl
-  where
-    found : (input output : List ℕ) (place made : Option ℕ) → given.input ≡ Some input → given.output ≡ Some output
-        → place_of input known ≡ place → place_of output known ≡ made → Maker known given maps.0 maps.1
-    found input output None made i o p n = let f : Err _ ≡ Ok maps = rw (i, o, p) at e in cc
-    found input output (Some place) (Some old) i o p n = let f : Err _ ≡ Ok maps = rw (i, o, p, n) at e in cc
-    found input output (Some place) None i o p n =
-        let f : Ok (place, output) ≡ Ok maps = rw (i, o, p, n) at e in
-        let same : (place, output) ≡ maps = cc in
-        subst (λ (m : ℕ × List ℕ). Maker known given m.0 m.1) same (record { input = input; input_is = i; read = p; output_is = o; made = n })
-
-    by : (input output : Option (List ℕ)) → given.input ≡ input → given.output ≡ output
-        → Maker known given maps.0 maps.1
-    by None output i o = let f : Err _ ≡ Ok maps = rw i at e in cc
-    by (Some input) None i o = let f : Err _ ≡ Ok maps = rw (i, o) at e in cc
-    by (Some input) (Some output) i o = found input output (place_of input known) (place_of output known) i o refl refl
+from_to-sound known given maps e = search rules
 
 from_to-complete : (known : List (List ℕ)) (given : Given) (place : ℕ) (target : List ℕ)
     → Maker known given place target → from_to known given ≡ Ok (place, target)
@@ -112,22 +88,7 @@ in_script-ok (Err fault) x e = cc
 reclass-sound : (known : List (List ℕ)) (line : List ℕ) (words : List (List ℕ)) (maps : ℕ × List ℕ)
     → words_of line ≡ codes "r.reclass" ∷ words
     → reclass_of known words ≡ Ok maps → SpellsReclass known line maps.0 maps.1
-reclass-sound known line words maps is e =
-    let w = went (from_to known) (options_of form.Reclass words) maps e in
-    let are = options-sound form.Reclass words w.value w.is in
-    let m = from_to-sound known w.value maps w.goes in
-    record {
-      words = words;
-      named = is;
-      maps = record {
-        each = are.each;
-        input = m.input;
-        input_is = subst (λ o. IsOptional (SpellsText is_name) (values_of (codes "input") words) o) m.input_is are.input;
-        read = m.read;
-        output_is = subst (λ o. IsOptional (SpellsText is_name) (values_of (codes "output") words) o) m.output_is are.output;
-        made = m.made;
-      };
-    }
+reclass-sound known line words maps is e = search (rules, went, options-sound, from_to-sound, named, codes)
 
 -- what r.reclass and r.clump give
 abbrev maker_given : List (List ℕ) → List ℕ → List ℕ → Given
@@ -156,25 +117,7 @@ reclass-complete known line place target s =
 clump-sound : (known : List (List ℕ)) (line : List ℕ) (words : List (List ℕ)) (command : Command)
     → words_of line ≡ codes "r.clump" ∷ words
     → clump_of known words ≡ Ok command → SpellsCommand known line command
-clump-sound known line words command is e =
-    let w = went (λ given. from_to known given >>= (λ maps. Ok (Clump maps.0 maps.1 (joining_of given.flags.corners)))) (options_of form.Clump words) command e in
-    let v = went (λ maps. Ok (Clump maps.0 maps.1 (joining_of w.value.flags.corners))) (from_to known w.value) command w.goes in
-    let are = options-sound form.Clump words w.value w.is in
-    let m = from_to-sound known w.value v.value v.is in
-    let same : Clump v.value.0 v.value.1 (joining_of w.value.flags.corners) ≡ command = let f = v.goes in cc in
-    subst (λ c. SpellsCommand known line c) same (record {
-      words = words;
-      named = is;
-      maps = record {
-        each = are.each;
-        input = m.input;
-        input_is = subst (λ o. IsOptional (SpellsText is_name) (values_of (codes "input") words) o) m.input_is are.input;
-        read = m.read;
-        output_is = subst (λ o. IsOptional (SpellsText is_name) (values_of (codes "output") words) o) m.output_is are.output;
-        made = m.made;
-      };
-      joining_is = ap (λ (flags : Flags). joining_of flags.corners) are.flags;
-    })
+clump-sound known line words command is e = search (rules, went, options-sound, from_to-sound, named, codes)
 
 clump-complete : (known : List (List ℕ)) (line : List ℕ) (place : ℕ) (target : List ℕ) (joining : _) (s : SpellsClump known line place target joining) → clump_of known s.words ≡ Ok (Clump place target joining)
 clump-complete known line place target joining s =
@@ -208,16 +151,7 @@ after-sound : (width : ℕ) (values : List (List ℕ)) (text : Option (List ℕ)
     → IsGivenText values text → after_of width text ≡ Ok after → IsAfter width values after
 after-sound width values None None none e = none
 after-sound width values None (Some combination) none e = let f : None ≡ Some combination = cc in cc
-after-sound width values (Some text) after (value, is, same) e = by (combo_of width text) refl after e
-  where
-    by : (read : Result Combination ComboFault) → combo_of width text ≡ read → (after : Option Combination)
-        → after_of width (Some text) ≡ Ok after → IsAfter width values after
-    by (Err fault) r after e = let f : Err _ ≡ Ok after = rw r at e in cc
-    by (Ok combination) r None e = let f : Ok (Some combination) ≡ Ok None = rw r at e in cc
-    by (Ok combination) r (Some other) e =
-        let f : Ok (Some combination) ≡ Ok (Some other) = rw r at e in
-        let that : combination ≡ other = cc in
-        (value, is, (combinations-are-read width value other).0 (ap (combo_of width) same ∙ r ∙ ap Ok that))
+after-sound width values (Some text) after (value, is, same) e = search (rules, combinations-are-read)
 
 -- no combination of no text
 after-none : (width : ℕ) (text : Option (List ℕ)) (after : Option Combination) → is_some text ≡ false
@@ -260,19 +194,7 @@ record Placed (known : List (List ℕ)) (given : Given) (places : List ℕ) : Ty
 
 input_places-sound : (known : List (List ℕ)) (given : Given) (places : List ℕ) → input_places known given ≡ Ok places
     → Placed known given places
-input_places-sound known given places e = by given.inputs refl e
-  where
-    found : (inputs : List (List ℕ)) (torn : Bool) (place : Option (List ℕ)) → given.inputs ≡ Some inputs
-        → is_torn given ≡ torn → places_of known inputs ≡ place
-        → cond torn (Err BadOption) (ok_or place UnknownMap) ≡ Ok places → Placed known given places
-    found inputs true place i t p f = cc
-    found inputs false None i t p f = cc
-    found inputs false (Some other) i t p f = let same : other ≡ places = cc in record { inputs = inputs; inputs_are = i; read = p ∙ ap Some same; together = t }
-
-    by : (inputs : Option (List (List ℕ))) → given.inputs ≡ inputs
-        → (ok_or inputs MissingOption >>= (λ names. cond (is_torn given) (Err BadOption) (ok_or (places_of known names) UnknownMap))) ≡ Ok places → Placed known given places
-    by None i f = cc
-    by (Some inputs) i f = found inputs (is_torn given) (places_of known inputs) i refl refl f
+input_places-sound known given places e = search rules
 
 input_places-complete : (known : List (List ℕ)) (given : Given) (inputs : List (List ℕ)) (places : List ℕ)
     → given.inputs ≡ Some inputs → is_torn given ≡ false → places_of known inputs ≡ Some places
@@ -321,10 +243,7 @@ stats-read : (known words : List (List ℕ)) (given : Given) (places : List ℕ)
     → options_of form.Stats words ≡ Ok given → input_places known given ≡ Ok places
     → after_of (length places) given.after ≡ Ok after
     → stats_of known words ≡ Ok (Stats places (printed_with given after))
-stats-read known words given places after o p a =
-    ap (λ r. in_script r >>= stats_with known) o
-    ∙ ap (λ r. in_script r >>= stats_at given) p
-    ∙ ap (λ r. r >>= (λ after. Ok (Stats places (printed_with given after)))) a
+stats-read known words given places after o p a = search rules
 
 printed-same : (options : StatsOptions) (skip : Skip) (labels counts cells : Bool) (separator : ℕ) (null_text : List ℕ) → skip ≡ options.skip → labels ≡ options.labels → counts ≡ options.counts
     → cells ≡ options.cells → separator ≡ options.separator → null_text ≡ options.null_text
@@ -361,18 +280,7 @@ record Found (known : List (List ℕ)) (given : Given) (place : ℕ) : Type 0 wh
 
 input_place-sound : (known : List (List ℕ)) (given : Given) (place : ℕ) → input_place known given ≡ Ok place
     → Found known given place
-input_place-sound known given place e = by given.input refl e
-  where
-    found : (input : List ℕ) (at : Option ℕ) → given.input ≡ Some input → place_of input known ≡ at
-        → ok_or at UnknownMap ≡ Ok place → Found known given place
-    found input None i p f = cc
-    found input (Some other) i p f = let same : other ≡ place = cc in record { input = input; input_is = i; read = p ∙ ap Some same }
-
-    by : (input : Option (List ℕ)) → given.input ≡ input
-        → (ok_or input MissingOption >>= (λ input. ok_or (place_of input known) UnknownMap)) ≡ Ok place
-        → Found known given place
-    by None i f = cc
-    by (Some input) i f = found input (place_of input known) i refl f
+input_place-sound known given place e = search rules
 
 input_place-complete : (known : List (List ℕ)) (given : Given) (input : List ℕ) (place : ℕ)
     → given.input ≡ Some input → place_of input known ≡ Some place → input_place known given ≡ Ok place
@@ -381,21 +289,7 @@ input_place-complete known given input place i p = rw (i, p) refl
 out_ascii-sound : (known : List (List ℕ)) (line : List ℕ) (words : List (List ℕ)) (command : Command)
     → words_of line ≡ codes "r.out.ascii" ∷ words
     → out_ascii_of known words ≡ Ok command → SpellsCommand known line command
-out_ascii-sound known line words command is e =
-    let w = went (λ given. input_place known given >>= (λ place. Ok (OutAscii place (unwrap_or given.null_text usual_null)))) (options_of form.OutAscii words) command e in
-    let v = went (λ place. Ok (OutAscii place (unwrap_or w.value.null_text usual_null))) (input_place known w.value) command w.goes in
-    let found = input_place-sound known w.value v.value v.is in
-    let same : OutAscii v.value (unwrap_or w.value.null_text usual_null) ≡ command = let g = v.goes in cc in
-    let are = options-sound form.OutAscii words w.value w.is in
-    subst (λ c. SpellsCommand known line c) same (record {
-      words = words;
-      named = is;
-      each = are.each;
-      input = found.input;
-      input_is = subst (λ o. IsOptional (SpellsText is_name) (values_of (codes "input") words) o) found.input_is are.input;
-      read = found.read;
-      null_is = (w.value.null_text, are.null_text, refl);
-    })
+out_ascii-sound known line words command is e = search (rules, went, input_place-sound, options-sound, named, codes)
 
 out_ascii-complete : (known : List (List ℕ)) (line : List ℕ) (place : ℕ) (null_text : List ℕ) (s : SpellsOutAscii known line place null_text) → out_ascii_of known s.words ≡ Ok (OutAscii place null_text)
 out_ascii-complete known line place null_text s =
@@ -424,21 +318,6 @@ abbrev pub Says : List (List ℕ) → List ℕ → Head → Type 0
 Says known line Skipped = IsSkipped line
 Says known line (Whole command) = SpellsCommand known line command
 Says known line (Opened place target) = SpellsReclass known line place target
-
-assigned-sound : (known : List (List ℕ)) (line : List ℕ) (words : List (List ℕ)) (a : Assignment) (head : Head)
-    → words_of line ≡ codes "r.mapcalc" ∷ words
-    → IsAssignmentText (assignment_text line) a → mapcalc_of known a ≡ Ok head → Says known line head
-assigned-sound known line words a head is assigned e = by (first_unknown known a.expr) (place_of a.target known) refl refl
-  where
-    by : (unknown place : Option ℕ) → first_unknown known a.expr ≡ unknown → place_of a.target known ≡ place
-        → Says known line head
-    by (Some column) place u p = let f : Err _ ≡ Ok head = rw u at e in cc
-    by None (Some place) u p = let f : Err _ ≡ Ok head = rw (u, p) at e in cc
-    by None None u p =
-        let f : Ok (Whole (Mapcalc a.target (with_places known a.expr))) ≡ Ok head = rw (u, p) at e in
-        let same : Whole (Mapcalc a.target (with_places known a.expr)) ≡ head = cc in
-        subst (λ h. Says known line h) same
-        (record { words = words; named = is; assignment = a; says = assigned; read = u; made = p; target_is = refl; bound_is = refl })
 
 whole-sound : (known : List (List ℕ)) (line : List ℕ) (head : Head) (read : Result Command ScriptKind)
     → as_whole read ≡ Ok head
@@ -479,59 +358,33 @@ named-sound known line w ws head is e =
 
 nothing-sound : (known : List (List ℕ)) (line : List ℕ) (head : Head) (ws : List (List ℕ)) → words_of line ≡ ws
     → say_nothing ws ≡ true → ◌≡◌ {A = Result Head ScriptKind} (Ok Skipped) (Ok head) → Says known line head
-nothing-sound known line head ws is e f =
-    let same : Skipped ≡ head = cc in
-    subst (λ h. Says known line h) same (sym (say_nothing-trimmed line) ∙ ap say_nothing is ∙ e)
+nothing-sound known line head ws is e f = search (rules, say_nothing-trimmed, say_nothing)
 
 words-sound : (known : List (List ℕ)) (line : List ℕ) (head : Head) (ws : List (List ℕ)) → words_of line ≡ ws
     → head_of_words known ws ≡ Ok head → Says known line head
 words-sound known line head [] is e = nothing-sound known line head [] is refl e
-words-sound known line head (w ∷ ws) is e = by (either {A = Result Head ScriptKind} (is_comment w) (Ok Skipped) (head_named known w ws) (Ok head) e)
-  where
-    by : ((is_comment w ≡ true) × (◌≡◌ {A = Result Head ScriptKind} (Ok Skipped) (Ok head))) ⊎ ((is_comment w ≡ false) × (head_named known w ws ≡ Ok head)) → Says known line head
-    by (inl (c, f)) = nothing-sound known line head (w ∷ ws) is c f
-    by (inr (c, f)) = named-sound known line w ws head is f
+words-sound known line head (w ∷ ws) is e = search (rules, either, nothing-sound, named-sound)
 
 mapcalc-sound : (known : List (List ℕ)) (line : List ℕ) (head : Head) (ws : List (List ℕ)) → words_of line ≡ ws
     → is_mapcalc ws ≡ true → IsMapcalc known line (Ok head) → Says known line head
 mapcalc-sound known line head [] is m h = cc
 mapcalc-sound known line head (w ∷ ws) is m (inr (fault, told, other, e)) = cc
-mapcalc-sound known line head (w ∷ ws) is m (inl (a, assigned, e)) =
-    assigned-sound known line ws a head (renamed line w (codes "r.mapcalc") ws is m) assigned e
+mapcalc-sound known line head (w ∷ ws) is m (inl (a, assigned, e)) = search rules
 
 -- what is read of a line without a fault is what it says
 pub head-says : (known : List (List ℕ)) (line : List ℕ) (head : Head) → IsHead known line (Ok head)
     → (length line ≤ 65535) × Says known line head
-head-says known line head h = by (nat_lt 65535 (length line)) refl h
-  where
-    short : (mapcalc : Bool) → is_mapcalc (words_of line) ≡ mapcalc → IsShortHead mapcalc known line (Ok head)
-        → Says known line head
-    short true m is = mapcalc-sound known line head (words_of line) refl m is
-    short false m is = words-sound known line head (words_of line) refl is
-
-    by : (long : Bool) → nat_lt 65535 (length line) ≡ long → IsHeadOf long known line (Ok head)
-        → (length line ≤ 65535) × Says known line head
-    by true l e = cc
-    by false l is = (ltb-false 65535 (length line) l, short (is_mapcalc (words_of line)) refl is)
-
-short-head : (known : List (List ℕ)) (line : List ℕ) (head : Result Head ScriptKind) → length line ≤ 65535
-    → IsShortHead (is_mapcalc (words_of line)) known line head → IsHead known line head
-short-head known line head s h = subst (λ long. IsHeadOf long known line head) (sym (le-ltb 65535 (length line) s)) h
+head-says known line head h = search (rules, mapcalc-sound, words-sound, ltb-false)
 
 -- a line whose first word is no r.mapcalc
 other-head : (known : List (List ℕ)) (line : List ℕ) (head : Result Head ScriptKind) (ws : List (List ℕ))
     → length line ≤ 65535 → words_of line ≡ ws → is_mapcalc ws ≡ false
     → head_of_words known ws ≡ head → IsHead known line head
-other-head known line head ws s is m e =
-    short-head known line head s (subst (λ mapcalc. IsShortHead mapcalc known line head) (sym (ap is_mapcalc is ∙ m)) (ap (head_of_words known) is ∙ e))
+other-head known line head ws s is m e = search rules
 
 nothing-mapcalc : (ws : List (List ℕ)) → say_nothing ws ≡ true → is_mapcalc ws ≡ false
 nothing-mapcalc [] e = refl
-nothing-mapcalc (w ∷ ws) e = by (bytes_eq w (codes "r.mapcalc")) refl
-  where
-    by : (mapcalc : Bool) → bytes_eq w (codes "r.mapcalc") ≡ mapcalc → bytes_eq w (codes "r.mapcalc") ≡ false
-    by false m = m
-    by true m = let f : is_comment (codes "r.mapcalc") ≡ true = ap is_comment (sym (named w (codes "r.mapcalc") m)) ∙ e in cc
+nothing-mapcalc (w ∷ ws) e = search rules
 
 nothing-head : (known : List (List ℕ)) (ws : List (List ℕ)) → say_nothing ws ≡ true
     → head_of_words known ws ≡ Ok Skipped
@@ -544,16 +397,11 @@ pub says-head : (known : List (List ℕ)) (line : List ℕ) (head : Head) → le
 says-head known line Skipped s says =
     let e : say_nothing (words_of line) ≡ true = say_nothing-trimmed line ∙ says in
     other-head known line (Ok Skipped) (words_of line) s refl (nothing-mapcalc (words_of line) e) (nothing-head known (words_of line) e)
-says-head known line (Whole (Mapcalc target bound)) s says =
-    short-head known line (Ok (Whole (Mapcalc target bound))) s
-    (subst (λ mapcalc. IsShortHead mapcalc known line (Ok (Whole (Mapcalc target bound)))) (sym (ap is_mapcalc says.named))
-    (inl (says.assignment, says.says, rw (says.read, says.made) (rw (says.target_is, says.bound_is) refl))))
+says-head known line (Whole (Mapcalc target bound)) s says = search rules
 says-head known line (Whole (Reclass place target rules)) s says = absurd says
 says-head known line (Whole (Clump place target joining)) s says =
     other-head known line (Ok (Whole (Clump place target joining))) (codes "r.clump" ∷ says.words) s says.named refl (ap (λ r. as_whole (in_script r)) (clump-complete known line place target joining says))
-says-head known line (Whole (Stats places options)) s says =
-    other-head known line (Ok (Whole (Stats places options))) (codes "r.stats" ∷ says.words) s says.named refl (ap as_whole (stats-complete known line places options says))
+says-head known line (Whole (Stats places options)) s says = search (rules, other-head, codes, named, stats-complete)
 says-head known line (Whole (OutAscii place null_text)) s says =
     other-head known line (Ok (Whole (OutAscii place null_text))) (codes "r.out.ascii" ∷ says.words) s says.named refl (ap (λ r. as_whole (in_script r)) (out_ascii-complete known line place null_text says))
-says-head known line (Opened place target) s says =
-    other-head known line (Ok (Opened place target)) (codes "r.reclass" ∷ says.words) s says.named refl (ap (λ r. as_opened (in_script r)) (reclass-complete known line place target says))
+says-head known line (Opened place target) s says = search (rules, other-head, codes, named, reclass-complete)

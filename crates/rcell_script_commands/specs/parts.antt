@@ -1,2 +1,3 @@
--- What only conversions of faults and proofs speak of.
+-- What only conversions of faults, private functions and proofs speak of.
 pub mod CalcFaults
+pub mod Giving

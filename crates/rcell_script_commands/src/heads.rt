@@ -1,12 +1,12 @@
 //! The command of a line.
 
 ghost use Rattle.std.specs.Prelude.{◌≡◌, IfOk};
-ghost use Rattle.cell_core_text.specs.Answers.{Answers};
 ghost use Rattle.rcell_script_options.specs.OptionReading.{texts};
 ghost use Rattle.rcell_script_commands.specs.Commands.{head_named, head_of_words, is_mapcalc, IsHead};
 ghost use Rattle.rcell_script_commands.specs.FittingCommands.{FitsHead};
 ghost use Rattle.rcell_script_commands.specs.ScriptFaults.{Reads};
 ghost use Rattle.rcell_script_commands.specs.Skipped.{is_comment};
+ghost use Rattle.rcell_script_commands.specs.parts.Giving.{GivesScript};
 
 use crate::command::Command;
 use crate::r_clump::clump_of;
@@ -51,8 +51,7 @@ fn head_named(
     name: &[u8],
     words: &[&[u8]],
 ) -> Result<Head, ScriptKind>
-    ensures head { Answers ScriptKind.Memory (λ head. head) result
-        (head_named known.now name.now (texts words.now)) }
+    ensures head { GivesScript result (head_named known.now name.now (texts words.now)) }
     ensures fits { IfOk result (FitsHead known.now) }
 {
     if name == b"r.stats".as_slice() {
@@ -71,8 +70,7 @@ fn head_named(
 
 // What words are.
 fn head_of_words(alloc: Global, known: &Names, words: &[&[u8]]) -> Result<Head, ScriptKind>
-    ensures head { Answers ScriptKind.Memory (λ head. head) result
-        (head_of_words known.now (texts words.now)) }
+    ensures head { GivesScript result (head_of_words known.now (texts words.now)) }
     ensures fits { IfOk result (FitsHead known.now) }
 {
     let Some((name, others)) = words.split_first() else {

@@ -1,11 +1,11 @@
 //! The line of an r.mapcalc.
 
 ghost use Rattle.std.specs.Prelude.{◌≡◌, ◌≤◌, IfOk, length};
-ghost use Rattle.cell_core_text.specs.Answers.{Answers};
 ghost use Rattle.rcell_script_commands.specs.RMapcalc.{text_after_command, after_command, assignment_text};
 ghost use Rattle.rcell_script_commands.specs.Commands.{mapcalc_of, IsMapcalc};
 ghost use Rattle.rcell_script_commands.specs.FittingCommands.{FitsHead};
 ghost use Rattle.rcell_script_commands.specs.ScriptFaults.{Reads};
+ghost use Rattle.rcell_script_commands.specs.parts.Giving.{GivesScript};
 
 use crate::command::Command;
 use crate::heads::Head;
@@ -53,7 +53,7 @@ fn assignment_text(alloc: Global, line: &[u8]) -> Result<Vec<u8>, Memory>
 // The map that an assignment makes.
 #[tactic(auto, using(crate::proofs::MapcalcLemmas::unbound, crate::proofs::MapcalcLemmas::fits_known))]
 fn mapcalc_with(alloc: Global, known: &Names, a: Assignment) -> Result<Head, ScriptKind>
-    ensures head { Answers ScriptKind.Memory (λ head. head) result (mapcalc_of known.now a) }
+    ensures head { GivesScript result (mapcalc_of known.now a) }
     ensures fits { IfOk result (FitsHead known.now) }
 {
     let Assignment { target, expr } = a;

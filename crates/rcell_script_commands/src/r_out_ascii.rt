@@ -1,8 +1,7 @@
 //! The words of r.out.ascii.
 
 ghost use Rattle.std.specs.Prelude.{IfOk};
-ghost use Rattle.cell_core_text.specs.Answers.{Answers};
-ghost use Rattle.rcell_script_options.specs.OptionReading.{texts};
+ghost use Rattle.rcell_script_options.specs.OptionReading.{GivesOption, texts};
 ghost use Rattle.rcell_script_commands.specs.Commands.{out_ascii_of};
 ghost use Rattle.rcell_script_commands.specs.FittingCommands.{FitsCommand};
 
@@ -24,8 +23,7 @@ pub(crate) fn out_ascii_of(
     known: &Names,
     words: &[&[u8]],
 ) -> Result<Command, OptionFault>
-    ensures command { Answers OptionFault.Memory (λ command. command) result
-        (out_ascii_of known.now (texts words.now)) }
+    ensures command { GivesOption result (out_ascii_of known.now (texts words.now)) }
     ensures fits { IfOk result (FitsCommand known.now) }
 {
     let options = options_of(alloc, Form::OutAscii, words)?;

@@ -1,10 +1,9 @@
 //! The words of r.reclass.
 
 ghost use Rattle.std.specs.Prelude.{◌≡◌, ◌<◌, IfOk, None, length};
-ghost use Rattle.cell_core_text.specs.Answers.{Answers};
 ghost use Rattle.cell_core_values.specs.Name.{place_of};
 ghost use Rattle.rcell_script_commands.specs.Commands.{reclass_of};
-ghost use Rattle.rcell_script_options.specs.OptionReading.{texts};
+ghost use Rattle.rcell_script_options.specs.OptionReading.{GivesOption, texts};
 
 use cell_core::name::{Name, Names};
 use rcell_script_options::maps::from_to;
@@ -23,8 +22,7 @@ pub(crate) fn reclass_of(
     known: &Names,
     words: &[&[u8]],
 ) -> Result<(usize, Name), OptionFault>
-    ensures maps { Answers OptionFault.Memory (λ maps. maps) result
-        (reclass_of known.now (texts words.now)) }
+    ensures maps { GivesOption result (reclass_of known.now (texts words.now)) }
     ensures within { IfOk result (λ maps. maps.0 < length known.now) }
     ensures new { IfOk result (λ maps. place_of maps.1 known.now ≡ None) }
 {

@@ -2,11 +2,11 @@
 
 ghost use Rattle.std.specs.Prelude.{◌≡◌, ◌≤◌, IfOk, IfSome, length};
 ghost use Rattle.std.specs.Option.{option_map};
-ghost use Rattle.cell_core_text.specs.Answers.{Answers};
 ghost use Rattle.rcell_script_options.specs.OptionReading.{texts};
 ghost use Rattle.rcell_script_commands.specs.RStats.{skip_of};
 ghost use Rattle.rcell_script_commands.specs.Commands.{after_of, printed_with, stats_of};
 ghost use Rattle.rcell_script_commands.specs.FittingCommands.{FitsCommand};
+ghost use Rattle.rcell_script_commands.specs.parts.Giving.{GivesScript};
 
 use crate::command::{Command, StatsOptions};
 use crate::script_fault::ScriptKind;
@@ -37,7 +37,7 @@ fn after_in_text(
     given: Option<&[u8]>,
 ) -> Result<Option<Combo>, ScriptKind>
     requires { (1 ≤ width) × (width ≤ 16) }
-    ensures after { Answers ScriptKind.Memory (λ after. after) result
+    ensures after { GivesScript result
         (after_of width (option_map (λ text. text.now) given.entry)) }
     ensures width { IfOk result (λ after. IfSome after (λ combo. length combo ≡ width)) }
 {
@@ -77,8 +77,7 @@ fn printed_with(
 /// not go together, [`ScriptKind::UnknownMap`] and [`ScriptKind::Combo`]; [`ScriptKind::Memory`] where memory was refused.
 #[tactic(auto, using(crate::proofs::FaultLemmas::told))]
 pub(crate) fn stats_of(alloc: Global, known: &Names, words: &[&[u8]]) -> Result<Command, ScriptKind>
-    ensures command { Answers ScriptKind.Memory (λ command. command) result
-        (stats_of known.now (texts words.now)) }
+    ensures command { GivesScript result (stats_of known.now (texts words.now)) }
     ensures fits { IfOk result (FitsCommand known.now) }
 {
     let options = options_of(alloc, Form::Stats, words)?;

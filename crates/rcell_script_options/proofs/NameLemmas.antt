@@ -1,13 +1,11 @@
 -- Texts that are all names.
 use Rattle.std.proofs.Math.Bool.{and-false}
-use Rattle.std.proofs.Common.{◌≡◌, ℕ, zero, suc, map, Bor, Result, Ok, Err, ◌<◌, Bool, true, false, List, [], ◌∷◌, length, get_or, refl, ap, sym, ◌∙◌, arith, ◌≤◌, ◌==◌}
+use Rattle.std.proofs.Common.{◌≡◌, ℕ, zero, suc, map, Bor, Ok, Err, ◌<◌, true, false, List, [], ◌∷◌, length, get_or, refl, ap, arith, ◌≤◌, ◌==◌, rules}
 use Rattle.std.proofs.lemmas.List.{length-map}
 use Rattle.std.proofs.lemmas.List.Splits.{length-slice_split}
 use Rattle.cell_core_text.specs.Words.{parts_of}
-use Rattle.std.specs.Prelude.{◌&&◌}
 use Rattle.std.specs.List.{list_all}
 use Rattle.cell_core_values.specs.Name.{is_name}
-use Rattle.rcell_script_options.specs.declared.option_fault.OptionFault.TheVariants.{BadName}
 use Rattle.rcell_script_options.specs.OptionReading.{texts, option_name, names_from}
 use Rattle.rcell_script_options.specs.declared.option_fault.OptionFault.{OptionFault}
 
@@ -20,25 +18,11 @@ list_all-no (x ∷ xs) (suc i) d h bad = rw (list_all-no xs i d (omega arith) ba
 -- one text is no name
 pub names_from-fails : (xs : List (Bor (List ℕ))) (i : ℕ) (d : Bor (List ℕ)) (fault : OptionFault) → i < length xs
     → option_name (get_or xs i d).now ≡ Err fault → names_from (texts xs) ≡ Err fault
-names_from-fails xs i d fault h bad = by (is_name (get_or xs i d).now) refl
-  where
-    by : (good : Bool) → is_name (get_or xs i d).now ≡ good → names_from (texts xs) ≡ Err fault
-    by true is = let f : Ok _ ≡ Err fault = rw is at bad in cc
-    by false is =
-        let f : ◌≡◌ {A = Result (List ℕ) OptionFault} (Err BadName) (Err fault) = rw is at bad in
-        let same : BadName ≡ fault = cc in
-        rw (list_all-no xs i d h is) (ap Err same)
+names_from-fails xs i d fault h bad = search (rules, get_or, list_all-no)
 
 -- what is read as a name is the name
 pub option_name-is : (text name : List ℕ) → option_name text ≡ Ok name → (name ≡ text) × (is_name name ≡ true)
-option_name-is text name e = by (is_name text) refl
-  where
-    by : (good : Bool) → is_name text ≡ good → (name ≡ text) × (is_name name ≡ true)
-    by true is =
-        let f : ◌≡◌ {A = Result (List ℕ) OptionFault} (Ok text) (Ok name) = rw is at e in
-        let same : text ≡ name = cc in
-        (sym same, ap is_name (sym same) ∙ is)
-    by false is = let f : ◌≡◌ {A = Result (List ℕ) OptionFault} (Err BadName) (Ok name) = rw is at e in cc
+option_name-is text name e = search rules
 
 -- a value has one part or more
 pub parts-some : (parts : List (Bor (List ℕ))) (value : List ℕ) (n : ℕ) → map (λ w. w.now) parts ≡ parts_of value

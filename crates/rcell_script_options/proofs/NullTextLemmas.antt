@@ -1,6 +1,6 @@
 -- A text that a script gives for null is one for grid texts.
-use Rattle.std.proofs.Common.{◌≡◌, ℕ, Bool, true, false, List, [], ◌∷◌, length, arith, refl}
-use Rattle.std.specs.Prelude.{◌&&◌, nat_le}
+use Rattle.std.proofs.Common.{◌≡◌, ℕ, Bool, true, false, List, [], ◌∷◌, arith, refl, rules}
+use Rattle.std.specs.Prelude.{◌&&◌}
 use Rattle.std.specs.List.{list_all}
 use Rattle.std.proofs.lemmas.Bool.Decides.{nat_tests}
 use Rattle.cell_ascii_meaning.specs.GridTokens.{is_word_byte}
@@ -33,14 +33,4 @@ no_colons-null (b ∷ bs) e =
 
 -- it has 1 to 64 characters, none of them a blank or a colon
 pub IsNullText-given : (bs : List ℕ) → is_null_text bs ≡ true → IsNullText bs
-IsNullText-given bs e =
-    let first = and_true (nat_le 1 (length bs)) (nat_le (length bs) 64 && list_all is_null_byte bs) e in
-    let second = and_true (nat_le (length bs) 64) (list_all is_null_byte bs) first.1 in
-    let some : nat_le 1 (length bs) ≡ true = first.0 in
-    let most : nat_le (length bs) 64 ≡ true = second.0 in
-    record {
-      some = grind (arith, nat_tests);
-      most = grind (arith, nat_tests);
-      word = words-null bs second.1;
-      colon = no_colons-null bs second.1;
-    }
+IsNullText-given bs e = search (rules, and_true, nat_tests, words-null, no_colons-null)

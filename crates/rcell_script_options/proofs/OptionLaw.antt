@@ -1,12 +1,12 @@
 -- The options that words spell together are those that are read of them one after another.
-use Rattle.std.proofs.Common.{◌≡◌, ℕ, ◌≤◌, ◌<◌, Bool, true, false, cond, List, [], ◌∷◌, ◌++◌, map, length, get_or, All, Option, Some, None, Result, Ok, Err, inl, inr, refl, ap, sym, ◌∙◌, subst}
-use Rattle.std.specs.Prelude.{◌==◌, ◌&&◌, not, nat_lt, is_some, bytes_eq}
+use Rattle.std.proofs.lemmas.Grind.{common_steps}
+use Rattle.std.proofs.Common.{◌≡◌, ℕ, Bool, true, false, cond, List, [], ◌∷◌, map, length, All, Option, Some, None, Result, Ok, Err, refl, ap, sym, ◌∙◌, subst, rules, arith}
+use Rattle.std.specs.Prelude.{◌==◌, ◌&&◌, not, bytes_eq}
 use Rattle.std.specs.Cmp.Lexicographic.{bytes_decides}
-use Rattle.std.specs.List.{flat_map, filter_map, list_all, list_any, position_or_len, before_first, after_first}
+use Rattle.std.specs.List.{flat_map, filter_map}
 use Rattle.std.specs.Option.{option_map, option_and_then, ok_or}
-use Rattle.std.proofs.lemmas.Bool.{eqb-true, ltb-true, ltb-false, le-ltb}
-use Rattle.std.proofs.lemmas.List.Sums.{split_at_first}
-use Rattle.cell_core_text.specs.Words.{is_equals, parts_of, pair_of}
+use Rattle.std.proofs.lemmas.Bool.{eqb-true, le-ltb}
+use Rattle.cell_core_text.specs.Words.{parts_of, pair_of}
 use Rattle.cell_core_values.specs.Name.{is_name}
 use Rattle.rcell_script_options.specs.NullText.{is_null_text, is_table_null_text}
 use Rattle.rcell_script_options.specs.Options.{letters_in, value_in, IsOption, values_of, IsOptional, SpellsText, SpellsNames, separator_in}
@@ -104,9 +104,7 @@ pair-value (k ∷ ks) key t v h = by (λ rest. pair-value ks key t v rest) (tag 
         → (same text : Bool) → (tag key == tag k.1) ≡ same → bytes_eq t k.0 ≡ text
         → value_for key (pair_setting (k ∷ ks) t v) ≡ pair_value (text_of key (k ∷ ks)) t v
     by others true true s e = rw (s, e) (rw s refl)
-    by others true false s e =
-        let other : no_tag (tag key) ks ≡ true = ap (λ n. no_tag n ks) (eqb-true (tag key) (tag k.1) s) ∙ tags.0 in
-        rw (s, e) (no_tag-none ks key t v other)
+    by others true false s e = search (rules, tag, eqb-true, no_tag-none)
     by others false true s e =
         let other : no_text t ks ≡ true = ap (λ x. no_text x ks) ((bytes_decides t k.0).0 e) ∙ texts.0 in
         rw (s, e) (rw s (sym (no_text-none ks key t v other)))
@@ -131,30 +129,7 @@ first_value text pair = option_and_then (λ pair. cond (bytes_eq pair.0 text) (S
 
 -- a word with a dash gives no value to a key without one
 dash-none : (text bs : List ℕ) → is_plain text ≡ true → value_in text (45 ∷ bs) ≡ None
-dash-none text bs plain = by (nat_lt (position_or_len is_equals (45 ∷ bs)) (length (45 ∷ bs))) refl
-  where
-    inside : position_or_len is_equals (45 ∷ bs) < length (45 ∷ bs) → (text : List ℕ) → is_plain text ≡ true
-        → before_first is_equals (45 ∷ bs) ≡ text → ⊥
-    inside l [] p e = cc
-    inside l (c ∷ cs) p e =
-        let rest = get_or (45 ∷ bs) (position_or_len is_equals (45 ∷ bs)) 0 ∷ after_first is_equals (45 ∷ bs) in
-        let split : 45 ∷ bs ≡ (c ∷ cs) ++ rest = split_at_first is_equals (45 ∷ bs) 0 l ∙ ap (λ x. x ++ rest) e in
-        let same : 45 ≡ c = cc in
-        let f : not (45 == 45) ≡ true = ap (λ x. not (x == 45)) same ∙ p in
-        cc
-
-    eq : position_or_len is_equals (45 ∷ bs) < length (45 ∷ bs) → (is : Bool)
-        → bytes_eq (before_first is_equals (45 ∷ bs)) text ≡ is
-        → cond is (Some (after_first is_equals (45 ∷ bs))) None ≡ None
-    eq l true e = absurd (inside l text plain ((bytes_decides (before_first is_equals (45 ∷ bs)) text).0 e))
-    eq l false e = refl
-
-    by : (has : Bool) → nat_lt (position_or_len is_equals (45 ∷ bs)) (length (45 ∷ bs)) ≡ has
-        → first_value text (cond has (Some (before_first is_equals (45 ∷ bs), after_first is_equals (45 ∷ bs))) None) ≡ None
-    by false l = refl
-    by true l =
-        let at = eq (ltb-true (position_or_len is_equals (45 ∷ bs)) (length (45 ∷ bs)) l) (bytes_eq (before_first is_equals (45 ∷ bs)) text) refl in
-        at
+dash-none text bs plain = search rules
 
 -- the text of a key has no dash
 text-plain : (ks : List (List ℕ × OptionKey)) (key : OptionKey) (text : List ℕ) → are_apart ks ≡ true
@@ -198,58 +173,6 @@ word-value form key o e (b ∷ bs) = by (b == 45) refl
     by true d = none o e (eqb-true b 45 d)
     by false d = pair o e (pair_of (b ∷ bs)) refl
 
--- ---- whether a word is a setting
-
-any-same : (f g : List ℕ → Bool) → ((x : List ℕ) → f x ≡ g x) → (xs : List (List ℕ)) → list_any f xs ≡ list_any g xs
-any-same f g same [] = refl
-any-same f g same (x ∷ xs) = rw (same x, any-same f g same xs) refl
-
-some-is : (is : Bool) (v : List ℕ) → is_some (cond is (Some v) None) ≡ is
-some-is true v = refl
-some-is false v = refl
-
-among-any : (ks : List (List ℕ × OptionKey)) (t v : List ℕ)
-    → is_some (pair_setting ks t v) ≡ list_any (λ key. bytes_eq t key) (map (λ k. k.0) ks)
-among-any [] t v = refl
-among-any (k ∷ ks) t v = by (among-any ks t v) (bytes_eq t k.0) refl
-  where
-    by : is_some (pair_setting ks t v) ≡ list_any (λ key. bytes_eq t key) (map (λ k. k.0) ks) → (text : Bool)
-        → bytes_eq t k.0 ≡ text
-        → is_some (pair_setting (k ∷ ks) t v) ≡ list_any (λ key. bytes_eq t key) (map (λ k. k.0) (k ∷ ks))
-    by others true e = rw e refl
-    by others false e = rw e others
-
--- no key has a value
-none-any : (ks : List (List ℕ × OptionKey)) (word : List ℕ) → are_apart ks ≡ true
-    → ((text : List ℕ) → is_plain text ≡ true → value_in text word ≡ None)
-    → list_any (λ key. is_some (value_in key word)) (map (λ k. k.0) ks) ≡ false
-none-any [] word h none = refl
-none-any (k ∷ ks) word h none =
-    let plain = both (is_plain k.0) (no_tag (tag k.1) ks && (no_text k.0 ks && are_apart ks)) h in
-    let rest = both (no_text k.0 ks) (are_apart ks) (both (no_tag (tag k.1) ks) (no_text k.0 ks && are_apart ks) plain.1).1 in
-    rw (none k.0 plain.0, none-any ks word rest.1 none) refl
-
-nothing-any : (keys : List (List ℕ)) → list_any (λ (key : List ℕ). false) keys ≡ false
-nothing-any [] = refl
-nothing-any (key ∷ keys) = nothing-any keys
-
-word-any : (form : Form) (word : List ℕ)
-    → is_some (setting_in form word) ≡ list_any (λ key. is_some (value_in key word)) (option_texts form)
-word-any form [] = sym (none-any (option_keys form) [] (keys-apart form) (λ text plain. refl))
-word-any form (b ∷ bs) = by (b == 45) refl
-  where
-    pair : (p : Option (List ℕ × List ℕ)) → pair_of (b ∷ bs) ≡ p
-        → is_some (setting_of form p) ≡ list_any (λ key. is_some (value_in key (b ∷ bs))) (option_texts form)
-    pair None q = sym (any-same (λ key. is_some (value_in key (b ∷ bs))) (λ key. false) (λ key. ap (λ p. is_some (first_value key p)) q) (option_texts form) ∙ nothing-any (option_texts form))
-    pair (Some p) q =
-        among-any (option_keys form) p.0 p.1
-        ∙ sym (any-same (λ key. is_some (value_in key (b ∷ bs))) (λ key. bytes_eq p.0 key) (λ key. ap (λ p. is_some (first_value key p)) q ∙ some-is (bytes_eq p.0 key) p.1) (option_texts form))
-
-    by : (dash : Bool) → (b == 45) ≡ dash
-        → is_some (cond dash None (setting_of form (pair_of (b ∷ bs)))) ≡ list_any (λ key. is_some (value_in key (b ∷ bs))) (option_texts form)
-    by true d = sym (none-any (option_keys form) (b ∷ bs) (keys-apart form) (λ text plain. ap (λ x. value_in text (x ∷ bs)) (eqb-true b 45 d) ∙ dash-none text bs plain))
-    by false d = pair (pair_of (b ∷ bs)) refl
-
 -- ---- all words
 
 filter_map-same : (f g : List ℕ → Option (List ℕ)) → ((x : List ℕ) → f x ≡ g x) → (xs : List (List ℕ))
@@ -283,21 +206,11 @@ slots form key words = by (text_of key (option_keys form)) refl
 
 each-option : (form : Form) (words : List (List ℕ)) → All (IsWord form) words
     → All (IsOption (flags_of form) (option_texts form)) words
-each-option form words each i d within = by (each i d within)
-  where
-    by : IsWord form (get_or words i d)
-        → IsOption (flags_of form) (option_texts form) (get_or words i d)
-    by (inl flags) = inl flags
-    by (inr some) = inr (sym (word-any form (get_or words i d)) ∙ some)
+each-option form words each i d within = search rules
 
 each-word : (form : Form) (words : List (List ℕ))
     → All (IsOption (flags_of form) (option_texts form)) words → All (IsWord form) words
-each-word form words each i d within = by (each i d within)
-  where
-    by : IsOption (flags_of form) (option_texts form) (get_or words i d)
-        → IsWord form (get_or words i d)
-    by (inl flags) = inl flags
-    by (inr some) = inr (word-any form (get_or words i d) ∙ some)
+each-word form words each i d within = grind (arith, common_steps)
 
 -- ---- values
 
@@ -319,13 +232,7 @@ from-optional read Spells reads values (Some x) (value, is, spells) = subst (λ 
 text-spelled : (test : List ℕ → Bool) (fault : OptionFault) (value text : List ℕ)
     → ◌≡◌ {A = Result (List ℕ) OptionFault} (cond (test value) (Ok value) (Err fault)) (Ok text)
     → SpellsText test value text
-text-spelled test fault value text e = by (test value) refl e
-  where
-    by : (good : Bool) → test value ≡ good
-        → ◌≡◌ {A = Result (List ℕ) OptionFault} (cond good (Ok value) (Err fault)) (Ok text)
-        → SpellsText test value text
-    by true g f = let same : value ≡ text = cc in (same, g)
-    by false g f = cc
+text-spelled test fault value text e = search rules
 
 spelled-text : (test : List ℕ → Bool) (fault : OptionFault) (value text : List ℕ) → SpellsText test value text
     → ◌≡◌ {A = Result (List ℕ) OptionFault} (cond (test value) (Ok value) (Err fault)) (Ok text)
@@ -333,42 +240,28 @@ spelled-text test fault value text (same, good) = rw good (ap Ok same)
 
 names-spelled : (value : List ℕ) (names : List (List ℕ)) → names_of (parts_of value) ≡ Ok names
     → SpellsNames value names
-names-spelled value names e = by (nat_lt 16 (length (parts_of value))) (list_all is_name (parts_of value)) refl refl e
-  where
-    by : (many good : Bool) → nat_lt 16 (length (parts_of value)) ≡ many → list_all is_name (parts_of value) ≡ good
-        → ◌≡◌ {A = Result (List (List ℕ)) OptionFault} (cond many (Err BadOption) (cond good (Ok (parts_of value)) (Err BadName))) (Ok names) → SpellsNames value names
-    by true good m g f = cc
-    by false false m g f = cc
-    by false true m g f =
-        let same : parts_of value ≡ names = cc in
-        (same, ap (list_all is_name) (sym same) ∙ g, subst (λ ns. length ns ≤ 16) same (ltb-false 16 (length (parts_of value)) m))
+names-spelled value names e = search rules
 
 spelled-names : (value : List ℕ) (names : List (List ℕ)) → SpellsNames value names
     → names_of (parts_of value) ≡ Ok names
 spelled-names value names (same, good, few) = rw (same, le-ltb 16 (length names) few, good) refl
 
 separator-spelled : (value : List ℕ) (b : ℕ) → separated value ≡ Ok b → separator_in value ≡ Some b
-separator-spelled value b e = by (separator_in value) e
-  where
-    by : (o : Option ℕ) → ok_or o BadOption ≡ Ok b → o ≡ Some b
-    by None f = cc
-    by (Some c) f = let same : c ≡ b = cc in ap Some same
+separator-spelled value b e = search rules
 
 -- what is read for a key, as what its values spell
 to-slots : {X : Type 0} (form : Form) (key : OptionKey) (words : List (List ℕ)) (read : List ℕ → Result X OptionFault)
     (Spells : List ℕ → X → Type 0) → ((value : List ℕ) (x : X) → read value ≡ Ok x → Spells value x) → (new : Option X)
     → Extends read (key_values form key words) None new
     → IsOptional Spells (slots_of form key words) new
-to-slots form key words read Spells spells new e =
-    subst (λ vs. IsOptional Spells vs new) (slots form key words) (to-optional read Spells spells _ _ e)
+to-slots form key words read Spells spells new e = search (rules, slots, to-optional)
 
 -- what its values spell, as what is read for a key
 from-slots : {X : Type 0} (form : Form) (key : OptionKey) (words : List (List ℕ)) (read : List ℕ → Result X OptionFault)
     (Spells : List ℕ → X → Type 0) → ((value : List ℕ) (x : X) → Spells value x → read value ≡ Ok x) → (new : Option X)
     → IsOptional Spells (slots_of form key words) new
     → Extends read (key_values form key words) None new
-from-slots form key words read Spells reads new e =
-    from-optional read Spells reads _ _ (subst (λ vs. IsOptional Spells vs new) (sym (slots form key words)) e)
+from-slots form key words read Spells reads new e = search (rules, from-optional, slots)
 
 abbrev IsSeparator : List ℕ → ℕ → Type 0
 IsSeparator value b = separator_in value ≡ Some b

@@ -1,5 +1,5 @@
 -- The words after a command, one after another and all together.
-use Rattle.std.proofs.Common.{◌≡◌, ℕ, suc, Bool, true, false, cond, List, [], ◌∷◌, ◌++◌, All, Option, Some, None, Result, Ok, Err, inl, inr, refl, ap, sym, ◌∙◌, subst, arith}
+use Rattle.std.proofs.Common.{◌≡◌, ℕ, suc, Bool, true, false, cond, List, [], ◌∷◌, ◌++◌, All, Option, Some, None, Result, Ok, Err, inl, inr, refl, ap, sym, ◌∙◌, subst, arith, rules}
 use Rattle.std.specs.Prelude.{◌⊎◌, ◌==◌, ◌||◌, is_some}
 use Rattle.std.specs.List.{flat_map, cons_option, filter_map}
 use Rattle.std.specs.Option.{option_map, option_and_then, ok_or}
@@ -121,21 +121,15 @@ first read value [] None (Some x) e = record { given = x; none = refl; is = e; r
 first read value [] (Some x) new e = absurd e
 first read value (other ∷ values) old new e = absurd e
 
--- a value that is taken
-record Taken {X : Type 0} (read : List ℕ → Result X OptionFault) (value : List ℕ) (old : Option X) (with : X → Given) (mid : Given) : Type 0 where
-  given : X
-  none : old ≡ None
-  is : read value ≡ Ok given
-  mid_is : with given ≡ mid
-
-taken : {X : Type 0} (read : List ℕ → Result X OptionFault) (value : List ℕ) (old : Option X) (with : X → Given) (mid : Given)
-    → given_once old (read value >>= (λ x. Ok (with x))) ≡ Ok mid → Taken read value old with mid
-taken read value (Some x) with mid e = cc
-taken read value None with mid e = by (read value) refl e
+-- a value that is taken adds what it adds to the options that it makes
+taken : {X : Type 0} (read : List ℕ → Result X OptionFault) (value : List ℕ) (old : Option X) (with : X → Given) (mid : Given) (P : Given → Type 0)
+    → given_once old (read value >>= (λ x. Ok (with x))) ≡ Ok mid → ((x : X) → Steps read (Some value) old (Some x) → P (with x)) → P mid
+taken read value (Some x) with mid P e adds = cc
+taken read value None with mid P e adds = by (read value) refl e
   where
-    by : (r : _) → read value ≡ r → (r >>= (λ x. Ok (with x))) ≡ Ok mid → Taken read value None with mid
+    by : (r : _) → read value ≡ r → (r >>= (λ x. Ok (with x))) ≡ Ok mid → P mid
     by (Err kind) is f = cc
-    by (Ok x) is f = let same : with x ≡ mid = cc in record { given = x; none = refl; is = is; mid_is = same }
+    by (Ok x) is f = let same : with x ≡ mid = cc in subst P same (adds x is)
 
 take-value : {X : Type 0} (read : List ℕ → Result X OptionFault) (value : List ℕ) (old : Option X) (with : X → Given) (x : X) → old ≡ None → read value ≡ Ok x
     → given_once old (read value >>= (λ x. Ok (with x))) ≡ Ok (with x)
@@ -161,101 +155,19 @@ record Adds (letters : List ℕ) (setting : Option (OptionKey × List ℕ)) (old
 value-sound : (given mid : Given) (key : OptionKey) (value : List ℕ) → with_value given key value ≡ Ok mid
     → Adds [] (Some (key, value)) given mid
 value-sound given mid Input value e =
-    let t = taken option_name value given.input (λ x. record given { input = Some x }) mid e in
-    subst (λ m. Adds [] (Some (Input, value)) given m) t.mid_is (record {
-      flags = with_letters-none given.flags;
-      input = subst (λ o. Steps option_name (Some value) o (Some t.given)) (sym t.none) t.is;
-      inputs = refl;
-      output = refl;
-      separator = refl;
-      null_text = refl;
-      table_null_text = refl;
-      after = refl;
-    })
+    taken option_name value given.input (λ x. record given { input = Some x }) mid (Adds [] (Some (Input, value)) given) e (λ x is. search (rules, with_letters-none))
 value-sound given mid Inputs value e =
-    let t = taken listed value given.inputs (λ x. record given { inputs = Some x }) mid e in
-    subst (λ m. Adds [] (Some (Inputs, value)) given m) t.mid_is (record {
-      flags = with_letters-none given.flags;
-      input = refl;
-      inputs = subst (λ o. Steps listed (Some value) o (Some t.given)) (sym t.none) t.is;
-      output = refl;
-      separator = refl;
-      null_text = refl;
-      table_null_text = refl;
-      after = refl;
-    })
+    taken listed value given.inputs (λ x. record given { inputs = Some x }) mid (Adds [] (Some (Inputs, value)) given) e (λ x is. search (rules, with_letters-none))
 value-sound given mid Output value e =
-    let t = taken option_name value given.output (λ x. record given { output = Some x }) mid e in
-    subst (λ m. Adds [] (Some (Output, value)) given m) t.mid_is (record {
-      flags = with_letters-none given.flags;
-      input = refl;
-      inputs = refl;
-      output = subst (λ o. Steps option_name (Some value) o (Some t.given)) (sym t.none) t.is;
-      separator = refl;
-      null_text = refl;
-      table_null_text = refl;
-      after = refl;
-    })
+    taken option_name value given.output (λ x. record given { output = Some x }) mid (Adds [] (Some (Output, value)) given) e (λ x is. search (rules, with_letters-none))
 value-sound given mid Separator value e =
-    let t = taken separated value given.separator (λ x. record given { separator = Some x }) mid e in
-    subst (λ m. Adds [] (Some (Separator, value)) given m) t.mid_is (record {
-      flags = with_letters-none given.flags;
-      input = refl;
-      inputs = refl;
-      output = refl;
-      separator = subst (λ o. Steps separated (Some value) o (Some t.given)) (sym t.none) t.is;
-      null_text = refl;
-      table_null_text = refl;
-      after = refl;
-    })
+    taken separated value given.separator (λ x. record given { separator = Some x }) mid (Adds [] (Some (Separator, value)) given) e (λ x is. search (rules, with_letters-none))
 value-sound given mid NullText value e =
-    let t = taken null_text_of value given.null_text (λ x. record given { null_text = Some x }) mid e in
-    subst (λ m. Adds [] (Some (NullText, value)) given m) t.mid_is (record {
-      flags = with_letters-none given.flags;
-      input = refl;
-      inputs = refl;
-      output = refl;
-      separator = refl;
-      null_text = subst (λ o. Steps null_text_of (Some value) o (Some t.given)) (sym t.none) t.is;
-      table_null_text = refl;
-      after = refl;
-    })
+    taken null_text_of value given.null_text (λ x. record given { null_text = Some x }) mid (Adds [] (Some (NullText, value)) given) e (λ x is. search (rules, with_letters-none))
 value-sound given mid TableNullText value e =
-    let t = taken table_null_text_of value given.table_null_text (λ x. record given { table_null_text = Some x }) mid e in
-    subst (λ m. Adds [] (Some (TableNullText, value)) given m) t.mid_is (record {
-      flags = with_letters-none given.flags;
-      input = refl;
-      inputs = refl;
-      output = refl;
-      separator = refl;
-      null_text = refl;
-      table_null_text = subst (λ o. Steps table_null_text_of (Some value) o (Some t.given)) (sym t.none) t.is;
-      after = refl;
-    })
+    taken table_null_text_of value given.table_null_text (λ x. record given { table_null_text = Some x }) mid (Adds [] (Some (TableNullText, value)) given) e (λ x is. search (rules, with_letters-none))
 value-sound given mid After value e =
-    let t = taken kept value given.after (λ x. record given { after = Some x }) mid e in
-    subst (λ m. Adds [] (Some (After, value)) given m) t.mid_is (record {
-      flags = with_letters-none given.flags;
-      input = refl;
-      inputs = refl;
-      output = refl;
-      separator = refl;
-      null_text = refl;
-      table_null_text = refl;
-      after = subst (λ o. Steps kept (Some value) o (Some t.given)) (sym t.none) t.is;
-    })
-
-flags-sound : (form : Form) (given mid : Given) (letters : List ℕ) → with_flags form given letters ≡ Ok mid
-    → (are_flags (flags_of form) letters ≡ true) × Adds letters None given mid
-flags-sound form given mid letters e = by (are_flags (flags_of form) letters) refl e
-  where
-    by : (good : Bool) → are_flags (flags_of form) letters ≡ good
-        → cond good (Ok (record given { flags = with_letters given.flags letters })) (Err BadOption) ≡ Ok mid
-        → (are_flags (flags_of form) letters ≡ true) × Adds letters None given mid
-    by false g f = cc
-    by true g f =
-        let same : record given { flags = with_letters given.flags letters } ≡ mid = cc in
-        (g, subst (λ m. Adds letters None given m) same (record { flags = refl; input = refl; inputs = refl; output = refl; separator = refl; null_text = refl; table_null_text = refl; after = refl }))
+    taken kept value given.after (λ x. record given { after = Some x }) mid (Adds [] (Some (After, value)) given) e (λ x is. search (rules, with_letters-none))
 
 -- a word that is read
 abbrev IsRead : Form → List ℕ → Given → Given → Type 0
@@ -283,9 +195,7 @@ word-sound form given mid (b ∷ bs) e = by (b == 45) refl e
     by : (dash : Bool) → (b == 45) ≡ dash
         → cond dash (with_flags form given bs) (with_pair form given (pair_of (b ∷ bs))) ≡ Ok mid
         → IsReadBy form bs given mid (b == 45) (setting_of form (pair_of (b ∷ bs)))
-    by true d f =
-        let s = flags-sound form given mid bs f in
-        subst (λ dash. IsReadBy form bs given mid dash (setting_of form (pair_of (b ∷ bs)))) (sym d) (inl s.0, s.1)
+    by true d f = search rules
     by false d f =
         let s = word-pair form given mid (pair_of (b ∷ bs)) f in
         subst (λ dash. IsReadBy form bs given mid dash (setting_of form (pair_of (b ∷ bs)))) (sym d)
@@ -339,52 +249,31 @@ words-sound form (word ∷ words) old new e = by (λ mid f. words-sound form wor
         (All-cons (IsWord form) word words is.0 rest.0, one-more form word words old mid new is.1 rest.1)
 
 -- a value for a key, and what the words after it make
+given-first : {X : Type 0} (read : List ℕ → Result X OptionFault) (value : List ℕ) (values : List (List ℕ)) (old new : Option X) (with : X → Given) (P : Given → Type 0)
+    → Extends read (value ∷ values) old new → ((x : X) → Extends read values (Some x) new → P (with x))
+    → (mid : Given) × (given_once old (read value >>= (λ x. Ok (with x))) ≡ Ok mid) × P mid
+given-first read value values old new with P e rest =
+    let v = first read value values old new e in
+    (with v.given, take-value read value old with v.given v.none v.is, rest v.given v.rest)
+
 value-complete : (letters : List ℕ) (values : OptionKey → List (List ℕ)) (old new : Given) (key : OptionKey)
     (value : List ℕ)
     → Whole letters (λ other. cons_option (value_for other (Some (key, value))) (values other)) old new
     → (mid : Given) × (with_value old key value ≡ Ok mid) × Whole letters values mid new
 value-complete letters values old new Input value whole =
-    let v = first option_name value (values Input) old.input new.input whole.input in (
-      record old { input = Some v.given },
-      take-value option_name value old.input (λ x. record old { input = Some x }) v.given v.none v.is,
-      record { flags = whole.flags; input = v.rest; inputs = whole.inputs; output = whole.output; separator = whole.separator; null_text = whole.null_text; table_null_text = whole.table_null_text; after = whole.after },
-    )
+    given-first option_name value (values Input) old.input new.input (λ x. record old { input = Some x }) (λ mid. Whole letters values mid new) whole.input (λ x rest. search rules)
 value-complete letters values old new Inputs value whole =
-    let v = first listed value (values Inputs) old.inputs new.inputs whole.inputs in (
-      record old { inputs = Some v.given },
-      take-value listed value old.inputs (λ x. record old { inputs = Some x }) v.given v.none v.is,
-      record { flags = whole.flags; input = whole.input; inputs = v.rest; output = whole.output; separator = whole.separator; null_text = whole.null_text; table_null_text = whole.table_null_text; after = whole.after },
-    )
+    given-first listed value (values Inputs) old.inputs new.inputs (λ x. record old { inputs = Some x }) (λ mid. Whole letters values mid new) whole.inputs (λ x rest. search rules)
 value-complete letters values old new Output value whole =
-    let v = first option_name value (values Output) old.output new.output whole.output in (
-      record old { output = Some v.given },
-      take-value option_name value old.output (λ x. record old { output = Some x }) v.given v.none v.is,
-      record { flags = whole.flags; input = whole.input; inputs = whole.inputs; output = v.rest; separator = whole.separator; null_text = whole.null_text; table_null_text = whole.table_null_text; after = whole.after },
-    )
+    given-first option_name value (values Output) old.output new.output (λ x. record old { output = Some x }) (λ mid. Whole letters values mid new) whole.output (λ x rest. search rules)
 value-complete letters values old new Separator value whole =
-    let v = first separated value (values Separator) old.separator new.separator whole.separator in (
-      record old { separator = Some v.given },
-      take-value separated value old.separator (λ x. record old { separator = Some x }) v.given v.none v.is,
-      record { flags = whole.flags; input = whole.input; inputs = whole.inputs; output = whole.output; separator = v.rest; null_text = whole.null_text; table_null_text = whole.table_null_text; after = whole.after },
-    )
+    given-first separated value (values Separator) old.separator new.separator (λ x. record old { separator = Some x }) (λ mid. Whole letters values mid new) whole.separator (λ x rest. search rules)
 value-complete letters values old new NullText value whole =
-    let v = first null_text_of value (values NullText) old.null_text new.null_text whole.null_text in (
-      record old { null_text = Some v.given },
-      take-value null_text_of value old.null_text (λ x. record old { null_text = Some x }) v.given v.none v.is,
-      record { flags = whole.flags; input = whole.input; inputs = whole.inputs; output = whole.output; separator = whole.separator; null_text = v.rest; table_null_text = whole.table_null_text; after = whole.after },
-    )
+    given-first null_text_of value (values NullText) old.null_text new.null_text (λ x. record old { null_text = Some x }) (λ mid. Whole letters values mid new) whole.null_text (λ x rest. search rules)
 value-complete letters values old new TableNullText value whole =
-    let v = first table_null_text_of value (values TableNullText) old.table_null_text new.table_null_text whole.table_null_text in (
-      record old { table_null_text = Some v.given },
-      take-value table_null_text_of value old.table_null_text (λ x. record old { table_null_text = Some x }) v.given v.none v.is,
-      record { flags = whole.flags; input = whole.input; inputs = whole.inputs; output = whole.output; separator = whole.separator; null_text = whole.null_text; table_null_text = v.rest; after = whole.after },
-    )
+    given-first table_null_text_of value (values TableNullText) old.table_null_text new.table_null_text (λ x. record old { table_null_text = Some x }) (λ mid. Whole letters values mid new) whole.table_null_text (λ x rest. search rules)
 value-complete letters values old new After value whole =
-    let v = first kept value (values After) old.after new.after whole.after in (
-      record old { after = Some v.given },
-      take-value kept value old.after (λ x. record old { after = Some x }) v.given v.none v.is,
-      record { flags = whole.flags; input = whole.input; inputs = whole.inputs; output = whole.output; separator = whole.separator; null_text = whole.null_text; table_null_text = whole.table_null_text; after = v.rest },
-    )
+    given-first kept value (values After) old.after new.after (λ x. record old { after = Some x }) (λ mid. Whole letters values mid new) whole.after (λ x rest. search rules)
 
 abbrev setting_with : Option OptionKey → List ℕ → Option (OptionKey × List ℕ)
 setting_with key value = option_map (λ key. (key, value)) key
@@ -399,9 +288,7 @@ pair-complete form letters values old new (Some p) some whole = by (option_key_o
         → Whole letters (λ other. cons_option (value_for other (setting_with key p.1)) (values other)) old new
         → (mid : Given) × (with_option old (option_key_of form p.0) p.1 ≡ Ok mid) × Whole letters values mid new
     by None k some whole = cc
-    by (Some key) k some whole =
-        let v = value-complete letters values old new key p.1 whole in
-        (v.0, ap (λ o. with_option old o p.1) k ∙ v.1, v.2)
+    by (Some key) k some whole = search (rules, value-complete)
 
 flags-complete : (form : Form) (word letters : List ℕ) (values : OptionKey → List (List ℕ)) (old new : Given)
     → are_flags (flags_of form) word ≡ true → Whole (word ++ letters) values old new
@@ -422,14 +309,10 @@ word-complete form letters values old new (b ∷ bs) is whole = by (b == 45) ref
     by : (dash : Bool) → (b == 45) ≡ dash
         → (are_flags (flags_of form) (cond dash bs []) ≡ true) ⊎ (is_some (setting_by form (b ∷ bs) dash) ≡ true)
         → Whole (cond dash bs [] ++ letters) (λ key. cons_option (value_for key (setting_by form (b ∷ bs) dash)) (values key)) old new → (mid : Given) × (with_word form old (b ∷ bs) ≡ Ok mid) × Whole letters values mid new
-    by true d (inl good) whole =
-        let f = flags-complete form bs letters values old new good whole in
-        (f.0, ap (λ dash. cond dash (with_flags form old bs) (with_pair form old (pair_of (b ∷ bs)))) d ∙ f.1, f.2)
+    by true d (inl good) whole = search (rules, flags-complete)
     by true d (inr some) whole = cc
     by false d (inl good) whole = cc
-    by false d (inr some) whole =
-        let p = pair-complete form letters values old new (pair_of (b ∷ bs)) some whole in
-        (p.0, ap (λ dash. cond dash (with_flags form old bs) (with_pair form old (pair_of (b ∷ bs)))) d ∙ p.1, p.2)
+    by false d (inr some) whole = search (rules, pair-complete)
 
 -- options of equal parts
 abbrev of_fields : Flags → Option (List ℕ) → Option (List (List ℕ)) → Option (List ℕ) → Option ℕ → Option (List ℕ) → Option (List ℕ) → Option (List ℕ) → Given
@@ -437,14 +320,10 @@ of_fields flags input inputs output separator null_text table_null_text after = 
 
 same-options : (old new : Given) → Whole [] (λ key. []) old new → old ≡ new
 same-options old new more =
-    ap (λ (x : Flags). of_fields x old.input old.inputs old.output old.separator old.null_text old.table_null_text old.after) (sym (with_letters-none old.flags) ∙ more.flags)
-    ∙ ap (λ (x : Option (List ℕ)). of_fields new.flags x old.inputs old.output old.separator old.null_text old.table_null_text old.after) more.input
-    ∙ ap (λ (x : Option (List (List ℕ))). of_fields new.flags new.input x old.output old.separator old.null_text old.table_null_text old.after) more.inputs
-    ∙ ap (λ (x : Option (List ℕ)). of_fields new.flags new.input new.inputs x old.separator old.null_text old.table_null_text old.after) more.output
-    ∙ ap (λ (x : Option ℕ). of_fields new.flags new.input new.inputs new.output x old.null_text old.table_null_text old.after) more.separator
-    ∙ ap (λ (x : Option (List ℕ)). of_fields new.flags new.input new.inputs new.output new.separator x old.table_null_text old.after) more.null_text
-    ∙ ap (λ (x : Option (List ℕ)). of_fields new.flags new.input new.inputs new.output new.separator new.null_text x old.after) more.table_null_text
-    ∙ ap (λ (x : Option (List ℕ)). of_fields new.flags new.input new.inputs new.output new.separator new.null_text new.table_null_text x) more.after
+    let flags = sym (with_letters-none old.flags) ∙ more.flags in
+    let same : of_fields old.flags old.input old.inputs old.output old.separator old.null_text old.table_null_text old.after
+    ≡ of_fields new.flags new.input new.inputs new.output new.separator new.null_text new.table_null_text new.after = cc in
+    same
 
 words-complete : (form : Form) (words : List (List ℕ)) (old new : Given) → All (IsWord form) words
     → More form words old new → with_words form old words ≡ Ok new

@@ -1,5 +1,6 @@
 -- Places of names, one name after another.
-use Rattle.std.proofs.Common.{◌≡◌, ℕ, zero, suc, ◌+◌, ◌<◌, Bool, true, false, cond, List, [], ◌∷◌, ◌++◌, length, take, get_or, length-append, All, Option, Some, None, refl, ap, sym, ◌∙◌, arith}
+use Rattle.std.proofs.lemmas.Grind.{common_steps}
+use Rattle.std.proofs.Common.{◌≡◌, ℕ, zero, suc, ◌+◌, ◌<◌, Bool, true, false, cond, List, [], ◌∷◌, ◌++◌, length, take, get_or, length-append, All, Option, Some, None, refl, ap, sym, ◌∙◌, arith, rules}
 use Rattle.std.specs.List.{position_from}
 use Rattle.std.specs.Option.{option_map, option_and_then}
 use Rattle.std.proofs.lemmas.List.{take_more}
@@ -29,9 +30,7 @@ places_of-push known (y ∷ ys) x ps p e f = by (place_of y known) (places_of kn
         → option_and_then (λ place. option_map (λ places. place ∷ places) (places_of known (ys ++ x ∷ []))) o ≡ Some (ps ++ p ∷ [])
     by None r more h = cc
     by (Some q) None more h = cc
-    by (Some q) (Some qs) more h =
-        let head : q ∷ qs ≡ ps = cc in
-        rw (more qs refl) (ap (λ l. Some (l ++ p ∷ [])) head)
+    by (Some q) (Some qs) more h = search rules
 
 none_after : {A B : Type 0} (f : A → Option B) → ((a : A) → f a ≡ None) → (o : Option A) → option_and_then f o ≡ None
 none_after f h None = refl
@@ -49,8 +48,7 @@ unknown_at known xs i x y h read same e = places_of-none known xs i x h (ap (λ 
 -- the name at place i, read as y, is known
 pub known_at : (known xs : List (List ℕ)) (i : ℕ) (x y : List ℕ) (ps : List ℕ) (p : ℕ) → i < length xs → x ≡ get_or xs i x → y ≡ x → places_of known (take i xs) ≡ Some ps → Some p ≡ place_of y known
     → places_of known (take (i + 1) xs) ≡ Some (ps ++ p ∷ [])
-known_at known xs i x y ps p h read same so_far e =
-    ap (places_of known) (take_more xs i x h) ∙ places_of-push known (take i xs) (get_or xs i x) ps p so_far (ap (λ n. place_of n known) (sym read ∙ sym same) ∙ sym e)
+known_at known xs i x y ps p h read same so_far e = grind (arith, common_steps, take_more, places_of-push, get_or)
 
 alone : (n p : ℕ) → p < n → All (λ q. q < n) (p ∷ [])
 alone n p h zero d k = h

@@ -3,19 +3,23 @@ use Rattle.std.specs.Prelude.{ℕ, Bool, false, ◌&&◌, ◌||◌, ◌==◌, na
 use Rattle.std.specs.Borrow.{Bor}
 use Rattle.std.specs.List.{list_all}
 use Rattle.std.specs.Option.{ok_or}
-use Rattle.cell_core_text.specs.Answers.{◌>>=◌}
+use Rattle.cell_core_text.specs.Answers.{Answers, ◌>>=◌}
 use Rattle.cell_core_text.specs.Words.{parts_of, pair_of}
 use Rattle.cell_core_values.specs.Letters.{byte, is_one_of}
 use Rattle.cell_core_values.specs.Name.{is_name}
 use Rattle.rcell_script_options.specs.NullText.{is_null_text, is_table_null_text}
 use Rattle.rcell_script_options.specs.Options.{are_flags, separator_in}
 use Rattle.rcell_script_options.specs.declared.option_fault.OptionFault.{OptionFault}
-use Rattle.rcell_script_options.specs.declared.option_fault.OptionFault.TheVariants.{BadOption, BadName}
+use Rattle.rcell_script_options.specs.declared.option_fault.OptionFault.TheVariants.{BadOption, BadName, Memory}
 use Rattle.rcell_script_options.specs.declared.options.Flags.{Flags}
 use Rattle.rcell_script_options.specs.declared.options.Form.{Form}
 use Rattle.rcell_script_options.specs.declared.options.Form.TheVariants.{Clump, Stats, OutAscii}
 use Rattle.rcell_script_options.specs.declared.options.OptionKey.{OptionKey}
 use Rattle.rcell_script_options.specs.declared.options.OptionKey.TheVariants.{Input, Inputs, Output, Separator, NullText, TableNullText, After}
+
+-- the answer is what the reading gives, unless memory ran out
+abbrev pub GivesOption : {A : Type 0} → Result A OptionFault → Result A OptionFault → Type 0
+GivesOption answer reading = Answers Memory (λ x. x) answer reading
 
 -- texts that are lent
 abbrev pub texts : List (Bor (List ℕ)) → List (List ℕ)

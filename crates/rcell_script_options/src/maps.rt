@@ -2,9 +2,8 @@
 
 ghost use Rattle.std.specs.Prelude.{◌≡◌, ◌<◌, ◌≤◌, IfOk, None, All, length};
 ghost use Rattle.std.specs.Option.{ok_or};
-ghost use Rattle.cell_core_text.specs.Answers.{Answers};
 ghost use Rattle.cell_core_values.specs.Name.{place_of};
-ghost use Rattle.rcell_script_options.specs.OptionReading.{is_torn};
+ghost use Rattle.rcell_script_options.specs.OptionReading.{GivesOption, is_torn};
 ghost use Rattle.rcell_script_options.specs.Maps.{from_to, input_place, input_places};
 ghost use Rattle.rcell_script_options.specs.InputPlaces.{places_of};
 
@@ -80,7 +79,7 @@ pub fn input_place(known: &Names, options: &Options) -> Result<usize, OptionFaul
 
 // The places of names among the known ones.
 fn map_places(alloc: Global, known: &Names, names: &[Name]) -> Result<Places, OptionFault>
-    ensures places { Answers OptionFault.Memory (λ places. places) result
+    ensures places { GivesOption result
         (ok_or (places_of known.now names.now) OptionFault.UnknownMap) }
     ensures within { IfOk result (λ places. All (λ place. place < length known.now) places) }
     ensures count { IfOk result (λ places. length places ≡ length names.now) }
@@ -109,8 +108,7 @@ fn is_torn(options: &Options) -> bool
 /// [`OptionFault::MissingOption`], then [`OptionFault::BadOption`] where flags do not go together, then
 /// [`OptionFault::UnknownMap`]; [`OptionFault::Memory`] where memory was refused.
 pub fn input_places(alloc: Global, known: &Names, options: &Options) -> Result<Places, OptionFault>
-    ensures places { Answers OptionFault.Memory (λ places. places) result
-        (input_places known.now options.now) }
+    ensures places { GivesOption result (input_places known.now options.now) }
     ensures within { IfOk result (λ places. All (λ place. place < length known.now) places) }
     ensures some { IfOk result (λ places. 1 ≤ length places) }
     ensures most { IfOk result (λ places. length places ≤ 16) }

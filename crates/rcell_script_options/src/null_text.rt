@@ -4,9 +4,8 @@ ghost use Rattle.std.specs.Prelude.{◌≡◌, IfOk, true};
 ghost use Rattle.std.specs.List.{list_all};
 ghost use Rattle.cell_ascii_meaning.specs.Header.{usual_null};
 ghost use Rattle.cell_ascii_meaning.specs.Writing.{IsNullText};
-ghost use Rattle.cell_core_text.specs.Answers.{Answers};
 ghost use Rattle.rcell_script_options.specs.NullText.{is_printed, is_null_byte, is_null_text, is_table_null_text};
-ghost use Rattle.rcell_script_options.specs.OptionReading.{null_text_of, table_null_text_of};
+ghost use Rattle.rcell_script_options.specs.OptionReading.{GivesOption, null_text_of, table_null_text_of};
 
 use crate::option_fault::OptionFault;
 use cell_core::memory::Memory;
@@ -94,7 +93,7 @@ impl NullText {
     /// [`OptionFault::BadOption`] exactly where it spells none, else [`OptionFault::Memory`] where
     /// memory for a copy was refused.
     pub(crate) fn read(alloc: Global, value: &[u8]) -> Result<NullText, OptionFault>
-        ensures { Answers OptionFault.Memory (λ text. text) result (null_text_of value.now) }
+        ensures { GivesOption result (null_text_of value.now) }
     {
         if !is_null_text(value) {
             return Err(OptionFault::BadOption);
@@ -132,7 +131,7 @@ impl TableNullText {
     /// [`OptionFault::BadOption`] exactly where it spells none, else [`OptionFault::Memory`] where
     /// memory for a copy was refused.
     pub(crate) fn read(alloc: Global, value: &[u8]) -> Result<TableNullText, OptionFault>
-        ensures { Answers OptionFault.Memory (λ text. text) result (table_null_text_of value.now) }
+        ensures { GivesOption result (table_null_text_of value.now) }
     {
         if !is_table_null_text(value) {
             return Err(OptionFault::BadOption);

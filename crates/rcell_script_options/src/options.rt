@@ -7,7 +7,7 @@ ghost use Rattle.cell_ascii_meaning.specs.Header.{usual_null};
 ghost use Rattle.cell_core_text.specs.Answers.{Answers};
 ghost use Rattle.cell_core_text.specs.Words.{parts_of};
 ghost use Rattle.cell_core_values.specs.Letters.{is_one_of};
-ghost use Rattle.rcell_script_options.specs.OptionReading.{texts, flags_of, option_key_of, option_name, names_from, names_of, no_options, with_letters, with_flags, with_value, with_pair, with_word, with_words, options_of};
+ghost use Rattle.rcell_script_options.specs.OptionReading.{GivesOption, texts, flags_of, option_key_of, option_name, names_from, names_of, no_options, with_letters, with_flags, with_value, with_pair, with_word, with_words, options_of};
 ghost use Rattle.rcell_script_options.specs.parts.Keys.{is_given};
 ghost use Rattle.rcell_script_options.specs.Options.{are_flags, printed_byte, separator_in};
 
@@ -222,7 +222,7 @@ fn option_key_of(form: Form, text: &[u8]) -> Option<OptionKey>
 
 // The name of one map.
 fn option_name(alloc: Global, value: &[u8]) -> Result<Name, OptionFault>
-    ensures { Answers OptionFault.Memory (λ name. name) result (option_name value.now) }
+    ensures { GivesOption result (option_name value.now) }
 {
     let name = Name::read(alloc, value)?;
     Ok(name)
@@ -243,7 +243,7 @@ fn names_from(alloc: Global, parts: &[&[u8]]) -> Result<Vec<Name>, OptionFault>
 
 // The names of maps between commas.
 fn option_names(alloc: Global, value: &[u8]) -> Result<Inputs, OptionFault>
-    ensures { Answers OptionFault.Memory (λ names. names) result (names_of (parts_of value.now)) }
+    ensures { GivesOption result (names_of (parts_of value.now)) }
 {
     let parts = parts_of(alloc, value)?;
     if parts.len() > MOST_INPUTS {
@@ -444,8 +444,7 @@ impl Options {
 ///
 /// The fault of the first word that has one, [`OptionFault::Memory`] where memory was refused.
 pub fn options_of(alloc: Global, form: Form, words: &[&[u8]]) -> Result<Options, OptionFault>
-    ensures { Answers OptionFault.Memory (λ options. options) result
-        (options_of form (texts words.now)) }
+    ensures { GivesOption result (options_of form (texts words.now)) }
 {
     let mut options = Options::new();
     for word in words {

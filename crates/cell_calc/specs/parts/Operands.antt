@@ -1,16 +1,18 @@
 -- Values along a strip: some columns of a row, from one on.
-use Rattle.std.specs.Prelude.{◌≡◌, ◌≤◌, ◌<◌, ◌+◌, ◌-◌, ◌+ℤ◌, ℕ, pos, List, Vec, Some, None, length, take, drop, map, slice_get, slice_index_or}
+use Rattle.std.specs.Prelude.{◌≡◌, ◌≤◌, ◌<◌, ◌+◌, ◌-◌, ◌+ℤ◌, ℕ, pos, All, List, [], ◌∷◌, Vec, Some, None, length, take, drop, map, slice_get, slice_index_or}
 use Rattle.std.specs.Global.{Global}
 use Rattle.cell_core.specs.Grid.{CellValue}
 use Rattle.cell_calc_operators.specs.Applied.{Spot, spot, operator_value, call_result, negated_cell, inverted_cell}
 use Rattle.cell_calc_operators.specs.Offsets.{item_at}
 use Rattle.cell_calc.specs.Window.{Window}
+use Rattle.cell_calc_steps.specs.Postfix.{arity, values_after}
 use Rattle.cell_calc_steps.specs.declared.step.Step.{Step}
+use Rattle.cell_calc_tokens.specs.declared.function.Function.{Function}
 use Rattle.cell_calc_steps.specs.declared.step.Step.TheVariants as step
 use Rattle.cell_calc.specs.declared.strip.Operand.{Operand}
 use Rattle.cell_calc.specs.declared.strip.Operand.TheVariants as operand
 use Rattle.cell_calc.specs.declared.strip.Strip.{Strip}
-use Rattle.cell_calc_rows.specs.RowValues.{at}
+use Rattle.cell_calc_rows.specs.RowValues.{at, AreWide, arguments_at}
 use Rattle.cell_calc.specs.parts.WindowsOver.{IsInReach, row_below}
 
 -- the last so many operands, and those before them
@@ -34,9 +36,10 @@ AtColumns strip P = (c : ℕ) → c < strip.width → P c
 abbrev pub IsAsWide : Strip → Vec CellValue Global → Type 0
 IsAsWide strip row = length row.items ≡ strip.width
 
--- a row has these cells along a strip
-abbrev pub HasCells : Strip → (ℕ → CellValue) → Vec CellValue Global → Type 0
-HasCells strip cell row = AtColumns strip (λ c. at row.items c ≡ cell c)
+-- a row is as wide as a strip and has these cells along it
+pub record HasCells (strip : Strip) (cell : ℕ → CellValue) (row : Vec CellValue Global) : Type 0 where
+  pub width : IsAsWide strip row
+  pub each : AtColumns strip (λ c. at row.items c ≡ cell c)
 
 -- a number that is a category, or a map whose window reaches the offset
 abbrev pub IsReadyStep : List Window → Step ℕ → Type 0
@@ -75,3 +78,33 @@ seen_cell windows s (step.Call f n) xs = call_result f s xs
 -- the place of a column of a strip
 abbrev pub spot_at : Strip → ℕ → Spot
 spot_at strip c = spot strip.region strip.row (strip.from + c)
+
+-- a strip, and operands that are ready there, of which so many are taken
+pub record AreReady (s : Strip) (windows : List Window) (count : ℕ) (operands : List Operand) : Type 0 where
+  pub strip : IsStrip s
+  pub enough : count ≤ length operands
+  pub ready : All (IsOperandReady windows s) operands
+
+-- the operand is what a step makes of the last ones, which are taken
+pub record IsStepped (strip : Strip) (windows : List Window) (s : Step ℕ) (old new : List Operand) (o : Operand) : Type 0 where
+  pub rest : new ≡ lower_operands (arity s) old
+  pub ready : IsOperandReady windows strip o
+  pub each : AtColumns strip (λ c. operand_at windows strip c o
+      ≡ seen_cell windows (spot_at strip c) s (cells_at windows strip c (top_operands (arity s) old)))
+
+-- the row has the values of a function of the last operands, so many, which are taken
+pub record IsCalled (strip : Strip) (windows : List Window) (f : Function) (count : ℕ) (old new : List Operand) (row : Vec CellValue Global) : Type 0 where
+  pub rest : new ≡ lower_operands count old
+  pub width : IsAsWide strip row
+  pub each : AtColumns strip (λ c. at row.items c ≡ call_result f (spot_at strip c) (cells_at windows strip c (top_operands count old)))
+
+-- the rows are the last operands, so many, which are taken
+pub record AreGathered (strip : Strip) (windows : List Window) (count : ℕ) (old new : List Operand) (rows : List (Vec CellValue Global)) : Type 0 where
+  pub rest : new ≡ lower_operands count old
+  pub width : AreWide strip.width rows
+  pub each : AtColumns strip (λ c. arguments_at c rows ≡ cells_at windows strip c (top_operands count old))
+
+-- a row is as wide as a strip, and has the values after steps along it
+pub record HasValuesAfter (strip : Strip) (windows : List Window) (steps : List (Step ℕ)) (row : Vec CellValue Global) : Type 0 where
+  pub width : IsAsWide strip row
+  pub each : AtColumns strip (λ c. at row.items c ∷ [] ≡ values_after (seen_cell windows (spot_at strip c)) steps [])

@@ -1,10 +1,12 @@
 -- What single steps say of the expression that they are of.
-use Rattle.std.specs.Prelude.{◌≡◌, ◌≤◌, ◌<◌, ◌+◌, ◌^◌, ◌==◌, ℕ, List, [], ◌∷◌, length, if◌then◌else◌}
+use Rattle.std.specs.Prelude.{◌≡◌, ◌≤◌, ◌<◌, ◌+◌, ◌^◌, ◌==◌, ℕ, List, [], ◌∷◌, length, map, max, All, if◌then◌else◌}
 use Rattle.cell_calc_steps.specs.declared.step.Step.{Step}
 use Rattle.cell_calc_steps.specs.declared.step.Step.TheVariants.{Number, Map, Negated, Not, Binary, Call}
-use Rattle.cell_calc_steps.specs.Postfix.{postfix, tree_of}
+use Rattle.cell_calc_steps.specs.Postfix.{postfix, tree_of, step_over, fold_steps}
 use Rattle.cell_calc_language.specs.Grammatical.{up_by, down_by}
-use Rattle.cell_calc_binding.specs.Reach.{IsProper}
+use Rattle.cell_calc_binding.specs.Compact.{ReadsMap, AreMapsRead, AreDistinctPlaces}
+use Rattle.cell_calc_binding.specs.Formula.{Formula}
+use Rattle.cell_calc_binding.specs.Reach.{IsProper, top_at}
 
 -- they are the steps of an expression that the language allows
 pub record AreBound (steps : List (Step ℕ)) : Type 0 where
@@ -42,3 +44,16 @@ IsListed places Negated = Unit {0}
 IsListed places Not = Unit {0}
 IsListed places (Binary op) = Unit {0}
 IsListed places (Call f n) = Unit {0}
+
+-- places that were listed stay where they were, and none comes twice
+pub record KeepsPlaces (old new : List ℕ) : Type 0 where
+  pub kept : (i : ℕ) → index_in old i < length old → index_in new i ≡ index_in old i
+  pub distinct : AreDistinctPlaces old → AreDistinctPlaces new
+
+-- the others are the steps over a list of just the places that they read
+pub record AreOverRead (all others : List (Step ℕ)) (places : List ℕ) : Type 0 where
+  pub steps : others ≡ map (step_over (index_in places)) all
+  pub listed : All (IsListed places) all
+  pub count : length places ≡ fold_steps top_at 0 max others
+  pub distinct : AreDistinctPlaces places
+  pub read : (f : Formula) → All (λ s. (i : ℕ) → ReadsPlace i s → ReadsMap i f) all → AreMapsRead places f

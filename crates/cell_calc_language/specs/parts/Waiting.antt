@@ -1,5 +1,5 @@
 -- What waits for an operand, while an expression is read.
-use Rattle.std.specs.Prelude.{◌≡◌, ℕ, List, [], ◌∷◌, ◌++◌, reverse, length, vec_len, ◌+◌, ◌*◌, Result, Ok, Err}
+use Rattle.std.specs.Prelude.{◌≡◌, ℕ, List, [], ◌∷◌, ◌++◌, reverse, length, vec_len, ◌+◌, ◌*◌, ◌≤◌, Result, Ok, Err, IfOk}
 use Rattle.cell_calc_language.specs.declared.token_parsing.ParseStop.{ParseStop}
 use Rattle.cell_calc_language.specs.declared.expression_reader.Frame.{Frame}
 use Rattle.cell_calc_language.specs.declared.expression_reader.Frame.TheVariants as frame
@@ -78,3 +78,15 @@ turn_tokens (turn.After ts) = ts.now
 -- the work that is left: a token makes four frames at most
 abbrev pub work : List Placed → Reader → ℕ
 work ts r = 4 * length ts + vec_len r.frames
+
+-- whatever awaits this state with the first reader goes on with the second
+abbrev pub ReadsOn : Reader → State → Reader → Result Turn ParseStop → Type 0
+ReadsOn old t new result = (s : State) → IsAwaited s old t → Goes s new result
+
+-- whatever the frame and those of the first reader wait for goes on with the second
+abbrev pub Resumes : Reader → Frame → List Placed → Reader → Result Turn ParseStop → Type 0
+Resumes old f ts new result = (s : State) → IsResumed s old f ts → Goes s new result
+
+-- a turn leaves so much work at most
+abbrev pub LeavesWork : ℕ → Reader → Result Turn ParseStop → Type 0
+LeavesWork most r result = IfOk result (λ turn. work (turn_tokens turn) r ≤ most)

@@ -5,11 +5,12 @@ use Rattle.cell_calc.specs.parts.Operands.{IsOperandReady}
 use Rattle.cell_calc.proofs.Operands.{enough_at, enough_more, step_more, no_steps, only_one, end_value, of_last}
 use Rattle.cell_calc.proofs.along.along.Goals as goal
 
-pub step_value-requires-clause-strip : goal.step_value-requires-clause-strip
-step_value-requires-clause-strip c = c.requires.strip
-
-pub step_value-requires-clause-ready : goal.step_value-requires-clause-ready
-step_value-requires-clause-ready c = c.loop-step.invariant.ready
+pub step_value-requires-clause-operands : goal.step_value-requires-clause-operands
+step_value-requires-clause-operands c = record {
+  strip = c.requires.strip;
+  enough = enough_at c.args.steps.now c.loop-step.step-index _ _ c.loop-step-test.true c.loop-step.invariant.enough;
+  ready = c.loop-step.invariant.ready;
+}
 
 pub row_of-requires : goal.row_of-requires
 row_of-requires c = record {
@@ -18,30 +19,19 @@ row_of-requires c = record {
 }
 
 pub returns-in_err-operand : goal.returns-in_err-operand
-returns-in_err-operand c =
-    let failed = IfOk-from_err c.from_residual.result in
-    record { width = failed _ c.from_residual.ensures.0; each = failed _ c.from_residual.ensures.0 }
+returns-in_err-operand c = IfOk-from_err c.from_residual.result _ c.from_residual.ensures.0
 
-pub returns-in_err-push-clause-width : goal.returns-in_err-push-clause-width
-returns-in_err-push-clause-width c = IfOk-from_err c.from_residual-in_err-push.result _ c.from_residual-in_err-push.ensures.0
+pub returns-in_err-push : goal.returns-in_err-push
+returns-in_err-push c = IfOk-from_err c.from_residual-in_err-push.result _ c.from_residual-in_err-push.ensures.0
 
-pub returns-in_err-push-clause-each : goal.returns-in_err-push-clause-each
-returns-in_err-push-clause-each c = IfOk-from_err c.from_residual-in_err-push.result _ c.from_residual-in_err-push.ensures.0
-
-pub returns-in_err-row-clause-width : goal.returns-in_err-row-clause-width
-returns-in_err-row-clause-width c = IfOk-from_err c.from_residual-in_err-row.result _ c.from_residual-in_err-row.ensures.0
-
-pub returns-in_err-row-clause-each : goal.returns-in_err-row-clause-each
-returns-in_err-row-clause-each c = IfOk-from_err c.from_residual-in_err-row.result _ c.from_residual-in_err-row.ensures.0
+pub returns-in_err-row : goal.returns-in_err-row
+returns-in_err-row c = IfOk-from_err c.from_residual-in_err-row.result _ c.from_residual-in_err-row.ensures.0
 
 pub pop_operand-last-requires : goal.pop_operand-last-requires
 pop_operand-last-requires c =
     let none = no_steps c.args.steps.now c.loop-step.step-index c.loop-step-test.false in
     let one = rw none at c.loop-step.invariant.enough in
     omega (arith, one)
-
-pub returns-clause-width : goal.returns-clause-width
-returns-clause-width c = c.in_ok-row.ensures.width
 
 pub loop-step-preserved : goal.loop-step-preserved
 loop-step-preserved c =
@@ -61,12 +51,15 @@ loop-step-preserved c =
           (made.each k h) (so_far.each k h);
     }
 
-pub returns-clause-each : goal.returns-clause-each
-returns-clause-each c =
+pub returns : goal.returns
+returns c =
     let so_far = c.loop-step.invariant in
     let i = c.loop-step.step-index in
     let none = no_steps c.args.steps.now i c.loop-step-test.false in
     let one = rw none at so_far.enough in
     let only = only_one c.loop-step.operands.items c.pop_operand-last.new.operands.items c.pop_operand-last.result one c.pop_operand-last.ensures in
-    λ k h. ap (λ v. v ∷ []) (c.in_ok-row.ensures.each k h)
-    ∙ end_value c.args.windows.now c.args.strip.now c.args.steps.now i k c.loop-step.operands.items c.pop_operand-last.result _ none only (so_far.each k h)
+    record {
+      width = c.in_ok-row.ensures.width;
+      each = λ k h. ap (λ v. v ∷ []) (c.in_ok-row.ensures.each k h)
+          ∙ end_value c.args.windows.now c.args.strip.now c.args.steps.now i k c.loop-step.operands.items c.pop_operand-last.result _ none only (so_far.each k h);
+    }

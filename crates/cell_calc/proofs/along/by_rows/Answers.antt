@@ -8,31 +8,20 @@ use Rattle.cell_calc.proofs.Written.{at_written, changed_width}
 use Rattle.cell_calc.proofs.along.by_rows.Goals as goal
 
 pub gather_arguments-requires : goal.gather_arguments-requires
-gather_arguments-requires c = record { strip = c.requires.strip; enough = c.requires.enough; ready = c.requires.ready }
+gather_arguments-requires c = c.requires
 
 pub returns-in_err-gather_arguments : goal.returns-in_err-gather_arguments
-returns-in_err-gather_arguments c =
-    let failed = IfOk-from_err c.from_residual.result in
-    let is = c.from_residual.ensures.0 in
-    record { rest = failed _ is; width = failed _ is; each = failed _ is }
+returns-in_err-gather_arguments c = IfOk-from_err c.from_residual.result _ c.from_residual.ensures.0
 
 pub returns-in_err-row : goal.returns-in_err-row
-returns-in_err-row c =
-    let failed = IfOk-from_err c.from_residual-in_err-row.result in
-    let is = c.from_residual-in_err-row.ensures.0 in
-    record { rest = failed _ is; width = failed _ is; each = failed _ is }
+returns-in_err-row c = IfOk-from_err c.from_residual-in_err-row.result _ c.from_residual-in_err-row.ensures.0
 
 pub returns-in_err-call_values : goal.returns-in_err-call_values
 returns-in_err-call_values c =
-    let failed = IfOk-from_err c.from_residual-in_err-call_values.result in
-    let is = c.from_residual-in_err-call_values.ensures.0 in
-    record { rest = failed _ is; width = failed _ is; each = failed _ is }
+    IfOk-from_err c.from_residual-in_err-call_values.result _ c.from_residual-in_err-call_values.ensures.0
 
 pub returns-in_err-append : goal.returns-in_err-append
-returns-in_err-append c =
-    let failed = IfOk-from_err c.from_residual-in_err-append.result in
-    let is = c.from_residual-in_err-append.ensures.0 in
-    record { rest = failed _ is; width = failed _ is; each = failed _ is }
+returns-in_err-append c = IfOk-from_err c.from_residual-in_err-append.result _ c.from_residual-in_err-append.ensures.0
 
 pub call_values-requires-clause-at_row : goal.call_values-requires-clause-at_row
 call_values-requires-clause-at_row c = c.requires.strip.row
@@ -56,7 +45,7 @@ returns c = record {
       let row = c.in_ok-row.row in
       let all : row.len ≡ length row.items = search rules in
       changed_width row.len c.args.strip.now.width row.items c.as_mut_slice-cells.result.now c.call_values.new.row all
-      c.as_mut_slice-cells.ensures.value c.in_ok-call_values.ensures.width c.in_ok-row.ensures;
+      c.as_mut_slice-cells.ensures.value c.call_values.auto.row c.in_ok-row.ensures;
   each =
       let row = c.in_ok-row.row in
       let all : row.len ≡ length row.items = search rules in
@@ -64,8 +53,8 @@ returns c = record {
       let same = ap (λ l. length l) c.as_mut_slice-cells.ensures.value in
       let start = same ∙ c.in_ok-row.ensures in
       λ k h.
-      at_written row.len c.call_values.new.row row.items k all (c.in_ok-call_values.ensures.width ∙ same)
-      ∙ c.in_ok-call_values.ensures.each k (subst (λ n. k < n) (sym start) h)
+      at_written row.len c.call_values.new.row row.items k all (c.call_values.auto.row ∙ same)
+      ∙ c.in_ok-call_values.ensures k (subst (λ n. k < n) (sym start) h)
       ∙ ap (λ l. call_result c.args.function (spot_at strip k) (column k (map (λ v. v.items) l)))
       c.as_slice-arguments.ensures.value
       ∙ ap (λ l. call_result c.args.function (spot_at strip k) l) (c.in_ok-gather_arguments.ensures.each k h);

@@ -1,9 +1,10 @@
-use Rattle.std.proofs.Common.{rules, arith, ◌≡◌, ◌∷◌, [], length, refl, Some, pos}
+use Rattle.std.proofs.Common.{rules, arith, ◌≡◌, ℕ, ◌∷◌, [], length, refl, Some, pos}
 use Rattle.std.proofs.lemmas.Result.{IfOk-from_err}
 use Rattle.cell_calc_operators.specs.Applied.{size_of}
 use Rattle.cell_calc_operators.specs.CellOperators.{chosen_cell, truth, is_null}
-use Rattle.cell_calc.specs.parts.Operands.{IsOperandReady, operand_at}
-use Rattle.cell_calc.proofs.Operands.{front_is, back_is, more_before, of_last, of_front, three_last, on_ok}
+use Rattle.cell_calc.specs.declared.strip.Operand.{Operand}
+use Rattle.cell_calc.specs.parts.Operands.{IsOperandReady, HasCells, IsCalled, operand_at}
+use Rattle.cell_calc.proofs.Operands.{front_is, back_is, more_before, of_last, of_front, three_last, if_ok}
 use Rattle.cell_calc.proofs.Written.{changed_width, changed}
 use Rattle.cell_calc.proofs.along.call_value.Goals as goal
 
@@ -19,10 +20,7 @@ row_of-requires-clause-ready c =
     c.requires.ready
 
 pub returns-in_err-row-in-If-eq1 : goal.returns-in_err-row-in-If-eq1
-returns-in_err-row-in-If-eq1 c =
-    let failed = IfOk-from_err c.from_residual.result in
-    let is = c.from_residual.ensures.0 in
-    record { rest = failed _ is; width = failed _ is; each = failed _ is }
+returns-in_err-row-in-If-eq1 c = IfOk-from_err c.from_residual.result _ c.from_residual.ensures.0
 
 pub returns-in_ok-row-in-If-eq1 : goal.returns-in_ok-row-in-If-eq1
 returns-in_ok-row-in-If-eq1 c = record {
@@ -31,14 +29,14 @@ returns-in_ok-row-in-If-eq1 c = record {
       let row = c.in_ok-row-in-If-eq1.row in
       let all : row.len ≡ length row.items = search rules in
       changed_width row.len c.args.strip.now.width row.items c.as_mut_slice.result.now c.one_or_zero.new.row all c.as_mut_slice.ensures.value
-      c.one_or_zero.ensures.width c.in_ok-row-in-If-eq1.ensures.width;
+      c.one_or_zero.auto.row c.in_ok-row-in-If-eq1.ensures.width;
   each =
       let row = c.in_ok-row-in-If-eq1.row in
       let all : row.len ≡ length row.items = search rules in
       let last = back_is c.args.operands.now.items c.pop_operand.new.operands.items (c.pop_operand.result ∷ []) 1 c.pop_operand.ensures refl in
       rw (c.in-If-eq1.is-0, c.in-If-eq1.is-1, ← last) (λ k h. changed (λ v. chosen_cell v (Some (pos 1)) (Some (pos 0))) row.len c.args.strip.now.width k
       row.items c.as_mut_slice.result.now c.one_or_zero.new.row
-      (operand_at c.args.windows.now c.args.strip.now k c.pop_operand.result) all c.as_mut_slice.ensures.value c.one_or_zero.ensures.width c.one_or_zero.ensures.each
+      (operand_at c.args.windows.now c.args.strip.now k c.pop_operand.result) all c.as_mut_slice.ensures.value c.one_or_zero.auto.row c.one_or_zero.ensures
       c.in_ok-row-in-If-eq1.ensures.width h (c.in_ok-row-in-If-eq1.ensures.each k h));
 }
 
@@ -53,17 +51,9 @@ row_of-requires-in-IsNull-eq1-clause-ready c =
     of_last (IsOperandReady c.args.windows.now c.args.strip.now) c.args.operands.now.items c.pop_operand-in-IsNull-eq1.new.operands.items
     c.pop_operand-in-IsNull-eq1.result c.pop_operand-in-IsNull-eq1.ensures c.requires.ready
 
-pub returns-in_err-row-in-IsNull-eq1-clause-rest : goal.returns-in_err-row-in-IsNull-eq1-clause-rest
-returns-in_err-row-in-IsNull-eq1-clause-rest c = IfOk-from_err c.from_residual-in_err-row-in-IsNull-eq1.result _
-    c.from_residual-in_err-row-in-IsNull-eq1.ensures.0
-
-pub returns-in_err-row-in-IsNull-eq1-clause-width : goal.returns-in_err-row-in-IsNull-eq1-clause-width
-returns-in_err-row-in-IsNull-eq1-clause-width c = IfOk-from_err c.from_residual-in_err-row-in-IsNull-eq1.result _
-    c.from_residual-in_err-row-in-IsNull-eq1.ensures.0
-
-pub returns-in_err-row-in-IsNull-eq1-clause-each : goal.returns-in_err-row-in-IsNull-eq1-clause-each
-returns-in_err-row-in-IsNull-eq1-clause-each c = IfOk-from_err c.from_residual-in_err-row-in-IsNull-eq1.result _
-    c.from_residual-in_err-row-in-IsNull-eq1.ensures.0
+pub returns-in_err-row-in-IsNull-eq1 : goal.returns-in_err-row-in-IsNull-eq1
+returns-in_err-row-in-IsNull-eq1 c =
+    IfOk-from_err c.from_residual-in_err-row-in-IsNull-eq1.result _ c.from_residual-in_err-row-in-IsNull-eq1.ensures.0
 
 pub returns-in_ok-row-in-IsNull-eq1 : goal.returns-in_ok-row-in-IsNull-eq1
 returns-in_ok-row-in-IsNull-eq1 c = record {
@@ -74,7 +64,7 @@ returns-in_ok-row-in-IsNull-eq1 c = record {
       let row = c.in_ok-row-in-IsNull-eq1.row in
       let all : row.len ≡ length row.items = search rules in
       changed_width row.len c.args.strip.now.width row.items c.as_mut_slice-in-IsNull-eq1.result.now c.nullness.new.row all
-      c.as_mut_slice-in-IsNull-eq1.ensures.value c.nullness.ensures.width c.in_ok-row-in-IsNull-eq1.ensures.width;
+      c.as_mut_slice-in-IsNull-eq1.ensures.value c.nullness.auto.row c.in_ok-row-in-IsNull-eq1.ensures.width;
   each =
       let row = c.in_ok-row-in-IsNull-eq1.row in
       let all : row.len ≡ length row.items = search rules in
@@ -83,7 +73,7 @@ returns-in_ok-row-in-IsNull-eq1 c = record {
       rw (c.in-IsNull-eq1.is-0, c.in-IsNull-eq1.is-1, ← last) (λ k h. changed (λ v. truth (is_null v)) row.len c.args.strip.now.width k row.items
       c.as_mut_slice-in-IsNull-eq1.result.now c.nullness.new.row
       (operand_at c.args.windows.now c.args.strip.now k c.pop_operand-in-IsNull-eq1.result) all c.as_mut_slice-in-IsNull-eq1.ensures.value
-      c.nullness.ensures.width c.nullness.ensures.each c.in_ok-row-in-IsNull-eq1.ensures.width h (c.in_ok-row-in-IsNull-eq1.ensures.each k h));
+      c.nullness.auto.row c.nullness.ensures c.in_ok-row-in-IsNull-eq1.ensures.width h (c.in_ok-row-in-IsNull-eq1.ensures.each k h));
 }
 
 pub pop_operand-requires-in-Abs-eq1 : goal.pop_operand-requires-in-Abs-eq1
@@ -99,9 +89,7 @@ row_of-requires-in-Abs-eq1-clause-ready c =
 
 pub returns-in_err-row-in-Abs-eq1 : goal.returns-in_err-row-in-Abs-eq1
 returns-in_err-row-in-Abs-eq1 c =
-    let failed = IfOk-from_err c.from_residual-in_err-row-in-Abs-eq1.result in
-    let is = c.from_residual-in_err-row-in-Abs-eq1.ensures.0 in
-    record { rest = failed _ is; width = failed _ is; each = failed _ is }
+    IfOk-from_err c.from_residual-in_err-row-in-Abs-eq1.result _ c.from_residual-in_err-row-in-Abs-eq1.ensures.0
 
 pub returns-in_ok-row-in-Abs-eq1 : goal.returns-in_ok-row-in-Abs-eq1
 returns-in_ok-row-in-Abs-eq1 c = record {
@@ -112,7 +100,7 @@ returns-in_ok-row-in-Abs-eq1 c = record {
       let row = c.in_ok-row-in-Abs-eq1.row in
       let all : row.len ≡ length row.items = search rules in
       changed_width row.len c.args.strip.now.width row.items c.as_mut_slice-in-Abs-eq1.result.now c.size.new.row all
-      c.as_mut_slice-in-Abs-eq1.ensures.value c.size.ensures.width c.in_ok-row-in-Abs-eq1.ensures.width;
+      c.as_mut_slice-in-Abs-eq1.ensures.value c.size.auto.row c.in_ok-row-in-Abs-eq1.ensures.width;
   each =
       let row = c.in_ok-row-in-Abs-eq1.row in
       let all : row.len ≡ length row.items = search rules in
@@ -120,8 +108,8 @@ returns-in_ok-row-in-Abs-eq1 c = record {
       c.pop_operand-in-Abs-eq1.ensures refl in
       rw (c.in-Abs-eq1.is-0, c.in-Abs-eq1.is-1, ← last) (λ k h. changed (λ v. size_of v) row.len c.args.strip.now.width k row.items
       c.as_mut_slice-in-Abs-eq1.result.now c.size.new.row
-      (operand_at c.args.windows.now c.args.strip.now k c.pop_operand-in-Abs-eq1.result) all c.as_mut_slice-in-Abs-eq1.ensures.value c.size.ensures.width
-      c.size.ensures.each c.in_ok-row-in-Abs-eq1.ensures.width h (c.in_ok-row-in-Abs-eq1.ensures.each k h));
+      (operand_at c.args.windows.now c.args.strip.now k c.pop_operand-in-Abs-eq1.result) all c.as_mut_slice-in-Abs-eq1.ensures.value c.size.auto.row
+      c.size.ensures c.in_ok-row-in-Abs-eq1.ensures.width h (c.in_ok-row-in-Abs-eq1.ensures.each k h));
 }
 
 pub pop_operand-no-requires : goal.pop_operand-no-requires
@@ -160,30 +148,27 @@ choice_value-requires c = record {
 }
 
 pub returns-in-If-eq3 : goal.returns-in-If-eq3
-returns-in-If-eq3 c = record {
-  rest =
-      let last = c.pop_operand-condition.result ∷ c.pop_operand-yes.result ∷ c.pop_operand-no.result ∷ [] in
-      let three = three_last c.args.operands.now.items c.pop_operand-no.new.operands.items
-      c.pop_operand-yes.new.operands.items
-      c.pop_operand-condition.new.operands.items c.pop_operand-condition.result c.pop_operand-yes.result
-      c.pop_operand-no.result
-      c.pop_operand-no.ensures c.pop_operand-yes.ensures c.pop_operand-condition.ensures in
-      rw c.in-If-eq3.is-1 (on_ok c.choice_value.result (front_is c.args.operands.now.items c.pop_operand-condition.new.operands.items last 3 three refl));
-  width = c.choice_value.ensures.width;
-  each =
-      let last = c.pop_operand-condition.result ∷ c.pop_operand-yes.result ∷ c.pop_operand-no.result ∷ [] in
-      let three = three_last c.args.operands.now.items c.pop_operand-no.new.operands.items
-      c.pop_operand-yes.new.operands.items
-      c.pop_operand-condition.new.operands.items c.pop_operand-condition.result c.pop_operand-yes.result
-      c.pop_operand-no.result
-      c.pop_operand-no.ensures c.pop_operand-yes.ensures c.pop_operand-condition.ensures in
-      let back = back_is c.args.operands.now.items c.pop_operand-condition.new.operands.items last 3 three refl in
-      rw (c.in-If-eq3.is-0, c.in-If-eq3.is-1, ← back) c.choice_value.ensures.each;
-}
+returns-in-If-eq3 c =
+    let strip = c.args.strip.now in
+    let windows = c.args.windows.now in
+    let cells = λ (k : ℕ) (o : Operand). operand_at windows strip k o in
+    let condition = c.pop_operand-condition.result in
+    let yes = c.pop_operand-yes.result in
+    let no = c.pop_operand-no.result in
+    let old = c.args.operands.now.items in
+    let new = c.pop_operand-condition.new.operands.items in
+    let last = condition ∷ yes ∷ no ∷ [] in
+    let three = three_last old c.pop_operand-no.new.operands.items c.pop_operand-yes.new.operands.items new
+    condition yes no c.pop_operand-no.ensures c.pop_operand-yes.ensures c.pop_operand-condition.ensures in
+    if_ok c.choice_value.result (HasCells strip (λ k. chosen_cell (cells k condition) (cells k yes) (cells k no)))
+    (IsCalled strip windows c.args.function c.args.count old new) (λ row made. record {
+      rest = rw c.in-If-eq3.is-1 (front_is old new last 3 three refl);
+      width = made.width;
+      each = rw (c.in-If-eq3.is-0, c.in-If-eq3.is-1, ← back_is old new last 3 three refl) made.each;
+    }) c.choice_value.ensures
 
 pub by_rows-requires : goal.by_rows-requires
-by_rows-requires c = record { strip = c.requires.strip; enough = c.requires.enough; ready = c.requires.ready }
+by_rows-requires c = c.requires
 
 pub returns-in_default : goal.returns-in_default
-returns-in_default c =
-    record { rest = c.by_rows.ensures.rest; width = c.by_rows.ensures.width; each = c.by_rows.ensures.each }
+returns-in_default c = c.by_rows.ensures

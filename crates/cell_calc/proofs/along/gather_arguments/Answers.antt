@@ -29,16 +29,10 @@ row_of-requires-clause-ready c =
     (rw c.operands.invariant.rest (All-take is _ c.args.operands.now.items c.requires.ready))
 
 pub returns-in_err-row : goal.returns-in_err-row
-returns-in_err-row c =
-    let failed = IfOk-from_err c.from_residual.result in
-    let is = c.from_residual.ensures.0 in
-    record { rest = failed _ is; width = failed _ is; each = failed _ is }
+returns-in_err-row c = IfOk-from_err c.from_residual.result _ c.from_residual.ensures.0
 
 pub returns-in_err-push : goal.returns-in_err-push
-returns-in_err-push c =
-    let failed = IfOk-from_err c.from_residual-in_err-push.result in
-    let is = c.from_residual-in_err-push.ensures.0 in
-    record { rest = failed _ is; width = failed _ is; each = failed _ is }
+returns-in_err-push c = IfOk-from_err c.from_residual-in_err-push.result _ c.from_residual-in_err-push.ensures.0
 
 pub operands-preserved : goal.operands-preserved
 operands-preserved c =

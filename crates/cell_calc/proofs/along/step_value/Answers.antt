@@ -8,21 +8,18 @@ use Rattle.cell_calc.proofs.Written.{changed_width, changed}
 use Rattle.cell_calc.proofs.along.step_value.Goals as goal
 
 pub pop_operand-requires : goal.pop_operand-requires
-pop_operand-requires c = rw c.in-Negated.is at c.requires.enough
+pop_operand-requires c = rw c.in-Negated.is at c.requires.operands.enough
 
 pub row_of-requires-clause-strip : goal.row_of-requires-clause-strip
-row_of-requires-clause-strip c = c.requires.strip
+row_of-requires-clause-strip c = c.requires.operands.strip
 
 pub row_of-requires-clause-ready : goal.row_of-requires-clause-ready
 row_of-requires-clause-ready c =
     of_last (IsOperandReady c.args.windows.now c.args.strip.now) c.args.operands.now.items c.pop_operand.new.operands.items c.pop_operand.result c.pop_operand.ensures
-    c.requires.ready
+    c.requires.operands.ready
 
 pub returns-in_err-row-in-Negated : goal.returns-in_err-row-in-Negated
-returns-in_err-row-in-Negated c =
-    let failed = IfOk-from_err c.from_residual.result in
-    let is = c.from_residual.ensures.0 in
-    record { rest = failed _ is; ready = failed _ is; each = failed _ is }
+returns-in_err-row-in-Negated c = IfOk-from_err c.from_residual.result _ c.from_residual.ensures.0
 
 pub returns-in_ok-row-in-Negated : goal.returns-in_ok-row-in-Negated
 returns-in_ok-row-in-Negated c = record {
@@ -31,32 +28,30 @@ returns-in_ok-row-in-Negated c = record {
       let row = c.in_ok-row-in-Negated.row in
       let all : row.len ≡ length row.items = search rules in
       changed_width row.len c.args.strip.now.width row.items c.as_mut_slice.result.now c.negate.new.row all c.as_mut_slice.ensures.value
-      c.negate.ensures.width c.in_ok-row-in-Negated.ensures.width;
+      c.negate.auto.row c.in_ok-row-in-Negated.ensures.width;
   each =
       let row = c.in_ok-row-in-Negated.row in
       let all : row.len ≡ length row.items = search rules in
       let last = back_is c.args.operands.now.items c.pop_operand.new.operands.items (c.pop_operand.result ∷ []) 1 c.pop_operand.ensures refl in
       rw (c.in-Negated.is, ← last) (λ k h. changed (λ v. negated_cell v) row.len c.args.strip.now.width k row.items c.as_mut_slice.result.now c.negate.new.row
-      (operand_at c.args.windows.now c.args.strip.now k c.pop_operand.result) all c.as_mut_slice.ensures.value c.negate.ensures.width c.negate.ensures.each
-      c.in_ok-row-in-Negated.ensures.width h (c.in_ok-row-in-Negated.ensures.each k h));
+      (operand_at c.args.windows.now c.args.strip.now k c.pop_operand.result) all c.as_mut_slice.ensures.value
+      c.negate.auto.row c.negate.ensures c.in_ok-row-in-Negated.ensures.width h (c.in_ok-row-in-Negated.ensures.each k h));
 }
 
 pub pop_operand-requires-in-Not : goal.pop_operand-requires-in-Not
-pop_operand-requires-in-Not c = rw c.in-Not.is at c.requires.enough
+pop_operand-requires-in-Not c = rw c.in-Not.is at c.requires.operands.enough
 
 pub row_of-requires-in-Not-clause-strip : goal.row_of-requires-in-Not-clause-strip
-row_of-requires-in-Not-clause-strip c = c.requires.strip
+row_of-requires-in-Not-clause-strip c = c.requires.operands.strip
 
 pub row_of-requires-in-Not-clause-ready : goal.row_of-requires-in-Not-clause-ready
 row_of-requires-in-Not-clause-ready c =
     of_last (IsOperandReady c.args.windows.now c.args.strip.now) c.args.operands.now.items c.pop_operand-in-Not.new.operands.items c.pop_operand-in-Not.result
-    c.pop_operand-in-Not.ensures c.requires.ready
+    c.pop_operand-in-Not.ensures c.requires.operands.ready
 
 pub returns-in_err-row-in-Not : goal.returns-in_err-row-in-Not
 returns-in_err-row-in-Not c =
-    let failed = IfOk-from_err c.from_residual-in_err-row-in-Not.result in
-    let is = c.from_residual-in_err-row-in-Not.ensures.0 in
-    record { rest = failed _ is; ready = failed _ is; each = failed _ is }
+    IfOk-from_err c.from_residual-in_err-row-in-Not.result _ c.from_residual-in_err-row-in-Not.ensures.0
 
 pub returns-in_ok-row-in-Not : goal.returns-in_ok-row-in-Not
 returns-in_ok-row-in-Not c = record {
@@ -65,49 +60,45 @@ returns-in_ok-row-in-Not c = record {
       let row = c.in_ok-row-in-Not.row in
       let all : row.len ≡ length row.items = search rules in
       changed_width row.len c.args.strip.now.width row.items c.as_mut_slice-in-Not.result.now c.invert.new.row all c.as_mut_slice-in-Not.ensures.value
-      c.invert.ensures.width c.in_ok-row-in-Not.ensures.width;
+      c.invert.auto.row c.in_ok-row-in-Not.ensures.width;
   each =
       let row = c.in_ok-row-in-Not.row in
       let all : row.len ≡ length row.items = search rules in
       let last = back_is c.args.operands.now.items c.pop_operand-in-Not.new.operands.items (c.pop_operand-in-Not.result ∷ []) 1 c.pop_operand-in-Not.ensures refl in
       rw (c.in-Not.is, ← last) (λ k h. changed (λ v. inverted_cell v) row.len c.args.strip.now.width k row.items c.as_mut_slice-in-Not.result.now c.invert.new.row
-      (operand_at c.args.windows.now c.args.strip.now k c.pop_operand-in-Not.result) all c.as_mut_slice-in-Not.ensures.value c.invert.ensures.width
-      c.invert.ensures.each c.in_ok-row-in-Not.ensures.width h (c.in_ok-row-in-Not.ensures.each k h));
+      (operand_at c.args.windows.now c.args.strip.now k c.pop_operand-in-Not.result) all c.as_mut_slice-in-Not.ensures.value
+      c.invert.auto.row c.invert.ensures c.in_ok-row-in-Not.ensures.width h (c.in_ok-row-in-Not.ensures.each k h));
 }
 
 pub pop_operand-right-requires : goal.pop_operand-right-requires
-pop_operand-right-requires c = let h = rw c.in-Binary.is at c.requires.enough in omega (arith, h)
+pop_operand-right-requires c = let h = rw c.in-Binary.is at c.requires.operands.enough in omega (arith, h)
 
 pub pop_operand-left-requires : goal.pop_operand-left-requires
 pop_operand-left-requires c =
     more_before 0 c.args.operands.now.items c.pop_operand-right.new.operands.items c.pop_operand-right.result c.pop_operand-right.ensures (rw c.in-Binary.is at
-    c.requires.enough)
+    c.requires.operands.enough)
 
 pub binary_value-requires : goal.binary_value-requires
 binary_value-requires c = record {
-  strip = c.requires.strip;
+  strip = c.requires.operands.strip;
   left =
       let is = IsOperandReady c.args.windows.now c.args.strip.now in
       let before = c.pop_operand-right.new.operands.items in
       of_last is before c.pop_operand-left.new.operands.items c.pop_operand-left.result c.pop_operand-left.ensures
       (of_front is c.args.operands.now.items before c.pop_operand-right.result c.pop_operand-right.ensures
-      c.requires.ready);
+      c.requires.operands.ready);
   right =
       of_last (IsOperandReady c.args.windows.now c.args.strip.now) c.args.operands.now.items c.pop_operand-right.new.operands.items c.pop_operand-right.result
-      c.pop_operand-right.ensures c.requires.ready;
+      c.pop_operand-right.ensures c.requires.operands.ready;
 }
 
 pub returns-in_err-row-in-Binary : goal.returns-in_err-row-in-Binary
 returns-in_err-row-in-Binary c =
-    let failed = IfOk-from_err c.from_residual-in_err-row-in-Binary.result in
-    let is = c.from_residual-in_err-row-in-Binary.ensures.0 in
-    record { rest = failed _ is; ready = failed _ is; each = failed _ is }
+    IfOk-from_err c.from_residual-in_err-row-in-Binary.result _ c.from_residual-in_err-row-in-Binary.ensures.0
 
 pub returns-in_err-row-in-Call : goal.returns-in_err-row-in-Call
 returns-in_err-row-in-Call c =
-    let failed = IfOk-from_err c.from_residual-in_err-row-in-Call.result in
-    let is = c.from_residual-in_err-row-in-Call.ensures.0 in
-    record { rest = failed _ is; ready = failed _ is; each = failed _ is }
+    IfOk-from_err c.from_residual-in_err-row-in-Call.result _ c.from_residual-in_err-row-in-Call.ensures.0
 
 pub returns-in_ok-row-in-Binary : goal.returns-in_ok-row-in-Binary
 returns-in_ok-row-in-Binary c = record {
@@ -124,8 +115,7 @@ returns-in_ok-row-in-Binary c = record {
 }
 
 pub call_value-requires : goal.call_value-requires
-call_value-requires c =
-    record { strip = c.requires.strip; enough = rw c.in-Call.is at c.requires.enough; ready = c.requires.ready }
+call_value-requires c = rw c.in-Call.is at c.requires.operands
 
 pub returns-in_ok-row-in-Call : goal.returns-in_ok-row-in-Call
 returns-in_ok-row-in-Call c = record {

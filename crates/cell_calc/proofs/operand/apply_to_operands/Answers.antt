@@ -1,6 +1,5 @@
 use Rattle.std.proofs.Common.{rules, ◌<◌, ◌≡◌, ◌+◌, ◌+ℤ◌, ℕ, pos, ap, ◌∙◌, None, w32, FitsSigned}
 use Rattle.std.proofs.lemmas.Int.{to_z-of_z}
-use Rattle.std.proofs.lemmas.Result.{IfOk-from_err}
 use Rattle.cell_calc_operators.specs.Applied.{operator_value}
 use Rattle.cell_calc_operators.specs.Offsets.{item_at}
 use Rattle.cell_calc_rows.specs.RowValues.{at}
@@ -10,30 +9,24 @@ use Rattle.cell_calc.proofs.operand.apply_to_operands.Goals as goal
 in_row : (k n width : ℕ) → n ≡ width → k < width → k < n
 in_row k n width e lt = rw e lt
 
-pub returns-in-Number-clause-width : goal.returns-in-Number-clause-width
-returns-in-Number-clause-width c = c.apply_one.ensures.width ∙ c.requires.width
-
-pub returns-in-Number-clause-each : goal.returns-in-Number-clause-each
-returns-in-Number-clause-each c = rw c.in-Number.is (λ k h.
-    c.apply_one.ensures.each k (in_row k _ _ c.requires.width h)
+pub returns-in-Number : goal.returns-in-Number
+returns-in-Number c = rw c.in-Number.is (λ k h.
+    c.apply_one.ensures k (in_row k _ _ c.requires.width h)
     ∙ ap (λ v. operator_value c.args.operator (at c.args.row.now k) v) c.number.ensures)
 
-pub returns-in-Map-clause-width : goal.returns-in-Map-clause-width
-returns-in-Map-clause-width c = c.apply_shifted.ensures.width ∙ c.requires.width
-
-pub returns-in-Map-clause-each : goal.returns-in-Map-clause-each
-returns-in-Map-clause-each c =
+pub returns-in-Map : goal.returns-in-Map
+returns-in-Map c =
     let fits : FitsSigned w32 c.in-Map.down = search rules in
     let fits_right : FitsSigned w32 c.in-Map.right = search rules in
     let source = rw (to_z-of_z w32 c.in-Map.down fits) at c.window_row-source.ensures in
     rw c.in-Map.is (λ k h.
     let each = rw (to_z-of_z w32 c.in-Map.right fits_right) at
-    (c.apply_shifted.ensures.each k (in_row k _ _ c.requires.width h)) in
+    (c.apply_shifted.ensures k (in_row k _ _ c.requires.width h)) in
     each
     ∙ ap (λ l. operator_value c.args.operator (at c.args.row.now k)
     (item_at None l (pos (c.args.strip.now.from + k) +ℤ c.in-Map.right))) source)
 
-pub returns-in_ok-push-in-Row-clause-each : goal.returns-in_ok-push-in-Row-clause-each
-returns-in_ok-push-in-Row-clause-each c = rw c.in-Row.is (λ k h.
-    c.apply_operator.ensures.each k (in_row k _ _ c.requires.width h)
+pub returns-in_ok-push-in-Row : goal.returns-in_ok-push-in-Row
+returns-in_ok-push-in-Row c = rw c.in-Row.is (λ k h.
+    c.apply_operator.ensures k (in_row k _ _ c.requires.width h)
     ∙ ap (λ l. operator_value c.args.operator (at c.args.row.now k) (at l k)) c.as_slice.ensures.value)

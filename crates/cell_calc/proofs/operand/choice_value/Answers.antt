@@ -1,4 +1,4 @@
-use Rattle.std.proofs.Common.{◌≡◌, length, sym, ap, ◌∙◌, rules}
+use Rattle.std.proofs.Common.{◌≡◌, length, ap, ◌∙◌, rules}
 use Rattle.std.proofs.lemmas.Result.{IfOk-from_err}
 use Rattle.cell_calc_operators.specs.CellOperators.{chosen_cell}
 use Rattle.cell_calc_rows.specs.RowValues.{at}
@@ -22,47 +22,35 @@ choose_operands-requires c = record {
 }
 
 pub returns-in_err-row : goal.returns-in_err-row
-returns-in_err-row c =
-    let failed = IfOk-from_err c.from_residual.result in
-    record { width = failed _ c.from_residual.ensures.0; each = failed _ c.from_residual.ensures.0 }
+returns-in_err-row c = IfOk-from_err c.from_residual.result _ c.from_residual.ensures.0
 
 pub returns-in_err-conditions : goal.returns-in_err-conditions
 returns-in_err-conditions c =
-    let failed = IfOk-from_err c.from_residual-in_err-conditions.result in
-    let is = c.from_residual-in_err-conditions.ensures.0 in
-    record { width = failed _ is; each = failed _ is }
+    IfOk-from_err c.from_residual-in_err-conditions.result _ c.from_residual-in_err-conditions.ensures.0
 
 pub returns-in_err-choose_operands : goal.returns-in_err-choose_operands
 returns-in_err-choose_operands c =
-    let failed = IfOk-from_err c.from_residual-in_err-choose_operands.result in
-    let is = c.from_residual-in_err-choose_operands.ensures.0 in
-    record { width = failed _ is; each = failed _ is }
+    IfOk-from_err c.from_residual-in_err-choose_operands.result _ c.from_residual-in_err-choose_operands.ensures.0
 
 pub returns-in_err-push : goal.returns-in_err-push
-returns-in_err-push c =
-    let failed = IfOk-from_err c.from_residual-in_err-push.result in
-    let is = c.from_residual-in_err-push.ensures.0 in
-    record { width = failed _ is; each = failed _ is }
+returns-in_err-push c = IfOk-from_err c.from_residual-in_err-push.result _ c.from_residual-in_err-push.ensures.0
 
-pub returns-clause-width : goal.returns-clause-width
-returns-clause-width c =
+pub returns : goal.returns
+returns c =
     let row = c.in_ok-row.row in
     let all : row.len ≡ length row.items = search rules in
-    let kept = c.in_ok-choose_operands.ensures.width ∙ sym c.in_ok-row.ensures.width in
-    ap (λ l. length l) (written row.len c.choose_operands.new.row row.items all kept)
-    ∙ c.in_ok-choose_operands.ensures.width
-
-pub returns-clause-each : goal.returns-clause-each
-returns-clause-each c =
-    let row = c.in_ok-row.row in
-    let all : row.len ≡ length row.items = search rules in
-    let kept = c.in_ok-choose_operands.ensures.width ∙ sym c.in_ok-row.ensures.width in
-    λ k h.
-    let condition = operand_at c.args.windows.now c.args.strip.now k c.args.condition in
-    let yes = operand_at c.args.windows.now c.args.strip.now k c.args.yes in
-    let old = at c.as_mut_slice.result.now k in
-    at_written row.len c.choose_operands.new.row row.items k all kept ∙ c.in_ok-choose_operands.ensures.each k h
-    ∙ ap (λ l. chosen_cell (at l k) yes old) c.as_slice-others.ensures.value
-    ∙ ap (λ v. chosen_cell v yes old) (c.in_ok-conditions.ensures.each k h)
-    ∙ ap (λ l. chosen_cell condition yes (at l k)) c.as_mut_slice.ensures.value
-    ∙ ap (λ v. chosen_cell condition yes v) (c.in_ok-row.ensures.each k h)
+    let same = ap (λ l. length l) c.as_mut_slice.ensures.value in
+    let kept = c.choose_operands.auto.row ∙ same in
+    record {
+      width = ap (λ l. length l) (written row.len c.choose_operands.new.row row.items all kept) ∙ kept
+          ∙ c.in_ok-row.ensures.width;
+      each = λ k h.
+          let condition = operand_at c.args.windows.now c.args.strip.now k c.args.condition in
+          let yes = operand_at c.args.windows.now c.args.strip.now k c.args.yes in
+          let old = at c.as_mut_slice.result.now k in
+          at_written row.len c.choose_operands.new.row row.items k all kept ∙ c.in_ok-choose_operands.ensures k h
+          ∙ ap (λ l. chosen_cell (at l k) yes old) c.as_slice-others.ensures.value
+          ∙ ap (λ v. chosen_cell v yes old) (c.in_ok-conditions.ensures.each k h)
+          ∙ ap (λ l. chosen_cell condition yes (at l k)) c.as_mut_slice.ensures.value
+          ∙ ap (λ v. chosen_cell condition yes v) (c.in_ok-row.ensures.each k h);
+    }

@@ -37,46 +37,34 @@ choose_row-requires-in-Row-clause-width c =
 pub choose_row-requires-in-Row-clause-conditions : goal.choose_row-requires-in-Row-clause-conditions
 choose_row-requires-in-Row-clause-conditions c = c.requires.conditions ∙ sym c.requires.width
 
-pub returns-in_err-others-in-Map-clause-each : goal.returns-in_err-others-in-Map-clause-each
-returns-in_err-others-in-Map-clause-each c = IfOk-from_err c.from_residual.result _ c.from_residual.ensures.0
+pub returns-in_err-others-in-Map : goal.returns-in_err-others-in-Map
+returns-in_err-others-in-Map c = IfOk-from_err c.from_residual.result _ c.from_residual.ensures.0
 
-pub returns-in-Number-clause-width : goal.returns-in-Number-clause-width
-returns-in-Number-clause-width c = c.choose_one.ensures.width ∙ c.requires.width
-
-pub returns-in-Number-clause-each : goal.returns-in-Number-clause-each
-returns-in-Number-clause-each c = rw c.in-Number.is (λ k h.
-    c.choose_one.ensures.each k (in_row k _ _ c.requires.width h)
+pub returns-in-Number : goal.returns-in-Number
+returns-in-Number c = rw c.in-Number.is (λ k h.
+    c.choose_one.ensures k (in_row k _ _ c.requires.width h)
     ∙ ap (λ v. chosen_cell (at c.args.conditions.now k) v (at c.args.row.now k)) c.number.ensures)
 
-pub returns-in-Some-clause-width : goal.returns-in-Some-clause-width
-returns-in-Some-clause-width c = c.choose.ensures.width ∙ c.requires.width
-
-pub returns-in-Some-clause-each : goal.returns-in-Some-clause-each
-returns-in-Some-clause-each c =
+pub returns-in-Some : goal.returns-in-Some
+returns-in-Some c =
     let fits : FitsSigned w32 c.in-Map.down = search rules in
     let fits_right : FitsSigned w32 c.in-Map.right = search rules in
     let source = rw (to_z-of_z w32 c.in-Map.down fits) at c.window_row-source.ensures in
     rw c.in-Map.is (λ k h.
     let part = rw (to_z-of_z w32 c.in-Map.right fits_right) at (c.in-Some.ensures.each k h) in
-    c.choose.ensures.each k (in_row k _ _ c.requires.width h)
+    c.choose.ensures k (in_row k _ _ c.requires.width h)
     ∙ ap (λ v. chosen_cell (at c.args.conditions.now k) v (at c.args.row.now k))
     (part ∙ ap (λ l. item_at None l (pos (c.args.strip.now.from + k) +ℤ c.in-Map.right)) source))
 
-pub returns-in_ok-others-in-Map-clause-width : goal.returns-in_ok-others-in-Map-clause-width
-returns-in_ok-others-in-Map-clause-width c = c.choose_row.ensures.width ∙ c.requires.width
-
-pub returns-in_ok-others-in-Map-clause-each : goal.returns-in_ok-others-in-Map-clause-each
-returns-in_ok-others-in-Map-clause-each c =
+pub returns-in_ok-others-in-Map : goal.returns-in_ok-others-in-Map
+returns-in_ok-others-in-Map c =
     let fits : FitsSigned w32 c.in-Map.down = search rules in
     let fits_right : FitsSigned w32 c.in-Map.right = search rules in
     let others = rw (to_z-of_z w32 c.in-Map.down fits, to_z-of_z w32 c.in-Map.right fits_right) at
     c.in_ok-others-in-Map.ensures.each in
-    rw c.in-Map.is (on_ok c.choose_row.result (λ k h. c.choose_row.ensures.each k (in_row k _ _ c.requires.width h)
+    rw c.in-Map.is (on_ok c.choose_row.result (λ k h. c.choose_row.ensures k (in_row k _ _ c.requires.width h)
     ∙ ap (λ v. chosen_cell (at c.args.conditions.now k) v (at c.args.row.now k)) (others k h)))
 
-pub returns-in-Row-clause-width : goal.returns-in-Row-clause-width
-returns-in-Row-clause-width c = c.choose_row-in-Row.ensures.width ∙ c.requires.width
-
-pub returns-in-Row-clause-each : goal.returns-in-Row-clause-each
-returns-in-Row-clause-each c = rw c.in-Row.is (on_ok c.choose_row-in-Row.result
-    (λ k h. c.choose_row-in-Row.ensures.each k (in_row k _ _ c.requires.width h)))
+pub returns-in-Row : goal.returns-in-Row
+returns-in-Row c = rw c.in-Row.is (on_ok c.choose_row-in-Row.result
+    (λ k h. c.choose_row-in-Row.ensures k (in_row k _ _ c.requires.width h)))

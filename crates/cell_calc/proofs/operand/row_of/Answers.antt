@@ -6,15 +6,11 @@ use Rattle.cell_calc.proofs.Written.{at_written, changed_width}
 use Rattle.cell_calc.proofs.operand.row_of.Goals as goal
 
 pub returns-in_err-row-in-Number : goal.returns-in_err-row-in-Number
-returns-in_err-row-in-Number c =
-    let failed = IfOk-from_err c.from_residual.result in
-    record { width = failed _ c.from_residual.ensures.0; each = failed _ c.from_residual.ensures.0 }
+returns-in_err-row-in-Number c = IfOk-from_err c.from_residual.result _ c.from_residual.ensures.0
 
-pub returns-in_err-row-in-Map-clause-width : goal.returns-in_err-row-in-Map-clause-width
-returns-in_err-row-in-Map-clause-width c = IfOk-from_err c.from_residual-in_err-row-in-Map.result _ c.from_residual-in_err-row-in-Map.ensures.0
-
-pub returns-in_err-row-in-Map-clause-each : goal.returns-in_err-row-in-Map-clause-each
-returns-in_err-row-in-Map-clause-each c = IfOk-from_err c.from_residual-in_err-row-in-Map.result _ c.from_residual-in_err-row-in-Map.ensures.0
+pub returns-in_err-row-in-Map : goal.returns-in_err-row-in-Map
+returns-in_err-row-in-Map c =
+    IfOk-from_err c.from_residual-in_err-row-in-Map.result _ c.from_residual-in_err-row-in-Map.ensures.0
 
 pub window_row-source-requires : goal.window_row-source-requires
 window_row-source-requires c =
@@ -25,39 +21,34 @@ window_row-source-requires c =
 pub returns-in-Row : goal.returns-in-Row
 returns-in-Row c = record { width = rw c.in-Row.is at c.requires.ready; each = rw c.in-Row.is (λ k h. refl) }
 
-pub returns-in_ok-row-in-Number-clause-width : goal.returns-in_ok-row-in-Number-clause-width
-returns-in_ok-row-in-Number-clause-width c =
-    let row = c.in_ok-row-in-Number.row in
-    let all : row.len ≡ length row.items = search rules in
-    changed_width row.len c.args.strip.now.width row.items c.as_mut_slice.result.now c.fill.new.row all
-    c.as_mut_slice.ensures.value c.fill.ensures.width c.in_ok-row-in-Number.ensures
-
-pub returns-in_ok-row-in-Map-clause-width : goal.returns-in_ok-row-in-Map-clause-width
-returns-in_ok-row-in-Map-clause-width c =
-    let row = c.in_ok-row-in-Map.row in
-    let all : row.len ≡ length row.items = search rules in
-    changed_width row.len c.args.strip.now.width row.items c.as_mut_slice-in-Map.result.now c.shift.new.row all
-    c.as_mut_slice-in-Map.ensures.value c.shift.ensures.width c.in_ok-row-in-Map.ensures
-
-pub returns-in_ok-row-in-Number-clause-each : goal.returns-in_ok-row-in-Number-clause-each
-returns-in_ok-row-in-Number-clause-each c =
+pub returns-in_ok-row-in-Number : goal.returns-in_ok-row-in-Number
+returns-in_ok-row-in-Number c =
     let row = c.in_ok-row-in-Number.row in
     let all : row.len ≡ length row.items = search rules in
     let start = ap (λ l. length l) c.as_mut_slice.ensures.value in
-    rw c.in-Number.is (λ k h.
-    let here : k < length c.as_mut_slice.result.now = omega (arith, start, c.in_ok-row-in-Number.ensures, h) in
-    at_written row.len c.fill.new.row row.items k all (c.fill.ensures.width ∙ start) ∙ c.fill.ensures.each k here ∙ c.number.ensures)
+    record {
+      width = changed_width row.len c.args.strip.now.width row.items c.as_mut_slice.result.now c.fill.new.row all
+          c.as_mut_slice.ensures.value c.fill.auto.row c.in_ok-row-in-Number.ensures;
+      each = rw c.in-Number.is (λ k h.
+          let here : k < length c.as_mut_slice.result.now = omega (arith, start, c.in_ok-row-in-Number.ensures, h) in
+          at_written row.len c.fill.new.row row.items k all (c.fill.auto.row ∙ start) ∙ c.fill.ensures k here
+          ∙ c.number.ensures);
+    }
 
-pub returns-in_ok-row-in-Map-clause-each : goal.returns-in_ok-row-in-Map-clause-each
-returns-in_ok-row-in-Map-clause-each c =
+pub returns-in_ok-row-in-Map : goal.returns-in_ok-row-in-Map
+returns-in_ok-row-in-Map c =
     let row = c.in_ok-row-in-Map.row in
     let fits : FitsSigned w32 c.in-Map.down = search rules in
     let fits_right : FitsSigned w32 c.in-Map.right = search rules in
     let all : row.len ≡ length row.items = search rules in
     let start = ap (λ l. length l) c.as_mut_slice-in-Map.ensures.value in
     let source = rw (to_z-of_z w32 c.in-Map.down fits) at c.window_row-source.ensures in
-    rw c.in-Map.is (λ k h.
-    let here : k < length c.as_mut_slice-in-Map.result.now = omega (arith, start, c.in_ok-row-in-Map.ensures, h) in
-    let each = rw (to_z-of_z w32 c.in-Map.right fits_right) at (c.shift.ensures.each k here) in
-    at_written row.len c.shift.new.row row.items k all (c.shift.ensures.width ∙ start) ∙ each
-    ∙ ap (λ l. item_at None l (pos (c.args.strip.now.from + k) +ℤ c.in-Map.right)) source)
+    record {
+      width = changed_width row.len c.args.strip.now.width row.items c.as_mut_slice-in-Map.result.now c.shift.new.row all
+          c.as_mut_slice-in-Map.ensures.value c.shift.auto.row c.in_ok-row-in-Map.ensures;
+      each = rw c.in-Map.is (λ k h.
+          let here : k < length c.as_mut_slice-in-Map.result.now = omega (arith, start, c.in_ok-row-in-Map.ensures, h) in
+          let each = rw (to_z-of_z w32 c.in-Map.right fits_right) at (c.shift.ensures k here) in
+          at_written row.len c.shift.new.row row.items k all (c.shift.auto.row ∙ start) ∙ each
+          ∙ ap (λ l. item_at None l (pos (c.args.strip.now.from + k) +ℤ c.in-Map.right)) source);
+    }

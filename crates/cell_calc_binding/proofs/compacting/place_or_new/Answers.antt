@@ -6,21 +6,16 @@ use Rattle.cell_calc_binding.proofs.Compact.{read_push}
 use Rattle.cell_calc_binding.proofs.compacting.place_or_new.Goals as goal
 
 pub returns : goal.returns
-returns c = record {
-  there =
-      let places = c.args.places.now.items in
-      let absent : length places ≤ index_in places c.args.place = search rules in
-      let k : c.listed_place-k.result ≡ index_in places c.args.place = c.listed_place-k.ensures ∙ ap (λ l. index_in l c.args.place) c.as_slice.ensures.value in
-      rw (c.in_ok-push.ensures.items, index_last places c.args.place absent) (omega (arith, k, absent, index_within places c.args.place));
-  count =
-      let places = c.args.places.now.items in
-      let absent : length places ≤ index_in places c.args.place = search rules in
-      let k : c.listed_place-k.result ≡ index_in places c.args.place = c.listed_place-k.ensures ∙ ap (λ l. index_in l c.args.place) c.as_slice.ensures.value in
-      rw (c.in_ok-push.ensures.items, length-append places (c.args.place ∷ [])) (omega (arith, k, absent, index_within places c.args.place));
-  kept = rw c.in_ok-push.ensures.items (λ i lt. index_kept c.args.places.now.items (c.args.place ∷ []) i lt);
-  distinct =
-      let places = c.args.places.now.items in
-      let absent : length places ≤ index_in places c.args.place = search rules in
-      rw c.in_ok-push.ensures.items (λ distinct. all_pairs_push (λ a b. a ≢ b) places c.args.place distinct (λ k d lt e. index_absent places c.args.place absent k d lt e));
-  read = rw c.in_ok-push.ensures.items (λ f here there. read_push f c.args.places.now.items c.args.place here there);
-}
+returns c =
+    let places = c.args.places.now.items in
+    let absent : length places ≤ index_in places c.args.place = search rules in
+    let k : c.listed_place-k.result ≡ index_in places c.args.place = c.listed_place-k.ensures ∙ ap (λ l. index_in l c.args.place) c.as_slice.ensures.value in
+    rw c.in_ok-push.ensures.items (record {
+      there = rw (index_last places c.args.place absent) (omega (arith, k, absent, index_within places c.args.place));
+      count = rw (length-append places (c.args.place ∷ [])) (omega (arith, k, absent, index_within places c.args.place));
+      places = record {
+        kept = λ i lt. index_kept places (c.args.place ∷ []) i lt;
+        distinct = λ distinct. all_pairs_push (λ a b. a ≢ b) places c.args.place distinct (λ k d lt e. index_absent places c.args.place absent k d lt e);
+      };
+      read = λ f here there. read_push f places c.args.place here there;
+    })

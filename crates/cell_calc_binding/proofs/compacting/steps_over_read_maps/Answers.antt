@@ -25,13 +25,7 @@ none_read : {places : List ℕ} (f : Formula) → places ≡ [] → AreMapsRead 
 none_read f none = rw none (λ k i is. cc)
 
 pub returns-in_err-others : goal.returns-in_err-others
-returns-in_err-others c = record {
-  steps = IfOk-from_err c.from_residual.result _ c.from_residual.ensures.0;
-  listed = IfOk-from_err c.from_residual.result _ c.from_residual.ensures.0;
-  count = IfOk-from_err c.from_residual.result _ c.from_residual.ensures.0;
-  distinct = IfOk-from_err c.from_residual.result _ c.from_residual.ensures.0;
-  read = IfOk-from_err c.from_residual.result _ c.from_residual.ensures.0;
-}
+returns-in_err-others c = IfOk-from_err c.from_residual.result _ c.from_residual.ensures.0
 
 pub loop-step-init : goal.loop-step-init
 loop-step-init c =
@@ -45,22 +39,10 @@ loop-step-init c =
     }
 
 pub returns-in_err-other : goal.returns-in_err-other
-returns-in_err-other c = record {
-  steps = IfOk-from_err c.from_residual-in_err-other.result _ c.from_residual-in_err-other.ensures.0;
-  listed = IfOk-from_err c.from_residual-in_err-other.result _ c.from_residual-in_err-other.ensures.0;
-  count = IfOk-from_err c.from_residual-in_err-other.result _ c.from_residual-in_err-other.ensures.0;
-  distinct = IfOk-from_err c.from_residual-in_err-other.result _ c.from_residual-in_err-other.ensures.0;
-  read = IfOk-from_err c.from_residual-in_err-other.result _ c.from_residual-in_err-other.ensures.0;
-}
+returns-in_err-other c = IfOk-from_err c.from_residual-in_err-other.result _ c.from_residual-in_err-other.ensures.0
 
 pub returns-in_err-push : goal.returns-in_err-push
-returns-in_err-push c = record {
-  steps = IfOk-from_err c.from_residual-in_err-push.result _ c.from_residual-in_err-push.ensures.0;
-  listed = IfOk-from_err c.from_residual-in_err-push.result _ c.from_residual-in_err-push.ensures.0;
-  count = IfOk-from_err c.from_residual-in_err-push.result _ c.from_residual-in_err-push.ensures.0;
-  distinct = IfOk-from_err c.from_residual-in_err-push.result _ c.from_residual-in_err-push.ensures.0;
-  read = IfOk-from_err c.from_residual-in_err-push.result _ c.from_residual-in_err-push.ensures.0;
-}
+returns-in_err-push c = IfOk-from_err c.from_residual-in_err-push.result _ c.from_residual-in_err-push.ensures.0
 
 pub loop-step-preserved : goal.loop-step-preserved
 loop-step-preserved c =
@@ -73,12 +55,12 @@ loop-step-preserved c =
     record {
       steps = others ∙ moved_more c.loop-step.places.items c.step_over_new_place.new.places.items c.args.steps.now
           c.loop-step.step-index _ c.loop-step.others.items c.in_ok-other.other c.loop-step-test.true
-          c.step_over_new_place.ensures.kept so_far.listed so_far.steps moved.step;
+          c.step_over_new_place.ensures.places.kept so_far.listed so_far.steps moved.step;
       listed = listed_more c.loop-step.places.items c.step_over_new_place.new.places.items c.args.steps.now
           c.loop-step.step-index _
-          c.loop-step-test.true c.step_over_new_place.ensures.kept longer so_far.listed moved.listed;
+          c.loop-step-test.true c.step_over_new_place.ensures.places.kept longer so_far.listed moved.listed;
       count = rw (others, last) (omega (arith, moved.count, so_far.count));
-      distinct = c.step_over_new_place.ensures.distinct so_far.distinct;
+      distinct = c.step_over_new_place.ensures.places.distinct so_far.distinct;
       read = λ f all. c.step_over_new_place.ensures.read f (all c.loop-step.step-index _ c.loop-step-test.true)
           (so_far.read f all);
     }

@@ -39,10 +39,10 @@ copy_from_slice-requires c =
     sym (item_width (λ v. v.items) args _ 0 c.x-item.result c.as_slice.result.now c.requires
     (within 0 0 (length args) c.in-len1.len_at_least) c.x-item.is c.as_slice.ensures.value)
 
-pub returns-in-len1-clause-each : goal.returns-in-len1-clause-each
-returns-in-len1-clause-each c =
+pub returns-in-len1 : goal.returns-in-len1
+returns-in-len1 c =
     let row = c.copy_from_slice.ensures.after ∙ c.as_slice.ensures.value in
-    λ k h. c.one_or_zero.ensures.each k
+    λ k h. c.one_or_zero.ensures k
     (below_same k c.copy_from_slice.new.self c.args.row.now c.copy_from_slice.ensures.len h)
     ∙ ap (λ l. chosen_cell (at l k) (Some (pos 1)) (Some (pos 0))) row
     ∙ sym (ap if_of (only (λ v. v.items) k c.args.arguments.now c.x-item.result
@@ -63,12 +63,12 @@ choose_or_zero-requires c =
           ∙ sym c.copy_from_slice-in-len2.ensures.len;
     }
 
-pub returns-in-len2-clause-each : goal.returns-in-len2-clause-each
-returns-in-len2-clause-each c =
+pub returns-in-len2 : goal.returns-in-len2
+returns-in-len2 c =
     let x = c.copy_from_slice-in-len2.ensures.after ∙ c.as_slice-in-len2.ensures.value in
     let all = λ (k : ℕ). both (λ v. v.items) k c.args.arguments.now c.x-item-then-arguments-lt3.result c.a-item.result
     c.in-len2.len_at_least c.in-len2.len_below c.x-item-then-arguments-lt3.is c.a-item.is in
-    λ k h. c.choose_or_zero.ensures.each k
+    λ k h. c.choose_or_zero.ensures k
     (below_same k c.copy_from_slice-in-len2.new.self c.args.row.now c.copy_from_slice-in-len2.ensures.len h)
     ∙ ap (λ l. chosen_cell (at l k) (at c.as_slice-in-len2-2.result.now k) (Some (pos 0))) x
     ∙ ap (λ l. chosen_cell (at c.x-item-then-arguments-lt3.result.items k) (at l k) (Some (pos 0)))
@@ -95,13 +95,13 @@ choose-requires-clause-width_yes c =
     (within 1 1 (length args) c.in-len3.len_at_least) c.a-item-then-arguments-lt4.is c.as_slice-in-len3-3.ensures.value
     ∙ sym c.copy_from_slice-in-len3.ensures.len
 
-pub returns-in-len3-clause-each : goal.returns-in-len3-clause-each
-returns-in-len3-clause-each c =
+pub returns-in-len3 : goal.returns-in-len3
+returns-in-len3 c =
     let x = c.x-item-then-arguments-lt4 in
     let a = c.a-item-then-arguments-lt4 in
     let old = c.copy_from_slice-in-len3.new.self in
     let row = c.copy_from_slice-in-len3.ensures.after ∙ c.as_slice-in-len3.ensures.value in
-    λ k h. c.choose.ensures.each k
+    λ k h. c.choose.ensures k
     (below_same k c.copy_from_slice-in-len3.new.self c.args.row.now c.copy_from_slice-in-len3.ensures.len h)
     ∙ ap (λ l. chosen_cell (at l k) (at c.as_slice-in-len3-3.result.now k)
     (at old k)) c.as_slice-in-len3-2.ensures.value

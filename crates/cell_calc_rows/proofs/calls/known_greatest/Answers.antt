@@ -1,4 +1,4 @@
-use Rattle.std.proofs.Common.{rules, arith, ◌∙◌, None, map}
+use Rattle.std.proofs.Common.{arith, ◌∙◌, None, map}
 use Rattle.cell_calc_rows.specs.RowValues.{column}
 use Rattle.cell_calc_operators.specs.Joins.{known_greater}
 use Rattle.cell_calc_rows.proofs.Columns.{fold_step, fold_all, known_greatest_is}
@@ -6,12 +6,11 @@ use Rattle.cell_calc_rows.proofs.calls.known_greatest.Goals as goal
 
 pub loop-other-preserved : goal.loop-other-preserved
 loop-other-preserved c = record {
-  width = search rules;
   done = λ k h. fold_step (λ cells. cells.items) known_greater None _ c.loop-other.other-index k c.other-item.result _ _ _ c.loop-other-test.true c.other-item.is
-      c.as_slice.ensures.value (c.loop-other.invariant.done k (omega (arith, c.known_larger.ensures.width))) (c.known_larger.ensures.each k (omega (arith, c.known_larger.ensures.width)));
+      c.as_slice.ensures.value (c.loop-other.invariant.done k (omega arith)) (c.known_larger.ensures k (omega arith));
 }
 
-pub returns-clause-each : goal.returns-clause-each
-returns-clause-each c = λ k h. fold_all (λ cells. cells.items) known_greater None c.args.arguments.now c.loop-other.other-index k _ c.loop-other-test.false
-    (c.loop-other.invariant.done k (omega (arith, c.loop-other.invariant.width, c.fill.ensures.width)))
+pub returns : goal.returns
+returns c = λ k h. fold_all (λ cells. cells.items) known_greater None c.args.arguments.now c.loop-other.other-index k _ c.loop-other-test.false
+    (c.loop-other.invariant.done k (omega arith))
     ∙ known_greatest_is (column k (map (λ cells. cells.items) c.args.arguments.now))

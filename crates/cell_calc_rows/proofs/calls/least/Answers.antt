@@ -5,10 +5,10 @@ use Rattle.cell_calc_rows.proofs.Columns.{item_width, other_width, no_items, fol
 use Rattle.cell_calc_rows.proofs.Places.{within_same}
 use Rattle.cell_calc_rows.proofs.calls.least.Goals as goal
 
-pub returns-in_default-clause-each : goal.returns-in_default-clause-each
-returns-in_default-clause-each c =
+pub returns-in_default : goal.returns-in_default
+returns-in_default c =
     let none = no_items c.args.arguments.now c.in_default.len_below in
-    λ k h. c.fill.ensures.each k h ∙ c.null.ensures ∙ sym (ap (λ l. least (column k (map (λ v. v.items) l))) none)
+    λ k h. c.fill.ensures k h ∙ c.null.ensures ∙ sym (ap (λ l. least (column k (map (λ v. v.items) l))) none)
 
 pub copy_from_slice-requires : goal.copy_from_slice-requires
 copy_from_slice-requires c =
@@ -20,24 +20,23 @@ lesser-requires c = record {
   width = other_width (λ v. v.items) c.args.arguments.now _ c.loop-other.other-index c.other-item.result
       c.as_slice-in-loop-other.result.now c.requires c.loop-other-test.true c.other-item.is
       c.as_slice-in-loop-other.ensures.value
-      ∙ sym (c.loop-other.invariant.width ∙ c.copy_from_slice.ensures.len);
+      ∙ sym (c.loop-other.auto.row ∙ c.copy_from_slice.ensures.len);
 }
 
 pub loop-other-preserved : goal.loop-other-preserved
 loop-other-preserved c =
-    let same = sym c.lesser.ensures.width in
+    let same = sym c.lesser.auto.row in
     record {
-      width = c.lesser.ensures.width ∙ c.loop-other.invariant.width;
       done = λ k h.
           let here = within_same c.loop-other.row c.lesser.new.row k same h in
           fold_step (λ v. v.items) lesser _ _ c.loop-other.other-index k c.other-item.result _ _ _
           c.loop-other-test.true c.other-item.is c.as_slice-in-loop-other.ensures.value
-          (c.loop-other.invariant.done k here) (c.lesser.ensures.each k here);
+          (c.loop-other.invariant.done k here) (c.lesser.ensures k here);
     }
 
-pub returns-clause-each : goal.returns-clause-each
-returns-clause-each c = λ k h.
-    let same = c.loop-other.invariant.width ∙ c.copy_from_slice.ensures.len in
+pub returns : goal.returns
+returns c = λ k h.
+    let same = c.loop-other.auto.row ∙ c.copy_from_slice.ensures.len in
     let here = within_same c.loop-other.row c.args.row.now k same h in
     least_all (λ v. v.items) _ c.loop-other.other-index k c.first-item.result _ _ c.in-len1-up.len_at_least
     c.first-item.is

@@ -7,6 +7,5 @@ use Rattle.cell_calc_rows.proofs.calls.least.Given as goal
 abbrev pub invariant-loop-other : goal.invariant-loop-other
 invariant-loop-other l =
     record {
-      width : length l.row ≡ length l.initial.row;
       done : (c : ℕ) → c < length l.row → at l.row c ≡ fold lesser (at l.initial.row c) (take l.other-index (column c (map (λ cells. cells.items) l.others)));
     }

@@ -1,5 +1,4 @@
 use Rattle.std.proofs.Common.{arith, ◌<◌, length}
-use Rattle.std.proofs.lemmas.Grind.{common_steps}
 use Rattle.cell_calc_operators.specs.CellOperators.{is_null}
 use Rattle.cell_calc_rows.proofs.Frequent.{gather_step, gathered, one_at_most}
 use Rattle.cell_calc_rows.proofs.modes.gather_column.Goals as goal
@@ -9,9 +8,8 @@ loop-other-preserved c =
     let so_far = c.loop-other.invariant.count in
     let more = one_at_most
     (is_null c.argument_at-cell.result) c.category_count-count.result c.category_count-count.ensures in
-    let room : c.loop-other.count < length c.loop-other.cells = omega (arith, so_far, c.loop-other-test.true, c.loop-other.invariant.length, c.requires.room) in
+    let room : c.loop-other.count < length c.loop-other.cells = omega (arith, so_far, c.loop-other-test.true, c.loop-other.auto.cells, c.requires.room) in
     record {
-      length = grind (arith, common_steps);
       count = omega (arith, so_far, more);
       known = gather_step (λ row. row.items) c.args.arguments.now c.loop-other.other-index c.args.c c.loop-other.count c.category_count-count.result
           c.other-item.result c.as_slice.result.now c.argument_at-cell.result c.loop-other.cells

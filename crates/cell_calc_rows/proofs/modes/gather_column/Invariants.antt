@@ -1,4 +1,4 @@
-use Rattle.std.proofs.Common.{◌≡◌, ◌≤◌, length, map, take}
+use Rattle.std.proofs.Common.{◌≡◌, ◌≤◌, map, take}
 use Rattle.cell_calc_operators.specs.CellOperators.{known_cells}
 use Rattle.cell_calc_rows.specs.RowValues.{column}
 use Rattle.cell_calc_rows.proofs.modes.gather_column.Given as goal
@@ -6,7 +6,6 @@ use Rattle.cell_calc_rows.proofs.modes.gather_column.Given as goal
 abbrev pub invariant-loop-other : goal.invariant-loop-other
 invariant-loop-other l =
     record {
-      length : length l.cells ≡ length l.initial.cells;
       count : l.count ≤ l.other-index;
       known : take l.count l.cells ≡ known_cells (take l.other-index (column l.c (map (λ row. row.items) l.arguments)));
     }

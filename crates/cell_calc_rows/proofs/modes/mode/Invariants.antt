@@ -6,7 +6,6 @@ use Rattle.cell_calc_rows.proofs.modes.mode.Given as goal
 abbrev pub invariant-loop-c : goal.invariant-loop-c
 invariant-loop-c l =
     record {
-      width : length l.row ≡ length l.initial.row;
       room : length l.cells ≡ length l.arguments;
       done : (k : ℕ) → k < l.c → at l.row k ≡ mode (column k (map (λ cells. cells.items) l.arguments));
     }

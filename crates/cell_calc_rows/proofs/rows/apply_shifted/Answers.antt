@@ -3,8 +3,8 @@ use Rattle.std.proofs.lemmas.Int.{to_z-of_z}
 use Rattle.cell_calc_rows.proofs.Strips.{beside}
 use Rattle.cell_calc_rows.proofs.rows.apply_shifted.Goals as goal
 
-pub returns-clause-each : goal.returns-clause-each
-returns-clause-each c =
+pub returns : goal.returns
+returns c =
     let lies = c.overlap_of-overlap in
     let halves = c.split_at_mut-left in
     let parts = c.split_at_mut-middle in
@@ -17,5 +17,5 @@ returns-clause-each c =
     c.apply_one.new.row c.apply_operator.new.row c.apply_one-2.new.row _ c.args.from lies.result.before first lies.result.count c.args.right
     c.null.result c.null-2.result c.null.ensures c.null-2.ensures halves.ensures.front halves.ensures.back parts.ensures.front parts.ensures.back
     halves.ensures.front_len halves.ensures.back_len parts.ensures.front_len parts.ensures.back_len
-    c.apply_one.ensures.width c.apply_operator.ensures.width c.apply_one-2.ensures.width (ap (λ n. take n (drop first source)) (omega arith))
-    c.apply_one.ensures.each c.apply_operator.ensures.each c.apply_one-2.ensures.each left_out place right_out
+    c.apply_one.auto.row c.apply_operator.auto.row c.apply_one-2.auto.row (ap (λ n. take n (drop first source)) (omega arith))
+    c.apply_one.ensures c.apply_operator.ensures c.apply_one-2.ensures left_out place right_out

@@ -27,7 +27,4 @@ loop-i-preserved c =
     }
 
 pub returns : goal.returns
-returns c = record {
-  width = c.loop-i.auto.row;
-  each = λ k h. c.loop-i.invariant.done k (before_end (length c.args.row.now) c.loop-i.i k c.loop-i-test.false h);
-}
+returns c = λ k h. c.loop-i.invariant.done k (before_end (length c.args.row.now) c.loop-i.i k c.loop-i-test.false h)

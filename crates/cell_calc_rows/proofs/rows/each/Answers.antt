@@ -17,7 +17,4 @@ loop-i-preserved g c =
     }
 
 pub returns : goal.returns
-returns g c = record {
-  width = c.loop-i.auto.row;
-  each = λ k h. c.loop-i.invariant.done k (before_end (length c.args.row.now) c.loop-i.i k c.loop-i-test.false h);
-}
+returns g c = λ k h. c.loop-i.invariant.done k (before_end (length c.args.row.now) c.loop-i.i k c.loop-i-test.false h)

@@ -11,23 +11,11 @@ returns-in-None-clause-ok c =
     rw c.in-None.is
     (first_ok c.shelf_with_map-in-None.result c.args.grid c.region.result c.new-shelf.result c.args.name c.args.map c.new-shelf.ensures c.region.ensures.value c.shelf_with_map-in-None.ensures.ok)
 
-pub returns-in-None-clause-early : goal.returns-in-None-clause-early
-returns-in-None-clause-early c = c.shelf_with_map-in-None.ensures.early
-
-pub returns-in-None-clause-told : goal.returns-in-None-clause-told
-returns-in-None-clause-told c = c.shelf_with_map-in-None.ensures.told
-
 pub returns-in-Some-clause-ok : goal.returns-in-Some-clause-ok
 returns-in-Some-clause-ok c = rw c.in-Some.is c.shelf_with_map.ensures.ok
 
 pub returns-in-Some-clause-fault : goal.returns-in-Some-clause-fault
 returns-in-Some-clause-fault c = rw c.in-Some.is c.shelf_with_map.ensures.fault
-
-pub returns-in-Some-clause-early : goal.returns-in-Some-clause-early
-returns-in-Some-clause-early c = c.shelf_with_map.ensures.early
-
-pub returns-in-Some-clause-told : goal.returns-in-Some-clause-told
-returns-in-Some-clause-told c = c.shelf_with_map.ensures.told
 
 pub returns-in-None-clause-whose : goal.returns-in-None-clause-whose
 returns-in-None-clause-whose c = c.shelf_with_map-in-None.ensures.whose

@@ -1,4 +1,4 @@
-use Rattle.rcell_loading.proofs.LoadingLemmas.{added-refused, added-same, refused-early, refused-told, refused-whose}
+use Rattle.rcell_loading.proofs.LoadingLemmas.{added-refused, added-same, refused-whose}
 use Rattle.rcell_loading.proofs.loading.shelf_with_map.Goals as goal
 
 pub returns-in-Ok-clause-ok : goal.returns-in-Ok-clause-ok
@@ -9,12 +9,6 @@ returns-in-Ok-clause-ok c =
 pub returns-in-Ok-clause-fault : goal.returns-in-Ok-clause-fault
 returns-in-Ok-clause-fault c = tt
 
-pub returns-in-Ok-clause-early : goal.returns-in-Ok-clause-early
-returns-in-Ok-clause-early c = tt
-
-pub returns-in-Ok-clause-told : goal.returns-in-Ok-clause-told
-returns-in-Ok-clause-told c = λ _ _. tt
-
 pub returns-in-Err-clause-ok : goal.returns-in-Err-clause-ok
 returns-in-Err-clause-ok c = tt
 
@@ -22,12 +16,6 @@ pub returns-in-Err-clause-fault : goal.returns-in-Err-clause-fault
 returns-in-Err-clause-fault c =
     rw c.of_shelf.ensures
     (added-refused c.args.grid c.args.shelf c.args.name c.args.map c.in-Err.refused.fault c.in-Err.ensures.reason)
-
-pub returns-in-Err-clause-early : goal.returns-in-Err-clause-early
-returns-in-Err-clause-early c = rw c.of_shelf.ensures (refused-early c.args.grid c.in-Err.refused.fault)
-
-pub returns-in-Err-clause-told : goal.returns-in-Err-clause-told
-returns-in-Err-clause-told c = rw c.of_shelf.ensures (refused-told c.args.grid c.in-Err.refused.fault)
 
 pub returns-in-Ok-clause-whose : goal.returns-in-Ok-clause-whose
 returns-in-Ok-clause-whose c = tt

@@ -1,13 +1,12 @@
 use Rattle.std.proofs.Common.{sym, ap, ◌∙◌, ◌+◌}
-use Rattle.std.proofs.Math.ListN.{length-set}
 use borrow.Author.Count.{falls}
 use Rattle.rcell_making.specs.parts.WindowsSet.{picked_maps}
 use Rattle.cell_calc_binding.specs.Reach.{up_of, down_of}
 use Rattle.rcell_making.proofs.WindowLemmas.{set_read, moved_set, moved_rest, row_below, no_row, below_same, below_all, least}
 use Rattle.rcell_making.proofs.map_of_values.advance_windows.Goals as goal
 
-pub returns-then-row-rows-clause-set : goal.returns-then-row-rows-clause-set
-returns-then-row-rows-clause-set c =
+pub returns-then-row-rows : goal.returns-then-row-rows
+returns-then-row-rows c =
     λ left _ _. absurd (no_row c.args.row (c.rows.ensures.value ∙ ap (λ r. r.rows) c.region.ensures.value) c.if-row-rows.true left)
 
 pub bounds-windows-i : goal.bounds-windows-i
@@ -54,14 +53,10 @@ loop-i-preserved c =
     maps c.map_at.result.now within
     (at.invariant.rest at.i (least at.i)) c.map_at.ensures.value (c.requires.set at.i c.loop-i-test.true) in
     record {
-      count = length-set at.windows at.i new ∙ at.invariant.count;
       done = moved_set bound c.args.row at.i at.windows maps new c.map_at.result.now within at.invariant.done c.map_at.ensures.value
           (moved.centre ∙ ap (λ n. n + 1) set.0, (moved.reach.0 ∙ set.1.0, (moved.reach.1 ∙ set.1.1.0, moved.window)));
       rest = moved_rest at.windows c.args.windows.now at.i new at.invariant.rest;
     }
 
-pub returns-clause-count : goal.returns-clause-count
-returns-clause-count c = c.loop-i.invariant.count
-
-pub returns-clause-set : goal.returns-clause-set
-returns-clause-set c = λ _ i lt. c.loop-i.invariant.done i (below_all lt c.loop-i-test.false)
+pub returns : goal.returns
+returns c = λ _ i lt. c.loop-i.invariant.done i (below_all lt c.loop-i-test.false)

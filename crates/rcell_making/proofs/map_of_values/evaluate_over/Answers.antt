@@ -23,9 +23,9 @@ loop-row-preserved c =
     let maps = picked_maps c.args.places.now c.args.shelf.now.maps in
     let region = c.args.shelf.now.region in
     let below = rw (c.rows-row-end.ensures.value, c.region-region.ensures.value) at c.loop-row-test.true in
-    let width = c.eval_row.ensures.width ∙ ap (λ l. length l) c.as_mut_slice.ensures.value in
+    let width = c.eval_row.auto.cells ∙ ap (λ l. length l) c.as_mut_slice.ensures.value in
     let same = written cells.len new cells.items cells.ok.0 width in
-    let many = c.advance_windows.ensures.count ∙ ap (λ l. length l) c.as_mut_slice-in-loop-row.ensures.value in
+    let many = c.advance_windows.auto.windows ∙ ap (λ l. length l) c.as_mut_slice-in-loop-row.ensures.value in
     let moved = written windows.len c.advance_windows.new.windows windows.items windows.ok.0 many in
     let found = rw c.region-region.ensures.value at c.in_ok-eval_row.ensures.ok in
     record {
@@ -33,7 +33,7 @@ loop-row-preserved c =
       count = ap (λ b. length b.rows) pushed ∙ length-append c.loop-row.builder.rows (c.as_slice-in-loop-row.result.now ∷ []) ∙ ap (λ n. n + 1) held.count;
       width = rw same (width ∙ held.width);
       windows = rw moved (many ∙ held.windows);
-      set = rw moved (λ left. rw c.advance_windows.ensures.count (c.advance_windows.ensures.set left));
+      set = rw moved (λ left. rw c.advance_windows.auto.windows (c.advance_windows.ensures left));
       cells = λ r k lr lk. rw (ap (λ b. b.rows) pushed)
           (rows_more (λ r l. (k : ℕ) → k < region.cols → slice_index_or l k None ≡ value bound maps (spot region r k)) c.loop-row.builder.rows c.as_slice-in-loop-row.result.now row
           held.count (λ r lt k lk. held.cells r k lt lk)
@@ -42,41 +42,19 @@ loop-row-preserved c =
           r lr k lk);
     }
 
-pub returns-in_err-windows-clause-region : goal.returns-in_err-windows-clause-region
-returns-in_err-windows-clause-region c = IfOk-from_err c.from_residual.result _ c.from_residual.ensures.0
+pub returns-in_err-windows : goal.returns-in_err-windows
+returns-in_err-windows c = IfOk-from_err c.from_residual.result _ c.from_residual.ensures.0
 
-pub returns-in_err-windows-clause-labels : goal.returns-in_err-windows-clause-labels
-returns-in_err-windows-clause-labels c = IfOk-from_err c.from_residual.result _ c.from_residual.ensures.0
+pub returns-in_err-cells : goal.returns-in_err-cells
+returns-in_err-cells c = IfOk-from_err c.from_residual-in_err-cells.result _ c.from_residual-in_err-cells.ensures.0
 
-pub returns-in_err-windows-clause-cells : goal.returns-in_err-windows-clause-cells
-returns-in_err-windows-clause-cells c = IfOk-from_err c.from_residual.result _ c.from_residual.ensures.0
+pub returns-in_err-eval_row : goal.returns-in_err-eval_row
+returns-in_err-eval_row c =
+    IfOk-from_err c.from_residual-in_err-eval_row.result _ c.from_residual-in_err-eval_row.ensures.0
 
-pub returns-in_err-cells-clause-region : goal.returns-in_err-cells-clause-region
-returns-in_err-cells-clause-region c = IfOk-from_err c.from_residual-in_err-cells.result _ c.from_residual-in_err-cells.ensures.0
-
-pub returns-in_err-cells-clause-labels : goal.returns-in_err-cells-clause-labels
-returns-in_err-cells-clause-labels c = IfOk-from_err c.from_residual-in_err-cells.result _ c.from_residual-in_err-cells.ensures.0
-
-pub returns-in_err-cells-clause-cells : goal.returns-in_err-cells-clause-cells
-returns-in_err-cells-clause-cells c = IfOk-from_err c.from_residual-in_err-cells.result _ c.from_residual-in_err-cells.ensures.0
-
-pub returns-in_err-eval_row-clause-region : goal.returns-in_err-eval_row-clause-region
-returns-in_err-eval_row-clause-region c = IfOk-from_err c.from_residual-in_err-eval_row.result _ c.from_residual-in_err-eval_row.ensures.0
-
-pub returns-in_err-eval_row-clause-labels : goal.returns-in_err-eval_row-clause-labels
-returns-in_err-eval_row-clause-labels c = IfOk-from_err c.from_residual-in_err-eval_row.result _ c.from_residual-in_err-eval_row.ensures.0
-
-pub returns-in_err-eval_row-clause-cells : goal.returns-in_err-eval_row-clause-cells
-returns-in_err-eval_row-clause-cells c = IfOk-from_err c.from_residual-in_err-eval_row.result _ c.from_residual-in_err-eval_row.ensures.0
-
-pub returns-in_err-push_row-clause-region : goal.returns-in_err-push_row-clause-region
-returns-in_err-push_row-clause-region c = IfOk-from_err c.from_residual-in_err-push_row.result _ c.from_residual-in_err-push_row.ensures.0
-
-pub returns-in_err-push_row-clause-labels : goal.returns-in_err-push_row-clause-labels
-returns-in_err-push_row-clause-labels c = IfOk-from_err c.from_residual-in_err-push_row.result _ c.from_residual-in_err-push_row.ensures.0
-
-pub returns-in_err-push_row-clause-cells : goal.returns-in_err-push_row-clause-cells
-returns-in_err-push_row-clause-cells c = IfOk-from_err c.from_residual-in_err-push_row.result _ c.from_residual-in_err-push_row.ensures.0
+pub returns-in_err-push_row : goal.returns-in_err-push_row
+returns-in_err-push_row c =
+    IfOk-from_err c.from_residual-in_err-push_row.result _ c.from_residual-in_err-push_row.ensures.0
 
 pub open_windows-requires-clause-places : goal.open_windows-requires-clause-places
 open_windows-requires-clause-places c = c.requires.places
@@ -104,7 +82,7 @@ eval_row-requires-clause-windows c =
 pub push_row-requires-clause-width : goal.push_row-requires-clause-width
 push_row-requires-clause-width c =
     let cells = c.loop-row.cells in
-    let width = c.eval_row.ensures.width ∙ ap (λ l. length l) c.as_mut_slice.ensures.value in
+    let width = c.eval_row.auto.cells ∙ ap (λ l. length l) c.as_mut_slice.ensures.value in
     let same = written cells.len c.eval_row.new.cells cells.items cells.ok.0 width in
     ap (λ l. length l) (c.as_slice-in-loop-row.ensures.value ∙ same) ∙ width ∙ c.loop-row.invariant.width ∙ ap (λ r. r.cols) (sym c.loop-row.invariant.region)
 
@@ -133,13 +111,10 @@ finish-requires c =
     all_rows c.loop-row.invariant.count c.loop-row-test.false c.loop-row.auto.row-end
     (c.rows-row-end.ensures.value ∙ ap (λ r. r.rows) (c.region-region.ensures.value ∙ sym c.loop-row.invariant.region))
 
-pub returns-clause-region : goal.returns-clause-region
-returns-clause-region c = ap (λ m. m.region) c.finish.ensures ∙ c.loop-row.invariant.region
-
-pub returns-clause-labels : goal.returns-clause-labels
-returns-clause-labels c = ap (λ m. m.labels) c.finish.ensures
-
-pub returns-clause-cells : goal.returns-clause-cells
-returns-clause-cells c =
-    λ r k lr lk. ap (λ m. cell_at m r k) c.finish.ensures
-    ∙ c.loop-row.invariant.cells r k (row_made lr (c.rows-row-end.ensures.value ∙ ap (λ r. r.rows) c.region-region.ensures.value) c.loop-row-test.false) lk
+pub returns : goal.returns
+returns c = record {
+  region = ap (λ m. m.region) c.finish.ensures ∙ c.loop-row.invariant.region;
+  labels = ap (λ m. m.labels) c.finish.ensures;
+  cells = λ r k lr lk. ap (λ m. cell_at m r k) c.finish.ensures
+      ∙ c.loop-row.invariant.cells r k (row_made lr (c.rows-row-end.ensures.value ∙ ap (λ r. r.rows) c.region-region.ensures.value) c.loop-row-test.false) lk;
+}

@@ -1,0 +1,9 @@
+-- What a reader answers, beside what it is to read.
+use Rattle.std.specs.Prelude.{Result}
+use Rattle.cell_core_text.specs.Answers.{Answers}
+use Rattle.rcell_script_commands.specs.declared.script_fault.ScriptKind.{ScriptKind}
+use Rattle.rcell_script_commands.specs.declared.script_fault.ScriptKind.TheVariants.{Memory}
+
+-- the answer is what the reading gives, unless memory ran out
+abbrev pub GivesScript : {A : Type 0} → Result A ScriptKind → Result A ScriptKind → Type 0
+GivesScript answer reading = Answers Memory (λ x. x) answer reading
