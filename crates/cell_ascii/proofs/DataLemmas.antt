@@ -1,6 +1,5 @@
 -- The whole data, from its rows and its end, and the whole text, from its header and its data.
-use Rattle.std.proofs.Common.{◌≡◌, ℕ, ℤ, ◌-◌, ◌<◌, [], List, Option, Some, None, Result, Ok, Err, Bool, false, refl, ap, sym, subst, ◌∙◌}
-use Rattle.std.specs.Prelude.{if◌then◌else◌}
+use Rattle.std.proofs.Common.{◌≡◌, ℕ, ℤ, ◌-◌, ◌<◌, List, Option, Some, None, Result, Ok, Err, Bool, false, refl, ap, sym, subst, ◌∙◌}
 use Rattle.std.specs.Option.{option_map, IfSome}
 use Rattle.cell_core_devices.specs.Device.{Coming}
 use Rattle.cell_core.specs.Grid.{CellValue, Grid, no_labels}
@@ -14,6 +13,7 @@ use Rattle.cell_ascii.specs.Reader.{rows_from}
 use Rattle.cell_ascii_meaning.specs.FaultPlaces.{opening_fault}
 use Rattle.cell_ascii_meaning.specs.RowPlaces.{IsPlaceOf, end_fault}
 use Rattle.cell_ascii.specs.GridReaders.{ReaderValue, reader_place, opened_in, fault_of_reading}
+use Rattle.cell_ascii.specs.parts.Unread.{HasRows}
 use Rattle.cell_ascii_header.specs.Opening.{header_seen}
 use Rattle.cell_ascii_meaning.specs.declared.grid_fault.GridFault.{GridFault}
 use Rattle.cell_ascii_meaning.specs.declared.grid_fault.GridKind.{GridKind}
@@ -81,15 +81,17 @@ opened_places p None (Some d) e = cc
 opened_places p (Some c) (Some d) e = let o : header_of_text c ≡ Ok (opened_in p d) = cc in opening_keeps_places c (opened_in p d) o
 
 module _ (p s : ReaderValue) (a : Option Coming) (opened : option_map header_of_text a ≡ option_map (λ c. Ok (opened_in p c)) p.coming)
-    (high : 0 < p.header.region.rows) (wide : 0 < p.header.region.cols) (all : List (List CellValue))
-    (rows : option_map (λ c. rows_from p.header (reader_place p c)) p.coming ≡ option_map (λ d. Ok (all, reader_place s d)) s.coming) where
-  ends : (end : Result (Unit {0}) GridFault) (v : Result (List (List CellValue)) GridFault) → IfSome s.coming (λ d. fault_of_reading end ≡ end_fault (reader_place s d)) → (end >>= (λ _. Ok all)) ≡ v
+    (m : Grid) (is : HasRows m p s) where
+  ends : (end : Result (Unit {0}) GridFault) (v : Result (List (List CellValue)) GridFault)
+      → IfSome s.coming (λ d. fault_of_reading end ≡ end_fault (reader_place s d)) → (end >>= (λ _. Ok m.rows)) ≡ v
       → IfSome p.coming (λ c. data_from p.header (reader_place p c) ≡ v)
-  ends end v told is = data_ends p.header (reader_place p) (reader_place s) p.coming s.coming all end v wide high (opened_places p a p.coming opened) rows told is
+  ends end v told same =
+      data_ends p.header (reader_place p) (reader_place s) p.coming s.coming m.rows end v is.wide is.high
+      (opened_places p a p.coming opened) is.rows told same
 
   -- the map whose rows they are
-  pub whole_read : (m : Grid) → (m.region ≡ p.header.region) × (m.labels ≡ no_labels) → all ≡ m.rows → IfSome s.coming (λ d. fault_of_reading {X = Unit {0}} (Ok tt) ≡ end_fault (reader_place s d)) → IfSome a (λ c. grid_of c ≡ Ok m)
-  whole_read m parts is told = text_map p a p.coming opened m parts (ends (Ok tt) (Ok m.rows) told (ap Ok is))
+  pub whole_read : IfSome s.coming (λ d. fault_of_reading {X = Unit {0}} (Ok tt) ≡ end_fault (reader_place s d)) → IfSome a (λ c. grid_of c ≡ Ok m)
+  whole_read told = text_map p a p.coming opened m (is.region, is.labels) (ends (Ok tt) (Ok m.rows) told refl)
 
   -- behind the rows a fault
   pub end_fails : (f : GridFault) → IfSome s.coming (λ d. fault_of_reading {X = Unit {0}} (Err f) ≡ end_fault (reader_place s d)) → IfSome a (λ c. grid_of c ≡ Err f)

@@ -1,5 +1,5 @@
 -- An open grid reader, and what its calls answer.
-use Rattle.std.specs.Prelude.{ℕ, ◌≡◌, ◌<◌, Bool, List, length, take, drop, Option, Some, None, Result, Ok, Err}
+use Rattle.std.specs.Prelude.{ℕ, ◌≡◌, ◌≢◌, ◌<◌, Bool, true, false, List, length, take, drop, Option, Some, None, Result, Ok, Err, IfErr, IfSome}
 use Rattle.std.specs.Option.{option_map}
 use Rattle.cell_core_devices.specs.Asking.{Heard}
 use Rattle.cell_core_devices.specs.Device.{Coming}
@@ -7,6 +7,8 @@ use Rattle.cell_core.specs.Grid.{CellValue}
 use Rattle.cell_ascii_meaning.specs.Header.{At, HeaderValue, OpenedText, header_of_text}
 use Rattle.cell_ascii_meaning.specs.CellTexts.{cell_from, many}
 use Rattle.cell_ascii_meaning.specs.GridTokens.{grid_fault}
+use Rattle.cell_ascii_meaning.specs.RowPlaces.{end_fault}
+use Rattle.cell_ascii_scanner.specs.Scan.{FailsInText}
 use Rattle.cell_ascii_meaning.specs.declared.grid_fault.GridKind.TheVariants.{Memory, Failed}
 use Rattle.cell_ascii_meaning.specs.declared.grid_fault.GridFault.{GridFault}
 
@@ -35,9 +37,10 @@ opened_in r c = record { header = r.header; at = reader_place r c }
 abbrev pub IsOpened : Option Coming → ReaderValue → Type 0
 IsOpened text r = option_map header_of_text text ≡ option_map (λ c. Ok (opened_in r c)) r.coming
 
--- out of memory is told at line 0
-abbrev pub TellsMemoryAtZero : GridFault → Type 0
-TellsMemoryAtZero f = f.kind ≡ Memory → f.line ≡ 0
+-- the fault of a reading: out of memory is told at line 0, and that an earlier call was refused never
+pub record IsOfReading (f : GridFault) : Type 0 where
+  pub memory : f.kind ≡ Memory → f.line ≡ 0
+  pub kinds : f.kind ≢ Failed
 
 -- the fault of an answer
 abbrev pub fault_of_reading : {X : Type 0} → Result X GridFault → Option GridFault
@@ -62,3 +65,10 @@ pub record IsChangedInFront (old new : List CellValue) : Type 0 where
   pub count : ℕ
   pub fewer : count < length old
   pub kept : drop count new ≡ drop count old
+
+-- what the end of a text answers: its fault, and the same one from a first refusal on
+pub record TellsEnd (r : ReaderValue) (answer : Result (Unit {0}) GridFault) : Type 0 where
+  pub failed : r.failed ≡ true → answer ≡ Err reader_has_failed
+  pub told : r.failed ≡ false → IfSome r.coming (λ c. fault_of_reading answer ≡ end_fault (reader_place r c))
+  pub memory : IfErr answer (λ f. f.kind ≢ Memory)
+  pub kinds : r.failed ≡ false → FailsInText answer

@@ -4,7 +4,6 @@ ghost use Rattle.std.specs.Prelude.{◌≡◌, ◌≢◌, ◌+◌, ◌*◌, ◌^
 ghost use Rattle.std.specs.Option.{option_map};
 ghost use Rattle.std.specs.Result.{is_err};
 ghost use Rattle.cell_core_devices.specs.Device.{Coming};
-ghost use Rattle.cell_core.specs.Grid.{no_labels};
 ghost use Rattle.cell_core_devices.specs.Asking.{hears, heard_first};
 ghost use Rattle.cell_ascii_meaning.specs.Kinds.{tells_read};
 ghost use Rattle.cell_ascii_scanner.specs.Ahead.{bytes_to_come, Agrees};
@@ -13,11 +12,11 @@ ghost use Rattle.cell_ascii_meaning.specs.Header.{at_line, header_of, header_of_
 ghost use Rattle.cell_ascii_meaning.specs.CellTexts.{cell_of_word, cell_from, many, end_of, grid_of};
 ghost use Rattle.cell_ascii_meaning.specs.GridText.{Denotes};
 ghost use Rattle.cell_ascii_meaning.specs.FaultPlaces.{opening_fault, text_fault};
-ghost use Rattle.cell_ascii_meaning.specs.RowPlaces.{cells_fault, end_fault};
-ghost use Rattle.cell_ascii.specs.Reader.{ReaderPlace, at_place, opened_at, opened_by, token_read, token_seen, reading_seen, always, rows_from};
-ghost use Rattle.cell_ascii.specs.GridReaders.{reader_place, IsOpened, fault_of_reading, reader_has_failed, IsCutRow, IsChangedInFront, TellsMemoryAtZero};
+ghost use Rattle.cell_ascii_meaning.specs.RowPlaces.{cells_fault};
+ghost use Rattle.cell_ascii.specs.Reader.{ReaderPlace, at_place, token_read, token_seen, reading_seen, always, rows_from};
+ghost use Rattle.cell_ascii.specs.GridReaders.{reader_place, IsOpened, fault_of_reading, reader_has_failed, IsCutRow, IsChangedInFront, IsOfReading, TellsEnd};
 ghost use Rattle.cell_ascii_scanner.specs.Scan.{Hears, FailsInText};
-ghost use Rattle.cell_ascii.specs.parts.Unread.{IsUnread};
+ghost use Rattle.cell_ascii.specs.parts.Unread.{IsUnread, IsAtData, IsBehindHeader, HasRows};
 
 use cell_ascii_header::header::Header;
 use cell_ascii_header::header_reading;
@@ -96,13 +95,10 @@ fn header_at(keys: HeaderKeys, line: u64) -> Result<Header, GridFault>
 // whether there was such a word.
 fn read_opening<R: Source>(scanner: &mut Scanner<R>) -> Result<(Header, bool), GridFault>
     requires start { (scanner.old.line ≡ 1) × (scanner.old.run ≡ 0) }
-    ensures opened { IfOk result (λ r. Agrees header_of_text scanner.old.ahead
-        (λ c. Ok (opened_by r scanner.new c)) scanner.new.ahead) }
+    ensures opened { IfOk result (λ r. IsBehindHeader r scanner.old scanner.new) }
     ensures fault { IfErr result
         (λ f. IfSome (bytes_to_come scanner.old.ahead) (λ c. header_of_text c ≡ Err f)) }
     ensures kind { FailsInText result }
-    ensures line { OnOk result (scanner.new.line < 2 ^ 62) }
-    ensures run { OnOk result (scanner.new.run ≡ 0) }
     ensures heard { Hears result scanner.old.ahead scanner.new.ahead }
 {
     let mut keys = HeaderKeys::new();
@@ -132,14 +128,10 @@ impl<R: Source> CellReader<R> {
     fn open(alloc: Global, source: R) -> Result<CellReader<R>, GridFault>
     where
         R: Drop,
-        ensures opened { IfOk result (λ r. option_map header_of_text (R.coming source)
-            ≡ option_map (λ c. Ok (opened_at r c)) (bytes_to_come r.ahead)) }
+        ensures opened { IfOk result (IsAtData (R.coming source) (heard_first (R.asked source))) }
         ensures fault { IfErr result (λ f. f.kind ≢ GridKind.Memory
             → IfSome (R.coming source) (λ c. header_of_text c ≡ Err f)) }
-        ensures memory { IfErr result TellsMemoryAtZero }
-        ensures kinds { IfErr result (λ f. f.kind ≢ GridKind.Failed) }
-        ensures line { IfOk result (λ r. r.line < 2 ^ 62) }
-        ensures heard { IfOk result (λ r. r.ahead.heard ≡ heard_first (R.asked source)) }
+        ensures kinds { IfErr result IsOfReading }
     {
         let Ok(mut scanner) = Scanner::new(alloc, source) else {
             return Err(NO_MEMORY);
@@ -295,8 +287,7 @@ impl<R: Source> GridReader<R> {
             × (r.failed ≡ false)) }
         ensures fault { IfErr result (λ f. f.kind ≢ GridKind.Memory
             → IfSome (R.coming source) (λ c. opening_fault c ≡ Some f)) }
-        ensures memory { IfErr result TellsMemoryAtZero }
-        ensures kinds { IfErr result (λ f. f.kind ≢ GridKind.Failed) }
+        ensures kinds { IfErr result IsOfReading }
         // The source is asked only while it goes on, and an `Err` of it is told as Read: so far none was.
         ensures heard { IfOk result (λ r. r.heard ≡ heard_first (R.asked source)) }
     {
@@ -390,11 +381,7 @@ impl<R: Source> GridReader<R> {
     where
         R: Drop,
         requires done { self.failed ≡ false → self.rows_left ≡ 0 }
-        ensures failed { self.failed ≡ true → result ≡ Err reader_has_failed }
-        ensures told { self.failed ≡ false
-            → IfSome self.coming (λ c. fault_of_reading result ≡ end_fault (reader_place self c)) }
-        ensures memory { IfErr result (λ f. f.kind ≢ GridKind.Memory) }
-        ensures kinds { self.failed ≡ false → FailsInText result }
+        ensures { TellsEnd self result }
     {
         let mut reader = self;
         reader.end()
@@ -403,12 +390,7 @@ impl<R: Source> GridReader<R> {
     // Reads to the end of the text behind the last row. It has failed from then on.
     fn end(&mut self) -> Result<(), GridFault>
         requires done { self.old.failed ≡ false → self.old.rows_left ≡ 0 }
-        ensures failed { self.old.failed ≡ true → result ≡ Err reader_has_failed }
-        ensures told { self.old.failed ≡ false
-            → IfSome self.old.coming (λ c. fault_of_reading result
-            ≡ end_fault (reader_place self.old c)) }
-        ensures memory { IfErr result (λ f. f.kind ≢ GridKind.Memory) }
-        ensures kinds { self.old.failed ≡ false → FailsInText result }
+        ensures end { TellsEnd self.old result }
         ensures heard { self.old.failed ≡ false
             → self.new.heard ≡ hears (tells_read result) self.old.heard }
     {
@@ -423,17 +405,10 @@ impl<R: Source> GridReader<R> {
 // Reads the rows that are left into a map.
 fn read_rows<R: Source>(alloc: Global, reader: &mut GridReader<R>) -> Result<CellMap, GridFault>
     requires { IsUnread reader.old }
-    ensures region { IfOk result (λ m. (m.region ≡ reader.old.header.region)
-        × (m.labels ≡ no_labels)) }
-    ensures rows { IfOk result (λ m. option_map
-        (λ c. rows_from reader.old.header (reader_place reader.old c)) reader.old.coming
-        ≡ option_map (λ d. Ok (m.rows, reader_place reader.new d)) reader.new.coming) }
-    ensures done { OnOk result ((reader.new.rows_left ≡ 0) × (reader.new.failed ≡ false)) }
-    ensures wide { (0 < reader.old.header.region.rows) × (0 < reader.old.header.region.cols) }
+    ensures rows { IfOk result (λ m. HasRows m reader.old reader.new) }
     ensures fault { IfErr result (λ f. f.kind ≢ GridKind.Memory → IfSome reader.old.coming
         (λ c. rows_from reader.old.header (reader_place reader.old c) ≡ Err f)) }
-    ensures memory { IfErr result TellsMemoryAtZero }
-    ensures kinds { IfErr result (λ f. f.kind ≢ GridKind.Failed) }
+    ensures kinds { IfErr result IsOfReading }
     ensures heard { reader.new.heard ≡ hears (tells_read result) reader.old.heard }
 {
     let region = reader.region();
@@ -458,8 +433,7 @@ fn read_whole<R: Source>(alloc: Global, reader: &mut GridReader<R>) -> Result<Ce
         → IfSome text (λ c. grid_of c ≡ Ok m)) }
     ensures fault { IfErr result (λ f. f.kind ≢ GridKind.Memory → (text : Option Coming)
         → IsOpened text reader.old → IfSome text (λ c. grid_of c ≡ Err f)) }
-    ensures memory { IfErr result TellsMemoryAtZero }
-    ensures kinds { IfErr result (λ f. f.kind ≢ GridKind.Failed) }
+    ensures kinds { IfErr result IsOfReading }
     // The source is asked only while it goes on, and an `Err` of it is told as Read.
     ensures heard { reader.new.heard ≡ hears (tells_read result) reader.old.heard }
 {
@@ -482,8 +456,7 @@ pub fn read_map<R: Source + Drop>(alloc: Global, source: R) -> Result<CellMap, G
     ensures map { IfOk result (λ m. IfSome (R.coming source) (λ c. Denotes c m)) }
     ensures fault { IfErr result (λ f. f.kind ≢ GridKind.Memory
         → IfSome (R.coming source) (λ c. text_fault c ≡ Some f)) }
-    ensures memory { IfErr result TellsMemoryAtZero }
-    ensures kinds { IfErr result (λ f. f.kind ≢ GridKind.Failed) }
+    ensures kinds { IfErr result IsOfReading }
     ensures reading_map { IfOk result (λ m. IfSome (R.coming source) (λ c. grid_of c ≡ Ok m)) }
     ensures reading_fault { IfErr result (λ f. f.kind ≢ GridKind.Memory
         → IfSome (R.coming source) (λ c. grid_of c ≡ Err f)) }

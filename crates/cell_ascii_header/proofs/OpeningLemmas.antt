@@ -2,7 +2,6 @@
 use Rattle.std.proofs.Common.{◌≡◌, ℕ, suc, ◌+◌, ◌-◌, ◌<◌, ◌≤◌, List, [], ◌∷◌, Option, Some, None, Result, Ok, Err, Bool, true, false, if◌then◌else◌, length, drop, take, refl, ap, sym, ◌∙◌, arith, take_all, length-drop, cond, not}
 use Rattle.std.proofs.lemmas.List.{drop_all}
 use Rattle.std.specs.Option.{option_map}
-use Rattle.std.specs.Result.{IsErr}
 use Rattle.std.specs.List.{before_first, after_first, list_any, position_or_len}
 use Rattle.cell_core_devices.specs.Device.{Coming}
 use Rattle.cell_ascii_meaning.specs.GridTokens.{Start, Begins, Ends, Stops, grid_start, word_from, grid_fault}
@@ -11,15 +10,13 @@ use Rattle.cell_ascii_scanner.specs.Ahead.{IsAtEnd}
 use Rattle.cell_ascii_meaning.specs.KeyNames.{header_key_of}
 use Rattle.cell_ascii_meaning.specs.declared.header_key.HeaderKey.{HeaderKey}
 use Rattle.cell_ascii_meaning.specs.declared.grid_fault.GridKind.TheVariants.{BadHeader}
-use Rattle.cell_ascii_scanner.specs.Scan.{start_seen, word_seen, line_count_seen as lines_seen}
+use Rattle.cell_ascii_scanner.specs.Scan.{start_seen, word_seen}
 use Rattle.cell_ascii_header.specs.Opening.{value_seen, ending_seen, key_line_seen, AfterLine, More, Stop, after_key, line_read}
 use Rattle.cell_ascii_meaning.specs.declared.grid_fault.GridKind.{GridKind}
 use Rattle.cell_ascii_meaning.specs.declared.grid_fault.GridFault.{GridFault}
 use Rattle.cell_ascii_header.specs.declared.header_reading.Ending.{Ending}
 use Rattle.cell_ascii_header.specs.declared.header_reading.Ending.TheVariants.{Feed, Text}
 use Rattle.cell_ascii_scanner.specs.declared.scanner.Next.TheVariants.{Word as NextWord}
-use Rattle.cell_ascii_scanner.specs.declared.scanner.InLine.{InLine}
-use Rattle.cell_ascii_scanner.specs.declared.scanner.InLine.TheVariants.{Word as LineWord, Feed as LineFeed, End as LineEnding}
 use Rattle.cell_ascii_header.proofs.MapLemmas.{then_map, map_same}
 use Rattle.cell_ascii_scanner.proofs.StartLemmas.{at_end}
 
@@ -49,21 +46,6 @@ value_blanks line start word seen a b long gaps =
     (map_same (value_from line []) (λ c. after_blanks line (gap_of line 0 c)) a
     (λ c. value_later line c (gap_of line 0 c) refl)
     ∙ then_map (after_blanks line) (gap_of line 0) seen a b gaps)
-
--- the line after the blanks
-pub line_most : (r : Result InLine GridFault) (now line : ℕ) → now ≡ lines_seen r line → now ≤ line + 1
-line_most (Ok LineWord) now line e = omega arith
-line_most (Ok LineFeed) now line e = omega arith
-line_most (Ok LineEnding) now line e = omega arith
-line_most (Err f) now line e = omega arith
-
--- what fails has no answer, and a line ends in one way
-pub err_no_ok : {T E : Type 0} (P : Type 0) (r : Result T E) (x : T) → IsErr r → r ≡ Ok x → P
-err_no_ok P (Ok y) x err e = cc
-err_no_ok P (Err d) x err e = cc
-
-pub one_ending : (P : Type 0) (r : Result Ending GridFault) → r ≡ Ok Feed → r ≡ Ok Text → P
-one_ending P r feed text = cc
 
 abbrev after_end : Result KeyValues GridKind → ℕ → Result LineEnd GridFault → Result (KeyValues × LineEnd) GridFault
 after_end more line r = r >>= (λ end. at_line line more >>= (λ k. Ok (k, end)))

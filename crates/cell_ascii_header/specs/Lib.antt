@@ -2,3 +2,4 @@
 pub mod InRange
 pub mod Given
 pub mod Opening
+pub mod parts

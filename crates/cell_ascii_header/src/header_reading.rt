@@ -2,10 +2,11 @@
 
 ghost use Rattle.std.specs.Prelude.{◌≡◌, ◌+◌, ◌^◌, ◌<◌, ◌≤◌, false, drop, length, Ok, OnOk, IfOk};
 ghost use Rattle.std.specs.List.{position_or_len};
-ghost use Rattle.cell_ascii_scanner.specs.Ahead.{bytes_to_come, IsAtEnd, Agrees};
+ghost use Rattle.cell_ascii_scanner.specs.Ahead.{Agrees};
 ghost use Rattle.cell_ascii_meaning.specs.GridTokens.{grid_start};
 ghost use Rattle.cell_ascii_meaning.specs.Header.{gap_of, value_from, line_end, key_line, is_colon, header_from};
 ghost use Rattle.cell_ascii_header.specs.Opening.{value_seen, ending_seen, key_line_seen, line_read, header_line_seen, header_seen};
+ghost use Rattle.cell_ascii_header.specs.parts.LineEnds.{IsAtValue, IsLineEnd};
 ghost use Rattle.cell_ascii_scanner.specs.Scan.{Hears, FailsInText};
 
 use crate::keys::HeaderKeys;
@@ -48,10 +49,7 @@ fn read_value<R: Source>(scanner: &mut Scanner<R>, start: usize) -> Result<usize
     requires heard { scanner.old.ahead.heard.failed ≡ false }
     ensures value { Agrees (value_from scanner.old.line (drop start scanner.old.word))
         scanner.old.ahead (value_seen result scanner.new.word) scanner.new.ahead }
-    ensures line { OnOk result (scanner.new.line ≡ scanner.old.line) }
-    ensures run { OnOk result (scanner.new.run ≡ 0) }
-    ensures within { IfOk result (λ at. at ≤ length scanner.new.word) }
-    ensures lines { scanner.new.line ≤ scanner.old.line + 1 }
+    ensures ok { IfOk result (λ at. IsAtValue at scanner.old.line scanner.new) }
     ensures kind { FailsInText result }
     ensures heard { Hears result scanner.old.ahead scanner.new.ahead }
 {
@@ -75,12 +73,8 @@ fn end_line<R: Source>(scanner: &mut Scanner<R>) -> Result<Ending, GridFault>
     requires run { scanner.old.run ≡ 0 }
     ensures ending { Agrees (λ c. line_end scanner.old.line (gap_of scanner.old.line 0 c))
         scanner.old.ahead (ending_seen result scanner.new.run) scanner.new.ahead }
-    ensures feed { result ≡ Ok Ending.Feed → scanner.new.line ≡ scanner.old.line + 1 }
-    ensures text { result ≡ Ok Ending.Text → scanner.new.line ≡ scanner.old.line }
-    ensures word { scanner.new.word ≡ scanner.old.word }
-    ensures run { scanner.new.run ≤ 1048576 }
-    ensures end { result ≡ Ok Ending.Text → IsAtEnd false (bytes_to_come scanner.new.ahead) }
-    ensures lines { scanner.new.line ≤ scanner.old.line + 1 }
+    ensures ok { IfOk result (λ ending. IsLineEnd ending scanner.old.line scanner.new) }
+    ensures word { OnOk result (scanner.new.word ≡ scanner.old.word) }
     ensures kind { FailsInText result }
     ensures heard { Hears result scanner.old.ahead scanner.new.ahead }
 {
@@ -105,11 +99,7 @@ fn read_key<R: Source>(
     requires heard { scanner.old.ahead.heard.failed ≡ false }
     ensures key { Agrees (key_line scanner.old.line keys.old scanner.old.word) scanner.old.ahead
         (key_line_seen result keys.new scanner.new.run) scanner.new.ahead }
-    ensures feed { result ≡ Ok Ending.Feed → scanner.new.line ≡ scanner.old.line + 1 }
-    ensures text { result ≡ Ok Ending.Text → scanner.new.line ≡ scanner.old.line }
-    ensures run { OnOk result (scanner.new.run ≤ 1048576) }
-    ensures end { result ≡ Ok Ending.Text → IsAtEnd false (bytes_to_come scanner.new.ahead) }
-    ensures lines { OnOk result (scanner.new.line ≤ scanner.old.line + 1) }
+    ensures ok { IfOk result (λ ending. IsLineEnd ending scanner.old.line scanner.new) }
     ensures kind { FailsInText result }
     ensures heard { Hears result scanner.old.ahead scanner.new.ahead }
 {

@@ -67,16 +67,14 @@ pub enum InLine {
 }
 
 impl<R: Source> Scanner<R> {
-    ghost use Rattle.cell_ascii_scanner.specs.parts.ScanSteps.{start_step, gap_step, line_step};
+    ghost use Rattle.cell_ascii_scanner.specs.parts.ScanSteps.{IsStep};
     ghost use Rattle.cell_ascii_scanner.specs.Scan.{start_seen, gap_seen, line_count_seen, word_seen, part_seen};
 
     // The next byte, or `None` at the end. A device that fails is a fault at the line.
     #[inline(always)]
     fn peek(&mut self) -> Result<Option<u8>, GridFault>
         ensures same { bytes_to_come self.new.ahead ≡ bytes_to_come self.old.ahead }
-        ensures line { self.new.line ≡ self.old.line }
-        ensures run { self.new.run ≡ self.old.run }
-        ensures word { self.new.word ≡ self.old.word }
+        ensures scan { self.new ≡ record self.old { ahead = self.new.ahead } }
         ensures byte { IfOk result (λ o. IfSome o (λ b. slice_get self.new.ahead.held 0 ≡ Some b)) }
         ensures end { IfOk result (λ o. IfNone o (IsAtEnd false (bytes_to_come self.old.ahead))) }
         ensures failed { OnErr result (IsAtEnd true (bytes_to_come self.old.ahead)) }
@@ -96,18 +94,7 @@ impl<R: Source> Scanner<R> {
     fn step(&mut self) -> Result<ScanStep, GridFault>
         requires room { self.old.line + 1048576 < 2 ^ 64 + self.old.run }
         requires run { self.old.run ≤ 1048576 }
-        ensures starts { Agrees (grid_start self.old.line self.old.run) self.old.ahead
-            (start_step result self.new.line self.new.run) self.new.ahead }
-        ensures gap { Agrees (gap_of self.old.line self.old.run) self.old.ahead
-            (gap_step result self.new.line self.new.run) self.new.ahead }
-        ensures line { self.new.line ≡ line_step result self.old.line }
-        ensures lines { self.new.line + self.old.run ≤ self.old.line + self.new.run }
-        ensures run { self.new.run ≤ 1048576 }
-        ensures further { self.old.run ≤ self.new.run }
-        ensures word { self.new.word ≡ self.old.word }
-        ensures blank { result ≡ Ok ScanStep.Blank → self.new.run ≡ self.old.run + 1 }
-        ensures feed { result ≡ Ok ScanStep.Feed → self.new.run ≡ self.old.run + 1 }
-        ensures end { result ≡ Ok ScanStep.End → IsAtEnd false (bytes_to_come self.new.ahead) }
+        ensures step { IsStep result self.old self.new }
         ensures kind { FailsInText result }
         ensures heard { Hears result self.old.ahead self.new.ahead }
     {

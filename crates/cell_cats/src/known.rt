@@ -2,8 +2,7 @@
 
 ghost use Rattle.std.specs.Prelude.{◌≡◌, ◌<◌, List, IfOk, length};
 ghost use Rattle.cell_cats.specs.Rule.{RuleValue, new_category};
-ghost use Rattle.cell_cats.specs.parts.KnownCategories.{AreRight};
-ghost use Rattle.cell_cats.specs.parts.Pieces.{AreOfRules};
+ghost use Rattle.cell_cats.specs.parts.KnownCategories.{AreRight, ByRules};
 
 use crate::pieces::Pieces;
 use cell_core::cell::Cell;
@@ -50,10 +49,8 @@ pub(crate) fn only_null(alloc: Global) -> Result<Vec<Known>, Memory>
 // The new category of a cell, which is known from then on.
 pub(crate) fn look_up(pieces: &Pieces, known: &mut [Known], cell: Cell) -> Cell
     requires some { 0 < length known.old }
-    ensures value { (rules : List RuleValue) → AreOfRules rules pieces.now
-        → AreRight rules known.old → result ≡ new_category rules cell }
-    ensures right { (rules : List RuleValue) → AreOfRules rules pieces.now
-        → AreRight rules known.old → AreRight rules known.new }
+    ensures value { ByRules pieces.now known.old (λ rules. result ≡ new_category rules cell) }
+    ensures right { ByRules pieces.now known.old (λ rules. AreRight rules known.new) }
 {
     let at = category_place(cell, known.len());
     let found = known[at];

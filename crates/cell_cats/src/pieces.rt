@@ -1,11 +1,11 @@
 //! The number line cut into pieces, each with the output that rules have for its categories: the new category of a cell is
 //! found in a time that grows with the logarithm of the number of ranges.
 
-ghost use Rattle.std.specs.Prelude.{◌≡◌, ℤ, negsuc, ◌≤ℤ◌, ◌<ℤ◌, List, Option, Some, None, IfOk, OnOk};
+ghost use Rattle.std.specs.Prelude.{◌≡◌, ℤ, negsuc, ◌≤ℤ◌, List, Option, IfOk, OnOk};
 ghost use Rattle.std.specs.BTreeMap.{get};
 ghost use Rattle.std.specs.Ordering.{int_cmp};
 ghost use Rattle.cell_cats.specs.Rule.{RuleValue, new_category, outcome};
-ghost use Rattle.cell_cats.specs.parts.Pieces.{HaveOutputs, AreOfRules, painted_outputs, ruled_outputs};
+ghost use Rattle.cell_cats.specs.parts.Pieces.{HaveOutputs, AreOfRules, IsCleared, Repaints, painted_outputs, ruled_outputs};
 
 use crate::rule::{Output, Rule};
 use crate::rules::Rules;
@@ -43,8 +43,7 @@ impl Pieces {
 
     // Gives the output of a rule to the categories that it lists.
     fn add_output_of_rule(&mut self, rule: &Rule) -> Result<(), Memory>
-        ensures { OnOk result ((outputs : ℤ → Option Output) → HaveOutputs outputs self.old
-            → HaveOutputs (ruled_outputs rule.now outputs) self.new) }
+        ensures { OnOk result (Repaints (ruled_outputs rule.now) self.old self.new) }
     {
         for ends in rule.ranges() {
             self.paint(*ends, rule.output())?;
@@ -55,8 +54,7 @@ impl Pieces {
     // Gives an output to the categories of a range. Each beginning in it is taken out, once for all: so the ranges take
     // n log n steps, whatever they are.
     fn paint(&mut self, ends: (i32, i32), output: Output) -> Result<(), Memory>
-        ensures { OnOk result ((outputs : ℤ → Option Output) → HaveOutputs outputs self.old
-            → HaveOutputs (painted_outputs ends output outputs) self.new) }
+        ensures { OnOk result (Repaints (painted_outputs ends output) self.old self.new) }
     {
         let from = i64::from(ends.0.min(ends.1));
         let to = i64::from(ends.0.max(ends.1));
@@ -70,11 +68,7 @@ impl Pieces {
     // Takes out what begins from one place up to another.
     fn clear(&mut self, from: i64, to: i64)
         requires { from ≤ℤ to }
-        ensures before { (q : ℤ) → q <ℤ from
-            → get int_cmp self.new.starts q ≡ get int_cmp self.old.starts q }
-        ensures after { (q : ℤ) → to <ℤ q
-            → get int_cmp self.new.starts q ≡ get int_cmp self.old.starts q }
-        ensures cleared { (q : ℤ) → from ≤ℤ q → q ≤ℤ to → get int_cmp self.new.starts q ≡ None }
+        ensures { IsCleared from to (get int_cmp self.old.starts) (get int_cmp self.new.starts) }
     {
         while let Some((start, _)) = self.starts.range(from..=to).next() {
             let start = *start;

@@ -1,13 +1,12 @@
 //! Maps by rules.
 
-ghost use Rattle.std.specs.Prelude.{◌≡◌, ◌<◌, ◌≤◌, ◌+◌, length, ℤ, List, IfOk, OnOk};
+ghost use Rattle.std.specs.Prelude.{◌≡◌, ◌<◌, ◌≤◌, ◌+◌, length, ℤ, IfOk, OnOk};
 ghost use Rattle.std.specs.FinMap.{get};
 ghost use Rattle.cell_core.specs.Grid.{no_labels};
 ghost use Rattle.cell_core.specs.Runs.{written_out};
-ghost use Rattle.cell_cats.specs.Rule.{RuleValue, label_of};
+ghost use Rattle.cell_cats.specs.Rule.{label_of};
 ghost use Rattle.cell_cats.specs.Reclass.{new_row, labels_of, reclassed_map};
-ghost use Rattle.cell_cats.specs.parts.KnownCategories.{AreRight};
-ghost use Rattle.cell_cats.specs.parts.Pieces.{AreOfRules};
+ghost use Rattle.cell_cats.specs.parts.KnownCategories.{AreRight, ByRules};
 
 use crate::known::{Known, look_up, only_null};
 use crate::pieces::Pieces;
@@ -23,10 +22,9 @@ use std::alloc::Global;
 fn write_new(pieces: &Pieces, known: &mut [Known], stretches: Stretches<'_>, row: &mut [Cell])
     requires width { length row.old ≡ length (written_out stretches) }
     requires some { 0 < length known.old }
-    ensures row { (rules : List RuleValue) → AreOfRules rules pieces.now → AreRight rules known.old
-        → row.new ≡ new_row rules (written_out stretches.entry) }
-    ensures right { (rules : List RuleValue) → AreOfRules rules pieces.now
-        → AreRight rules known.old → AreRight rules known.new }
+    ensures row { ByRules pieces.now known.old
+        (λ rules. row.new ≡ new_row rules (written_out stretches.entry)) }
+    ensures right { ByRules pieces.now known.old (λ rules. AreRight rules known.new) }
 {
     let mut at = 0;
     for (cell, count) in stretches {

@@ -1,14 +1,9 @@
 //! Numbers in place of labels.
 
-ghost use Rattle.std.specs.Prelude.{◌≡◌, ℕ, ℤ, pos, ◌+◌, ◌*◌, ◌<◌, ◌≤◌, length, List, Some, None, IfOk, slice_index};
-ghost use Rattle.cell_core.specs.Grid.{Grid};
-ghost use Rattle.cell_cats_areas.specs.declared.clump.Joining.{Joining};
+ghost use Rattle.std.specs.Prelude.{◌≡◌, pos, ◌+◌, ◌<◌, ◌≤◌, length, Some, None, IfOk};
 ghost use Rattle.cell_cats_areas.specs.Areas.{IsClumping};
 ghost use Rattle.cell_cats_areas.specs.parts.Labels.{PointDown};
-ghost use Rattle.cell_cats_areas.specs.parts.Meetings.{AreSound};
-ghost use Rattle.cell_cats_areas.specs.parts.AreaNumbers.{AreNumbered, AreWritten, CanNumber, HaveNumbers, IsNumbered, StandsAt, area_number_at, area_number};
-ghost use Rattle.cell_cats_areas.specs.parts.CellPlaces.{position};
-ghost use Rattle.cell_cats_areas.specs.parts.Starts.{starts};
+ghost use Rattle.cell_cats_areas.specs.parts.AreaNumbers.{CanNumber, NumbersCell, NumbersLabel, NumbersLabels, NumbersRow, PassesCell};
 ghost use Rattle.cell_cats_areas.specs.parts.LabelTables.{AreLabels};
 
 use crate::clump::Joining;
@@ -27,9 +22,7 @@ fn number_label(table: &mut [u32], place: u32, count: u32) -> u32
     requires few { count ≤ place }
     ensures ready { CanNumber (place + 1) table.new }
     ensures few { result ≤ place + 1 }
-    ensures numbered { (j : Joining) (m : Grid) (labels : List ℕ) (open_of : ℕ → ℕ)
-        → AreSound j m labels open_of → AreNumbered j m labels open_of place table.old count
-        → AreNumbered j m labels open_of (place + 1) table.new result }
+    ensures numbered { NumbersLabel place table.old count table.new result }
 {
     let label = table[place as usize];
     if label == place {
@@ -45,8 +38,7 @@ fn number_label(table: &mut [u32], place: u32, count: u32) -> u32
 fn number_labels(table: &mut [u32])
     requires down { PointDown table.old }
     requires short { length table.old < 2147483648 }
-    ensures numbered { (j : Joining) (m : Grid) (open_of : ℕ → ℕ) → AreSound j m table.old open_of →
-        (k : ℕ) → k < length table.old → slice_index table.new k ≡ area_number j m table.old (open_of k) }
+    ensures numbered { NumbersLabels table.old table.new }
 {
     let mut count = 0;
     for place in 0..table.len() as u32 {
@@ -71,12 +63,8 @@ fn number_cell(number: u32) -> Cell
 // The number of a cell: one that it shares with its neighbours, or else that of the next label.
 fn number_of_cell(joining: Joining, cell: Cell, near: &Near, table: &[u32], next: &mut usize) -> u32
     ensures null { cell ≡ None → result ≡ 2147483648 }
-    ensures number { (m : Grid) (r c : ℕ) (v : ℤ) (labels : List ℕ) (h : AreLabels joining m labels)
-        → cell ≡ Some v → StandsAt joining m labels h r c cell near.now table.now next.old
-        → result ≡ area_number_at joining m labels h (position r c) }
-    ensures next { (m : Grid) (r c : ℕ) (labels : List ℕ) (h : AreLabels joining m labels)
-        → StandsAt joining m labels h r c cell near.now table.now next.old
-        → next.new ≡ starts joining m (r * m.region.cols + (c + 1)) }
+    ensures number { NumbersCell joining cell near.now table.now next.old result }
+    ensures next { PassesCell joining cell near.now table.now next.old next.new }
 {
     if !cell.get().is_some() {
         return NO_NUMBER;
@@ -108,11 +96,7 @@ fn number_row(
     requires row { row < map.now.region.rows }
     requires wide { length cells.old ≡ map.now.region.cols }
     requires long { length line.old ≡ map.now.region.cols + 1 }
-    ensures { (labels : List ℕ) (h : AreLabels joining map.now labels)
-        → IsNumbered joining map.now labels h table.now
-        → HaveNumbers joining map.now labels h first line.old row 0
-        → HaveNumbers joining map.now labels h result line.new (row + 1) 0
-        × AreWritten joining map.now labels h row map.now.region.cols cells.new }
+    ensures { NumbersRow joining map.now table.now row first line.old result line.new cells.new }
 {
     map.copy_row(row, cells);
     let mut next = first;

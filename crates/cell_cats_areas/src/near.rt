@@ -1,13 +1,9 @@
 //! The neighbours of a cell that come before it in row order, and the label that it shares with them.
 
-ghost use Rattle.std.specs.Prelude.{◌≡◌, ◌≢◌, ℕ, ◌<◌, ◌≤◌, ◌+◌, ◌*◌, ◌^◌, ◌++◌, ◌∷◌, [], List, length, None, IfSome, IfOk, OnOk};
-ghost use Rattle.cell_core.specs.Grid.{Grid};
-ghost use Rattle.cell_cats_areas.specs.declared.clump.Joining.{Joining};
+ghost use Rattle.std.specs.Prelude.{◌≡◌, ◌≢◌, ◌<◌, ◌≤◌, ◌+◌, ◌^◌, length, None, IfSome, IfOk, OnOk};
 ghost use Rattle.cell_cats_areas.specs.declared.clump.Joining.TheVariants.{Edges, EdgesAndCorners};
-ghost use Rattle.cell_cats_areas.specs.Areas.{cell_at_spot};
 ghost use Rattle.cell_cats_areas.specs.parts.Labels.{PointDown};
-ghost use Rattle.cell_cats_areas.specs.parts.CellPlaces.{position};
-ghost use Rattle.cell_cats_areas.specs.parts.AreasRead.{AreInside, AreNear, CanShare, HasEarlier, HasNoneEarlier, HasRead, SharesAt, SharesAtCorners, area_label_at, near_at};
+ghost use Rattle.cell_cats_areas.specs.parts.AreasRead.{AreInside, CanShare, HasEarlier, HasNoneEarlier, LabelsNext, SharesAt, SharesAtCorners, near_at};
 
 use crate::clump::Joining;
 use crate::labels::join_labels;
@@ -166,12 +162,7 @@ pub(crate) fn label_cell(
     requires short { length table.old.items < 2 ^ 31 }
     ensures down { OnOk result (PointDown table.new.items) }
     ensures long { OnOk result (length table.new.items ≤ length table.old.items + 1) }
-    ensures read { IfOk result (λ label. (m : Grid) (r c : ℕ) (labels : List ℕ)
-        → cell ≡ cell_at_spot m (position r c) → c < m.region.cols
-        → length labels ≡ r * m.region.cols + c
-        → AreNear m (length labels) (area_label_at m labels) r c near.now
-        → HasRead joining m table.old.items labels
-        → HasRead joining m table.new.items (labels ++ label ∷ [])) }
+    ensures read { IfOk result (LabelsNext joining cell near.now table.old.items table.new.items) }
 {
     if !cell.get().is_some() {
         return Ok(0);

@@ -2,3 +2,4 @@
 pub mod OfPicks
 pub mod PairsCode
 pub mod Preceded
+pub mod Selected

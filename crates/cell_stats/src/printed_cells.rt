@@ -1,11 +1,11 @@
 //! The printed form of cells, line by line.
 
-ghost use Rattle.std.specs.Prelude.{◌≡◌, ◌<◌, length, flat_map, replicate, IfOk};
+ghost use Rattle.std.specs.Prelude.{◌≡◌, ◌<◌, length, replicate, IfOk};
 ghost use Rattle.cell_core_devices.specs.Blocks.{Appends};
-ghost use Rattle.cell_stats_combinations.specs.Combinations.{ArePicks, row_combinations};
-ghost use Rattle.cell_stats_combinations.specs.LeftOut.{kept_cells};
-ghost use Rattle.cell_stats.specs.TableText.{cell_line, cell_lines};
+ghost use Rattle.cell_stats_combinations.specs.Combinations.{ArePicks};
+ghost use Rattle.cell_stats.specs.TableText.{cell_lines};
 ghost use Rattle.cell_stats.specs.parts.OfPicks.{IsOfPicks};
+ghost use Rattle.cell_stats.specs.parts.Selected.{selected_lines, selected_row};
 
 use crate::format::Format;
 use crate::printing::write_cell_line;
@@ -64,9 +64,7 @@ fn write_lines<W: Sink>(
 )
     requires { IsOfPicks selection.shelf.now selection.picks.now cells.now }
     ensures { Appends W.taken W.faults out.old block.old
-        (flat_map (cell_line format.now selection.entry.shelf.now.maps selection.entry.picks.now)
-        (kept_cells selection.entry.skip (replicate count cells.now)))
-        out.new block.new }
+        (selected_lines format.now selection.entry (replicate count cells.now)) out.new block.new }
 {
     if is_left_out(selection.skip, cells) {
         return;
@@ -90,10 +88,7 @@ fn write_cell_lines<'a, W: Sink>(
     requires row_in_range { row < selection.shelf.now.region.rows }
     requires cursors { length cursors.old ≡ length selection.picks.now }
     ensures { Appends W.taken W.faults out.old block.old
-        (flat_map (cell_line format.now selection.entry.shelf.now.maps selection.entry.picks.now)
-        (kept_cells selection.entry.skip
-        (row_combinations selection.entry.shelf.now.maps selection.entry.picks.now
-        selection.entry.shelf.now.region.cols row)))
+        (selected_lines format.now selection.entry (selected_row selection.entry row))
         out.new block.new }
 {
     let cols = selection.shelf.region().cols();

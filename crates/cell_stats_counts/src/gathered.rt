@@ -1,10 +1,11 @@
 //! Counts of combinations in a list, in which each is found by a number of it.
 
-ghost use Rattle.std.specs.Prelude.{◌≡◌, ◌+◌, ◌<◌, ◌^◌, [], ℕ, slice_index_or, OnOk, false, cond, length, take};
+ghost use Rattle.std.specs.Prelude.{◌≡◌, ◌+◌, ◌<◌, ◌^◌, [], OnOk, false, cond, length, take};
 ghost use Rattle.cell_stats_combinations.specs.Combinations.{Combination};
-ghost use Rattle.cell_stats_counts.specs.Listed.{Counts, listed_of, HasNoZero, AreAscending};
+ghost use Rattle.cell_stats_counts.specs.Listed.{listed_of, HasNoZero, AreAscending};
 ghost use Rattle.cell_stats_counts.specs.parts.HeldPlaces.{is_same, gathered_of, GathersNoZero, Grows};
-ghost use Rattle.cell_stats_counts.specs.parts.Joined.{IsRising, IsJoined};
+ghost use Rattle.cell_stats_counts.specs.parts.GatheredCounts.{GatheredFits, GathersSame, ListedFits, ListsMore, ListsSame};
+ghost use Rattle.cell_stats_counts.specs.parts.Joined.{AreOfOne, CanAddUp, IsRising, JoinsMore};
 
 use cell_core::cell::Cell;
 use cell_core::memory::Memory;
@@ -107,8 +108,7 @@ fn is_of(entry: &(Combo, u64), combo: &Combo) -> bool
 // Whether two entries count one combination.
 fn are_same(entries: &[(Combo, u64)], a: usize, b: usize) -> bool
     requires { (a < length entries.now) × (b < length entries.now) }
-    ensures { (d : Combination × ℕ)
-        → result ≡ is_same (slice_index_or entries.now a d).0 (slice_index_or entries.now b d).0 }
+    ensures { AreOfOne entries.now a b result }
 {
     is_of(&entries[a], &entries[b].0)
 }
@@ -117,9 +117,8 @@ fn are_same(entries: &[(Combo, u64)], a: usize, b: usize) -> bool
 fn has_added(entries: &mut [(Combo, u64)], at: usize, combo: &Combo, count: u64) -> bool
     requires fits { listed_of combo.now entries.old + count < 2 ^ 64 }
     requires no_zero { HasNoZero entries.old }
-    ensures counts { (k : Combination)
-        → listed_of k entries.new
-        ≡ listed_of k entries.old + cond result (cond (is_same k combo.now) count 0) 0 }
+    ensures counts { ListsMore entries.old (λ k. cond result (cond (is_same k combo.now) count 0) 0)
+        entries.new }
     ensures no_zero { HasNoZero entries.new }
 {
     if at >= entries.len() {
@@ -170,9 +169,8 @@ fn put_count(
     requires some { 0 < count }
     requires fits { listed_of combo entries.old.items + count < 2 ^ 64 }
     requires no_zero { HasNoZero entries.old.items }
-    ensures ok { OnOk result ((k : Combination)
-        → listed_of k entries.new.items
-        ≡ listed_of k entries.old.items + cond (is_same k combo) count 0) }
+    ensures ok { OnOk result (ListsMore entries.old.items (λ k. cond (is_same k combo) count 0)
+        entries.new.items) }
     ensures no_zero { OnOk result (HasNoZero entries.new.items) }
 {
     if has_added(entries.as_mut_slice(), guess, &combo, count) {
@@ -197,10 +195,9 @@ fn put_count(
 
 // Brings what is pending to the entries.
 pub(crate) fn settle(alloc: Global, counted: &mut Gathered) -> Result<(), Memory>
-    requires fits { (k : Combination) → gathered_of k counted.old < 2 ^ 64 }
+    requires fits { GatheredFits counted.old }
     requires no_zero { GathersNoZero counted.old }
-    ensures ok { OnOk result
-        ((k : Combination) → gathered_of k counted.new ≡ gathered_of k counted.old) }
+    ensures ok { OnOk result (GathersSame counted.old counted.new) }
     ensures no_zero { OnOk result (GathersNoZero counted.new) }
     ensures settled { OnOk result (counted.new.pending.items ≡ []) }
 {
@@ -244,11 +241,8 @@ pub(crate) fn merge(
 // Takes the entry at a place in: it is added to the last one that was taken, or it is the next. Returns the last place then.
 fn take_in(entries: &mut [(Combo, u64)], last: usize, at: usize) -> usize
     requires places { (last < at) × (at < length entries.old) }
-    requires fits { (d : Combination × ℕ)
-        → (slice_index_or entries.old last d).0 ≡ (slice_index_or entries.old at d).0
-        → (slice_index_or entries.old last d).1 + (slice_index_or entries.old at d).1 < 2 ^ 64 }
-    ensures joined { (old : Counts) → IsRising old → HasNoZero old
-        → IsJoined old entries.old last at → IsJoined old entries.new result (at + 1) }
+    requires fits { CanAddUp entries.old last at }
+    ensures joined { JoinsMore entries.old last at entries.new result }
 {
     if are_same(entries, at, last) {
         let more = entries[at].1;
@@ -262,11 +256,10 @@ fn take_in(entries: &mut [(Combo, u64)], last: usize, at: usize) -> usize
 // Adds up the entries of each combination in a list in order. They are the first so many then.
 fn join(entries: &mut [(Combo, u64)]) -> usize
     requires rising { IsRising entries.old }
-    requires fits { (k : Combination) → listed_of k entries.old < 2 ^ 64 }
+    requires fits { ListedFits entries.old }
     requires no_zero { HasNoZero entries.old }
     ensures ascending { AreAscending (take result entries.new) }
-    ensures counts { (k : Combination)
-        → listed_of k (take result entries.new) ≡ listed_of k entries.old }
+    ensures counts { ListsSame entries.old (take result entries.new) }
     ensures no_zero { HasNoZero (take result entries.new) }
 {
     if entries.is_empty() {
@@ -281,7 +274,7 @@ fn join(entries: &mut [(Combo, u64)]) -> usize
 
 // Puts the list in order, with one entry for each combination.
 pub(crate) fn ordered_entries(counted: Gathered) -> Vec<(Combo, u64)>
-    requires fits { (k : Combination) → gathered_of k counted < 2 ^ 64 }
+    requires fits { GatheredFits counted }
     requires no_zero { GathersNoZero counted }
     requires settled { counted.pending.items ≡ [] }
     ensures ascending { AreAscending result.items }

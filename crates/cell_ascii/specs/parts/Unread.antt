@@ -1,7 +1,37 @@
--- A reader before its first row.
-use Rattle.std.specs.Prelude.{◌≡◌, false}
-use Rattle.cell_ascii.specs.GridReaders.{ReaderValue}
+-- A reader behind the header, before its first row, and behind its last.
+use Rattle.std.specs.Prelude.{◌≡◌, ◌<◌, ◌^◌, false, Bool, Option, Ok}
+use Rattle.std.specs.Option.{option_map}
+use Rattle.cell_core.specs.Grid.{Grid, no_labels}
+use Rattle.cell_core_devices.specs.Asking.{Heard}
+use Rattle.cell_core_devices.specs.Device.{Coming}
+use Rattle.cell_ascii_meaning.specs.Header.{HeaderValue, header_of_text}
+use Rattle.cell_ascii_scanner.specs.Ahead.{bytes_to_come, Agrees}
+use Rattle.cell_ascii_scanner.specs.Scan.{Scan}
+use Rattle.cell_ascii.specs.GridReaders.{ReaderValue, reader_place}
+use Rattle.cell_ascii.specs.Reader.{ReaderPlace, opened_at, opened_by, rows_from}
 
 -- it read no row yet, and its source has not failed
 abbrev pub IsUnread : ReaderValue → Type 0
 IsUnread r = (r.rows_left ≡ r.header.region.rows) × ((r.failed ≡ false) × (r.heard.failed ≡ false))
+
+-- a scanner went from the start of a text behind its header, and the first word behind that
+pub record IsBehindHeader (header : HeaderValue × Bool) (old new : Scan) : Type 0 where
+  pub reading : Agrees header_of_text old.ahead (λ c. Ok (opened_by header new c)) new.ahead
+  pub line : new.line < 2 ^ 62
+  pub run : new.run ≡ 0
+
+-- the header of a text was read, and this was heard of its source
+pub record IsAtData (text : Option Coming) (first : Heard) (p : ReaderPlace) : Type 0 where
+  pub reading : option_map header_of_text text ≡ option_map (λ c. Ok (opened_at p c)) (bytes_to_come p.ahead)
+  pub line : p.line < 2 ^ 62
+  pub heard : p.ahead.heard ≡ first
+
+-- all rows that were left were read into a map, and there were some
+pub record HasRows (m : Grid) (old new : ReaderValue) : Type 0 where
+  pub region : m.region ≡ old.header.region
+  pub labels : m.labels ≡ no_labels
+  pub rows : option_map (λ c. rows_from old.header (reader_place old c)) old.coming ≡ option_map (λ d. Ok (m.rows, reader_place new d)) new.coming
+  pub left : new.rows_left ≡ 0
+  pub live : new.failed ≡ false
+  pub high : 0 < old.header.region.rows
+  pub wide : 0 < old.header.region.cols

@@ -32,3 +32,13 @@ HaveOutputs outputs pieces = AreOutputs outputs (get int_cmp pieces.starts)
 -- the pieces are those of the rules: each category has the output that the rules have for it
 abbrev pub AreOfRules : List RuleValue → Pieces → Type 0
 AreOfRules rules pieces = HaveOutputs (output_for rules) pieces
+
+-- whatever outputs the pieces had, they have what is made of those
+abbrev pub Repaints : ((ℤ → Option Output) → ℤ → Option Output) → Pieces → Pieces → Type 0
+Repaints paint old new = (outputs : ℤ → Option Output) → HaveOutputs outputs old → HaveOutputs (paint outputs) new
+
+-- nothing begins from one place up to another any more, and elsewhere what began
+pub record IsCleared (from to : ℤ) (old new : ℤ → Option (Option Output)) : Type 0 where
+  pub before : (q : ℤ) → q <ℤ from → new q ≡ old q
+  pub after : (q : ℤ) → to <ℤ q → new q ≡ old q
+  pub cleared : (q : ℤ) → from ≤ℤ q → q ≤ℤ to → new q ≡ None

@@ -1,5 +1,5 @@
 -- The numbers of the cells of a map, of a table of labels.
-use Rattle.std.specs.Prelude.{ℕ, zero, suc, pos, Bool, ◌+◌, ◌*◌, ◌<◌, ◌≤◌, ◌≡◌, List, [], ◌∷◌, ◌++◌, length, Some, None, nat_eq, slice_index, slice_index_or, if◌then◌else◌, is_some}
+use Rattle.std.specs.Prelude.{ℕ, ℤ, zero, suc, pos, Bool, ◌+◌, ◌*◌, ◌<◌, ◌≤◌, ◌≡◌, List, [], ◌∷◌, ◌++◌, length, Some, None, nat_eq, slice_index, slice_index_or, if◌then◌else◌, is_some}
 use Rattle.cell_core.specs.Grid.{Grid, CellValue}
 use Rattle.cell_cats_areas.specs.declared.clump.Joining.{Joining}
 use Rattle.cell_cats_areas.specs.declared.near.Labelled.{Labelled}
@@ -7,6 +7,7 @@ use Rattle.cell_cats_areas.specs.declared.near.Near.{Near}
 use Rattle.cell_cats_areas.specs.Areas.{Position, cell_at_spot}
 use Rattle.cell_cats_areas.specs.parts.CellPlaces.{position}
 use Rattle.cell_cats_areas.specs.parts.AreasRead.{AreNear, IsLine, area_label_at}
+use Rattle.cell_cats_areas.specs.parts.Meetings.{AreSound}
 use Rattle.cell_cats_areas.specs.parts.Starts.{start_of_run, starts}
 use Rattle.cell_cats_areas.specs.parts.LabelTables.{AreLabels}
 
@@ -66,3 +67,28 @@ pub record StandsAt (j : Joining) (m : Grid) (labels : List ℕ) (h : AreLabels 
 -- what is written for the cells of a row before a column
 abbrev pub AreWritten : (j : Joining) (m : Grid) (labels : List ℕ) → AreLabels j m labels → ℕ → ℕ → List CellValue → Type 0
 AreWritten j m labels h r c row = (k : ℕ) → k < c → slice_index_or row k None ≡ cell_number j m labels h (position r k)
+
+-- one more label of a table is replaced by its number, and the greatest number so far goes on
+abbrev pub NumbersLabel : ℕ → List ℕ → ℕ → List ℕ → ℕ → Type 0
+NumbersLabel place old count new more = (j : Joining) (m : Grid) (labels : List ℕ) (open_of : ℕ → ℕ) → AreSound j m labels open_of
+    → AreNumbered j m labels open_of place old count → AreNumbered j m labels open_of (place + 1) new more
+
+-- each label of a table is replaced by the number of its area
+abbrev pub NumbersLabels : List ℕ → List ℕ → Type 0
+NumbersLabels old new = (j : Joining) (m : Grid) (open_of : ℕ → ℕ) → AreSound j m old open_of
+    → (k : ℕ) → k < length old → slice_index new k ≡ area_number j m old (open_of k)
+
+-- wherever such a cell stands, the number is that of its area
+abbrev pub NumbersCell : Joining → CellValue → Near → List ℕ → ℕ → ℕ → Type 0
+NumbersCell j cell near table next number = (m : Grid) (r c : ℕ) (v : ℤ) (labels : List ℕ) (h : AreLabels j m labels)
+    → cell ≡ Some v → StandsAt j m labels h r c cell near table next → number ≡ area_number_at j m labels h (position r c)
+
+-- and the areas that begin up to it are counted
+abbrev pub PassesCell : Joining → CellValue → Near → List ℕ → ℕ → ℕ → Type 0
+PassesCell j cell near table next after = (m : Grid) (r c : ℕ) (labels : List ℕ) (h : AreLabels j m labels)
+    → StandsAt j m labels h r c cell near table next → after ≡ starts j m (r * m.region.cols + (c + 1))
+
+-- a row more has its numbers, in the line and as cells
+abbrev pub NumbersRow : Joining → Grid → List ℕ → ℕ → ℕ → List Labelled → ℕ → List Labelled → List CellValue → Type 0
+NumbersRow j m table r next line after new cells = (labels : List ℕ) (h : AreLabels j m labels) → IsNumbered j m labels h table
+    → HaveNumbers j m labels h next line r 0 → HaveNumbers j m labels h after new (r + 1) 0 × AreWritten j m labels h r m.region.cols cells

@@ -1,5 +1,5 @@
 -- What is known of the labels once the first cells of a map were read, in row order.
-use Rattle.std.specs.Prelude.{ℕ, ℤ, suc, ◌+◌, ◌*◌, ◌<◌, ◌≤◌, ◌≡◌, ◌⊎◌, List, length, Some, None, IsSome, true, slice_index, slice_index_or}
+use Rattle.std.specs.Prelude.{ℕ, ℤ, suc, ◌+◌, ◌*◌, ◌<◌, ◌≤◌, ◌≡◌, ◌⊎◌, List, [], ◌∷◌, ◌++◌, length, Some, None, IsSome, true, slice_index, slice_index_or}
 use Rattle.cell_core.specs.Grid.{Grid, CellValue}
 use Rattle.cell_cats_areas.specs.declared.clump.Joining.{Joining}
 use Rattle.cell_cats_areas.specs.declared.clump.Joining.TheVariants.{EdgesAndCorners}
@@ -87,6 +87,13 @@ pub record CanShare (cell : CellValue) (table : List ℕ) (near : Near) : Type 0
   pub some : IsSome cell
   pub down : PointDown table
   pub inside : AreInside (length table) near
+
+-- wherever such a cell stands among such neighbours, and is the next, this label is read
+abbrev pub LabelsNext : Joining → CellValue → Near → List ℕ → List ℕ → ℕ → Type 0
+LabelsNext j cell near old new label = (m : Grid) (r c : ℕ) (labels : List ℕ)
+    → cell ≡ cell_at_spot m (position r c) → c < m.region.cols → length labels ≡ r * m.region.cols + c
+    → AreNear m (length labels) (area_label_at m labels) r c near
+    → HasRead j m old labels → HasRead j m new (labels ++ label ∷ [])
 
 -- a cell shares the label of a neighbour of its category, and all such neighbours lead to one open label
 pub record Shares (j : Joining) (m : Grid) (table labels : List ℕ) (before : ℕ → ℕ) (r c : ℕ) (v : ℤ) (label : ℕ) : Type 0 where

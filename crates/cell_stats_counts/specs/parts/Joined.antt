@@ -1,9 +1,10 @@
 -- A list in order whose entries of one combination are added up in place.
-use Rattle.std.specs.Prelude.{ℕ, ◌≡◌, ◌+◌, ◌<◌, ◌≤◌, false, length, take, drop, slice_index_or}
+use Rattle.std.specs.Prelude.{ℕ, ◌≡◌, ◌+◌, ◌<◌, ◌≤◌, ◌^◌, Bool, false, length, take, drop, slice_index_or}
 use Rattle.std.specs.Ordering.{is_lt}
 use Rattle.std.specs.declared.cmp.Ordering.TheVariants.{Less}
 use Rattle.cell_stats_combinations.specs.Combinations.{Combination, combination_cmp}
 use Rattle.cell_stats_counts.specs.Listed.{Counts, listed_of, HasNoZero}
+use Rattle.cell_stats_counts.specs.parts.HeldPlaces.{is_same}
 
 -- no combination is less than the one before it
 abbrev pub IsRising : Counts → Type 0
@@ -19,3 +20,16 @@ pub record IsJoined (old now : Counts) (last at : ℕ) : Type 0 where
   pub others : (i : ℕ) (d : Combination × ℕ) → at ≤ i → slice_index_or now i d ≡ slice_index_or old i d
   pub counts : (k : Combination) → listed_of k (take (last + 1) now) + listed_of k (drop at old) ≡ listed_of k old
   pub no_zero : HasNoZero (take (last + 1) now)
+
+-- whether the entries in two places are of one combination
+abbrev pub AreOfOne : Counts → ℕ → ℕ → Bool → Type 0
+AreOfOne entries a b same = (d : Combination × ℕ) → same ≡ is_same (slice_index_or entries a d).0 (slice_index_or entries b d).0
+
+-- and if they are, their sum can be told
+abbrev pub CanAddUp : Counts → ℕ → ℕ → Type 0
+CanAddUp entries a b = (d : Combination × ℕ) → (slice_index_or entries a d).0 ≡ (slice_index_or entries b d).0
+    → (slice_index_or entries a d).1 + (slice_index_or entries b d).1 < 2 ^ 64
+
+-- entries that were added up in place go on so by one more
+abbrev pub JoinsMore : Counts → ℕ → ℕ → Counts → ℕ → Type 0
+JoinsMore now last at new next = (old : Counts) → IsRising old → HasNoZero old → IsJoined old now last at → IsJoined old new next (at + 1)

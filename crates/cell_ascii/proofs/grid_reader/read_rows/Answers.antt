@@ -9,7 +9,8 @@ use Rattle.cell_ascii_meaning.specs.Kinds.{IsOfText}
 use Rattle.cell_ascii_meaning.specs.declared.grid_fault.GridKind.{GridKind}
 use Rattle.cell_ascii_meaning.specs.declared.grid_fault.GridKind.TheVariants.{Memory, Failed}
 use Rattle.cell_ascii.specs.Reader.{rows_from}
-use Rattle.cell_ascii.specs.GridReaders.{reader_place, IsCutRow}
+use Rattle.cell_ascii.specs.GridReaders.{reader_place, IsCutRow, IsOfReading}
+use Rattle.cell_ascii_meaning.specs.GridTokens.{grid_fault}
 use Rattle.cell_ascii.proofs.CellLemmas.{more_read, none_read, all_read}
 use Rattle.cell_ascii.proofs.DataLemmas.{rows_fail}
 use Rattle.cell_ascii.proofs.RowReadLemmas.{implied, cut_fails}
@@ -43,8 +44,8 @@ longer rows row = omega (arith, length-append rows (row ∷ []))
 refused : {X E : Type 0} (f : E) (x : X) → ◌≡◌ {A = Result X E} (Err f) (Ok x) → ⊥
 refused f x e = cc
 
-not_failed : ◌≢◌ {A = GridKind} Memory Failed
-not_failed e = cc
+no_memory : IsOfReading (grid_fault Memory 0)
+no_memory = record { memory = λ _. refl; kinds = λ e. cc }
 
 of_text : {kind : GridKind} → IsOfText kind → kind ≢ Failed
 of_text is e = subst IsOfText e is
@@ -52,20 +53,11 @@ of_text is e = subst IsOfText e is
 some_same : {n m : ℕ} → 0 < n → n ≡ m → 0 < m
 some_same some same = omega arith
 
-pub returns-in_default-clause-wide : goal.returns-in_default-clause-wide
-returns-in_default-clause-wide g c =
-    let is = c.cols.ensures.region in
-    let same = c.region-region.ensures in
-    (some_same is.rows_least (ap (λ r. r.rows) same), some_same is.cols_least (ap (λ r. r.cols) same))
-
 pub returns-in_default-clause-fault : goal.returns-in_default-clause-fault
 returns-in_default-clause-fault g c = λ other. absurd (other refl)
 
-pub returns-in_default-clause-memory : goal.returns-in_default-clause-memory
-returns-in_default-clause-memory g c = λ _. refl
-
 pub returns-in_default-clause-kinds : goal.returns-in_default-clause-kinds
-returns-in_default-clause-kinds g c = not_failed
+returns-in_default-clause-kinds g c = no_memory
 
 pub rows-init : goal.rows-init
 rows-init g c =
@@ -86,30 +78,17 @@ rows-init g c =
 pub next_row-requires : goal.next_row-requires
 next_row-requires g c = let is = c.rows.invariant in record { width = is.width ∙ ap (λ h. h.region.cols) (sym is.header) }
 
-pub returns-in_err-next_row-clause-region : goal.returns-in_err-next_row-clause-region
-returns-in_err-next_row-clause-region g c = let p = err_from_is_err_and c.from_residual.result c.from_residual.ensures.1 in rw p.1 tt
-
 pub returns-in_err-next_row-clause-rows : goal.returns-in_err-next_row-clause-rows
 returns-in_err-next_row-clause-rows g c = let p = err_from_is_err_and c.from_residual.result c.from_residual.ensures.1 in rw p.1 tt
-
-pub returns-in_err-next_row-clause-done : goal.returns-in_err-next_row-clause-done
-returns-in_err-next_row-clause-done g c = let p = err_from_is_err_and c.from_residual.result c.from_residual.ensures.1 in rw p.1 tt
-
-pub returns-in_err-next_row-clause-wide : goal.returns-in_err-next_row-clause-wide
-returns-in_err-next_row-clause-wide g c =
-    let is = c.cols.ensures.region in
-    let same = c.region-region.ensures in
-    (some_same is.rows_least (ap (λ r. r.rows) same), some_same is.cols_least (ap (λ r. r.cols) same))
-
-pub returns-in_err-next_row-clause-memory : goal.returns-in_err-next_row-clause-memory
-returns-in_err-next_row-clause-memory g c =
-    let p = err_from_is_err_and c.from_residual.result c.from_residual.ensures.1 in
-    rw (p.1, p.2) (λ e. absurd (c.in_err-next_row.ensures.memory e))
 
 pub returns-in_err-next_row-clause-kinds : goal.returns-in_err-next_row-clause-kinds
 returns-in_err-next_row-clause-kinds g c =
     let p = err_from_is_err_and c.from_residual.result c.from_residual.ensures.1 in
-    rw (p.1, p.2) (of_text (c.in_err-next_row.ensures.kinds c.rows.invariant.live))
+    let live = c.rows.invariant.live in
+    rw (p.1, p.2) (record {
+      memory = λ e. absurd (c.in_err-next_row.ensures.memory e);
+      kinds = of_text (c.in_err-next_row.ensures.kinds live);
+    })
 
 pub returns-in_err-next_row-clause-fault : goal.returns-in_err-next_row-clause-fault
 returns-in_err-next_row-clause-fault g c =
@@ -165,28 +144,16 @@ rows-preserved g c =
       heard = c.in_ok-next_row.ensures.heard is.live ∙ ap (hears false) is.heard;
     }
 
-pub returns-in-Err-clause-wide : goal.returns-in-Err-clause-wide
-returns-in-Err-clause-wide g c =
-    let is = c.cols.ensures.region in
-    let same = c.region-region.ensures in
-    (some_same is.rows_least (ap (λ r. r.rows) same), some_same is.cols_least (ap (λ r. r.cols) same))
-
 pub returns-in-Err-clause-fault : goal.returns-in-Err-clause-fault
 returns-in-Err-clause-fault g c = λ other. absurd (other refl)
 
-pub returns-in-Err-clause-memory : goal.returns-in-Err-clause-memory
-returns-in-Err-clause-memory g c = λ _. refl
-
 pub returns-in-Err-clause-kinds : goal.returns-in-Err-clause-kinds
-returns-in-Err-clause-kinds g c = not_failed
+returns-in-Err-clause-kinds g c = no_memory
 
 pub finish-requires : goal.finish-requires
 finish-requires g c =
     let is = c.rows.invariant in
     no_more is.count (c.in_ok-next_row.ensures.last (ap Ok c.if-branch.false)) ∙ ap (λ r. r.rows) (sym is.region)
-
-pub returns-clause-region : goal.returns-clause-region
-returns-clause-region g c = (ap (λ m. m.region) c.finish.ensures ∙ c.rows.invariant.region, ap (λ m. m.labels) c.finish.ensures)
 
 pub returns-clause-rows : goal.returns-clause-rows
 returns-clause-rows g c =
@@ -198,19 +165,15 @@ returns-clause-rows g c =
     let none = c.in_ok-next_row.ensures.last (ap Ok c.if-branch.false) in
     let same : u ≡ t = (c.in_ok-next_row.ensures.none is.live none).2 in
     let all : c.finish.result.rows ≡ front = ap (λ m. m.rows) c.finish.ensures in
-    is.rows
-    ∙ all_read (many (cell_from h) h.region.cols) h.region.rows (length front) (reader_place t) t.coming front (no_more is.count none)
-    ∙ (λ i. option_map (λ d. Ok (sym all i, reader_place (sym same i) d)) (sym same i).coming)
-
-pub returns-clause-done : goal.returns-clause-done
-returns-clause-done g c =
-    let is = c.rows.invariant in
-    let none = c.in_ok-next_row.ensures.last (ap Ok c.if-branch.false) in
-    let same = (c.in_ok-next_row.ensures.none is.live none).2 in
-    (ap (λ r. r.rows_left) same ∙ none, ap (λ r. r.failed) same ∙ is.live)
-
-pub returns-clause-wide : goal.returns-clause-wide
-returns-clause-wide g c =
-    let is = c.cols.ensures.region in
-    let same = c.region-region.ensures in
-    (some_same is.rows_least (ap (λ r. r.rows) same), some_same is.cols_least (ap (λ r. r.cols) same))
+    let region = c.cols.ensures.region in
+    record {
+      region = ap (λ m. m.region) c.finish.ensures ∙ is.region;
+      labels = ap (λ m. m.labels) c.finish.ensures;
+      rows = is.rows
+          ∙ all_read (many (cell_from h) h.region.cols) h.region.rows (length front) (reader_place t) t.coming front (no_more is.count none)
+          ∙ (λ i. option_map (λ d. Ok (sym all i, reader_place (sym same i) d)) (sym same i).coming);
+      left = ap (λ r. r.rows_left) same ∙ none;
+      live = ap (λ r. r.failed) same ∙ is.live;
+      high = some_same region.rows_least (ap (λ r. r.rows) c.region-region.ensures);
+      wide = some_same region.cols_least (ap (λ r. r.cols) c.region-region.ensures);
+    }

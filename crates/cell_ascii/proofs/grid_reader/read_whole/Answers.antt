@@ -1,4 +1,3 @@
-use Rattle.std.proofs.Common.{refl}
 use Rattle.cell_ascii.specs.GridReaders.{reader_place}
 use Rattle.cell_ascii.proofs.DataLemmas.{data_fails, text_fails, end_fails, whole_read}
 use Rattle.cell_ascii.proofs.grid_reader.read_whole.Goals as goal
@@ -12,13 +11,11 @@ returns-in-Err-clause-fault g c =
 pub returns-in-Ok-end-clause-map : goal.returns-in-Ok-end-clause-map
 returns-in-Ok-end-clause-map g c =
     let m = c.in-Ok.map in
-    let high = c.read_rows.ensures.wide in
-    λ text opened. whole_read c.args.reader.now c.read_rows.new.reader text opened high.0 high.1 m.rows c.in-Ok.ensures.rows m c.in-Ok.ensures.region refl
-    (c.in-Ok-end.ensures.told c.in-Ok.ensures.done.1)
+    let is = c.in-Ok.ensures.rows in
+    λ text opened. whole_read c.args.reader.now c.read_rows.new.reader text opened m is (c.in-Ok-end.ensures.end.told is.live)
 
 pub returns-in-Err-end-clause-fault : goal.returns-in-Err-end-clause-fault
 returns-in-Err-end-clause-fault g c =
     let m = c.in-Ok.map in
-    let high = c.read_rows.ensures.wide in
-    λ other text opened. end_fails c.args.reader.now c.read_rows.new.reader text opened high.0 high.1 m.rows c.in-Ok.ensures.rows
-    c.in-Err-end.fault (c.in-Err-end.ensures.told c.in-Ok.ensures.done.1)
+    let is = c.in-Ok.ensures.rows in
+    λ other text opened. end_fails c.args.reader.now c.read_rows.new.reader text opened m is c.in-Err-end.fault (c.in-Err-end.ensures.end.told is.live)

@@ -1,8 +1,8 @@
-use Rattle.std.proofs.Common.{◌∙◌, ◌-◌, Ok, Err, false, refl, sym, ap, length, take, drop}
+use Rattle.std.proofs.Common.{◌∙◌, ◌-◌, Ok, Err, false, sym, ap, length, take, drop}
 use Rattle.std.proofs.lemmas.Result.{IfOk-from_err, err_from_is_err_and}
 use Rattle.cell_core_devices.specs.Asking.{hears}
 use Rattle.cell_ascii_scanner.specs.Ahead.{bytes_to_come}
-use Rattle.cell_ascii_header.proofs.OpeningLemmas.{err_no_ok, key_done, key_given, key_refused, key_unended, key_unread}
+use Rattle.cell_ascii_header.proofs.OpeningLemmas.{key_done, key_given, key_refused, key_unended, key_unread}
 use Rattle.cell_ascii_header.proofs.KindLemmas.{key_kind, key_told}
 use Rattle.cell_ascii_header.proofs.header_reading.read_key.Goals as goal
 
@@ -14,9 +14,11 @@ returns-in-Ok-clause-key g c =
     let given =
     key_given c.args.keys.now (Ok c.give.new.self) s.word c.word.result.now c.word-2.result.now t.word
     c.args.colon c.in_ok-start.start c.header_key_of-key.result
-    c.requires.colon c.word.ensures.value c.header_key_of-key.ensures (c.word-2.ensures.value ∙ c.end_line.ensures.word) (sym c.in-Ok.ensures.ok) in
+    c.requires.colon c.word.ensures.value c.header_key_of-key.ensures
+    (c.word-2.ensures.value ∙ c.in_ok-ending.ensures.word) (sym c.in-Ok.ensures.ok) in
     key_done s.line c.args.keys.now s.word t.word c.in_ok-start.start u.run c.in_ok-ending.ending c.give.new.self (bytes_to_come s.ahead) (bytes_to_come t.ahead) (bytes_to_come u.ahead)
-    (rw c.requires.colon at c.in_ok-start.ensures.value) (rw c.in_ok-start.ensures.line at c.in_ok-ending.ensures.ending) given
+    (rw c.requires.colon at c.in_ok-start.ensures.value)
+    (rw c.in_ok-start.ensures.ok.line at c.in_ok-ending.ensures.ending) given
 
 pub returns-in-Err-clause-kind : goal.returns-in-Err-clause-kind
 returns-in-Err-clause-kind g c = key_kind c.args.keys.now c.header_key_of-key.result (take (length c.word-2.result.now - c.in_ok-start.start) (drop c.in_ok-start.start c.word-2.result.now)) c.in-Err.kind c.in-Err.ensures.err
@@ -31,20 +33,8 @@ returns-in_err-start-clause-key g c =
     (bytes_to_come t.ahead)
     (rw c.requires.colon at c.in_err-start.ensures.value))
 
-pub returns-in_err-start-clause-feed : goal.returns-in_err-start-clause-feed
-returns-in_err-start-clause-feed g c = λ e. err_no_ok _ _ _ c.from_residual.ensures.0 e
-
-pub returns-in_err-start-clause-text : goal.returns-in_err-start-clause-text
-returns-in_err-start-clause-text g c = λ e. err_no_ok _ _ _ c.from_residual.ensures.0 e
-
-pub returns-in_err-start-clause-run : goal.returns-in_err-start-clause-run
-returns-in_err-start-clause-run g c = IfOk-from_err c.from_residual.result _ c.from_residual.ensures.0
-
-pub returns-in_err-start-clause-end : goal.returns-in_err-start-clause-end
-returns-in_err-start-clause-end g c = λ e. err_no_ok _ _ _ c.from_residual.ensures.0 e
-
-pub returns-in_err-start-clause-lines : goal.returns-in_err-start-clause-lines
-returns-in_err-start-clause-lines g c = IfOk-from_err c.from_residual.result _ c.from_residual.ensures.0
+pub returns-in_err-start-clause-ok : goal.returns-in_err-start-clause-ok
+returns-in_err-start-clause-ok g c = IfOk-from_err c.from_residual.result _ c.from_residual.ensures.0
 
 pub returns-in_err-start-clause-kind : goal.returns-in_err-start-clause-kind
 returns-in_err-start-clause-kind g c =
@@ -60,24 +50,11 @@ returns-in_err-ending-clause-key g c =
     rw (p.1, p.2)
     (key_unended s.line c.args.keys.now s.word t.word c.in_ok-start.start u.run c.args.keys.now
     c.in_err-ending.field-0.0 (bytes_to_come s.ahead) (bytes_to_come t.ahead) (bytes_to_come u.ahead)
-    (rw c.requires.colon at c.in_ok-start.ensures.value) (rw c.in_ok-start.ensures.line at
+    (rw c.requires.colon at c.in_ok-start.ensures.value) (rw c.in_ok-start.ensures.ok.line at
     c.in_err-ending.ensures.ending))
 
-pub returns-in_err-ending-clause-feed : goal.returns-in_err-ending-clause-feed
-returns-in_err-ending-clause-feed g c = λ e. err_no_ok _ _ _ c.from_residual-in_err-ending.ensures.0 e
-
-pub returns-in_err-ending-clause-text : goal.returns-in_err-ending-clause-text
-returns-in_err-ending-clause-text g c = λ e. err_no_ok _ _ _ c.from_residual-in_err-ending.ensures.0 e
-
-pub returns-in_err-ending-clause-run : goal.returns-in_err-ending-clause-run
-returns-in_err-ending-clause-run g c =
-    IfOk-from_err c.from_residual-in_err-ending.result _ c.from_residual-in_err-ending.ensures.0
-
-pub returns-in_err-ending-clause-end : goal.returns-in_err-ending-clause-end
-returns-in_err-ending-clause-end g c = λ e. err_no_ok _ _ _ c.from_residual-in_err-ending.ensures.0 e
-
-pub returns-in_err-ending-clause-lines : goal.returns-in_err-ending-clause-lines
-returns-in_err-ending-clause-lines g c =
+pub returns-in_err-ending-clause-ok : goal.returns-in_err-ending-clause-ok
+returns-in_err-ending-clause-ok g c =
     IfOk-from_err c.from_residual-in_err-ending.result _ c.from_residual-in_err-ending.ensures.0
 
 pub returns-in_err-ending-clause-kind : goal.returns-in_err-ending-clause-kind
@@ -85,23 +62,8 @@ returns-in_err-ending-clause-kind g c =
     let p = err_from_is_err_and c.from_residual-in_err-ending.result c.from_residual-in_err-ending.ensures.1 in
     rw (p.1, p.2) c.in_err-ending.ensures.kind
 
-pub returns-in-Ok-clause-feed : goal.returns-in-Ok-clause-feed
-returns-in-Ok-clause-feed g c = rw c.in_ok-start.ensures.line at c.in_ok-ending.ensures.feed
-
-pub returns-in-Ok-clause-text : goal.returns-in-Ok-clause-text
-returns-in-Ok-clause-text g c = rw c.in_ok-start.ensures.line at c.in_ok-ending.ensures.text
-
-pub returns-in-Ok-clause-run : goal.returns-in-Ok-clause-run
-returns-in-Ok-clause-run g c = c.end_line.ensures.run
-
-pub returns-in-Ok-clause-end : goal.returns-in-Ok-clause-end
-returns-in-Ok-clause-end g c = c.in_ok-ending.ensures.end
-
-pub returns-in-Ok-clause-lines : goal.returns-in-Ok-clause-lines
-returns-in-Ok-clause-lines g c = rw c.in_ok-start.ensures.line at c.in_ok-ending.ensures.lines
-
-pub returns-in-Ok-clause-kind : goal.returns-in-Ok-clause-kind
-returns-in-Ok-clause-kind g c = tt
+pub returns-in-Ok-clause-ok : goal.returns-in-Ok-clause-ok
+returns-in-Ok-clause-ok g c = rw c.in_ok-start.ensures.ok.line at c.in_ok-ending.ensures.ok
 
 pub returns-in-Err-clause-key : goal.returns-in-Err-clause-key
 returns-in-Err-clause-key g c =
@@ -111,28 +73,14 @@ returns-in-Err-clause-key g c =
     let given =
     key_given c.args.keys.now (Err c.in-Err.kind) s.word c.word.result.now c.word-2.result.now t.word c.args.colon
     c.in_ok-start.start c.header_key_of-key.result
-    c.requires.colon c.word.ensures.value c.header_key_of-key.ensures (c.word-2.ensures.value ∙ c.end_line.ensures.word)
+    c.requires.colon c.word.ensures.value c.header_key_of-key.ensures
+    (c.word-2.ensures.value ∙ c.in_ok-ending.ensures.word)
     (sym c.in-Err.ensures.err) in
     rw c.line-line.ensures
     (key_refused s.line c.args.keys.now s.word t.word c.in_ok-start.start u.run c.in_ok-ending.ending c.give.new.self
     c.in-Err.kind (bytes_to_come s.ahead) (bytes_to_come t.ahead) (bytes_to_come u.ahead)
-    (rw c.requires.colon at c.in_ok-start.ensures.value) (rw c.in_ok-start.ensures.line at
+    (rw c.requires.colon at c.in_ok-start.ensures.value) (rw c.in_ok-start.ensures.ok.line at
     c.in_ok-ending.ensures.ending) given)
-
-pub returns-in-Err-clause-feed : goal.returns-in-Err-clause-feed
-returns-in-Err-clause-feed g c = λ e. err_no_ok _ (Err _) _ refl e
-
-pub returns-in-Err-clause-text : goal.returns-in-Err-clause-text
-returns-in-Err-clause-text g c = λ e. err_no_ok _ (Err _) _ refl e
-
-pub returns-in-Err-clause-run : goal.returns-in-Err-clause-run
-returns-in-Err-clause-run g c = tt
-
-pub returns-in-Err-clause-end : goal.returns-in-Err-clause-end
-returns-in-Err-clause-end g c = λ e. err_no_ok _ (Err _) _ refl e
-
-pub returns-in-Err-clause-lines : goal.returns-in-Err-clause-lines
-returns-in-Err-clause-lines g c = tt
 
 pub returns-in-Err-clause-heard : goal.returns-in-Err-clause-heard
 returns-in-Err-clause-heard g c =

@@ -1,4 +1,4 @@
-use Rattle.std.proofs.Common.{◌≡◌, ◌<◌, ◌≤◌, ◌+◌, ◌∙◌, length, ap, true, false, Ok}
+use Rattle.std.proofs.Common.{◌≡◌, ◌<◌, ◌≤◌, ◌+◌, ◌∙◌, length, ap, true, false}
 use Rattle.std.specs.List.{list_any, position_or_len}
 use Rattle.cell_ascii_scanner.specs.Ahead.{bytes_to_come}
 use Rattle.cell_ascii_meaning.specs.Header.{is_colon}
@@ -26,7 +26,7 @@ returns-in-Ok-Feed-clause-line g c =
     let before : c.byte_place-colon.result < length u.word = rw c.word-2.ensures.value at c.if-colon-word.false in
     let place : c.byte_place-colon.result ≡ position_or_len is_colon u.word = rw c.word.ensures.value at c.byte_place-colon.ensures.place in
     let some : list_any is_colon u.word ≡ true = any_within is_colon u.word (rw place at before) in
-    let next : v.line ≡ t.line + 1 = c.in-Ok-Feed.ensures.feed (ap Ok c.in-Ok-Feed.field-0-is) ∙ ap (λ n. n + 1) c.read_word.ensures.line in
+    let next : v.line ≡ t.line + 1 = (rw c.in-Ok-Feed.field-0-is at c.in-Ok-Feed.ensures.ok).line ∙ ap (λ n. n + 1) c.read_word.ensures.line in
     line_more c.args.keys.now s.line s.run t.line u.word (bytes_to_come s.ahead) (bytes_to_come t.ahead) (bytes_to_come u.ahead)
     (rw c.in-Ok-Word.field-0-is at c.in-Ok-Word.ensures.starts) c.in-Ok.ensures.word some c.read_key.new.keys v.run (bytes_to_come v.ahead) v.line next
     (rw (c.in-Ok-Feed.field-0-is, c.read_word.ensures.line) at c.in-Ok-Feed.ensures.key)
@@ -40,10 +40,10 @@ returns-in-Ok-Text-clause-line g c =
     let before : c.byte_place-colon.result < length u.word = rw c.word-2.ensures.value at c.if-colon-word.false in
     let place : c.byte_place-colon.result ≡ position_or_len is_colon u.word = rw c.word.ensures.value at c.byte_place-colon.ensures.place in
     let some : list_any is_colon u.word ≡ true = any_within is_colon u.word (rw place at before) in
-    let same : v.line ≡ t.line = c.in-Ok-Text.ensures.text (ap Ok c.in-Ok-Text.field-0-is) ∙ c.read_word.ensures.line in
+    let same : v.line ≡ t.line = (rw c.in-Ok-Text.field-0-is at c.in-Ok-Text.ensures.ok).line ∙ c.read_word.ensures.line in
     line_last c.args.keys.now s.line s.run t.line u.word (bytes_to_come s.ahead) (bytes_to_come t.ahead) (bytes_to_come u.ahead)
     (rw c.in-Ok-Word.field-0-is at c.in-Ok-Word.ensures.starts) c.in-Ok.ensures.word some c.read_key.new.keys v.run (bytes_to_come v.ahead) v.line same
-    (c.in-Ok-Text.ensures.end (ap Ok c.in-Ok-Text.field-0-is)) (rw (c.in-Ok-Text.field-0-is, c.read_word.ensures.line) at c.in-Ok-Text.ensures.key)
+    (rw c.in-Ok-Text.field-0-is at c.in-Ok-Text.ensures.ok).end (rw (c.in-Ok-Text.field-0-is, c.read_word.ensures.line) at c.in-Ok-Text.ensures.key)
 
 pub returns-in-Err-read_key-clause-line : goal.returns-in-Err-read_key-clause-line
 returns-in-Err-read_key-clause-line g c =

@@ -1,4 +1,4 @@
-use Rattle.std.proofs.Common.{◌≡◌, ◌∙◌, ℕ, ◌+◌, ◌<◌, ◌≤◌, Ok, Err, refl, arith, List, length, drop, length-drop}
+use Rattle.std.proofs.Common.{◌≡◌, ◌∙◌, ℕ, ◌<◌, ◌≤◌, Ok, Err, refl, arith, List, length, drop, length-drop}
 use Rattle.std.proofs.lemmas.Result.{IfOk-from_err, err_from_is_err_and}
 use Rattle.cell_ascii_scanner.specs.Ahead.{bytes_to_come}
 use Rattle.cell_ascii_scanner.specs.Scan.{gap_seen}
@@ -6,14 +6,11 @@ use Rattle.cell_ascii_scanner.specs.declared.scanner.InLine.TheVariants.{Word, F
 use Rattle.cell_ascii_meaning.specs.Header.{value_from}
 use Rattle.cell_ascii_header.specs.Opening.{value_seen}
 use Rattle.cell_ascii_header.proofs.MapLemmas.{map_same}
-use Rattle.cell_ascii_header.proofs.OpeningLemmas.{line_most, value_blanks, value_here}
+use Rattle.cell_ascii_header.proofs.OpeningLemmas.{value_blanks, value_here}
 use Rattle.cell_ascii_header.proofs.header_reading.read_value.Goals as goal
 
 below_most : (a b : ℕ) → a < b → a ≤ b
 below_most a b h = omega arith
-
-one_more : (n : ℕ) → n ≤ n + 1
-one_more n = omega arith
 
 least : (n : ℕ) → 0 ≤ n
 least n = omega arith
@@ -29,17 +26,12 @@ returns-then-start-word-clause-value g c =
     let some : 0 < length (drop c.args.start s.word) = some_behind c.args.start s.word before in
     map_same (value_from s.line (drop c.args.start s.word)) (value_seen (Ok c.args.start) s.word) (bytes_to_come s.ahead) (λ x. value_here s.line (drop c.args.start s.word) x some)
 
-pub returns-then-start-word-clause-line : goal.returns-then-start-word-clause-line
-returns-then-start-word-clause-line g c = refl
-
-pub returns-then-start-word-clause-run : goal.returns-then-start-word-clause-run
-returns-then-start-word-clause-run g c = c.requires.run
-
-pub returns-then-start-word-clause-within : goal.returns-then-start-word-clause-within
-returns-then-start-word-clause-within g c = below_most _ _ (rw c.word.ensures.value at c.if-start-word.true)
-
-pub returns-then-start-word-clause-lines : goal.returns-then-start-word-clause-lines
-returns-then-start-word-clause-lines g c = one_more _
+pub returns-then-start-word-clause-ok : goal.returns-then-start-word-clause-ok
+returns-then-start-word-clause-ok g c = record {
+  line = refl;
+  run = c.requires.run;
+  within = below_most _ _ (rw c.word.ensures.value at c.if-start-word.true);
+}
 
 pub returns-then-start-word-clause-kind : goal.returns-then-start-word-clause-kind
 returns-then-start-word-clause-kind g c = tt
@@ -54,17 +46,8 @@ returns-in_err-skip_blanks-clause-value g c =
     (value_blanks s.line c.args.start s.word (gap_seen (Err c.in_err-skip_blanks.field-0.0) t.run) (bytes_to_come s.ahead)
     (bytes_to_come t.ahead) long (rw c.requires.run at c.in_err-skip_blanks.ensures.gap))
 
-pub returns-in_err-skip_blanks-clause-line : goal.returns-in_err-skip_blanks-clause-line
-returns-in_err-skip_blanks-clause-line g c = IfOk-from_err c.from_residual.result _ c.from_residual.ensures.0
-
-pub returns-in_err-skip_blanks-clause-run : goal.returns-in_err-skip_blanks-clause-run
-returns-in_err-skip_blanks-clause-run g c = IfOk-from_err c.from_residual.result _ c.from_residual.ensures.0
-
-pub returns-in_err-skip_blanks-clause-within : goal.returns-in_err-skip_blanks-clause-within
-returns-in_err-skip_blanks-clause-within g c = IfOk-from_err c.from_residual.result _ c.from_residual.ensures.0
-
-pub returns-in_err-skip_blanks-clause-lines : goal.returns-in_err-skip_blanks-clause-lines
-returns-in_err-skip_blanks-clause-lines g c = line_most _ _ _ c.skip_blanks.ensures.line
+pub returns-in_err-skip_blanks-clause-ok : goal.returns-in_err-skip_blanks-clause-ok
+returns-in_err-skip_blanks-clause-ok g c = IfOk-from_err c.from_residual.result _ c.from_residual.ensures.0
 
 pub returns-in_err-skip_blanks-clause-kind : goal.returns-in_err-skip_blanks-clause-kind
 returns-in_err-skip_blanks-clause-kind g c =
@@ -85,21 +68,9 @@ returns-in_err-read_word-in-Word-clause-value g c =
     (rw (c.requires.run, c.in-Word.is) at c.in_ok-skip_blanks.ensures.gap)
     ∙ (rw same at c.in_err-read_word-in-Word.ensures.word))
 
-pub returns-in_err-read_word-in-Word-clause-line : goal.returns-in_err-read_word-in-Word-clause-line
-returns-in_err-read_word-in-Word-clause-line g c =
+pub returns-in_err-read_word-in-Word-clause-ok : goal.returns-in_err-read_word-in-Word-clause-ok
+returns-in_err-read_word-in-Word-clause-ok g c =
     IfOk-from_err c.from_residual-in_err-read_word-in-Word.result _ c.from_residual-in_err-read_word-in-Word.ensures.0
-
-pub returns-in_err-read_word-in-Word-clause-run : goal.returns-in_err-read_word-in-Word-clause-run
-returns-in_err-read_word-in-Word-clause-run g c =
-    IfOk-from_err c.from_residual-in_err-read_word-in-Word.result _ c.from_residual-in_err-read_word-in-Word.ensures.0
-
-pub returns-in_err-read_word-in-Word-clause-within : goal.returns-in_err-read_word-in-Word-clause-within
-returns-in_err-read_word-in-Word-clause-within g c =
-    IfOk-from_err c.from_residual-in_err-read_word-in-Word.result _ c.from_residual-in_err-read_word-in-Word.ensures.0
-
-pub returns-in_err-read_word-in-Word-clause-lines : goal.returns-in_err-read_word-in-Word-clause-lines
-returns-in_err-read_word-in-Word-clause-lines g c =
-    line_most _ _ _ (c.read_word.ensures.line ∙ c.skip_blanks.ensures.line)
 
 pub returns-in_err-read_word-in-Word-clause-kind : goal.returns-in_err-read_word-in-Word-clause-kind
 returns-in_err-read_word-in-Word-clause-kind g c =
@@ -118,19 +89,12 @@ returns-in_ok-read_word-in-Word-clause-value g c =
     (rw (c.requires.run, c.in-Word.is) at c.in_ok-skip_blanks.ensures.gap)
     ∙ (rw same at c.in_ok-read_word-in-Word.ensures.word)
 
-pub returns-in_ok-read_word-in-Word-clause-line : goal.returns-in_ok-read_word-in-Word-clause-line
-returns-in_ok-read_word-in-Word-clause-line g c =
-    c.read_word.ensures.line ∙ (rw c.in-Word.is at c.in_ok-skip_blanks.ensures.line)
-
-pub returns-in_ok-read_word-in-Word-clause-run : goal.returns-in_ok-read_word-in-Word-clause-run
-returns-in_ok-read_word-in-Word-clause-run g c = c.read_word.ensures.run
-
-pub returns-in_ok-read_word-in-Word-clause-within : goal.returns-in_ok-read_word-in-Word-clause-within
-returns-in_ok-read_word-in-Word-clause-within g c = least _
-
-pub returns-in_ok-read_word-in-Word-clause-lines : goal.returns-in_ok-read_word-in-Word-clause-lines
-returns-in_ok-read_word-in-Word-clause-lines g c =
-    line_most _ _ _ (c.read_word.ensures.line ∙ c.skip_blanks.ensures.line)
+pub returns-in_ok-read_word-in-Word-clause-ok : goal.returns-in_ok-read_word-in-Word-clause-ok
+returns-in_ok-read_word-in-Word-clause-ok g c = record {
+  line = c.read_word.ensures.line ∙ (rw c.in-Word.is at c.in_ok-skip_blanks.ensures.line);
+  run = c.read_word.ensures.run;
+  within = least _;
+}
 
 pub returns-in_ok-read_word-in-Word-clause-kind : goal.returns-in_ok-read_word-in-Word-clause-kind
 returns-in_ok-read_word-in-Word-clause-kind g c = tt
@@ -144,18 +108,6 @@ returns-in-Feed-clause-value g c =
     (value_blanks s.line c.args.start s.word (gap_seen (Ok Feed) t.run) (bytes_to_come s.ahead) (bytes_to_come t.ahead) long
     (rw (c.requires.run, c.in-Feed.is) at c.in_ok-skip_blanks.ensures.gap))
 
-pub returns-in-Feed-clause-line : goal.returns-in-Feed-clause-line
-returns-in-Feed-clause-line g c = tt
-
-pub returns-in-Feed-clause-run : goal.returns-in-Feed-clause-run
-returns-in-Feed-clause-run g c = tt
-
-pub returns-in-Feed-clause-within : goal.returns-in-Feed-clause-within
-returns-in-Feed-clause-within g c = tt
-
-pub returns-in-Feed-clause-lines : goal.returns-in-Feed-clause-lines
-returns-in-Feed-clause-lines g c = line_most _ _ _ c.skip_blanks.ensures.line
-
 pub returns-in-Feed-clause-kind : goal.returns-in-Feed-clause-kind
 returns-in-Feed-clause-kind g c = rw c.bad_header.ensures tt
 
@@ -167,18 +119,6 @@ returns-in-End-clause-value g c =
     rw (c.bad_header-in-End.ensures, c.line-line.ensures)
     (value_blanks s.line c.args.start s.word (gap_seen (Ok End) t.run) (bytes_to_come s.ahead) (bytes_to_come t.ahead) long
     (rw (c.requires.run, c.in-End.is) at c.in_ok-skip_blanks.ensures.gap))
-
-pub returns-in-End-clause-line : goal.returns-in-End-clause-line
-returns-in-End-clause-line g c = tt
-
-pub returns-in-End-clause-run : goal.returns-in-End-clause-run
-returns-in-End-clause-run g c = tt
-
-pub returns-in-End-clause-within : goal.returns-in-End-clause-within
-returns-in-End-clause-within g c = tt
-
-pub returns-in-End-clause-lines : goal.returns-in-End-clause-lines
-returns-in-End-clause-lines g c = line_most _ _ _ c.skip_blanks.ensures.line
 
 pub returns-in-End-clause-kind : goal.returns-in-End-clause-kind
 returns-in-End-clause-kind g c = rw c.bad_header-in-End.ensures tt

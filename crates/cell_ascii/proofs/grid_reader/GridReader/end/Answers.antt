@@ -1,4 +1,4 @@
-use Rattle.std.proofs.Common.{◌≡◌, ◌∙◌, false, ap, sym, subst}
+use Rattle.std.proofs.Common.{◌≡◌, ◌∙◌, Bool, true, false, ap, sym, subst, rules}
 use Rattle.std.specs.Option.{IfSome}
 use Rattle.cell_ascii_scanner.specs.Ahead.{bytes_to_come}
 use Rattle.cell_ascii.specs.Reader.{at_place}
@@ -7,11 +7,19 @@ use Rattle.cell_ascii.specs.GridReaders.{ReaderValue, reader_place, fault_of_rea
 use Rattle.cell_ascii.proofs.RowReadLemmas.{end_answers}
 use Rattle.cell_ascii.proofs.grid_reader.GridReader.end.Goals as goal
 
-pub returns-clause-told : goal.returns-clause-told
-returns-clause-told g c =
+both : {b : Bool} → b ≡ true → b ≡ false → ⊥
+both is not = cc
+
+pub returns-clause-end : goal.returns-clause-end
+returns-clause-end g c =
     let i = c.self.inside in
     let left : i.rows_left ≡ c.args.self.now.rows_left = ap (λ (r : ReaderValue). r.rows_left) c.self.view_is in
     let live : c.args.self.now.failed ≡ false = sym (ap (λ (r : ReaderValue). r.failed) c.self.view_is) ∙ c.if-self.false in
     let none : i.rows_left ≡ 0 = left ∙ c.requires.done live in
-    subst (λ (r : ReaderValue). r.failed ≡ false → IfSome r.coming (λ x. fault_of_reading c.check_end.result ≡ end_fault (reader_place r x))) c.self.view_is
-    (λ live. end_answers (at_place i.cells) i.rows_left (bytes_to_come i.cells.ahead) (bytes_to_come c.check_end.new.self.ahead) c.check_end.result none (c.self.invariant.placed live) c.check_end.ensures.end)
+    record {
+      failed = λ failed. absurd (both failed live);
+      told = subst (λ (r : ReaderValue). r.failed ≡ false → IfSome r.coming (λ x. fault_of_reading c.check_end.result ≡ end_fault (reader_place r x))) c.self.view_is
+          (λ live. end_answers (at_place i.cells) i.rows_left (bytes_to_come i.cells.ahead) (bytes_to_come c.check_end.new.self.ahead) c.check_end.result none (c.self.invariant.placed live) c.check_end.ensures.end);
+      memory = search rules;
+      kinds = λ _. c.check_end.ensures.kind;
+    }

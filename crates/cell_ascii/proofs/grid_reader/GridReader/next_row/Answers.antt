@@ -1,10 +1,11 @@
 use Rattle.std.proofs.Common.{◌≡◌, ◌-◌, ◌+◌, ◌<◌, ◌∙◌, ℕ, zero, suc, Bool, true, false, Some, None, Result, Ok, Err, refl, length, ap, sym, subst, arith}
 use Rattle.std.specs.Option.{IfSome}
-use Rattle.cell_core_devices.specs.Asking.{Heard}
+use Rattle.cell_core_devices.specs.Asking.{Heard, hears}
 use Rattle.cell_core_devices.specs.Device.{Coming}
 use Rattle.cell_ascii_scanner.specs.Ahead.{bytes_to_come}
 use Rattle.cell_ascii.specs.Reader.{at_place}
 use Rattle.cell_ascii_meaning.specs.RowPlaces.{cells_fault}
+use Rattle.cell_ascii_meaning.specs.Kinds.{IsOfText, is_read}
 use Rattle.cell_ascii.specs.GridReaders.{ReaderValue, reader_place}
 use Rattle.cell_ascii.proofs.RowReadLemmas.{row_told, cut_told, row_placed, rows_fit}
 use Rattle.cell_ascii.proofs.grid_reader.GridReader.next_row.Goals as goal
@@ -45,164 +46,98 @@ invariant_of-self g c =
       heard = λ _. ap (λ (h : Heard). h.failed) c.in-Ok.ensures.heard;
     }
 
-pub returns-in-Ok-clause-told : goal.returns-in-Ok-clause-told
-returns-in-Ok-clause-told g c =
+pub returns-then-self : goal.returns-then-self
+returns-then-self g c =
+    let failed = sym (ap (λ (r : ReaderValue). r.failed) c.self.view_is) ∙ c.if-self.true in
+    record {
+      failed = λ _. (refl, refl, refl);
+      none = λ live. absurd (both failed live);
+      told = λ live. absurd (both failed live);
+      row = λ e. absurd (refused _ _ e);
+      cut = λ live. absurd (both failed live);
+      kept = λ live. absurd (both failed live);
+      width = refl;
+      left = λ e. absurd (refused _ _ e);
+      stays = λ _. refl;
+      last = λ e. absurd (refused _ _ e);
+      header = refl;
+      fails = rw failed refl;
+      memory = λ e. cc;
+      kinds = λ live. both failed live;
+      heard = λ live. absurd (both failed live);
+    }
+
+pub returns-then-self-eq0 : goal.returns-then-self-eq0
+returns-then-self-eq0 g c =
+    let live = sym (ap (λ (r : ReaderValue). r.failed) c.self.view_is) ∙ c.if-self.false in
+    let none = sym (ap (λ (r : ReaderValue). r.rows_left) c.self.view_is) ∙ c.if-self-eq0.true in
+    record {
+      failed = λ failed. absurd (both failed live);
+      none = λ _ _. (refl, refl, refl);
+      told = λ _ some. absurd (none_some none some);
+      row = λ e. absurd (not_true _ e);
+      cut = tt;
+      kept = tt;
+      width = refl;
+      left = λ e. absurd (not_true _ e);
+      stays = λ _. refl;
+      last = λ _. none;
+      header = refl;
+      fails = rw live refl;
+      memory = tt;
+      kinds = λ _. tt;
+      heard = λ _. ap (λ (failed : Bool). record { sure = c.args.self.now.heard.sure; failed = failed })
+          (sym (ap (λ (r : ReaderValue). r.heard.failed) c.self.view_is) ∙ c.self.invariant.heard c.if-self.false);
+    }
+
+pub returns-in-Ok : goal.returns-in-Ok
+returns-in-Ok g c =
     let i = c.self.inside in
     let p = i.cells in
-    let u = c.read_row.new.cells in
-    subst (λ (r : ReaderValue). r.failed ≡ false → 0 < r.rows_left → IfSome r.coming (λ x. None ≡ cells_fault r.header (length c.args.row.now) (reader_place r x))) c.self.view_is
-    (λ live some. row_told p.header (at_place p) (λ (x : Coming). i.rows_left ≡ 0 → p.pending ≡ None) (bytes_to_come p.ahead) (c.self.invariant.placed live)
-    (length c.args.row.now) (at_place u) (bytes_to_come u.ahead) c.read_row.new.row c.in-Ok.ensures.row)
+    let live = sym (ap (λ (r : ReaderValue). r.failed) c.self.view_is) ∙ c.if-self.false in
+    let was = ap (λ (r : ReaderValue). r.rows_left) c.self.view_is in
+    record {
+      failed = λ failed. absurd (both failed live);
+      none = λ _ none. absurd (c.if-self-eq0.false (was ∙ none));
+      told = subst (λ (r : ReaderValue). r.failed ≡ false → 0 < r.rows_left → IfSome r.coming (λ x. None ≡ cells_fault r.header (length c.args.row.now) (reader_place r x))) c.self.view_is
+          (λ live some. row_told p.header (at_place p) (λ (x : Coming). i.rows_left ≡ 0 → p.pending ≡ None) (bytes_to_come p.ahead) (c.self.invariant.placed live)
+          (length c.args.row.now) (at_place c.read_row.new.cells) (bytes_to_come c.read_row.new.cells.ahead) c.read_row.new.row c.in-Ok.ensures.row);
+      row = rw (← c.self.view_is) (λ _. c.in-Ok.ensures.row);
+      cut = tt;
+      kept = tt;
+      width = c.read_row.auto.row;
+      left = λ _. back i.rows_left c.if-self-eq0.false ∙ was;
+      stays = λ apart. absurd (apart refl);
+      last = λ e. absurd (not_false _ e);
+      header = c.read_row.ensures.header ∙ ap (λ (r : ReaderValue). r.header) c.self.view_is;
+      fails = rw live c.if-self.false;
+      memory = tt;
+      kinds = λ _. tt;
+      heard = λ _. c.in-Ok.ensures.heard ∙ ap (λ (r : ReaderValue). hears false r.heard) c.self.view_is;
+    }
 
-pub returns-in-Err-clause-told : goal.returns-in-Err-clause-told
-returns-in-Err-clause-told g c =
+pub returns-in-Err : goal.returns-in-Err
+returns-in-Err g c =
     let i = c.self.inside in
     let p = i.cells in
-    subst (λ (r : ReaderValue). r.failed ≡ false → 0 < r.rows_left → IfSome r.coming (λ x. Some c.in-Err.fault ≡ cells_fault r.header (length c.args.row.now) (reader_place r x))) c.self.view_is
-    (λ live some. cut_told p.header (at_place p) (λ (x : Coming). i.rows_left ≡ 0 → p.pending ≡ None) (bytes_to_come p.ahead) (c.self.invariant.placed live)
-    c.in-Err.fault c.args.row.now c.read_row.new.row c.in-Err.ensures.cut)
-
-pub returns-then-self-clause-failed : goal.returns-then-self-clause-failed
-returns-then-self-clause-failed g c = λ _. (refl, refl, refl)
-
-pub returns-then-self-clause-none : goal.returns-then-self-clause-none
-returns-then-self-clause-none g c =
-    let failed = sym (ap (λ (r : ReaderValue). r.failed) c.self.view_is) ∙ c.if-self.true in
-    λ live. absurd (both failed live)
-
-pub returns-then-self-clause-told : goal.returns-then-self-clause-told
-returns-then-self-clause-told g c =
-    let failed = sym (ap (λ (r : ReaderValue). r.failed) c.self.view_is) ∙ c.if-self.true in
-    λ live. absurd (both failed live)
-
-pub returns-then-self-clause-cut : goal.returns-then-self-clause-cut
-returns-then-self-clause-cut g c =
-    let failed = sym (ap (λ (r : ReaderValue). r.failed) c.self.view_is) ∙ c.if-self.true in
-    λ live. absurd (both failed live)
-
-pub returns-then-self-clause-kept : goal.returns-then-self-clause-kept
-returns-then-self-clause-kept g c =
-    let failed = sym (ap (λ (r : ReaderValue). r.failed) c.self.view_is) ∙ c.if-self.true in
-    λ live. absurd (both failed live)
-
-pub returns-then-self-clause-kinds : goal.returns-then-self-clause-kinds
-returns-then-self-clause-kinds g c =
-    let failed = sym (ap (λ (r : ReaderValue). r.failed) c.self.view_is) ∙ c.if-self.true in
-    λ live. both failed live
-
-pub returns-then-self-clause-row : goal.returns-then-self-clause-row
-returns-then-self-clause-row g c = λ e. absurd (refused _ _ e)
-
-pub returns-then-self-clause-left : goal.returns-then-self-clause-left
-returns-then-self-clause-left g c = λ e. absurd (refused _ _ e)
-
-pub returns-then-self-clause-last : goal.returns-then-self-clause-last
-returns-then-self-clause-last g c = λ e. absurd (refused _ _ e)
-
-pub returns-then-self-clause-stays : goal.returns-then-self-clause-stays
-returns-then-self-clause-stays g c = λ _. refl
-
-pub returns-then-self-clause-width : goal.returns-then-self-clause-width
-returns-then-self-clause-width g c = refl
-
-pub returns-then-self-clause-header : goal.returns-then-self-clause-header
-returns-then-self-clause-header g c = refl
-
-pub returns-then-self-clause-fails : goal.returns-then-self-clause-fails
-returns-then-self-clause-fails g c =
-    let failed = sym (ap (λ (r : ReaderValue). r.failed) c.self.view_is) ∙ c.if-self.true in
-    rw failed refl
-
-pub returns-then-self-eq0-clause-failed : goal.returns-then-self-eq0-clause-failed
-returns-then-self-eq0-clause-failed g c =
     let live = sym (ap (λ (r : ReaderValue). r.failed) c.self.view_is) ∙ c.if-self.false in
-    λ failed. absurd (both failed live)
-
-pub returns-then-self-eq0-clause-none : goal.returns-then-self-eq0-clause-none
-returns-then-self-eq0-clause-none g c = λ _ _. (refl, refl, refl)
-
-pub returns-then-self-eq0-clause-told : goal.returns-then-self-eq0-clause-told
-returns-then-self-eq0-clause-told g c =
-    let none = sym (ap (λ (r : ReaderValue). r.rows_left) c.self.view_is) ∙ c.if-self-eq0.true in
-    λ _ some. absurd (none_some none some)
-
-pub returns-then-self-eq0-clause-row : goal.returns-then-self-eq0-clause-row
-returns-then-self-eq0-clause-row g c = λ e. absurd (not_true _ e)
-
-pub returns-then-self-eq0-clause-left : goal.returns-then-self-eq0-clause-left
-returns-then-self-eq0-clause-left g c = λ e. absurd (not_true _ e)
-
-pub returns-then-self-eq0-clause-stays : goal.returns-then-self-eq0-clause-stays
-returns-then-self-eq0-clause-stays g c = λ _. refl
-
-pub returns-then-self-eq0-clause-width : goal.returns-then-self-eq0-clause-width
-returns-then-self-eq0-clause-width g c = refl
-
-pub returns-then-self-eq0-clause-header : goal.returns-then-self-eq0-clause-header
-returns-then-self-eq0-clause-header g c = refl
-
-pub returns-then-self-eq0-clause-last : goal.returns-then-self-eq0-clause-last
-returns-then-self-eq0-clause-last g c =
-    let none = sym (ap (λ (r : ReaderValue). r.rows_left) c.self.view_is) ∙ c.if-self-eq0.true in
-    λ _. none
-
-pub returns-then-self-eq0-clause-fails : goal.returns-then-self-eq0-clause-fails
-returns-then-self-eq0-clause-fails g c =
-    let live = sym (ap (λ (r : ReaderValue). r.failed) c.self.view_is) ∙ c.if-self.false in
-    rw live refl
-
-pub returns-in-Ok-clause-failed : goal.returns-in-Ok-clause-failed
-returns-in-Ok-clause-failed g c =
-    let live = sym (ap (λ (r : ReaderValue). r.failed) c.self.view_is) ∙ c.if-self.false in
-    λ failed. absurd (both failed live)
-
-pub returns-in-Ok-clause-none : goal.returns-in-Ok-clause-none
-returns-in-Ok-clause-none g c = λ _ none. absurd (c.if-self-eq0.false (ap (λ (r : ReaderValue). r.rows_left) c.self.view_is ∙ none))
-
-pub returns-in-Ok-clause-header : goal.returns-in-Ok-clause-header
-returns-in-Ok-clause-header g c = c.read_row.ensures.header ∙ ap (λ (r : ReaderValue). r.header) c.self.view_is
-
-pub returns-in-Err-clause-failed : goal.returns-in-Err-clause-failed
-returns-in-Err-clause-failed g c =
-    let live = sym (ap (λ (r : ReaderValue). r.failed) c.self.view_is) ∙ c.if-self.false in
-    λ failed. absurd (both failed live)
-
-pub returns-in-Err-clause-none : goal.returns-in-Err-clause-none
-returns-in-Err-clause-none g c = λ _ none. absurd (c.if-self-eq0.false (ap (λ (r : ReaderValue). r.rows_left) c.self.view_is ∙ none))
-
-pub returns-in-Err-clause-header : goal.returns-in-Err-clause-header
-returns-in-Err-clause-header g c = c.read_row.ensures.header ∙ ap (λ (r : ReaderValue). r.header) c.self.view_is
-
-pub returns-in-Ok-clause-left : goal.returns-in-Ok-clause-left
-returns-in-Ok-clause-left g c = λ _. back c.self.inside.rows_left c.if-self-eq0.false ∙ ap (λ (r : ReaderValue). r.rows_left) c.self.view_is
-
-pub returns-in-Ok-clause-stays : goal.returns-in-Ok-clause-stays
-returns-in-Ok-clause-stays g c = λ apart. absurd (apart refl)
-
-pub returns-in-Ok-clause-last : goal.returns-in-Ok-clause-last
-returns-in-Ok-clause-last g c = λ e. absurd (not_false _ e)
-
-pub returns-in-Ok-clause-fails : goal.returns-in-Ok-clause-fails
-returns-in-Ok-clause-fails g c =
-    let live = sym (ap (λ (r : ReaderValue). r.failed) c.self.view_is) ∙ c.if-self.false in
-    rw live c.if-self.false
-
-pub returns-in-Err-clause-row : goal.returns-in-Err-clause-row
-returns-in-Err-clause-row g c = λ e. absurd (refused _ _ e)
-
-pub returns-in-Err-clause-left : goal.returns-in-Err-clause-left
-returns-in-Err-clause-left g c = λ e. absurd (refused _ _ e)
-
-pub returns-in-Err-clause-last : goal.returns-in-Err-clause-last
-returns-in-Err-clause-last g c = λ e. absurd (refused _ _ e)
-
-pub returns-in-Err-clause-stays : goal.returns-in-Err-clause-stays
-returns-in-Err-clause-stays g c = λ _. ap (λ (r : ReaderValue). r.rows_left) c.self.view_is
-
-pub returns-in-Err-clause-fails : goal.returns-in-Err-clause-fails
-returns-in-Err-clause-fails g c =
-    let live = sym (ap (λ (r : ReaderValue). r.failed) c.self.view_is) ∙ c.if-self.false in
-    rw live refl
-
-pub returns-in-Err-clause-kept : goal.returns-in-Err-clause-kept
-returns-in-Err-clause-kept g c = λ _. c.in-Err.ensures.kept
+    let was = ap (λ (r : ReaderValue). r.rows_left) c.self.view_is in
+    record {
+      failed = λ failed. absurd (both failed live);
+      none = λ _ none. absurd (c.if-self-eq0.false (was ∙ none));
+      told = subst (λ (r : ReaderValue). r.failed ≡ false → 0 < r.rows_left → IfSome r.coming (λ x. Some c.in-Err.fault ≡ cells_fault r.header (length c.args.row.now) (reader_place r x))) c.self.view_is
+          (λ live some. cut_told p.header (at_place p) (λ (x : Coming). i.rows_left ≡ 0 → p.pending ≡ None) (bytes_to_come p.ahead) (c.self.invariant.placed live)
+          c.in-Err.fault c.args.row.now c.read_row.new.row c.in-Err.ensures.cut);
+      row = λ e. absurd (refused _ _ e);
+      cut = rw (← c.self.view_is) (λ _. c.in-Err.ensures.cut);
+      kept = λ _. c.in-Err.ensures.kept;
+      width = c.read_row.auto.row;
+      left = λ e. absurd (refused _ _ e);
+      stays = λ _. was;
+      last = λ e. absurd (refused _ _ e);
+      header = c.read_row.ensures.header ∙ ap (λ (r : ReaderValue). r.header) c.self.view_is;
+      fails = rw live refl;
+      memory = λ e. subst IsOfText e c.in-Err.ensures.kind;
+      kinds = λ _. c.in-Err.ensures.kind;
+      heard = λ _. c.in-Err.ensures.heard ∙ ap (λ (r : ReaderValue). hears (is_read c.in-Err.fault.kind) r.heard) c.self.view_is;
+    }

@@ -23,7 +23,7 @@ invariant_of-result g c =
     rw (c.rows-rows_left.ensures.value, c.region.ensures)
     (record {
       wide = is.cols_least;
-      lines = λ _. lines_fit p.line p.header.region.rows p.header.region.cols c.in_ok-cells.ensures.line is.rows_most is.cols_most;
-      placed = λ _. opening_placed p.header (at_place p) p.header.region.rows (g.R.Source.coming c.args.source) (bytes_to_come p.ahead) is.rows_least c.in_ok-cells.ensures.opened;
-      heard = λ _. ap (λ (h : Heard). h.failed) c.in_ok-cells.ensures.heard;
+      lines = λ _. lines_fit p.line p.header.region.rows p.header.region.cols c.in_ok-cells.ensures.opened.line is.rows_most is.cols_most;
+      placed = λ _. opening_placed p.header (at_place p) p.header.region.rows (g.R.Source.coming c.args.source) (bytes_to_come p.ahead) is.rows_least c.in_ok-cells.ensures.opened.reading;
+      heard = λ _. ap (λ (h : Heard). h.failed) c.in_ok-cells.ensures.opened.heard;
     })

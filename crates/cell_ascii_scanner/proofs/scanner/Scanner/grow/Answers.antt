@@ -38,7 +38,7 @@ pub returns-in_default-clause-word : goal.returns-in_default-clause-word
 returns-in_default-clause-word g c =
     let s = c.args.self.now in
     let end = rw c.in_default.is at c.in_ok-b.ensures.end in
-    rw (c.in_ok-b.ensures.line, c.in_ok-b.ensures.word, c.in_ok-b.ensures.same)
+    rw (c.in_ok-b.ensures.scan, c.in_ok-b.ensures.same)
     (at_end (word_from s.line s.word) (part_seen (Ok false) s.line s.word) (bytes_to_come s.ahead) false end (word-ends s.line s.word c.requires))
 
 -- a space ends the word
@@ -47,7 +47,7 @@ returns-then-is_space-clause-word g c =
     let s = c.args.self.now in
     let held = rw c.in-Some.is at c.in_ok-b.ensures.byte in
     let space = sym c.is_space.ensures ∙ c.if-is_space.true in
-    rw (c.in_ok-b.ensures.line, c.in_ok-b.ensures.word, ← c.in_ok-b.ensures.same)
+    rw (c.in_ok-b.ensures.scan, ← c.in_ok-b.ensures.same)
     (at_byte (word_from s.line s.word) (part_seen (Ok false) s.line s.word) c.peek.new.self.ahead c.in-Some.b held (λ bs f. word-stops s.line s.word c.requires c.in-Some.b bs f space))
 
 -- the word is too long
@@ -56,8 +56,8 @@ returns-then-self-ge64-clause-word g c =
     let s = c.args.self.now in
     let t = c.peek.new.self in
     let i = c.self.inside in
-    let line : i.line ≡ s.line = ap (λ (v : Scan). v.line) c.self.view_is ∙ c.in_ok-b.ensures.line in
-    let front : take i.len i.word ≡ s.word = ap (λ (v : Scan). v.word) c.self.view_is ∙ c.in_ok-b.ensures.word in
+    let line : i.line ≡ s.line = ap (λ (v : Scan). v.line) c.self.view_is ∙ ap (λ (v : Scan). v.line) c.in_ok-b.ensures.scan in
+    let front : take i.len i.word ≡ s.word = ap (λ (v : Scan). v.word) c.self.view_is ∙ ap (λ (v : Scan). v.word) c.in_ok-b.ensures.scan in
     let full : 64 ≤ length s.word = omega (arith, length-take i.len i.word, ap length front) in
     let held = rw c.in-Some.is at c.in_ok-b.ensures.byte in
     let word = sym c.is_space.ensures ∙ c.if-is_space.false in
@@ -71,8 +71,8 @@ returns-clause-word g c =
     let t = c.peek.new.self in
     let i = c.self.inside in
     let b = c.in-Some.b in
-    let line : i.line ≡ s.line = ap (λ (v : Scan). v.line) c.self.view_is ∙ c.in_ok-b.ensures.line in
-    let front : take i.len i.word ≡ s.word = ap (λ (v : Scan). v.word) c.self.view_is ∙ c.in_ok-b.ensures.word in
+    let line : i.line ≡ s.line = ap (λ (v : Scan). v.line) c.self.view_is ∙ ap (λ (v : Scan). v.line) c.in_ok-b.ensures.scan in
+    let front : take i.len i.word ≡ s.word = ap (λ (v : Scan). v.word) c.self.view_is ∙ ap (λ (v : Scan). v.word) c.in_ok-b.ensures.scan in
     let ahead : i.input ≡ t.ahead = ap (λ (v : Scan). v.ahead) c.self.view_is in
     let held = rw c.in-Some.is at c.in_ok-b.ensures.byte in
     let word = sym c.is_space.ensures ∙ c.if-is_space.false in
@@ -83,13 +83,13 @@ returns-clause-word g c =
     (λ bs f. word-more s.line s.word c.requires b bs f word))
 
 pub returns-in_err-b-clause-line : goal.returns-in_err-b-clause-line
-returns-in_err-b-clause-line g c = c.peek.ensures.line
+returns-in_err-b-clause-line g c = ap (λ (v : Scan). v.line) c.peek.ensures.scan
 
 pub returns-in_err-b-clause-run : goal.returns-in_err-b-clause-run
-returns-in_err-b-clause-run g c = c.peek.ensures.run
+returns-in_err-b-clause-run g c = ap (λ (v : Scan). v.run) c.peek.ensures.scan
 
 pub returns-in_err-b-clause-short : goal.returns-in_err-b-clause-short
-returns-in_err-b-clause-short g c = rw c.peek.ensures.word c.requires
+returns-in_err-b-clause-short g c = rw (ap (λ (v : Scan). v.word) c.peek.ensures.scan) c.requires
 
 pub returns-in_err-b-clause-further : goal.returns-in_err-b-clause-further
 returns-in_err-b-clause-further g c = λ e. err_no_ok _ _ _ c.from_residual.ensures.0 e
@@ -100,46 +100,46 @@ returns-in_err-b-clause-kind g c =
     rw (p.1, p.2, c.in_err-b.ensures.fault) tt
 
 pub returns-in_default-clause-line : goal.returns-in_default-clause-line
-returns-in_default-clause-line g c = c.peek.ensures.line
+returns-in_default-clause-line g c = ap (λ (v : Scan). v.line) c.peek.ensures.scan
 
 pub returns-in_default-clause-run : goal.returns-in_default-clause-run
-returns-in_default-clause-run g c = c.peek.ensures.run
+returns-in_default-clause-run g c = ap (λ (v : Scan). v.run) c.peek.ensures.scan
 
 pub returns-in_default-clause-short : goal.returns-in_default-clause-short
-returns-in_default-clause-short g c = rw c.peek.ensures.word c.requires
+returns-in_default-clause-short g c = rw (ap (λ (v : Scan). v.word) c.peek.ensures.scan) c.requires
 
 pub returns-in_default-clause-further : goal.returns-in_default-clause-further
 returns-in_default-clause-further g c = λ e. false_no_true _ (Ok _) refl e
 
 pub returns-then-is_space-clause-line : goal.returns-then-is_space-clause-line
-returns-then-is_space-clause-line g c = c.peek.ensures.line
+returns-then-is_space-clause-line g c = ap (λ (v : Scan). v.line) c.peek.ensures.scan
 
 pub returns-then-is_space-clause-run : goal.returns-then-is_space-clause-run
-returns-then-is_space-clause-run g c = c.peek.ensures.run
+returns-then-is_space-clause-run g c = ap (λ (v : Scan). v.run) c.peek.ensures.scan
 
 pub returns-then-is_space-clause-short : goal.returns-then-is_space-clause-short
-returns-then-is_space-clause-short g c = rw c.peek.ensures.word c.requires
+returns-then-is_space-clause-short g c = rw (ap (λ (v : Scan). v.word) c.peek.ensures.scan) c.requires
 
 pub returns-then-is_space-clause-further : goal.returns-then-is_space-clause-further
 returns-then-is_space-clause-further g c = λ e. false_no_true _ (Ok _) refl e
 
 pub returns-then-self-ge64-clause-line : goal.returns-then-self-ge64-clause-line
-returns-then-self-ge64-clause-line g c = c.peek.ensures.line
+returns-then-self-ge64-clause-line g c = ap (λ (v : Scan). v.line) c.peek.ensures.scan
 
 pub returns-then-self-ge64-clause-run : goal.returns-then-self-ge64-clause-run
-returns-then-self-ge64-clause-run g c = c.peek.ensures.run
+returns-then-self-ge64-clause-run g c = ap (λ (v : Scan). v.run) c.peek.ensures.scan
 
 pub returns-then-self-ge64-clause-short : goal.returns-then-self-ge64-clause-short
-returns-then-self-ge64-clause-short g c = rw c.peek.ensures.word c.requires
+returns-then-self-ge64-clause-short g c = rw (ap (λ (v : Scan). v.word) c.peek.ensures.scan) c.requires
 
 pub returns-then-self-ge64-clause-further : goal.returns-then-self-ge64-clause-further
 returns-then-self-ge64-clause-further g c = λ e. err_no_ok _ (Err _) _ refl e
 
 pub returns-clause-line : goal.returns-clause-line
-returns-clause-line g c = ap (λ (v : Scan). v.line) c.self.view_is ∙ c.peek.ensures.line
+returns-clause-line g c = ap (λ (v : Scan). v.line) (c.self.view_is ∙ c.peek.ensures.scan)
 
 pub returns-clause-run : goal.returns-clause-run
-returns-clause-run g c = ap (λ (v : Scan). v.run) c.self.view_is ∙ c.peek.ensures.run
+returns-clause-run g c = ap (λ (v : Scan). v.run) (c.self.view_is ∙ c.peek.ensures.scan)
 
 pub invariant_of-self : goal.invariant_of-self
 invariant_of-self g c = (c.self.invariant.0, omega (arith, c.if-self-ge64.false))
@@ -152,7 +152,7 @@ pub returns-clause-further : goal.returns-clause-further
 returns-clause-further g c =
     let i = c.self.inside in
     let front : take i.len i.word ≡ c.args.self.now.word =
-    ap (λ (v : Scan). v.word) c.self.view_is ∙ c.peek.ensures.word in
+    ap (λ (v : Scan). v.word) (c.self.view_is ∙ c.peek.ensures.scan) in
     λ e. one_more c.args.self.now.word i.word i.len c.in-Some.b c.if-self-ge64.false c.self.told front
 
 pub pass_byte-requires : goal.pass_byte-requires

@@ -4,7 +4,7 @@ use Rattle.cell_ascii_meaning.specs.Kinds.{is_read}
 use Rattle.cell_ascii_meaning.specs.declared.grid_fault.GridFault.{GridFault}
 use Rattle.cell_ascii_scanner.specs.declared.scanner.InLine.{InLine}
 use Rattle.cell_ascii_scanner.specs.declared.scanner.InLine.TheVariants.{Word, Feed, End}
-use Rattle.cell_ascii_scanner.proofs.StepLemmas.{room_still, smaller}
+use Rattle.cell_ascii_scanner.proofs.StepLemmas.{room_still, smaller, step_tells}
 use Rattle.cell_ascii_scanner.proofs.scanner.Scanner.skip_blanks.Goals as goal
 
 -- the text has not ended
@@ -35,29 +35,28 @@ step-requires-clause-run g c = c.blanks.invariant.run
 
 pub blanks-smaller : goal.blanks-smaller
 blanks-smaller g c =
-    smaller c.blanks.self.run c.step.new.self.run (c.in-Ok-Blank.ensures.blank (ap Ok c.in-Ok-Blank.field-0-is)) c.in-Ok-Blank.ensures.run
+    let step = step_tells c.blanks.invariant.run (rw c.in-Ok-Blank.field-0-is at c.in-Ok-Blank.ensures.step) in
+    smaller c.blanks.self.run c.step.new.self.run step.run c.in-Ok-Blank.ensures.step.run
 
 pub blanks-preserved : goal.blanks-preserved
 blanks-preserved g c =
-    let gap = rw c.in-Ok-Blank.field-0-is at c.in-Ok-Blank.ensures.gap in
-    let line = rw c.in-Ok-Blank.field-0-is at c.in-Ok-Blank.ensures.line in
+    let step = step_tells c.blanks.invariant.run (rw c.in-Ok-Blank.field-0-is at c.in-Ok-Blank.ensures.step) in
     record {
-      gap = c.blanks.invariant.gap ∙ gap;
-      line = line ∙ c.blanks.invariant.line;
-      run = c.in-Ok-Blank.ensures.run;
-      word = c.in-Ok-Blank.ensures.word ∙ c.blanks.invariant.word;
+      gap = c.blanks.invariant.gap ∙ step.gap;
+      line = step.line ∙ c.blanks.invariant.line;
+      run = c.in-Ok-Blank.ensures.step.run;
+      word = step.word ∙ c.blanks.invariant.word;
       sure = ap (λ (h : Heard). h.sure) c.in-Ok-Blank.ensures.heard ∙ c.blanks.invariant.sure;
     }
 
 pub returns-in-Ok-Feed : goal.returns-in-Ok-Feed
 returns-in-Ok-Feed g c =
-    let gap = rw c.in-Ok-Feed.field-0-is at c.in-Ok-Feed.ensures.gap in
-    let line = rw c.in-Ok-Feed.field-0-is at c.in-Ok-Feed.ensures.line in
+    let step = step_tells c.blanks.invariant.run (rw c.in-Ok-Feed.field-0-is at c.in-Ok-Feed.ensures.step) in
     record {
-      gap = c.blanks.invariant.gap ∙ gap;
-      line = line ∙ ap (λ (n : ℕ). n + 1) c.blanks.invariant.line;
-      run = c.in-Ok-Feed.ensures.run;
-      word = c.in-Ok-Feed.ensures.word ∙ c.blanks.invariant.word;
+      gap = c.blanks.invariant.gap ∙ step.gap;
+      line = step.line ∙ ap (λ (n : ℕ). n + 1) c.blanks.invariant.line;
+      run = c.in-Ok-Feed.ensures.step.run;
+      word = step.word ∙ c.blanks.invariant.word;
       end = λ e. feed_end _ (Ok _) refl e;
       kind = tt;
       heard = c.in-Ok-Feed.ensures.heard ∙ ap (λ (sure : Bool). record { sure = sure; failed = false }) c.blanks.invariant.sure;
@@ -65,13 +64,12 @@ returns-in-Ok-Feed g c =
 
 pub returns-in-Ok-Word : goal.returns-in-Ok-Word
 returns-in-Ok-Word g c =
-    let gap = rw c.in-Ok-Word.field-0-is at c.in-Ok-Word.ensures.gap in
-    let line = rw c.in-Ok-Word.field-0-is at c.in-Ok-Word.ensures.line in
+    let step = step_tells c.blanks.invariant.run (rw c.in-Ok-Word.field-0-is at c.in-Ok-Word.ensures.step) in
     record {
-      gap = c.blanks.invariant.gap ∙ gap;
-      line = line ∙ c.blanks.invariant.line;
-      run = c.in-Ok-Word.ensures.run;
-      word = c.in-Ok-Word.ensures.word ∙ c.blanks.invariant.word;
+      gap = c.blanks.invariant.gap ∙ step.gap;
+      line = step.line ∙ c.blanks.invariant.line;
+      run = c.in-Ok-Word.ensures.step.run;
+      word = step.word ∙ c.blanks.invariant.word;
       end = λ e. word_end _ (Ok _) refl e;
       kind = tt;
       heard = c.in-Ok-Word.ensures.heard ∙ ap (λ (sure : Bool). record { sure = sure; failed = false }) c.blanks.invariant.sure;
@@ -79,27 +77,25 @@ returns-in-Ok-Word g c =
 
 pub returns-in-Ok-End : goal.returns-in-Ok-End
 returns-in-Ok-End g c =
-    let gap = rw c.in-Ok-End.field-0-is at c.in-Ok-End.ensures.gap in
-    let line = rw c.in-Ok-End.field-0-is at c.in-Ok-End.ensures.line in
+    let step = step_tells c.blanks.invariant.run (rw c.in-Ok-End.field-0-is at c.in-Ok-End.ensures.step) in
     record {
-      gap = c.blanks.invariant.gap ∙ gap;
-      line = line ∙ c.blanks.invariant.line;
-      run = c.in-Ok-End.ensures.run;
-      word = c.in-Ok-End.ensures.word ∙ c.blanks.invariant.word;
-      end = λ e. c.in-Ok-End.ensures.end (ap Ok c.in-Ok-End.field-0-is);
+      gap = c.blanks.invariant.gap ∙ step.gap;
+      line = step.line ∙ c.blanks.invariant.line;
+      run = c.in-Ok-End.ensures.step.run;
+      word = step.word ∙ c.blanks.invariant.word;
+      end = λ e. (rw c.in-Ok-End.field-0-is at c.in-Ok-End.ensures.step).end;
       kind = tt;
       heard = c.in-Ok-End.ensures.heard ∙ ap (λ (sure : Bool). record { sure = sure; failed = false }) c.blanks.invariant.sure;
     }
 
 pub returns-in-Err : goal.returns-in-Err
 returns-in-Err g c =
-    let gap = c.in-Err.ensures.gap in
-    let line = c.in-Err.ensures.line in
+    let step = step_tells c.blanks.invariant.run c.in-Err.ensures.step in
     record {
-      gap = c.blanks.invariant.gap ∙ gap;
-      line = line ∙ c.blanks.invariant.line;
-      run = c.in-Err.ensures.run;
-      word = c.in-Err.ensures.word ∙ c.blanks.invariant.word;
+      gap = c.blanks.invariant.gap ∙ step.gap;
+      line = step.line ∙ c.blanks.invariant.line;
+      run = c.in-Err.ensures.step.run;
+      word = step.word ∙ c.blanks.invariant.word;
       end = λ e. err_end _ (Err _) _ refl e;
       kind = c.in-Err.ensures.kind;
       heard = c.in-Err.ensures.heard ∙ ap (λ (sure : Bool). record { sure = sure; failed = is_read c.in-Err.fault.kind }) c.blanks.invariant.sure;

@@ -4,7 +4,7 @@ use Rattle.cell_ascii_meaning.specs.Kinds.{is_read}
 use Rattle.cell_ascii_meaning.specs.declared.grid_fault.GridFault.{GridFault}
 use Rattle.cell_ascii_scanner.specs.declared.scanner.Next.{Next}
 use Rattle.cell_ascii_scanner.specs.declared.scanner.Next.TheVariants.{Word, End}
-use Rattle.cell_ascii_scanner.proofs.StepLemmas.{room_left, smaller, lines_still, lines_end, further_still, same_line}
+use Rattle.cell_ascii_scanner.proofs.StepLemmas.{room_left, smaller, lines_still, lines_end, further_still, further_same, same_line, step_tells}
 use Rattle.cell_ascii_scanner.proofs.scanner.Scanner.skip_spaces.Goals as goal
 
 -- the text has not ended
@@ -33,39 +33,41 @@ step-requires-clause-run g c = c.spaces.invariant.run
 
 pub spaces-smaller-in-Ok-Blank : goal.spaces-smaller-in-Ok-Blank
 spaces-smaller-in-Ok-Blank g c =
-    smaller c.spaces.self.run c.step.new.self.run (c.in-Ok-Blank.ensures.blank (ap Ok c.in-Ok-Blank.field-0-is)) c.in-Ok-Blank.ensures.run
+    let step = step_tells c.spaces.invariant.run (rw c.in-Ok-Blank.field-0-is at c.in-Ok-Blank.ensures.step) in
+    smaller c.spaces.self.run c.step.new.self.run step.run c.in-Ok-Blank.ensures.step.run
 
 pub spaces-preserved-in-Ok-Blank : goal.spaces-preserved-in-Ok-Blank
 spaces-preserved-in-Ok-Blank g c =
     let o = c.args.self.now in
     let s = c.spaces.self in
     let t = c.step.new.self in
-    let starts = rw c.in-Ok-Blank.field-0-is at c.in-Ok-Blank.ensures.starts in
+    let step = step_tells c.spaces.invariant.run (rw c.in-Ok-Blank.field-0-is at c.in-Ok-Blank.ensures.step) in
     record {
-      starts = c.spaces.invariant.starts ∙ starts;
-      lines = lines_still o.line o.run s.line s.run t.line t.run c.spaces.invariant.lines c.in-Ok-Blank.ensures.lines;
-      run = c.in-Ok-Blank.ensures.run;
-      further = further_still o.run s.run t.run c.spaces.invariant.further c.in-Ok-Blank.ensures.further;
-      word = c.in-Ok-Blank.ensures.word ∙ c.spaces.invariant.word;
+      starts = c.spaces.invariant.starts ∙ step.starts;
+      lines = lines_still o.line o.run s.line s.run t.line t.run c.spaces.invariant.lines step.lines;
+      run = c.in-Ok-Blank.ensures.step.run;
+      further = further_still o.run s.run t.run c.spaces.invariant.further step.run;
+      word = step.word ∙ c.spaces.invariant.word;
       sure = ap (λ (h : Heard). h.sure) c.in-Ok-Blank.ensures.heard ∙ c.spaces.invariant.sure;
     }
 
 pub spaces-smaller : goal.spaces-smaller
 spaces-smaller g c =
-    smaller c.spaces.self.run c.step.new.self.run (c.in-Ok-Feed.ensures.feed (ap Ok c.in-Ok-Feed.field-0-is)) c.in-Ok-Feed.ensures.run
+    let step = step_tells c.spaces.invariant.run (rw c.in-Ok-Feed.field-0-is at c.in-Ok-Feed.ensures.step) in
+    smaller c.spaces.self.run c.step.new.self.run step.run c.in-Ok-Feed.ensures.step.run
 
 pub spaces-preserved : goal.spaces-preserved
 spaces-preserved g c =
     let o = c.args.self.now in
     let s = c.spaces.self in
     let t = c.step.new.self in
-    let starts = rw c.in-Ok-Feed.field-0-is at c.in-Ok-Feed.ensures.starts in
+    let step = step_tells c.spaces.invariant.run (rw c.in-Ok-Feed.field-0-is at c.in-Ok-Feed.ensures.step) in
     record {
-      starts = c.spaces.invariant.starts ∙ starts;
-      lines = lines_still o.line o.run s.line s.run t.line t.run c.spaces.invariant.lines c.in-Ok-Feed.ensures.lines;
-      run = c.in-Ok-Feed.ensures.run;
-      further = further_still o.run s.run t.run c.spaces.invariant.further c.in-Ok-Feed.ensures.further;
-      word = c.in-Ok-Feed.ensures.word ∙ c.spaces.invariant.word;
+      starts = c.spaces.invariant.starts ∙ step.starts;
+      lines = lines_still o.line o.run s.line s.run t.line t.run c.spaces.invariant.lines step.lines;
+      run = c.in-Ok-Feed.ensures.step.run;
+      further = further_still o.run s.run t.run c.spaces.invariant.further step.run;
+      word = step.word ∙ c.spaces.invariant.word;
       sure = ap (λ (h : Heard). h.sure) c.in-Ok-Feed.ensures.heard ∙ c.spaces.invariant.sure;
     }
 
@@ -74,13 +76,13 @@ returns-in-Ok-Word g c =
     let o = c.args.self.now in
     let s = c.spaces.self in
     let t = c.step.new.self in
-    let starts = rw c.in-Ok-Word.field-0-is at c.in-Ok-Word.ensures.starts in
+    let step = step_tells c.spaces.invariant.run (rw c.in-Ok-Word.field-0-is at c.in-Ok-Word.ensures.step) in
     record {
-      starts = c.spaces.invariant.starts ∙ starts;
-      lines = lines_end o.line o.run s.line s.run t.line t.run c.spaces.invariant.lines c.in-Ok-Word.ensures.lines c.in-Ok-Word.ensures.run;
-      run = c.in-Ok-Word.ensures.run;
-      further = further_still o.run s.run t.run c.spaces.invariant.further c.in-Ok-Word.ensures.further;
-      word = c.in-Ok-Word.ensures.word ∙ c.spaces.invariant.word;
+      starts = c.spaces.invariant.starts ∙ step.starts;
+      lines = lines_end o.line o.run s.line s.run t.line t.run c.spaces.invariant.lines step.lines c.in-Ok-Word.ensures.step.run;
+      run = c.in-Ok-Word.ensures.step.run;
+      further = further_same o.run s.run t.run c.spaces.invariant.further step.run;
+      word = step.word ∙ c.spaces.invariant.word;
       end = λ e. word_end _ (Ok _) refl e;
       kind = tt;
       heard = c.in-Ok-Word.ensures.heard ∙ ap (λ (sure : Bool). record { sure = sure; failed = false }) c.spaces.invariant.sure;
@@ -91,14 +93,14 @@ returns-in-Ok-End g c =
     let o = c.args.self.now in
     let s = c.spaces.self in
     let t = c.step.new.self in
-    let starts = rw c.in-Ok-End.field-0-is at c.in-Ok-End.ensures.starts in
+    let step = step_tells c.spaces.invariant.run (rw c.in-Ok-End.field-0-is at c.in-Ok-End.ensures.step) in
     record {
-      starts = c.spaces.invariant.starts ∙ starts;
-      lines = lines_end o.line o.run s.line s.run t.line t.run c.spaces.invariant.lines c.in-Ok-End.ensures.lines c.in-Ok-End.ensures.run;
-      run = c.in-Ok-End.ensures.run;
-      further = further_still o.run s.run t.run c.spaces.invariant.further c.in-Ok-End.ensures.further;
-      word = c.in-Ok-End.ensures.word ∙ c.spaces.invariant.word;
-      end = λ e. c.in-Ok-End.ensures.end (ap Ok c.in-Ok-End.field-0-is);
+      starts = c.spaces.invariant.starts ∙ step.starts;
+      lines = lines_end o.line o.run s.line s.run t.line t.run c.spaces.invariant.lines step.lines c.in-Ok-End.ensures.step.run;
+      run = c.in-Ok-End.ensures.step.run;
+      further = further_same o.run s.run t.run c.spaces.invariant.further step.run;
+      word = step.word ∙ c.spaces.invariant.word;
+      end = λ e. (rw c.in-Ok-End.field-0-is at c.in-Ok-End.ensures.step).end;
       kind = tt;
       heard = c.in-Ok-End.ensures.heard ∙ ap (λ (sure : Bool). record { sure = sure; failed = false }) c.spaces.invariant.sure;
     }
@@ -108,13 +110,13 @@ returns-in-Err g c =
     let o = c.args.self.now in
     let s = c.spaces.self in
     let t = c.step.new.self in
-    let starts = c.in-Err.ensures.starts in
+    let step = step_tells c.spaces.invariant.run c.in-Err.ensures.step in
     record {
-      starts = c.spaces.invariant.starts ∙ starts;
-      lines = lines_end o.line o.run s.line s.run t.line t.run c.spaces.invariant.lines c.in-Err.ensures.lines c.in-Err.ensures.run;
-      run = c.in-Err.ensures.run;
-      further = further_still o.run s.run t.run c.spaces.invariant.further c.in-Err.ensures.further;
-      word = c.in-Err.ensures.word ∙ c.spaces.invariant.word;
+      starts = c.spaces.invariant.starts ∙ step.starts;
+      lines = lines_end o.line o.run s.line s.run t.line t.run c.spaces.invariant.lines step.lines c.in-Err.ensures.step.run;
+      run = c.in-Err.ensures.step.run;
+      further = further_same o.run s.run t.run c.spaces.invariant.further step.run;
+      word = step.word ∙ c.spaces.invariant.word;
       end = λ e. err_end _ (Err _) _ refl e;
       kind = c.in-Err.ensures.kind;
       heard = c.in-Err.ensures.heard ∙ ap (λ (sure : Bool). record { sure = sure; failed = is_read c.in-Err.fault.kind }) c.spaces.invariant.sure;
