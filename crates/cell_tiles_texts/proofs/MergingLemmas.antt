@@ -88,7 +88,7 @@ module _ {X : Type 0} (read : X → Option TableReading) (readings : List TableR
   -- a fault of what is left is one of all
   fault-of-all : (fault : JoinFault) → IsStepFault taken.after fault → IsJoinFault readings fault
   fault-of-all (Text text fault) is = ap (λ faults. slice_get faults text) (sym taken.faults) ∙ is
-  fault-of-all TooMany is = (is.0, sum-more is.0 readings taken.after done all taken.listings taken.merged is.1)
+  fault-of-all (TooMany k) is = sum-more k readings taken.after done all taken.listings taken.merged is
   fault-of-all TooLong is = absurd is
   fault-of-all Memory is = tt
   fault-of-all Write is = absurd is

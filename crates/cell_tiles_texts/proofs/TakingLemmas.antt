@@ -17,7 +17,7 @@ use Rattle.cell_tiles_lines.specs.LineReading.{TableReading, ended}
 use Rattle.cell_tiles_lines.specs.TextReading.{TextValue, reading_from, reading_from_head}
 use Rattle.cell_tiles_merging.specs.Merging.{IsListing}
 use Rattle.cell_tiles_merging.proofs.ListingLemmas.{beside-merge}
-use Rattle.cell_tiles_texts.specs.JoinedTexts.{first_entry, tables_of}
+use Rattle.cell_tiles_texts.specs.JoinedTexts.{IsFaultyAtOnce, first_entry, tables_of}
 use Rattle.cell_tiles_texts.specs.MergedTables.{BeginsAbove, BeginsAt, first_count, merge_of, put_first, total_in}
 use Rattle.cell_tiles_texts.specs.parts.Steps.{sum_if_any, head_count, is_of, past, past_first, sum_of_counts}
 use Rattle.cell_tiles_texts.specs.parts.Taking.{HasTaken, IsStepFault, IsFaultOfText}
@@ -122,6 +122,31 @@ end-by : (format : FormatValue) (text : TextValue) (head : Option (Combination �
 end-by format text None None r none is = cc
 end-by format text None (Some coming) r none is = cc
 end-by format text (Some entry) o r none is = cc
+
+-- a text of which the first entry was read has no fault before it
+no-entry : (format : FormatValue) (text : TextValue) (r : TableReading) → reading_from format text ≡ Some r
+    → r.entries ≡ [] → r.fault ≡ None
+no-entry format text r is none =
+    let head : text.head ≡ None = sym (head-read format text r is) ∙ ap first_entry none in
+    ap (λ (x : TableReading). x.fault) (end-by format text text.head text.coming r head is)
+
+not-at : (format : FormatValue) (texts : List TextValue) (readings : List TableReading)
+    → map (λ text. reading_from format text) texts ≡ map Some readings → (i : ℕ) (reading : TableReading)
+    → i < length readings → get_or readings i reading ≡ reading → IsFaultyAtOnce reading → ⊥
+not-at format texts [] known i reading within at faulty = absurd (omega (arith, within))
+not-at format [] (r ∷ rs) known i reading within at faulty = cc
+not-at format (x ∷ xs) (r ∷ rs) known zero reading within at faulty =
+    let one : reading_from format x ≡ Some r = cc in
+    faulty.1 (no-entry format x reading (one ∙ ap Some at) faulty.0)
+not-at format (x ∷ xs) (r ∷ rs) known (suc i) reading within at faulty =
+    let rest : map (λ text. reading_from format text) xs ≡ map Some rs = cc in
+    not-at format xs rs rest i reading (omega (arith, within)) at faulty
+
+pub not-at-once : (format : FormatValue) (texts : List TextValue) (readings : List TableReading)
+    → map (λ text. reading_from format text) texts ≡ map Some readings → (reading : TableReading)
+    → Contains readings reading → IsFaultyAtOnce reading → ⊥
+not-at-once format texts readings known reading at faulty =
+    not-at format texts readings known at.0 reading at.1 at.2 faulty
 
 module _ (format : FormatValue) (k : Combination) where
   abbrev read : TextValue → Option TableReading
@@ -273,11 +298,13 @@ pub step-fault : (format : FormatValue) (k : Combination) (texts : List TextValu
     (readings : List TableReading) → map (λ text. reading_from format text) texts ≡ map Some readings
     → All (λ text. IfSome text.head (λ entry. combination_cmp entry.0 k ≢ Less)) texts
     → AllByRecursion IsListing (tables_of readings) → IsFaultOfText readings fault
-    → (fault ≡ TooMany → 2 ^ 64 ≤ unwrap_or
-    (sum_of_counts (map (λ (text : TextValue). head_count k text.head) texts)) 0) → IsStepFault readings fault
+    → ((j : Combination) → fault ≡ TooMany j → (j ≡ k) × (2 ^ 64 ≤ unwrap_or
+    (sum_of_counts (map (λ (text : TextValue). head_count k text.head) texts)) 0)) → IsStepFault readings fault
 step-fault format k texts (Text text fault) readings known least all is high = is
-step-fault format k texts TooMany readings known least all is high =
-    (k, beyond-all format k texts readings known least all (high refl))
+step-fault format k texts (TooMany j) readings known least all is high =
+    let so = high j refl in
+    subst (λ (c : Combination). 2 ^ 64 ≤ sum_by (count_in c) (tables_of readings)) (sym so.0)
+    (beyond-all format k texts readings known least all so.1)
 step-fault format k texts TooLong readings known least all is high = is
 step-fault format k texts Memory readings known least all is high = tt
 step-fault format k texts Write readings known least all is high = is

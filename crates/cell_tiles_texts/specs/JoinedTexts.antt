@@ -1,5 +1,5 @@
 -- Texts of tables joined to one: what they are read as, and what is written of it.
-use Rattle.std.specs.Prelude.{ℕ, ◌≡◌, ◌<◌, ◌≤◌, ◌-◌, ◌^◌, ◌==◌, List, [], ◌∷◌, ◌++◌, All, length, map, sum_by, slice_get, Option, Some, None, if◌then◌else◌}
+use Rattle.std.specs.Prelude.{ℕ, ◌≡◌, ◌≢◌, ◌<◌, ◌≤◌, ◌-◌, ◌^◌, ◌==◌, List, [], ◌∷◌, ◌++◌, All, length, map, sum_by, slice_get, Option, Some, None, if◌then◌else◌}
 use Rattle.std.specs.List.{AllByRecursion}
 use Rattle.cell_core_devices.specs.Blocks.{capped_count}
 use Rattle.cell_core_devices.specs.Device.{Coming, append_known}
@@ -45,6 +45,10 @@ tables_of readings = map (λ reading. reading.entries) readings
 abbrev pub HasFault : List TableReading → ℕ → TableFault → Type 0
 HasFault readings text fault = slice_get (map (λ reading. reading.fault) readings) text ≡ Some (Some fault)
 
+-- a text with a fault before its first entry
+abbrev pub IsFaultyAtOnce : TableReading → Type 0
+IsFaultyAtOnce reading = (reading.entries ≡ []) × (reading.fault ≢ None)
+
 -- each text is a table to its end
 abbrev pub AreTables : List TableReading → Type 0
 AreTables readings = AllByRecursion (λ fault. fault ≡ None) (map (λ reading. reading.fault) readings)
@@ -56,7 +60,7 @@ Give coming sources texts = map coming sources ≡ map Some texts
 -- why the texts are not joined; of being out of memory and of a failed write nothing is said of the texts
 abbrev pub IsJoinFault : List TableReading → JoinFault → Type 0
 IsJoinFault readings (Text text fault) = HasFault readings text fault
-IsJoinFault readings TooMany = (k : Combination) × (2 ^ 64 ≤ sum_by (count_in k) (tables_of readings))
+IsJoinFault readings (TooMany k) = 2 ^ 64 ≤ sum_by (count_in k) (tables_of readings)
 IsJoinFault readings TooLong = 2 ^ 64 - 1 ≤ length (merge_of (tables_of readings))
 IsJoinFault readings Memory = Unit {0}
 IsJoinFault readings Write = Unit {0}
@@ -97,7 +101,7 @@ pub record HasPrefix (format : FormatValue) (readings : List TableReading) (befo
 -- what was written where the texts are not joined: whole lines, but a prefix where a write failed
 abbrev pub HasWritten : FormatValue → List TableReading → Option (List ℕ) → Option (List ℕ) → ℕ → JoinFault → Type 0
 HasWritten format readings before now written (Text text fault) = HasLines format readings before now written
-HasWritten format readings before now written TooMany = HasLines format readings before now written
+HasWritten format readings before now written (TooMany k) = HasLines format readings before now written
 HasWritten format readings before now written TooLong = HasLines format readings before now written
 HasWritten format readings before now written Memory = HasLines format readings before now written
 HasWritten format readings before now written Write = HasPrefix format readings before now written

@@ -18,7 +18,7 @@ use Rattle.cell_tiles_texts.specs.declared.join_fault.JoinFault.TheVariants.{Tex
 -- why texts are not opened
 abbrev pub IsOpeningFault : List TableReading → JoinFault → Type 0
 IsOpeningFault readings (Text text fault) = HasFault readings text fault
-IsOpeningFault readings TooMany = ⊥
+IsOpeningFault readings (TooMany k) = ⊥
 IsOpeningFault readings TooLong = ⊥
 IsOpeningFault readings Memory = Unit {0}
 IsOpeningFault readings Write = ⊥
@@ -71,7 +71,7 @@ answered (Err fault) fails = Some fault
 -- whether the flush failed: after a refused put the sink is not flushed
 abbrev pub fault_flush : JoinFault → Bool → Bool
 fault_flush (Text text fault) fails = fails
-fault_flush TooMany fails = fails
+fault_flush (TooMany k) fails = fails
 fault_flush TooLong fails = fails
 fault_flush Memory fails = fails
 fault_flush Write fails = false

@@ -1,7 +1,6 @@
 -- Entries of a merge that were taken from texts, one after the other.
 use Rattle.std.specs.Prelude.{ℕ, ◌≡◌, ◌≤◌, ◌^◌, List, ◌++◌, map, sum_by, Option, Some}
 use Rattle.std.specs.List.{AllByRecursion}
-use Rattle.cell_stats_combinations.specs.Combinations.{Combination}
 use Rattle.cell_stats.specs.CategoryTables.{Pairs}
 use Rattle.cell_tiles_law.specs.TableParts.{count_in}
 use Rattle.cell_tiles_lines.specs.LineReading.{TableReading}
@@ -26,7 +25,7 @@ TakesEntries read old new done = (readings : List TableReading) → map read old
 -- of a fault of a text, that it has it; of any other nothing
 abbrev pub IsFaultOfText : List TableReading → JoinFault → Type 0
 IsFaultOfText readings (Text text fault) = HasFault readings text fault
-IsFaultOfText readings TooMany = Unit {0}
+IsFaultOfText readings (TooMany k) = Unit {0}
 IsFaultOfText readings TooLong = ⊥
 IsFaultOfText readings Memory = Unit {0}
 IsFaultOfText readings Write = ⊥
@@ -34,7 +33,7 @@ IsFaultOfText readings Write = ⊥
 -- why no more is taken
 abbrev pub IsStepFault : List TableReading → JoinFault → Type 0
 IsStepFault readings (Text text fault) = HasFault readings text fault
-IsStepFault readings TooMany = (k : Combination) × (2 ^ 64 ≤ sum_by (count_in k) (tables_of readings))
+IsStepFault readings (TooMany k) = 2 ^ 64 ≤ sum_by (count_in k) (tables_of readings)
 IsStepFault readings TooLong = ⊥
 IsStepFault readings Memory = Unit {0}
 IsStepFault readings Write = ⊥

@@ -24,8 +24,13 @@ returns-in-Err-clause-fault g c = λ readings known.
     (c.in-Err.ensures.fault not))
 
 pub returns-in-None-clause-beyond : goal.returns-in-None-clause-beyond
-returns-in-None-clause-beyond g c = λ e.
-    beyond-at (λ text. head_count c.args.combo.now text.head) c.args.texts.now c.texts.texts c.texts.text
-    (get_or c.texts.texts c.texts.text c.index-texts-text.result) c.texts.total c.in-Ok.count (omega arith)
-    (ap (get_or c.texts.texts c.texts.text) c.index-texts-text.is) c.texts.invariant.2 c.texts.invariant.0
-    c.in-Ok.ensures.count c.in-None.ensures
+returns-in-None-clause-beyond g c = λ k e. (
+  c.too_many.ensures.many k (cc),
+  beyond-at (λ text. head_count c.args.combo.now text.head) c.args.texts.now c.texts.texts c.texts.text
+      (get_or c.texts.texts c.texts.text c.index-texts-text.result) c.texts.total c.in-Ok.count (omega arith)
+      (ap (get_or c.texts.texts c.texts.text) c.index-texts-text.is) c.texts.invariant.2 c.texts.invariant.0
+      c.in-Ok.ensures.count c.in-None.ensures,
+)
+
+pub returns-in-None-clause-fault : goal.returns-in-None-clause-fault
+returns-in-None-clause-fault g c = λ readings known. c.too_many.ensures.fault readings
