@@ -156,12 +156,12 @@ fits merged k n fit at = subst (λ (e : Combination × ℕ). e.1 < 2 ^ 64) at.2 
 module _ (readings : List TableReading) (all : AllByRecursion IsListing (tables_of readings)) (merged : Pairs)
     (whole : IsMergeOf readings merged) where
   refuted : (fault : JoinFault) → IsJoinFault readings fault → fault ≢ Memory → fault ≢ Write → ⊥
-  refuted (Text text fault) is memory write = no-fault readings text fault whole.tables is
+  refuted (Text text fault) is memory write = no-fault readings text fault whole.tables is.has
   refuted (TooMany k) is memory write =
       let n = sum_by (count_in k) (tables_of readings) in
-      let some : 0 < n = omega (arith, is) in
+      let some : 0 < n = omega (arith, is.0) in
       let few = fits merged k n whole.fit ((whole.merge.counted k n).1 (some, refl)) in
-      omega (arith, few, is)
+      omega (arith, few, is.0)
   refuted TooLong is memory write =
       let same : merge_of (tables_of readings) ≡ merged = one-merge (tables_of readings)
       (merge_of (tables_of readings)) merged (merges-all (tables_of readings) all) whole.merge in

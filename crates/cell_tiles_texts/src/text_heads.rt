@@ -6,6 +6,7 @@ ghost use Rattle.std.specs.declared.cmp.Ordering.TheVariants.{Less};
 ghost use Rattle.cell_stats_combinations.specs.Combinations.{Combination, combination_cmp};
 ghost use Rattle.cell_tiles_lines.specs.LineReading.{TableReading};
 ghost use Rattle.cell_tiles_lines.specs.TextReading.{combination_of, reading_from};
+ghost use Rattle.cell_tiles_texts.specs.JoinedTexts.{last_combination};
 ghost use Rattle.cell_tiles_texts.specs.parts.Steps.{IsBeyondCounts, sum_if_any, head_count, lesser_of, past, sum_of_counts};
 ghost use Rattle.cell_tiles_texts.specs.parts.Taking.{IsFaultOfText};
 
@@ -39,7 +40,8 @@ fn take<R: Source>(
     ensures taken { OnOk result (reading_from format.now text.new
         ≡ option_map (past combo.now) (reading_from format.now text.old)) }
     ensures fault { IfErr result (λ fault. fault.kind ≢ TableKind.Memory
-        → IfSome (reading_from format.now text.old) (λ reading. reading.fault ≡ Some fault)) }
+        → IfSome (reading_from format.now text.old) (λ reading. (reading.fault ≡ Some fault)
+        × (last_combination reading.entries ≡ Some combo.now))) }
 {
     match count_at(text.head(), combo) {
         Some(count) => match text.next(alloc, format) {
@@ -97,7 +99,7 @@ fn add(total: Option<u64>, count: Option<u64>) -> Option<Option<u64>>
 
 // The fault of counts beyond 64 bits, or of memory.
 fn too_many(alloc: Global, combo: &Combo) -> JoinFault
-    ensures fault { (readings : List TableReading) → IsFaultOfText readings result }
+    ensures fault { (readings : List TableReading) → IsFaultOfText combo.now readings result }
     ensures many { (k : Combination) → result ≡ JoinFault.TooMany k → k ≡ combo.now }
     ensures unwritten { result ≢ JoinFault.Write }
 {
@@ -125,7 +127,7 @@ pub(crate) fn take_all<R: Source>(
         ≡ map (λ text. option_map (past combo.now) (reading_from format.now text)) texts.old) }
     ensures fault { (readings : List TableReading)
         → map (λ text. reading_from format.now text) texts.old ≡ map Some readings
-        → IfErr result (IsFaultOfText readings) }
+        → IfErr result (IsFaultOfText combo.now readings) }
     ensures unwritten { IfErr result (λ fault. fault ≢ JoinFault.Write) }
     ensures beyond { (k : Combination) → result ≡ Err (JoinFault.TooMany k) → (k ≡ combo.now)
         × (2 ^ 64

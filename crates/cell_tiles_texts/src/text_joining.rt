@@ -208,7 +208,9 @@ pub fn join_texts<R: Source + Drop, W: Sink>(
         → result.fault ≡ None
         → AreJoinedTexts format.now (readings_of format.now texts) (W.taken out.old) (W.taken out.new)
         result.written }
-    // A fault of a text is its first one; counts or entries that are too many are those of the merge.
+    // A fault of a text is its first one, and of all texts' faults it stands behind the least combination, or behind none, and
+    // of those in the first text; counts or entries that are too many are those of the merge, and no fault stands behind a
+    // lesser combination than one whose counts are.
     ensures fault { (texts : List Coming) → Give R.coming sources.items texts
         → IfSome result.fault (IsJoinFault (readings_of format.now texts)) }
     // With a fault the sink has taken the lines of the first entries, or a prefix of the text where a write failed.
