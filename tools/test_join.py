@@ -97,7 +97,8 @@ def joined(files, separator=b" ", null_text=b"*"):
                     it.next()
                     total += count
                     if total > GREATEST:
-                        raise Fault(b"output", 0, b"count too great")
+                        cells = b" ".join(b"*" if is_null else b"%d" % cell for is_null, cell in least)
+                        raise Fault(b"output", 0, b"count too great for %s" % cells)
             output += printed((least, total), separator, null_text)
     except Fault as fault:
         return fault.status, output, fault.told
@@ -145,7 +146,9 @@ def named_cases():
     yield "listed twice", [b"tables", b"a"], [(b"a", b"1 5\n2 4\n2 4\n")], (1, b"1 5\n", b"rcell-join: a:3: combination listed twice\n")
     yield "a line too long", [b"tables", b"a"], [(b"a", b"1 5\n" + b"2" * 5000 + b" 1\n")], (1, b"", b"rcell-join: a:2: line too long\n")
     yield "the greatest count", [b"tables", b"a"], [(b"a", great)], (0, great, b"")
-    yield "beyond the greatest count", [b"tables", b"a", b"b"], [(b"a", b"0 1\n" + great), (b"b", one)], (1, b"0 1\n", b"rcell-join: output:0: count too great\n")
+    yield "beyond the greatest count", [b"tables", b"a", b"b"], [(b"a", b"0 1\n" + great), (b"b", one)], (1, b"0 1\n", b"rcell-join: output:0: count too great for 1\n")
+    wide = b"0 1 * 3 %d\n" % GREATEST
+    yield "beyond the greatest count of several maps", [b"tables", b"a", b"b"], [(b"a", wide), (b"b", b"0 1 * 3 1\n")], (1, b"", b"rcell-join: output:0: count too great for 0 1 * 3\n")
     yield "no such file", [b"tables", b"a", b"nowhere"], [(b"a", one)], (4, b"", b"rcell-join: nowhere:0: cannot open\n")
     yield "a folder", [b"tables", b"."], [], (4, b"", b"rcell-join: .:1: read failed\n")
     for words in ([], [b"tables"], [b"tables", b"separator=comma"], [b"areas", b"a"], [b"tables", b"-l", b"a"], [b"--help"]):

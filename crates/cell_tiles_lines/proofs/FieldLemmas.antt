@@ -15,11 +15,11 @@ abbrev pub with_cells : Combination → Result (Combination × ℕ) TableKind �
 with_cells cells (Err kind) = Err kind
 with_cells cells (Ok entry) = Ok (cells ++ entry.0, entry.1)
 
-with_cells-none : (r : Result (Combination × ℕ) TableKind) → with_cells [] r ≡ r
+pub with_cells-none : (r : Result (Combination × ℕ) TableKind) → with_cells [] r ≡ r
 with_cells-none (Err kind) = refl
 with_cells-none (Ok entry) = refl
 
-with_cells-one : (cells : Combination) (cell : CellValue) (r : Result (Combination × ℕ) TableKind) → with_cells cells (cell_before (Some cell) r) ≡ with_cells (cells ++ cell ∷ []) r
+pub with_cells-one : (cells : Combination) (cell : CellValue) (r : Result (Combination × ℕ) TableKind) → with_cells cells (cell_before (Some cell) r) ≡ with_cells (cells ++ cell ∷ []) r
 with_cells-one cells cell (Err kind) = refl
 with_cells-one cells cell (Ok entry) = ap (λ (k : Combination). let r : Result (Combination × ℕ) TableKind = Ok (k, entry.1) in r) (sym (append_assoc cells (cell ∷ []) entry.0))
 

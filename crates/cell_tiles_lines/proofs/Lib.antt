@@ -1,4 +1,5 @@
 pub mod PlaceLemmas
 pub mod FieldLemmas
+pub mod LabelledFieldLemmas
 pub mod LinePartLemmas
 pub mod TextLemmas

@@ -1,20 +1,30 @@
 -- A text read line by line.
-use Rattle.std.proofs.Common.{◌≡◌, ◌≢◌, ℕ, suc, ◌+◌, ◌-◌, ◌<◌, ◌≤◌, List, [], ◌∷◌, ◌++◌, length, take, drop, Bool, true, false, Option, Some, None, Result, Ok, Err, refl, ap, sym, ◌∙◌, arith, cond, ◌==◌, nat_lt, not, subst, ◌⊎◌, inl, inr, ⊎_elim}
+use Rattle.std.proofs.Common.{◌≡◌, ◌≢◌, ℕ, suc, ◌+◌, ◌-◌, ◌<◌, ◌≤◌, List, [], ◌∷◌, ◌++◌, length, take, drop, get_or}
+use Rattle.std.proofs.Common.{Bool, true, false, Option, Some, None, Result, Ok, Err, refl, ap, sym, ◌∙◌, arith}
+use Rattle.std.proofs.Common.{cond, ◌==◌, nat_lt, not, subst, ◌⊎◌, inl, inr, ⊎_elim}
 use Rattle.std.proofs.Math.Seq.{take-length}
-use Rattle.std.proofs.lemmas.Bool.{cases_lt, lt-ltb, le-ltb}
+use Rattle.std.proofs.lemmas.Bool.{cases_lt, lt-ltb, le-ltb, ltb-true}
+use Rattle.std.proofs.lemmas.Bool.Decides.{Decides-eqb}
+use Rattle.std.proofs.lemmas.List.{append_assoc}
 use Rattle.std.proofs.lemmas.List.Splits.{slice_split_first}
-use Rattle.std.proofs.lemmas.List.Sums.{prefix_len-le-length}
+use Rattle.std.proofs.lemmas.List.Sums.{prefix_len-le-length, prefix_len_stops, split_at_first}
 use Rattle.std.specs.List.{position_or_len, before_first, after_first, slice_split, onto_first}
 use Rattle.std.specs.Option.{option_map}
 use Rattle.std.specs.Prelude.{IfSome}
+use Rattle.std.specs.declared.cmp.Ordering.{Ordering}
+use Rattle.std.specs.declared.cmp.Ordering.TheVariants.{Less, Equal, Greater}
 use Rattle.cell_core_devices.specs.Device.{Coming}
-use Rattle.cell_stats_combinations.specs.Combinations.{Combination}
+use Rattle.cell_core_text.specs.Answers.{◌>>=◌}
+use Rattle.cell_stats_combinations.specs.Combinations.{Combination, combination_cmp}
 use Rattle.cell_stats.specs.TableText.{FormatValue}
-use Rattle.cell_tiles_lines.specs.LineReading.{TableReading, at_text_end, ended, is_line_feed, line_after, next_entry, reading_of_lines, reading_of_rest, stopped, then_reads, with_entry}
+use Rattle.cell_tiles_lines.specs.LineFields.{spelled_entry}
+use Rattle.cell_tiles_lines.specs.LineReading.{TableReading, at_text_end, ended, in_order, is_as_wide, is_line_feed}
+use Rattle.cell_tiles_lines.specs.LineReading.{line_after, next_entry, ordered_entry, reading_of_lines}
+use Rattle.cell_tiles_lines.specs.LineReading.{reading_of_rest, stopped, then_reads, with_entry}
 use Rattle.cell_tiles_lines.specs.SourceLines.{LinesValue, IsFirstLine, first_line, lines_coming}
 use Rattle.cell_tiles_lines.specs.parts.FirstLine.{reading_by}
 use Rattle.cell_tiles_lines.specs.declared.table_fault.TableKind.{TableKind}
-use Rattle.cell_tiles_lines.specs.declared.table_fault.TableKind.TheVariants.{LongLine, CutOff, Read, Memory}
+use Rattle.cell_tiles_lines.specs.declared.table_fault.TableKind.TheVariants.{BadWidth, LongLine, CutOff, Read, Memory}
 use Rattle.cell_tiles_lines.specs.declared.table_fault.TheConstants.{MOST_BYTES}
 use Rattle.cell_tiles_lines.proofs.PlaceLemmas.{split-none}
 
@@ -113,3 +123,133 @@ module _ (format : FormatValue) (width number : ℕ) (last : Option Combination)
   pub first-refused : (old : Option Coming) (kind : TableKind) → IfSome old (λ coming. first_line coming ≡ Err kind) → IfSome (option_map (reading_of_rest format width number last) old) (λ reading. reading ≡ stopped number kind)
   first-refused None kind h = tt
   first-refused (Some coming) kind h = by-first coming ∙ ap (reading_by format width number last) h
+
+-- ---- the bytes of a line
+
+line-feed-at : (bytes : List ℕ) → position_or_len is_line_feed bytes < length bytes
+    → bytes ≡ (before_first is_line_feed bytes ++ 10 ∷ []) ++ after_first is_line_feed bytes
+line-feed-at bytes h =
+    let at = position_or_len is_line_feed bytes in
+    let feed : is_line_feed (get_or bytes at 0) ≡ true = not-not (is_line_feed (get_or bytes at 0)) (prefix_len_stops
+    (λ b. not (is_line_feed b)) bytes 0 h) in
+    let is : get_or bytes at 0 ≡ 10 = (Decides-eqb (get_or bytes at 0) 10).0 feed in
+    split_at_first is_line_feed bytes 0 h
+    ∙ ap (λ (b : ℕ). before_first is_line_feed bytes ++ (b ∷ after_first is_line_feed bytes)) is
+    ∙ sym (append_assoc (before_first is_line_feed bytes) (10 ∷ []) (after_first is_line_feed bytes))
+  where
+    not-not : (t : Bool) → not t ≡ false → t ≡ true
+    not-not true e = refl
+    not-not false e = cc
+
+abbrev told-part : List ℕ × Coming → Result (Option (List ℕ × Coming)) TableKind → List ℕ × Coming
+told-part other (Err kind) = other
+told-part other (Ok None) = other
+told-part other (Ok (Some part)) = part
+
+cut-line : (coming rest : Coming) (line : List ℕ) → first_line coming ≡ Ok (Some (line, rest))
+    → coming.bytes ≡ (line ++ 10 ∷ []) ++ rest.bytes
+cut-line coming rest line is = by (nat_lt MOST_BYTES (length (before_first is_line_feed coming.bytes))) (nat_lt
+    (position_or_len is_line_feed coming.bytes) (length coming.bytes)) coming.fails (length coming.bytes == 0) (λ t.
+    ltb-true (position_or_len is_line_feed coming.bytes) (length coming.bytes) t) is
+  where
+    whole-line : Result (Option (List ℕ × Coming)) TableKind
+    whole-line = Ok (Some (
+      before_first is_line_feed coming.bytes,
+      record {
+        bytes = after_first is_line_feed
+            coming.bytes;
+        fails = coming.fails;
+      },
+    ))
+
+    by : (long some fails none : Bool) → (some ≡ true → position_or_len is_line_feed coming.bytes < length
+        coming.bytes) → cond long (Err LongLine) (cond some whole-line (cond fails (Err Read) (cond none (Ok None)
+        (Err CutOff)))) ≡ Ok (Some (line, rest)) → coming.bytes ≡ (line ++ 10 ∷ []) ++ rest.bytes
+    by true some fails none within e = cc
+    by false true fails none within e =
+        let parts = ap (told-part (line, rest)) e in
+        line-feed-at coming.bytes (within refl) ∙ (λ i. ((parts i).0 ++ 10 ∷ []) ++ ((parts i).1).bytes)
+    by false false true none within e = cc
+    by false false false true within e = cc
+    by false false false false within e = cc
+
+cut-end : (coming : Coming) → first_line coming ≡ Ok None → coming.bytes ≡ []
+cut-end coming is = by (nat_lt MOST_BYTES (length (before_first is_line_feed coming.bytes))) (nat_lt (position_or_len
+    is_line_feed coming.bytes) (length coming.bytes)) coming.fails (length coming.bytes == 0) refl is
+  where
+    whole-line : Result (Option (List ℕ × Coming)) TableKind
+    whole-line = Ok (Some (
+      before_first is_line_feed coming.bytes,
+      record {
+        bytes = after_first is_line_feed
+            coming.bytes;
+        fails = coming.fails;
+      },
+    ))
+
+    empty : (bytes : List ℕ) → (length bytes == 0) ≡ true → bytes ≡ []
+    empty [] e = refl
+    empty (b ∷ bs) e = (let none : length (b ∷ bs) ≡ 0 = (Decides-eqb (length (b ∷ bs)) 0).0 e in absurd (omega
+        (arith, none)))
+
+    by : (long some fails none : Bool) → (length coming.bytes == 0) ≡ none
+        → cond long (Err LongLine) (cond some whole-line (cond fails (Err Read) (cond none (Ok None) (Err CutOff))))
+        ≡ Ok None → coming.bytes ≡ []
+    by true some fails none zero e = cc
+    by false true fails none zero e = cc
+    by false false true none zero e = cc
+    by false false false true zero e = empty coming.bytes zero
+    by false false false false zero e = cc
+
+-- the bytes of a line that was read, and of those behind it
+pub line-bytes : (old : Option Coming) (new : LinesValue) → IsFirstLine old (Ok true) new
+    → option_map (λ (c : Coming). c.bytes) old ≡ option_map (λ (rest : Coming). (new.line ++ 10 ∷ []) ++ rest.bytes)
+    (lines_coming new)
+line-bytes old new first = by old (lines_coming new) first
+  where
+    by : (o x : Option Coming) → option_map first_line o ≡ option_map (λ rest. Ok (Some (new.line, rest))) x
+        → option_map (λ (c : Coming). c.bytes) o ≡ option_map (λ (rest : Coming). (new.line ++ 10 ∷ []) ++
+        rest.bytes) x
+    by None None e = refl
+    by None (Some rest) e = cc
+    by (Some c) None e = cc
+    by (Some c) (Some rest) e = let one : first_line c ≡ Ok (Some (new.line, rest)) = cc in ap Some (cut-line c rest
+        new.line one)
+
+-- there are none at the end
+pub end-bytes : (old : Option Coming) (new : LinesValue) → IsFirstLine old (Ok false) new
+    → option_map (λ (c : Coming). c.bytes) old ≡ option_map (λ (rest : Coming). []) (lines_coming new)
+end-bytes old new first = by old (lines_coming new) first
+  where
+    by : (o x : Option Coming) → option_map first_line o ≡ option_map (λ (rest : Coming). Ok None) x
+        → option_map (λ (c : Coming). c.bytes) o ≡ option_map (λ (rest : Coming). []) x
+    by None None e = refl
+    by None (Some rest) e = cc
+    by (Some c) None e = cc
+    by (Some c) (Some rest) e = let one : first_line c ≡ Ok None = cc in ap Some (cut-end c one)
+
+-- ---- an entry that comes next is what its line spells
+
+same-entry : (o : Ordering) (x e : Combination × ℕ) → ordered_entry o x ≡ Ok e → x ≡ e
+same-entry Less x e is = cc
+same-entry Equal x e is = cc
+same-entry Greater x e is = cc
+
+same-if : (t : Bool) (x e : Combination × ℕ) (r : Result (Combination × ℕ) TableKind) → (r ≡ Ok e → x ≡ e)
+    → cond t r (Err BadWidth) ≡ Ok e → x ≡ e
+same-if true x e r so is = so is
+same-if false x e r so is = cc
+
+same-in-order : (width : ℕ) (last : Option Combination) (x e : Combination × ℕ) → in_order width last x ≡ Ok e → x ≡ e
+same-in-order width None x e is = same-if (is_as_wide width (length x.0)) x e (Ok x) (λ so. cc) is
+same-in-order width (Some last) x e is = same-if (length x.0 == length last) x e (ordered_entry (combination_cmp last
+    x.0) x) (same-entry (combination_cmp last x.0) x e) is
+
+pub next-spelled : (format : FormatValue) (width : ℕ) (last : Option Combination) (line : List ℕ) (e : Combination ×
+    ℕ) → next_entry format width last line ≡ Ok e → spelled_entry format line ≡ Ok e
+next-spelled format width last line e is = by (spelled_entry format line) is
+  where
+    by : (r : Result (Combination × ℕ) TableKind) → (r >>= in_order width last) ≡ Ok e → r ≡ Ok e
+    by (Err kind) so = cc
+    by (Ok x) so = (let same = same-in-order width last x e so in ap (λ (y : Combination × ℕ). let r : Result
+        (Combination × ℕ) TableKind = Ok y in r) same)

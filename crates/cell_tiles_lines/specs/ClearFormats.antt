@@ -11,10 +11,11 @@ use Rattle.cell_tiles_lines.specs.LineReading.{is_line_feed}
 abbrev pub is_clear_byte : ℕ → Bool
 is_clear_byte b = not (is_digit b || (b == byte (codes "-") || is_line_feed b))
 
--- a separator that stands in no field, and a null text that is no category
+-- a separator that stands in no field, nor in the label of null where labels are printed, and a null text that is no category
 abbrev pub is_clear : FormatValue → Bool
 is_clear format =
     is_clear_byte format.separator
     && (list_all (λ b. not (b == format.separator)) format.null_text
     && (list_all (λ b. not (is_line_feed b)) format.null_text
-    && is_none (category_of_field format.null_text)))
+    && (is_none (category_of_field format.null_text)
+    && (not format.labels || list_all (λ b. not (b == format.separator)) (codes "no data")))))

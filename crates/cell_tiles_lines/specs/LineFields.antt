@@ -1,5 +1,5 @@
 -- What a line spells: a field is what is printed so, and nothing else.
-use Rattle.std.specs.Prelude.{ℕ, ℤ, ◌^◌, ◌-◌, ◌==◌, ◌&&◌, nat_lt, min, bytes_eq, List, [], ◌∷◌, decimal, Option, Some, None, Result, Ok, Err, if◌then◌else◌}
+use Rattle.std.specs.Prelude.{ℕ, ℤ, ◌^◌, ◌-◌, ◌==◌, ◌&&◌, nat_lt, min, bytes_eq, codes, List, [], ◌∷◌, decimal, Option, Some, None, Result, Ok, Err, if◌then◌else◌}
 use Rattle.std.specs.Fmt.{signed_decimal}
 use Rattle.std.specs.List.{slice_split}
 use Rattle.std.specs.Option.{option_map, option_and_then}
@@ -7,6 +7,7 @@ use Rattle.cell_core.specs.Grid.{CellValue}
 use Rattle.cell_core_text.specs.Digits.{value_of_digits}
 use Rattle.cell_core_text.specs.WholeNumbers.{whole_in_range}
 use Rattle.cell_stats_combinations.specs.Combinations.{Combination}
+use Rattle.cell_stats.specs.TableText.{FormatValue}
 use Rattle.cell_tiles_lines.specs.declared.table_fault.TableKind.{TableKind}
 use Rattle.cell_tiles_lines.specs.declared.table_fault.TableKind.TheVariants.{BadCell, BadCount}
 
@@ -46,3 +47,22 @@ entry_of_fields null_text (field ∷ next ∷ fields) = cell_before (cell_of_fie
 -- the entry of a line, without its line feed
 abbrev pub entry_of_line : ℕ → List ℕ → List ℕ → Result (Combination × ℕ) TableKind
 entry_of_line separator null_text line = entry_of_fields null_text (slice_split (λ b. b == separator) line)
+
+-- the cell of a field with a label behind it: null has no data (profile), and a category any label
+abbrev pub labelled_cell : List ℕ → List ℕ → List ℕ → Option CellValue
+labelled_cell null_text field label = if bytes_eq field null_text then (if bytes_eq label (codes "no data") then Some None else None) else option_map Some (category_of_field field)
+
+-- the entry of fields with labels: each cell has its label behind it, and the last field is a count
+abbrev pub entry_of_labelled : List ℕ → List (List ℕ) → Result (Combination × ℕ) TableKind
+entry_of_labelled null_text [] = Err BadCount
+entry_of_labelled null_text (field ∷ []) = with_count (count_of_field field)
+entry_of_labelled null_text (field ∷ label ∷ []) = Err BadCount
+entry_of_labelled null_text (field ∷ label ∷ next ∷ fields) = cell_before (labelled_cell null_text field label) (entry_of_labelled null_text (next ∷ fields))
+
+-- the entry of a line with labels, without its line feed
+abbrev pub labelled_entry_of_line : ℕ → List ℕ → List ℕ → Result (Combination × ℕ) TableKind
+labelled_entry_of_line separator null_text line = entry_of_labelled null_text (slice_split (λ b. b == separator) line)
+
+-- the entry of a line, with labels or without
+abbrev pub spelled_entry : FormatValue → List ℕ → Result (Combination × ℕ) TableKind
+spelled_entry format line = if format.labels then labelled_entry_of_line format.separator format.null_text line else entry_of_line format.separator format.null_text line

@@ -9,7 +9,7 @@ use Rattle.cell_core_values.specs.Letters.{byte}
 use Rattle.cell_stats_combinations.specs.Combinations.{Combination, combination_cmp}
 use Rattle.cell_stats.specs.CategoryTables.{Pairs}
 use Rattle.cell_stats.specs.TableText.{FormatValue}
-use Rattle.cell_tiles_lines.specs.LineFields.{entry_of_line}
+use Rattle.cell_tiles_lines.specs.LineFields.{spelled_entry}
 use Rattle.cell_tiles_lines.specs.declared.table_fault.TableFault.{TableFault}
 use Rattle.cell_tiles_lines.specs.declared.table_fault.TableKind.{TableKind}
 use Rattle.cell_tiles_lines.specs.declared.table_fault.TableKind.TheVariants.{BadWidth, ListedTwice, OutOfOrder, LongLine, CutOff, Read}
@@ -36,7 +36,7 @@ in_order width (Some last) entry = if length entry.0 == length last then ordered
 
 -- the entry of a line after the one before it
 abbrev pub next_entry : FormatValue → ℕ → Option Combination → List ℕ → Result (Combination × ℕ) TableKind
-next_entry format width last line = entry_of_line format.separator format.null_text line >>= in_order width last
+next_entry format width last line = spelled_entry format line >>= in_order width last
 
 -- what a text is read as: the entries before its first fault, and that fault
 pub record TableReading : Type 0 where

@@ -21,7 +21,8 @@ fn is_without(text: &[u8], byte: u8) -> bool
     text.iter().all(|b| *b != byte)
 }
 
-/// Whether what is printed so can be read back: the separator stands in no field, and the null text is no category.
+/// Whether what is printed so can be read back: the separator stands in no field, nor in the label of null where labels are
+/// printed, and the null text is no category.
 pub fn is_clear(format: &Format) -> bool
     ensures { result ≡ is_clear format.now }
 {
@@ -31,4 +32,5 @@ pub fn is_clear(format: &Format) -> bool
         && is_without(null_text, separator)
         && is_without(null_text, b'\n')
         && category_of(null_text).is_none()
+        && (!format.labels() || is_without(b"no data", separator))
 }

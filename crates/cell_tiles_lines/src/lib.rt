@@ -3,7 +3,7 @@
 
 pub mod clear_formats;
 pub mod line_fields;
-mod places;
+pub mod places;
 pub mod source_lines;
 pub mod table_fault;
 pub mod text;

@@ -1,12 +1,13 @@
 //! The entry of a line, field by field.
 
 ghost use Rattle.std.specs.Prelude.{◌≡◌, ◌≢◌, ◌<◌, Ok, Err, IfOk, IfErr, option_map};
-ghost use Rattle.cell_tiles_lines.specs.LineFields.{capped_value, category_of_field, cell_of_field, count_of_field, entry_of_line};
+ghost use Rattle.cell_tiles_lines.specs.LineFields.{capped_value, category_of_field, cell_of_field, count_of_field, entry_of_line, labelled_cell, labelled_entry_of_line, spelled_entry};
 
 use crate::places::cut_at;
 use crate::table_fault::TableKind;
 use cell_core::cell::Cell;
 use cell_core_text::whole_numbers::whole_in_range;
+use cell_stats::format::Format;
 use itoa::Buffer;
 
 // The category that is printed so.
@@ -56,13 +57,24 @@ fn count_of(field: &[u8]) -> Option<u64>
     None
 }
 
-/// The entry that a line spells, without its line feed: its cells are put in the place of those that are given, and its
-/// count is returned.
-///
-/// # Errors
-///
-/// The first field that is no cell or, at the end, no count; [`TableKind::Memory`] where memory is refused.
-pub fn read_line(
+// The cell that is printed so with a label behind it.
+fn labelled_cell_of(null_text: &[u8], field: &[u8], label: &[u8]) -> Option<Cell>
+    ensures { result ≡ labelled_cell null_text.now field.now label.now }
+{
+    if field == null_text {
+        if label == b"no data".as_slice() {
+            return Some(Cell::null());
+        }
+        return None;
+    }
+    match category_of(field) {
+        Some(category) => Cell::value(category),
+        None => None,
+    }
+}
+
+// The entry of a line without labels.
+fn read_plain_line(
     separator: u8,
     null_text: &[u8],
     line: &[u8],
@@ -89,4 +101,56 @@ pub fn read_line(
         Some(count) => Ok(count),
         None => Err(TableKind::BadCount),
     }
+}
+
+// The entry of a line with labels.
+fn read_labelled_line(
+    separator: u8,
+    null_text: &[u8],
+    line: &[u8],
+    cells: &mut Vec<Cell>,
+) -> Result<u64, TableKind>
+    ensures ok { IfOk result (λ count. labelled_entry_of_line separator null_text.now line.now ≡ Ok
+        (cells.new.items, count)) }
+    ensures err { IfErr result (λ kind. kind ≢ TableKind.Memory → labelled_entry_of_line separator
+        null_text.now line.now ≡ Err kind) }
+{
+    cells.clear();
+    let mut rest = line;
+    while let Some((field, others)) = cut_at(separator, rest) {
+        let Some((label, behind)) = cut_at(separator, others) else {
+            return Err(TableKind::BadCount);
+        };
+        let Some(cell) = labelled_cell_of(null_text, field, label) else {
+            return Err(TableKind::BadCell);
+        };
+        if cells.push(cell).is_err() {
+            return Err(TableKind::Memory);
+        }
+        rest = behind;
+    }
+    match count_of(rest) {
+        Some(count) => Ok(count),
+        None => Err(TableKind::BadCount),
+    }
+}
+
+/// The entry that a line spells, without its line feed: its cells are put in the place of those that are given, and its
+/// count is returned. Where labels are printed, each cell has one behind it.
+///
+/// # Errors
+///
+/// The first field that is no cell or, at the end, no count; [`TableKind::Memory`] where memory is refused.
+pub fn read_line(format: &Format, line: &[u8], cells: &mut Vec<Cell>) -> Result<u64, TableKind>
+    ensures ok { IfOk result
+        (λ count. spelled_entry format.now line.now ≡ Ok (cells.new.items, count)) }
+    ensures err { IfErr result
+        (λ kind. kind ≢ TableKind.Memory → spelled_entry format.now line.now ≡ Err kind) }
+{
+    let separator = format.separator();
+    let null_text = format.null_text();
+    if format.labels() {
+        return read_labelled_line(separator, null_text, line, cells);
+    }
+    read_plain_line(separator, null_text, line, cells)
 }

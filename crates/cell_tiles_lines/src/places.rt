@@ -14,8 +14,8 @@ pub(crate) fn place_of(byte: u8, text: &[u8]) -> Option<usize>
     memchr(byte, text)
 }
 
-// What stands before and after the first place of a byte.
-pub(crate) fn cut_at<'a>(byte: u8, text: &'a [u8]) -> Option<(&'a [u8], &'a [u8])>
+/// What stands before and after the first place of a byte, or None where there is none.
+pub fn cut_at<'a>(byte: u8, text: &'a [u8]) -> Option<(&'a [u8], &'a [u8])>
     ensures { MatchOption result
         (position_or_len (λ b. b == byte) text.now ≡ length text.now)
         (λ parts. (position_or_len (λ b. b == byte) text.now < length text.now)

@@ -3,7 +3,8 @@
 ghost use Rattle.std.specs.Prelude.{◌≡◌, ◌≢◌, ℕ, length, Ok, Err, IfOk, IfErr, IfSome, None, OnOk, MatchResult, option_map};
 ghost use Rattle.cell_tiles_lines.specs.LineReading.{is_as_wide, in_order, line_after, next_entry, reading_of, stopped};
 ghost use Rattle.cell_tiles_lines.specs.SourceLines.{lines_coming};
-ghost use Rattle.cell_tiles_lines.specs.TextReading.{combination_of, reading_behind, reading_from};
+ghost use Rattle.cell_tiles_lines.specs.LineFields.{spelled_entry};
+ghost use Rattle.cell_tiles_lines.specs.TextReading.{IsSpelled, bytes_behind, bytes_from, bytes_from_head, combination_of, reading_behind, reading_from};
 ghost use Rattle.cell_tiles_lines.specs.parts.FirstLine.{IsRead, IsRefused};
 
 use crate::line_fields::read_line;
@@ -64,7 +65,7 @@ fn entry_of(
     ensures err { IfErr result (λ kind. kind ≢ TableKind.Memory → next_entry format.now width
         (option_map (λ k. k.now) last.entry) line.now ≡ Err kind) }
 {
-    let count = read_line(format.separator(), format.null_text(), line, cells)?;
+    let count = read_line(format, line, cells)?;
     check_order(width, last, cells)?;
     match Combo::from_cells(alloc, cells) {
         Ok(combo) => Ok((combo, count)),
@@ -85,9 +86,15 @@ fn read_entry<R: Source>(
         (λ k. k.now) last.entry) (lines_coming lines.old) (record {
           width = width;
           head = head;
+          line = lines.new.line;
           number = line_after number;
           coming = lines_coming lines.new;
         })) }
+    ensures bytes { IfOk result (λ head. option_map (λ coming. coming.bytes)
+        (lines_coming lines.old) ≡ option_map (bytes_from_head head lines.new.line)
+        (lines_coming lines.new)) }
+    ensures spelled { IfOk result (λ head. IfSome head
+        (λ entry. spelled_entry format.now lines.new.line ≡ Ok entry)) }
     ensures fault { IfErr result (λ kind. kind ≢ TableKind.Memory → (number : ℕ) → IsRefused
         format.now width number (option_map (λ k. k.now) last.entry) (lines_coming lines.old)
         kind) }
@@ -122,6 +129,7 @@ impl<R: Source> Model for TableText<R> {
     ghost view = { λ text. record {
       width = text.width;
       head = text.head;
+      line = text.lines.line;
       number = text.number;
       coming = lines_coming text.lines;
     } };
@@ -153,6 +161,9 @@ impl<R: Source> TableText<R> {
         R: Drop,
         ensures read { IfOk result (λ text. option_map (reading_of format.now width) (R.coming
             source) ≡ reading_from format.now text) }
+        ensures bytes { IfOk result (λ text. option_map (λ coming. coming.bytes) (R.coming source)
+            ≡ bytes_from text) }
+        ensures spelled { IfOk result (IsSpelled format.now) }
         ensures width { IfOk result (λ text. text.width ≡ width) }
         ensures fault { IfErr result (λ fault. fault.kind ≢ TableKind.Memory → IfSome (R.coming
             source) (λ coming. reading_of format.now width coming ≡ stopped fault.line
@@ -193,6 +204,8 @@ impl<R: Source> TableText<R> {
     pub fn next(&mut self, alloc: Global, format: &Format) -> Result<(), TableFault>
         ensures read { OnOk result (reading_behind format.now self.old ≡ reading_from format.now
             self.new) }
+        ensures bytes { OnOk result (bytes_behind self.old ≡ bytes_from self.new) }
+        ensures spelled { OnOk result (IsSpelled format.now self.new) }
         ensures width { self.new.width ≡ self.old.width }
         ensures fault { IfErr result (λ fault. fault.kind ≢ TableKind.Memory → IfSome
             (reading_behind format.now self.old) (λ reading. reading ≡ stopped fault.line

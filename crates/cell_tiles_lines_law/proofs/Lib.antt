@@ -1,2 +1,3 @@
+pub mod LabelledTableLemmas
 pub mod PrintedFieldLemmas
 pub mod PrintedTableLemmas

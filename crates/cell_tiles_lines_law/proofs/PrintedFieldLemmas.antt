@@ -22,7 +22,7 @@ use Rattle.cell_tiles_lines.specs.TableLines.{entry_fields}
 use Rattle.cell_tiles_lines.specs.declared.table_fault.TableKind.{TableKind}
 use Rattle.cell_tiles_lines_law.specs.PrintedTables.{IsClear}
 
-same : (xs : List ℕ) → bytes_eq xs xs ≡ true
+pub same : (xs : List ℕ) → bytes_eq xs xs ≡ true
 same xs = (bytes_eq-Decides xs xs).1 refl
 
 pub count-back : (n : ℕ) → 0 < n → n < 2 ^ 64 → count_of_field (decimal n) ≡ Some n

@@ -8,6 +8,8 @@ use Rattle.cell_stats.specs.TableText.{FormatValue}
 use Rattle.cell_tiles_lines.specs.LineReading.{TableReading, reading_of_rest, stopped, with_entry}
 use Rattle.cell_tiles_lines.specs.TextReading.{TextValue, combination_of, reading_behind, reading_from, reading_from_head}
 use Rattle.cell_tiles_lines.specs.declared.table_fault.TableFault.{TableFault}
+use Rattle.cell_stats_combinations.proofs.OrderLemmas.{combination_cmp-exact, is_equal}
+use Rattle.cell_tiles_texts.specs.JoinedTexts.{last_combination}
 use Rattle.cell_tiles_texts.specs.parts.Steps.{head_count, is_of, past}
 
 is-some : {A : Type 0} (t : Bool) (x n : A) → cond t (Some x) None ≡ Some n → t ≡ true
@@ -47,10 +49,15 @@ module _ (format : FormatValue) (text : TextValue) (k : Combination) where
   fault-head : (head : Option (Combination × ℕ)) (n : ℕ) (o : Option Coming) (fault : TableFault)
       → head_count k head ≡ Some n
       → IfSome (option_map (behind head) o) (λ reading. reading ≡ stopped fault.line fault.kind)
-      → IfSome (reading_from_head format (record text { coming = o }) head) (λ reading. reading.fault ≡ Some fault)
+      → IfSome (reading_from_head format (record text { coming = o }) head) (λ reading. (reading.fault ≡ Some fault)
+      × (last_combination reading.entries ≡ Some k))
   fault-head None n o fault e h = cc
   fault-head (Some entry) n None fault e h = tt
-  fault-head (Some entry) n (Some coming) fault e h = ap (λ (reading : TableReading). reading.fault) h
+  fault-head (Some entry) n (Some coming) fault e h = (
+    ap (λ (reading : TableReading). reading.fault) h,
+    ap (λ (reading : TableReading). last_combination (entry ∷ reading.entries)) h
+        ∙ ap Some (combination_cmp-exact entry.0 k (is_equal _ (is-some (is_of k entry) entry.1 n e))),
+  )
 
   -- what is read after the head was taken
   pub taken-some : (n : ℕ) → head_count k text.head ≡ Some n
@@ -65,5 +72,6 @@ module _ (format : FormatValue) (text : TextValue) (k : Combination) where
   -- there is a fault behind it
   pub taken-fault : (n : ℕ) (fault : TableFault) → head_count k text.head ≡ Some n
       → IfSome (reading_behind format text) (λ reading. reading ≡ stopped fault.line fault.kind)
-      → IfSome (reading_from format text) (λ reading. reading.fault ≡ Some fault)
+      → IfSome (reading_from format text) (λ reading. (reading.fault ≡ Some fault)
+      × (last_combination reading.entries ≡ Some k))
   taken-fault n fault e h = fault-head text.head n text.coming fault e h

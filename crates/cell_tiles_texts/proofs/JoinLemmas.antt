@@ -76,7 +76,7 @@ module _ (format : FormatValue) (readings : List TableReading) (all : AllByRecur
     written-by : (fault : JoinFault) → fault ≢ Write → (others : Pairs)
         → merge_of (tables_of readings) ≡ done ++ others → HasWritten format readings before now block.written fault
     written-by (Text text fault) not others is = has-lines others is
-    written-by TooMany not others is = has-lines others is
+    written-by (TooMany k) not others is = has-lines others is
     written-by TooLong not others is = has-lines others is
     written-by Memory not others is = has-lines others is
     written-by Write not others is = absurd (not refl)
@@ -156,12 +156,12 @@ fits merged k n fit at = subst (λ (e : Combination × ℕ). e.1 < 2 ^ 64) at.2 
 module _ (readings : List TableReading) (all : AllByRecursion IsListing (tables_of readings)) (merged : Pairs)
     (whole : IsMergeOf readings merged) where
   refuted : (fault : JoinFault) → IsJoinFault readings fault → fault ≢ Memory → fault ≢ Write → ⊥
-  refuted (Text text fault) is memory write = no-fault readings text fault whole.tables is
-  refuted TooMany is memory write =
-      let n = sum_by (count_in is.0) (tables_of readings) in
-      let some : 0 < n = omega (arith, is.1) in
-      let few = fits merged is.0 n whole.fit ((whole.merge.counted is.0 n).1 (some, refl)) in
-      omega (arith, few, is.1)
+  refuted (Text text fault) is memory write = no-fault readings text fault whole.tables is.has
+  refuted (TooMany k) is memory write =
+      let n = sum_by (count_in k) (tables_of readings) in
+      let some : 0 < n = omega (arith, is.0) in
+      let few = fits merged k n whole.fit ((whole.merge.counted k n).1 (some, refl)) in
+      omega (arith, few, is.0)
   refuted TooLong is memory write =
       let same : merge_of (tables_of readings) ≡ merged = one-merge (tables_of readings)
       (merge_of (tables_of readings)) merged (merges-all (tables_of readings) all) whole.merge in
@@ -236,7 +236,7 @@ module _ (format : FormatValue) (readings : List TableReading) (all : AllByRecur
   pub opening-written : (fault : JoinFault) → IsOpeningFault readings fault
       → HasWritten format readings before before 0 fault
   opening-written (Text text fault) is = nothing-written
-  opening-written TooMany is = absurd is
+  opening-written (TooMany k) is = absurd is
   opening-written TooLong is = absurd is
   opening-written Memory is = nothing-written
   opening-written Write is = absurd is
@@ -244,7 +244,7 @@ module _ (format : FormatValue) (readings : List TableReading) (all : AllByRecur
 pub opening-join : (readings : List TableReading) (fault : JoinFault) → IsOpeningFault readings fault
     → IsJoinFault readings fault
 opening-join readings (Text text fault) is = is
-opening-join readings TooMany is = absurd is
+opening-join readings (TooMany k) is = absurd is
 opening-join readings TooLong is = absurd is
 opening-join readings Memory is = tt
 opening-join readings Write is = absurd is

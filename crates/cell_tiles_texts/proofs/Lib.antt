@@ -1,5 +1,6 @@
 pub mod EntryLemmas
 pub mod FaultLemmas
+pub mod FaultOrderLemmas
 pub mod HeadLemmas
 pub mod ListLemmas
 pub mod JoinLemmas

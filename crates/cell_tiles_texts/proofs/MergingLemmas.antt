@@ -13,7 +13,7 @@ use Rattle.cell_tiles_law.specs.TableParts.{count_in}
 use Rattle.cell_tiles_lines.specs.LineReading.{TableReading, ended}
 use Rattle.cell_tiles_lines.specs.TableLines.{entries_text, entry_line}
 use Rattle.cell_tiles_merging.specs.Merging.{IsListing}
-use Rattle.cell_tiles_texts.specs.JoinedTexts.{AreTables, HasFault, IsJoinFault, tables_of}
+use Rattle.cell_tiles_texts.specs.JoinedTexts.{AreNoneBefore, AreTables, IsFirstPlace, IsJoinFault, tables_of}
 use Rattle.cell_tiles_texts.specs.MergedTables.{merge_of}
 use Rattle.cell_tiles_texts.specs.parts.MergeEnds.{AreEnded, EndsSo, HasMerged, HasStepped, IsMergeEnd}
 use Rattle.cell_tiles_texts.specs.parts.Taking.{HasTaken, IsStepFault, StepFails, TakesEntries}
@@ -37,6 +37,7 @@ module _ {X : Type 0} (read : X → Option TableReading) where
     listings = all;
     merged = refl;
     faults = refl;
+    places = refl;
   }
 
   pub takes-more : (old mid new : List X) (done : Pairs) (e : Combination × ℕ) → TakesEntries read old mid done
@@ -51,6 +52,7 @@ module _ {X : Type 0} (read : X → Option TableReading) where
         merged = one.merged ∙ ap (λ es. done ++ es) two.merged
             ∙ sym (append_assoc done (e ∷ []) (merge_of (tables_of two.after)));
         faults = two.faults ∙ one.faults;
+        places = two.places ∙ one.places;
       }
 
 -- ---- the end
@@ -87,8 +89,14 @@ module _ {X : Type 0} (read : X → Option TableReading) (readings : List TableR
     (taken : HasTaken read readings texts done) where
   -- a fault of what is left is one of all
   fault-of-all : (fault : JoinFault) → IsStepFault taken.after fault → IsJoinFault readings fault
-  fault-of-all (Text text fault) is = ap (λ faults. slice_get faults text) (sym taken.faults) ∙ is
-  fault-of-all TooMany is = (is.0, sum-more is.0 readings taken.after done all taken.listings taken.merged is.1)
+  fault-of-all (Text text fault) is = record {
+    has = ap (λ faults. slice_get faults text) (sym taken.faults) ∙ is.has;
+    first = subst (λ places. IsFirstPlace places text) taken.places is.first;
+  }
+  fault-of-all (TooMany k) is = (
+    sum-more k readings taken.after done all taken.listings taken.merged is.0,
+    subst (AreNoneBefore k) taken.places is.1,
+  )
   fault-of-all TooLong is = absurd is
   fault-of-all Memory is = tt
   fault-of-all Write is = absurd is

@@ -7,8 +7,10 @@ use Rattle.cell_stats_combinations.specs.Combinations.{Combination}
 use Rattle.cell_stats.specs.TableText.{FormatValue}
 use Rattle.cell_tiles_lines.specs.LineReading.{TableReading, reading_of, stopped}
 use Rattle.cell_tiles_lines.specs.declared.table_fault.TableFault.{TableFault}
-use Rattle.cell_tiles_texts.specs.JoinedTexts.{Give, HasFault, first_entry, readings_from, readings_of, width_behind}
+use Rattle.cell_tiles_texts.specs.JoinedTexts.{Give, IsFirstFault, IsFirstPlace, fault_place, first_entry}
+use Rattle.cell_tiles_texts.specs.JoinedTexts.{readings_from, readings_of, width_behind}
 use Rattle.cell_tiles_texts.specs.parts.MergeEnds.{HasOpened}
+use Rattle.cell_tiles_texts.proofs.FaultOrderLemmas.{GoesOn, all-on, opening-first}
 
 pub no-more : {A : Type 0} (xs : List A) → length xs ≡ 0 → xs ≡ []
 no-more [] none = refl
@@ -70,12 +72,13 @@ module _ {R X : Type 0} (coming : R → Option Coming) (read : X → Option Tabl
     opened-more text head same heads = more source left texts text width head opened.others opened.first comings given
         opened.known opened.whole same heads
 
-    refused : (others : List Coming) (fault : TableFault) → Give coming (source ∷ left) others
+    refused : ((x : X) (r : TableReading) → read x ≡ Some r → GoesOn r) → (others : List Coming) (fault : TableFault)
+        → Give coming (source ∷ left) others
         → readings_of format comings ≡ opened.first ++ readings_from format width others
         → IfSome (coming source) (λ c. reading_of format width c ≡ stopped fault.line fault.kind)
-        → HasFault (readings_of format comings) (length texts) fault
-    refused [] fault give whole stops = cc
-    refused (c ∷ others) fault give whole stops =
+        → IsFirstFault (readings_of format comings) (length texts) fault
+    refused on [] fault give whole stops = cc
+    refused on (c ∷ others) fault give whole stops =
         let one : coming source ≡ Some c = cc in
         let r : TableReading = reading_of format width c in
         let stop : r ≡ stopped fault.line fault.kind = known-one (coming source) c
@@ -85,17 +88,30 @@ module _ {R X : Type 0} (coming : R → Option Coming) (read : X → Option Tabl
         let long : length texts ≡ length (faults opened.first) =
         sym (length-map texts read) ∙ ap length opened.known ∙ length-map opened.first (λ (x : TableReading). Some x)
         ∙ sym (length-map opened.first (λ (x : TableReading). x.fault)) in
-        ap (λ rs. slice_get (faults rs) (length texts)) whole
-        ∙ ap (λ fs. slice_get fs (length texts)) (map-append (λ (x : TableReading). x.fault) opened.first (r ∷ rest))
-        ∙ ap (λ n. slice_get (faults opened.first ++ r.fault ∷ faults rest) n) long
-        ∙ slice-behind (faults opened.first) (faults rest) r.fault
-        ∙ ap (λ (x : TableReading). Some x.fault) stop
+        let many : length texts ≡ length (map fault_place opened.first) =
+        sym (length-map texts read) ∙ ap length opened.known ∙ length-map opened.first (λ (x : TableReading). Some x)
+        ∙ sym (length-map opened.first fault_place) in
+        let places : map fault_place (readings_of format comings)
+        ≡ map fault_place opened.first ++ fault_place r ∷ map fault_place rest =
+        ap (map fault_place) whole ∙ map-append fault_place opened.first (r ∷ rest) in
+        record {
+          has = ap (λ rs. slice_get (faults rs) (length texts)) whole
+              ∙ ap (λ fs. slice_get fs (length texts))
+              (map-append (λ (x : TableReading). x.fault) opened.first (r ∷ rest))
+              ∙ ap (λ n. slice_get (faults opened.first ++ r.fault ∷ faults rest) n) long
+              ∙ slice-behind (faults opened.first) (faults rest) r.fault
+              ∙ ap (λ (x : TableReading). Some x.fault) stop;
+          first = subst (λ ps. IsFirstPlace ps (length texts)) (sym places)
+              (subst (λ (n : ℕ). IsFirstPlace (map fault_place opened.first ++ fault_place r ∷ map fault_place rest) n)
+              (sym many) (opening-first opened.first rest r (all-on read on texts opened.first opened.known)
+              (ap fault_place stop)));
+        }
 
     -- one that is refused
-    pub opened-refused : (fault : TableFault)
+    pub opened-refused : ((x : X) (r : TableReading) → read x ≡ Some r → GoesOn r) → (fault : TableFault)
         → IfSome (coming source) (λ c. reading_of format width c ≡ stopped fault.line fault.kind)
-        → HasFault (readings_of format comings) (length texts) fault
-    opened-refused fault stops = refused opened.others fault given opened.whole stops
+        → IsFirstFault (readings_of format comings) (length texts) fault
+    opened-refused on fault stops = refused on opened.others fault given opened.whole stops
 
   -- all of them
   pub opened-all : (left : List R) (texts : List X) (width : ℕ) (comings : List Coming) → left ≡ []

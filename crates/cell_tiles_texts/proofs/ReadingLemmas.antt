@@ -13,7 +13,7 @@ use Rattle.cell_core_text.specs.Answers.{◌>>=◌}
 use Rattle.cell_stats_combinations.specs.Combinations.{Combination, combination_cmp, combination_cmp_total}
 use Rattle.cell_stats.specs.CategoryTables.{Pairs}
 use Rattle.cell_stats.specs.TableText.{FormatValue}
-use Rattle.cell_tiles_lines.specs.LineFields.{capped_value, cell_before, cell_of_field, count_of_field, entry_of_fields, entry_of_line, with_count}
+use Rattle.cell_tiles_lines.specs.LineFields.{capped_value, cell_before, cell_of_field, count_of_field, entry_of_fields, entry_of_labelled, entry_of_line, labelled_cell, labelled_entry_of_line, spelled_entry, with_count}
 use Rattle.cell_tiles_lines.specs.LineReading.{TableReading, at_text_end, in_order, is_as_wide, is_line_feed, line_after, next_entry, ordered_entry, reading_of, reading_of_lines, reading_of_rest, stopped, then_reads}
 use Rattle.cell_tiles_lines.specs.declared.table_fault.TableKind.{TableKind}
 use Rattle.cell_tiles_lines.specs.declared.table_fault.TableKind.TheVariants.{BadWidth, LongLine}
@@ -48,6 +48,25 @@ positive null_text (field ∷ []) e is = counted (bytes_eq (decimal (capped_valu
     (nat_lt 0 (capped_value field)) (capped_value field) e (ltb-true 0 (capped_value field)) is
 positive null_text (field ∷ next ∷ fields) e is = before (cell_of_field null_text field)
     (entry_of_fields null_text (next ∷ fields)) (positive null_text (next ∷ fields)) e is
+
+positive-labelled : (null_text : List ℕ) (fields : List (List ℕ)) (e : Combination × ℕ)
+    → entry_of_labelled null_text fields ≡ Ok e → 0 < e.1
+positive-labelled null_text [] e is = cc
+positive-labelled null_text (field ∷ []) e is = counted (bytes_eq (decimal (capped_value field)) field)
+    (nat_lt 0 (capped_value field)) (capped_value field) e (ltb-true 0 (capped_value field)) is
+positive-labelled null_text (field ∷ label ∷ []) e is = cc
+positive-labelled null_text (field ∷ label ∷ next ∷ fields) e is = before (labelled_cell null_text field label)
+    (entry_of_labelled null_text (next ∷ fields)) (positive-labelled null_text (next ∷ fields)) e is
+
+spelled-positive : (format : FormatValue) (line : List ℕ) (e : Combination × ℕ) → spelled_entry format line ≡ Ok e
+    → 0 < e.1
+spelled-positive format line e is = by format.labels is
+  where
+    by : (t : Bool)
+        → cond t (labelled_entry_of_line format.separator format.null_text line)
+        (entry_of_line format.separator format.null_text line) ≡ Ok e → 0 < e.1
+    by true so = positive-labelled format.null_text (slice_split (λ b. b == format.separator) line) e so
+    by false so = positive format.null_text (slice_split (λ b. b == format.separator) line) e so
 
 -- ---- an entry is greater than the one before it
 
@@ -87,8 +106,7 @@ read-so width last (Ok x) above e is =
 next-so : (format : FormatValue) (width : ℕ) (last : Option Combination) (line : List ℕ) (e : Combination × ℕ)
     → next_entry format width last line ≡ Ok e → (0 < e.1) × Follows last e.0
 next-so format width last line e is =
-    read-so width last (entry_of_line format.separator format.null_text line)
-    (positive format.null_text (slice_split (λ b. b == format.separator) line)) e is
+    read-so width last (spelled_entry format line) (spelled-positive format line) e is
 
 -- ---- entries behind a combination, if there is one
 

@@ -17,12 +17,13 @@ use Rattle.cell_tiles_lines.specs.LineReading.{TableReading, ended}
 use Rattle.cell_tiles_lines.specs.TextReading.{TextValue, reading_from, reading_from_head}
 use Rattle.cell_tiles_merging.specs.Merging.{IsListing}
 use Rattle.cell_tiles_merging.proofs.ListingLemmas.{beside-merge}
-use Rattle.cell_tiles_texts.specs.JoinedTexts.{first_entry, tables_of}
+use Rattle.cell_tiles_texts.specs.JoinedTexts.{IsFaultyAtOnce, first_entry, tables_of}
 use Rattle.cell_tiles_texts.specs.MergedTables.{BeginsAbove, BeginsAt, first_count, merge_of, put_first, total_in}
 use Rattle.cell_tiles_texts.specs.parts.Steps.{sum_if_any, head_count, is_of, past, past_first, sum_of_counts}
 use Rattle.cell_tiles_texts.specs.parts.Taking.{HasTaken, IsStepFault, IsFaultOfText}
 use Rattle.cell_tiles_texts.specs.declared.join_fault.JoinFault.{JoinFault}
 use Rattle.cell_tiles_texts.specs.declared.join_fault.JoinFault.TheVariants.{Text, TooMany, TooLong, Memory, Write}
+use Rattle.cell_tiles_texts.proofs.FaultOrderLemmas.{all-on, none-before, places-kept, stops-first}
 use Rattle.cell_tiles_texts.proofs.StepLemmas.{least-first, merges-all}
 
 -- ---- counts that may be, from either end
@@ -123,6 +124,31 @@ end-by format text None None r none is = cc
 end-by format text None (Some coming) r none is = cc
 end-by format text (Some entry) o r none is = cc
 
+-- a text of which the first entry was read has no fault before it
+pub no-entry : (format : FormatValue) (text : TextValue) (r : TableReading) → reading_from format text ≡ Some r
+    → r.entries ≡ [] → r.fault ≡ None
+no-entry format text r is none =
+    let head : text.head ≡ None = sym (head-read format text r is) ∙ ap first_entry none in
+    ap (λ (x : TableReading). x.fault) (end-by format text text.head text.coming r head is)
+
+not-at : (format : FormatValue) (texts : List TextValue) (readings : List TableReading)
+    → map (λ text. reading_from format text) texts ≡ map Some readings → (i : ℕ) (reading : TableReading)
+    → i < length readings → get_or readings i reading ≡ reading → IsFaultyAtOnce reading → ⊥
+not-at format texts [] known i reading within at faulty = absurd (omega (arith, within))
+not-at format [] (r ∷ rs) known i reading within at faulty = cc
+not-at format (x ∷ xs) (r ∷ rs) known zero reading within at faulty =
+    let one : reading_from format x ≡ Some r = cc in
+    faulty.1 (no-entry format x reading (one ∙ ap Some at) faulty.0)
+not-at format (x ∷ xs) (r ∷ rs) known (suc i) reading within at faulty =
+    let rest : map (λ text. reading_from format text) xs ≡ map Some rs = cc in
+    not-at format xs rs rest i reading (omega (arith, within)) at faulty
+
+pub not-at-once : (format : FormatValue) (texts : List TextValue) (readings : List TableReading)
+    → map (λ text. reading_from format text) texts ≡ map Some readings → (reading : TableReading)
+    → Contains readings reading → IsFaultyAtOnce reading → ⊥
+not-at-once format texts readings known reading at faulty =
+    not-at format texts readings known at.0 reading at.1 at.2 faulty
+
 module _ (format : FormatValue) (k : Combination) where
   abbrev read : TextValue → Option TableReading
   read text = reading_from format text
@@ -194,6 +220,7 @@ module _ (format : FormatValue) (k : Combination) where
     merged = merged-known old readings known least all
         ∙ ap (λ o. put_first k o (merge_of (tables_of (map (past k) readings)))) (sym total);
     faults = past-faults k readings;
+    places = places-kept read (no-entry format) k new readings (taken ∙ past-known old readings known);
   }
 
   -- what is beyond 64 bits at the heads is so in all
@@ -272,12 +299,19 @@ own-counted k texts own none = at-place k texts own.0 None own.1 own.2 none
 pub step-fault : (format : FormatValue) (k : Combination) (texts : List TextValue) (fault : JoinFault)
     (readings : List TableReading) → map (λ text. reading_from format text) texts ≡ map Some readings
     → All (λ text. IfSome text.head (λ entry. combination_cmp entry.0 k ≢ Less)) texts
-    → AllByRecursion IsListing (tables_of readings) → IsFaultOfText readings fault
-    → (fault ≡ TooMany → 2 ^ 64 ≤ unwrap_or
-    (sum_of_counts (map (λ (text : TextValue). head_count k text.head) texts)) 0) → IsStepFault readings fault
-step-fault format k texts (Text text fault) readings known least all is high = is
-step-fault format k texts TooMany readings known least all is high =
-    (k, beyond-all format k texts readings known least all (high refl))
+    → AllByRecursion IsListing (tables_of readings) → IsFaultOfText k readings fault
+    → ((j : Combination) → fault ≡ TooMany j → (j ≡ k) × (2 ^ 64 ≤ unwrap_or
+    (sum_of_counts (map (λ (text : TextValue). head_count k text.head) texts)) 0)) → IsStepFault readings fault
+step-fault format k texts (Text text fault) readings known least all is high =
+    stops-first k readings (all-on (λ text. reading_from format text) (no-entry format) texts readings known)
+    (begins format k texts readings known least all) all text fault is
+step-fault format k texts (TooMany j) readings known least all is high =
+    let so = high j refl in
+    subst (λ (c : Combination). IsStepFault readings (TooMany c)) (sym so.0) (
+      beyond-all format k texts readings known least all so.1,
+      none-before k readings (all-on (λ text. reading_from format text) (no-entry format) texts readings known)
+          (begins format k texts readings known least all) all,
+    )
 step-fault format k texts TooLong readings known least all is high = is
 step-fault format k texts Memory readings known least all is high = tt
 step-fault format k texts Write readings known least all is high = is

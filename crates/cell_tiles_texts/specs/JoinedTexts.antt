@@ -1,9 +1,10 @@
 -- Texts of tables joined to one: what they are read as, and what is written of it.
-use Rattle.std.specs.Prelude.{ℕ, ◌≡◌, ◌<◌, ◌≤◌, ◌-◌, ◌^◌, ◌==◌, List, [], ◌∷◌, ◌++◌, All, length, map, sum_by, slice_get, Option, Some, None, if◌then◌else◌}
+use Rattle.std.specs.Prelude.{ℕ, ◌≡◌, ◌≢◌, ◌<◌, ◌≤◌, ◌-◌, ◌^◌, ◌==◌, ◌⊎◌, List, [], ◌∷◌, ◌++◌, All, length, map, sum_by, slice_get, Option, Some, None, option_map, if◌then◌else◌}
 use Rattle.std.specs.List.{AllByRecursion}
+use Rattle.std.specs.declared.cmp.Ordering.TheVariants.{Less}
 use Rattle.cell_core_devices.specs.Blocks.{capped_count}
 use Rattle.cell_core_devices.specs.Device.{Coming, append_known}
-use Rattle.cell_stats_combinations.specs.Combinations.{Combination}
+use Rattle.cell_stats_combinations.specs.Combinations.{Combination, combination_cmp}
 use Rattle.cell_stats.specs.CategoryTables.{Pairs}
 use Rattle.cell_stats.specs.TableText.{FormatValue}
 use Rattle.cell_tiles_law.specs.TableParts.{IsMerge, count_in}
@@ -45,6 +46,41 @@ tables_of readings = map (λ reading. reading.entries) readings
 abbrev pub HasFault : List TableReading → ℕ → TableFault → Type 0
 HasFault readings text fault = slice_get (map (λ reading. reading.fault) readings) text ≡ Some (Some fault)
 
+-- the combination of the last entry, if there is one
+abbrev pub last_combination : Pairs → Option Combination
+last_combination [] = None
+last_combination (entry ∷ []) = Some entry.0
+last_combination (entry ∷ next ∷ entries) = last_combination (next ∷ entries)
+
+-- behind which combination a fault stands, if there is a fault, and a combination before it
+abbrev pub fault_place : TableReading → Option (Option Combination)
+fault_place reading = option_map (λ fault. last_combination reading.entries) reading.fault
+
+-- a fault behind a combination, of a text, is met no later than one behind another, of another text: before all is one that
+-- has no combination before it, then that behind the least, and of two behind the same that of the first text
+abbrev pub IsMetFirst : Option Combination → Option Combination → (text other : ℕ) → Type 0
+IsMetFirst None None text other = text ≤ other
+IsMetFirst None (Some another) text other = Unit {0}
+IsMetFirst (Some k) None text other = ⊥
+IsMetFirst (Some k) (Some another) text other = (combination_cmp k another ≡ Less) ⊎ ((k ≡ another) × (text ≤ other))
+
+-- by these places of faults, that of a text is met first
+abbrev pub IsFirstPlace : List (Option (Option Combination)) → ℕ → Type 0
+IsFirstPlace places text = (other : ℕ) (own another : Option Combination) → slice_get places text ≡ Some (Some own) → slice_get places other ≡ Some (Some another) → IsMetFirst own another text other
+
+-- no fault stands behind a lesser combination than this
+abbrev pub AreNoneBefore : Combination → List (Option (Option Combination)) → Type 0
+AreNoneBefore k places = (other : ℕ) (another : Option Combination) → slice_get places other ≡ Some (Some another) → (j : Combination) × ((another ≡ Some j) × (combination_cmp j k ≢ Less))
+
+-- the text at this place has this first fault, and of all texts' faults it is met first
+pub record IsFirstFault (readings : List TableReading) (text : ℕ) (fault : TableFault) : Type 0 where
+  pub has : HasFault readings text fault
+  pub first : IsFirstPlace (map fault_place readings) text
+
+-- a text with a fault before its first entry
+abbrev pub IsFaultyAtOnce : TableReading → Type 0
+IsFaultyAtOnce reading = (reading.entries ≡ []) × (reading.fault ≢ None)
+
 -- each text is a table to its end
 abbrev pub AreTables : List TableReading → Type 0
 AreTables readings = AllByRecursion (λ fault. fault ≡ None) (map (λ reading. reading.fault) readings)
@@ -55,8 +91,8 @@ Give coming sources texts = map coming sources ≡ map Some texts
 
 -- why the texts are not joined; of being out of memory and of a failed write nothing is said of the texts
 abbrev pub IsJoinFault : List TableReading → JoinFault → Type 0
-IsJoinFault readings (Text text fault) = HasFault readings text fault
-IsJoinFault readings TooMany = (k : Combination) × (2 ^ 64 ≤ sum_by (count_in k) (tables_of readings))
+IsJoinFault readings (Text text fault) = IsFirstFault readings text fault
+IsJoinFault readings (TooMany k) = (2 ^ 64 ≤ sum_by (count_in k) (tables_of readings)) × AreNoneBefore k (map fault_place readings)
 IsJoinFault readings TooLong = 2 ^ 64 - 1 ≤ length (merge_of (tables_of readings))
 IsJoinFault readings Memory = Unit {0}
 IsJoinFault readings Write = Unit {0}
@@ -97,7 +133,7 @@ pub record HasPrefix (format : FormatValue) (readings : List TableReading) (befo
 -- what was written where the texts are not joined: whole lines, but a prefix where a write failed
 abbrev pub HasWritten : FormatValue → List TableReading → Option (List ℕ) → Option (List ℕ) → ℕ → JoinFault → Type 0
 HasWritten format readings before now written (Text text fault) = HasLines format readings before now written
-HasWritten format readings before now written TooMany = HasLines format readings before now written
+HasWritten format readings before now written (TooMany k) = HasLines format readings before now written
 HasWritten format readings before now written TooLong = HasLines format readings before now written
 HasWritten format readings before now written Memory = HasLines format readings before now written
 HasWritten format readings before now written Write = HasPrefix format readings before now written

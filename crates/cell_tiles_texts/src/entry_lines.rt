@@ -39,7 +39,7 @@ fn write_count<W: Sink>(out: &mut W, block: &mut OutputBlock, count: u64)
     block.push(out, Buffer::new().format(count).as_bytes());
 }
 
-/// Writes the line of an entry. TakesEntries no memory.
+/// Writes the line of an entry. Takes no memory.
 pub(crate) fn write_entry<W: Sink>(
     out: &mut W,
     block: &mut OutputBlock,

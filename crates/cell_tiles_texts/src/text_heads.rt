@@ -3,9 +3,10 @@
 ghost use Rattle.std.specs.Prelude.{◌≡◌, ◌≢◌, ◌≤◌, ◌^◌, List, All, MatchOption, None, Some, Err, IfOk, IfErr, IfSome, OnOk, map, option_map, unwrap_or};
 ghost use Rattle.std.specs.List.{Contains};
 ghost use Rattle.std.specs.declared.cmp.Ordering.TheVariants.{Less};
-ghost use Rattle.cell_stats_combinations.specs.Combinations.{combination_cmp};
+ghost use Rattle.cell_stats_combinations.specs.Combinations.{Combination, combination_cmp};
 ghost use Rattle.cell_tiles_lines.specs.LineReading.{TableReading};
 ghost use Rattle.cell_tiles_lines.specs.TextReading.{combination_of, reading_from};
+ghost use Rattle.cell_tiles_texts.specs.JoinedTexts.{last_combination};
 ghost use Rattle.cell_tiles_texts.specs.parts.Steps.{IsBeyondCounts, sum_if_any, head_count, lesser_of, past, sum_of_counts};
 ghost use Rattle.cell_tiles_texts.specs.parts.Taking.{IsFaultOfText};
 
@@ -28,7 +29,7 @@ fn count_at(head: &Option<(Combo, u64)>, combo: &Combo) -> Option<u64>
     }
 }
 
-// TakesEntries the head of a text, where it is of the combination, and tells its count.
+// Takes the head of a text, where it is of the combination, and tells its count.
 fn take<R: Source>(
     alloc: Global,
     format: &Format,
@@ -39,7 +40,8 @@ fn take<R: Source>(
     ensures taken { OnOk result (reading_from format.now text.new
         ≡ option_map (past combo.now) (reading_from format.now text.old)) }
     ensures fault { IfErr result (λ fault. fault.kind ≢ TableKind.Memory
-        → IfSome (reading_from format.now text.old) (λ reading. reading.fault ≡ Some fault)) }
+        → IfSome (reading_from format.now text.old) (λ reading. (reading.fault ≡ Some fault)
+        × (last_combination reading.entries ≡ Some combo.now))) }
 {
     match count_at(text.head(), combo) {
         Some(count) => match text.next(alloc, format) {
@@ -95,7 +97,19 @@ fn add(total: Option<u64>, count: Option<u64>) -> Option<Option<u64>>
     }
 }
 
-/// TakesEntries the heads that are of the combination, and tells their counts together; None where there are none.
+// The fault of counts beyond 64 bits, or of memory.
+fn too_many(alloc: Global, combo: &Combo) -> JoinFault
+    ensures fault { (readings : List TableReading) → IsFaultOfText combo.now readings result }
+    ensures many { (k : Combination) → result ≡ JoinFault.TooMany k → k ≡ combo.now }
+    ensures unwritten { result ≢ JoinFault.Write }
+{
+    match Combo::from_cells(alloc, combo.cells()) {
+        Ok(copy) => JoinFault::TooMany(copy),
+        Err(_) => JoinFault::Memory,
+    }
+}
+
+/// Takes the heads that are of the combination, and tells their counts together; None where there are none.
 ///
 /// # Errors
 ///
@@ -113,10 +127,11 @@ pub(crate) fn take_all<R: Source>(
         ≡ map (λ text. option_map (past combo.now) (reading_from format.now text)) texts.old) }
     ensures fault { (readings : List TableReading)
         → map (λ text. reading_from format.now text) texts.old ≡ map Some readings
-        → IfErr result (IsFaultOfText readings) }
+        → IfErr result (IsFaultOfText combo.now readings) }
     ensures unwritten { IfErr result (λ fault. fault ≢ JoinFault.Write) }
-    ensures beyond { result ≡ Err JoinFault.TooMany → 2 ^ 64
-        ≤ unwrap_or (sum_of_counts (map (λ text. head_count combo.now text.head) texts.old)) 0 }
+    ensures beyond { (k : Combination) → result ≡ Err (JoinFault.TooMany k) → (k ≡ combo.now)
+        × (2 ^ 64
+        ≤ unwrap_or (sum_of_counts (map (λ text. head_count combo.now text.head) texts.old)) 0) }
 {
     let mut total = None;
     'texts: for text in 0..texts.len() {
@@ -126,7 +141,7 @@ pub(crate) fn take_all<R: Source>(
         };
         match add(total, count) {
             Some(sum) => total = sum,
-            None => return Err(JoinFault::TooMany),
+            None => return Err(too_many(alloc, combo)),
         }
     }
     Ok(total)

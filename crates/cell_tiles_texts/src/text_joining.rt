@@ -7,9 +7,10 @@ ghost use Rattle.cell_stats_combinations.specs.Combinations.{combination_cmp};
 ghost use Rattle.cell_stats.specs.CategoryTables.{Pairs};
 ghost use Rattle.cell_core_devices.specs.Blocks.{Appends};
 ghost use Rattle.cell_core_devices.specs.Device.{Coming, append_known, has_failed};
+ghost use Rattle.cell_tiles_lines.specs.LineReading.{TableReading};
 ghost use Rattle.cell_tiles_lines.specs.TableLines.{entries_text};
 ghost use Rattle.cell_tiles_lines.specs.TextReading.{combination_of, reading_from};
-ghost use Rattle.cell_tiles_texts.specs.JoinedTexts.{Give, HasWritten, AreJoinedTexts, IsJoinFault, IsMergeOf, readings_of, width_behind};
+ghost use Rattle.cell_tiles_texts.specs.JoinedTexts.{Give, HasWritten, AreJoinedTexts, IsFaultyAtOnce, IsJoinFault, IsMergeOf, readings_of, width_behind};
 ghost use Rattle.cell_tiles_texts.specs.parts.MergeEnds.{AreEnded, HasStepped, IsAnswered, IsMergeEnd, IsOpeningFault, settled};
 ghost use Rattle.cell_tiles_texts.specs.parts.Taking.{StepFails};
 
@@ -25,7 +26,7 @@ use cell_tiles_lines::text::TableText;
 use std::alloc::Global;
 
 /// What joining texts did.
-#[derive(Clone, Copy, Debug, PartialEq, Eq)]
+#[derive(Debug, Drop)]
 pub struct JoinOutcome {
     /// The number of bytes that the sink took, or the greatest `u64` where it took more.
     pub written: u64,
@@ -94,7 +95,7 @@ fn least_copy<R: Source>(alloc: Global, texts: &[TableText<R>]) -> Result<Option
     }
 }
 
-// TakesEntries the least entry of all, writes its line, and tells whether there was one.
+// Takes the least entry of all, writes its line, and tells whether there was one.
 fn write_least<R: Source, W: Sink>(
     alloc: Global,
     format: &Format,
@@ -207,13 +208,20 @@ pub fn join_texts<R: Source + Drop, W: Sink>(
         → result.fault ≡ None
         → AreJoinedTexts format.now (readings_of format.now texts) (W.taken out.old) (W.taken out.new)
         result.written }
-    // A fault of a text is its first one; counts or entries that are too many are those of the merge.
+    // A fault of a text is its first one, and of all texts' faults it stands behind the least combination, or behind none, and
+    // of those in the first text; counts or entries that are too many are those of the merge, and no fault stands behind a
+    // lesser combination than one whose counts are.
     ensures fault { (texts : List Coming) → Give R.coming sources.items texts
         → IfSome result.fault (IsJoinFault (readings_of format.now texts)) }
     // With a fault the sink has taken the lines of the first entries, or a prefix of the text where a write failed.
     ensures written { (texts : List Coming) → Give R.coming sources.items texts
         → IfSome result.fault (HasWritten format.now (readings_of format.now texts)
         (W.taken out.old) (W.taken out.new) result.written) }
+    // Where the first line of a text is faulty, the sink is not called.
+    ensures untouched { (texts : List Coming) (reading : TableReading)
+        → Give R.coming sources.items texts
+        → Contains (readings_of format.now texts) reading → IsFaultyAtOnce reading
+        → out.new ≡ out.old }
     // Of a sink that had not failed before, no fault comes only where it did not fail, and Write only where it failed.
     ensures sound { result.fault ≡ None → W.faults out.new ≡ W.faults out.old }
     ensures write { result.fault ≡ Some JoinFault.Write

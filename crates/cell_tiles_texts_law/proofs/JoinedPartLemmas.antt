@@ -72,7 +72,7 @@ module _ (format : FormatValue) (picks : List ℕ) (can : CanBeReadBack format p
       (part-of-cells whole part.maps cells part.place lies.is picks) format can (omega (arith, area, small)) in
       ap (λ (text : List ℕ). reading_of format wanted (record { bytes = text; fails = false }))
       (prints-as-tables format part.maps picks (entries_of part) can.labels can.counts (part-wide part lies))
-      ∙ printed-reads format wanted (length picks) (entries_of part) can.clear can.some may printed
+      ∙ printed-reads format wanted (length picks) (entries_of part) can.clear can.labels can.some may printed
       (table_of-IsTable skip (combinations_of_part picks part)).ascending
 
   parts-read : (parts : List Part) → All LiesIn parts → (wanted : ℕ) → MayWant (length picks) wanted

@@ -23,7 +23,7 @@ refusal_source paths (refusals.File file) = path_at_place paths file
 -- what a fault belongs to: a text's path, `output`, or `tables` when out of memory
 abbrev pub fault_source : List (List ℕ) → JoinFault → List ℕ
 fault_source paths (Text text fault) = path_at_place paths text
-fault_source paths TooMany = codes "output"
+fault_source paths (TooMany k) = codes "output"
 fault_source paths TooLong = codes "output"
 fault_source paths Memory = codes "tables"
 fault_source paths Write = codes "output"
@@ -36,7 +36,7 @@ fault_line_number fault = 0
 -- the text of a fault, after so many bytes were written
 abbrev pub text_of : ℕ → JoinFault → FaultText
 text_of written (Text text fault) = texts.Text fault.kind
-text_of written TooMany = texts.TooMany
+text_of written (TooMany k) = texts.TooMany (record { combo = k })
 text_of written TooLong = texts.TooLong
 text_of written Memory = texts.Memory
 text_of written Write = texts.Write written
@@ -50,7 +50,7 @@ text_status kind = 1
 -- the exit status of a fault
 abbrev pub fault_status : JoinFault → ℕ
 fault_status (Text text fault) = text_status fault.kind
-fault_status TooMany = 1
+fault_status (TooMany k) = 1
 fault_status TooLong = 1
 fault_status Memory = 3
 fault_status Write = 4

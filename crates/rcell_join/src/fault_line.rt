@@ -3,6 +3,7 @@
 ghost use Rattle.std.specs.Prelude.{◌≡◌, is_some, IfSome, map};
 ghost use Rattle.rcell_join.specs.FaultLines.{fault_line_number, fault_source, fault_status, path_at_place, refusal_source, status_after, text_of, text_status};
 
+use cell_stats_combinations::combination::Combo;
 use cell_tiles_lines::table_fault::TableKind;
 use cell_tiles_texts::join_fault::JoinFault;
 use cell_tiles_texts::text_joining::JoinOutcome;
@@ -10,13 +11,32 @@ use rcell_join_request::refusal::Refusal;
 use std::fmt;
 use thiserror::Error;
 
+/// The cells of a combination, with a blank between two of them, and `*` for null.
+#[derive(Debug, Drop)]
+pub struct CellList {
+    combo: Combo,
+}
+
+impl fmt::Display for CellList {
+    fn fmt<W: fmt::Write>(&self, f: &mut fmt::Formatter<W>) -> fmt::Result {
+        for (i, cell) in self.combo.cells().iter().enumerate() {
+            let blank = if i == 0 { "" } else { " " };
+            match cell.get() {
+                Some(category) => write!(f, "{blank}{category}")?,
+                None => write!(f, "{blank}*")?,
+            }
+        }
+        Ok(())
+    }
+}
+
 /// What a fault of a join says.
-#[derive(Clone, Copy, Debug, PartialEq, Eq, Error)]
+#[derive(Debug, Drop, Error)]
 pub enum FaultText {
     #[error(transparent)]
     Text(TableKind),
-    #[error("count too great")]
-    TooMany,
+    #[error("count too great for {0}")]
+    TooMany(CellList),
     #[error("table too long")]
     TooLong,
     #[error("no memory")]
@@ -26,7 +46,7 @@ pub enum FaultText {
 }
 
 /// A line `rcell-join: SOURCE:LINE: TEXT` (profile); the line is 0 where the fault belongs to none.
-#[derive(Clone, Copy, Debug)]
+#[derive(Debug, Drop)]
 pub struct FaultLine<'a, T> {
     pub source: &'a str,
     pub line: u64,
@@ -76,20 +96,20 @@ pub fn refusal_line<'a>(refusal: Refusal, paths: &[&'a str]) -> FaultLine<'a, Re
     }
 }
 
-fn fault_source<'a>(paths: &[&'a str], fault: JoinFault) -> &'a str
-    ensures { result.now ≡ fault_source (map (λ path. path.now) paths.now) fault }
+fn fault_source<'a>(paths: &[&'a str], fault: &JoinFault) -> &'a str
+    ensures { result.now ≡ fault_source (map (λ path. path.now) paths.now) fault.now }
 {
     match fault {
-        JoinFault::Text { text, .. } => path_at(paths, text),
-        JoinFault::TooMany => "output",
+        JoinFault::Text { text, .. } => path_at(paths, *text),
+        JoinFault::TooMany(_) => "output",
         JoinFault::TooLong => "output",
         JoinFault::Memory => "tables",
         JoinFault::Write => "output",
     }
 }
 
-fn fault_line_number(fault: JoinFault) -> u64
-    ensures { result ≡ fault_line_number fault }
+fn fault_line_number(fault: &JoinFault) -> u64
+    ensures { result ≡ fault_line_number fault.now }
 {
     match fault {
         JoinFault::Text { text: _, fault } => fault.line,
@@ -102,7 +122,7 @@ fn text_of(written: u64, fault: JoinFault) -> FaultText
 {
     match fault {
         JoinFault::Text { text: _, fault } => FaultText::Text(fault.kind),
-        JoinFault::TooMany => FaultText::TooMany,
+        JoinFault::TooMany(combo) => FaultText::TooMany(CellList { combo }),
         JoinFault::TooLong => FaultText::TooLong,
         JoinFault::Memory => FaultText::Memory,
         JoinFault::Write => FaultText::Write { written },
@@ -110,23 +130,24 @@ fn text_of(written: u64, fault: JoinFault) -> FaultText
 }
 
 /// The line that tells the fault of a join, by the paths of the texts; None where there is no fault.
-pub fn fault_line<'a>(outcome: &JoinOutcome, paths: &[&'a str]) -> Option<FaultLine<'a, FaultText>>
-    ensures told { is_some result ≡ is_some outcome.now.fault }
-    ensures source { IfSome result (λ told. IfSome outcome.now.fault (λ fault. told.source.now
+pub fn fault_line<'a>(outcome: JoinOutcome, paths: &[&'a str]) -> Option<FaultLine<'a, FaultText>>
+    ensures told { is_some result ≡ is_some outcome.fault }
+    ensures source { IfSome result (λ told. IfSome outcome.fault (λ fault. told.source.now
         ≡ fault_source (map (λ path. path.now) paths.now) fault)) }
-    ensures line { IfSome result (λ told. IfSome outcome.now.fault
+    ensures line { IfSome result (λ told. IfSome outcome.fault
         (λ fault. told.line ≡ fault_line_number fault)) }
-    ensures text { IfSome result (λ told. IfSome outcome.now.fault (λ fault. told.text
-        ≡ text_of outcome.now.written fault)) }
+    ensures text { IfSome result (λ told. IfSome outcome.fault (λ fault. told.text
+        ≡ text_of outcome.written fault)) }
 {
-    match outcome.fault {
-        Some(fault) => Some(FaultLine {
-            source: fault_source(paths, fault),
-            line: fault_line_number(fault),
-            text: text_of(outcome.written, fault),
-        }),
-        None => None,
-    }
+    let JoinOutcome { written, fault } = outcome;
+    let fault = fault?;
+    let source = fault_source(paths, &fault);
+    let line = fault_line_number(&fault);
+    Some(FaultLine {
+        source,
+        line,
+        text: text_of(written, fault),
+    })
 }
 
 fn text_status(kind: TableKind) -> u8
@@ -139,12 +160,12 @@ fn text_status(kind: TableKind) -> u8
     }
 }
 
-fn fault_status(fault: JoinFault) -> u8
-    ensures { result ≡ fault_status fault }
+fn fault_status(fault: &JoinFault) -> u8
+    ensures { result ≡ fault_status fault.now }
 {
     match fault {
         JoinFault::Text { text: _, fault } => text_status(fault.kind),
-        JoinFault::TooMany => 1,
+        JoinFault::TooMany(_) => 1,
         JoinFault::TooLong => 1,
         JoinFault::Memory => 3,
         JoinFault::Write => 4,
@@ -152,8 +173,8 @@ fn fault_status(fault: JoinFault) -> u8
 }
 
 /// The exit status: 0 without a fault, 1 where a text was refused, 3 when out of memory, 4 where a read or a write failed.
-pub fn status_of(fault: Option<JoinFault>) -> u8
-    ensures { result ≡ status_after fault }
+pub fn status_of(fault: &Option<JoinFault>) -> u8
+    ensures { result ≡ status_after fault.now }
 {
     match fault {
         Some(fault) => fault_status(fault),

@@ -31,7 +31,7 @@ fn tell<R: Eprint>(rt: &R, refusal: Refusal, paths: &[&str]) -> u8 {
 }
 
 // Reports the fault of a join on standard error, if there is one.
-fn report<R: Eprint>(rt: &R, outcome: &JoinOutcome, paths: &[&str]) {
+fn report<R: Eprint>(rt: &R, outcome: JoinOutcome, paths: &[&str]) {
     if let Some(line) = fault_line(outcome, paths) {
         let _ = eprintln!(rt; "{line}");
     }
@@ -53,8 +53,9 @@ fn work<R: Env + Files + Print + Eprint + AllocGlobal>(rt: &R) -> u8 {
     };
     let mut output = WriteSink::new(io::writer(rt));
     let outcome = join_texts(rt.alloc(), &request.format(), sources, &mut output);
-    report(rt, &outcome, &request.paths);
-    status_of(outcome.fault)
+    let status = status_of(&outcome.fault);
+    report(rt, outcome, &request.paths);
+    status
 }
 
 fn main(rt: HostRuntime) -> ExitCode {

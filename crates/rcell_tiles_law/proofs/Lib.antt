@@ -1,1 +1,2 @@
 pub mod PartRunLemmas
+pub mod ScriptRunLemmas

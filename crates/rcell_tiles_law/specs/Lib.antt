@@ -1,2 +1,3 @@
 -- Runs over parts of maps.
 pub mod PartRuns
+pub mod ScriptRuns

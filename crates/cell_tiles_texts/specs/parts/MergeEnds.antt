@@ -9,7 +9,7 @@ use Rattle.cell_stats.specs.TableText.{FormatValue}
 use Rattle.cell_tiles_lines.specs.LineReading.{TableReading, ended}
 use Rattle.cell_tiles_lines.specs.TableLines.{entries_text, entry_line}
 use Rattle.cell_tiles_merging.specs.Merging.{IsListing}
-use Rattle.cell_tiles_texts.specs.JoinedTexts.{AreTables, Give, HasFault, IsJoinFault, readings_from, readings_of, tables_of}
+use Rattle.cell_tiles_texts.specs.JoinedTexts.{AreTables, Give, IsFirstFault, IsJoinFault, readings_from, readings_of, tables_of}
 use Rattle.cell_tiles_texts.specs.MergedTables.{merge_of}
 use Rattle.cell_tiles_texts.specs.parts.Taking.{TakesEntries}
 use Rattle.cell_tiles_texts.specs.declared.join_fault.JoinFault.{JoinFault}
@@ -17,8 +17,8 @@ use Rattle.cell_tiles_texts.specs.declared.join_fault.JoinFault.TheVariants.{Tex
 
 -- why texts are not opened
 abbrev pub IsOpeningFault : List TableReading → JoinFault → Type 0
-IsOpeningFault readings (Text text fault) = HasFault readings text fault
-IsOpeningFault readings TooMany = ⊥
+IsOpeningFault readings (Text text fault) = IsFirstFault readings text fault
+IsOpeningFault readings (TooMany k) = ⊥
 IsOpeningFault readings TooLong = ⊥
 IsOpeningFault readings Memory = Unit {0}
 IsOpeningFault readings Write = ⊥
@@ -71,7 +71,7 @@ answered (Err fault) fails = Some fault
 -- whether the flush failed: after a refused put the sink is not flushed
 abbrev pub fault_flush : JoinFault → Bool → Bool
 fault_flush (Text text fault) fails = fails
-fault_flush TooMany fails = fails
+fault_flush (TooMany k) fails = fails
 fault_flush TooLong fails = fails
 fault_flush Memory fails = fails
 fault_flush Write fails = false

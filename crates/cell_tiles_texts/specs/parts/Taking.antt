@@ -1,12 +1,14 @@
 -- Entries of a merge that were taken from texts, one after the other.
-use Rattle.std.specs.Prelude.{ℕ, ◌≡◌, ◌≤◌, ◌^◌, List, ◌++◌, map, sum_by, Option, Some}
+use Rattle.std.specs.Prelude.{ℕ, ◌≡◌, ◌<◌, ◌≤◌, ◌^◌, List, [], ◌++◌, map, slice_get, sum_by, Option, Some, None}
 use Rattle.std.specs.List.{AllByRecursion}
-use Rattle.cell_stats_combinations.specs.Combinations.{Combination}
 use Rattle.cell_stats.specs.CategoryTables.{Pairs}
+use Rattle.cell_stats_combinations.specs.Combinations.{Combination}
 use Rattle.cell_tiles_law.specs.TableParts.{count_in}
 use Rattle.cell_tiles_lines.specs.LineReading.{TableReading}
+use Rattle.cell_tiles_lines.specs.declared.table_fault.TableFault.{TableFault}
 use Rattle.cell_tiles_merging.specs.Merging.{IsListing}
-use Rattle.cell_tiles_texts.specs.JoinedTexts.{HasFault, tables_of}
+use Rattle.cell_tiles_texts.specs.JoinedTexts.{AreNoneBefore, HasFault, IsFirstFault, fault_place, tables_of}
+use Rattle.cell_tiles_texts.specs.parts.Steps.{past_first}
 use Rattle.cell_tiles_texts.specs.MergedTables.{merge_of}
 use Rattle.cell_tiles_texts.specs.declared.join_fault.JoinFault.{JoinFault}
 use Rattle.cell_tiles_texts.specs.declared.join_fault.JoinFault.TheVariants.{Text, TooMany, TooLong, Memory, Write}
@@ -18,23 +20,30 @@ pub record HasTaken {X : Type 0} (read : X → Option TableReading) (readings : 
   pub listings : AllByRecursion IsListing (tables_of after)
   pub merged : merge_of (tables_of readings) ≡ done ++ merge_of (tables_of after)
   pub faults : map (λ reading. reading.fault) after ≡ map (λ reading. reading.fault) readings
+  pub places : map fault_place after ≡ map fault_place readings
 
 -- the same of whatever texts are read as, in order
 abbrev pub TakesEntries : {X : Type 0} → (X → Option TableReading) → List X → List X → Pairs → Type 0
 TakesEntries read old new done = (readings : List TableReading) → map read old ≡ map Some readings → AllByRecursion IsListing (tables_of readings) → HasTaken read readings new done
 
--- of a fault of a text, that it has it; of any other nothing
-abbrev pub IsFaultOfText : List TableReading → JoinFault → Type 0
-IsFaultOfText readings (Text text fault) = HasFault readings text fault
-IsFaultOfText readings TooMany = Unit {0}
-IsFaultOfText readings TooLong = ⊥
-IsFaultOfText readings Memory = Unit {0}
-IsFaultOfText readings Write = ⊥
+-- the text at this place has a fault right behind the combination, and those before it went on behind theirs
+pub record StopsBehind (k : Combination) (readings : List TableReading) (text : ℕ) (fault : TableFault) : Type 0 where
+  pub has : HasFault readings text fault
+  pub place : slice_get (map fault_place readings) text ≡ Some (Some (Some k))
+  pub others : (other : ℕ) (reading : TableReading) → other < text → slice_get readings other ≡ Some reading → past_first k reading.entries ≡ [] → reading.fault ≡ None
+
+-- of a fault of a text, that it stops there; of any other nothing
+abbrev pub IsFaultOfText : Combination → List TableReading → JoinFault → Type 0
+IsFaultOfText k readings (Text text fault) = StopsBehind k readings text fault
+IsFaultOfText k readings (TooMany j) = Unit {0}
+IsFaultOfText k readings TooLong = ⊥
+IsFaultOfText k readings Memory = Unit {0}
+IsFaultOfText k readings Write = ⊥
 
 -- why no more is taken
 abbrev pub IsStepFault : List TableReading → JoinFault → Type 0
-IsStepFault readings (Text text fault) = HasFault readings text fault
-IsStepFault readings TooMany = (k : Combination) × (2 ^ 64 ≤ sum_by (count_in k) (tables_of readings))
+IsStepFault readings (Text text fault) = IsFirstFault readings text fault
+IsStepFault readings (TooMany k) = (2 ^ 64 ≤ sum_by (count_in k) (tables_of readings)) × AreNoneBefore k (map fault_place readings)
 IsStepFault readings TooLong = ⊥
 IsStepFault readings Memory = Unit {0}
 IsStepFault readings Write = ⊥

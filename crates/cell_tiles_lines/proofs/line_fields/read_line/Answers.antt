@@ -1,29 +1,33 @@
-use Rattle.std.proofs.Common.{rules, ◌≡◌, ◌++◌, [], ◌∷◌, Some, None, sym, ◌∙◌, ap, ◌==◌}
-use Rattle.std.specs.List.{before_first}
-use Rattle.cell_tiles_lines.specs.LineFields.{cell_of_field, count_of_field, entry_of_line}
-use Rattle.cell_tiles_lines.proofs.FieldLemmas.{fields-start, fields-cell, fields-bad, fields-count, fields-no-count, with_cells}
+use Rattle.std.proofs.Common.{◌≡◌, ℕ, Bool, Result, Ok, Err, cond, true, sym, ◌∙◌, ap, subst}
+use Rattle.std.specs.Prelude.{IfErr, IfOk, ◌≢◌}
+use Rattle.cell_stats_combinations.specs.Combinations.{Combination}
+use Rattle.cell_tiles_lines.specs.LineFields.{entry_of_line, labelled_entry_of_line, spelled_entry}
+use Rattle.cell_tiles_lines.specs.declared.table_fault.TableKind.{TableKind}
+use Rattle.cell_tiles_lines.specs.declared.table_fault.TableKind.TheVariants.{Memory}
 use Rattle.cell_tiles_lines.proofs.line_fields.read_line.Goals as goal
 
-pub returns-in-None-clause-err : goal.returns-in-None-clause-err
-returns-in-None-clause-err c =
-    let e = c.in-Some.ensures in
-    let none : cell_of_field c.args.null_text.now c.in-Some.field.now ≡ None = cc in
-    λ h. sym c.loop-field.invariant ∙ fields-bad c.args.separator c.args.null_text.now c.loop-field.rest.now c.loop-field.cells.items e.0 (ap (cell_of_field c.args.null_text.now) (sym e.1) ∙ none)
+pub returns-then-labels-clause-ok : goal.returns-then-labels-clause-ok
+returns-then-labels-clause-ok c =
+    let format = c.args.format.now in
+    let line = c.args.line.now in
+    let is : format.labels ≡ true = sym c.labels.ensures ∙ c.if-labels.true in
+    let spelled : spelled_entry format line ≡ labelled_entry_of_line c.separator-separator.result
+    c.null_text-null_text.result.now line =
+    ap (λ (t : Bool). cond t (labelled_entry_of_line format.separator format.null_text line) (entry_of_line
+    format.separator format.null_text line)) is
+    ∙ (λ i. labelled_entry_of_line (sym c.separator-separator.ensures i) (sym c.null_text-null_text.ensures i) line) in
+    subst (λ (r : Result (Combination × ℕ) TableKind). IfOk c.read_labelled_line.result (λ count. r ≡ Ok
+    (c.read_labelled_line.new.cells.items, count))) (sym spelled) c.read_labelled_line.ensures.ok
 
-pub loop-field-preserved : goal.loop-field-preserved
-loop-field-preserved c =
-    let e = c.in-Some.ensures in
-    let is : cell_of_field c.args.null_text.now c.in-Some.field.now ≡ Some c.in-Some-cell_of.cell = cc in
-    let items : c.push.new.self.items ≡ c.loop-field.cells.items ++ c.in-Some-cell_of.cell ∷ [] = search rules in
-    let step = fields-cell c.args.separator c.args.null_text.now c.loop-field.rest.now c.loop-field.cells.items c.in-Some-cell_of.cell e.0 (ap (cell_of_field c.args.null_text.now) (sym e.1) ∙ is) in
-    ap (λ cells. with_cells cells (entry_of_line c.args.separator c.args.null_text.now c.in-Some.others.now)) items ∙ ap (λ text. with_cells (c.loop-field.cells.items ++ c.in-Some-cell_of.cell ∷ []) (entry_of_line c.args.separator c.args.null_text.now text)) e.2 ∙ sym step ∙ c.loop-field.invariant
-
-pub returns-in-Some-count_of-clause-ok : goal.returns-in-Some-count_of-clause-ok
-returns-in-Some-count_of-clause-ok c =
-    let is : count_of_field c.loop-field.rest.now ≡ Some c.in-Some-count_of.count = cc in
-    sym c.loop-field.invariant ∙ fields-count c.args.separator c.args.null_text.now c.loop-field.rest.now c.loop-field.cells.items c.in-Some-count_of.count c.in_default.ensures is
-
-pub returns-in-None-count_of-clause-err : goal.returns-in-None-count_of-clause-err
-returns-in-None-count_of-clause-err c =
-    let is : count_of_field c.loop-field.rest.now ≡ None = cc in
-    λ h. sym c.loop-field.invariant ∙ fields-no-count c.args.separator c.args.null_text.now c.loop-field.rest.now c.loop-field.cells.items c.in_default.ensures is
+pub returns-then-labels-clause-err : goal.returns-then-labels-clause-err
+returns-then-labels-clause-err c =
+    let format = c.args.format.now in
+    let line = c.args.line.now in
+    let is : format.labels ≡ true = sym c.labels.ensures ∙ c.if-labels.true in
+    let spelled : spelled_entry format line ≡ labelled_entry_of_line c.separator-separator.result
+    c.null_text-null_text.result.now line =
+    ap (λ (t : Bool). cond t (labelled_entry_of_line format.separator format.null_text line) (entry_of_line
+    format.separator format.null_text line)) is
+    ∙ (λ i. labelled_entry_of_line (sym c.separator-separator.ensures i) (sym c.null_text-null_text.ensures i) line) in
+    subst (λ (r : Result (Combination × ℕ) TableKind). IfErr c.read_labelled_line.result (λ kind. kind ≢ Memory
+    → r ≡ Err kind)) (sym spelled) c.read_labelled_line.ensures.err

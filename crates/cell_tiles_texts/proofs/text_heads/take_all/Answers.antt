@@ -3,6 +3,7 @@ use Rattle.cell_tiles_lines.specs.TextReading.{reading_from}
 use Rattle.cell_tiles_texts.specs.parts.Steps.{head_count, past}
 use Rattle.cell_tiles_texts.proofs.FaultLemmas.{beyond-at, fault-at, text-fault}
 use Rattle.cell_tiles_texts.proofs.ListLemmas.{one-more}
+use Rattle.cell_tiles_texts.proofs.TakingLemmas.{no-entry}
 use Rattle.cell_tiles_texts.proofs.text_heads.take_all.Goals as goal
 
 pub texts-preserved : goal.texts-preserved
@@ -16,16 +17,23 @@ texts-preserved g c =
 
 pub returns-in-Err-clause-fault : goal.returns-in-Err-clause-fault
 returns-in-Err-clause-fault g c = λ readings known.
-    text-fault c.in-Err.fault c.of_text.result c.of_text.ensures.memory readings c.texts.text c.of_text.ensures.text
+    text-fault c.in-Err.fault c.of_text.result c.of_text.ensures.memory c.args.combo.now readings
+    c.texts.text c.of_text.ensures.text
     (λ not.
-    fault-at (λ text. reading_from c.args.format.now text) c.args.texts.now c.texts.texts readings c.texts.text
+    fault-at (λ text. reading_from c.args.format.now text) (no-entry c.args.format.now) c.args.combo.now
+    c.args.texts.now c.texts.texts readings c.texts.text
     (get_or c.texts.texts c.texts.text c.index-texts-text.result) c.in-Err.fault (omega arith)
-    (ap (get_or c.texts.texts c.texts.text) c.index-texts-text.is) c.texts.invariant.2 known
+    (ap (get_or c.texts.texts c.texts.text) c.index-texts-text.is) c.texts.invariant.1 c.texts.invariant.2 known
     (c.in-Err.ensures.fault not))
 
 pub returns-in-None-clause-beyond : goal.returns-in-None-clause-beyond
-returns-in-None-clause-beyond g c = λ e.
-    beyond-at (λ text. head_count c.args.combo.now text.head) c.args.texts.now c.texts.texts c.texts.text
-    (get_or c.texts.texts c.texts.text c.index-texts-text.result) c.texts.total c.in-Ok.count (omega arith)
-    (ap (get_or c.texts.texts c.texts.text) c.index-texts-text.is) c.texts.invariant.2 c.texts.invariant.0
-    c.in-Ok.ensures.count c.in-None.ensures
+returns-in-None-clause-beyond g c = λ k e. (
+  c.too_many.ensures.many k (cc),
+  beyond-at (λ text. head_count c.args.combo.now text.head) c.args.texts.now c.texts.texts c.texts.text
+      (get_or c.texts.texts c.texts.text c.index-texts-text.result) c.texts.total c.in-Ok.count (omega arith)
+      (ap (get_or c.texts.texts c.texts.text) c.index-texts-text.is) c.texts.invariant.2 c.texts.invariant.0
+      c.in-Ok.ensures.count c.in-None.ensures,
+)
+
+pub returns-in-None-clause-fault : goal.returns-in-None-clause-fault
+returns-in-None-clause-fault g c = λ readings known. c.too_many.ensures.fault readings

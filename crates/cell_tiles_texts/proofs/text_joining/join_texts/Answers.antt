@@ -9,6 +9,7 @@ use Rattle.cell_tiles_texts.specs.parts.MergeEnds.{IsAnswered, answered, settled
 use Rattle.cell_tiles_texts.specs.declared.join_fault.JoinFault.TheVariants.{Write}
 use Rattle.cell_tiles_texts.proofs.JoinLemmas.{fault-so, joined-so, no-fault-sound, opening-join, opening-written, wholly, write-failed, written-so}
 use Rattle.cell_tiles_texts.proofs.ReadingLemmas.{readings-listing}
+use Rattle.cell_tiles_texts.proofs.TakingLemmas.{not-at-once}
 use Rattle.cell_tiles_texts.proofs.text_joining.join_texts.Goals as goal
 
 pub returns-in-Err-clause-written : goal.returns-in-Err-clause-written
@@ -168,3 +169,8 @@ returns-clause-headline g c = λ texts merged give whole memory good.
     (write-failed c.merge_texts-merged.result block.failed start faults last appended.fails c.finish-fault.result
     write given)
     memory good)
+
+pub returns-clause-untouched : goal.returns-clause-untouched
+returns-clause-untouched g c = λ texts reading give at faulty.
+    let format = c.args.format.now in
+    absurd (not-at-once format _ (readings_of format texts) (c.in-Ok.ensures.read texts give) reading at faulty)

@@ -1,11 +1,11 @@
 use Rattle.std.proofs.Common.{rules, ◌≡◌, ◌++◌, ◌∷◌, [], ℕ, List, length, arith, ap, sym, ◌∙◌, subst}
 use Rattle.std.specs.Vec.Iter.{into_iter_items}
 use Rattle.cell_tiles_lines.specs.TextReading.{TextValue, reading_from}
-use Rattle.cell_tiles_texts.specs.JoinedTexts.{HasFault, readings_of, width_behind}
+use Rattle.cell_tiles_texts.specs.JoinedTexts.{IsFirstFault, readings_of, width_behind}
 use Rattle.cell_tiles_texts.specs.parts.MergeEnds.{HasOpened}
 use Rattle.cell_tiles_texts.proofs.FaultLemmas.{opening-fault}
 use Rattle.cell_tiles_texts.proofs.OpeningLemmas.{no-more, opened-all, opened-more, opened-refused}
-use Rattle.cell_tiles_texts.proofs.TakingLemmas.{head-read}
+use Rattle.cell_tiles_texts.proofs.TakingLemmas.{head-read, no-entry}
 use Rattle.cell_tiles_texts.proofs.text_joining.open_texts.Goals as goal
 
 pub returns-in-Err-clause-fault : goal.returns-in-Err-clause-fault
@@ -16,10 +16,10 @@ returns-in-Err-clause-fault g c = λ comings give.
     let long : c.len.result ≡ length at.texts.items = c.len.ensures ∙ at.texts.ok.0 in
     opening-fault c.in-Err.fault c.of_text.result c.of_text.ensures.memory (readings_of format comings) c.len.result
     c.of_text.ensures.text (λ not.
-    subst (λ (n : ℕ). HasFault (readings_of format comings) n c.in-Err.fault) (sym long)
+    subst (λ (n : ℕ). IsFirstFault (readings_of format comings) n c.in-Err.fault) (sym long)
     (opened-refused g.R.Source.coming (λ (text : TextValue). reading_from format text) format c.in-Some.source
     (into_iter_items c.next.new.self) (into_iter_items at.source-iterator) at.texts.items at.width comings
-    c.in-Some.ensures.steps.0 so c.in-Err.fault (c.in-Err.ensures.fault not)))
+    c.in-Some.ensures.steps.0 so (no-entry format) c.in-Err.fault (c.in-Err.ensures.fault not)))
 
 pub loop-source-preserved : goal.loop-source-preserved
 loop-source-preserved g c =

@@ -41,4 +41,4 @@ returns-clause-fault g c = λ readings known all.
     c.args.texts.now = rw c.in-Ok-Some.field-0-is at c.in-Ok-Some.ensures.least in
     let err : JoinFault → Result (Option ℕ) JoinFault = λ fault. Err fault in
     step-fault c.args.format.now k c.args.texts.now c.in-Err-take_all.fault readings known least all
-    (c.in-Err-take_all.ensures.fault readings known) (λ is. c.in-Err-take_all.ensures.beyond (ap err is))
+    (c.in-Err-take_all.ensures.fault readings known) (λ j is. c.in-Err-take_all.ensures.beyond j (ap err is))
