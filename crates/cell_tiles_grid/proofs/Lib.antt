@@ -1,0 +1,11 @@
+pub mod CutLemmas
+pub mod GridLemmas
+pub mod LineLemmas
+pub mod LinkLemmas
+pub mod MeetingLemmas
+pub mod OrderLemmas
+pub mod PlaceLemmas
+pub mod StartLemmas
+pub mod StretchLemmas
+pub mod TellLemmas
+pub mod TileLemmas
