@@ -10,7 +10,7 @@ room=$(mktemp -d) || exit 1
 trap 'rm -rf "$room"' EXIT
 /usr/bin/python3 -m venv --system-site-packages --without-pip "$room/venv" || exit 1
 /usr/bin/python3 -m pip --disable-pip-version-check -q --python "$room/venv/bin/python3" install --no-index --no-deps dist/rcell-*.whl || exit 1
-unset RCELL PYTHONPATH PYTHONHOME
+unset RCELL RCELL_JOIN PYTHONPATH PYTHONHOME
 export PATH="$room/venv/bin:/usr/bin:/bin" HOME="$room" LC_ALL=C.UTF-8 PYTHONDONTWRITEBYTECODE=1 JUPYTER_PREFER_ENV_PATH=1
 mkdir "$room/examples" && cp -r python/tests python/tools python/pyproject.toml "$room" && cp -r examples/rasters examples/study.ipynb "$room/examples"
 
@@ -24,7 +24,7 @@ add() {
     passed=$((passed + $(sed -n '$s/ passed, .*//p' "$1"))) failed=$((failed + $(sed -n '$s/.* passed, \([0-9]*\) failed/\1/p' "$1")))
 }
 
-echo "python: the program is $(python3 -c 'import rcell; print(rcell.program(), rcell.__version__)')"
+echo "python: the programs are $(python3 -c 'import rcell; print(rcell.program(), rcell.joiner(), rcell.__version__)')"
 (cd "$room" && python3 -m pytest -q --no-header -p no:cacheprovider --cov=rcell --cov-report=term --cov-fail-under=90 \
     --junitxml="$room/tests.xml" tests) > "$room/tests.out" 2>&1
 tested=$?
@@ -42,6 +42,7 @@ left_out = int(suite.get("skipped"))
 print(int(suite.get("tests")) - failed - left_out, "passed,", failed or int(sys.argv[2] != "0"), "failed")
 COUNT
 add "$room/count"
+check test "$(python3 -c 'import rcell; print(rcell.program(), rcell.joiner())')" = "$room/venv/bin/rcell $room/venv/bin/rcell-join"
 check python3 -m mypy --config-file python/pyproject.toml --cache-dir "$room/mypy" python/src/rcell python/tools
 check env MYPYPATH=python/bench python3 -m mypy --config-file python/pyproject.toml --cache-dir "$room/mypy" python/bench/*.py
 (cd "$room" && check python3 -m mypy --config-file pyproject.toml --cache-dir "$room/mypy" tests)

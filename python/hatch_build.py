@@ -1,4 +1,4 @@
-"""Puts the program into the wheel, where installers put scripts: it is then on the path of its environment."""
+"""Puts the programs into the wheel, where installers put scripts: they are then on the path of its environment."""
 
 from __future__ import annotations
 
@@ -12,19 +12,26 @@ STATIC_TAG = "py3-none-manylinux2014_x86_64.musllinux_1_1_x86_64"
 DYNAMIC_TAG = "py3-none-linux_x86_64"
 
 
+PROGRAMS = {"rcell": "RCELL_PROGRAM", "rcell-join": "RCELL_JOIN_PROGRAM"}
+"""The scripts, and the environment variables that may name what they are made of."""
+
+
 class ProgramHook(BuildHookInterface):  # type: ignore[misc]
-    """Adds ../bin/rcell-static, or the program that the environment variable RCELL_PROGRAM names, as the script `rcell`."""
+    """Adds ../bin/rcell-static and ../bin/rcell-join-static, or what RCELL_PROGRAM and RCELL_JOIN_PROGRAM name."""
 
     def initialize(self, version: str, build_data: dict[str, Any]) -> None:
         if version == "editable":
             return
-        path = os.environ.get("RCELL_PROGRAM") or os.path.join(self.root, "..", "bin", "rcell-static")
-        if not os.path.isfile(path):
-            raise FileNotFoundError(f"{path}: the program is not there (make static)")
-        name = f"{self.metadata.core.name}-{self.metadata.version}.data/scripts/rcell"
-        build_data["force_include"][os.path.abspath(path)] = name
+        are_static = True
+        for script, variable in PROGRAMS.items():
+            path = os.environ.get(variable) or os.path.join(self.root, "..", "bin", f"{script}-static")
+            if not os.path.isfile(path):
+                raise FileNotFoundError(f"{path}: the program is not there (make static)")
+            name = f"{self.metadata.core.name}-{self.metadata.version}.data/scripts/{script}"
+            build_data["force_include"][os.path.abspath(path)] = name
+            are_static = are_static and _is_static(path)
         build_data["pure_python"] = False
-        build_data["tag"] = STATIC_TAG if _is_static(path) else DYNAMIC_TAG
+        build_data["tag"] = STATIC_TAG if are_static else DYNAMIC_TAG
 
 
 def _is_static(path: str) -> bool:

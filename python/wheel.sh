@@ -1,5 +1,5 @@
 #!/bin/sh
-# Makes the wheel, with the static program in it: wheel.sh [FOLDER], dist/ where it is left out.
+# Makes the wheel, with the static programs in it: wheel.sh [FOLDER], dist/ where it is left out.
 folder=${1:-$(dirname "$0")/../dist}
 folder=$(mkdir -p "$folder" && cd "$folder" && pwd) || exit 1
 cd "$(dirname "$0")" || exit 1

@@ -173,9 +173,9 @@ def judge(case, room, shim):
     return wrong or wrong_output, grown, cut
 
 
-def build_shim(clang, path):
+def build_shim(clang, path, name="refuse"):
     subprocess.run([clang, "--target=x86_64-unknown-linux-gnu", "-O1", "-fPIC", "-shared", "-nostdlib", "-fuse-ld=lld",
-                    "-o", path, f"{ROOT}/tools/refuse.c"], check=True)
+                    "-o", path, f"{ROOT}/tools/{name}.c"], check=True)
 
 
 def main():

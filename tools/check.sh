@@ -68,8 +68,9 @@ try documents python3 tools/documents.py
 # The program used as an enemy would, in short: some of each part of `make hostile`.
 try hostile python3 tools/hostile.py --short --clang "$kit/toolchain/bin/clang"
 
-# The program beside the plain model of the definitions: each case, and runs made at random.
+# The program beside the plain model of the definitions: each case, and runs made at random, some of them over long runs.
 { python3 tools/compare.py --cases && python3 tools/compare.py --runs 3000 --seed 1 --program bin/rcell; } || status=1
+python3 tools/compare.py --runs 500 --seed 1 --program bin/rcell --maps stretches --pieces "$kit/toolchain/bin/clang" || status=1
 
 # Laws of a report, once on outputs: maps of the examples, and made ones of a million cells.
 try laws python3 tools/laws

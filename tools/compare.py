@@ -2,11 +2,13 @@
 """Compares the model of tools/model.py with the cases that stand in the repository, or with the built program.
 
     compare.py --cases
-    compare.py --runs N --seed S --program PATH [--first F] [--keep FOLDER] [--refuse CLANG]
+    compare.py --runs N --seed S --program PATH [--first F] [--keep FOLDER] [--maps KIND] [--pieces CLANG] [--refuse CLANG]
 
 With --cases the model answers each folder of cases/ and examples/ (as tools/cases.py describes them), apart from those
 whose standard output goes elsewhere. With --runs random grids and scripts go to both, and output, standard error and
-exit status must agree byte for byte. Run F of seed S is the same wherever it is made. With --refuse each run is made
+exit status must agree byte for byte. Run F of seed S is the same wherever it is made. KIND is `any`, small grids in many
+spellings, or `stretches`, long runs (tools/made_stretches.py). With --pieces two runs of three are made again with reads
+that move few bytes, so that blocks end anywhere within words. With --refuse each run is made
 again with one of its growths refused: it must tell that, and have written just what the statements before that line
 write. Each difference is written to FOLDER as a case whose expected files are the model's, with the program's answer in
 a folder beside it. The last line is 'N runs, M differences'.
@@ -22,8 +24,11 @@ import tempfile
 import cases
 import model
 from made_cases import Made, make
+from made_stretches import make_stretches
 
 ROOT = os.path.dirname(os.path.dirname(os.path.abspath(__file__)))
+MAKERS = {"any": make, "stretches": make_stretches}
+PIECES = [1, 2, 3, 4, 5, 6, 7, 8, 9, 11, 13, 15, 16, 17, 31, 32, 33, 63, 64, 65, 100, 255, 1000, 4095]
 
 
 def read(path, otherwise=b""):
@@ -121,12 +126,15 @@ def kind_of(answer):
     return f"{source if source in ('script', 'arguments', 'output') else 'grid'}: {words[2].split(' at column')[0]}"
 
 
-def wrong_answer(program, made, expected, shim, choice):
+def wrong_answer(program, made, expected, shims, choice):
     """An answer of the program that is not as it must be, or None."""
     program.put(made)
     got = program.answer(made.words)
-    if got != expected or not shim:
+    if got == expected and shims["devices"] and choice.random() < 2 / 3:
+        got = program.answer(made.words, LD_PRELOAD=shims["devices"], READ_PIECE=str(choice.choice(PIECES)))
+    if got != expected or not shims["refuse"]:
         return None if got == expected else got
+    shim = shims["refuse"]
     _, growths = program.answer_refused(made.words, shim, 0)
     at = choice.randint(1, max(1, growths))
     got, asked = program.answer_refused(made.words, shim, at)
@@ -138,16 +146,18 @@ def compare_runs(settings):
     differences, kinds = 0, collections.Counter()
     kept = os.path.abspath(settings.keep)
     with tempfile.TemporaryDirectory(prefix="rcell-runs-", dir="/dev/shm" if os.path.isdir("/dev/shm") else None) as room:
-        shim = f"{room}/refuse.so" if settings.refuse else ""
-        if shim:
-            cases.build_shim(settings.refuse, shim)
+        clangs = {"refuse": settings.refuse, "devices": settings.pieces}
+        shims = {name: f"{room}/{name}.so" if clang else "" for name, clang in clangs.items()}
+        for name, shim in shims.items():
+            if shim:
+                cases.build_shim(clangs[name], shim, name)
         program = Program(settings.program, room)
         for number in range(settings.first, settings.first + settings.runs):
             choice = random.Random(f"{settings.seed}:{number}")
-            made = make(choice)
+            made = MAKERS[settings.maps](choice)
             expected = answer_of_model(made)
             kinds[kind_of(expected)] += 1
-            wrong = wrong_answer(program, made, expected, shim, choice)
+            wrong = wrong_answer(program, made, expected, shims, choice)
             if wrong:
                 differences += 1
                 keep(f"{kept}/{settings.seed}-{number}", made, expected, wrong)
@@ -167,6 +177,8 @@ def main():
     words.add_argument("--first", type=int, default=0)
     words.add_argument("--program", default=f"{ROOT}/bin/rcell")
     words.add_argument("--keep", default=os.path.join(tempfile.gettempdir(), "rcell-differences"))
+    words.add_argument("--maps", choices=list(MAKERS), default="any", metavar="KIND")
+    words.add_argument("--pieces", metavar="CLANG")
     words.add_argument("--refuse", metavar="CLANG")
     settings = words.parse_args()
     if settings.cases == (settings.runs is not None):

@@ -24,6 +24,7 @@ import model
 from compare import ROOT, Program, answer_of_model, keep, kind_of
 from hostile_cases import LONGEST_WHOLE, cases_of
 from made_cases import ODD_BYTES, Made, ScriptMaker, make
+from made_stretches import make_stretches
 
 COMMANDS = (b"r.mapcalc", b"r.reclass", b"r.clump", b"r.stats", b"r.out.ascii")
 MOST_TRIALS = 3000  # how often a run that differs is made again to make it smaller
@@ -107,7 +108,8 @@ def of_words(choice: random.Random, cases: list[Made]) -> Made:
     return replace(made, other_words=words)
 
 
-KINDS = [(lambda choice, cases: make(choice), 40), (damaged, 15), (of_cases, 10), (of_expressions, 20), (of_rules, 10), (of_words, 5)]
+KINDS = [(lambda choice, cases: make(choice), 40), (damaged, 15), (of_cases, 10), (of_expressions, 20), (of_rules, 10), (of_words, 5),
+         (lambda choice, cases: make_stretches(choice), 10)]
 
 
 def made_at(seed: int, number: int, cases: list[Made]) -> Made:

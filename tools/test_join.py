@@ -1,9 +1,10 @@
 #!/usr/bin/env python3
-"""Runs rcell-join beside a plain joiner: named cases, tables at random, damaged texts, and each growth and each write refused.
+"""Runs rcell-join beside a plain joiner: named cases, tables at random, short and long ones, damaged texts, reads that move few
+bytes, and each growth and each write refused.
 
     test_join.py [CLANG] [--program PROGRAM] [--runs N] [--seed N]
 
-CLANG compiles what refuses growths; without it that part is left out. The last line is 'N passed, M failed'.
+CLANG compiles what refuses growths and cuts reads; without it these parts are left out. The last line is 'N passed, M failed'.
 """
 import argparse
 import os
@@ -13,8 +14,13 @@ import subprocess
 import sys
 import tempfile
 
+import cases
+
 ROOT = os.path.dirname(os.path.dirname(os.path.abspath(__file__)))
 MOST_BYTES, GREATEST = 4096, 2**64 - 1
+PIECES = [1, 2, 3, 5, 7, 8, 13, 16, 31, 64, 255, 4095]
+LONG_IN = 200  # one run of so many is of long texts
+FORMATS = [(b" ", b"*", []), (b"|", b"NA", [b"separator=pipe", b"null_value=NA"]), (b",", b"*", [b"separator=,"])]
 USAGE = b"usage: rcell-join tables [separator=S] [null_value=N] FILE..."
 
 
@@ -121,9 +127,9 @@ class Runner:
                              timeout=120, env={"PATH": "/usr/bin:/bin", **more}, restore_signals=False)
         return ran.returncode, ran.stdout or b"", ran.stderr
 
-    def answer(self, files, options=()):
+    def answer(self, files, options=(), **more):
         self.lay_out(files)
-        return self.run([b"tables", *options, *(name for name, _ in files)])
+        return self.run([b"tables", *options, *(name for name, _ in files)], **more)
 
 
 def named_cases():
@@ -170,6 +176,19 @@ def random_files(draw, separator, null_text):
         at = draw.randrange(len(files))
         name, text = files[at]
         files[at] = name, damaged(draw, text, separator)
+    return files
+
+
+def long_files(draw, separator, null_text):
+    """Texts of tables that are longer than the blocks in which they are read, of which one in three is damaged."""
+    width, files = draw.choice([1, 2, 4, 16]), []
+    greatest = draw.choice([9, 5000, 2**31 - 1])
+    for place in range(draw.randint(1, 5)):
+        keys = {tuple((1, 0) if draw.random() < 0.05 else (0, draw.randint(-greatest, greatest)) for _ in range(width)) for _ in range(draw.choice([3, 1500, 9000]))}
+        files.append((b"t%d" % place, b"".join(printed((key, draw.choice([1, 99, 10**9])), separator, null_text) for key in sorted(keys))))
+    if draw.random() < 0.33:
+        name, text = files[-1]
+        files[-1] = name, damaged(draw, text, separator)
     return files
 
 
@@ -238,24 +257,26 @@ def main():
     given, count = words.parse_args(), Count()
     with tempfile.TemporaryDirectory(prefix="rcell-join-") as room:
         runner = Runner(os.path.abspath(given.program), room)
+        shims = {name: f"{room}/{name}.so" for name in ("refuse", "devices")} if given.clang else {}
+        for name, shim in shims.items():
+            cases.build_shim(given.clang, shim, name)
         for name, line, files, wanted in named_cases():
             runner.lay_out(files)
             got = runner.run(line)
             count.add(name, got != wanted and f"{got}, and not {wanted}")
         for seed in range(given.seed, given.seed + given.runs):
             draw = random.Random(seed)
-            separator, null_text, options = draw.choice([(b" ", b"*", []), (b"|", b"NA", [b"separator=pipe", b"null_value=NA"]), (b",", b"*", [b"separator=,"])])
-            files = random_files(draw, separator, null_text)
-            got, wanted = runner.answer(files, options), joined(files, separator, null_text)
-            count.add(f"seed {seed}", got != wanted and f"{got}, and not {wanted}")
+            separator, null_text, options = draw.choice(FORMATS)
+            is_long = seed % LONG_IN == 0
+            files = (long_files if is_long else random_files)(draw, separator, null_text)
+            more = {"LD_PRELOAD": shims["devices"], "READ_PIECE": str(draw.choice(PIECES))} if shims and draw.random() < 0.5 else {}
+            got, wanted = runner.answer(files, options, **more), joined(files, separator, null_text)
+            count.add(f"seed {seed}", got != wanted and ("other bytes" if is_long else f"{got}, and not {wanted}"))
         files = [(b"a", b"1 2 3\n1 * 4\n2 2 2\n"), (b"b", b"0 1 9\n1 2 1\n"), (b"c", b"")]
         whole = joined(files)[1]
         count.add("outputs of each size", limited(runner, files, whole))
-        if given.clang:
-            shim = f"{room}/refuse.so"
-            subprocess.run([given.clang, "--target=x86_64-unknown-linux-gnu", "-O1", "-fPIC", "-shared", "-nostdlib", "-fuse-ld=lld",
-                            "-o", shim, f"{ROOT}/tools/refuse.c"], check=True)
-            count.add("each growth refused", growths_refused(runner, files, whole, shim))
+        if shims:
+            count.add("each growth refused", growths_refused(runner, files, whole, shims["refuse"]))
     print(f"{count.passed} passed, {count.failed} failed")
     return 1 if count.failed else 0
 

@@ -29,6 +29,7 @@ from ._errors import (
     WrongProgram,
 )
 from ._grid import Grid
+from ._joiner import find_joiner
 from ._maps import Map
 from ._program import find_program
 from ._region import Region
@@ -60,6 +61,7 @@ __all__ = [
     "__version__",
     "areas",
     "grid",
+    "joiner",
     "program",
     "run",
     "table",
@@ -94,6 +96,35 @@ def program(path: str | os.PathLike[str] | None = None) -> str:
     'rcell'
     """
     return find_program(path)
+
+
+def joiner(path: str | os.PathLike[str] | None = None) -> str:
+    """The path of the program rcell-join, which joins the tables of tiles.
+
+    Parameters
+    ----------
+    path : path, optional
+        Looked at in place of what would be found.
+
+    Returns
+    -------
+    str
+        The first of: the environment variable RCELL_JOIN, the program beside rcell, the one beside this Python, the path.
+
+    Raises
+    ------
+    MissingProgram
+        Where there is none.
+    WrongProgram
+        Where it is another program, or of a version that this package does not know.
+
+    Examples
+    --------
+    >>> import os, rcell
+    >>> os.path.basename(rcell.joiner())
+    'rcell-join'
+    """
+    return find_joiner(path)
 
 
 def __getattr__(name: str) -> Any:

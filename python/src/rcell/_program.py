@@ -15,7 +15,7 @@ import sys
 import sysconfig
 from dataclasses import dataclass
 from types import MappingProxyType
-from typing import Any, Callable, Iterator, Mapping, Sequence
+from typing import Any, Callable, Iterator, Mapping, Sequence, TypeVar
 
 import numpy as np
 from numpy.typing import NDArray
@@ -27,7 +27,7 @@ from ._script import SCRIPT_LIMIT, Plan, Statement, plan_of
 from ._text import NULL, Words, numbers_of
 from ._texts import TextMap
 
-__all__ = ["NULL", "Output", "execute", "find_program"]
+__all__ = ["NULL", "Output", "candidates", "execute", "find_program", "known_after", "table_text"]
 
 PIPE_BYTES = 1 << 20
 PIECE_BYTES = 1 << 22
@@ -37,6 +37,7 @@ _MESSAGE = re.compile(r"rcell: ([^:]*):(\d+): (.*)")
 _F_SETPIPE_SZ = 1031
 
 Progress = Callable[[int], None]
+Answer = TypeVar("Answer")
 
 
 @dataclass(frozen=True)
@@ -59,17 +60,16 @@ class Output:
 # Where it is
 
 
-def _candidates() -> Iterator[str]:
-    yield from filter(None, [os.environ.get("RCELL")])
-    for scheme in (None, "user"):
-        name = sysconfig.get_preferred_scheme("user") if scheme else sysconfig.get_default_scheme()
-        path = os.path.join(sysconfig.get_path("scripts", name), "rcell")
+def candidates(name: str) -> Iterator[str]:
+    """Where a program of this name is: among the scripts of this installation of Python, beside it, on the path."""
+    for scheme in (sysconfig.get_default_scheme(), sysconfig.get_preferred_scheme("user")):
+        path = os.path.join(sysconfig.get_path("scripts", scheme), name)
         if os.path.isfile(path):
             yield path
-    beside = os.path.join(os.path.dirname(sys.executable), "rcell")
+    beside = os.path.join(os.path.dirname(sys.executable), name)
     if os.path.isfile(beside):
         yield beside
-    yield from filter(None, [shutil.which("rcell")])
+    yield from filter(None, [shutil.which(name)])
 
 
 _known: dict[str, tuple[int, int, int]] = {}
@@ -88,17 +88,22 @@ def find_program(program: str | os.PathLike[str] | None = None) -> str:
     WrongProgram
         Where it does not answer as this package needs it.
     """
-    path = os.fspath(program) if program is not None else next(_candidates(), "")
+    path = os.fspath(program) if program is not None else os.environ.get("RCELL") or next(candidates("rcell"), "")
     if not path:
         raise MissingProgram(
             "the program rcell was not found: neither in the environment variable RCELL, nor beside this Python, nor on the path"
         )
+    return known_after(_probe, path)
+
+
+def known_after(probe: Callable[[str], None], path: str) -> str:
+    """The path of a program, once it has been probed; as long as the file stays what it is, once is enough."""
     if not os.path.isfile(path) or not os.access(path, os.X_OK):
         raise MissingProgram(f"the program {path} is not there, or may not be executed")
     state = os.stat(path)
     stamp = (state.st_ino, state.st_size, state.st_mtime_ns)
     if _known.get(path) != stamp:
-        _probe(path)
+        probe(path)
         _known[path] = stamp
     return path
 
@@ -271,6 +276,35 @@ def execute(
         Where a cell can't be sent.
     OutOfMemory, Killed, MissingProgram, WrongProgram
     """
+
+    def outputs(reader: _Reader, plan: Plan, region: Region) -> list[Output]:
+        return [reader.output(statement, mark, region) for statement, mark in zip(plan.outputs, plan.marks)]
+
+    return _answered(script, maps, wanted, outputs, program, progress)
+
+
+def table_text(script: str, maps: Mapping[str, Source], *, program: str | os.PathLike[str] | None = None) -> bytes:
+    """The table of a script, byte for byte as the program prints it.
+
+    Parameters
+    ----------
+    script : str
+        With one line that writes: an r.stats of the usual form, without `-1`.
+    maps : mapping of str to Source
+        As for `execute`, and so are the errors.
+    """
+    return _answered(script, maps, (), lambda reader, plan, region: reader.rest(), program)
+
+
+def _answered(
+    script: str,
+    maps: Mapping[str, Source],
+    wanted: Sequence[str],
+    answer_of: Callable[[_Reader, Plan, Region], Answer],
+    program: str | os.PathLike[str] | None,
+    progress: Progress | None = None,
+) -> Answer:
+    """What is read of the output of a run, once the run has ended well and nothing is left of it."""
     path = find_program(program)
     maps = dict(maps)
     plan = plan_of(script, maps, wanted)
@@ -282,19 +316,20 @@ def execute(
             _send(run, place, source, progress)
         run.write_script(plan.text)
         reader = _Reader(run.pieces())
+        answer: Answer | None = None
         try:
-            outputs = [reader.output(statement, mark, region) for statement, mark in zip(plan.outputs, plan.marks)]
+            answer = answer_of(reader, plan, region)
             rest = reader.rest()
         except _Short:
-            outputs, rest = [], b"short"
+            rest = b"short"
             for _ in run.pieces():
                 pass
         status, message = run.end()
     if status:
         raise _fault(status, message, plan, script)
-    if rest:
+    if rest or answer is None:
         raise WrongProgram(f"{path} has written what this package does not understand")
-    return outputs
+    return answer
 
 
 def _send(run: _Run, place: int, source: Source, progress: Progress | None) -> None:

@@ -5,7 +5,7 @@ from __future__ import annotations
 import os
 import shutil
 import warnings
-from collections.abc import Callable, Iterator
+from collections.abc import Callable, Iterator, Sequence
 from pathlib import Path
 from typing import Any
 
@@ -28,7 +28,9 @@ if "RCELL" not in os.environ and PROGRAM.exists():
 if not os.environ.get("RCELL") and not shutil.which("rcell"):
     pytest.skip("the program rcell is not built", allow_module_level=True)
 
-from rcell.tiles import NeedlessTiles  # noqa: E402
+from rcell._joiner import joined  # noqa: E402
+from rcell._merging import counts_of, merge  # noqa: E402
+from rcell.tiles import NeedlessTiles, _tasks  # noqa: E402
 
 MakeTif = Callable[..., str]
 
@@ -38,6 +40,22 @@ def needless_tiles_are_fine() -> Iterator[None]:
     with warnings.catch_warnings():
         warnings.simplefilter("ignore", NeedlessTiles)
         yield
+
+
+def joined_by_both(texts: Sequence[bytes]) -> bytes:
+    """Tables joined by rcell-join and by numpy, which must agree."""
+    text = joined(texts)
+    maps = next((part.partition(b"\n")[0].count(b" ") for part in texts if part), 1)
+    found, expected = counts_of(text, maps), merge([counts_of(part, maps) for part in texts])
+    assert np.array_equal(found.combinations, expected.combinations)
+    assert np.array_equal(found.cells, expected.cells)
+    return text
+
+
+@pytest.fixture(autouse=True)
+def both_joiners_agree(monkeypatch: pytest.MonkeyPatch) -> None:
+    """Whatever the workers of this process join in a test is joined by both."""
+    monkeypatch.setattr(_tasks, "joined", joined_by_both)
 
 
 @pytest.fixture(scope="session")

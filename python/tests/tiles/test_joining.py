@@ -10,8 +10,11 @@ import pytest
 from hypothesis import given
 from hypothesis import strategies as st
 
+from rcell._merging import counts_of
 from rcell.tiles.joining import NULL, Counts, Edge, Edges, Joined, Rectangle, TooManyCells, edges, join, merge, renumber
+from tests.test_numpy_joiner import printed
 from tests.tiles import whole
+from tests.tiles.conftest import joined_by_both
 
 
 def joined(cells: Any, places: list[Rectangle], diagonal: bool) -> tuple[Joined, list[Any]]:
@@ -71,6 +74,16 @@ def test_tables_of_tiles_merge_to_that_of_the_whole(case: tuple[Any, list[Rectan
     while len(tree) > 1:
         tree = [merge(tree[place:place + 3]) for place in range(0, len(tree), 3)]
     assert listed(merge(tree)) == expected
+
+
+@given(whole.cut_maps(), st.randoms())
+def test_the_proved_joiner_agrees(case: tuple[Any, list[Rectangle]], random: Any) -> None:
+    cells, places = case
+    other = np.roll(cells, 1, axis=1)
+    tables = [merge([counts([whole.part(cells, place), whole.part(other, place)])]) for place in places]
+    random.shuffle(tables)
+    found = counts_of(joined_by_both([printed(table) for table in tables]), 2)
+    assert listed(found) == listed(merge([counts([cells, other])]))
 
 
 def test_nulls_are_last_and_no_cells_are_no_entries() -> None:

@@ -1,14 +1,14 @@
 """Maps of any size: tiles of them go to a Dask cluster, and the answers are those of the undivided map.
 
 What holds of tiles is proved, in the crate `cell_tiles_law` of this project: tables add up, a halo is enough, areas join along
-borders. Each step of this code names its law.
+borders. Each step of this code names its law. Tables are joined by rcell-join, which is proved itself.
 """
 
 from __future__ import annotations
 
+from .._merging import TooManyCells
 from ._cluster import ClusterFailed
 from ._engine import WorkerLost
-from .joining import TooManyCells
 from .mosaic import Mosaic, NeedlessTiles, TooLittleMemory
 from .mosaic import open_mosaic as open
 

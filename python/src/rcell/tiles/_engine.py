@@ -16,7 +16,7 @@ from ._cluster import RESOURCE, Cluster, Room
 __all__ = ["Engine", "WorkerLost"]
 
 FAN = 16
-"""How many tables a task merges."""
+"""How many tables a task joins."""
 
 AHEAD = 2
 """Tasks under way, or done and not yet taken, for each that a cluster runs: so many answers wait in memory at most."""

@@ -2,7 +2,9 @@
 
 from __future__ import annotations
 
-from collections.abc import Iterable
+import re
+from collections.abc import Iterable, Iterator
+from contextlib import contextmanager
 from dataclasses import dataclass
 from typing import Any
 
@@ -10,17 +12,20 @@ import numpy as np
 import numpy.typing as npt
 
 from .._errors import OutOfMemory
+from .._joiner import joined
 from .._maps import ArrayMap, Source
-from .._program import Output, execute
+from .._program import execute, table_text
 from .._region import Region
-from .._text import NULL
 from ._scripts import NO_REACH, Assignment, Reach, Reclass, Stats, TileScript
 from ._sheet import MapFile, Sheet
 from .joining import Counts, Edges, Rectangle, TileNumbers, edges, merge, renumber
 
-__all__ = ["TileRun", "TileSizes", "edges_of", "grid_cells", "merge_all", "numbered_cells", "sizes_in_whole", "table_counts", "tile_sizes"]
+__all__ = ["TileRun", "TileSizes", "edges_of", "grid_cells", "join_tables", "numbered_cells", "sizes_in_whole", "tile_sizes", "tile_table"]
 
 Integers = npt.NDArray[Any]
+
+ALL_NULL = re.compile(rb"(?:\* )+[0-9]+\n")
+"""The line of a table, as r.stats -c prints it, of the cells that are null in all maps."""
 
 
 def with_halo(place: Rectangle, reach: Reach, sheet: Sheet) -> Rectangle:
@@ -58,34 +63,47 @@ class TileRun:
         return found
 
 
-def run(text: str, maps: dict[str, Source], wanted: tuple[str, ...] = ()) -> list[Output]:
-    """The outputs of a script over the maps of a tile; being out of memory is told with the size of the tile."""
+@contextmanager
+def told_of_size(maps: dict[str, Source]) -> Iterator[None]:
+    """Being out of memory is told with the size of the tile."""
     try:
-        return execute(text, maps, wanted=wanted)
+        yield
     except OutOfMemory as fault:
         rows, cols = next(iter(maps.values())).region.shape
         raise OutOfMemory(f"{fault.text} for a tile of {rows} x {cols} cells: give a smaller size", fault.source, 0, 3) from None
 
 
-def table_counts(task: TileRun, place: Rectangle) -> Counts:
-    """The table of a tile without its halo."""
+def made_cells(text: str, maps: dict[str, Source], name: str) -> Integers:
+    """The cells of a map that a script makes of a tile."""
+    with told_of_size(maps):
+        cells: Integers = execute(text, maps, wanted=(name,))[-1].values
+    return cells
+
+
+def tile_table(task: TileRun, place: Rectangle) -> bytes:
+    """The table of a tile without its halo, as the program prints it."""
     stats = task.script.statements[-1]
     assert isinstance(stats, Stats)
     outer = with_halo(place, task.script.reach, task.sheet)
     maps = task.maps(outer)
-    if outer == place:
-        text = task.script.text(place, task.sheet.rows, task.sheet.cols)
-        return as_counts(run(text, maps)[-1].values)
-    # The cells of the halo are other tiles' to count: a map more, and of the table the entries where it is not null.
-    after = None if stats.after is None else (*stats.after, "*")
-    counted = Stats(stats.line, stats.flags, (*stats.inputs, task.inside), after)
-    script = TileScript((*task.script.statements[:-1], counted), task.script.reach, task.script.row, task.script.col)
-    maps[task.inside] = ArrayMap(task.inside, mask_of(place, outer), Region.of_cells(*outer[2:]), nodata_value=0)
-    values = run(script.text(outer, task.sheet.rows, task.sheet.cols), maps)[-1].values
-    kept = values[values[:, -2] == 1]
-    if "N" in stats.flags:
-        kept = kept[(kept[:, :-2] != NULL).any(axis=1)]
-    return as_counts(np.delete(kept, -2, axis=1))
+    script = task.script
+    if outer != place:
+        # The cells of the halo are other tiles' to count: a map more, and of the table the entries where it is 1, which come first.
+        after = None if stats.after is None else ("1", *stats.after)
+        counted = Stats(stats.line, stats.flags, (task.inside, *stats.inputs), after)
+        script = TileScript((*script.statements[:-1], counted), script.reach, script.row, script.col)
+        maps[task.inside] = ArrayMap(task.inside, mask_of(place, outer), Region.of_cells(*outer[2:]), nodata_value=0)
+    with told_of_size(maps):
+        text = table_text(script.text(outer, task.sheet.rows, task.sheet.cols), maps)
+    return text if outer == place else without_halo(text, "N" in stats.flags)
+
+
+def without_halo(text: bytes, leaves_out_null: bool) -> bytes:
+    """The lines of a table that begin with 1, without it; those of null in all other maps may be left out."""
+    lines = re.findall(rb"^1 (.*\n)", text, re.MULTILINE)
+    if leaves_out_null and lines and ALL_NULL.fullmatch(lines[-1]):
+        lines.pop()
+    return b"".join(lines)
 
 
 def mask_of(place: Rectangle, outer: Rectangle) -> npt.NDArray[np.uint8]:
@@ -101,14 +119,10 @@ def inner(cells: Integers, place: Rectangle, outer: Rectangle) -> Integers:
     return cells[top:top + place.rows, left:left + place.cols]
 
 
-def as_counts(values: Integers) -> Counts:
-    """A table as the program wrote it, the cells in its last column."""
-    return Counts(values[:, :-1], values[:, -1])
-
-
-def merge_all(tables: list[Counts]) -> Counts:
-    """A node of the tree of merges (laws `tables_merge`, `merges_merge`)."""
-    return merge(tables)
+def join_tables(texts: list[bytes]) -> bytes:
+    """A node of the tree of joins: rcell-join is proved to print the table of the whole (law `printed_parts_join`), and what it
+    joined may be joined again (law `merges_merge`)."""
+    return joined(texts)
 
 
 def grid_cells(task: TileRun, place: Rectangle) -> Integers:
@@ -119,7 +133,7 @@ def grid_cells(task: TileRun, place: Rectangle) -> Integers:
     text = task.script.text(outer, task.sheet.rows, task.sheet.cols)
     # Law `halo_is_enough`, or `reach_is_enough` where the script asks for rows and columns: inside of the halo the values
     # are those over the whole.
-    cells = run(text, task.maps(outer), wanted=(last.output,))[-1].values
+    cells = made_cells(text, task.maps(outer), last.output)
     return np.ascontiguousarray(inner(cells, place, outer))
 
 
@@ -127,7 +141,7 @@ def clumped(file: MapFile, sheet: Sheet, place: Rectangle, diagonal: bool) -> tu
     """The cells of a tile and the numbers of its areas, 0 where it is null (law `cut_outs_are_tiles`)."""
     tile = file.read(place, sheet)
     text = f"r.clump {'-d ' if diagonal else ''}input=cells output=areas"
-    numbers = run(text, {"cells": tile}, wanted=("areas",))[0].values
+    numbers = made_cells(text, {"cells": tile}, "areas")
     return tile.array, np.maximum(numbers, 0, out=numbers)
 
 

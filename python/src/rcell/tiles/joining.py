@@ -1,15 +1,18 @@
 """What tiles of a map say of the whole: tables merged, areas joined and numbered.
 
-Four functions do all of it, over numpy arrays alone: `merge` adds tables of tiles, `edges` takes from the areas of a tile
+Four functions do all of it, over numpy arrays alone: `merge` adds tables, `edges` takes from the areas of a tile
 what the joining needs, `join` finds which areas of tiles are one area of the whole and what its number is, `renumber`
 gives the cells of a tile the numbers of the whole. None makes a Python object for an area or for an entry of a table.
+
+The tables of tiles are joined by the proved program rcell-join (`rcell._joiner`), and `merge` is the second opinion on them in
+the tests; the sizes of areas, whose numbers need not be categories, are still added by `merge`.
 
 The laws that the steps follow are proved in the crate `cell_tiles_law` of this project; each is named beside its step.
 """
 
 from __future__ import annotations
 
-from collections.abc import Iterable, Sequence
+from collections.abc import Iterable
 from dataclasses import dataclass
 from typing import Any, NamedTuple
 
@@ -18,39 +21,18 @@ import numpy.typing as npt
 from scipy.sparse import coo_matrix
 from scipy.sparse.csgraph import connected_components
 
-from .._text import NULL
+from .._merging import Counts, TooManyCells, merge
+from .._numbers import NULL
 
 __all__ = ["NULL", "Counts", "Edge", "Edges", "Joined", "Rectangle", "TileNumbers", "TooManyCells", "edges", "join",
            "merge", "renumber"]
 
 Integers = npt.NDArray[Any]
 
-AFTER_ALL = 2**31
-"""Greater than every category: where null is sorted."""
-
 PIECE = 2**18
 """So many cells at a time are given their numbers: little memory besides, and within the cache of a processor."""
 
-MOST_CELLS = 2**63 - 1
 MOST_LABELS = 2**31 - 1
-
-
-class TooManyCells(ArithmeticError):
-    """A count of a merged table passes 2^63 - 1; `combination` is the one that it belongs to.
-
-    Examples
-    --------
-    >>> str(TooManyCells((1, None)))
-    'more than 9223372036854775807 cells of the combination 1 *'
-    """
-
-    def __init__(self, combination: tuple[int | None, ...]) -> None:
-        super().__init__(combination)
-        self.combination = combination
-
-    def __str__(self) -> str:
-        shown = " ".join("*" if part is None else str(part) for part in self.combination)
-        return f"more than {MOST_CELLS} cells of the combination {shown}"
 
 
 class Rectangle(NamedTuple):
@@ -60,73 +42,6 @@ class Rectangle(NamedTuple):
     left: int
     rows: int
     cols: int
-
-
-@dataclass(frozen=True, eq=False)
-class Counts:
-    """A table: combinations of categories, ascending (null is last) and each once, and how many cells have them.
-
-    Attributes
-    ----------
-    combinations : ndarray of int64, shape (entries, maps)
-        The categories, `NULL` (-2147483648) for null.
-    cells : ndarray of int64, shape (entries,)
-        The number of cells, at least 1.
-    """
-
-    combinations: Integers
-    cells: Integers
-
-
-def merge(tables: Sequence[Counts]) -> Counts:
-    """Add tables of parts of a map.
-
-    What comes out is the table of the whole where the parts cover each of its cells once (laws `parts_add_up` and
-    `tables_merge`). Merges can be merged again: in a tree of any shape the result is the same (law `merges_merge`).
-
-    Parameters
-    ----------
-    tables : sequence of Counts
-        At least one, all over the same number of maps. The combinations of a table need not be in order.
-
-    Raises
-    ------
-    TooManyCells
-        A sum passes 2^63 - 1.
-
-    Examples
-    --------
-    >>> first = Counts(np.array([[1], [5]]), np.array([10, 3]))
-    >>> second = Counts(np.array([[5], [NULL]]), np.array([4, 1]))
-    >>> whole = merge([first, second])
-    >>> whole.combinations.tolist(), whole.cells.tolist()
-    ([[1], [5], [-2147483648]], [10, 7, 1])
-    """
-    combinations = np.concatenate([table.combinations for table in tables])
-    cells = np.concatenate([table.cells for table in tables])
-    order = np.lexsort(np.where(combinations == NULL, AFTER_ALL, combinations).T[::-1])
-    combinations, cells = combinations[order], cells[order]
-    starts = np.flatnonzero(_differ_from_before(combinations))
-    if not len(starts):
-        return Counts(combinations, cells)
-    _refuse_too_many(combinations[starts], cells, starts)
-    return Counts(combinations[starts], np.add.reduceat(cells, starts))
-
-
-def _differ_from_before(combinations: Integers) -> npt.NDArray[np.bool_]:
-    new = np.ones(len(combinations), dtype=bool)
-    new[1:] = (combinations[1:] != combinations[:-1]).any(axis=1)
-    return new
-
-
-def _refuse_too_many(combinations: Integers, cells: Integers, starts: Integers) -> None:
-    # The halves of 32 bits are added apart, so that nothing wraps while it is looked for.
-    high = np.add.reduceat(cells >> 32, starts)
-    low = np.add.reduceat(cells & 0xFFFFFFFF, starts)
-    bad = np.flatnonzero(high + (low >> 32) > MOST_CELLS >> 32)
-    if len(bad):
-        parts = combinations[bad[0]].tolist()
-        raise TooManyCells(tuple(None if part == NULL else part for part in parts))
 
 
 class Edge(NamedTuple):

@@ -11,9 +11,11 @@ from typing import Any
 import numpy as np
 
 from .._errors import RcellError, Refused
+from .._joiner import find_joiner
 from .._labels import read_labels
 from .._libraries import has
 from .._maps import ArrayMap
+from .._merging import Counts, counts_of
 from .._program import execute
 from .._region import SIDE_LIMIT, Region
 from .._script import labels_in
@@ -26,7 +28,7 @@ from ._memory import Demand, areas_demand, grid_demand, places, size_for, sizes_
 from ._output import tile_writer
 from ._scripts import COMMANDS, NO_REACH, Assignment, Clump, Reclass, Statement, Stats, TileScript, spare_name, statements
 from ._sheet import MapFile, Sheet, open_maps
-from .joining import Counts, Joined, Rectangle, join
+from .joining import Joined, Rectangle, join
 
 __all__ = ["Mosaic", "NeedlessTiles", "TooLittleMemory", "open_mosaic"]
 
@@ -203,8 +205,8 @@ class Mosaic:
     def table(self, script: str, area: str | None = None, percent: bool = False) -> Any:
         """The table of an r.stats over the whole; see `rcell.table`.
 
-        Each tile's table comes from the program, with the statements before it in the script; the tables are merged in a
-        tree. `r.mapcalc` may be among them, with offsets and with `row()` and its like, but no `r.clump`: areas go on
+        Each tile's table comes from the program, with the statements before it in the script; the tables are joined in a
+        tree by rcell-join, which is proved. `r.mapcalc` may be among them, with offsets and with `row()` and its like, but no `r.clump`: areas go on
         outside of tiles. `patches` counts those.
 
         Parameters
@@ -238,7 +240,7 @@ class Mosaic:
         2   3      1  16.666667
         """
         stats, run = self._table_run(script)
-        counts = self._counts(run)
+        counts = self._counts(stats, run)
         labels = self._labels(stats.inputs, script) if "l" in stats.flags else None
         cells = counts.cells if "c" in stats.flags else None
         answer = Table("r.stats", stats.line, stats.inputs, counts.combinations, cells, labels, cell=self.sheet.cell, crs=self.sheet.crs)
@@ -246,15 +248,16 @@ class Mosaic:
         answer = answer.with_percent() if percent else answer
         return answer.frame() if has("pandas") else answer
 
-    def _counts(self, run: _tasks.TileRun) -> Counts:
+    def _counts(self, stats: Stats, run: _tasks.TileRun) -> Counts:
         demand = table_demand(self._read(run), run.made, run.script.reach)
         tiles = list(places(self.sheet, self._size_for(demand)))
         memory = self._memory(demand, tiles[0])
+        find_joiner()  # it is needed at the end, and missed at the beginning
         with self._engine.tasks("table", len(tiles)) as tasks:
             shared = tasks.shared(run)
-            leaves = [tasks.ask(_tasks.table_counts, shared, place, memory=memory) for place in tiles]
-            counts: Counts = tasks.merged(leaves, _tasks.merge_all)
-        return counts
+            leaves = [tasks.ask(_tasks.tile_table, shared, place, memory=memory) for place in tiles]
+            text: bytes = tasks.merged(leaves, _tasks.join_tables)
+        return counts_of(text, len(stats.inputs))
 
     def _labels(self, names: Iterable[str], script: str) -> dict[str, Mapping[int, str]]:
         """Labels of maps: those of the rules that made them, or those that their files have."""

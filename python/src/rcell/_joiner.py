@@ -1,0 +1,132 @@
+"""The joiner: where it is, and a run of it over texts that are held in memory.
+
+`rcell-join tables` is proved from bytes to bytes: the texts that `r.stats -c` prints of the parts of a map are joined to the text
+that it prints of the map. So the texts come here as the program printed them, and go on as the joiner printed them: they are
+read once, where the last one is needed as numbers.
+"""
+
+from __future__ import annotations
+
+import os
+import re
+import subprocess
+import tempfile
+from contextlib import ExitStack
+from typing import IO, Sequence
+
+from ._errors import Killed, MissingProgram, OutOfMemory, RcellError, WrongProgram
+from ._merging import counts_of, merge
+from ._program import candidates, find_program, known_after
+
+__all__ = ["find_joiner", "joined"]
+
+MESSAGE_LIMIT = 1 << 16
+_MESSAGE = re.compile(r"rcell-join: ([^:]*):(\d+): (.*)")
+_TOO_GREAT = "count too great"
+
+
+def find_joiner(program: str | os.PathLike[str] | None = None) -> str:
+    """The path of the program rcell-join.
+
+    Looked for in this order: the argument, the environment variable RCELL_JOIN, beside the program rcell that is used, the scripts
+    of this installation of Python (where the wheel puts it), the path.
+
+    Raises
+    ------
+    MissingProgram
+        Where there is none.
+    WrongProgram
+        Where it does not answer as this package needs it.
+
+    Examples
+    --------
+    >>> import os
+    >>> os.path.basename(find_joiner())
+    'rcell-join'
+    """
+    path = os.fspath(program) if program is not None else os.environ.get("RCELL_JOIN") or _found()
+    if not path:
+        raise MissingProgram("the program rcell-join was not found: neither in the environment variable RCELL_JOIN, nor beside rcell, nor on the path")
+    return known_after(_probe, path)
+
+
+def _found() -> str:
+    beside = os.path.join(os.path.dirname(find_program()), "rcell-join")
+    return beside if os.path.isfile(beside) else next(candidates("rcell-join"), "")
+
+
+def _probe(path: str) -> None:
+    """Runs the program once on two tables and an empty one."""
+    status, output, _ = _run(path, [b"1 * 2\n2 1 1\n", b"-1 7 1\n1 * 3\n* 4 5\n", b""])
+    if (status, output) != (0, b"-1 7 1\n1 * 5\n2 1 1\n* 4 5\n"):
+        raise WrongProgram(f"{path} is not a program rcell-join of a version that this package knows")
+
+
+def joined(texts: Sequence[bytes], program: str | os.PathLike[str] | None = None) -> bytes:
+    """Join the tables of parts of a map, as `r.stats -c` prints them, to the table of the map, as it would print it.
+
+    What was joined can be joined again: in a tree of any shape the result is the same.
+
+    Parameters
+    ----------
+    texts : sequence of bytes
+        At least one.
+    program : path, optional
+
+    Raises
+    ------
+    TooManyCells
+        A sum is too great.
+    OutOfMemory, Killed, MissingProgram, WrongProgram
+
+    Examples
+    --------
+    >>> joined([b"1 10\\n5 3\\n", b"5 4\\n* 1\\n"])
+    b'1 10\\n5 7\\n* 1\\n'
+    """
+    path = find_joiner(program)
+    status, output, told = _run(path, texts)
+    if status == 0:
+        return output
+    raise _fault(path, status, told, texts)
+
+
+def _run(path: str, texts: Sequence[bytes]) -> tuple[int, bytes, str]:
+    """The status, the output and what was told."""
+    with ExitStack() as opened:
+        files = [opened.enter_context(_held(text)).fileno() for text in texts]
+        words = [path, "tables", *(f"/dev/fd/{file}" for file in files)]
+        try:
+            ran = subprocess.run(words, stdin=subprocess.DEVNULL, capture_output=True, pass_fds=files, check=False)
+        except OSError as error:
+            raise MissingProgram(f"the program {path} cannot be executed: {error.strerror}") from None
+    return ran.returncode, ran.stdout, ran.stderr[:MESSAGE_LIMIT].decode("utf-8", "replace").rstrip("\n")
+
+
+def _held(text: bytes) -> IO[bytes]:
+    """A file that has a text and no name: in memory, where the system has such files."""
+    if hasattr(os, "memfd_create"):
+        file: IO[bytes] = open(os.memfd_create("table", os.MFD_CLOEXEC), "w+b", buffering=0)
+    else:
+        file = tempfile.TemporaryFile(buffering=0)
+    try:
+        rest = memoryview(text)
+        while rest:
+            rest = rest[file.write(rest) :]
+    except BaseException:
+        file.close()
+        raise
+    return file
+
+
+def _fault(path: str, status: int, told: str, texts: Sequence[bytes]) -> RcellError:
+    """The error of a run that did not end well; a sum that is too great is raised by the joiner in Python, which tells of what."""
+    if status < 0:
+        return Killed(-status)
+    found = _MESSAGE.fullmatch(told)
+    if found and status == 3:
+        return OutOfMemory(found[3], found[1], int(found[2]), status)
+    if found and found[3] == _TOO_GREAT:
+        width = next(text.partition(b"\n")[0].count(b" ") for text in texts if text)
+        merge([counts_of(text, width) for text in texts])
+    return WrongProgram(f"{path} ended in status {status} and said: {told or 'nothing'}")

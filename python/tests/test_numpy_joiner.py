@@ -1,0 +1,182 @@
+"""The proved joiner of tables beside the one of numpy and beside the undivided map; it needs numpy alone."""
+
+from __future__ import annotations
+
+import os
+import subprocess
+import sys
+import tempfile
+import unittest
+from typing import Any
+
+import numpy as np
+
+import rcell
+from rcell import _joiner
+from rcell._joiner import joined
+from rcell._maps import ArrayMap
+from rcell._merging import Counts, TooManyCells, counts_of, merge
+from rcell._numbers import NULL
+from rcell._program import table_text
+from rcell._region import Region
+
+NULL_CELL = 255
+TILINGS = 60
+
+
+def printed(counts: Counts) -> bytes:
+    """A table as r.stats -c prints it."""
+    rows = np.column_stack([counts.combinations, counts.cells]).tolist()
+    return b"".join(b" ".join(b"*" if part == NULL else b"%d" % part for part in row) + b"\n" for row in rows)
+
+
+def table_of(cells: Any, more: str = "") -> bytes:
+    """The table of two maps, of which the second is the first turned over."""
+    region = Region.of_cells(*cells[0].shape)
+    return table_text(f"r.stats -c {more}input=a,b", {name: ArrayMap(name, part, region, nodata_value=NULL_CELL) for name, part in zip("ab", cells)})
+
+
+def cuts(random: np.random.Generator, total: int) -> list[tuple[int, int]]:
+    """Where a side of a map is cut, at random: begin and end of each part."""
+    inner = sorted(random.choice(np.arange(1, total), random.integers(0, min(total, 5)), replace=False).tolist()) if total > 1 else []
+    return list(zip([0, *inner], [*inner, total]))
+
+
+class Tilings(unittest.TestCase):
+    def test_tables_of_tiles_join_to_that_of_the_whole(self) -> None:
+        for seed in range(TILINGS):
+            random = np.random.default_rng(seed)
+            rows, cols = random.integers(1, 12, 2)
+            first = random.choice(np.array([1, 1, 2, 30, 200, NULL_CELL], np.uint8), (rows, cols))
+            cells = np.stack([first, first[::-1]])
+            more = ["", "-n ", "-N ", "after=1,* "][seed % 4]
+            parts = [table_of(np.ascontiguousarray(cells[:, top:low, left:right]), more)
+                     for top, low in cuts(random, rows) for left, right in cuts(random, cols)]
+            with self.subTest(seed=seed):
+                whole = joined(parts)
+                self.assertEqual(whole, table_of(cells, more))
+                self.assertEqual(whole, printed(merge([counts_of(part, 2) for part in parts])))
+                tree = [parts[place] for place in random.permutation(len(parts))]
+                while len(tree) > 1:
+                    tree = [joined(tree[at : at + 3]) for at in range(0, len(tree), 3)]
+                self.assertEqual(tree, [whole])
+
+    def test_tables_at_random(self) -> None:
+        for seed in range(TILINGS):
+            random = np.random.default_rng(seed)
+            maps, tables = random.integers(1, 5), []
+            for _ in range(random.integers(1, 6)):
+                combinations = np.unique(random.choice([-3, 0, 1, 2, 2147483647], (random.integers(0, 30), maps)), axis=0)
+                counts = Counts(combinations.reshape(-1, maps), random.integers(1, [9, 2**40, 2**62][seed % 3], len(combinations)))
+                tables.append(merge([Counts(np.where(counts.combinations == -3, NULL, counts.combinations), counts.cells)]))
+            with self.subTest(seed=seed):
+                try:
+                    expected = printed(merge(tables))
+                except TooManyCells as fault:
+                    with self.assertRaises(TooManyCells) as caught:
+                        counts_of(joined([printed(table) for table in tables]), maps)
+                    self.assertEqual(caught.exception.combination, fault.combination)
+                else:
+                    self.assertEqual(joined([printed(table) for table in tables]), expected)
+
+    def test_a_table_of_many_entries(self) -> None:
+        tables = [Counts(np.arange(begin, begin + 200_000)[:, None], np.full(200_000, 7)) for begin in (0, 100_000, 150_000)]
+        self.assertEqual(joined([printed(table) for table in tables]), printed(merge(tables)))
+
+
+class Counted(unittest.TestCase):
+    def test_read(self) -> None:
+        found = counts_of(b"-1 5 3\n* 2147483647 9223372036854775807\n", 2)
+        self.assertEqual(found.combinations.tolist(), [[-1, 5], [NULL, 2147483647]])
+        self.assertEqual(found.cells.tolist(), [3, 2**63 - 1])
+        self.assertEqual(counts_of(b"", 3).combinations.shape, (0, 3))
+
+    def test_too_great(self) -> None:
+        with self.assertRaises(TooManyCells) as caught:
+            counts_of(b"1 2 9223372036854775807\n1 * 9223372036854775808\n", 2)
+        self.assertEqual(caught.exception.combination, (1, None))
+        half = b"1 1\n7 9223372036854775808\n"
+        for texts in ([half, half], [b"", half, half]):
+            with self.assertRaises(TooManyCells) as caught:
+                joined(texts)
+            self.assertEqual(caught.exception.combination, (7,))
+
+
+class Programs(unittest.TestCase):
+    """Programs that do not answer as they should: scripts in the place of rcell-join."""
+
+    def program(self, body: str) -> str:
+        folder = tempfile.TemporaryDirectory()
+        self.addCleanup(folder.cleanup)
+        path = f"{folder.name}/rcell-join"
+        with open(path, "w") as file:
+            file.write(f"#!/bin/sh\n{body}\n")
+        os.chmod(path, 0o755)
+        return path
+
+    def join_with(self, body: str) -> bytes:
+        from rcell import _program
+
+        path = self.program(body)
+        state = os.stat(path)
+        _program._known[path] = (state.st_ino, state.st_size, state.st_mtime_ns)
+        return joined([b"1 1\n"], program=path)
+
+    def test_found(self) -> None:
+        beside = os.path.join(os.path.dirname(rcell.program()), "rcell-join")
+        if "RCELL_JOIN" not in os.environ and os.path.exists(beside):
+            self.assertEqual(rcell.joiner(), beside)
+        self.assertEqual(rcell.joiner(rcell.joiner()), rcell.joiner())
+
+    def test_nowhere(self) -> None:
+        code = (
+            "import rcell._program as p, rcell._joiner as j\np.sysconfig.get_path = lambda *_: '/nowhere'\np.sys.executable = '/nowhere/python'\n"
+            "j.find_program = lambda: '/nowhere/rcell'\ntry: j.find_joiner()\nexcept p.MissingProgram as e: print(e)"
+        )
+        ran = subprocess.run([sys.executable, "-c", code], env={"PATH": "/nowhere", "PYTHONPATH": os.pathsep.join(sys.path)}, capture_output=True, text=True)
+        told = "the program rcell-join was not found: neither in the environment variable RCELL_JOIN, nor beside rcell, nor on the path\n"
+        self.assertEqual(ran.stdout, told, ran.stderr)
+
+    def test_missing_and_wrong(self) -> None:
+        with self.assertRaises(rcell.MissingProgram):
+            rcell.joiner("/nowhere/rcell-join")
+        for body in ("exit 0", "echo 1 2", "cat \"$2\" \"$3\"", "exit 3"):
+            with self.subTest(body=body), self.assertRaises(rcell.WrongProgram):
+                rcell.joiner(self.program(body))
+        path = self.program("")
+        with open(path, "w") as file:
+            file.write("no program")
+        with self.assertRaises(rcell.MissingProgram):
+            rcell.joiner(path)
+
+    def test_ended(self) -> None:
+        with self.assertRaises(rcell.Killed):
+            self.join_with("kill -9 $$")
+        with self.assertRaises(rcell.OutOfMemory) as caught:
+            self.join_with("echo 'rcell-join: tables:0: no memory' >&2; exit 3")
+        self.assertEqual((caught.exception.source, caught.exception.status), ("tables", 3))
+        for body in ("echo 'rcell-join: output:0: count too great' >&2; exit 1", "exit 7"):
+            with self.subTest(body=body), self.assertRaises(rcell.WrongProgram):
+                self.join_with(body)
+
+    def test_a_text_that_is_no_table(self) -> None:
+        with self.assertRaises(rcell.WrongProgram) as caught:
+            joined([b"1 2\n", b"1 x\n"])
+        self.assertIn("bad count", str(caught.exception))
+
+    def test_files_without_names(self) -> None:
+        texts = [b"1 1\n" * 0, b"1 5\n", b"2 5\n"]
+        self.assertEqual(joined(texts), b"1 5\n2 5\n")
+        kept = getattr(os, "memfd_create", None)
+        if kept is None:
+            self.skipTest("the system has none in memory")
+        del os.memfd_create
+        try:
+            self.assertEqual(joined(texts), b"1 5\n2 5\n")
+            self.assertEqual(_joiner.joined(texts * 40), b"1 200\n2 200\n")
+        finally:
+            os.memfd_create = kept
+
+
+if __name__ == "__main__":
+    unittest.main()
