@@ -8,7 +8,8 @@ use Rattle.cell_tiles_joining.proofs.clumped.edges_of.Goals as goal
 pub returns-clause-rows : goal.returns-clause-rows
 returns-clause-rows c =
     let m = c.args.map.now in
-    let rows : c.rows-last.result ≡ length m.rows = c.rows-last.ensures.value ∙ ap (λ (r : RegionValue). r.rows) c.region.ensures.value ∙ sym c.region.ensures.filled.count in
+    let rows : c.rows-last.result ≡ length m.rows = c.rows-last.ensures.value
+    ∙ ap (λ (r : RegionValue). r.rows) c.region.ensures.value ∙ sym c.region.ensures.filled.count in
     let last : c.rows-last.result - 1 ≡ length m.rows - 1 = ap (λ (n : ℕ). n - 1) rows in
     record {
       first = record { cells = c.in_ok-row_of.ensures; numbers = c.in_ok-row_of-2.ensures };
@@ -23,7 +24,8 @@ pub returns-clause-edges : goal.returns-clause-edges
 returns-clause-edges c = λ j clumping.
     let m = c.args.map.now in
     let numbers = c.args.numbers.now in
-    let rows : c.rows-last.result ≡ length m.rows = c.rows-last.ensures.value ∙ ap (λ (r : RegionValue). r.rows) c.region.ensures.value ∙ sym c.region.ensures.filled.count in
+    let rows : c.rows-last.result ≡ length m.rows = c.rows-last.ensures.value
+    ∙ ap (λ (r : RegionValue). r.rows) c.region.ensures.value ∙ sym c.region.ensures.filled.count in
     let last : c.rows-last.result - 1 ≡ length m.rows - 1 = ap (λ (n : ℕ). n - 1) rows in
     record {
       numbers = clumping;

@@ -18,8 +18,11 @@ returns-clause-numbers c = λ bands joined whole cut h.
     let old : c.as_mut_slice.result.now ≡ table = c.as_mut_slice.ensures.value in
     tell-numbers j whole cut bands h table lead size _ (λ k lt.
     written-back c.self.inside.table.len c.number_labels-areas.new.table table (omega arith) k
-    ∙ (subst (λ (t : List ℕ). (k : ℕ) → k < length t → get_or c.number_labels-areas.new.table k 0 ≡ label_number t (after_all (λ n. n) (all_meetings j 0 bands) k)) old
-    (c.number_labels-areas.ensures.numbered (after_all (λ n. n) (all_meetings j 0 bands)) (subst (λ (t : List ℕ). LeadTo t (after_all (λ n. n) (all_meetings j 0 bands))) (sym old) lead))) k lt)
+    ∙ (subst (λ (t : List ℕ). (k : ℕ) → k < length t
+    → get_or c.number_labels-areas.new.table k 0 ≡ label_number t
+    (after_all (λ n. n) (all_meetings j 0 bands) k)) old
+    (c.number_labels-areas.ensures.numbered (after_all (λ n. n) (all_meetings j 0 bands))
+    (subst (λ (t : List ℕ). LeadTo t (after_all (λ n. n) (all_meetings j 0 bands))) (sym old) lead))) k lt)
 
 pub returns-clause-areas : goal.returns-clause-areas
 returns-clause-areas c = λ bands joined whole cut h.
@@ -30,6 +33,7 @@ returns-clause-areas c = λ bands joined whole cut h.
     let size = size-of bands c.args.self table is joined in
     let old : c.as_mut_slice.result.now ≡ table = c.as_mut_slice.ensures.value in
     let count : c.number_labels-areas.result ≡ length (open_below table (length table)) =
-    c.number_labels-areas.ensures.count (after_all (λ n. n) (all_meetings j 0 bands)) (subst (λ (t : List ℕ). LeadTo t (after_all (λ n. n) (all_meetings j 0 bands))) (sym old) lead)
+    c.number_labels-areas.ensures.count (after_all (λ n. n) (all_meetings j 0 bands))
+    (subst (λ (t : List ℕ). LeadTo t (after_all (λ n. n) (all_meetings j 0 bands))) (sym old) lead)
     ∙ ap (λ (t : List ℕ). length (open_below t (length t))) old in
     subst (λ (n : ℕ). HasAreas j whole n) (sym count) (count-areas j whole cut bands h table lead size)
