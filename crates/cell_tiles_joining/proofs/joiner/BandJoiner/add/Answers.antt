@@ -1,4 +1,4 @@
-use Rattle.std.proofs.Common.{rules, ◌≡◌, ◌+◌, ◌∷◌, [], ◌++◌, Some, length, refl, sym, subst}
+use Rattle.std.proofs.Common.{rules, ◌≡◌, Some, length, refl, sym, subst}
 use Rattle.cell_tiles_joining.specs.BandsSoFar.{JoinerValue, AreJoinedBands}
 use Rattle.cell_tiles_joining.proofs.JoinerLemmas.{IsAdded, added-first, added-more}
 use Rattle.cell_tiles_joining.proofs.joiner.BandJoiner.add.Goals as goal
