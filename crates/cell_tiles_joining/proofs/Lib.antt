@@ -3,6 +3,7 @@ pub mod BandLemmas
 pub mod CutLemmas
 pub mod GreatestLemmas
 pub mod JoinLemmas
+pub mod JoinerLemmas
 pub mod LabelLemmas
 pub mod MeetingLemmas
 pub mod NumberLemmas

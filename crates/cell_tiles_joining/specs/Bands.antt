@@ -7,6 +7,7 @@ use Rattle.cell_cats_areas.specs.ClumpLaw.{AreFirsts}
 use Rattle.cell_tiles_law.specs.AreaParts.{lowered_position}
 use Rattle.cell_tiles_joining.specs.declared.edges.EdgeRow.{EdgeRow}
 use Rattle.cell_tiles_joining.specs.declared.edges.BandEdges.{BandEdges}
+use Rattle.cell_tiles_joining.specs.parts.Greatest.{greatest_of}
 
 -- how many areas a map has
 abbrev pub HasAreas : Joining → Grid → ℕ → Type 0
@@ -21,6 +22,12 @@ pub record Band : Type 0 where
 pub record IsEdge (band : Band) (row : ℕ) (edge : EdgeRow) : Type 0 where
   pub cells : edge.cells.items ≡ row_at band.map row
   pub numbers : edge.numbers.items ≡ row_at band.numbers row
+
+-- those of its first row and of its last, and the greatest of its numbers, 0 where it has none
+pub record AreRowsOf (band : Band) (edges : BandEdges) : Type 0 where
+  pub first : IsEdge band 0 edges.first
+  pub last : IsEdge band (length band.map.rows - 1) edges.last
+  pub greatest : edges.areas ≡ greatest_of 0 band.numbers.rows
 
 -- those of its first row and of its last, and the count of its areas
 pub record HasEdges (j : Joining) (band : Band) (edges : BandEdges) : Type 0 where

@@ -4,7 +4,7 @@ ghost use Rattle.std.specs.Prelude.{◌≡◌, ◌<◌, IfOk};
 ghost use Rattle.cell_core.specs.Grid.{row_at};
 ghost use Rattle.cell_cats_areas.specs.declared.clump.Joining.{Joining};
 ghost use Rattle.cell_cats_areas.specs.Areas.{IsClumping};
-ghost use Rattle.cell_tiles_joining.specs.Bands.{HasEdges};
+ghost use Rattle.cell_tiles_joining.specs.Bands.{AreRowsOf, HasEdges};
 ghost use Rattle.cell_tiles_joining.specs.parts.Greatest.{greater_of, greatest_in, greatest_of};
 
 use crate::edges::{BandEdges, EdgeRow};
@@ -38,8 +38,12 @@ fn greatest_in(most: u64, cells: &[Cell]) -> u64
     greatest
 }
 
-// The cells of a row.
-fn row_of(alloc: Global, map: &CellMap, row: u32) -> Result<Vec<Cell>, Memory>
+/// The cells of a row.
+///
+/// # Errors
+///
+/// [`Memory`] when out of memory.
+pub fn row_of(alloc: Global, map: &CellMap, row: u32) -> Result<Vec<Cell>, Memory>
     requires { row < map.now.region.rows }
     ensures { IfOk result (λ cells. cells.items ≡ row_at map.now row) }
 {
@@ -67,7 +71,9 @@ fn greatest_of(alloc: Global, numbers: &CellMap) -> Result<u64, Memory>
 /// [`Memory`] when out of memory.
 pub fn edges_of(alloc: Global, map: &CellMap, numbers: &CellMap) -> Result<BandEdges, Memory>
     requires { numbers.now.region ≡ map.now.region }
-    ensures { IfOk result (λ edges. (j : Joining) → IsClumping j map.now numbers.now →
+    ensures rows { IfOk result
+        (AreRowsOf (record { map = map.now; numbers = numbers.now })) }
+    ensures edges { IfOk result (λ edges. (j : Joining) → IsClumping j map.now numbers.now →
         HasEdges j (record { map = map.now; numbers = numbers.now }) edges) }
 {
     let last = map.region().rows() - 1;

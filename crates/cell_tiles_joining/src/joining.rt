@@ -38,7 +38,7 @@ fn first_labels(alloc: Global, bands: &[BandEdges]) -> Result<Vec<u64>, Memory>
 }
 
 // Takes the band below another one in: labels for its areas, joined with those above where cells meet at the cut.
-fn add_band(
+pub(crate) fn add_band(
     table: &mut Vec<u64>,
     joining: Joining,
     base: u64,

@@ -6,6 +6,7 @@
 
 pub mod clumped;
 pub mod edges;
+pub mod joiner;
 pub mod joining;
 mod label_numbers;
 mod meetings;
