@@ -1,11 +1,9 @@
 -- What an areas text is still read as, its head first.
-use Rattle.std.specs.Prelude.{ℕ, Option, Some, None, Result, Ok, Err}
+use Rattle.std.specs.Prelude.{ℕ, Option, Some, None}
 use Rattle.std.specs.Option.{option_map}
-use Rattle.cell_stats_combinations.specs.Combinations.{Combination}
 use Rattle.cell_tiles_lines.specs.LineReading.{TableReading}
 use Rattle.cell_tiles_numbering.specs.declared.stretch.Stretch.{Stretch}
-use Rattle.cell_tiles_numbering.specs.declared.areas_fault.AreasKind.{AreasKind}
-use Rattle.cell_tiles_numbering.specs.AreasReading.{AreasReading, areas_ended, areas_read, next_stretch, with_stretch}
+use Rattle.cell_tiles_numbering.specs.AreasReading.{AreasReading, areas_ended, areas_read, with_stretch}
 
 -- the stretch that was read last, the number of the line behind it, and what is read behind it as a table, where that is known
 pub record AreasTextValue : Type 0 where
@@ -24,12 +22,3 @@ areas_from_head text (Some s) = option_map (λ rest. with_stretch s (areas_read 
 
 abbrev pub areas_from : AreasTextValue → Option AreasReading
 areas_from text = areas_from_head text text.head
-
--- a stretch that may be, of an entry that may be
-abbrev pub head_if : Result Stretch AreasKind → Result (Option Stretch) AreasKind
-head_if (Ok s) = Ok (Some s)
-head_if (Err kind) = Err kind
-
-abbrev pub stretch_of_head : Option Stretch → Option (Combination × ℕ) → Result (Option Stretch) AreasKind
-stretch_of_head before None = Ok None
-stretch_of_head before (Some entry) = head_if (next_stretch before entry)

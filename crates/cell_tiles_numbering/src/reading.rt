@@ -2,7 +2,8 @@
 
 ghost use Rattle.std.specs.Prelude.{◌≡◌, ◌≢◌, ◌-◌, None, IfErr, IfOk, IfSome, OnOk, Ok, Err, option_map, slice_index_or};
 ghost use Rattle.cell_tiles_numbering.specs.AreasReading.{areas_fault, areas_format, areas_reading_of, areas_stopped, comes_next, in_sequence, number_at, number_of_cell, stretch_of_entry};
-ghost use Rattle.cell_tiles_numbering.specs.TextOfAreas.{areas_behind, areas_from, stretch_of_head};
+ghost use Rattle.cell_tiles_numbering.specs.TextOfAreas.{areas_behind, areas_from};
+ghost use Rattle.cell_tiles_numbering.specs.parts.HeadStretch.{stretch_of_head};
 
 use crate::areas_fault::{AreasFault, AreasKind, areas_kind};
 use crate::stretch::{Stretch, is_next};
@@ -145,7 +146,7 @@ impl<R: Source> AreasText<R> {
     /// # Errors
     ///
     /// The fault of the first line.
-    pub fn from_source(alloc: Global, source: R) -> Result<AreasText<R>, AreasFault>
+    pub fn begin(alloc: Global, source: R) -> Result<AreasText<R>, AreasFault>
     where
         R: Drop,
         ensures read { IfOk result (λ areas. option_map areas_reading_of (R.coming source)
@@ -168,14 +169,14 @@ impl<R: Source> AreasText<R> {
     }
 
     /// The stretch that was read last, or None at the end of the text.
-    pub fn head(&self) -> Option<Stretch>
+    pub fn stretch(&self) -> Option<Stretch>
         ensures { result ≡ self.now.head }
     {
         self.head
     }
 
     /// The number of the line of the stretch that was read last.
-    pub fn line(&self) -> u64
+    pub fn stretch_line(&self) -> u64
         ensures { result ≡ self.now.line - 1 }
     {
         self.line.saturating_sub(1)

@@ -10,13 +10,13 @@ areas-preserved g c =
     let text = areas_text (stretches_in c.args.band xs) in
     let was = c.areas.invariant in
     elim c.if-is_next.branch [
-      then-is_next w ↦ rw (w.out-is, w.block-is, w.open-is)
+      | then-is_next w ↦ rw (w.out-is, w.block-is, w.open-is)
           (record {
             rest = line-goes-on text c.areas.open c.areas.previous c.areas.place xs (omega arith) was.last was.rest (sym c.is_next.ensures ∙ w.if-is_next.true);
             last = refl;
             band = was.band;
           })
-    | else-is_next w ↦ rw (w.out-is, w.block-is, w.open-is)
+      | else-is_next w ↦ rw (w.out-is, w.block-is, w.open-is)
           (record {
             rest = line-ends text c.areas.open c.areas.previous c.areas.place xs (omega arith) was.last c.args.band was.band was.rest
                 (sym c.is_next.ensures ∙ w.if-is_next.false) w.write_stretch.ensures;
