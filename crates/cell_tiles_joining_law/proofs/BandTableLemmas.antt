@@ -130,7 +130,7 @@ module _ (j : Joining) (skip : Skip) (cols : ℕ) where
       ∙ ap (λ (n : ℕ). number_table skip (sizes_of_areas one.areas band.numbers (length band.map.rows) n)
       (count_of (None ∷ []) (cells_of band.numbers (length band.map.rows) n))) is.wide
 
-  tables-list : (bands : List Band) (edges : List BandEdges) (tables : List Pairs) → HaveEdges j bands edges →
+  pub tables-list : (bands : List Band) (edges : List BandEdges) (tables : List Pairs) → HaveEdges j bands edges →
       AllZip (IsBandTable skip cols) bands tables → flat_map listed_sizes tables ≡ sizes_of_bands cols bands edges
   tables-list [] edges [] have are = refl
   tables-list [] edges (table ∷ tables) have are = absurd are

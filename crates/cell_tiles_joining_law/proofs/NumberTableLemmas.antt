@@ -74,13 +74,13 @@ entries-ascend n (size ∷ sizes) skip nulls =
 
 -- ---- what the entries are
 
-record IsEntry (from : ℕ) (sizes : List ℕ) (k : Combination) (n : ℕ) : Type 0 where
-  place : ℕ
-  few : place < length sizes
-  number : k ≡ Some (pos (from + place)) ∷ []
-  size : n ≡ get_or sizes place 0
+pub record IsEntry (from : ℕ) (sizes : List ℕ) (k : Combination) (n : ℕ) : Type 0 where
+  pub place : ℕ
+  pub few : place < length sizes
+  pub number : k ≡ Some (pos (from + place)) ∷ []
+  pub size : n ≡ get_or sizes place 0
 
-entry-only : (from : ℕ) (sizes : List ℕ) (k : Combination) (n i : ℕ) → i < length (entries_from from sizes) →
+pub entry-only : (from : ℕ) (sizes : List ℕ) (k : Combination) (n i : ℕ) → i < length (entries_from from sizes) →
     get_or (entries_from from sizes) i (k, n) ≡ (k, n) → IsEntry from sizes k n
 entry-only from [] k n i within is = absurd (omega (arith, within))
 entry-only from (size ∷ sizes) k n zero within is =
@@ -101,7 +101,7 @@ entry-only from (size ∷ sizes) k n (suc i) within is =
       size = later.size;
     }
 
-entry-there : (from : ℕ) (sizes : List ℕ) (i : ℕ) → i < length sizes →
+pub entry-there : (from : ℕ) (sizes : List ℕ) (i : ℕ) → i < length sizes →
     Contains (entries_from from sizes) (Some (pos (from + i)) ∷ [], get_or sizes i 0)
 entry-there from [] i within = absurd (omega (arith, within))
 entry-there from (size ∷ sizes) zero within =

@@ -1,0 +1,2 @@
+-- Areas texts that are written and read.
+pub mod WrittenAreas

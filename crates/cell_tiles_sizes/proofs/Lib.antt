@@ -1,0 +1,4 @@
+pub mod AddingLemmas
+pub mod CountingLemmas
+pub mod PutLemmas
+pub mod TallyLemmas

@@ -1,0 +1,16 @@
+use Rattle.std.proofs.Common.{◌≡◌, None, ap, sym, ◌∙◌, subst}
+use Rattle.cell_tiles_lines.specs.TextReading.{TextValue}
+use Rattle.cell_tiles_sizes.proofs.CountingLemmas.{left-none, left-over, none-of}
+use Rattle.cell_tiles_sizes.proofs.table_sizes.end_table.Goals as goal
+use Rattle.cell_tiles_sizes.proofs.table_sizes.end_table.Goals.{then-is_null+in_default, else-is_null}
+
+pub returns-clause-left : goal.returns-clause-left
+returns-clause-left g c =
+    let format = c.args.format.now in
+    let none : c.if-is_null.table.head ≡ None = sym c.head-2.ensures ∙ none-of c.head-2.result.now (sym c.is_some.ensures ∙ c.if-is_some.false) in
+    elim c.if-is_null.branch [
+      | then-is_null+in_default w ↦ left-over format c.args.table.now w.next.new.self
+          (rw c.head.ensures at (c.is_null.ensures w.if-is_null.true)) w.in_default.ensures.read
+          (sym (ap (λ (t : TextValue). t.head) w.table-is) ∙ none)
+      | else-is_null w ↦ left-none format c.args.table.now (sym (ap (λ (t : TextValue). t.head) w.table-is) ∙ none)
+    ]

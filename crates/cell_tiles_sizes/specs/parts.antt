@@ -1,0 +1,3 @@
+-- Sizes added one by one, beside the stretches of a band.
+pub mod Counting
+pub mod Tally

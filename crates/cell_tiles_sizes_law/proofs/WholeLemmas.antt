@@ -1,0 +1,185 @@
+-- Sizes added up by an areas text are those of the areas of the undivided map.
+use Rattle.std.proofs.Common.{◌≡◌, ℕ, zero, suc, pos, ◌+◌, ◌-◌, ◌<◌, ◌≤◌, List, [], ◌∷◌, ◌++◌, length, map, flat_map, filter, get_or, ◌==◌, take, drop, sum, Bool, true, false, cond, not, Option, Some, None, refl, ap, sym, ◌∙◌, subst, arith, append-nil, append_assoc, length-append, length-drop, ⊎_elim, ◌⊎◌, inl, inr}
+use Rattle.std.specs.Prelude.{All}
+use Rattle.std.specs.List.{AllZip, Contains, range_with_len}
+use Rattle.std.proofs.lemmas.Bool.{cases_lt}
+use Rattle.std.proofs.lemmas.Bool.Decides.{Decides-eqb}
+use Rattle.std.proofs.lemmas.List.{take-append-drop}
+use Rattle.std.proofs.lemmas.List.Concat.{flat_map-append}
+use Rattle.std.proofs.lemmas.List.Elements.{All-append, All-cons, All-contains_itself, All-get_or, All-head, All-nil, All-tail, All-weaker, Contains-append_cases, Contains-append_left}
+use Rattle.std.proofs.lemmas.List.FromFn.{get_or-map-range_with_len, length-map-range_with_len, length-range_with_len}
+use Rattle.cell_core.specs.Grid.{Grid, IsFilled}
+use Rattle.cell_cats_areas.specs.declared.clump.Joining.{Joining}
+use Rattle.cell_cats_areas.specs.Areas.{IsClumping}
+use Rattle.cell_stats_combinations.specs.declared.skip.Skip.{Skip}
+use Rattle.cell_stats_combinations.specs.declared.skip.Skip.TheVariants.{AnyNull}
+use Rattle.cell_stats_combinations.specs.Combinations.{Combination}
+use Rattle.cell_stats_combinations.specs.LeftOut.{is_left_out}
+use Rattle.cell_stats_counts.specs.Counts.{count_of}
+use Rattle.cell_stats.specs.CategoryTables.{Pairs, IsTable}
+use Rattle.cell_cats_law.specs.AreaLaw.{cells_of}
+use Rattle.cell_tiles_lines.specs.LineReading.{TableReading}
+use Rattle.cell_tiles_joining.specs.declared.edges.BandEdges.{BandEdges}
+use Rattle.cell_tiles_joining.specs.Bands.{Band, HasAreas, HaveEdges, IsCutInto, JoinNumbers, JoinAreas}
+use Rattle.cell_tiles_joining.specs.Sizes.{AddUp, size_for, size_of_area}
+use Rattle.cell_tiles_joining_law.specs.SizeLaw.{size_of_number, sizes_of_areas, sizes_of_bands}
+use Rattle.cell_tiles_joining_law.specs.NumberTables.{IsBandTable, entries_from, entry_of_null, listed_sizes, number_table}
+use Rattle.cell_tiles_joining_law.proofs.BandTableLemmas.{tables-list}
+use Rattle.cell_tiles_joining_law.proofs.NumberTableLemmas.{entry-only, entry-there, numbers-are-listed}
+use Rattle.cell_tiles_joining_law.proofs.SizeLemmas.{size-of-whole, sizes-count-cells}
+use Rattle.cell_tiles_numbering.specs.declared.stretch.Stretch.{Stretch}
+use Rattle.cell_tiles_numbering.specs.AreasText.{numbers_told, stretch_numbers, stretches_of}
+use Rattle.cell_tiles_numbering.proofs.ToldLemmas.{numbers-are-told}
+use Rattle.cell_tiles_sizes.specs.SizeTexts.{AreTablesOfBands, BandSizes, HasTally, HaveSizes, IsNullEntry, IsTableOfBand, entries_of_areas, number_entries, stretch_areas}
+use Rattle.cell_tiles_sizes.proofs.TallyLemmas.{size-other}
+use Rattle.cell_tiles_sizes_law.specs.WholeSizes.{SizesOfTheWhole, areas_read_of, band_areas, table_read}
+
+-- ---- the entries of numbers are listed as they are printed
+
+same-entries : (n : ℕ) (sizes : List ℕ) → number_entries n sizes ≡ entries_from n sizes
+same-entries n [] = refl
+same-entries n (size ∷ sizes) = ap (λ (l : Pairs). (Some (pos n) ∷ [], size) ∷ l) (same-entries (n + 1) sizes)
+
+-- ---- the sizes that tables list
+
+null-lists : (nulls : Pairs) → IsNullEntry nulls → listed_sizes nulls ≡ []
+null-lists [] is = refl
+null-lists (entry ∷ []) is = ap (λ (k : Combination). listed_sizes ((k, entry.1) ∷ [])) is
+null-lists (entry ∷ next ∷ entries) is = absurd is
+
+numbers-list : (n : ℕ) (sizes : List ℕ) (others : Pairs) → listed_sizes (number_entries n sizes ++ others) ≡ sizes ++ listed_sizes others
+numbers-list n [] others = refl
+numbers-list n (size ∷ sizes) others = ap (λ (l : List ℕ). size ∷ l) (numbers-list (n + 1) sizes others)
+
+areas-list : (stretches : List Stretch) (sizes : List ℕ) (nulls : Pairs) → length sizes ≡ length (numbers_told stretches) → IsNullEntry nulls
+    → listed_sizes (entries_of_areas stretches sizes ++ nulls) ≡ sizes
+areas-list [] [] nulls many null = null-lists nulls null
+areas-list [] (size ∷ sizes) nulls many null = absurd (omega arith)
+areas-list (s ∷ stretches) sizes nulls many null =
+    let n = stretch_areas s in
+    let long : length (numbers_told (s ∷ stretches)) ≡ n + length (numbers_told stretches) =
+    length-append (stretch_numbers s) (numbers_told stretches) ∙ ap (λ (k : ℕ). k + length (numbers_told stretches)) (length-range_with_len s.number n) in
+    let rest : length (drop n sizes) ≡ length (numbers_told stretches) = omega (arith, length-drop n sizes) in
+    ap listed_sizes (append_assoc (number_entries s.first (take n sizes)) (entries_of_areas stretches (drop n sizes)) nulls)
+    ∙ numbers-list s.first (take n sizes) (entries_of_areas stretches (drop n sizes) ++ nulls)
+    ∙ ap (λ (l : List ℕ). take n sizes ++ l) (areas-list stretches (drop n sizes) nulls rest null)
+    ∙ take-append-drop n sizes
+
+parts-list : (band : ℕ) (parts : List BandSizes) (tables : List Pairs) → AreTablesOfBands band parts (map table_read tables)
+    → flat_map (λ (part : BandSizes). part.sizes) parts ≡ flat_map listed_sizes tables
+parts-list band [] [] are = refl
+parts-list band [] (table ∷ tables) are = absurd are
+parts-list band (part ∷ parts) [] are = absurd are
+parts-list band (part ∷ parts) (table ∷ tables) are =
+    let is = are.0 in
+    let here : part.sizes ≡ listed_sizes table = sym (ap listed_sizes is.lists ∙ areas-list part.stretches part.sizes is.nulls is.many is.null) in
+    (λ i. here i ++ parts-list (band + 1) parts tables are.1 i)
+
+-- ---- no size is 0
+
+abbrev IsSome : ℕ → Type 0
+IsSome n = 0 < n
+
+some-listed : (table : Pairs) → All (λ (e : Combination × ℕ). 0 < e.1) table → All IsSome (listed_sizes table)
+some-listed [] all = All-nil IsSome
+some-listed (e ∷ table) all = by (not (is_left_out AnyNull e.0)) (some-listed table (All-tail (λ (p : Combination × ℕ). 0 < p.1) e table all))
+  where
+    by : (b : Bool) → All IsSome (listed_sizes table)
+        → All IsSome (map (λ (p : Combination × ℕ). p.1) (cond b (e ∷ filter (λ (p : Combination × ℕ). not (is_left_out AnyNull p.0)) table) (filter (λ (p : Combination × ℕ). not (is_left_out AnyNull p.0)) table)))
+    by true rest = All-cons IsSome e.1 (listed_sizes table) (All-head (λ (p : Combination × ℕ). 0 < p.1) e table all) rest
+    by false rest = rest
+
+some-in : (skip : Skip) (cols : ℕ) (bands : List Band) (tables : List Pairs) → AllZip (IsBandTable skip cols) bands tables → All IsSome (flat_map listed_sizes tables)
+some-in skip cols [] [] are = All-nil IsSome
+some-in skip cols [] (table ∷ tables) are = absurd are
+some-in skip cols (band ∷ bands) [] are = absurd are
+some-in skip cols (band ∷ bands) (table ∷ tables) are =
+    All-append IsSome (listed_sizes table) (flat_map listed_sizes tables)
+    (some-listed table (All-weaker (Contains table) (λ (e : Combination × ℕ). 0 < e.1) (λ e there. ((are.0.lists.counted e.0 e.1).0 there).1.0) table (All-contains_itself table)))
+    (some-in skip cols bands tables are.1)
+
+-- a number that is one of some has a size
+size-some : (n : ℕ) (numbers sizes : List ℕ) (i : ℕ) → i < length numbers → get_or numbers i n ≡ n → length sizes ≡ length numbers → All IsSome sizes
+    → 0 < size_of_area n numbers sizes
+size-some n [] sizes i within is same all = absurd (omega arith)
+size-some n (number ∷ numbers) [] i within is same all = absurd (omega arith)
+size-some n (number ∷ numbers) (size ∷ sizes) zero within is same all =
+    let own : (n == number) ≡ true = (Decides-eqb n number).1 (sym is) in
+    omega (arith, ap (λ (b : Bool). cond b size 0) own, All-head IsSome size sizes all)
+size-some n (number ∷ numbers) (size ∷ sizes) (suc i) within is same all =
+    omega (arith, size-some n numbers sizes i (omega arith) is (omega arith) (All-tail IsSome size sizes all))
+
+-- ---- as many as the whole has
+
+no-null : (nulls : ℕ) → entry_of_null AnyNull nulls ≡ []
+no-null zero = refl
+no-null (suc nulls) = refl
+
+module _ (j : Joining) (whole numbered : Grid) (is : IsClumping j whole numbered) (filled : IsFilled whole.region whole.rows) (areas : ℕ) (has : HasAreas j whole areas) where
+  abbrev cells : List Combination
+  cells = cells_of numbered whole.region.rows whole.region.cols
+
+  abbrev own_sizes : List ℕ
+  own_sizes = sizes_of_areas areas numbered whole.region.rows whole.region.cols
+
+  own-table : IsTable AnyNull cells (entries_from 1 own_sizes)
+  own-table =
+      subst (IsTable AnyNull cells)
+      (ap (λ (l : Pairs). entries_from 1 own_sizes ++ l) (no-null (count_of (None ∷ []) cells)) ∙ append-nil (entries_from 1 own_sizes))
+      ((numbers-are-listed j whole numbered is filled areas has AnyNull (number_table AnyNull own_sizes (count_of (None ∷ []) cells))).1 refl)
+
+  -- a number that some cell has is one of them
+  pub at-most : (n : ℕ) → 0 < n → 0 < size_of_number numbered whole.region.rows whole.region.cols n → n ≤ areas
+  at-most n one some =
+      let there : Contains (entries_from 1 own_sizes) (Some (pos n) ∷ [], size_of_number numbered whole.region.rows whole.region.cols n) =
+      (own-table.counted (Some (pos n) ∷ []) (size_of_number numbered whole.region.rows whole.region.cols n)).1 (refl, (some, refl)) in
+      let entry = entry-only 1 own_sizes (Some (pos n) ∷ []) (size_of_number numbered whole.region.rows whole.region.cols n) there.0 there.1 there.2 in
+      let number : n ≡ 1 + entry.place = let e : Some (pos n) ∷ [] ≡ Some (pos (1 + entry.place)) ∷ [] = entry.number in cc in
+      omega (arith, number, entry.few, length-map-range_with_len (size_of_number numbered whole.region.rows whole.region.cols) 1 areas)
+
+  -- each of them some cell has
+  pub has-cell : (n : ℕ) → n < areas → 0 < size_of_number numbered whole.region.rows whole.region.cols (1 + n)
+  has-cell n few =
+      let long : length own_sizes ≡ areas = length-map-range_with_len (size_of_number numbered whole.region.rows whole.region.cols) 1 areas in
+      let there = entry-there 1 own_sizes n (omega arith) in
+      let counted = (own-table.counted (Some (pos (1 + n)) ∷ []) (get_or own_sizes n 0)).0 there in
+      subst (λ (k : ℕ). 0 < k) (get_or-map-range_with_len (size_of_number numbered whole.region.rows whole.region.cols) 1 areas n (1 + n) 0 few refl) counted.1.0
+
+-- ---- the law
+
+pub sizes-of-the-whole : SizesOfTheWhole
+sizes-of-the-whole j whole bands edges cut filled skip tables are numbers many join areas count sizes have numbered is =
+    let rows = whole.region.rows in
+    let cols = whole.region.cols in
+    let told : numbers_told (stretches_of (band_areas edges) numbers) ≡ numbers = numbers-are-told (band_areas edges) numbers many in
+    let listed = flat_map listed_sizes tables in
+    let own : flat_map (λ (part : BandSizes). part.sizes) have.parts ≡ listed = parts-list 1 have.parts tables have.listed in
+    let tally : HasTally numbers listed sizes =
+    subst (λ (l : List ℕ). HasTally numbers l sizes) own
+    (subst (λ (l : List ℕ). HasTally l (flat_map (λ (part : BandSizes). part.sizes) have.parts) sizes) told have.tally) in
+    let of_bands : listed ≡ sizes_of_bands cols bands edges = tables-list j skip cols bands edges tables cut.all are in
+    let some : All IsSome listed = some-in skip cols bands tables are in
+    let has : HasAreas j whole areas = count whole bands cut in
+    let area : (n : ℕ) → 0 < n → size_of_number numbered rows cols n ≡ size_of_area n numbers listed =
+    λ n one. ap (λ (k : ℕ). size_of_number numbered k cols n) (sym filled.count)
+    ∙ size-of-whole j whole bands edges cut numbers (join whole bands cut) numbered is cols n one
+    ∙ ap (size_of_area n numbers) (sym of_bands) in
+    let few : (areas < length sizes) → ⊥ = λ lt.
+    let there = tally.each areas lt in
+    let more : 0 < size_of_area (areas + 1) numbers listed = size-some (areas + 1) numbers listed there.0 there.1 there.2 tally.same some in
+    let least : areas + 1 ≤ areas = at-most j whole numbered is filled areas has (areas + 1) (omega arith)
+    (subst (λ (k : ℕ). 0 < k) (sym (area (areas + 1) (omega arith))) more) in
+    omega arith in
+    let enough : (length sizes < areas) → ⊥ = λ lt.
+    let none : size_of_area (1 + length sizes) numbers listed ≡ 0 = size-other (1 + length sizes) numbers listed
+    (All-weaker (λ (k : ℕ). (0 < k) × (k ≤ length sizes)) (λ (k : ℕ). k < 1 + length sizes) (λ k within. omega arith) numbers tally.within) in
+    omega (arith, has-cell j whole numbered is filled areas has (length sizes) lt, area (1 + length sizes) (omega arith), none) in
+    let long : length sizes ≡ areas = ⊎_elim (λ lt. absurd (few lt)) (λ ge. ⊎_elim (λ lt. absurd (enough lt)) (λ le. omega arith) (cases_lt (length sizes) areas)) (cases_lt areas (length sizes)) in
+    let adds : AddUp numbers (sizes_of_bands cols bands edges) areas sizes =
+    subst (λ (l : List ℕ). AddUp numbers l areas sizes) of_bands (subst (λ (n : ℕ). AddUp numbers listed n sizes) long tally.adds) in
+    let same : sizes ≡ sizes_of_areas areas numbered rows cols =
+    sizes-count-cells j whole bands edges cut numbers join numbered is cols areas sizes adds
+    ∙ ap (λ (n : ℕ). sizes_of_areas areas numbered n cols) filled.count in
+    subst (IsTable AnyNull (cells_of numbered rows cols))
+    (sym (same-entries 1 sizes ∙ ap (entries_from 1) same))
+    (own-table j whole numbered is filled areas has)

@@ -1,0 +1,2 @@
+-- Sizes of the areas of the whole.
+pub mod WholeSizes
