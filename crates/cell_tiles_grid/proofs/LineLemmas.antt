@@ -17,7 +17,7 @@ use Rattle.cell_tiles_grid.specs.declared.sides.Border.{Border}
 use Rattle.cell_tiles_grid.specs.declared.sides.Border.TheVariants.{First, Last, Left, Right}
 use Rattle.cell_tiles_grid.specs.declared.grid_places.Place.{Place}
 use Rattle.cell_tiles_grid.specs.declared.grid_lines.LineMark.{LineMark}
-use Rattle.cell_tiles_grid.specs.parts.Places.{start_place, label_in}
+use Rattle.cell_tiles_grid.specs.parts.Places.{start_place, place_label}
 use Rattle.cell_tiles_grid.specs.parts.GridLines.{side_at, start_in, label_of_start, mark_in, mark_on_side, marks_of, row_marks}
 use Rattle.cell_tiles_grid.specs.parts.GridMeetings.{Line, Link, line_meetings, linked, tile_links, row_links}
 use Rattle.cell_tiles_grid.proofs.PlaceLemmas.{label-only}
@@ -32,7 +32,7 @@ start-of-number starts k d lt =
     let e : (k + 1) - 1 ≡ k = omega arith in
     cond-false (eqb (k + 1) 0) None (slice_get starts ((k + 1) - 1)) (ne_eqb (k + 1) 0 (λ z. absurd (omega (arith, z)))) ∙ ap (slice_get starts) e ∙ slice_get-get_or starts k d lt
 
-pub mark-is : (order : List Place) (r c : ℕ) (starts : List AreaStart) (v : ℤ) (k l : ℕ) (d : AreaStart) → k < length starts → label_in order (start_place r c (get_or starts k d)) ≡ Some l → mark_in order r c starts (Some v) (Some (pos (k + 1))) ≡ Some (record { category = v; label = l })
+pub mark-is : (order : List Place) (r c : ℕ) (starts : List AreaStart) (v : ℤ) (k l : ℕ) (d : AreaStart) → k < length starts → place_label order (start_place r c (get_or starts k d)) ≡ Some l → mark_in order r c starts (Some v) (Some (pos (k + 1))) ≡ Some (record { category = v; label = l })
 mark-is order r c starts v k l d lt is =
     ap (λ o. option_map (λ n. record { category = v; label = n }) (label_of_start order r c o)) (start-of-number starts k d lt)
     ∙ ap (option_map (λ n. record { category = v; label = n })) is

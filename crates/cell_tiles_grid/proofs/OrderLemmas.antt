@@ -11,7 +11,7 @@ use Rattle.std.proofs.lemmas.Cmp.{by_ranked, ranked, nat_cmp_total, on_total, th
 use Rattle.std.proofs.lemmas.List.Kept.{AllPairs-cons}
 use Rattle.std.proofs.lemmas.List.Sorted.{searchable_from_sorted}
 use Rattle.cell_tiles_grid.specs.declared.grid_places.Place.{Place}
-use Rattle.cell_tiles_grid.specs.parts.Places.{IsEarlierPlace, AreInOrder, label_in}
+use Rattle.cell_tiles_grid.specs.parts.Places.{IsEarlierPlace, AreInOrder, place_label}
 use Rattle.cell_tiles_grid.proofs.PlaceLemmas.{label-is, no-label}
 
 abbrev pub place_cmp : Place → Place → Ordering
@@ -92,13 +92,13 @@ strictly-in-order (x ∷ xs) h = AllPairs-cons IsEarlierPlace x xs (λ k d lt. l
 
 -- ---- what a search finds
 
-pub label-found : (order : List Place) → AreInOrder order → (place : Place) (k : ℕ) → k < length order → ((d : Place) → place_cmp (get_or order k d) place ≡ Equal) → label_in order place ≡ Some k
+pub label-found : (order : List Place) → AreInOrder order → (place : Place) (k : ℕ) → k < length order → ((d : Place) → place_cmp (get_or order k d) place ≡ Equal) → place_label order place ≡ Some k
 label-found order in_order place k lt is = label-is order in_order place k lt (equal-same (get_or order k place) place (is place))
 
 rising : (order : List Place) → AreInOrder order → (place : Place) → IsNonDecreasingBy (λ y. ordering_index (place_cmp y place)) order
 rising order in_order place = searchable_from_sorted place-total (λ (p : Place). p) order place (λ k d low lt. not-back (get_or order k d) (get_or order (k + 1) d) (in_order k (k + 1) d (omega arith) lt))
 
-pub label-missing : (order : List Place) → AreInOrder order → (place : Place) (i : ℕ) → (IsNonDecreasingBy (λ y. ordering_index (place_cmp y place)) order → IsPartitionPoint (λ y. place_cmp y place ≡ Less) (λ y. place_cmp y place ≡ Greater) order i) → label_in order place ≡ None
+pub label-missing : (order : List Place) → AreInOrder order → (place : Place) (i : ℕ) → (IsNonDecreasingBy (λ y. ordering_index (place_cmp y place)) order → IsPartitionPoint (λ y. place_cmp y place ≡ Less) (λ y. place_cmp y place ≡ Greater) order i) → place_label order place ≡ None
 label-missing order in_order place i parts =
     let split = parts (rising order in_order place) in
     no-label order place (λ k lt is.

@@ -12,7 +12,7 @@ use Rattle.cell_tiles_grid.specs.declared.sides.AreaStart.{AreaStart}
 use Rattle.cell_tiles_grid.specs.declared.sides.TileSides.{TileSides}
 use Rattle.cell_tiles_grid.specs.declared.grid_places.Place.{Place}
 use Rattle.cell_tiles_grid.specs.Grids.{areas_in, areas_before_tile}
-use Rattle.cell_tiles_grid.specs.parts.Places.{start_place, row_places, all_places, IsEarlierPlace, AreInOrder, is_same_place, label_in}
+use Rattle.cell_tiles_grid.specs.parts.Places.{start_place, row_places, all_places, IsEarlierPlace, AreInOrder, is_same_place, place_label}
 
 -- ---- places
 
@@ -58,11 +58,11 @@ pub record IsLabel (order : List Place) (place : Place) (label : ℕ) : Type 0 w
   pub inside : label < length order
   pub is : (d : Place) → get_or order label d ≡ place
 
-pub label-only : (order : List Place) (place : Place) (label : ℕ) → label_in order place ≡ Some label → IsLabel order place label
+pub label-only : (order : List Place) (place : Place) (label : ℕ) → place_label order place ≡ Some label → IsLabel order place label
 label-only [] place label e = cc
-label-only (first ∷ order) place label e = by (λ l is. label-only order place l is) (is_same_place first place) refl (label_in order place) refl e
+label-only (first ∷ order) place label e = by (λ l is. label-only order place l is) (is_same_place first place) refl (place_label order place) refl e
   where
-    by : ((l : ℕ) → label_in order place ≡ Some l → IsLabel order place l) → (b : Bool) → is_same_place first place ≡ b → (o : Option ℕ) → label_in order place ≡ o → cond b (Some 0) (option_map suc o) ≡ Some label → IsLabel (first ∷ order) place label
+    by : ((l : ℕ) → place_label order place ≡ Some l → IsLabel order place l) → (b : Bool) → is_same_place first place ≡ b → (o : Option ℕ) → place_label order place ≡ o → cond b (Some 0) (option_map suc o) ≡ Some label → IsLabel (first ∷ order) place label
     by later true same o rest e =
         let zero_is : 0 ≡ label = cc in
         subst (IsLabel (first ∷ order) place) zero_is (record { inside = omega arith; is = λ d. same-place first place same })
@@ -72,27 +72,27 @@ label-only (first ∷ order) place label e = by (λ l is. label-only order place
         let h = later l rest in
         subst (IsLabel (first ∷ order) place) next (record { inside = omega (arith, h.inside); is = h.is })
 
-label-some : (order : List Place) (place : Place) (k : ℕ) → k < length order → get_or order k place ≡ place → (l : ℕ) × (label_in order place ≡ Some l)
+label-some : (order : List Place) (place : Place) (k : ℕ) → k < length order → get_or order k place ≡ place → (l : ℕ) × (place_label order place ≡ Some l)
 label-some [] place k lt is = absurd (omega (arith, lt))
 label-some (first ∷ order) place k lt is = by (λ i inside at. label-some order place i inside at) (is_same_place first place) refl k lt is
   where
-    by : ((i : ℕ) → i < length order → get_or order i place ≡ place → (l : ℕ) × (label_in order place ≡ Some l)) → (b : Bool) → is_same_place first place ≡ b → (k : ℕ) → k < length (first ∷ order) → get_or (first ∷ order) k place ≡ place → (l : ℕ) × (cond b (Some 0) (option_map suc (label_in order place)) ≡ Some l)
+    by : ((i : ℕ) → i < length order → get_or order i place ≡ place → (l : ℕ) × (place_label order place ≡ Some l)) → (b : Bool) → is_same_place first place ≡ b → (k : ℕ) → k < length (first ∷ order) → get_or (first ∷ order) k place ≡ place → (l : ℕ) × (cond b (Some 0) (option_map suc (place_label order place)) ≡ Some l)
     by later true same k lt is = (0, refl)
     by later false other zero lt is = absurd (let both : true ≡ false = sym (place-same first place is) ∙ other in cc)
     by later false other (suc k) lt is =
         let rest = later k (omega (arith, lt)) is in
         (suc rest.0, ap (option_map suc) rest.1)
 
-pub label-is : (order : List Place) → AreInOrder order → (place : Place) (k : ℕ) → k < length order → get_or order k place ≡ place → label_in order place ≡ Some k
+pub label-is : (order : List Place) → AreInOrder order → (place : Place) (k : ℕ) → k < length order → get_or order k place ≡ place → place_label order place ≡ Some k
 label-is order in_order place k lt is =
     let t = label-some order place k lt is in
     let h = label-only order place t.0 t.1 in
     t.1 ∙ ap Some (place-one order in_order t.0 k place place h.inside lt (h.is place ∙ sym is))
 
-pub no-label : (order : List Place) (place : Place) → ((k : ℕ) → k < length order → get_or order k place ≡ place → ⊥) → label_in order place ≡ None
-no-label order place none = by (label_in order place) refl
+pub no-label : (order : List Place) (place : Place) → ((k : ℕ) → k < length order → get_or order k place ≡ place → ⊥) → place_label order place ≡ None
+no-label order place none = by (place_label order place) refl
   where
-    by : (o : Option ℕ) → label_in order place ≡ o → label_in order place ≡ None
+    by : (o : Option ℕ) → place_label order place ≡ o → place_label order place ≡ None
     by None e = e
     by (Some l) e = let h = label-only order place l e in absurd (none l h.inside (h.is place))
 

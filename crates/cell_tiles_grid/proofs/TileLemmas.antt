@@ -21,7 +21,7 @@ use Rattle.cell_tiles_grid.specs.declared.sides.TileSides.{TileSides}
 use Rattle.cell_tiles_grid.specs.declared.grid_places.Place.{Place}
 use Rattle.cell_tiles_grid.specs.declared.grid_lines.LineMark.{LineMark}
 use Rattle.cell_tiles_grid.specs.Grids.{TileRows, start_position, tile_place, IsTileOf, IsGrid}
-use Rattle.cell_tiles_grid.specs.parts.Places.{start_place, all_places, AreInOrder, label_in}
+use Rattle.cell_tiles_grid.specs.parts.Places.{start_place, all_places, AreInOrder, place_label}
 use Rattle.cell_tiles_grid.specs.parts.GridLines.{mark_in}
 use Rattle.cell_tiles_grid.proofs.StretchLemmas.{before, index_in, Lies, lies, index-is}
 use Rattle.cell_tiles_grid.proofs.PlaceLemmas.{IsLabel, label-is, place-at}
@@ -249,10 +249,10 @@ module _ (j : Joining) (whole : Grid) (heights widths : List ℕ) (tile : ℕ �
         pub inside : spot.place < length t.sides.starts.items
         pub label : ℕ
         pub is_label : IsLabel order (start_place r c (get_or t.sides.starts.items spot.place (record { row = 0; col = 0 }))) label
-        pub of_place : label_in order (start_place r c (get_or t.sides.starts.items spot.place (record { row = 0; col = 0 }))) ≡ Some label
+        pub of_place : place_label order (start_place r c (get_or t.sides.starts.items spot.place (record { row = 0; col = 0 }))) ≡ Some label
         pub mark : mark_at (moved_position (tile_place heights widths r c) a) ≡ Some (record { category = v; label = label })
 
-      pub label-of-start : (r c : ℕ) (t : TileAt r c) (k : ℕ) (d : AreaStart) → k < length t.sides.starts.items → (l : ℕ) × IsLabel order (start_place r c (get_or t.sides.starts.items k d)) l × (label_in order (start_place r c (get_or t.sides.starts.items k d)) ≡ Some l)
+      pub label-of-start : (r c : ℕ) (t : TileAt r c) (k : ℕ) (d : AreaStart) → k < length t.sides.starts.items → (l : ℕ) × IsLabel order (start_place r c (get_or t.sides.starts.items k d)) l × (place_label order (start_place r c (get_or t.sides.starts.items k d)) ≡ Some l)
       label-of-start r c t k d lt =
           let x : Place = start_place r c (get_or t.sides.starts.items k d) in
           let listed = place-at rows r c k t.row t.sides d t.in_rows t.in_row lt in

@@ -2,7 +2,7 @@
 
 ghost use Rattle.std.specs.Prelude.{◌≡◌, ◌++◌, ◌↔◌, [], IfOk, OnOk, Contains, map};
 ghost use Rattle.cell_tiles_grid.specs.declared.grid_places.Place.{Place};
-ghost use Rattle.cell_tiles_grid.specs.parts.Places.{AreInOrder, start_place, row_places, all_places, label_in};
+ghost use Rattle.cell_tiles_grid.specs.parts.Places.{AreInOrder, start_place, row_places, all_places, place_label};
 
 use crate::sides::{AreaStart, TileSides};
 use cell_core::memory::Memory;
@@ -81,7 +81,7 @@ pub(crate) fn in_order(alloc: Global, places: &[Place]) -> Result<Vec<Place>, Me
 // The label of a place, if it is listed.
 pub(crate) fn label_of(order: &[Place], place: Place) -> Option<u64>
     requires { AreInOrder order.now }
-    ensures { result ≡ label_in order.now place }
+    ensures { result ≡ place_label order.now place }
 {
     match order.binary_search(&place) {
         Ok(label) => Some(label as u64),

@@ -43,8 +43,8 @@ number_of_cell None = None
 number_of_cell (Some (negsuc n)) = None
 number_of_cell (Some (pos n)) = if nat_lt 0 n then Some n else None
 
-abbrev pub number_at : Combination → ℕ → Option ℕ
-number_at cells place = number_of_cell (slice_index_or cells place None)
+abbrev pub number_in_column : Combination → ℕ → Option ℕ
+number_in_column cells place = number_of_cell (slice_index_or cells place None)
 
 -- a stretch of numbers that may be
 abbrev pub stretch_if : (band first last : Option ℕ) → ℕ → Result Stretch AreasKind
@@ -55,7 +55,7 @@ stretch_if (Some band) (Some first) (Some last) number = Ok (record { band = ban
 
 -- the stretch that an entry spells
 abbrev pub stretch_of_entry : Combination × ℕ → Result Stretch AreasKind
-stretch_of_entry entry = stretch_if (number_at entry.0 0) (number_at entry.0 1) (number_at entry.0 2) entry.1
+stretch_of_entry entry = stretch_if (number_in_column entry.0 0) (number_in_column entry.0 1) (number_in_column entry.0 2) entry.1
 
 -- the first area of a band comes next, or the area behind those of another stretch of it
 abbrev pub comes_next : Option Stretch → Stretch → Bool

@@ -1,7 +1,7 @@
 //! The areas text read.
 
 ghost use Rattle.std.specs.Prelude.{◌≡◌, ◌≢◌, ◌-◌, None, IfErr, IfOk, IfSome, OnOk, Ok, Err, option_map, slice_index_or};
-ghost use Rattle.cell_tiles_numbering.specs.AreasReading.{areas_fault, areas_format, areas_reading_of, areas_stopped, comes_next, in_sequence, number_at, number_of_cell, stretch_of_entry};
+ghost use Rattle.cell_tiles_numbering.specs.AreasReading.{areas_fault, areas_format, areas_reading_of, areas_stopped, comes_next, in_sequence, number_in_column, number_of_cell, stretch_of_entry};
 ghost use Rattle.cell_tiles_numbering.specs.TextOfAreas.{areas_behind, areas_from};
 ghost use Rattle.cell_tiles_numbering.specs.parts.HeadStretch.{stretch_of_head};
 
@@ -35,8 +35,8 @@ fn number_of(cell: Cell) -> Option<u64>
 }
 
 // That of the cell at a place.
-fn number_at(cells: &[Cell], place: usize) -> Option<u64>
-    ensures { result ≡ number_at cells.now place }
+fn number_in_column(cells: &[Cell], place: usize) -> Option<u64>
+    ensures { result ≡ number_in_column cells.now place }
 {
     match cells.get(place) {
         Some(cell) => number_of(*cell),
@@ -49,13 +49,13 @@ fn stretch_of(combo: &Combo, number: u64) -> Result<Stretch, AreasKind>
     ensures { result ≡ stretch_of_entry (combo.now, number) }
 {
     let cells = combo.cells();
-    let Some(band) = number_at(cells, 0) else {
+    let Some(band) = number_in_column(cells, 0) else {
         return Err(AreasKind::NotNumbers);
     };
-    let Some(first) = number_at(cells, 1) else {
+    let Some(first) = number_in_column(cells, 1) else {
         return Err(AreasKind::NotNumbers);
     };
-    let Some(last) = number_at(cells, 2) else {
+    let Some(last) = number_in_column(cells, 2) else {
         return Err(AreasKind::NotNumbers);
     };
     Ok(Stretch {

@@ -10,7 +10,7 @@ use Rattle.cell_tiles_grid.specs.declared.sides.Border.{Border}
 use Rattle.cell_tiles_grid.specs.declared.sides.Border.TheVariants.{First, Last, Left, Right}
 use Rattle.cell_tiles_grid.specs.declared.grid_places.Place.{Place}
 use Rattle.cell_tiles_grid.specs.declared.grid_lines.LineMark.{LineMark}
-use Rattle.cell_tiles_grid.specs.parts.Places.{start_place, label_in}
+use Rattle.cell_tiles_grid.specs.parts.Places.{start_place, place_label}
 
 abbrev pub side_at : TileSides → Border → TileSide
 side_at tile First = tile.first
@@ -26,7 +26,7 @@ start_in starts (negsuc n) = None
 -- the label of the area that begins there
 abbrev pub label_of_start : List Place → (r c : ℕ) → Option AreaStart → Option ℕ
 label_of_start order r c None = None
-label_of_start order r c (Some s) = label_in order (start_place r c s)
+label_of_start order r c (Some s) = place_label order (start_place r c s)
 
 -- what stands at a cell of a tile, if it is not null
 abbrev pub mark_in : List Place → (r c : ℕ) → List AreaStart → (cell number : CellValue) → Option LineMark

@@ -33,9 +33,9 @@ abbrev pub is_same_place : Place → Place → Bool
 is_same_place p q = (p.tile_row == q.tile_row && p.row == q.row) && (p.tile_col == q.tile_col && p.col == q.col)
 
 -- the label of a place: how many places are listed before it
-abbrev pub label_in : List Place → Place → Option ℕ
-label_in [] place = None
-label_in (first ∷ order) place = if is_same_place first place then Some 0 else option_map suc (label_in order place)
+abbrev pub place_label : List Place → Place → Option ℕ
+place_label [] place = None
+place_label (first ∷ order) place = if is_same_place first place then Some 0 else option_map suc (place_label order place)
 
 -- the number at a label, 0 where there is none
 abbrev pub number_at : List ℕ → Option ℕ → ℕ
@@ -43,4 +43,4 @@ number_at numbers None = 0
 number_at numbers (Some label) = slice_index numbers label
 
 abbrev pub number_in : List Place → List ℕ → Place → ℕ
-number_in order numbers place = number_at numbers (label_in order place)
+number_in order numbers place = number_at numbers (place_label order place)
