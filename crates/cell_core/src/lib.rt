@@ -4,6 +4,7 @@
 //! manuals). Where a rule is this project's own choice, its text says profile.
 #![tactic(auto)]
 
+mod byte_runs;
 pub mod map;
 pub mod printed_cell;
 mod row;

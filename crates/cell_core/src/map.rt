@@ -1,8 +1,9 @@
 //! Maps of cells, and maps in the making.
 
-ghost use Rattle.std.specs.Prelude.{◌≡◌, ◌≢◌, ◌+◌, ◌<◌, ◌++◌, [], ◌∷◌, length, All, OnOk, OnErr};
+ghost use Rattle.std.specs.Prelude.{◌≡◌, ◌≢◌, ◌+◌, ◌<◌, ◌++◌, [], ◌∷◌, length, All, IfSome, OnOk, OnErr};
 ghost use Rattle.std.specs.Option.{option_map};
 ghost use Rattle.std.specs.FinMap.{get, insert};
+ghost use Rattle.cell_core_values.specs.SmallCells.{cells_of_bytes};
 ghost use Rattle.cell_core.specs.Grid.{Grid, Draft, cell_at, row_at, IsFilled, IsDraft, AreCells, no_labels};
 ghost use Rattle.cell_core.specs.Runs.{AreRuns, written_out};
 
@@ -18,7 +19,7 @@ use std::marker::Model;
 
 /// A raster map of whole numbers (GRASS: a CELL map): its region, its rows from the top, and the
 /// labels of its categories. Rows and columns count from 0. A row is kept as its runs, or as
-/// its cells where these take less memory.
+/// its cells where these take less memory, in a byte each if they are null or from 0 to 254.
 #[derive(Debug, Drop)]
 pub struct CellMap {
     region: Region,
@@ -88,6 +89,15 @@ impl CellMap {
         ensures some { All (λ run. 0 < run.1) result }
     {
         self.rows[row as usize].stretches()
+    }
+
+    /// The bytes that stand for the cells of a row, from left to right, if the row is kept so.
+    pub fn bytes(&self, row: u32) -> Option<&[u8]>
+        requires row_in_range { row < self.now.region.rows }
+        ensures cells { IfSome result (λ bytes. cells_of_bytes bytes.now ≡ row_at self.now row) }
+        ensures width { IfSome result (λ bytes. length bytes.now ≡ self.now.region.cols) }
+    {
+        self.rows[row as usize].bytes()
     }
 
     /// Says that each cell of a map is null or a category. Does nothing.

@@ -1,29 +1,32 @@
 //! A row of a map as it is kept.
 
-ghost use Rattle.std.specs.Prelude.{◌≡◌, ◌<◌, ◌^◌, length, All, None, IfOk, slice_index_or};
+ghost use Rattle.std.specs.Prelude.{◌≡◌, ◌<◌, ◌^◌, length, All, None, IfOk, IfSome, slice_index_or};
 ghost use Rattle.cell_core_values.specs.Cell.{IsCell};
+ghost use Rattle.cell_core_values.specs.SmallCells.{cells_of_bytes};
 ghost use Rattle.cell_core.specs.Runs.{AreRuns, written_out};
 
 use crate::runs::{Runs, cell_of_runs, number_of_runs, runs_of, write_out};
 use crate::stretches::Stretches;
 use cell_core_values::cell::Cell;
 use cell_core_values::memory::Memory;
+use cell_core_values::small_cells::{are_small, bytes_of, cell_of_byte, write_byte_cells};
 use std::alloc::Global;
 use std::marker::Model;
 
 // A run takes as much memory as so many cells.
 const CELLS_A_RUN: usize = 2;
 
-/// A row of cells, kept in the form that takes less memory.
+/// A row of cells, kept in a form that takes little memory.
 #[derive(Debug, Drop)]
 pub(crate) struct Row {
     kept: RowForm,
 }
 
-/// A row as its runs, or as its cells where most runs are short.
+/// A row as its runs, or where most runs are short as its cells: in a byte each, if these stand for all of them.
 #[derive(Debug, Drop)]
 enum RowForm {
     Runs(Vec<(Cell, u32)>),
+    Bytes(Vec<u8>),
     Cells(Vec<Cell>),
 }
 
@@ -49,6 +52,8 @@ impl Row {
         let count = number_of_runs(cells);
         let kept = if count <= cells.len() / CELLS_A_RUN {
             RowForm::Runs(runs_of(alloc, cells, count)?)
+        } else if are_small(cells) {
+            RowForm::Bytes(bytes_of(alloc, cells)?)
         } else {
             RowForm::Cells(Vec::from_slice(alloc, cells)?)
         };
@@ -61,6 +66,10 @@ impl Row {
     {
         match &self.kept {
             RowForm::Runs(runs) => cell_of_runs(runs, col),
+            RowForm::Bytes(bytes) => match bytes.get(col as usize) {
+                Some(byte) => cell_of_byte(*byte),
+                None => Cell::null(),
+            },
             RowForm::Cells(cells) => match cells.get(col as usize) {
                 Some(cell) => *cell,
                 None => Cell::null(),
@@ -75,6 +84,7 @@ impl Row {
     {
         match &self.kept {
             RowForm::Runs(runs) => write_out(runs, cells),
+            RowForm::Bytes(bytes) => write_byte_cells(bytes, cells),
             RowForm::Cells(kept) => cells.copy_from_slice(kept),
         }
     }
@@ -86,7 +96,18 @@ impl Row {
     {
         match &self.kept {
             RowForm::Runs(runs) => Runs::over(runs),
+            RowForm::Bytes(bytes) => Runs::of_bytes(bytes),
             RowForm::Cells(cells) => Runs::of_cells(cells),
+        }
+    }
+
+    // The bytes that stand for the cells, if they are kept so.
+    pub(crate) fn bytes(&self) -> Option<&[u8]>
+        ensures { IfSome result (λ bytes. cells_of_bytes bytes.now ≡ self.now) }
+    {
+        match &self.kept {
+            RowForm::Bytes(bytes) => Some(bytes.as_slice()),
+            _ => None,
         }
     }
 
@@ -97,6 +118,7 @@ impl Row {
     {
         match &self.kept {
             RowForm::Runs(runs) => Stretches::of_runs(runs),
+            RowForm::Bytes(bytes) => Stretches::of_bytes(bytes),
             RowForm::Cells(cells) => Stretches::of_cells(cells),
         }
     }

@@ -6,9 +6,12 @@ ghost use Rattle.cell_core_values.specs.Cell.{IsCell};
 ghost use Rattle.cell_core.specs.Grid.{CellValue};
 ghost use Rattle.cell_core.specs.Runs.{RunValue, AreRuns, written_out};
 ghost use Rattle.cell_core.specs.parts.RowForms.{alike, runs_in, runs_from, flag_bits, mark_bits};
+ghost use Rattle.cell_core_values.specs.SmallCells.{cells_of_bytes};
 
+use crate::byte_runs::{count_alike_bytes, number_of_byte_runs};
 use cell_core_values::cell::Cell;
 use cell_core_values::memory::Memory;
+use cell_core_values::small_cells::cell_of_byte;
 use std::alloc::Global;
 use std::marker::Model;
 use std::simd::prelude::*;
@@ -209,6 +212,7 @@ pub struct Runs<'a> {
 #[derive(Drop)]
 enum Rest<'a> {
     Runs(&'a [(Cell, u32)]),
+    Bytes(&'a [u8]),
     Cells(&'a [Cell]),
 }
 
@@ -240,7 +244,18 @@ impl<'a> Runs<'a> {
     {
         match &self.rest {
             Rest::Runs(runs) => runs.len(),
+            Rest::Bytes(bytes) => number_of_byte_runs(bytes),
             Rest::Cells(cells) => number_of_runs(cells),
+        }
+    }
+
+    // Over the runs of the cells that bytes stand for.
+    pub(crate) fn of_bytes(bytes: &'a [u8]) -> Runs<'a>
+        requires { length bytes.now < 2 ^ 32 }
+        ensures { result ≡ runs_in (cells_of_bytes bytes.now) }
+    {
+        Runs {
+            rest: Rest::Bytes(bytes),
         }
     }
 
@@ -274,6 +289,13 @@ impl<'a> Iterator for Runs<'a> {
                 let alike = count_alike(*first, others);
                 self.rest = Rest::Cells(&others[alike..]);
                 Some((*first, 1 + alike as u32))
+            }
+            Rest::Bytes(bytes) => {
+                let (first, others) = bytes.split_first()?;
+                let cell = cell_of_byte(*first);
+                let alike = count_alike_bytes(cell, others);
+                self.rest = Rest::Bytes(&others[alike..]);
+                Some((cell, 1 + alike as u32))
             }
         }
     }

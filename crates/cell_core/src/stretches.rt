@@ -3,8 +3,10 @@
 ghost use Rattle.std.specs.Prelude.{◌≡◌};
 ghost use Rattle.std.specs.Iterator.{YieldsFirst, item_count};
 ghost use Rattle.cell_core.specs.parts.RowForms.{one_by_one};
+ghost use Rattle.cell_core_values.specs.SmallCells.{cells_of_bytes};
 
 use cell_core_values::cell::Cell;
+use cell_core_values::small_cells::cell_of_byte;
 use std::marker::Model;
 
 /// The cells of a row in stretches, from left to right: a cell and how often it stands there, at least once. They are the runs of
@@ -19,6 +21,7 @@ pub struct Stretches<'a> {
 #[derive(Drop)]
 enum Unread<'a> {
     Runs(&'a [(Cell, u32)]),
+    Bytes(&'a [u8]),
     Cells(&'a [Cell]),
 }
 
@@ -39,6 +42,15 @@ impl<'a> Stretches<'a> {
     {
         Stretches {
             rest: Unread::Runs(runs),
+        }
+    }
+
+    // Over the cells that bytes stand for.
+    pub(crate) fn of_bytes(bytes: &'a [u8]) -> Stretches<'a>
+        ensures { result ≡ one_by_one (cells_of_bytes bytes.now) }
+    {
+        Stretches {
+            rest: Unread::Bytes(bytes),
         }
     }
 
@@ -66,6 +78,11 @@ impl<'a> Iterator for Stretches<'a> {
                 let (first, others) = runs.split_first()?;
                 self.rest = Unread::Runs(others);
                 Some(*first)
+            }
+            Unread::Bytes(bytes) => {
+                let (first, others) = bytes.split_first()?;
+                self.rest = Unread::Bytes(others);
+                Some((cell_of_byte(*first), 1))
             }
             Unread::Cells(cells) => {
                 let (first, others) = cells.split_first()?;

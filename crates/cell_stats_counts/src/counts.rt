@@ -1,17 +1,18 @@
 //! How often each combination occurs.
 
-ghost use Rattle.std.specs.Prelude.{◌≡◌, ◌+◌, ◌<◌, ◌≤◌, OnOk, IfOk, length, map};
+ghost use Rattle.std.specs.Prelude.{◌≡◌, ◌+◌, ◌<◌, ◌≤◌, All, OnOk, IfOk, length, map};
 ghost use Rattle.cell_core_values.specs.Region.{IsRegion};
 ghost use Rattle.cell_core.specs.Runs.{written_out};
 ghost use Rattle.cell_stats_combinations.specs.Combinations.{ArePicks, Combination, shelf_combinations};
 ghost use Rattle.cell_stats_counts.specs.Counts.{count_of};
+ghost use Rattle.cell_stats_counts.specs.Cursors.{to_come, AreCursorsReady, AreWideRows, row_in};
 ghost use Rattle.cell_stats_counts.specs.Listed.{AreCountsOf};
 ghost use Rattle.cell_stats_counts.specs.parts.Alone.{alone};
 ghost use Rattle.cell_stats_counts.specs.parts.HeldPlaces.{total_of, AreCounted, HasRoom, IsCounting};
 ghost use Rattle.cell_stats_combinations.specs.LeftOut.{kept_cells};
 
 use crate::counting::{CountPlace, add_count, first_places, flush_all, make_room};
-use crate::cursor::{Cursor, cursors_of, pass_all, restart_all};
+use crate::cursor::{Cursor, cursors_of, pass_all, restart_all, start};
 use crate::gathered::{Gathered, ordered_entries};
 use crate::selection::Selection;
 use cell_core::cell::Cell;
@@ -48,6 +49,46 @@ fn count_stretches(
     Ok(())
 }
 
+// Counts the cells of a row by the columns in which no map changes, from cursors at its first cells on.
+#[inline(always)]
+fn count_columns<'a>(
+    alloc: Global,
+    selection: Selection<'a, '_>,
+    row: u32,
+    cursors: &mut [Cursor<'a>],
+    cells: &mut [Cell],
+    spare: &mut Combo,
+    places: &mut [CountPlace],
+    counted: &mut Gathered,
+) -> Result<(), Memory>
+    requires row_in_range { row < selection.shelf.now.region.rows }
+    requires region { IsRegion selection.shelf.now.region }
+    requires first { map to_come cursors.old
+        ≡ map (row_in selection.shelf.now.maps row) selection.picks.now }
+    requires wide { AreWideRows selection.shelf.now row selection.picks.now }
+    requires ready { All AreCursorsReady cursors.old }
+    requires cells { length cells.old ≡ length selection.picks.now }
+    requires going { IsCounting (length selection.picks.now) spare.old places.old counted.old }
+    requires counted { AreCounted selection.shelf.now selection.picks.now selection.skip row
+        places.old counted.old }
+    ensures ok { OnOk result (AreCounted selection.entry.shelf.now selection.entry.picks.now
+        selection.entry.skip (row + 1) places.new counted.new) }
+    ensures going { OnOk result
+        (IsCounting (length selection.entry.picks.now) spare.new places.new counted.new) }
+{
+    let cols = selection.shelf.region().cols();
+    let mut col = 0;
+    let mut count = pass_all(cursors, 0, cols, cells);
+    while col < cols {
+        if !is_left_out(selection.skip, cells) {
+            add_count(alloc, cells, u64::from(count), spare, places, counted)?;
+        }
+        col += count;
+        count = pass_all(cursors, count, cols - col, cells);
+    }
+    Ok(())
+}
+
 // Counts the cells of a row: of one map as they are kept, else by the columns in which no map changes.
 fn count_row<'a>(
     alloc: Global,
@@ -77,18 +118,21 @@ fn count_row<'a>(
         count_stretches(alloc, stretches, selection.skip, spare, places, counted)?;
         return Ok(());
     }
-    let cols = selection.shelf.region().cols();
-    restart_all(cursors, selection.shelf, selection.picks, row);
-    let mut col = 0;
-    let mut count = pass_all(cursors, 0, cols, cells);
-    while col < cols {
-        if !is_left_out(selection.skip, cells) {
-            add_count(alloc, cells, u64::from(count), spare, places, counted)?;
-        }
-        col += count;
-        count = pass_all(cursors, count, cols - col, cells);
+    if let [first, second] = selection.picks {
+        // Of a length that the compiler knows, so that it unrolls what goes over them.
+        let mut two = [
+            start(selection.shelf.map(*first), row),
+            start(selection.shelf.map(*second), row),
+        ];
+        let mut cells = [Cell::null(); 2];
+        return count_columns(
+            alloc, selection, row, &mut two, &mut cells, spare, places, counted,
+        );
     }
-    Ok(())
+    restart_all(cursors, selection.shelf, selection.picks, row);
+    count_columns(
+        alloc, selection, row, cursors, cells, spare, places, counted,
+    )
 }
 
 /// The combinations of the cells of the picked maps that are not left out, in ascending order, each with the number of

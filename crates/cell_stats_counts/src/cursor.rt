@@ -50,6 +50,7 @@ impl<'a> Cursor<'a> {
     }
 
     // Moves on by some columns of the present run.
+    #[inline(always)]
     fn pass(&mut self, count: u32)
         requires within { count ≤ self.old.left }
         requires ready { AreCursorsReady self.old }
@@ -67,7 +68,7 @@ impl<'a> Cursor<'a> {
 }
 
 // The first cell of a row of a map.
-fn start<'a>(map: &'a CellMap, row: u32) -> Cursor<'a>
+pub(crate) fn start<'a>(map: &'a CellMap, row: u32) -> Cursor<'a>
     requires { row < map.now.region.rows }
     ensures cells { to_come result ≡ row_at map.now row }
     ensures width { length (row_at map.now row) ≡ map.now.region.cols }
@@ -139,6 +140,7 @@ fn lesser(a: u32, b: u32) -> u32
 
 /// Moves all on by some columns of their present runs, and writes the cells there. Returns in how many columns from there on
 /// they are the same, at most so many as are left.
+#[inline(always)]
 pub fn pass_all(cursors: &mut [Cursor], count: u32, left: u32, cells: &mut [Cell]) -> u32
     requires within { All (λ c. count ≤ c.left) cursors.old }
     requires ready { All AreCursorsReady cursors.old }

@@ -1,9 +1,10 @@
--- How a row is kept, as its runs or as its cells, and the runs that are still to come from either.
+-- How a row is kept, as its runs, as bytes or as its cells, and the runs that are still to come from each.
 use Rattle.std.specs.Prelude.{ℕ, suc, ◌+◌, ◌<◌, ◌^◌, Bool, not, ◌==◌, List, [], ◌∷◌, map, length, drop, if◌then◌else◌}
 use lib.Lanes.{mask_l}
 use Rattle.cell_core_values.specs.Cell.{cell_eq}
 use Rattle.cell_core.specs.Grid.{CellValue}
 use Rattle.cell_core.specs.Runs.{RunValue, AreRuns, written_out}
+use Rattle.cell_core_values.specs.SmallCells.{cells_of_bytes}
 use Rattle.cell_core.specs.declared.row.RowForm.{RowForm}
 use Rattle.cell_core.specs.declared.row.RowForm.TheVariants as kept
 use Rattle.cell_core.specs.declared.runs.Rest.{Rest}
@@ -14,11 +15,13 @@ use Rattle.cell_core.specs.declared.stretches.Unread.TheVariants as unread
 -- the cells that are kept
 abbrev pub cells_of_row : RowForm → List CellValue
 cells_of_row (kept.Runs runs) = written_out runs.items
+cells_of_row (kept.Bytes bytes) = cells_of_bytes bytes.items
 cells_of_row (kept.Cells cells) = cells.items
 
--- what is kept as runs are runs, and cells are no more than a run may have
+-- what is kept as runs are runs, and bytes and cells are no more than a run may have cells
 abbrev pub IsKept : RowForm → Type 0
 IsKept (kept.Runs runs) = AreRuns runs.items
+IsKept (kept.Bytes bytes) = length bytes.items < 2 ^ 32
 IsKept (kept.Cells cells) = length cells.items < 2 ^ 32
 
 -- how many cells at the start equal a cell
@@ -61,11 +64,13 @@ breaks x (y ∷ cells) = if cell_eq y x then breaks y cells else suc (breaks y c
 -- the runs still to come
 abbrev pub runs_left : Rest → List RunValue
 runs_left (rest.Runs runs) = runs.now
+runs_left (rest.Bytes bytes) = runs_in (cells_of_bytes bytes.now)
 runs_left (rest.Cells cells) = runs_in cells.now
 
--- cells are no more than a run may have
+-- bytes and cells are no more than a run may have cells
 abbrev pub IsShort : Rest → Type 0
 IsShort (rest.Runs runs) = Unit {0}
+IsShort (rest.Bytes bytes) = length bytes.now < 2 ^ 32
 IsShort (rest.Cells cells) = length cells.now < 2 ^ 32
 
 -- each cell a stretch of its own
@@ -75,4 +80,5 @@ one_by_one cells = map (λ cell. (cell, 1)) cells
 -- the stretches still to come
 abbrev pub stretches_left : Unread → List RunValue
 stretches_left (unread.Runs runs) = runs.now
+stretches_left (unread.Bytes bytes) = one_by_one (cells_of_bytes bytes.now)
 stretches_left (unread.Cells cells) = one_by_one cells.now

@@ -1,21 +1,10 @@
-use Rattle.std.proofs.Common.{◌≡◌, ◌<◌, ◌≤◌, ◌+◌, ◌-◌, ◌^◌, ◌++◌, Fits, w32, List, length, map, replicate, cond, true, false, arith, ap, sym, ◌∙◌, append-nil, append_assoc, add-one, ℕ}
+use Rattle.std.proofs.Common.{◌≡◌, ◌<◌, ◌≤◌, arith, ap, sym, ◌∙◌, ℕ}
 use Rattle.std.proofs.lemmas.Result.{IfOk-from_err}
-use Rattle.std.proofs.lemmas.List.{length-map}
-use Rattle.cell_stats_counts.specs.declared.gathered.Gathered.{Gathered}
-use Rattle.std.specs.List.{range_with_len}
 use Rattle.cell_core_values.specs.Region.{RegionValue}
-use Rattle.cell_stats_combinations.specs.Combinations.{Combination, all_combinations, combination_at}
-use Rattle.cell_stats_counts.specs.Counts.{count_of}
-use Rattle.cell_stats_counts.specs.parts.HeldPlaces.{IsCounting}
-use Rattle.cell_stats_counts.specs.Cursors.{CursorValue}
-use Rattle.cell_stats_counts.specs.parts.HeldPlaces.{total_of, is_same}
-use Rattle.cell_stats_combinations.specs.LeftOut.{kept_cells, is_left_out}
-use Rattle.cell_stats_counts.specs.declared.counting.CountPlace.{CountPlace}
+use Rattle.cell_stats_counts.specs.parts.HeldPlaces.{total_of}
 use Rattle.cell_stats_counts.proofs.HeldLemmas.{going_of}
 use Rattle.cell_stats_counts.proofs.RunCountLemmas.{single, counted-alone, fits-alone}
-use Rattle.cell_stats_counts.proofs.WalkLemmas.{alike, alive, passed-on, stretch, count-left, count-more, count_small, all_combinations_more}
 use Rattle.cell_stats_counts.proofs.counts.count_row.Goals as goal
-use Rattle.cell_stats_counts.proofs.counts.count_row.Goals.{then-not-is_left_out+in_ok-add_count, else-not-is_left_out}
 
 below : {n m most : ℕ} → n < m → m ≡ most → n < most
 below lower same = omega arith
@@ -23,39 +12,8 @@ below lower same = omega arith
 before : {n m most : ℕ} → n < m → m ≤ most → n ≤ most
 before lower high = omega arith
 
-at_most : {n m most : ℕ} → n ≡ m → m ≤ most → n ≤ most
-at_most same high = omega arith
-
-part : (count : ℕ) {col cols most : ℕ} → col + count ≤ cols → cols ≤ most → col ≤ most
-part count within high = omega arith
-
-fit : {n cols : ℕ} → n ≤ cols → cols ≤ 65535 → Fits w32 n
-fit within high = omega arith
-
-least : (n : ℕ) → 0 ≤ n
-least n = omega arith
-
 just_one : {n : ℕ} → 1 ≤ n → n < 2 → n ≡ 1
 just_one some few = omega arith
-
-from_start : {n m : ℕ} → n ≤ m → 0 + n ≤ m
-from_start within = omega arith
-
-some_left : {n m : ℕ} → n < m → 0 < m - n
-some_left lower = omega arith
-
-still_within : {n more most : ℕ} → n ≤ most → more ≤ most - n → n + more ≤ most
-still_within within left = omega arith
-
-fewer : (col : ℕ) {count cols : ℕ} → 0 < count → col + count ≤ cols → cols - (col + count) < cols - col
-fewer col some within = omega arith
-
-at_end : (count : ℕ) {col last cols : ℕ} → col + count ≤ last → last ≤ col → last ≡ cols → col ≡ cols
-at_end count within ended same = omega arith
-
-sum_fits : (col : ℕ) {total counted count more cols : ℕ} → total ≡ counted → counted < 2 ^ 63 → more ≤ count
-    → col + count ≤ cols → cols ≤ 65535 → total + more < 2 ^ 64
-sum_fits col same small is within wide = omega arith
 
 pub count_stretches-requires-clause-fits : goal.count_stretches-requires-clause-fits
 count_stretches-requires-clause-fits c = λ k.
@@ -77,112 +35,6 @@ returns-in-len1-clause-ok c = λ k.
     ∙ counted-alone c.args.selection.skip k c.args.selection.shelf.now.maps picks c.args.row _ c.args.selection.shelf.now.region.cols c.map.result.now c.stretches-stretches.result (total_of 1 k c.args.places.now c.args.counted.now) (total_of 1 k c.count_stretches.new.places c.count_stretches.new.counted)
     (single picks _ one) c.map.ensures.value c.stretches-stretches.ensures.written wide was
     (c.in_ok-count_stretches.ensures.ok k)
-
-pub loop-col-init : goal.loop-col-init
-loop-col-init c =
-    let maps = c.args.selection.shelf.now.maps in
-    let picks = c.args.selection.picks.now in
-    let row = c.args.row in
-    let first = c.pass_all-count in
-    let same_cols : c.cols-cols.result ≡ c.args.selection.shelf.now.region.cols = c.cols-cols.ensures.value ∙ ap (λ (r : RegionValue). r.cols) c.region.ensures.value in
-    let here = passed-on maps row 0 0 c.restart_all.new.cursors first.new.cursors picks first.ensures.passed c.restart_all.ensures.cells in
-    record {
-      counted = λ k. c.requires.counted k ∙ ap (λ (l : List Combination). count_of k (kept_cells c.args.selection.skip l)) (sym (append-nil (all_combinations maps picks row c.args.selection.shelf.now.region.cols)));
-      going = c.requires.going;
-      to_come = here;
-      ready = first.ensures.ready;
-      cells = first.ensures.cells;
-      least = first.ensures.least;
-      some = λ h.
-          let within = below h same_cols in
-          first.ensures.some (alive maps row 0 first.new.cursors picks c.args.selection.shelf.now.region.cols here c.restart_all.ensures.width within first.ensures.ready) h;
-      most = from_start first.ensures.most;
-    }
-
-pub add_count-requires-clause-fits : goal.add_count-requires-clause-fits
-add_count-requires-clause-fits c = λ k.
-    let picks = c.args.selection.picks.now in
-    let cols = c.args.selection.shelf.now.region.cols in
-    let same_cols : c.cols-cols.result ≡ cols = c.cols-cols.ensures.value ∙ ap (λ (r : RegionValue). r.cols) c.region.ensures.value in
-    let width : length c.loop-col.cells ≡ length picks = c.loop-col.auto.cells ∙ c.pass_all-count.auto.cells ∙ c.requires.cells in
-    let inv = c.loop-col.invariant in
-    let total = ap (λ w. total_of w k c.loop-col.places c.loop-col.counted) width ∙ inv.counted k in
-    let region = c.requires.region in
-    let few_rows = before c.requires.row_in_range region.rows_most in
-    let wide = at_most same_cols region.cols_most in
-    let few = part c.loop-col.count inv.most wide in
-    let small = count_small c.args.selection.shelf.now.maps picks cols c.args.selection.skip k c.args.row c.loop-col.col few_rows few region.cols_most in
-    let more : c.from.result ≤ c.loop-col.count = omega arith in
-    sum_fits c.loop-col.col total small more inv.most wide
-
-pub loop-col-preserved : goal.loop-col-preserved
-loop-col-preserved c =
-    let maps = c.args.selection.shelf.now.maps in
-    let picks = c.args.selection.picks.now in
-    let row = c.args.row in
-    let skip = c.args.selection.skip in
-    let cols = c.args.selection.shelf.now.region.cols in
-    let inv = c.loop-col.invariant in
-    let col = c.loop-col.col in
-    let count = c.loop-col.count in
-    let cells = c.loop-col.cells in
-    let next = c.pass_all-count-in-loop-col in
-    let f = combination_at maps picks row in
-    let base = all_combinations maps picks row cols in
-    let same_cols : c.cols-cols.result ≡ cols = c.cols-cols.ensures.value ∙ ap (λ (r : RegionValue). r.cols) c.region.ensures.value in
-    let width : length cells ≡ length picks = c.loop-col.auto.cells ∙ c.pass_all-count.auto.cells ∙ c.requires.cells in
-    let here = passed-on maps row col count c.loop-col.cursors next.new.cursors picks next.ensures.passed inv.to_come in
-    let longer : base ++ map f (range_with_len 0 (col + count)) ≡ (base ++ map f (range_with_len 0 col)) ++ replicate count cells =
-    ap (λ (l : List Combination). base ++ l) (stretch f cells col count (λ j h. alike maps row col c.loop-col.cursors picks count j inv.to_come inv.least h ∙ sym inv.cells))
-    ∙ sym (append_assoc base (map f (range_with_len 0 col)) (replicate count cells)) in
-    let joined = c.if-not-is_left_out in
-    let counted : (k : Combination) → total_of (length picks) k joined.places joined.counted ≡ count_of k (kept_cells skip (base ++ map f (range_with_len 0 (col + count)))) = λ k.
-    elim joined.branch [
-      | then-not-is_left_out+in_ok-add_count w ↦
-          let kept_in : is_left_out skip cells ≡ false = sym c.is_left_out.ensures ∙ w.if-not-is_left_out.true in
-          ap (λ (p : List CountPlace). total_of (length picks) k p joined.counted) w.places-is ∙ ap (λ (m : Gathered). total_of (length picks) k w.add_count.new.places m) w.counted-is
-          ∙ ap (λ n. total_of n k w.add_count.new.places w.add_count.new.counted) (sym width)
-          ∙ w.in_ok-add_count.ensures.counts k
-          ∙ ap (λ n. n + cond (is_same k cells) w.from.result 0) (ap (λ n. total_of n k c.loop-col.places c.loop-col.counted) width ∙ inv.counted k)
-          ∙ ap (λ n. count_of k (kept_cells skip (base ++ map f (range_with_len 0 col))) + cond (is_same k cells) n 0) w.from.ensures
-          ∙ sym (count-more skip k cells count (base ++ map f (range_with_len 0 col)) kept_in) ∙ ap (λ (l : List Combination). count_of k (kept_cells skip l)) (sym longer)
-      | else-not-is_left_out w ↦
-          let out : is_left_out skip cells ≡ true = sym c.is_left_out.ensures ∙ w.if-not-is_left_out.false in
-          ap (λ (p : List CountPlace). total_of (length picks) k p joined.counted) w.places-is ∙ ap (λ (m : Gathered). total_of (length picks) k c.loop-col.places m) w.counted-is
-          ∙ inv.counted k
-          ∙ sym (count-left skip k cells count (base ++ map f (range_with_len 0 col)) out) ∙ ap (λ (l : List Combination). count_of k (kept_cells skip l)) (sym longer)
-    ] in
-    let going : IsCounting (length picks) joined.spare joined.places joined.counted =
-    elim joined.branch [
-      | then-not-is_left_out+in_ok-add_count w ↦ rw (w.counted-is, w.spare-is, w.places-is)
-          (going_of width w.in_ok-add_count.ensures.going)
-      | else-not-is_left_out w ↦ rw (w.counted-is, w.spare-is, w.places-is) inv.going
-    ] in
-    record {
-      counted = counted;
-      going = going;
-      to_come = here;
-      ready = next.ensures.ready;
-      cells = next.ensures.cells;
-      least = next.ensures.least;
-      some = λ h.
-          let within = below h same_cols in
-          next.ensures.some (alive maps row (col + count) next.new.cursors picks cols here c.restart_all.ensures.width
-          within next.ensures.ready) (some_left h);
-      most = still_within inv.most next.ensures.most;
-    }
-
-pub returns-clause-ok : goal.returns-clause-ok
-returns-clause-ok c = λ k.
-    let maps = c.args.selection.shelf.now.maps in
-    let picks = c.args.selection.picks.now in
-    let row = c.args.row in
-    let cols = c.args.selection.shelf.now.region.cols in
-    let same_cols : c.cols-cols.result ≡ cols = c.cols-cols.ensures.value ∙ ap (λ (r : RegionValue). r.cols) c.region.ensures.value in
-    let inv = c.loop-col.invariant in
-    let last = at_end c.loop-col.count inv.most c.loop-col-test.false same_cols in
-    inv.counted k ∙ ap (λ n. count_of k (kept_cells c.args.selection.skip (all_combinations maps picks row cols ++ map (combination_at maps picks row) (range_with_len 0 n)))) last
-    ∙ ap (λ (l : List Combination). count_of k (kept_cells c.args.selection.skip l)) (sym (all_combinations_more maps picks cols row)) ∙ ap (λ r. count_of k (kept_cells c.args.selection.skip (all_combinations maps picks r cols))) (sym (add-one row))
 
 pub map-requires : goal.map-requires
 map-requires c = c.requires.picked 0 0 c.in-len1.len_at_least
@@ -216,48 +68,3 @@ restart_all-requires-clause-row_in_range c = c.requires.row_in_range
 
 pub restart_all-requires-clause-width : goal.restart_all-requires-clause-width
 restart_all-requires-clause-width c = c.requires.cursors
-
-pub pass_all-count-requires-clause-within : goal.pass_all-count-requires-clause-within
-pass_all-count-requires-clause-within c = λ k d within. least _
-
-pub pass_all-count-requires-clause-ready : goal.pass_all-count-requires-clause-ready
-pass_all-count-requires-clause-ready c = c.restart_all.ensures.ready
-
-pub pass_all-count-requires-clause-width : goal.pass_all-count-requires-clause-width
-pass_all-count-requires-clause-width c = c.requires.cells ∙ sym (c.restart_all.auto.cursors ∙ c.requires.cursors)
-
-pub add_count-requires-clause-going : goal.add_count-requires-clause-going
-add_count-requires-clause-going c =
-    going_of (sym (c.loop-col.auto.cells ∙ c.pass_all-count.auto.cells ∙ c.requires.cells)) c.loop-col.invariant.going
-
-pub returns-in_err-add_count-clause-ok : goal.returns-in_err-add_count-clause-ok
-returns-in_err-add_count-clause-ok c =
-    IfOk-from_err c.from_residual-in_err-add_count.result _ c.from_residual-in_err-add_count.ensures.0
-
-pub returns-in_err-add_count-clause-going : goal.returns-in_err-add_count-clause-going
-returns-in_err-add_count-clause-going c =
-    IfOk-from_err c.from_residual-in_err-add_count.result _ c.from_residual-in_err-add_count.ensures.0
-
-pub overflow_add-col : goal.overflow_add-col
-overflow_add-col c =
-    let cols = c.cols-cols.ensures.value ∙ ap (λ (r : RegionValue). r.cols) c.region.ensures.value in
-    fit c.loop-col.invariant.most (at_most cols c.requires.region.cols_most)
-
-pub overflow_sub-cols : goal.overflow_sub-cols
-overflow_sub-cols c = c.loop-col.invariant.most
-
-pub pass_all-count-requires-in-loop-col-clause-within : goal.pass_all-count-requires-in-loop-col-clause-within
-pass_all-count-requires-in-loop-col-clause-within c = c.loop-col.invariant.least
-
-pub pass_all-count-requires-in-loop-col-clause-ready : goal.pass_all-count-requires-in-loop-col-clause-ready
-pass_all-count-requires-in-loop-col-clause-ready c = c.loop-col.invariant.ready
-
-pub pass_all-count-requires-in-loop-col-clause-width : goal.pass_all-count-requires-in-loop-col-clause-width
-pass_all-count-requires-in-loop-col-clause-width c =
-    ap length c.loop-col.invariant.cells ∙ length-map c.loop-col.cursors (λ (x : CursorValue). x.cell)
-
-pub loop-col-smaller : goal.loop-col-smaller
-loop-col-smaller c = fewer c.loop-col.col (c.loop-col.invariant.some c.loop-col-test.true) c.loop-col.invariant.most
-
-pub returns-clause-going : goal.returns-clause-going
-returns-clause-going c = c.loop-col.invariant.going

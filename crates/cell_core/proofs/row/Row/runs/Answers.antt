@@ -1,4 +1,5 @@
 use Rattle.cell_core.proofs.RowLemmas.{written_out-runs_in, AreRuns-runs_in}
+use Rattle.cell_core_values.specs.SmallCells.{cells_of_bytes}
 use Rattle.cell_core.proofs.row.Row.runs.Goals as goal
 
 pub returns-in-Cells-clause-written : goal.returns-in-Cells-clause-written
@@ -6,3 +7,17 @@ returns-in-Cells-clause-written c = search (written_out-runs_in c.in-Cells.cells
 
 pub returns-in-Cells-clause-runs : goal.returns-in-Cells-clause-runs
 returns-in-Cells-clause-runs c = rw (c.of_cells.ensures) (AreRuns-runs_in c.deref-in-Cells.result.now)
+
+pub returns-in-Bytes-clause-written : goal.returns-in-Bytes-clause-written
+returns-in-Bytes-clause-written c =
+    search (
+      written_out-runs_in (cells_of_bytes c.in-Bytes.bytes.items),
+      c.in-Bytes.is,
+      c.self.view_is,
+      c.of_bytes.ensures,
+      c.deref-in-Bytes.ensures.value,
+    )
+
+pub returns-in-Bytes-clause-runs : goal.returns-in-Bytes-clause-runs
+returns-in-Bytes-clause-runs c =
+    rw (c.of_bytes.ensures) (AreRuns-runs_in (cells_of_bytes c.deref-in-Bytes.result.now))

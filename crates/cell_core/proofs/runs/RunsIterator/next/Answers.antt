@@ -1,8 +1,9 @@
 use Rattle.std.proofs.Common.{◌≡◌, ◌∙◌, ◌+◌, ◌-◌, ◌*◌, ◌<◌, ◌≤◌, ◌^◌, ◌∷◌, ℕ, List, length, take, drop, sym, ap, subst, arith, length-take, length-drop}
-use Rattle.std.proofs.lemmas.List.{nil_from_length}
+use Rattle.std.proofs.lemmas.List.{nil_from_length, length-map, take-map, drop-map}
 use Rattle.cell_core.specs.Runs.{RunValue}
 use Rattle.cell_core.specs.Grid.{CellValue}
-use Rattle.cell_core.specs.parts.RowForms.{runs_in, runs_left, IsShort}
+use Rattle.cell_core.specs.parts.RowForms.{alike, runs_in, runs_left, IsShort}
+use Rattle.cell_core_values.specs.SmallCells.{byte_cell, cells_of_bytes}
 use Rattle.cell_core.proofs.RowLemmas.{runs_in-rest}
 use Rattle.cell_core.proofs.runs.RunsIterator.next.Goals as goal
 
@@ -21,6 +22,19 @@ small_bytes short = omega arith
 short_rest : (cells : List CellValue) (n : ℕ) {all : ℕ} → length cells + 1 ≡ all → all < 2 ^ 32
     → length (take (length cells - n) (drop n cells)) < 2 ^ 32
 short_rest cells n one short = omega (arith, length-take (length cells - n) (drop n cells), length-drop n cells)
+
+-- the first run of the cells that bytes stand for, and those of the bytes after it
+bytes_rest : (b : ℕ) (bytes : List ℕ) (cell : CellValue) (n : ℕ) → cell ≡ byte_cell b
+    → n ≡ alike cell (cells_of_bytes bytes) → runs_in (cells_of_bytes (b ∷ bytes))
+    ≡ (cell, 1 + n) ∷ runs_in (cells_of_bytes (take (length bytes - n) (drop n bytes)))
+bytes_rest b bytes cell n stands same =
+    let cells = cells_of_bytes bytes in
+    let part : take (length cells - n) (drop n cells) ≡ cells_of_bytes (take (length bytes - n) (drop n bytes)) =
+    ap (λ k. take (k - n) (drop n cells)) (length-map bytes byte_cell)
+    ∙ ap (take (length bytes - n)) (drop-map byte_cell n bytes)
+    ∙ take-map byte_cell (length bytes - n) (drop n bytes) in
+    ap (λ x. runs_in (x ∷ cells)) (sym stands) ∙ runs_in-rest cell cells n same
+    ∙ ap (λ l. (cell, 1 + n) ∷ runs_in l) part
 
 pub returns-in_err-first-in-Runs-clause-steps : goal.returns-in_err-first-in-Runs-clause-steps
 returns-in_err-first-in-Runs-clause-steps c =
@@ -90,6 +104,28 @@ returns-in_ok-first-in-Cells-clause-goes c =
     let first =
     sym c.self.view_is ∙ ap runs_left c.in-Cells.is ∙ ap runs_in arm.ensures.cases.0
     ∙ runs_in-rest arm.first.now arm.others.now c.count_alike-alike.result c.count_alike-alike.ensures.value in
+    record {
+      on = λ finite. (tt, tt, fewer _ _ _ first);
+      keeps = tt;
+      rests = λ finite. tt;
+    }
+
+pub returns-in_ok-first-in-Bytes-clause-steps : goal.returns-in_ok-first-in-Bytes-clause-steps
+returns-in_ok-first-in-Bytes-clause-steps c =
+    let arm = c.in_ok-first-in-Bytes in
+    sym c.self.view_is ∙ ap runs_left c.in-Bytes.is
+    ∙ ap (λ bytes. runs_in (cells_of_bytes bytes)) arm.ensures.cases.0
+    ∙ bytes_rest arm.first.now arm.others.now c.cell_of_byte-cell.result c.count_alike_bytes-alike.result
+    c.cell_of_byte-cell.ensures c.count_alike_bytes-alike.ensures.value
+
+pub returns-in_ok-first-in-Bytes-clause-goes : goal.returns-in_ok-first-in-Bytes-clause-goes
+returns-in_ok-first-in-Bytes-clause-goes c =
+    let arm = c.in_ok-first-in-Bytes in
+    let first =
+    sym c.self.view_is ∙ ap runs_left c.in-Bytes.is
+    ∙ ap (λ bytes. runs_in (cells_of_bytes bytes)) arm.ensures.cases.0
+    ∙ bytes_rest arm.first.now arm.others.now c.cell_of_byte-cell.result c.count_alike_bytes-alike.result
+    c.cell_of_byte-cell.ensures c.count_alike_bytes-alike.ensures.value in
     record {
       on = λ finite. (tt, tt, fewer _ _ _ first);
       keeps = tt;

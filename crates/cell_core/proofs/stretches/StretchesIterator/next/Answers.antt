@@ -1,11 +1,19 @@
-use Rattle.std.proofs.Common.{◌≡◌, ◌∙◌, ◌<◌, ◌∷◌, List, length, sym, ap, arith}
+use Rattle.std.proofs.Common.{◌≡◌, ◌∙◌, ◌<◌, ◌∷◌, ℕ, List, length, sym, ap, arith}
 use Rattle.std.proofs.lemmas.List.{nil_from_length}
 use Rattle.cell_core.specs.Runs.{RunValue}
+use Rattle.cell_core.specs.Grid.{CellValue}
 use Rattle.cell_core.specs.parts.RowForms.{one_by_one, stretches_left}
+use Rattle.cell_core_values.specs.SmallCells.{byte_cell, cells_of_bytes}
 use Rattle.cell_core.proofs.stretches.StretchesIterator.next.Goals as goal
 
 fewer : (run : RunValue) (runs all : List RunValue) → all ≡ run ∷ runs → length runs < length all
 fewer run runs all e = rw e (omega arith)
+
+-- the cell of the first byte, and those of the others
+bytes_first : {b : ℕ} {bytes all : List ℕ} {cell : CellValue} → all ≡ b ∷ bytes → cell ≡ byte_cell b
+    → one_by_one (cells_of_bytes all) ≡ (cell, 1) ∷ one_by_one (cells_of_bytes bytes)
+bytes_first {bytes = bytes} whole stands =
+    ap (λ l. one_by_one (cells_of_bytes l)) whole ∙ ap (λ x. (x, 1) ∷ one_by_one (cells_of_bytes bytes)) (sym stands)
 
 pub returns-in_err-first-in-Runs-clause-steps : goal.returns-in_err-first-in-Runs-clause-steps
 returns-in_err-first-in-Runs-clause-steps c =
@@ -16,6 +24,18 @@ returns-in_err-first-in-Runs-clause-steps c =
 pub returns-in_err-first-in-Runs-clause-goes : goal.returns-in_err-first-in-Runs-clause-goes
 returns-in_err-first-in-Runs-clause-goes c =
     rw c.from_residual.ensures (record { on = λ finite. tt; keeps = tt; rests = λ finite. finite })
+
+pub returns-in_err-first-in-Bytes-clause-steps : goal.returns-in_err-first-in-Bytes-clause-steps
+returns-in_err-first-in-Bytes-clause-steps c =
+    let none = nil_from_length c.in-Bytes.bytes.now c.in_err-first-in-Bytes.ensures.cases in
+    let all = sym c.self.view_is ∙ ap stretches_left c.in-Bytes.is
+    ∙ ap (λ bytes. one_by_one (cells_of_bytes bytes)) none in
+    rw c.from_residual-in_err-first-in-Bytes.ensures (all, all)
+
+pub returns-in_err-first-in-Bytes-clause-goes : goal.returns-in_err-first-in-Bytes-clause-goes
+returns-in_err-first-in-Bytes-clause-goes c =
+    rw c.from_residual-in_err-first-in-Bytes.ensures
+    (record { on = λ finite. tt; keeps = tt; rests = λ finite. finite })
 
 pub returns-in_err-first-in-Cells-clause-steps : goal.returns-in_err-first-in-Cells-clause-steps
 returns-in_err-first-in-Cells-clause-steps c =
@@ -35,6 +55,21 @@ returns-in_ok-first-in-Runs-clause-steps c =
 pub returns-in_ok-first-in-Runs-clause-goes : goal.returns-in_ok-first-in-Runs-clause-goes
 returns-in_ok-first-in-Runs-clause-goes c =
     let first = sym c.self.view_is ∙ ap stretches_left c.in-Runs.is ∙ c.in_ok-first-in-Runs.ensures.cases.0 in
+    record {
+      on = λ finite. (tt, tt, fewer _ _ _ first);
+      keeps = tt;
+      rests = λ finite. tt;
+    }
+
+pub returns-in_ok-first-in-Bytes-clause-steps : goal.returns-in_ok-first-in-Bytes-clause-steps
+returns-in_ok-first-in-Bytes-clause-steps c =
+    sym c.self.view_is ∙ ap stretches_left c.in-Bytes.is
+    ∙ bytes_first c.in_ok-first-in-Bytes.ensures.cases.0 c.cell_of_byte.ensures
+
+pub returns-in_ok-first-in-Bytes-clause-goes : goal.returns-in_ok-first-in-Bytes-clause-goes
+returns-in_ok-first-in-Bytes-clause-goes c =
+    let first = sym c.self.view_is ∙ ap stretches_left c.in-Bytes.is
+    ∙ bytes_first c.in_ok-first-in-Bytes.ensures.cases.0 c.cell_of_byte.ensures in
     record {
       on = λ finite. (tt, tt, fewer _ _ _ first);
       keeps = tt;

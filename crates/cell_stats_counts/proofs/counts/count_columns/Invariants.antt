@@ -6,7 +6,7 @@ use Rattle.cell_stats_counts.specs.parts.HeldPlaces.{IsCounting}
 use Rattle.cell_stats_counts.specs.Cursors.{to_come, AreCursorsReady, row_in}
 use Rattle.cell_stats_counts.specs.parts.HeldPlaces.{total_of}
 use Rattle.cell_stats_combinations.specs.LeftOut.{kept_cells}
-use Rattle.cell_stats_counts.proofs.counts.count_row.Given as goal
+use Rattle.cell_stats_counts.proofs.counts.count_columns.Given as goal
 
 abbrev pub invariant-loop-col : goal.invariant-loop-col
 invariant-loop-col l = record {

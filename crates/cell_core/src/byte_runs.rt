@@ -1,0 +1,44 @@
+//! Runs of cells that bytes stand for.
+
+ghost use Rattle.std.specs.Prelude.{◌≡◌, ◌<◌, ◌≤◌, ◌^◌, length};
+ghost use Rattle.cell_core_values.specs.SmallCells.{cells_of_bytes};
+ghost use Rattle.cell_core.specs.parts.RowForms.{alike, runs_in};
+
+use cell_core_values::cell::Cell;
+use cell_core_values::small_cells::cell_of_byte;
+
+// How many bytes at the start stand for a cell.
+pub(crate) fn count_alike_bytes(cell: Cell, bytes: &[u8]) -> usize
+    ensures value { result ≡ alike cell (cells_of_bytes bytes.now) }
+    ensures within { result ≤ length bytes.now }
+{
+    let mut count: usize = 0;
+    for next in bytes {
+        if cell_of_byte(*next) != cell {
+            return count;
+        }
+        count = count.wrapping_add(1);
+    }
+    count
+}
+
+// How many runs the cells have that bytes stand for.
+pub(crate) fn number_of_byte_runs(bytes: &[u8]) -> usize
+    requires { length bytes.now < 2 ^ 32 }
+    ensures { result ≡ length (runs_in (cells_of_bytes bytes.now)) }
+{
+    if bytes.is_empty() {
+        return 0;
+    }
+    // Of 32 bits, so that a vector counts as many as it compares.
+    let mut ends: u32 = 0;
+    let mut last = cell_of_byte(bytes[0]);
+    for byte in bytes {
+        let cell = cell_of_byte(*byte);
+        if cell != last {
+            ends = ends.wrapping_add(1);
+        }
+        last = cell;
+    }
+    ends as usize + 1
+}

@@ -1,0 +1,98 @@
+//! Cells that are null or small categories, in a byte each.
+
+ghost use Rattle.std.specs.Prelude.{◌≡◌, length, All, IfOk, true};
+ghost use Rattle.cell_core_values.specs.SmallCells.{byte_cell, cells_of_bytes, IsSmall};
+
+use crate::cell::Cell;
+use crate::memory::Memory;
+use std::alloc::Global;
+
+// The byte that stands for null. Each other stands for the category of its number.
+const NULL: u8 = 255;
+
+// The greatest category that a byte stands for.
+const GREATEST: i32 = 254;
+
+/// The cell that a byte stands for: null for 255, else the category of its number.
+#[inline(always)]
+pub fn cell_of_byte(byte: u8) -> Cell
+    ensures { result ≡ byte_cell byte }
+{
+    if byte == NULL {
+        return Cell::null();
+    }
+    match Cell::value(i32::from(byte)) {
+        Some(cell) => cell,
+        None => Cell::null(),
+    }
+}
+
+// Whether a byte stands for the cell.
+#[inline(always)]
+fn is_small(cell: Cell) -> bool
+    ensures { result ≡ true → IsSmall cell }
+{
+    match cell.get() {
+        Some(category) => category >= 0 && category <= GREATEST,
+        None => true,
+    }
+}
+
+// The byte that stands for the cell.
+#[inline(always)]
+fn byte_of_cell(cell: Cell) -> u8
+    requires { IsSmall cell }
+    ensures { byte_cell result ≡ cell }
+{
+    match cell.get() {
+        Some(category) => category as u8,
+        None => NULL,
+    }
+}
+
+/// Whether bytes stand for all of the cells.
+pub fn are_small(cells: &[Cell]) -> bool
+    ensures { result ≡ true → All IsSmall cells.now }
+{
+    // It looks at each, so that a vector looks at several at a time.
+    let mut all = true;
+    for cell in cells {
+        all = all & is_small(*cell);
+    }
+    all
+}
+
+/// The bytes that stand for cells. Takes memory once.
+///
+/// # Errors
+///
+/// [`Memory`] where memory was refused.
+pub fn bytes_of(alloc: Global, cells: &[Cell]) -> Result<Vec<u8>, Memory>
+    requires { All IsSmall cells.now }
+    ensures { IfOk result (λ bytes. cells_of_bytes bytes.items ≡ cells.now) }
+{
+    let mut bytes = vec![in alloc; NULL; cells.len()]?;
+    write_bytes(cells, bytes.as_mut_slice());
+    Ok(bytes)
+}
+
+// Writes the bytes that stand for cells, into a slice of as many.
+fn write_bytes(cells: &[Cell], bytes: &mut [u8])
+    requires small { All IsSmall cells.now }
+    requires size { length bytes.old ≡ length cells.now }
+    ensures { cells_of_bytes bytes.new ≡ cells.now }
+{
+    for i in 0..bytes.len() {
+        bytes[i] = byte_of_cell(cells[i]);
+    }
+}
+
+/// Writes the cells that bytes stand for, into a slice of as many.
+pub fn write_byte_cells(bytes: &[u8], cells: &mut [Cell])
+    requires { length cells.old ≡ length bytes.now }
+    ensures { cells.new ≡ cells_of_bytes bytes.now }
+{
+    for i in 0..cells.len() {
+        cells[i] = cell_of_byte(bytes[i]);
+    }
+}
