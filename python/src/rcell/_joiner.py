@@ -126,7 +126,7 @@ def _fault(path: str, status: int, told: str, texts: Sequence[bytes]) -> RcellEr
     found = _MESSAGE.fullmatch(told)
     if found and status == 3:
         return OutOfMemory(found[3], found[1], int(found[2]), status)
-    if found and found[3] == _TOO_GREAT:
+    if found and found[3].startswith(_TOO_GREAT):
         width = next(text.partition(b"\n")[0].count(b" ") for text in texts if text)
         merge([counts_of(text, width) for text in texts])
     return WrongProgram(f"{path} ended in status {status} and said: {told or 'nothing'}")
