@@ -4,7 +4,7 @@ use Rattle.std.specs.Prelude.{All}
 use Rattle.std.specs.List.{AllByRecursion}
 use Rattle.std.specs.List.Sorted.{IsStrictlySortedBy}
 use Rattle.std.specs.declared.cmp.Ordering.TheVariants.{Less}
-use Rattle.std.proofs.lemmas.Bool.{lt-ltb, le-ltb}
+use Rattle.std.proofs.lemmas.Bool.{lt-ltb, le-ltb, false≢true}
 use Rattle.std.proofs.lemmas.Bool.Decides.{Decides-eqb, nat_tests}
 use Rattle.std.proofs.lemmas.Int.{ints}
 use Rattle.std.proofs.lemmas.List.Elements.{All-cons, All-nil}
@@ -78,7 +78,7 @@ ascend before (s ∷ stretches) are = (later-greater s stretches are.0 are.2, as
 -- ---- printed entries
 
 clear : IsClear areas_format
-clear = record { separator = refl; apart = refl; one_line = refl; null = refl }
+clear = record { separator = refl; apart = refl; one_line = refl; null = refl; no_data = λ labelled. absurd (false≢true labelled) }
 
 is-cell : (n : ℕ) → n < 2 ^ 31 → IsCell (Some (pos n))
 is-cell n few = grind (arith, ints)
@@ -136,5 +136,5 @@ pub text-reads-as-itself : TextReadsAsItself
 text-reads-as-itself stretches are =
     let reading : reading_of areas_format 3 (record { bytes = areas_text stretches; fails = false }) ≡ record { entries = map entry_of stretches; fault = None } =
     ap (λ (bytes : List ℕ). reading_of areas_format 3 (record { bytes = bytes; fails = false })) (same-text stretches)
-    ∙ printed-reads areas_format 3 3 (map entry_of stretches) clear (omega arith) (inr refl) (all-printed None stretches are) (ascend None stretches are) in
+    ∙ printed-reads areas_format 3 3 (map entry_of stretches) clear refl (omega arith) (inr refl) (all-printed None stretches are) (ascend None stretches are) in
     ap (areas_read 1 None) reading ∙ read-back 1 None stretches are
