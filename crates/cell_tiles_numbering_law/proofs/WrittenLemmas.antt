@@ -78,7 +78,13 @@ ascend before (s ∷ stretches) are = (later-greater s stretches are.0 are.2, as
 -- ---- printed entries
 
 clear : IsClear areas_format
-clear = record { separator = refl; apart = refl; one_line = refl; null = refl; no_data = λ labelled. absurd (false≢true labelled) }
+clear = record {
+  separator = refl;
+  apart = refl;
+  one_line = refl;
+  null = refl;
+  no_data = λ labelled. absurd (false≢true labelled);
+}
 
 is-cell : (n : ℕ) → n < 2 ^ 31 → IsCell (Some (pos n))
 is-cell n few = grind (arith, ints)

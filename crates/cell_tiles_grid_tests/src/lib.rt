@@ -1,0 +1,13 @@
+//! Tests of maps in grids of tiles: the areas of the undivided map beside those that are joined.
+#![tactic(auto)]
+
+#[cfg(test)]
+mod chance;
+#[cfg(test)]
+mod cuts;
+#[cfg(test)]
+mod random;
+#[cfg(test)]
+mod shapes;
+#[cfg(test)]
+mod tiles;
