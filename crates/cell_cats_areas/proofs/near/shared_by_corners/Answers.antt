@@ -16,15 +16,12 @@ returns-then-ne-clause-label c =
     (λ h. is_unlike _ _ v _ is c.eq.ensures.value c.if-eq.false (told_above m _ _ r col v c.args.near.now near q h q_is).cell) lies) read)
     (λ apart. search rules)
 
-pub join_labels-requires-clause-one_inside : goal.join_labels-requires-clause-one_inside
-join_labels-requires-clause-one_inside c =
+pub join_labels-requires : goal.join_labels-requires
+join_labels-requires c =
     let v = some_of c.args.cell c.requires.some in
     let one = c.requires.inside.upper_right v.0 (is_alike _ _ v.0 _ v.1 c.eq-2.ensures.value c.if-eq-2.true) in
     let other = c.requires.inside.left v.0 (ne_alike _ _ v.0 _ v.1 c.ne.ensures c.if-ne.false) in
-    assumption (one, other)
-
-pub join_labels-requires-clause-other_inside : goal.join_labels-requires-clause-other_inside
-join_labels-requires-clause-other_inside c = let v = some_of c.args.cell c.requires.some in c.requires.inside.left v.0 (ne_alike _ _ v.0 _ v.1 c.ne.ensures c.if-ne.false)
+    record { down = c.requires.down; one_inside = assumption (one, other); other_inside = other }
 
 pub returns-clause-label : goal.returns-clause-label
 returns-clause-label c = λ m r col v labels open_of is here near read.
