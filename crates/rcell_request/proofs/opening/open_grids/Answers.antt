@@ -60,6 +60,8 @@ returns-in_err-map_err-clause-told g c =
 
 pub returns-clause-opened : goal.returns-clause-opened
 returns-clause-opened g c = record {
-  named = c.loop-grid.invariant.names ∙ take_all c.loop-grid.grid _ (at_least c.loop-grid-test.false (c.len-grid-end.ensures ∙ c.args.request.now.names.ok.0));
+  named = c.loop-grid.invariant.names
+      ∙ take_all c.loop-grid.grid _
+      (at_least c.loop-grid-test.false (c.len-grid-end.ensures ∙ c.args.request.now.names.ok.0));
   asked = c.loop-grid.invariant.asked;
 }
