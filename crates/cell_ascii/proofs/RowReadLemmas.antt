@@ -21,6 +21,11 @@ pub implied : {A : Type 0} (P Q : A → Type 0) (a : Option A) → ((c : A) → 
 implied P Q None go h = tt
 implied P Q (Some c) go h = go c h
 
+-- what holds of it under a premise
+pub premised : {A Q : Type 0} (P : A → Type 0) (a : Option A) → (Q → IfSome a P) → IfSome a (λ c. Q → P c)
+premised P None told = tt
+premised P (Some c) told = told
+
 -- a row that was cut off there
 pub row_cut : (h : HeaderValue) (here mid : Coming → At) (a b d : Option Coming) (i : ℕ) (f : GridFault) (old row : List CellValue) → i < length old → drop i row ≡ drop i old
     → option_map (λ c. many (cell_from h) i (here c)) a ≡ option_map (λ c. Ok (take i row, mid c)) b → option_map (λ c. cell_from h (mid c)) b ≡ option_map (λ c. Err f) d

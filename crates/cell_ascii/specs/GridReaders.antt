@@ -42,6 +42,11 @@ pub record IsOfReading (f : GridFault) : Type 0 where
   pub memory : f.kind ≡ Memory → f.line ≡ 0
   pub kinds : f.kind ≢ Failed
 
+-- what is answered is what the reading gives, and a fault that of the reading, unless memory ran out
+abbrev pub AnswersGrid : {A : Type 0} → Result A GridFault → Result A GridFault → Type 0
+AnswersGrid (Ok x) reading = reading ≡ Ok x
+AnswersGrid (Err f) reading = f.kind ≢ Memory → reading ≡ Err f
+
 -- the fault of an answer
 abbrev pub fault_of_reading : {X : Type 0} → Result X GridFault → Option GridFault
 fault_of_reading (Ok x) = None

@@ -14,7 +14,7 @@ ghost use Rattle.cell_ascii_meaning.specs.GridText.{Denotes};
 ghost use Rattle.cell_ascii_meaning.specs.FaultPlaces.{opening_fault, text_fault};
 ghost use Rattle.cell_ascii_meaning.specs.RowPlaces.{cells_fault};
 ghost use Rattle.cell_ascii.specs.Reader.{ReaderPlace, at_place, token_read, token_seen, reading_seen, always, rows_from};
-ghost use Rattle.cell_ascii.specs.GridReaders.{reader_place, IsOpened, fault_of_reading, reader_has_failed, IsCutRow, IsChangedInFront, IsOfReading, TellsEnd};
+ghost use Rattle.cell_ascii.specs.GridReaders.{reader_place, IsOpened, fault_of_reading, reader_has_failed, AnswersGrid, IsCutRow, IsChangedInFront, IsOfReading, TellsEnd};
 ghost use Rattle.cell_ascii_scanner.specs.Scan.{Hears, FailsInText};
 ghost use Rattle.cell_ascii.specs.parts.Unread.{IsUnread, IsAtData, IsBehindHeader, HasRows};
 
@@ -340,7 +340,6 @@ impl<R: Source> GridReader<R> {
             → IfSome self.old.coming
             (λ c. IsCutRow self.old.header (reader_place self.old c) f row.old row.new)) }
         ensures kept { OnErr result (self.old.failed ≡ false → IsChangedInFront row.old row.new) }
-        ensures width { length row.new ≡ length row.old }
         ensures left { result ≡ Ok true → self.new.rows_left + 1 ≡ self.old.rows_left }
         ensures stays { result ≢ Ok true → self.new.rows_left ≡ self.old.rows_left }
         ensures last { result ≡ Ok false → self.old.rows_left ≡ 0 }
@@ -429,10 +428,8 @@ fn read_rows<R: Source>(alloc: Global, reader: &mut GridReader<R>) -> Result<Cel
 // Reads the rows of a text whose header was read, and its end.
 fn read_whole<R: Source>(alloc: Global, reader: &mut GridReader<R>) -> Result<CellMap, GridFault>
     requires { IsUnread reader.old }
-    ensures map { IfOk result (λ m. (text : Option Coming) → IsOpened text reader.old
-        → IfSome text (λ c. grid_of c ≡ Ok m)) }
-    ensures fault { IfErr result (λ f. f.kind ≢ GridKind.Memory → (text : Option Coming)
-        → IsOpened text reader.old → IfSome text (λ c. grid_of c ≡ Err f)) }
+    ensures reading { (text : Option Coming) → IsOpened text reader.old
+        → IfSome text (λ c. AnswersGrid result (grid_of c)) }
     ensures kinds { IfErr result IsOfReading }
     // The source is asked only while it goes on, and an `Err` of it is told as Read.
     ensures heard { reader.new.heard ≡ hears (tells_read result) reader.old.heard }
@@ -457,9 +454,7 @@ pub fn read_map<R: Source + Drop>(alloc: Global, source: R) -> Result<CellMap, G
     ensures fault { IfErr result (λ f. f.kind ≢ GridKind.Memory
         → IfSome (R.coming source) (λ c. text_fault c ≡ Some f)) }
     ensures kinds { IfErr result IsOfReading }
-    ensures reading_map { IfOk result (λ m. IfSome (R.coming source) (λ c. grid_of c ≡ Ok m)) }
-    ensures reading_fault { IfErr result (λ f. f.kind ≢ GridKind.Memory
-        → IfSome (R.coming source) (λ c. grid_of c ≡ Err f)) }
+    ensures reading { IfSome (R.coming source) (λ c. AnswersGrid result (grid_of c)) }
 {
     let mut reader = GridReader::open(alloc, source)?;
     match read_whole(alloc, &mut reader) {

@@ -1,7 +1,6 @@
 -- The labels that a cell shares with the neighbours that come before it.
-use Rattle.std.proofs.Common.{◌≡◌, ℕ, suc, ℤ, ◌+◌, ◌<◌, Bool, true, false, not, List, Option, Some, None, length, refl, ap, sym, ◌∙◌, arith, subst, inl, inr, ⊎_elim, ◌⊎◌}
+use Rattle.std.proofs.Common.{◌≡◌, ◌≢◌, ℕ, suc, ℤ, ◌+◌, ◌<◌, Bool, true, false, not, List, Option, Some, None, length, refl, ap, sym, ◌∙◌, arith, subst, inl, inr, ⊎_elim, ◌⊎◌}
 use Rattle.cell_core.specs.Grid.{Grid, CellValue}
-use Rattle.std.specs.Option.{IfSome}
 use Rattle.cell_core_values.specs.Cell.{cell_eq}
 use Rattle.std.proofs.lemmas.Bool.{both_ways, not-true, not-false}
 use Rattle.cell_cats_areas.specs.declared.clump.Joining.{Joining}
@@ -11,7 +10,7 @@ use Rattle.cell_cats_areas.specs.declared.near.Near.{Near}
 use Rattle.cell_cats_areas.specs.Areas.{Position, cell_at_spot, AreAdjacent, AreJoined}
 use Rattle.cell_cats_areas.specs.parts.Labels.{TellsOpen, after_join}
 use Rattle.cell_cats_areas.specs.parts.CellPlaces.{position, cell_place}
-use Rattle.cell_cats_areas.specs.parts.AreasRead.{AreInside, AreNear, AreRowsRead, Shares, TellsLabels, WasRead, area_label_at}
+use Rattle.cell_cats_areas.specs.parts.AreasRead.{AreInside, AreNear, AreRowsRead, HasNoneEarlier, Shares, SharesAt, SharesAtCorners, SharesLabel, SharesLabelAtCorners, TellsLabels, WasRead, area_label_at}
 use Rattle.cell_cats_areas.specs.parts.Starts.{IsLeft, IsAbove, IsUpperLeft, IsUpperRight, IsEarlier, start_of_run}
 use Rattle.cell_cats_areas.proofs.PathLemmas.{AreJoined-adjacent, AreJoined-sym, AreJoined-trans}
 use Rattle.cell_cats_areas.proofs.MeetingLemmas.{AreSound-joined, after_join_keeps, after_join_one}
@@ -239,6 +238,9 @@ module _ (m : Grid) (r c : ℕ) (v : ℤ) (table labels : List ℕ) (f : ℕ →
         (λ p h s. inr (ap f (sym s.label)))
         (λ p h s. inl (ap f (sym s.label))))
 
-pub if_some_map : {A : Type 0} (x : Option A) (P Q : A → Type 0) → IfSome x P → ((a : A) → P a → Q a) → IfSome x Q
-if_some_map None P Q h f = tt
-if_some_map (Some a) P Q h f = f a h
+pub corners_only : (r : Option ℕ) (cell : CellValue) (near : Near) (old new : List ℕ) → SharesLabelAtCorners cell near old new r
+    → ((label : ℕ) → SharesAtCorners cell near old new label → SharesAt EdgesAndCorners cell near old new label)
+    → ((near.upper_left.cell ≢ cell) × (near.upper_right.cell ≢ cell) → HasNoneEarlier EdgesAndCorners cell near)
+    → SharesLabel EdgesAndCorners cell near old new r
+corners_only None cell near old new shares some none = (shares.0, none shares.1)
+corners_only (Some label) cell near old new shares some none = some label shares

@@ -1,9 +1,9 @@
 //! The neighbours of a cell that come before it in row order, and the label that it shares with them.
 
-ghost use Rattle.std.specs.Prelude.{◌≡◌, ◌≢◌, ◌<◌, ◌≤◌, ◌+◌, ◌^◌, length, None, IfSome, IfOk, OnOk};
+ghost use Rattle.std.specs.Prelude.{◌≡◌, ◌<◌, ◌≤◌, ◌+◌, ◌^◌, length, None, IfSome, IfOk, OnOk};
 ghost use Rattle.cell_cats_areas.specs.declared.clump.Joining.TheVariants.{Edges, EdgesAndCorners};
 ghost use Rattle.cell_cats_areas.specs.parts.Labels.{PointDown};
-ghost use Rattle.cell_cats_areas.specs.parts.AreasRead.{AreInside, CanShare, HasEarlier, HasNoneEarlier, LabelsNext, SharesAt, SharesAtCorners, near_at};
+ghost use Rattle.cell_cats_areas.specs.parts.AreasRead.{AreInside, CanShare, HasEarlier, HasNoneEarlier, LabelsNext, SharesLabel, SharesLabelAtCorners, near_at};
 
 use crate::clump::Joining;
 use crate::labels::join_labels;
@@ -76,9 +76,7 @@ impl Near {
 fn shared_by_edges(table: &mut [u32], cell: Cell, near: &Near) -> Option<u32>
     requires { CanShare cell table.old near.now }
     ensures down { PointDown table.new }
-    ensures kept { result ≡ None → table.new ≡ table.old }
-    ensures shares { IfSome result (SharesAt Edges cell near.now table.old table.new) }
-    ensures none { result ≡ None → HasNoneEarlier Edges cell near.now }
+    ensures label { SharesLabel Edges cell near.now table.old table.new result }
 {
     if near.left.cell != cell {
         return if near.above.cell == cell {
@@ -98,9 +96,7 @@ fn shared_by_edges(table: &mut [u32], cell: Cell, near: &Near) -> Option<u32>
 fn shared_by_corners(table: &mut [u32], cell: Cell, near: &Near) -> Option<u32>
     requires { CanShare cell table.old near.now }
     ensures down { PointDown table.new }
-    ensures kept { result ≡ None → table.new ≡ table.old }
-    ensures shares { IfSome result (SharesAt EdgesAndCorners cell near.now table.old table.new) }
-    ensures none { result ≡ None → HasNoneEarlier EdgesAndCorners cell near.now }
+    ensures label { SharesLabel EdgesAndCorners cell near.now table.old table.new result }
 {
     if near.above.cell == cell {
         return Some(near.above.label);
@@ -118,10 +114,7 @@ fn shared_by_corners(table: &mut [u32], cell: Cell, near: &Near) -> Option<u32>
 fn shared_at_corners(table: &mut [u32], cell: Cell, near: &Near) -> Option<u32>
     requires { CanShare cell table.old near.now }
     ensures down { PointDown table.new }
-    ensures kept { result ≡ None → table.new ≡ table.old }
-    ensures shares { IfSome result (SharesAtCorners cell near.now table.old table.new) }
-    ensures none { result ≡ None
-        → (near.now.upper_left.cell ≢ cell) × (near.now.upper_right.cell ≢ cell) }
+    ensures label { SharesLabelAtCorners cell near.now table.old table.new result }
 {
     if near.upper_left.cell != cell {
         return if near.upper_right.cell == cell {
@@ -140,9 +133,7 @@ fn shared_at_corners(table: &mut [u32], cell: Cell, near: &Near) -> Option<u32>
 fn shared_label(table: &mut [u32], joining: Joining, cell: Cell, near: &Near) -> Option<u32>
     requires { CanShare cell table.old near.now }
     ensures down { PointDown table.new }
-    ensures kept { result ≡ None → table.new ≡ table.old }
-    ensures shares { IfSome result (SharesAt joining cell near.now table.old table.new) }
-    ensures none { result ≡ None → HasNoneEarlier joining cell near.now }
+    ensures label { SharesLabel joining cell near.now table.old table.new result }
 {
     match joining {
         Joining::Edges => shared_by_edges(table, cell, near),

@@ -15,6 +15,7 @@ use Rattle.rcell_script_commands.specs.declared.command.Command.{Command}
 use Rattle.rcell_script_commands.specs.declared.command.Command.TheVariants.{Mapcalc, Reclass, Clump, Stats, OutAscii}
 use Rattle.rcell_script.specs.declared.statement.Statement.{Statement}
 use Rattle.rcell_making.specs.Making.{AreValues, AreNumbers, IsOfMap, with_map}
+use Rattle.rcell_script.specs.KnownMaps.{known_after}
 use Rattle.rcell.specs.After.{IsShelfAfter}
 use Rattle.rcell.specs.Output.{Executes, command_text}
 use Rattle.rcell.specs.OutputLaw.{OneOutput, PartsJoin}
@@ -116,3 +117,18 @@ parts_join shelf first second text after = (
   λ y.
       subst (λ (t : List ℕ). Executes shelf (first ++ second) t after) (sym y.1.2.1.1) (Executes-append first second shelf y.0 after y.1.0 y.1.1 y.1.2.0 y.1.2.1.0),
 )
+
+-- what the maps of a place have in common
+of_map : (f : Grid → ShelfValue) (m : Option Grid) (after : ShelfValue) (names : List (List ℕ)) → IsOfMap (λ m. after ≡ f m) m
+    → ((m : Grid) → (f m).names ≡ names) → after.names ≡ names
+of_map f None after names h are = absurd h
+of_map f (Some m) after names h are = ap (λ (s : ShelfValue). s.names) h ∙ are m
+
+-- the names after a command are those that are known then
+pub names_after : (shelf : ShelfValue) (c : Command) (after : ShelfValue) → IsShelfAfter shelf c after
+    → after.names ≡ known_after shelf.names c
+names_after shelf (Mapcalc target bound) after h = ap (λ (s : ShelfValue). s.names) h.1.1
+names_after shelf (Reclass place target rules) after h =
+    of_map _ (slice_get shelf.maps place) after (shelf.names ++ target ∷ []) h (λ m. refl)
+names_after shelf (Clump place target joining) after h = ap (λ (s : ShelfValue). s.names) h.1.1
+names_after shelf _ after h = ap (λ (s : ShelfValue). s.names) h

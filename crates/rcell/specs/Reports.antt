@@ -41,3 +41,7 @@ text_of written ScriptSize = texts.ScriptSize
 text_of written (Script fault) = texts.Script fault.kind
 text_of written (Memory line) = texts.Memory
 text_of written Write = texts.Write written
+
+-- what the line of a fault tells, after so many bytes were written: where, at which line, and the text
+abbrev pub line_parts : List (List ℕ) → ℕ → RunFault → List ℕ × (ℕ × FaultText)
+line_parts names written fault = (fault_source names fault, (fault_line_number fault, text_of written fault))

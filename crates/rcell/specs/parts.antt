@@ -1,3 +1,4 @@
 -- What only private functions and proofs cite.
 pub mod Ends
 pub mod OutputSteps
+pub mod StatementsRead

@@ -3,7 +3,6 @@
 ghost use Rattle.std.specs.Prelude.{◌≡◌, OnOk, OnErr, IfOk, IfErr};
 ghost use Rattle.cell_core_devices.specs.Device.{after_put};
 ghost use Rattle.cell_core_devices.specs.Blocks.{Appends};
-ghost use Rattle.rcell_script.specs.KnownMaps.{known_after};
 ghost use Rattle.rcell_script_commands.specs.FittingCommands.{FitsCommand};
 ghost use Rattle.rcell_script.specs.FittingScripts.{Fits};
 ghost use Rattle.rcell.specs.After.{IsShelfAfter};
@@ -68,8 +67,6 @@ fn execute_statement<W: Sink>(
 ) -> Result<(), Memory>
     requires { FitsCommand shelf.old.names statement.now.command }
     ensures after { OnOk result (IsShelfAfter shelf.old statement.now.command shelf.new) }
-    ensures names { OnOk result
-        (shelf.new.names ≡ known_after shelf.old.names statement.now.command) }
     ensures ok { OnOk result
         (Appends W.taken W.faults out.old block.old (command_text shelf.old statement.now.command)
         out.new block.new) }

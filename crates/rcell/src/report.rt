@@ -1,7 +1,8 @@
 //! The one line that tells why a run did not do its work.
 
-ghost use Rattle.std.specs.Prelude.{◌≡◌, is_some, IfSome};
-ghost use Rattle.rcell.specs.Reports.{name_at_place, fault_source, fault_line_number, text_of};
+ghost use Rattle.std.specs.Prelude.{◌≡◌};
+ghost use Rattle.std.specs.Option.{option_map};
+ghost use Rattle.rcell.specs.Reports.{name_at_place, fault_source, fault_line_number, text_of, line_parts};
 
 use crate::outcome::{Outcome, RunFault};
 use bstr::ByteSlice;
@@ -106,13 +107,8 @@ fn text_of(written: u64, fault: RunFault) -> FaultText
 /// The line that tells the fault of an outcome, by the names of the grids in the order of the run; None where
 /// there is no fault. A place without a name has an empty source. Takes no memory.
 pub fn fault_line<'a>(outcome: &Outcome, names: &'a [Name]) -> Option<FaultLine<'a, FaultText>>
-    ensures told { is_some result ≡ is_some outcome.now.fault }
-    ensures source { IfSome result (λ told. IfSome outcome.now.fault (λ fault. told.source.now
-        ≡ fault_source names.now fault)) }
-    ensures line { IfSome result
-        (λ told. IfSome outcome.now.fault (λ fault. told.line ≡ fault_line_number fault)) }
-    ensures text { IfSome result (λ told. IfSome outcome.now.fault (λ fault. told.text
-        ≡ text_of outcome.now.written fault)) }
+    ensures { option_map (λ told. (told.source.now, (told.line, told.text))) result
+        ≡ option_map (line_parts names.now outcome.now.written) outcome.now.fault }
 {
     match outcome.fault {
         Some(fault) => Some(FaultLine {

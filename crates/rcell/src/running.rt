@@ -1,16 +1,18 @@
 //! A run, from bytes to bytes.
 
-ghost use Rattle.std.specs.Prelude.{◌≡◌, ℕ, ◌<◌, List, All, length, true, false, IsNone, IfSome, IfOk, IfErr, Ok, Err, Some, None, vec_len};
-ghost use Rattle.cell_core_devices.specs.Device.{Coming, has_failed};
+ghost use Rattle.std.specs.Prelude.{◌≡◌, ◌<◌, List, All, length, true, false, IsNone, IfSome, IfOk, IfErr, Some, None, vec_len};
+ghost use Rattle.std.specs.Option.{ForSome};
+ghost use Rattle.cell_core_devices.specs.Device.{has_failed};
 ghost use Rattle.cell_core.specs.Shelf.{ShelfValue};
 ghost use Rattle.rcell_script.specs.FittingScripts.{Fits};
 ghost use Rattle.rcell_script.specs.declared.statement.Statement.{Statement};
-ghost use Rattle.rcell_loading.specs.RunFaults.{IsOfInput, IsBeforeExecution, IsInExecution, NamesItsGrid};
+ghost use Rattle.rcell_loading.specs.RunFaults.{IsOfInput, IsOfScript, IsBeforeExecution, IsInExecution, NamesItsGrid};
 ghost use Rattle.rcell.specs.parts.Ends.{Ends, IsRunEnd};
-ghost use Rattle.rcell_loading.specs.Sources.{Named, Tell};
+ghost use Rattle.rcell.specs.parts.StatementsRead.{ReadsOnly, RefusesScript};
+ghost use Rattle.rcell_loading.specs.Sources.{OfTexts};
 ghost use Rattle.rcell.specs.runs.Accepted.{IsAccepted};
 ghost use Rattle.rcell.specs.runs.Statuses.{fault_status, status_after};
-ghost use Rattle.rcell.specs.runs.Endings.{ReadsScript, IsScriptRefusal, IsRefusal, IsReadScript, IsRunDone, IsRunStopped};
+ghost use Rattle.rcell.specs.runs.Endings.{IsRefusal, IsReadScript, IsRunDone, IsRunStopped};
 ghost use Rattle.rcell.specs.runs.Outcomes.{Failing, Writes};
 
 use crate::execution::{RunStop, Stopped, execute};
@@ -32,18 +34,13 @@ fn read_statements<R: Source + Drop>(
     shelf: &Shelf,
     script: R,
 ) -> Result<Script, RunFault>
-    ensures ok { (text : Coming) → R.coming script ≡ Some text
-        → IfOk result (λ s. ReadsScript shelf.now.names text s) }
-    ensures only { (text : Coming) → R.coming script ≡ Some text → (statements : List Statement)
-        → ReadsScript shelf.now.names text statements → IfOk result (λ s. s ≡ statements) }
-    ensures fits { IfOk result (λ s. Fits shelf.now.names s) }
-    ensures numbered { IfOk result (λ s. All (λ t. 0 < t.line) s) }
-    ensures fault { (text : Coming) → R.coming script ≡ Some text
-        → IfErr result (λ f. IsOfInput f → IsScriptRefusal shelf.now.names text f) }
-    ensures none { (text : Coming) → R.coming script ≡ Some text → (statements : List Statement)
-        → ReadsScript shelf.now.names text statements → IfErr result (λ f. IsOfInput f → ⊥) }
-    ensures early { IfErr result IsBeforeExecution }
-    ensures told { (grids : ℕ) → IfErr result (NamesItsGrid grids) }
+    ensures read { ForSome (R.coming script)
+        (λ text. IfOk result (ReadsOnly shelf.now.names text)) }
+    ensures fits { IfOk result (Fits shelf.now.names) }
+    ensures numbered { IfOk result (All (λ s. 0 < s.line)) }
+    ensures fault { ForSome (R.coming script)
+        (λ text. IfErr result (λ f. IsOfInput f → RefusesScript shelf.now.names text f)) }
+    ensures whose { IfErr result IsOfScript }
 {
     let text = match read_script(alloc, script) {
         Ok(text) => text,
@@ -120,25 +117,19 @@ pub fn run<R: Source + Drop, W: Sink>(
 ) -> Outcome
     requires { 0 < vec_len grids }
     // Without a fault the sink has taken exactly the output, and its length is told.
-    ensures done { (named : List Named) (text : Coming)
-        → Tell R.coming grids.items named → R.coming script ≡ Some text → IsNone result.fault
-        → IsRunDone named text (W.taken out.old) (W.taken out.new) result.written }
+    ensures done { OfTexts R.coming grids.items script (λ named text. IsNone result.fault
+        → IsRunDone named text (W.taken out.old) (W.taken out.new) result.written) }
     // A fault of the grids or of the script is the first that they have.
-    ensures refused { (named : List Named) (text : Coming)
-        → Tell R.coming grids.items named → R.coming script ≡ Some text
-        → IfSome result.fault (λ f. IsOfInput f → IsRefusal named text f) }
-    // A run that is refused before execution writes nothing, and no call of the sink fails.
-    ensures nothing { IfSome result.fault (λ f. IsBeforeExecution f
-        → (W.taken out.new ≡ W.taken out.old)
-        × ((W.faults out.new ≡ W.faults out.old) × (result.written ≡ 0))) }
-    // It leaves the sink as it was: nothing is put, and it is not flushed.
-    ensures untouched { IfSome result.fault (λ f. IsBeforeExecution f → out.new ≡ out.old) }
+    ensures refused { OfTexts R.coming grids.items script
+        (λ named text. IfSome result.fault (λ f. IsOfInput f → IsRefusal named text f)) }
+    // A run that is refused before execution leaves the sink as it was: nothing is put, and it is not flushed.
+    ensures untouched { IfSome result.fault
+        (λ f. IsBeforeExecution f → (out.new ≡ out.old) × (result.written ≡ 0)) }
     // A run that stops out of memory has written the whole output of the statements before the one that it tells; one that
     // stops at a failing sink has written a prefix of the output, and tells its length.
-    ensures stopped { (named : List Named) (text : Coming) → Tell R.coming grids.items named
-        → R.coming script ≡ Some text
-        → IfSome result.fault (λ f. IsInExecution f
-        → IsRunStopped named text (W.taken out.old) (W.taken out.new) result.written f) }
+    ensures stopped { OfTexts R.coming grids.items script
+        (λ named text. IfSome result.fault (λ f. IsInExecution f
+        → IsRunStopped named text (W.taken out.old) (W.taken out.new) result.written f)) }
     ensures status { result.status ≡ status_after result.fault }
     // A fault of a grid names one that was given, and being out of memory for a grid or for the script is told at line 0.
     ensures told { IfSome result.fault (NamesItsGrid (length grids.items)) }
@@ -146,28 +137,25 @@ pub fn run<R: Source + Drop, W: Sink>(
     ensures sound { result.status ≡ 0 → W.faults out.new ≡ W.faults out.old }
     ensures write { result.fault ≡ Some RunFault.Write → has_failed (W.faults out.new) ≡ true }
     // Write where no put was refused, as where only the flush at the end failed: the sink took the whole output.
-    ensures whole { (named : List Named) (text : Coming)
-        → Tell R.coming grids.items named → R.coming script ≡ Some text
-        → result.fault ≡ Some RunFault.Write → (W.faults out.new).refused ≡ false
-        → IsRunDone named text (W.taken out.old) (W.taken out.new) result.written }
+    ensures whole { OfTexts R.coming grids.items script
+        (λ named text. result.fault ≡ Some RunFault.Write → (W.faults out.new).refused ≡ false
+        → IsRunDone named text (W.taken out.old) (W.taken out.new) result.written) }
     // The fault is the one that came first: a put that is refused is told as Write, and the sink is not flushed after it; a
     // flush that fails after another fault changes nothing.
     ensures first { Failing result.fault (W.faults out.old) (W.faults out.new) }
     // For every accepted script over grids of one region, where memory lasts and the sink takes everything,
     // exactly the output of its statements is written.
-    ensures headline { (named : List Named) (text : Coming) (shelf : ShelfValue)
-        (statements : List Statement)
-        → Tell R.coming grids.items named → R.coming script ≡ Some text
+    ensures headline { OfTexts R.coming grids.items script
+        (λ named text. (shelf : ShelfValue) (statements : List Statement)
         → IsAccepted named text shelf statements
         → Writes shelf statements (W.taken out.old) (W.taken out.new)
-        (has_failed (W.faults out.new)) result }
+        (has_failed (W.faults out.new)) result) }
     // The same of whatever is read as statements over a shelf.
-    ensures complete { (named : List Named) (text : Coming) (shelf : ShelfValue)
-        (statements : List Statement)
-        → Tell R.coming grids.items named → R.coming script ≡ Some text
+    ensures complete { OfTexts R.coming grids.items script
+        (λ named text. (shelf : ShelfValue) (statements : List Statement)
         → IsReadScript named text shelf statements
         → Writes shelf statements (W.taken out.old) (W.taken out.new)
-        (has_failed (W.faults out.new)) result }
+        (has_failed (W.faults out.new)) result) }
 {
     let shelf = match load(alloc, grids) {
         Ok(shelf) => shelf,

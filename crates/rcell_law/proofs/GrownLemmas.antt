@@ -24,7 +24,7 @@ use Rattle.rcell_script.specs.declared.statement.Statement.{Statement}
 use Rattle.rcell_making.specs.Making.{AreNumbers, IsOfMap, with_map}
 use Rattle.rcell.specs.After.{IsShelfAfter}
 use Rattle.rcell.specs.Output.{Executes}
-use Rattle.rcell.proofs.OutputLemmas.{IsAfter-one}
+use Rattle.rcell.proofs.OutputLemmas.{IsAfter-one, names_after}
 
 -- ---- the maps that a script makes are new
 
@@ -142,19 +142,6 @@ grown_twice region a b c one other = record {
       ∙ append_assoc a.maps one.maps other.maps;
   ordered = other.ordered;
 }
-
--- the names after a command are those that are known then
-pub names_after : (shelf : ShelfValue) (c : Command) (after : ShelfValue) → IsShelfAfter shelf c after
-    → after.names ≡ known_after shelf.names c
-names_after shelf (Mapcalc target bound) after h = ap (λ (s : ShelfValue). s.names) h.1.1
-names_after shelf (Reclass place target rules) after h = by (slice_get shelf.maps place) h
-  where
-    by : (o : Option Grid) → IsOfMap (λ m. after ≡ with_map shelf target (reclassed_map rules m)) o
-        → after.names ≡ shelf.names ++ target ∷ []
-    by None h = absurd h
-    by (Some m) h = ap (λ (s : ShelfValue). s.names) h
-names_after shelf (Clump place target joining) after h = ap (λ (s : ShelfValue). s.names) h.1.1
-names_after shelf _ after h = ap (λ (s : ShelfValue). s.names) h
 
 pub executes_grown : (statements : List Statement) (region : RegionValue) (shelf : ShelfValue) → IsOrdered region shelf
     → AreNewTo shelf.names statements

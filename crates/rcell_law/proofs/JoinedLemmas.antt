@@ -16,7 +16,7 @@ use Rattle.rcell_script.specs.declared.statement.Statement.{Statement}
 use Rattle.rcell.specs.Output.{Executes}
 use Rattle.rcell_law.specs.CutScript.{ScriptCutInTwo}
 use Rattle.rcell_law.proofs.CutLemmas.{cut_in_two}
-use Rattle.rcell_law.proofs.GrownLemmas.{names_after}
+use Rattle.rcell.proofs.OutputLemmas.{names_after}
 use Rattle.rcell_law.proofs.LineLemmas.{script_lines_joined, numbered_both, numbered_later, line_later}
 
 -- the names known after statements

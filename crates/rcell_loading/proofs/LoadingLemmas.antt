@@ -1,5 +1,5 @@
 -- One grid more on the shelf.
-use Rattle.std.proofs.Common.{◌≡◌, ◌≢◌, ℕ, zero, suc, ◌+◌, Bool, true, false, cond, List, [], ◌∷◌, ◌++◌, length, take, Option, Some, None, Result, Ok, Err, IsSome, IfOk, IfErr, slice_get, refl, ap, sym, ◌∙◌, arith, add-one}
+use Rattle.std.proofs.Common.{◌≡◌, ◌≢◌, ℕ, zero, suc, ◌+◌, Bool, true, false, cond, List, [], ◌∷◌, ◌++◌, length, take, Option, Some, None, Result, Ok, Err, IsSome, IfOk, IfErr, slice_get, refl, ap, sym, subst, ◌∙◌, arith, add-one}
 use Rattle.std.specs.List.{position_from}
 use Rattle.std.specs.Prelude.{IfSome}
 use Rattle.cell_core_devices.specs.Device.{Coming}
@@ -12,12 +12,15 @@ use Rattle.cell_core.specs.ShelfRefused.{IsMapRefused}
 use Rattle.cell_core.specs.declared.shelf.ShelfFault.{ShelfFault}
 use Rattle.cell_core.specs.declared.shelf.ShelfFault.TheVariants.{Exists, OtherRegion, Memory}
 use Rattle.cell_ascii_meaning.specs.CellTexts.{grid_of}
+use Rattle.cell_ascii_meaning.specs.declared.grid_fault.GridFault.{GridFault}
+use Rattle.cell_ascii_meaning.specs.declared.grid_fault.GridKind.TheVariants as kinds
 use Rattle.rcell_loading.specs.Sources.{Named, Tell}
-use Rattle.rcell_loading.specs.RunFaults.{IsOfInput}
+use Rattle.rcell_loading.specs.RunFaults.{IsOfInput, AnswersInput}
 use Rattle.rcell_loading.specs.parts.Refused.{of_shelf, IsGridFault}
 use Rattle.rcell_loading.specs.Loading.{shelf_with_map, shelf_placed, with_grid, shelf_from, then_grids}
 use Rattle.rcell_loading.specs.declared.run_fault.RunFault.{RunFault}
 use Rattle.rcell_loading.specs.declared.run_fault.RunFault.TheVariants.{GridRegion, GridTwice}
+use Rattle.rcell_loading.specs.declared.run_fault.RunFault.TheVariants as faults
 
 differs : (t : Bool) → (t ≡ true → ⊥) → t ≡ false
 differs true apart = absurd (apart refl)
@@ -59,34 +62,32 @@ added-first grid region name map same =
     let same_test : is_same_region map.region region ≡ true = (is_same_region-Decides map.region region).1 same in
     rw same_test refl
 
-pub first_ok : (r : Result ShelfValue RunFault) (grid : ℕ) (region : RegionValue) (shelf : ShelfValue) (name : List ℕ) (map : Grid) → shelf ≡ record { region = region; names = []; maps = [] } → region ≡ map.region
-    → IfOk r (λ s. shelf_with_map grid shelf name map (place_of name shelf.names) ≡ Ok s) → IfOk r (λ s. shelf_placed grid None name map ≡ Ok s)
-first_ok (Err f) grid region shelf name map is same h = tt
-first_ok (Ok s) grid region shelf name map is same h =
-    let told : shelf_with_map grid (record { region = region; names = []; maps = [] }) name map None ≡ Ok s = ap (λ (s : ShelfValue). shelf_with_map grid s name map (place_of name s.names)) (sym is) ∙ h in
-    let taken = added-first grid region name map (sym same) in
-    ap (λ r. Ok (record { region = r; names = name ∷ []; maps = map ∷ [] })) (sym same) ∙ sym taken ∙ told
+pub first_placed : (r : Result ShelfValue RunFault) (grid : ℕ) (region : RegionValue) (shelf : ShelfValue) (name : List ℕ) (map : Grid)
+    → shelf ≡ record { region = region; names = []; maps = [] } → region ≡ map.region
+    → AnswersInput (λ s. s) r (shelf_with_map grid shelf name map (place_of name shelf.names))
+    → AnswersInput (λ s. s) r (shelf_placed grid None name map)
+first_placed r grid region shelf name map is same told =
+    let first : shelf_with_map grid shelf name map (place_of name shelf.names) ≡ shelf_placed grid None name map =
+    ap (λ (s : ShelfValue). shelf_with_map grid s name map (place_of name s.names)) is
+    ∙ added-first grid region name map (sym same)
+    ∙ ap (λ r. Ok (record { region = r; names = name ∷ []; maps = map ∷ [] })) same in
+    subst (λ (x : Result ShelfValue RunFault). AnswersInput (λ s. s) r x) first told
 
--- the first map is not refused
-pub first_fault : (r : Result ShelfValue RunFault) (grid : ℕ) (region : RegionValue) (shelf : ShelfValue) (name : List ℕ) (map : Grid) → shelf ≡ record { region = region; names = []; maps = [] } → region ≡ map.region
-    → IfErr r (λ f. IsOfInput f → shelf_with_map grid shelf name map (place_of name shelf.names) ≡ Err f) → IfErr r (λ f. IsOfInput f → shelf_placed grid None name map ≡ Err f)
-first_fault (Ok s) grid region shelf name map is same h = tt
-first_fault (Err f) grid region shelf name map is same h = λ input.
-    let told : shelf_with_map grid (record { region = region; names = []; maps = [] }) name map None ≡ Err f = ap (λ (s : ShelfValue). shelf_with_map grid s name map (place_of name s.names)) (sym is) ∙ h input in
-    let taken = added-first grid region name map (sym same) in
-    cc
-
--- what is wrong with a map that was read is wrong with its grid
-pub grid_refused : (given : Option Coming) (placed : Result ShelfValue RunFault) (grid : ℕ)
+-- what holds of a map that was read holds of its grid
+pub grid_placed : (given : Option Coming) (placed : Result ShelfValue RunFault) (grid : ℕ)
     (shelf : Option ShelfValue) (name : List ℕ) (map : Grid)
-    → IfSome given (λ c. grid_of c ≡ Ok map)
-    → IfErr placed (λ f. IsOfInput f → shelf_placed grid shelf name map ≡ Err f)
-    → IfErr placed (λ f. IsOfInput f → IfSome given (λ c. with_grid grid shelf name (grid_of c) ≡ Err f))
-grid_refused None (Ok s) grid shelf name map read fault = tt
-grid_refused None (Err f) grid shelf name map read fault = λ input. tt
-grid_refused (Some c) (Ok s) grid shelf name map read fault = tt
-grid_refused (Some c) (Err f) grid shelf name map read fault = λ input. ap (with_grid grid shelf name) read
-    ∙ fault input
+    → IfSome given (λ c. grid_of c ≡ Ok map) → AnswersInput (λ s. s) placed (shelf_placed grid shelf name map)
+    → IfSome given (λ c. AnswersInput (λ s. s) placed (with_grid grid shelf name (grid_of c)))
+grid_placed None placed grid shelf name map read told = tt
+grid_placed (Some c) placed grid shelf name map read told =
+    subst (λ (m : Result Grid GridFault). AnswersInput (λ s. s) placed (with_grid grid shelf name m)) (sym read) told
+
+-- a grid that was not read
+pub grid_unread : (given : Option Coming) (grid : ℕ) (shelf : Option ShelfValue) (name : List ℕ) (fault : GridFault)
+    → IfSome given (λ c. fault.kind ≢ kinds.Memory → grid_of c ≡ Err fault)
+    → IfSome given (λ c. AnswersInput {A = ShelfValue} (λ s. s) (Err (faults.Grid grid fault)) (with_grid grid shelf name (grid_of c)))
+grid_unread None grid shelf name fault told = tt
+grid_unread (Some c) grid shelf name fault told = λ input. ap (with_grid grid shelf name) (told input)
 
 module _ {R : Type 0} (coming : R → Option Coming) (grid : ℕ) (shelf : Option ShelfValue) (g : List ℕ × R) (rest : List (List ℕ × R)) where
   -- what the first grid gives is known
@@ -110,13 +111,13 @@ module _ {R : Type 0} (coming : R → Option Coming) (grid : ℕ) (shelf : Optio
         ),
       )
 
-  fails : (f : RunFault) (named : List Named) → Tell coming (g ∷ rest) named
-      → IfSome (coming g.1) (λ c. with_grid grid shelf g.0 (grid_of c) ≡ Err f) → shelf_from grid shelf named ≡ Err f
+  fails : (f : RunFault) (named : List Named) → Tell coming (g ∷ rest) named → IsOfInput f
+      → IfSome (coming g.1) (λ c. IsOfInput f → with_grid grid shelf g.0 (grid_of c) ≡ Err f) → shelf_from grid shelf named ≡ Err f
   unfolding shelf_from
-  fails f [] tell one = absurd tell
-  fails f (n ∷ named) tell one =
+  fails f [] tell input one = absurd tell
+  fails f (n ∷ named) tell input one =
       let first : with_grid grid shelf g.0 (grid_of n.1) ≡ Err f =
-      one_known n (λ c. with_grid grid shelf g.0 (grid_of c) ≡ Err f) tell.0.1 one in
+      one_known n (λ c. IsOfInput f → with_grid grid shelf g.0 (grid_of c) ≡ Err f) tell.0.1 one input in
       ap (then_grids (λ s. shelf_from (grid + 1) (Some s) named))
       (ap (λ name. with_grid grid shelf name (grid_of n.1)) (sym tell.0.0) ∙ first)
 
@@ -129,9 +130,9 @@ module _ {R : Type 0} (coming : R → Option Coming) (grid : ℕ) (shelf : Optio
   shelf_more gs next named is tell one = more next named (rw is at tell) one
 
   -- a grid that is refused
-  pub shelf_fails : (gs : List (List ℕ × R)) (f : RunFault) (named : List Named) → gs ≡ g ∷ rest → Tell coming gs named
-      → IfSome (coming g.1) (λ c. with_grid grid shelf g.0 (grid_of c) ≡ Err f) → shelf_from grid shelf named ≡ Err f
-  shelf_fails gs f named is tell one = fails f named (rw is at tell) one
+  pub shelf_fails : (gs : List (List ℕ × R)) (f : RunFault) (named : List Named) → gs ≡ g ∷ rest → Tell coming gs named → IsOfInput f
+      → IfSome (coming g.1) (λ c. IsOfInput f → with_grid grid shelf g.0 (grid_of c) ≡ Err f) → shelf_from grid shelf named ≡ Err f
+  shelf_fails gs f named is tell input one = fails f named (rw is at tell) input one
 
 -- no grid is left
 pub none_left : {R : Type 0} (coming : R → Option Coming) (gs : List (List ℕ × R)) (named : List Named) → gs ≡ []

@@ -6,9 +6,10 @@ use Rattle.std.specs.Option.{option_map}
 use Rattle.std.proofs.lemmas.Bool.Decides.{nat_tests}
 use Rattle.cell_core_devices.specs.declared.device.DeviceFault.{DeviceFault}
 use Rattle.cell_core_devices.specs.Device.{Coming, Takes, after_bytes}
+use Rattle.rcell_loading.specs.RunFaults.{AnswersInput}
 use Rattle.rcell_loading.specs.ScriptText.{script_text}
 use Rattle.rcell_loading.specs.declared.run_fault.RunFault.{RunFault}
-use Rattle.rcell_loading.specs.declared.run_fault.RunFault.TheVariants.{ScriptRead, ScriptSize}
+use Rattle.rcell_loading.specs.declared.run_fault.RunFault.TheVariants.{ScriptRead, ScriptSize, Memory}
 
 -- what a script is that begins with bytes that were read
 abbrev pub text_after : List ℕ → Coming → Result (List ℕ) RunFault
@@ -27,6 +28,15 @@ told None left text x e h = tt
 told (Some c) None text x e h = cc
 told (Some c) (Some d) text x e h = let same : script_text c ≡ text_after text d = cc in same ∙ h d refl
 
+anyway : (all : Option Coming) (P : Coming → Type 0) (Q : Type 0) → IfSome all P → IfSome all (λ c. Q → P c)
+anyway None P Q is = tt
+anyway (Some c) P Q is = λ _. is
+
+-- being out of memory says nothing of the text
+pub no_memory : (all : Option Coming) → IfSome all (λ c. AnswersInput {A = List ℕ} (λ t. t) (Err (Memory 0)) (script_text c))
+no_memory None = tt
+no_memory (Some c) = λ input. absurd input
+
 not_long : (text : List ℕ) → length text ≤ 1048576 → nat_lt 1048576 (length text) ≡ false
 not_long text short = grind (arith, nat_tests)
 
@@ -38,15 +48,17 @@ text_ends all old new n block text e short none takes = told all old text (Ok te
     at c gives = rw (gives.end none, gives.ends none, append-nil text, not_long text short) refl
 
 -- the reader fails
-pub text_fails : (all old new : Option Coming) (fault : DeviceFault) (block text : List ℕ) → option_map script_text all ≡ option_map (text_after text) old → length text ≤ 1048576 → Takes old new (Err fault) block → IfSome all (λ c. script_text c ≡ Err ScriptRead)
-text_fails all old new fault block text e short takes = told all old text (Err ScriptRead) e (λ c is. at c (rw is at takes))
+pub text_fails : (all old new : Option Coming) (fault : DeviceFault) (block text : List ℕ) → option_map script_text all ≡ option_map (text_after text) old → length text ≤ 1048576 → Takes old new (Err fault) block → IfSome all (λ c. AnswersInput {A = List ℕ} (λ t. t) (Err ScriptRead) (script_text c))
+text_fails all old new fault block text e short takes =
+    anyway all (λ c. script_text c ≡ Err ScriptRead) _ (told all old text (Err ScriptRead) e (λ c is. at c (rw is at takes)))
   where
     at : (c : Coming) → Takes {E = DeviceFault} (Some c) new (Err fault) block → text_after text c ≡ Err ScriptRead
     at c gives = rw (gives.none, gives.fails, append-nil text, not_long text short) refl
 
 -- the text is too long
-pub text_long : (all old new : Option Coming) (n : ℕ) (block text : List ℕ) → option_map script_text all ≡ option_map (text_after text) old → 1048576 < length text + n → Takes {E = DeviceFault} old new (Ok n) block → IfSome all (λ c. script_text c ≡ Err ScriptSize)
-text_long all old new n block text e long takes = told all old text (Err ScriptSize) e (λ c is. at c (rw is at takes))
+pub text_long : (all old new : Option Coming) (n : ℕ) (block text : List ℕ) → option_map script_text all ≡ option_map (text_after text) old → 1048576 < length text + n → Takes {E = DeviceFault} old new (Ok n) block → IfSome all (λ c. AnswersInput {A = List ℕ} (λ t. t) (Err ScriptSize) (script_text c))
+text_long all old new n block text e long takes =
+    anyway all (λ c. script_text c ≡ Err ScriptSize) _ (told all old text (Err ScriptSize) e (λ c is. at c (rw is at takes)))
   where
     at : (c : Coming) → Takes {E = DeviceFault} (Some c) new (Ok n) block → text_after text c ≡ Err ScriptSize
     at c gives =

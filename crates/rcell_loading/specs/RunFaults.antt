@@ -1,5 +1,5 @@
 -- The faults of a run: which of them come when, and what they tell (profile).
-use Rattle.std.specs.Prelude.{ℕ, ◌≡◌, ◌≢◌, ◌<◌, ⊤}
+use Rattle.std.specs.Prelude.{ℕ, ◌≡◌, ◌≢◌, ◌<◌, ⊤, Result, Ok, Err}
 use Rattle.cell_ascii_meaning.specs.declared.grid_fault.GridKind.TheVariants as grid_kinds
 use Rattle.rcell_script_commands.specs.declared.script_fault.ScriptKind.TheVariants as script_kinds
 use Rattle.rcell_loading.specs.declared.run_fault.RunFault.{RunFault}
@@ -59,3 +59,13 @@ NamesItsGrid grids ScriptSize = ⊤
 NamesItsGrid grids (Script fault) = fault.kind ≡ script_kinds.Memory → fault.line ≡ 0
 NamesItsGrid grids (Memory line) = ⊤
 NamesItsGrid grids Write = ⊤
+
+-- a fault of the script is told before execution, and names no grid
+pub record IsOfScript (fault : RunFault) : Type 0 where
+  pub early : IsBeforeExecution fault
+  pub told : (grids : ℕ) → NamesItsGrid grids fault
+
+-- what is answered, seen by `view`, is what the reading gives, and a fault of the input is that of the reading
+abbrev pub AnswersInput : {A B : Type 0} → (A → B) → Result A RunFault → Result B RunFault → Type 0
+AnswersInput view (Ok x) reading = reading ≡ Ok (view x)
+AnswersInput view (Err fault) reading = IsOfInput fault → reading ≡ Err fault

@@ -1,9 +1,9 @@
 //! The shelf of the grids.
 
-ghost use Rattle.std.specs.Prelude.{ℕ, ◌≡◌, ◌+◌, ◌<◌, List, IfOk, IfErr, IfSome, Ok, Err, Some, length, vec_len};
+ghost use Rattle.std.specs.Prelude.{ℕ, ◌≡◌, ◌+◌, ◌<◌, List, IfOk, IfErr, IfSome, Some, length, vec_len};
 ghost use Rattle.cell_core_values.specs.Name.{place_of};
 ghost use Rattle.cell_ascii_meaning.specs.CellTexts.{grid_of};
-ghost use Rattle.rcell_loading.specs.RunFaults.{IsOfInput, IsBeforeExecution, NamesItsGrid};
+ghost use Rattle.rcell_loading.specs.RunFaults.{AnswersInput, IsBeforeExecution, NamesItsGrid};
 ghost use Rattle.rcell_loading.specs.Loading.{shelf_with_map, shelf_placed, with_grid, shelf_of};
 ghost use Rattle.rcell_loading.specs.Sources.{Named, Tell};
 ghost use Rattle.rcell_loading.specs.parts.Refused.{of_shelf, IsGridFault};
@@ -35,10 +35,8 @@ fn shelf_with_map(
     name: Name,
     map: CellMap,
 ) -> Result<Shelf, RunFault>
-    ensures ok { IfOk result (λ s. shelf_with_map grid shelf name map (place_of name shelf.names)
-        ≡ Ok s) }
-    ensures fault { IfErr result (λ f. IsOfInput f
-        → shelf_with_map grid shelf name map (place_of name shelf.names) ≡ Err f) }
+    ensures answer { AnswersInput (λ s. s) result
+        (shelf_with_map grid shelf name map (place_of name shelf.names)) }
     ensures whose { IfErr result (IsGridFault grid) }
 {
     match shelf.add(name, map) {
@@ -55,8 +53,7 @@ fn shelf_or_new(
     name: Name,
     map: CellMap,
 ) -> Result<Shelf, RunFault>
-    ensures ok { IfOk result (λ s. shelf_placed grid shelf name map ≡ Ok s) }
-    ensures fault { IfErr result (λ f. IsOfInput f → shelf_placed grid shelf name map ≡ Err f) }
+    ensures answer { AnswersInput (λ s. s) result (shelf_placed grid shelf name map) }
     ensures whose { IfErr result (IsGridFault grid) }
 {
     match shelf {
@@ -76,10 +73,8 @@ fn shelf_with_grid<R: Source + Drop>(
     name: Name,
     source: R,
 ) -> Result<Shelf, RunFault>
-    ensures ok { IfOk result
-        (λ s. IfSome (R.coming source) (λ c. with_grid grid shelf name (grid_of c) ≡ Ok s)) }
-    ensures fault { IfErr result (λ f. IsOfInput f
-        → IfSome (R.coming source) (λ c. with_grid grid shelf name (grid_of c) ≡ Err f)) }
+    ensures answer { IfSome (R.coming source)
+        (λ c. AnswersInput (λ s. s) result (with_grid grid shelf name (grid_of c))) }
     ensures whose { IfErr result (IsGridFault grid) }
 {
     let map = match read_map(alloc, source) {
@@ -98,10 +93,8 @@ fn shelf_with_grid<R: Source + Drop>(
 /// refused, [`RunFault::Grid`] of kind `Memory`, or [`RunFault::Memory`], both with line 0.
 pub fn load<R: Source + Drop>(alloc: Global, grids: Vec<(Name, R)>) -> Result<Shelf, RunFault>
     requires { 0 < vec_len grids }
-    ensures ok { IfOk result (λ s. (named : List Named) → Tell R.coming grids.items named
-        → shelf_of named ≡ Ok (Some s)) }
-    ensures fault { IfErr result (λ f. IsOfInput f → (named : List Named)
-        → Tell R.coming grids.items named → shelf_of named ≡ Err f) }
+    ensures answer { (named : List Named) → Tell R.coming grids.items named
+        → AnswersInput (λ s. Some s) result (shelf_of named) }
     ensures early { IfErr result IsBeforeExecution }
     ensures told { IfErr result (NamesItsGrid (length grids.items)) }
 {

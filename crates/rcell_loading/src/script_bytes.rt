@@ -1,7 +1,7 @@
 //! The text of a script.
 
-ghost use Rattle.std.specs.Prelude.{ℕ, ◌≡◌, IfOk, IfErr, IfSome, Ok, Err};
-ghost use Rattle.rcell_loading.specs.RunFaults.{IsOfInput, IsBeforeExecution, NamesItsGrid};
+ghost use Rattle.std.specs.Prelude.{◌≡◌, IfErr, IfSome};
+ghost use Rattle.rcell_loading.specs.RunFaults.{AnswersInput, IsOfScript};
 ghost use Rattle.rcell_loading.specs.ScriptText.{script_text};
 ghost use Rattle.rcell_loading.specs.parts.Asked.{asked_by};
 
@@ -19,24 +19,18 @@ const MOST_BYTES: usize = 1048576;
 /// [`RunFault::ScriptSize`] where it has over 1,048,576 bytes, [`RunFault::ScriptRead`] where its reader fails before,
 /// or [`RunFault::Memory`] with line 0 where memory was refused.
 pub fn read_script<R: Source + Drop>(alloc: Global, mut source: R) -> Result<Vec<u8>, RunFault>
-    ensures ok { IfOk result
-        (λ text. IfSome (R.coming source) (λ c. script_text c ≡ Ok text.items)) }
-    ensures fault { IfErr result (λ f. IsOfInput f
-        → IfSome (R.coming source) (λ c. script_text c ≡ Err f)) }
-    ensures early { IfErr result IsBeforeExecution }
-    ensures told { (grids : ℕ) → IfErr result (NamesItsGrid grids) }
+    ensures answer { IfSome (R.coming source)
+        (λ c. AnswersInput (λ text. text.items) result (script_text c)) }
+    ensures whose { IfErr result IsOfScript }
 {
     read_text(alloc, &mut source)
 }
 
 // Reads a source to its end, up to one byte more than the limit of a script.
 fn read_text<R: Source>(alloc: Global, source: &mut R) -> Result<Vec<u8>, RunFault>
-    ensures ok { IfOk result
-        (λ text. IfSome (R.coming source.old) (λ c. script_text c ≡ Ok text.items)) }
-    ensures fault { IfErr result (λ f. IsOfInput f
-        → IfSome (R.coming source.old) (λ c. script_text c ≡ Err f)) }
-    ensures early { IfErr result IsBeforeExecution }
-    ensures told { (grids : ℕ) → IfErr result (NamesItsGrid grids) }
+    ensures answer { IfSome (R.coming source.old)
+        (λ c. AnswersInput (λ text. text.items) result (script_text c)) }
+    ensures whose { IfErr result IsOfScript }
     // Its end and an `Err` are told as such, and it is not asked after them.
     ensures asked { R.asked source.old ≡ Asked.Going → R.asked source.new ≡ asked_by result }
 {

@@ -1,6 +1,6 @@
 //! Statements that make a map put it on the shelf.
 
-ghost use Rattle.std.specs.Prelude.{◌≡◌, ◌≤◌, ◌<◌, ◌++◌, [], ◌∷◌, None, length, OnOk, OnErr};
+ghost use Rattle.std.specs.Prelude.{◌≡◌, ◌≤◌, ◌<◌, None, length, OnOk, OnErr};
 ghost use Rattle.cell_calc_binding.specs.Reach.{top_of};
 ghost use Rattle.cell_core_values.specs.Name.{place_of};
 ghost use Rattle.rcell_making.specs.Making.{IsWithValues, IsWithClasses, IsWithNumbers, with_map};
@@ -48,11 +48,9 @@ pub fn make_values(
     requires maps { top_of bound.now ≤ length shelf.old.maps }
     requires free { place_of target.now shelf.old.names ≡ None }
     ensures ok { OnOk result (IsWithValues shelf.old target.now bound.now shelf.new) }
-    ensures names { OnOk result (shelf.new.names ≡ shelf.old.names ++ target.now ∷ []) }
     ensures err { OnErr result (shelf.new ≡ shelf.old) }
 {
     let made = evaluate(alloc, bound, shelf)?;
-    let _region = made.region();
     put_last(alloc, shelf, target, made)
 }
 
@@ -71,7 +69,6 @@ pub fn make_classes(
     requires map { place < length shelf.old.maps }
     requires free { place_of target.now shelf.old.names ≡ None }
     ensures ok { OnOk result (IsWithClasses shelf.old place target.now rules.now shelf.new) }
-    ensures names { OnOk result (shelf.new.names ≡ shelf.old.names ++ target.now ∷ []) }
     ensures err { OnErr result (shelf.new ≡ shelf.old) }
 {
     let made = reclass(alloc, shelf.map(place), rules)?;
@@ -93,7 +90,6 @@ pub fn make_numbers(
     requires map { place < length shelf.old.maps }
     requires free { place_of target.now shelf.old.names ≡ None }
     ensures ok { OnOk result (IsWithNumbers shelf.old place target.now joining shelf.new) }
-    ensures names { OnOk result (shelf.new.names ≡ shelf.old.names ++ target.now ∷ []) }
     ensures err { OnErr result (shelf.new ≡ shelf.old) }
 {
     let made = clump_with(alloc, shelf.map(place), joining)?;

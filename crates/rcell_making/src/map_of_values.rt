@@ -1,11 +1,9 @@
 //! Maps of values.
 
-ghost use Rattle.std.specs.Prelude.{◌≡◌, ◌<◌, ◌≤◌, ◌+◌, ℕ, length, slice_get, Some, All, IfOk};
-ghost use Rattle.cell_core.specs.Grid.{cell_at, no_labels};
+ghost use Rattle.std.specs.Prelude.{◌≡◌, ◌<◌, ◌≤◌, ◌+◌, length, slice_get, Some, IfOk};
 ghost use Rattle.cell_calc_binding.specs.Reach.{top_of};
-ghost use Rattle.cell_calc_operators.specs.Applied.{spot};
-ghost use Rattle.cell_calc_binding.specs.Value.{value};
-ghost use Rattle.rcell_making.specs.parts.WindowsSet.{AreSet, HasValues, picked_maps};
+ghost use Rattle.rcell_making.specs.Making.{AreValues};
+ghost use Rattle.rcell_making.specs.parts.WindowsSet.{AreMapPlaces, AreSet, HasValues, picked_maps};
 
 use cell_calc::rows_of_values::eval_row;
 use cell_calc::window::RowWindow;
@@ -19,7 +17,7 @@ use std::alloc::Global;
 // The map that stands at a place of a list of places.
 fn map_at<'a>(shelf: &'a Shelf, places: &[usize], i: usize) -> &'a CellMap
     requires place { i < length places.now }
-    requires within { All (λ place. place < length shelf.now.maps) places.now }
+    requires within { AreMapPlaces shelf.now places.now }
     ensures value { slice_get (picked_maps places.now shelf.now.maps) i ≡ Some result.now }
     ensures region { result.now.region ≡ shelf.now.region }
 {
@@ -34,7 +32,7 @@ fn open_windows(
     shelf: &Shelf,
 ) -> Result<Vec<RowWindow>, Memory>
     requires places { top_of bound.now ≡ length places.now }
-    requires within { All (λ place. place < length shelf.now.maps) places.now }
+    requires within { AreMapPlaces shelf.now places.now }
     ensures set { IfOk result (λ windows. AreSet bound.now (length places.now) 0 windows.items
         (picked_maps places.now shelf.now.maps)) }
     ensures count { IfOk result (λ windows. length windows.items ≡ length places.now) }
@@ -56,7 +54,7 @@ fn advance_windows(
     windows: &mut [RowWindow],
 )
     requires count { length windows.old ≡ length places.now }
-    requires within { All (λ place. place < length shelf.now.maps) places.now }
+    requires within { AreMapPlaces shelf.now places.now }
     requires set { AreSet bound.now (length windows.old) row windows.old
         (picked_maps places.now shelf.now.maps) }
     ensures { row + 1 < shelf.now.region.rows
@@ -80,7 +78,7 @@ fn evaluate_over(
     shelf: &Shelf,
 ) -> Result<CellMap, Memory>
     requires places { top_of bound.now ≡ length places.now }
-    requires within { All (λ place. place < length shelf.now.maps) places.now }
+    requires within { AreMapPlaces shelf.now places.now }
     ensures { IfOk result (HasValues bound.now shelf.now.region
         (picked_maps places.now shelf.now.maps)) }
 {
@@ -110,14 +108,11 @@ fn evaluate_over(
 /// [`Memory`] where memory was refused.
 pub fn evaluate(alloc: Global, bound: &Bound, shelf: &Shelf) -> Result<CellMap, Memory>
     requires { top_of bound.now ≤ length shelf.now.maps }
-    ensures region { IfOk result (λ m. m.region ≡ shelf.now.region) }
-    ensures labels { IfOk result (λ m. m.labels ≡ no_labels) }
-    ensures cells { IfOk result (λ m. (r c : ℕ) → r < shelf.now.region.rows
-        → c < shelf.now.region.cols
-        → cell_at m r c ≡ value bound.now shelf.now.maps (spot shelf.now.region r c)) }
+    ensures { IfOk result (AreValues bound.now shelf.now) }
 {
     // Only the maps that are read have windows.
     let (compact, places) = bound.over_read_maps(alloc)?;
     let map = evaluate_over(alloc, &compact, places.as_slice(), shelf)?;
+    let _region = map.region();
     Ok(map)
 }

@@ -1,10 +1,10 @@
 -- What the words of a command line ask for: rcell SCRIPT NAME=PATH... (profile).
-use Rattle.std.specs.Prelude.{ℕ, Bool, false, List, [], ◌∷◌, ◌++◌, ◌==◌, ◌+◌, ◌&&◌, ◌||◌, drop, if◌then◌else◌, length, nat_lt, None, Option, Some, option_map, codes}
+use Rattle.std.specs.Prelude.{ℕ, Bool, false, List, [], ◌∷◌, ◌++◌, ◌==◌, ◌≡◌, ◌≢◌, ◌+◌, ◌&&◌, ◌||◌, drop, if◌then◌else◌, length, nat_lt, None, Option, Some, Result, Ok, Err, option_map, codes}
 use Rattle.std.specs.List.{after_first, before_first, list_any}
 use Rattle.cell_core_values.specs.Letters.{byte}
 use Rattle.cell_core_values.specs.Name.{is_name}
 use Rattle.rcell_request.specs.declared.refusal.Refusal.{Refusal}
-use Rattle.rcell_request.specs.declared.refusal.Refusal.TheVariants.{GridWord, Usage}
+use Rattle.rcell_request.specs.declared.refusal.Refusal.TheVariants.{GridWord, Memory, Usage}
 
 -- a word that begins with a hyphen
 abbrev pub begins_with_hyphen : List ℕ → Bool
@@ -32,3 +32,8 @@ is_misuse words = list_any begins_with_hyphen words || nat_lt (length words) 2
 -- why these words, which follow the program's own name, are refused; None where they ask for a run
 abbrev pub refusal_of : List (List ℕ) → Option Refusal
 refusal_of words = if is_misuse words then Some Usage else option_map (λ place. GridWord place) (first_bad 2 (drop 1 words))
+
+-- words are refused for this reason, or for none, unless memory ran out
+abbrev pub IsRefusedFor : {A : Type 0} → Option Refusal → Result A Refusal → Type 0
+IsRefusedFor reason (Ok request) = reason ≡ None
+IsRefusedFor reason (Err refusal) = refusal ≢ Memory → reason ≡ Some refusal

@@ -6,7 +6,7 @@ ghost use Rattle.std.specs.String.{string_bytes};
 ghost use Rattle.clap.specs.Words.{app_of};
 ghost use Rattle.clap.specs.Walk.{texts};
 ghost use Rattle.cell_core_values.specs.Name.{is_name};
-ghost use Rattle.rcell_request.specs.CommandLine.{begins_with_hyphen, first_bad, grid_words, is_grid_argument, is_misuse, refusal_of};
+ghost use Rattle.rcell_request.specs.CommandLine.{begins_with_hyphen, first_bad, grid_words, is_grid_argument, is_misuse, refusal_of, IsRefusedFor};
 ghost use Rattle.rcell_request.specs.parts.ClapWords.{FindsAll, command_line};
 
 use crate::refusal::Refusal;
@@ -141,9 +141,7 @@ pub fn read_words<'a>(alloc: Global, words: &'a [String]) -> Result<Request<'a>,
     ensures asked { IfOk result (λ request. drop 1 (map string_bytes words.now)
         ≡ request.script.now
         ∷ grid_words request.names.items (map (λ path. path.now) request.paths.items)) }
-    ensures good { OnOk result (refusal_of (drop 1 (map string_bytes words.now)) ≡ None) }
-    ensures refused { IfErr result (λ refusal. refusal ≢ Refusal.Memory
-        → refusal_of (drop 1 (map string_bytes words.now)) ≡ Some refusal) }
+    ensures refused { IsRefusedFor (refusal_of (drop 1 (map string_bytes words.now))) result }
 {
     let Some((_, later)) = words.split_first() else {
         return Err(Refusal::Usage);

@@ -1,7 +1,8 @@
 //! The files that a request names.
 
-ghost use Rattle.std.specs.Prelude.{◌≡◌, ◌≢◌, ◌<◌, All, IfErr, IfOk, map, vec_len};
+ghost use Rattle.std.specs.Prelude.{◌≡◌, ◌≢◌, ◌<◌, IfErr, IfOk, vec_len};
 ghost use Rattle.cell_core_devices.specs.declared.source.Asked.{Asked};
+ghost use Rattle.rcell_request.specs.OpenedGrids.{AreOpened};
 ghost use Rattle.rcell_request.specs.Refusals.{IsOfOpening};
 
 use crate::command_words::Request;
@@ -67,9 +68,7 @@ fn open_grids<R: Files + AllocGlobal>(
     rt: &R,
     request: &Request<'_>,
 ) -> Result<Vec<(Name, ReadSource<R::File>)>, Refusal>
-    ensures names { IfOk result (λ opened. map (λ grid. grid.0) opened.items
-        ≡ request.now.names.items) }
-    ensures asked { IfOk result (λ opened. All (λ grid. grid.1.1 ≡ Asked.Going) opened.items) }
+    ensures opened { IfOk result (λ grids. AreOpened request.now.names.items grids.items) }
     ensures told { IfErr result (IsOfOpening (vec_len request.now.names)) }
 {
     let mut grids = Vec::new(rt.alloc());
@@ -90,11 +89,9 @@ pub fn open_files<R: Files + AllocGlobal>(
     rt: &R,
     request: &Request<'_>,
 ) -> Result<OpenedFiles<R::File>, Refusal>
-    ensures names { IfOk result (λ opened. map (λ grid. grid.0) opened.grids.items
-        ≡ request.now.names.items) }
     // Nothing is read yet: no source was asked, so none has ended or failed.
-    ensures asked { IfOk result (λ opened. (opened.script.1 ≡ Asked.Going)
-        × All (λ grid. grid.1.1 ≡ Asked.Going) opened.grids.items) }
+    ensures script { IfOk result (λ opened. opened.script.1 ≡ Asked.Going) }
+    ensures grids { IfOk result (λ opened. AreOpened request.now.names.items opened.grids.items) }
     ensures told { IfErr result (IsOfOpening (vec_len request.now.names)) }
 {
     let script = open_file(rt, request.script, Refusal::ScriptFile)?;

@@ -1,8 +1,9 @@
 -- How a text is read as statements, and which fault it has where it is no script (profile).
-use Rattle.std.specs.Prelude.{ℕ, List, Ok, Err}
+use Rattle.std.specs.Prelude.{ℕ, ◌≡◌, List, Ok, Err}
 use Rattle.rcell_script.specs.Lines.{script_lines}
 use Rattle.rcell_script.specs.ScriptsRead.{IsScriptReading, start}
 use Rattle.rcell_script_commands.specs.declared.script_fault.ScriptFault.{ScriptFault}
+use Rattle.rcell_script_commands.specs.declared.script_fault.ScriptKind.TheVariants.{Memory}
 use Rattle.rcell_script.specs.declared.statement.Statement.{Statement}
 
 -- the text is read as these statements, line by line from the top
@@ -12,3 +13,7 @@ IsReadAs known text statements = IsScriptReading 1 (start known) (script_lines t
 -- the text is no script, and this is its first fault, line by line from the top
 unfoldable pub IsScriptFault : List (List ℕ) → List ℕ → ScriptFault → Type 0
 IsScriptFault known text fault = IsScriptReading 1 (start known) (script_lines text) (Err fault)
+
+-- being out of memory is told at line 0
+abbrev pub TellsMemoryAtZero : ScriptFault → Type 0
+TellsMemoryAtZero fault = fault.kind ≡ Memory → fault.line ≡ 0

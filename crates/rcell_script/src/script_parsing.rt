@@ -2,7 +2,7 @@
 
 ghost use Rattle.std.specs.Prelude.{◌≡◌, ◌≢◌, ◌<◌, All, IfOk, IfErr};
 ghost use Rattle.rcell_script.specs.Scripts.{IsScript};
-ghost use Rattle.rcell_script.specs.ReadScripts.{IsScriptFault};
+ghost use Rattle.rcell_script.specs.ReadScripts.{IsScriptFault, TellsMemoryAtZero};
 ghost use Rattle.rcell_script.specs.FittingScripts.{Fits};
 
 use crate::line_reading::{NO_MEMORY, Progress};
@@ -20,12 +20,12 @@ use std::alloc::Global;
 /// [`ScriptKind::UnknownCommand`], then the faults of the command and of its rules; [`ScriptKind::MissingEnd`] at the
 /// line of an r.reclass whose rules have no end. [`ScriptKind::Memory`] with line 0 where memory was refused.
 pub fn parse_script(alloc: Global, text: &[u8], known: &Names) -> Result<Script, ScriptFault>
-    ensures ok { IfOk result (λ script. IsScript known.now text.now script) }
-    ensures fits { IfOk result (λ script. Fits known.now script) }
-    ensures numbered { IfOk result (λ script. All (λ s. 0 < s.line) script) }
+    ensures ok { IfOk result (IsScript known.now text.now) }
+    ensures fits { IfOk result (Fits known.now) }
+    ensures numbered { IfOk result (All (λ s. 0 < s.line)) }
     ensures err { IfErr result (λ fault. fault.kind ≢ ScriptKind.Memory
         → IsScriptFault known.now text.now fault) }
-    ensures memory { IfErr result (λ fault. fault.kind ≡ ScriptKind.Memory → fault.line ≡ 0) }
+    ensures memory { IfErr result TellsMemoryAtZero }
 {
     let Ok(lines) = lines_of(alloc, text) else {
         return Err(NO_MEMORY);

@@ -1,5 +1,5 @@
 -- What is known of the labels once the first cells of a map were read, in row order.
-use Rattle.std.specs.Prelude.{ℕ, ℤ, suc, ◌+◌, ◌*◌, ◌<◌, ◌≤◌, ◌≡◌, ◌⊎◌, List, [], ◌∷◌, ◌++◌, length, Some, None, IsSome, true, slice_index, slice_index_or}
+use Rattle.std.specs.Prelude.{ℕ, ℤ, suc, ◌+◌, ◌*◌, ◌<◌, ◌≤◌, ◌≡◌, ◌≢◌, ◌⊎◌, List, [], ◌∷◌, ◌++◌, length, Option, Some, None, IsSome, true, slice_index, slice_index_or}
 use Rattle.cell_core.specs.Grid.{Grid, CellValue}
 use Rattle.cell_cats_areas.specs.declared.clump.Joining.{Joining}
 use Rattle.cell_cats_areas.specs.declared.clump.Joining.TheVariants.{EdgesAndCorners}
@@ -129,3 +129,13 @@ HasEarlier j cell near label = (m : Grid) (r c : ℕ) (v : ℤ) (count : ℕ) (l
 abbrev pub HasNoneEarlier : Joining → CellValue → Near → Type 0
 HasNoneEarlier j cell near = (m : Grid) (r c : ℕ) (v : ℤ) (count : ℕ) (label_of : Position → ℕ)
     → cell ≡ Some v → AreNear m count label_of r c near → (q : Position) → IsEarlier j r c q → cell_at_spot m q ≡ Some v → ⊥
+
+-- the label that such a cell shares, or none: then the table stays, and no cell that comes before it has its category
+abbrev pub SharesLabel : Joining → CellValue → Near → List ℕ → List ℕ → Option ℕ → Type 0
+SharesLabel j cell near old new None = (new ≡ old) × HasNoneEarlier j cell near
+SharesLabel j cell near old new (Some label) = SharesAt j cell near old new label
+
+-- the same at corners alone
+abbrev pub SharesLabelAtCorners : CellValue → Near → List ℕ → List ℕ → Option ℕ → Type 0
+SharesLabelAtCorners cell near old new None = (new ≡ old) × ((near.upper_left.cell ≢ cell) × (near.upper_right.cell ≢ cell))
+SharesLabelAtCorners cell near old new (Some label) = SharesAtCorners cell near old new label

@@ -1,12 +1,17 @@
 -- Windows of the maps that an expression reads.
-use Rattle.std.specs.Prelude.{◌≡◌, ◌<◌, ℕ, List, [], ◌∷◌, Option, Some, None, slice_get}
+use Rattle.std.specs.Prelude.{◌≡◌, ◌<◌, ℕ, List, [], ◌∷◌, length, All, Option, Some, None, slice_get}
 use Rattle.cell_core.specs.Grid.{Grid, cell_at, no_labels}
+use Rattle.cell_core.specs.Shelf.{ShelfValue}
 use Rattle.cell_core_values.specs.Region.{RegionValue}
 use Rattle.cell_calc_operators.specs.Applied.{spot}
 use Rattle.cell_calc_binding.specs.Value.{value}
 use Rattle.cell_calc_binding.specs.Formula.{Formula}
 use Rattle.cell_calc_binding.specs.Reach.{up_of, down_of}
 use Rattle.cell_calc.specs.Window.{Window, IsWindowOf}
+
+-- each place is that of a map of the shelf
+abbrev pub AreMapPlaces : ShelfValue → List ℕ → Type 0
+AreMapPlaces shelf places = All (λ place. place < length shelf.maps) places
 
 -- a window of a map that stands at a row and reaches so far
 abbrev pub IsSet : (row up down : ℕ) → Option Window → Option Grid → Type 0

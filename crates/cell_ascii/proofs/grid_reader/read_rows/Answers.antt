@@ -105,7 +105,7 @@ returns-in_err-next_row-clause-fault g c =
     (λ _. rows_fail h (λ (x : Coming). rows_from h (reader_place s x)) s.coming t.coming c.rows.builder.rows h.region.rows (length c.rows.builder.rows) (reader_place t) f (fewer left is.count) is.rows (rw (is.width, is.header) at cut))
 
 pub push_row-requires-clause-width : goal.push_row-requires-clause-width
-push_row-requires-clause-width g c = let is = c.rows.invariant in c.next_row.ensures.width ∙ is.width ∙ ap (λ r. r.cols) (sym is.region)
+push_row-requires-clause-width g c = let is = c.rows.invariant in c.next_row.auto.row ∙ is.width ∙ ap (λ r. r.cols) (sym is.region)
 
 pub push_row-requires-clause-room : goal.push_row-requires-clause-room
 push_row-requires-clause-room g c =
@@ -139,7 +139,7 @@ rows-preserved g c =
       header = c.next_row.ensures.header ∙ is.header;
       region = ap (λ b. b.region) c.in-Ok-push_row.ensures.ok ∙ is.region;
       count = rw (grown, more) (one_more (length front) u.rows_left left is.count);
-      width = c.next_row.ensures.width ∙ is.width;
+      width = c.next_row.auto.row ∙ is.width;
       live = rw is.live at c.in_ok-next_row.ensures.fails;
       heard = c.in_ok-next_row.ensures.heard is.live ∙ ap (hears false) is.heard;
     }

@@ -1,21 +1,26 @@
+use Rattle.std.proofs.Common.{◌≡◌, Err}
+use Rattle.cell_ascii_meaning.specs.CellTexts.{grid_of}
 use Rattle.cell_ascii.specs.GridReaders.{reader_place}
 use Rattle.cell_ascii.proofs.DataLemmas.{data_fails, text_fails, end_fails, whole_read}
+use Rattle.cell_ascii.proofs.RowReadLemmas.{premised}
 use Rattle.cell_ascii.proofs.grid_reader.read_whole.Goals as goal
 
-pub returns-in-Err-clause-fault : goal.returns-in-Err-clause-fault
-returns-in-Err-clause-fault g c =
+pub returns-in-Err-clause-reading : goal.returns-in-Err-clause-reading
+returns-in-Err-clause-reading g c =
     let r = c.args.reader.now in
     let f = c.in-Err.fault in
-    λ other text opened. text_fails r text r.coming opened f (data_fails r.header (reader_place r) r.coming f (c.in-Err.ensures.fault other))
+    λ text opened. premised (λ x. grid_of x ≡ Err f) text
+    (λ other. text_fails r text r.coming opened f (data_fails r.header (reader_place r) r.coming f (c.in-Err.ensures.fault other)))
 
-pub returns-in-Ok-end-clause-map : goal.returns-in-Ok-end-clause-map
-returns-in-Ok-end-clause-map g c =
+pub returns-in-Ok-end-clause-reading : goal.returns-in-Ok-end-clause-reading
+returns-in-Ok-end-clause-reading g c =
     let m = c.in-Ok.map in
     let is = c.in-Ok.ensures.rows in
     λ text opened. whole_read c.args.reader.now c.read_rows.new.reader text opened m is (c.in-Ok-end.ensures.end.told is.live)
 
-pub returns-in-Err-end-clause-fault : goal.returns-in-Err-end-clause-fault
-returns-in-Err-end-clause-fault g c =
-    let m = c.in-Ok.map in
+pub returns-in-Err-end-clause-reading : goal.returns-in-Err-end-clause-reading
+returns-in-Err-end-clause-reading g c =
     let is = c.in-Ok.ensures.rows in
-    λ other text opened. end_fails c.args.reader.now c.read_rows.new.reader text opened m is c.in-Err-end.fault (c.in-Err-end.ensures.end.told is.live)
+    let f = c.in-Err-end.fault in
+    λ text opened. premised (λ x. grid_of x ≡ Err f) text
+    (λ other. end_fails c.args.reader.now c.read_rows.new.reader text opened c.in-Ok.map is f (c.in-Err-end.ensures.end.told is.live))

@@ -1,5 +1,4 @@
 use Rattle.std.proofs.Common.{◌≡◌, ℕ, ◌<◌, ◌≤◌, ◌+◌, ◌∙◌, ◌++◌, ◌∷◌, [], List, ap, refl, sym, arith, length, length-append, take_all}
-use Rattle.std.proofs.lemmas.Result.{IfOk-from_err}
 use Rattle.std.specs.FinMap.{get}
 use borrow.Author.Count.{falls}
 use Rattle.cell_core.specs.Grid.{CellValue, Draft, Grid, row_at}
@@ -22,46 +21,6 @@ room_left count before same = omega arith
 
 still_some : {new old : ℕ} → new ≡ old → 0 < old → 0 < new
 still_some same some = omega arith
-
-pub returns-in_err-buffer-clause-made : goal.returns-in_err-buffer-clause-made
-returns-in_err-buffer-clause-made c =
-    IfOk-from_err c.from_residual.result _ c.from_residual.ensures.0
-
-pub returns-in_err-buffer-clause-labels : goal.returns-in_err-buffer-clause-labels
-returns-in_err-buffer-clause-labels c =
-    IfOk-from_err c.from_residual.result _ c.from_residual.ensures.0
-
-pub returns-in_err-pieces-clause-made : goal.returns-in_err-pieces-clause-made
-returns-in_err-pieces-clause-made c =
-    IfOk-from_err c.from_residual-in_err-pieces.result _ c.from_residual-in_err-pieces.ensures.0
-
-pub returns-in_err-pieces-clause-labels : goal.returns-in_err-pieces-clause-labels
-returns-in_err-pieces-clause-labels c =
-    IfOk-from_err c.from_residual-in_err-pieces.result _ c.from_residual-in_err-pieces.ensures.0
-
-pub returns-in_err-places-clause-made : goal.returns-in_err-places-clause-made
-returns-in_err-places-clause-made c =
-    IfOk-from_err c.from_residual-in_err-places.result _ c.from_residual-in_err-places.ensures.0
-
-pub returns-in_err-places-clause-labels : goal.returns-in_err-places-clause-labels
-returns-in_err-places-clause-labels c =
-    IfOk-from_err c.from_residual-in_err-places.result _ c.from_residual-in_err-places.ensures.0
-
-pub returns-in_err-push_row-clause-made : goal.returns-in_err-push_row-clause-made
-returns-in_err-push_row-clause-made c =
-    IfOk-from_err c.from_residual-in_err-push_row.result _ c.from_residual-in_err-push_row.ensures.0
-
-pub returns-in_err-push_row-clause-labels : goal.returns-in_err-push_row-clause-labels
-returns-in_err-push_row-clause-labels c =
-    IfOk-from_err c.from_residual-in_err-push_row.result _ c.from_residual-in_err-push_row.ensures.0
-
-pub returns-in_err-set_labels-clause-made : goal.returns-in_err-set_labels-clause-made
-returns-in_err-set_labels-clause-made c =
-    IfOk-from_err c.from_residual-in_err-set_labels.result _ c.from_residual-in_err-set_labels.ensures.0
-
-pub returns-in_err-set_labels-clause-labels : goal.returns-in_err-set_labels-clause-labels
-returns-in_err-set_labels-clause-labels c =
-    IfOk-from_err c.from_residual-in_err-set_labels.result _ c.from_residual-in_err-set_labels.ensures.0
 
 pub loop-r-init : goal.loop-r-init
 loop-r-init c =

@@ -1,4 +1,4 @@
-use Rattle.std.proofs.Common.{◌≡◌, ℕ, ◌<◌, List, None, length, get_or, ap, ◌∙◌, arith, rules, get_or-set_other, subst, ◌*◌, ℤ, Some, ◌+◌}
+use Rattle.std.proofs.Common.{◌≡◌, ℕ, ◌<◌, List, None, length, get_or, ap, ◌∙◌, arith, get_or-set_other, subst, ◌*◌, ℤ, Some, ◌+◌}
 use Rattle.std.proofs.lemmas.List.{length-set, get_or_default}
 use Rattle.cell_core.specs.Grid.{CellValue}
 use Rattle.cell_cats_areas.specs.Areas.{cell_at_spot}

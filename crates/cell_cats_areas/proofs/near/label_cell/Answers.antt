@@ -1,8 +1,9 @@
-use Rattle.std.proofs.Common.{◌≡◌, ◌++◌, ◌∷◌, [], List, ℕ, is_some, IsSome, false, length, arith, ap, sym, ◌∙◌}
+use Rattle.std.proofs.Common.{◌≡◌, ◌++◌, ◌∷◌, [], List, ℕ, is_some, IsSome, false, length, arith, ap, sym, subst, ◌∙◌}
 use Rattle.std.proofs.lemmas.List.{length_push}
 use Rattle.cell_cats_areas.proofs.LabelLemmas.{down_more}
 use Rattle.cell_cats_areas.proofs.MeetingLemmas.{some_of, none_of, no_label}
 use Rattle.cell_cats_areas.proofs.ReadLemmas.{read_null, read_shared, read_new, written_back}
+use Rattle.cell_cats_areas.specs.parts.AreasRead.{SharesLabel}
 use Rattle.cell_cats_areas.proofs.near.label_cell.Goals as goal
 
 pub returns-then-not-is_some : goal.returns-then-not-is_some
@@ -33,7 +34,7 @@ returns-in-Some c =
           let some : IsSome c.args.cell = ap (λ x. is_some x) (sym c.get.ensures.value) ∙ sym c.is_some.ensures ∙ c.if-not-is_some.false in
           let v = some_of c.args.cell some in
           let here = sym is ∙ v.1 in
-          let shares = c.in-Some.ensures.shares m r col v.0 labels h.open_of v.1 here near (rw items h.read) in
+          let shares = c.in-Some.ensures.label m r col v.0 labels h.open_of v.1 here near (rw items h.read) in
           rw back (read_shared c.args.joining m c.args.table.now.items labels h.open_of h.read r col c.in-Some.label col_in count c.shared_label.new.table v.0 here long shares);
     }
 
@@ -42,8 +43,8 @@ returns c =
     let items = c.as_mut_slice.ensures.value in
     let table = c.args.table.now.items in
     let back = written_back c.shared_label.new.table table c.args.table.now.len (c.shared_label.auto.table ∙ c.as_mut_slice.ensures.len) in
-    let none = no_label c.shared_label.result c.in_default.not-Some in
-    let pushed : c.push.new.self.items ≡ table ++ c.len-label.result ∷ [] = c.in_ok-push.ensures.items ∙ ap (λ (xs : List ℕ). xs ++ c.len-label.result ∷ []) (back ∙ c.shared_label.ensures.kept none ∙ items) in
+    let none = subst (SharesLabel c.args.joining c.args.cell c.args.near.now _ _) (no_label c.shared_label.result c.in_default.not-Some) c.shared_label.ensures.label in
+    let pushed : c.push.new.self.items ≡ table ++ c.len-label.result ∷ [] = c.in_ok-push.ensures.items ∙ ap (λ (xs : List ℕ). xs ++ c.len-label.result ∷ []) (back ∙ none.0 ∙ items) in
     let own = c.len-label.ensures ∙ sym c.as_mut_slice.ensures.len ∙ ap (length {A = ℕ}) items in
     record {
       down = rw pushed (down_more table c.len-label.result c.requires.down own);
@@ -52,5 +53,5 @@ returns c =
           let some : IsSome c.args.cell = ap (λ x. is_some x) (sym c.get.ensures.value) ∙ sym c.is_some.ensures ∙ c.if-not-is_some.false in
           let v = some_of c.args.cell some in
           rw pushed (read_new c.args.joining m table labels h.open_of h.read r col c.len-label.result col_in count v.0 (sym is ∙ v.1) c.requires.down
-          (c.shared_label.ensures.none none m r col v.0 _ _ v.1 near) own);
+          (none.1 m r col v.0 _ _ v.1 near) own);
     }

@@ -4,23 +4,20 @@ use Rattle.cell_cats_areas.proofs.NearLemmas.{is_alike, is_unlike, ne_alike, ne_
 use Rattle.cell_cats_areas.proofs.near.shared_at_corners.Goals as goal
 use Rattle.cell_cats_areas.proofs.near.shared_at_corners.Goals.{then-eq-2+then-near, else-eq-2, else-eq-2-via-then-eq-2+else-near, else-eq-2-via-else-eq-2}
 
-pub returns-then-eq-clause-shares : goal.returns-then-eq-clause-shares
-returns-then-eq-clause-shares c = λ m r col v labels open_of is here near none read.
+pub returns-then-eq-clause-label : goal.returns-then-eq-clause-label
+returns-then-eq-clause-label c = λ m r col v labels open_of is here near none read.
     corners_upper_right m r col v c.args.table.now labels open_of c.args.near.now near read none
     (ne_unlike _ _ v _ is c.ne.ensures c.if-ne.true) (is_alike _ _ v _ is c.eq.ensures.value c.if-eq.true)
 
-pub join_labels-requires-clause-one_inside : goal.join_labels-requires-clause-one_inside
-join_labels-requires-clause-one_inside c =
+pub join_labels-requires : goal.join_labels-requires
+join_labels-requires c =
     let v = some_of c.args.cell c.requires.some in
     let one = c.requires.inside.upper_right v.0 (is_alike _ _ v.0 _ v.1 c.eq-2.ensures.value c.if-eq-2.true) in
     let other = c.requires.inside.upper_left v.0 (ne_alike _ _ v.0 _ v.1 c.ne.ensures c.if-ne.false) in
-    assumption (one, other)
+    record { down = c.requires.down; one_inside = assumption (one, other); other_inside = other }
 
-pub join_labels-requires-clause-other_inside : goal.join_labels-requires-clause-other_inside
-join_labels-requires-clause-other_inside c = let v = some_of c.args.cell c.requires.some in c.requires.inside.upper_left v.0 (ne_alike _ _ v.0 _ v.1 c.ne.ensures c.if-ne.false)
-
-pub returns-clause-shares : goal.returns-clause-shares
-returns-clause-shares c = λ m r col v labels open_of is here near none read.
+pub returns-clause-label : goal.returns-clause-label
+returns-clause-label c = λ m r col v labels open_of is here near none read.
     let upper_left = ne_alike _ _ v _ is c.ne.ensures c.if-ne.false in
     elim c.if-eq-2.branch [
       | then-eq-2+then-near w ↦ rw w.table-is (corners_joined m r col v c.args.table.now labels open_of c.args.near.now near read none _ here upper_left

@@ -1,31 +1,30 @@
-use Rattle.std.proofs.Common.{⊎_elim}
+use Rattle.std.proofs.Common.{⊎_elim, rules}
 use Rattle.cell_cats_areas.proofs.MeetingLemmas.{some_of}
-use Rattle.cell_cats_areas.proofs.NearLemmas.{is_alike, is_unlike, ne_alike, ne_unlike, told_above, told_left, corners_above, corners_left, corners_joined_left, if_some_map}
+use Rattle.cell_cats_areas.proofs.NearLemmas.{is_alike, is_unlike, ne_alike, ne_unlike, told_above, told_left, corners_above, corners_left, corners_joined_left, corners_only}
 use Rattle.cell_cats_areas.proofs.near.shared_by_corners.Goals as goal
 use Rattle.cell_cats_areas.proofs.near.shared_by_corners.Goals.{then-eq-2, else-eq-2}
 
-pub returns-then-eq-clause-shares : goal.returns-then-eq-clause-shares
-returns-then-eq-clause-shares c = λ m r col v labels open_of is here near read.
+pub returns-then-eq-clause-label : goal.returns-then-eq-clause-label
+returns-then-eq-clause-label c = λ m r col v labels open_of is here near read.
     corners_above m r col v c.args.table.now labels open_of c.args.near.now near read (is_alike _ _ v _ is c.eq.ensures.value c.if-eq.true)
 
-pub returns-then-ne-clause-shares : goal.returns-then-ne-clause-shares
-returns-then-ne-clause-shares c = if_some_map c.shared_at_corners.result _ _ c.shared_at_corners.ensures.shares
+pub returns-then-ne-clause-label : goal.returns-then-ne-clause-label
+returns-then-ne-clause-label c =
+    corners_only c.shared_at_corners.result c.args.cell c.args.near.now _ _ c.shared_at_corners.ensures.label
     (λ label shares m r col v labels open_of is here near read. shares m r col v labels open_of is here near
     (λ q lies q_is. ⊎_elim (λ h. ne_unlike _ _ v _ is c.ne.ensures c.if-ne.true (told_left m _ _ r col v c.args.near.now near q h q_is).cell)
     (λ h. is_unlike _ _ v _ is c.eq.ensures.value c.if-eq.false (told_above m _ _ r col v c.args.near.now near q h q_is).cell) lies) read)
+    (λ apart. search rules)
 
-pub join_labels-requires-clause-one_inside : goal.join_labels-requires-clause-one_inside
-join_labels-requires-clause-one_inside c =
+pub join_labels-requires : goal.join_labels-requires
+join_labels-requires c =
     let v = some_of c.args.cell c.requires.some in
     let one = c.requires.inside.upper_right v.0 (is_alike _ _ v.0 _ v.1 c.eq-2.ensures.value c.if-eq-2.true) in
     let other = c.requires.inside.left v.0 (ne_alike _ _ v.0 _ v.1 c.ne.ensures c.if-ne.false) in
-    assumption (one, other)
+    record { down = c.requires.down; one_inside = assumption (one, other); other_inside = other }
 
-pub join_labels-requires-clause-other_inside : goal.join_labels-requires-clause-other_inside
-join_labels-requires-clause-other_inside c = let v = some_of c.args.cell c.requires.some in c.requires.inside.left v.0 (ne_alike _ _ v.0 _ v.1 c.ne.ensures c.if-ne.false)
-
-pub returns-clause-shares : goal.returns-clause-shares
-returns-clause-shares c = λ m r col v labels open_of is here near read.
+pub returns-clause-label : goal.returns-clause-label
+returns-clause-label c = λ m r col v labels open_of is here near read.
     let not_above = is_unlike _ _ v _ is c.eq.ensures.value c.if-eq.false in
     let left = ne_alike _ _ v _ is c.ne.ensures c.if-ne.false in
     elim c.if-eq-2.branch [

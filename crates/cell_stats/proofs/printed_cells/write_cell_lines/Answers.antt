@@ -95,20 +95,8 @@ returns g c =
     let last = at_end c.loop-col.count inv.most c.loop-col-test.false same_cols in
     rw last at inv.appends
 
-pub restart_all-requires-clause-picked : goal.restart_all-requires-clause-picked
-restart_all-requires-clause-picked g c = c.requires.picks.picked
-
-pub restart_all-requires-clause-row_in_range : goal.restart_all-requires-clause-row_in_range
-restart_all-requires-clause-row_in_range g c = c.requires.row_in_range
-
-pub restart_all-requires-clause-width : goal.restart_all-requires-clause-width
-restart_all-requires-clause-width g c = c.requires.cursors
-
 pub pass_all-count-requires-clause-within : goal.pass_all-count-requires-clause-within
 pass_all-count-requires-clause-within g c = λ k d inside. least _
-
-pub pass_all-count-requires-clause-ready : goal.pass_all-count-requires-clause-ready
-pass_all-count-requires-clause-ready g c = c.restart_all.ensures.ready
 
 pub pass_all-count-requires-clause-width : goal.pass_all-count-requires-clause-width
 pass_all-count-requires-clause-width g c =

@@ -1,5 +1,4 @@
 use Rattle.std.proofs.Common.{ap}
-use Rattle.std.proofs.lemmas.Result.{IfOk-from_err}
 use Rattle.cell_stats_combinations.specs.Combinations.{all_combinations}
 use Rattle.cell_stats.specs.CategoryTables.{TableValue}
 use Rattle.cell_stats.proofs.TableLemmas.{IsTable-listed, one_table_kept, table_is}
@@ -33,24 +32,6 @@ returns-clause-only c = λ pairs table. one_table_kept _ _ _ _ table (returns-cl
 
 pub returns-clause-value : goal.returns-clause-value
 returns-clause-value c = table_is _ _ _ (returns-clause-table c)
-
-pub returns-in_err-entries-clause-width : goal.returns-in_err-entries-clause-width
-returns-in_err-entries-clause-width c = IfOk-from_err c.from_residual.result _ c.from_residual.ensures.0
-
-pub returns-in_err-entries-clause-table : goal.returns-in_err-entries-clause-table
-returns-in_err-entries-clause-table c = IfOk-from_err c.from_residual.result _ c.from_residual.ensures.0
-
-pub returns-in_err-entries-clause-only : goal.returns-in_err-entries-clause-only
-returns-in_err-entries-clause-only c = IfOk-from_err c.from_residual.result _ c.from_residual.ensures.0
-
-pub returns-in_err-entries-clause-value : goal.returns-in_err-entries-clause-value
-returns-in_err-entries-clause-value c = IfOk-from_err c.from_residual.result _ c.from_residual.ensures.0
-
-pub count_cells-requires-clause-width : goal.count_cells-requires-clause-width
-count_cells-requires-clause-width c = c.requires.width
-
-pub count_cells-requires-clause-picked : goal.count_cells-requires-clause-picked
-count_cells-requires-clause-picked c = c.requires.picked
 
 pub returns-clause-width : goal.returns-clause-width
 returns-clause-width c = ap (λ (t : TableValue). t.width) c.of.ensures

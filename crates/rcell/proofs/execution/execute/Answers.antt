@@ -4,6 +4,7 @@ use Rattle.cell_core_devices.specs.Blocks.{BlockValue}
 use Rattle.cell_core_devices.proofs.BlockLemmas.{appends_then}
 use Rattle.rcell.specs.Output.{command_text}
 use Rattle.rcell.proofs.runs.ExecutionLemmas.{executed_more, executed_within, before_at, fits_more}
+use Rattle.rcell.proofs.OutputLemmas.{names_after}
 use Rattle.rcell.proofs.execution.execute.Goals as goal
 
 pub loop-statement-init : goal.loop-statement-init
@@ -32,7 +33,7 @@ loop-statement-preserved g c =
     let good = sym c.has_failed.ensures ∙ c.if-has_failed.false in
     record {
       executed = executed_more statements i s test read inv.executed refl refl c.in-Ok.ensures.after (rw (append-nil (command_text c.loop-statement.shelf s.command)) at both);
-      fits = (fits_more statements i s test read c.loop-statement.shelf.names c.execute_statement.new.shelf.names inv.fits c.in-Ok.ensures.names).1;
+      fits = (fits_more statements i s test read c.loop-statement.shelf.names c.execute_statement.new.shelf.names inv.fits (names_after c.loop-statement.shelf s.command c.execute_statement.new.shelf c.in-Ok.ensures.after)).1;
       good = good;
       held = c.empty.ensures.held good;
     }

@@ -17,9 +17,6 @@ whenever_err (Err y) P p = p
 pub returns-in-Mapcalc-clause-after : goal.returns-in-Mapcalc-clause-after
 returns-in-Mapcalc-clause-after g c = rw c.in-Mapcalc.is c.make_values.ensures.ok
 
-pub returns-in-Mapcalc-clause-names : goal.returns-in-Mapcalc-clause-names
-returns-in-Mapcalc-clause-names g c = rw c.in-Mapcalc.is c.make_values.ensures.names
-
 pub returns-in-Mapcalc-clause-ok : goal.returns-in-Mapcalc-clause-ok
 returns-in-Mapcalc-clause-ok g c = rw c.in-Mapcalc.is (whenever_ok c.make_values.result _ appends_none)
 
@@ -28,9 +25,6 @@ returns-in-Mapcalc-clause-err g c = whenever_err c.make_values.result _ (refl, r
 
 pub returns-in-Reclass-clause-after : goal.returns-in-Reclass-clause-after
 returns-in-Reclass-clause-after g c = rw c.in-Reclass.is c.make_classes.ensures.ok
-
-pub returns-in-Reclass-clause-names : goal.returns-in-Reclass-clause-names
-returns-in-Reclass-clause-names g c = rw c.in-Reclass.is c.make_classes.ensures.names
 
 pub returns-in-Reclass-clause-ok : goal.returns-in-Reclass-clause-ok
 returns-in-Reclass-clause-ok g c = rw c.in-Reclass.is (whenever_ok c.make_classes.result _ appends_none)
@@ -41,9 +35,6 @@ returns-in-Reclass-clause-err g c = whenever_err c.make_classes.result _ (refl, 
 pub returns-in-Clump-clause-after : goal.returns-in-Clump-clause-after
 returns-in-Clump-clause-after g c = rw c.in-Clump.is c.make_numbers.ensures.ok
 
-pub returns-in-Clump-clause-names : goal.returns-in-Clump-clause-names
-returns-in-Clump-clause-names g c = rw c.in-Clump.is c.make_numbers.ensures.names
-
 pub returns-in-Clump-clause-ok : goal.returns-in-Clump-clause-ok
 returns-in-Clump-clause-ok g c = rw c.in-Clump.is (whenever_ok c.make_numbers.result _ appends_none)
 
@@ -52,9 +43,6 @@ returns-in-Clump-clause-err g c = whenever_err c.make_numbers.result _ (refl, re
 
 pub returns-in-Stats-clause-after : goal.returns-in-Stats-clause-after
 returns-in-Stats-clause-after g c = whenever_ok c.write_stats.result _ (rw c.in-Stats.is refl)
-
-pub returns-in-Stats-clause-names : goal.returns-in-Stats-clause-names
-returns-in-Stats-clause-names g c = whenever_ok c.write_stats.result _ (rw c.in-Stats.is refl)
 
 pub returns-in-Stats-clause-ok : goal.returns-in-Stats-clause-ok
 returns-in-Stats-clause-ok g c =
@@ -67,9 +55,6 @@ returns-in-Stats-clause-err g c = c.write_stats.ensures.err
 
 pub returns-in-OutAscii-clause-after : goal.returns-in-OutAscii-clause-after
 returns-in-OutAscii-clause-after g c = rw c.in-OutAscii.is refl
-
-pub returns-in-OutAscii-clause-names : goal.returns-in-OutAscii-clause-names
-returns-in-OutAscii-clause-names g c = rw c.in-OutAscii.is refl
 
 pub returns-in-OutAscii-clause-ok : goal.returns-in-OutAscii-clause-ok
 returns-in-OutAscii-clause-ok g c =

@@ -6,6 +6,7 @@ use Rattle.rcell_script.specs.ScriptLaw.{OneScript, NoFaultOfAScript}
 use Rattle.rcell_script.specs.Scripts.{IsScript}
 use Rattle.rcell_script_commands.specs.declared.script_fault.ScriptFault.{ScriptFault}
 use Rattle.rcell_script.specs.declared.statement.Statement.{Statement}
+use Rattle.rcell_loading.specs.RunFaults.{IsOfInput}
 use Rattle.rcell_loading.specs.ScriptText.{script_text}
 use Rattle.rcell_loading.specs.declared.run_fault.RunFault.{RunFault}
 use Rattle.rcell_loading.specs.declared.run_fault.RunFault.TheVariants.{Script}
@@ -38,39 +39,33 @@ module _ (known names : List (List ℕ)) (text now : List ℕ) (script : Coming)
 
 pub returns-in-Err-clause-fault : goal.returns-in-Err-clause-fault
 returns-in-Err-clause-fault g c = λ given tells input.
-    rw (at_known (g.R.Source.coming c.args.script) given (λ s. script_text s ≡ Err c.in-Err.fault) tells (c.in-Err.ensures.fault input)) refl
-
-pub returns-in-Err-clause-none : goal.returns-in-Err-clause-none
-returns-in-Err-clause-none g c = λ given tells statements reads input.
-    not_both (at_known (g.R.Source.coming c.args.script) given (λ s. script_text s ≡ Err c.in-Err.fault) tells (c.in-Err.ensures.fault input)) reads.bytes
+    let refused = at_known (g.R.Source.coming c.args.script) given (λ s. IsOfInput c.in-Err.fault → script_text s ≡ Err c.in-Err.fault) tells c.in-Err.ensures.answer input in
+    record { refusal = rw refused refl; none = λ statements reads. not_both refused reads.bytes }
 
 pub returns-in_default-clause-fault : goal.returns-in_default-clause-fault
 returns-in_default-clause-fault g c = λ given tells input. absurd input
 
-pub returns-in_default-clause-none : goal.returns-in_default-clause-none
-returns-in_default-clause-none g c = λ given tells statements reads input. input
-
-pub returns-in-Ok-parse_script-clause-ok : goal.returns-in-Ok-parse_script-clause-ok
-returns-in-Ok-parse_script-clause-ok g c = λ given tells.
-    let bytes = at_known (g.R.Source.coming c.args.script) given (λ s. script_text s ≡ Ok c.in-Ok.text.items) tells c.in-Ok.ensures.ok in
-    reads_of _ _ _ _ _ bytes c.deref.ensures.value c.in-Ok-shelf_names.ensures.names c.in-Ok-parse_script.script c.in-Ok-parse_script.ensures.ok
-
-pub returns-in-Ok-parse_script-clause-only : goal.returns-in-Ok-parse_script-clause-only
-returns-in-Ok-parse_script-clause-only g c = λ given tells statements reads.
-    let bytes = at_known (g.R.Source.coming c.args.script) given (λ s. script_text s ≡ Ok c.in-Ok.text.items) tells c.in-Ok.ensures.ok in
-    only_one _ _ _ _ _ bytes c.deref.ensures.value c.in-Ok-shelf_names.ensures.names c.one_script.ensures c.in-Ok-parse_script.script statements
-    c.in-Ok-parse_script.ensures.ok reads
+pub returns-in-Ok-parse_script-clause-read : goal.returns-in-Ok-parse_script-clause-read
+returns-in-Ok-parse_script-clause-read g c = λ given tells.
+    let bytes = at_known (g.R.Source.coming c.args.script) given (λ s. script_text s ≡ Ok c.in-Ok.text.items) tells c.in-Ok.ensures.answer in
+    let value = c.deref.ensures.value in
+    let names = c.in-Ok-shelf_names.ensures.names in
+    let denoted = c.in-Ok-parse_script.ensures.ok in
+    record {
+      reads = reads_of _ _ _ _ _ bytes value names c.in-Ok-parse_script.script denoted;
+      only = λ statements. only_one _ _ _ _ _ bytes value names c.one_script.ensures c.in-Ok-parse_script.script statements denoted;
+    }
 
 pub returns-clause-fault : goal.returns-clause-fault
 returns-clause-fault g c = λ given tells input.
-    let bytes = at_known (g.R.Source.coming c.args.script) given (λ s. script_text s ≡ Ok c.in-Ok.text.items) tells c.in-Ok.ensures.ok in
-    refused_by _ _ _ _ given bytes c.deref.ensures.value c.in-Ok-shelf_names.ensures.names c.in-Err-parse_script.fault (c.in-Err-parse_script.ensures.err input)
+    let bytes = at_known (g.R.Source.coming c.args.script) given (λ s. script_text s ≡ Ok c.in-Ok.text.items) tells c.in-Ok.ensures.answer in
+    let value = c.deref.ensures.value in
+    let names = c.in-Ok-shelf_names.ensures.names in
+    let fault = c.in-Err-parse_script.ensures.err input in
+    record {
+      refusal = refused_by _ _ _ _ given bytes value names c.in-Err-parse_script.fault fault;
+      none = λ statements reads. no_fault _ _ _ _ _ bytes value names c.no_fault_of_a_script.ensures statements c.in-Err-parse_script.fault reads fault;
+    }
 
-pub returns-clause-none : goal.returns-clause-none
-returns-clause-none g c = λ given tells statements reads input.
-    let bytes = at_known (g.R.Source.coming c.args.script) given (λ s. script_text s ≡ Ok c.in-Ok.text.items) tells c.in-Ok.ensures.ok in
-    no_fault _ _ _ _ _ bytes c.deref.ensures.value c.in-Ok-shelf_names.ensures.names c.no_fault_of_a_script.ensures statements c.in-Err-parse_script.fault
-    reads (c.in-Err-parse_script.ensures.err input)
-
-pub returns-clause-told : goal.returns-clause-told
-returns-clause-told g c = λ grids. c.in-Err-parse_script.ensures.memory
+pub returns-clause-whose : goal.returns-clause-whose
+returns-clause-whose g c = record { early = tt; told = λ grids. c.in-Err-parse_script.ensures.memory }

@@ -76,11 +76,11 @@ when_zero (Some fault) is late sound zero = not_zero fault late (sym is ∙ zero
 
 -- First, since a run that touches its sink before execution meets none of the clauses below either.
 pub returns-in-Err-clause-untouched : goal.returns-in-Err-clause-untouched
-returns-in-Err-clause-untouched g c = rw c.refused_outcome.ensures (λ early. refl)
+returns-in-Err-clause-untouched g c = rw c.refused_outcome.ensures (λ early. (refl, refl))
 
 pub returns-in-Err-read_statements-clause-untouched : goal.returns-in-Err-read_statements-clause-untouched
 returns-in-Err-read_statements-clause-untouched g c =
-    rw c.refused_outcome-in-Err-read_statements.ensures (λ early. refl)
+    rw c.refused_outcome-in-Err-read_statements.ensures (λ early. (refl, refl))
 
 pub returns-in-Ok-read_statements-clause-untouched : goal.returns-in-Ok-read_statements-clause-untouched
 returns-in-Ok-read_statements-clause-untouched g c =
@@ -90,10 +90,7 @@ pub returns-in-Err-clause-done : goal.returns-in-Err-clause-done
 returns-in-Err-clause-done g c = rw c.refused_outcome.ensures (λ named text known tells none. not_none none)
 
 pub returns-in-Err-clause-refused : goal.returns-in-Err-clause-refused
-returns-in-Err-clause-refused g c = λ named text known tells. rw c.refused_outcome.ensures (λ input. rw (c.in-Err.ensures.fault input named known) refl)
-
-pub returns-in-Err-clause-nothing : goal.returns-in-Err-clause-nothing
-returns-in-Err-clause-nothing g c = rw c.refused_outcome.ensures (λ early. (refl, (refl, refl)))
+returns-in-Err-clause-refused g c = λ named text known tells. rw c.refused_outcome.ensures (λ input. rw (c.in-Err.ensures.answer named known input) refl)
 
 pub returns-in-Err-clause-stopped : goal.returns-in-Err-clause-stopped
 returns-in-Err-clause-stopped g c = λ named text known tells. rw c.refused_outcome.ensures (λ late. not_both c.in-Err.fault c.in-Err.ensures.early late)
@@ -113,50 +110,50 @@ returns-in-Err-clause-write g c =
 
 pub returns-in-Err-clause-complete : goal.returns-in-Err-clause-complete
 returns-in-Err-clause-complete g c =
-    λ named text shelf statements known tells read.
-    rw c.refused_outcome.ensures (λ lasts whole. apart (c.in-Err.ensures.fault (input_unless_memory c.in-Err.fault c.in-Err.ensures.early lasts) named known) read.loaded)
+    λ named text known tells shelf statements read.
+    rw c.refused_outcome.ensures (λ lasts whole. apart (c.in-Err.ensures.answer named known (input_unless_memory c.in-Err.fault c.in-Err.ensures.early lasts)) read.loaded)
 
 pub returns-in-Err-clause-headline : goal.returns-in-Err-clause-headline
 returns-in-Err-clause-headline g c =
-    λ named text shelf statements known tells ok.
+    λ named text known tells shelf statements ok.
     when_accepted named text shelf statements (g.W.Sink.taken c.args.out.now) (g.W.Sink.taken c.args.out.now) (has_failed (g.W.Sink.faults c.args.out.now)) c.refused_outcome.result
-    (λ read. returns-in-Err-clause-complete g c named text shelf statements known tells read) ok
+    (λ read. returns-in-Err-clause-complete g c named text known tells shelf statements read) ok
 
 pub returns-in-Ok-read_statements-clause-complete : goal.returns-in-Ok-read_statements-clause-complete
 returns-in-Ok-read_statements-clause-complete g c =
-    λ named text shelf statements known tells read.
-    read_written named text c.in-Ok.shelf (c.in-Ok.ensures.ok named known) shelf statements read
+    λ named text known tells shelf statements read.
+    read_written named text c.in-Ok.shelf (c.in-Ok.ensures.answer named known) shelf statements read
     (g.W.Sink.taken c.args.out.now) (g.W.Sink.taken c.put_out.new.out) (has_failed (g.W.Sink.faults c.put_out.new.out)) c.put_out.result
-    c.in-Ok-read_statements.statements (c.in-Ok-read_statements.ensures.only text tells) c.put_out.ensures.done c.put_out.ensures.late c.put_out.ensures.status (write c.put_out.result.fault _ _ c.put_out.ensures.first)
+    c.in-Ok-read_statements.statements (c.in-Ok-read_statements.ensures.read text tells).only c.put_out.ensures.done c.put_out.ensures.late c.put_out.ensures.status (write c.put_out.result.fault _ _ c.put_out.ensures.first)
 
 pub returns-in-Ok-read_statements-clause-headline : goal.returns-in-Ok-read_statements-clause-headline
 returns-in-Ok-read_statements-clause-headline g c =
-    λ named text shelf statements known tells ok.
+    λ named text known tells shelf statements ok.
     when_accepted named text shelf statements (g.W.Sink.taken c.args.out.now) (g.W.Sink.taken c.put_out.new.out) (has_failed (g.W.Sink.faults c.put_out.new.out)) c.put_out.result
-    (λ read. returns-in-Ok-read_statements-clause-complete g c named text shelf statements known tells read) ok
+    (λ read. returns-in-Ok-read_statements-clause-complete g c named text known tells shelf statements read) ok
 
 pub returns-in-Err-read_statements-clause-told : goal.returns-in-Err-read_statements-clause-told
-returns-in-Err-read_statements-clause-told g c = rw c.refused_outcome-in-Err-read_statements.ensures (c.in-Err-read_statements.ensures.told (length c.args.grids.items))
+returns-in-Err-read_statements-clause-told g c = rw c.refused_outcome-in-Err-read_statements.ensures (c.in-Err-read_statements.ensures.whose.told (length c.args.grids.items))
 
 pub returns-in-Err-read_statements-clause-complete : goal.returns-in-Err-read_statements-clause-complete
 returns-in-Err-read_statements-clause-complete g c =
-    λ named text shelf statements known tells read.
-    read_refused named text c.in-Ok.shelf (c.in-Ok.ensures.ok named known) shelf statements read
+    λ named text known tells shelf statements read.
+    read_refused named text c.in-Ok.shelf (c.in-Ok.ensures.answer named known) shelf statements read
     (g.W.Sink.taken c.args.out.now) (g.W.Sink.taken c.args.out.now) (has_failed (g.W.Sink.faults c.args.out.now)) c.refused_outcome-in-Err-read_statements.result
     c.in-Err-read_statements.fault (rw c.refused_outcome-in-Err-read_statements.ensures refl)
-    (rw c.refused_outcome-in-Err-read_statements.ensures refl) c.in-Err-read_statements.ensures.early (c.in-Err-read_statements.ensures.none text tells)
+    (rw c.refused_outcome-in-Err-read_statements.ensures refl) c.in-Err-read_statements.ensures.whose.early (λ ss reads input. (c.in-Err-read_statements.ensures.fault text tells input).none ss reads)
 
 pub returns-in-Err-read_statements-clause-headline : goal.returns-in-Err-read_statements-clause-headline
 returns-in-Err-read_statements-clause-headline g c =
-    λ named text shelf statements known tells ok.
+    λ named text known tells shelf statements ok.
     when_accepted named text shelf statements (g.W.Sink.taken c.args.out.now) (g.W.Sink.taken c.args.out.now) (has_failed (g.W.Sink.faults c.args.out.now)) c.refused_outcome-in-Err-read_statements.result
-    (λ read. returns-in-Err-read_statements-clause-complete g c named text shelf statements known tells read) ok
+    (λ read. returns-in-Err-read_statements-clause-complete g c named text known tells shelf statements read) ok
 
 pub returns-in-Ok-read_statements-clause-done : goal.returns-in-Ok-read_statements-clause-done
 returns-in-Ok-read_statements-clause-done g c = λ named text known tells none. record {
   shelf = c.in-Ok.shelf;
   statements = c.in-Ok-read_statements.statements;
-  read = record { loaded = c.in-Ok.ensures.ok named known; reads = c.in-Ok-read_statements.ensures.ok text tells };
+  read = record { loaded = c.in-Ok.ensures.answer named known; reads = (c.in-Ok-read_statements.ensures.read text tells).reads };
   done = c.put_out.ensures.done none;
 }
 
@@ -164,16 +161,12 @@ pub returns-in-Ok-read_statements-clause-refused : goal.returns-in-Ok-read_state
 returns-in-Ok-read_statements-clause-refused g c = λ named text known tells.
     weaker c.put_out.result.fault _ _ (λ fault late input. not_input fault late input) c.put_out.ensures.late
 
-pub returns-in-Ok-read_statements-clause-nothing : goal.returns-in-Ok-read_statements-clause-nothing
-returns-in-Ok-read_statements-clause-nothing g c =
-    weaker c.put_out.result.fault _ _ (λ fault late early. not_both fault early late) c.put_out.ensures.late
-
 pub returns-in-Ok-read_statements-clause-stopped : goal.returns-in-Ok-read_statements-clause-stopped
 returns-in-Ok-read_statements-clause-stopped g c = λ named text known tells.
     weaker c.put_out.result.fault _ _ (λ fault stops late. record {
       shelf = c.in-Ok.shelf;
       statements = c.in-Ok-read_statements.statements;
-      read = record { loaded = c.in-Ok.ensures.ok named known; reads = c.in-Ok-read_statements.ensures.ok text tells };
+      read = record { loaded = c.in-Ok.ensures.answer named known; reads = (c.in-Ok-read_statements.ensures.read text tells).reads };
       stops = stops;
     }) c.put_out.ensures.stops
 
@@ -196,15 +189,12 @@ returns-in-Err-read_statements-clause-done g c = rw c.refused_outcome-in-Err-rea
 pub returns-in-Err-read_statements-clause-refused : goal.returns-in-Err-read_statements-clause-refused
 returns-in-Err-read_statements-clause-refused g c = λ named text known tells.
     rw c.refused_outcome-in-Err-read_statements.ensures
-    (λ input. rw (c.in-Ok.ensures.ok named known) (c.in-Err-read_statements.ensures.fault text tells input))
-
-pub returns-in-Err-read_statements-clause-nothing : goal.returns-in-Err-read_statements-clause-nothing
-returns-in-Err-read_statements-clause-nothing g c = rw c.refused_outcome-in-Err-read_statements.ensures (λ early. (refl, (refl, refl)))
+    (λ input. rw (c.in-Ok.ensures.answer named known) (c.in-Err-read_statements.ensures.fault text tells input).refusal)
 
 pub returns-in-Err-read_statements-clause-stopped : goal.returns-in-Err-read_statements-clause-stopped
 returns-in-Err-read_statements-clause-stopped g c = λ named text known tells.
     rw c.refused_outcome-in-Err-read_statements.ensures
-    (λ late. not_both c.in-Err-read_statements.fault c.in-Err-read_statements.ensures.early late)
+    (λ late. not_both c.in-Err-read_statements.fault c.in-Err-read_statements.ensures.whose.early late)
 
 pub returns-in-Err-read_statements-clause-status : goal.returns-in-Err-read_statements-clause-status
 returns-in-Err-read_statements-clause-status g c = rw c.refused_outcome-in-Err-read_statements.ensures refl
@@ -214,7 +204,7 @@ returns-in-Err-read_statements-clause-sound g c = λ zero. refl
 
 pub returns-in-Err-read_statements-clause-write : goal.returns-in-Err-read_statements-clause-write
 returns-in-Err-read_statements-clause-write g c =
-    rw c.refused_outcome-in-Err-read_statements.ensures (λ write. not_write c.in-Err-read_statements.fault c.in-Err-read_statements.ensures.early write)
+    rw c.refused_outcome-in-Err-read_statements.ensures (λ write. not_write c.in-Err-read_statements.fault c.in-Err-read_statements.ensures.whose.early write)
 
 pub returns-in-Err-clause-whole : goal.returns-in-Err-clause-whole
 returns-in-Err-clause-whole g c = λ named text known tells. rw c.refused_outcome.ensures (λ write clean. not_write c.in-Err.fault c.in-Err.ensures.early write)
@@ -226,7 +216,7 @@ pub returns-in-Ok-read_statements-clause-whole : goal.returns-in-Ok-read_stateme
 returns-in-Ok-read_statements-clause-whole g c = λ named text known tells write clean. record {
   shelf = c.in-Ok.shelf;
   statements = c.in-Ok-read_statements.statements;
-  read = record { loaded = c.in-Ok.ensures.ok named known; reads = c.in-Ok-read_statements.ensures.ok text tells };
+  read = record { loaded = c.in-Ok.ensures.answer named known; reads = (c.in-Ok-read_statements.ensures.read text tells).reads };
   done = c.put_out.ensures.whole write clean;
 }
 
@@ -236,9 +226,9 @@ returns-in-Ok-read_statements-clause-first g c = c.put_out.ensures.first
 pub returns-in-Err-read_statements-clause-whole : goal.returns-in-Err-read_statements-clause-whole
 returns-in-Err-read_statements-clause-whole g c = λ named text known tells.
     rw c.refused_outcome-in-Err-read_statements.ensures
-    (λ write clean. not_write c.in-Err-read_statements.fault c.in-Err-read_statements.ensures.early write)
+    (λ write clean. not_write c.in-Err-read_statements.fault c.in-Err-read_statements.ensures.whose.early write)
 
 pub returns-in-Err-read_statements-clause-first : goal.returns-in-Err-read_statements-clause-first
 returns-in-Err-read_statements-clause-first g c =
     rw c.refused_outcome-in-Err-read_statements.ensures
-    (failing_none c.in-Err-read_statements.fault (g.W.Sink.faults c.args.out.now) c.in-Err-read_statements.ensures.early)
+    (failing_none c.in-Err-read_statements.fault (g.W.Sink.faults c.args.out.now) c.in-Err-read_statements.ensures.whose.early)

@@ -4,15 +4,15 @@ use Rattle.rcell_loading.specs.Loading.{shelf_from}
 use Rattle.rcell_loading.proofs.LoadingLemmas.{shelf_more, shelf_fails, shelf_all, no_more, none_left}
 use Rattle.rcell_loading.proofs.loading.load.Goals as goal
 
-pub returns-in-Err-clause-fault : goal.returns-in-Err-clause-fault
-returns-in-Err-clause-fault g c =
+pub returns-in-Err-clause-answer : goal.returns-in-Err-clause-answer
+returns-in-Err-clause-answer g c =
     let coming = g.R.Source.coming in
     let at = c.loop-name in
     let is = c.in-Some.ensures.steps.0 in
-    λ input named tell.
+    λ named tell input.
     let so = at.invariant.loads named tell in
     so.1.1 ∙ shelf_fails coming at.grid at.shelf (c.in-Some.name, c.in-Some.source) (into_iter_items c.next.new.self)
-    (into_iter_items at.name-iterator) c.in-Err.fault so.0 is so.1.0 (c.in-Err.ensures.fault input)
+    (into_iter_items at.name-iterator) c.in-Err.fault so.0 is so.1.0 input c.in-Err.ensures.answer
 
 pub loop-name-preserved : goal.loop-name-preserved
 loop-name-preserved g c =
@@ -24,7 +24,7 @@ loop-name-preserved g c =
           let so = at.invariant.loads named tell in
           let n = shelf_more coming at.grid at.shelf (c.in-Some.name, c.in-Some.source)
           (into_iter_items c.next.new.self) (into_iter_items at.name-iterator) c.in-Ok.more so.0 is so.1.0
-          c.in-Ok.ensures.ok in
+          c.in-Ok.ensures.answer in
           (n.0, (n.1.0, so.1.1 ∙ n.1.1));
       count = search rules;
       len = let was = at.invariant.len in
@@ -34,8 +34,8 @@ loop-name-preserved g c =
       begun = search rules;
     }
 
-pub returns-clause-ok : goal.returns-clause-ok
-returns-clause-ok g c =
+pub returns-clause-answer : goal.returns-clause-answer
+returns-clause-answer g c =
     let coming = g.R.Source.coming in
     let at = c.loop-name in
     let none : into_iter_items at.name-iterator ≡ [] = no_more (into_iter_items at.name-iterator) (sym at.invariant.len ∙ c.in-None.ensures.steps.0) in

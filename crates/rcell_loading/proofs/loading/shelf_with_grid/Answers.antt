@@ -1,8 +1,12 @@
-use Rattle.rcell_loading.proofs.LoadingLemmas.{grid_refused}
+use Rattle.rcell_loading.proofs.LoadingLemmas.{grid_placed, grid_unread}
 use Rattle.rcell_loading.proofs.loading.shelf_with_grid.Goals as goal
 
-pub returns-clause-fault : goal.returns-clause-fault
-returns-clause-fault g c =
-    grid_refused (g.R.Source.coming c.args.source) c.shelf_or_new.result c.args.grid c.args.shelf c.args.name
-    c.in-Ok.map
-    c.in-Ok.ensures.reading_map c.shelf_or_new.ensures.fault
+pub returns-in-Err-clause-answer : goal.returns-in-Err-clause-answer
+returns-in-Err-clause-answer g c =
+    grid_unread (g.R.Source.coming c.args.source) c.args.grid c.args.shelf c.args.name c.in-Err.fault
+    c.in-Err.ensures.reading
+
+pub returns-clause-answer : goal.returns-clause-answer
+returns-clause-answer g c =
+    grid_placed (g.R.Source.coming c.args.source) c.shelf_or_new.result c.args.grid c.args.shelf c.args.name
+    c.in-Ok.map c.in-Ok.ensures.reading c.shelf_or_new.ensures.answer

@@ -6,7 +6,7 @@ use Rattle.cell_core_devices.specs.Asking.{after_take}
 use Rattle.cell_core_devices.specs.declared.source.Asked.{Asked}
 use Rattle.cell_core_devices.specs.declared.source.Asked.TheVariants.{Going}
 use Rattle.cell_core_devices.specs.declared.device.DeviceFault.{DeviceFault}
-use Rattle.rcell_loading.proofs.TextLemmas.{text_ends, text_fails, text_long, block_more, same_most, past_most, still_short, less_left, block_len, block_fits, room_fits}
+use Rattle.rcell_loading.proofs.TextLemmas.{text_ends, no_memory, text_fails, text_long, block_more, same_most, past_most, still_short, less_left, block_len, block_fits, room_fits}
 use Rattle.rcell_loading.proofs.script_bytes.read_text.Goals as goal
 
 -- a call gave bytes
@@ -38,27 +38,30 @@ slice_bounds-block-end-in-pieces g c = block_fits c.take.new.buf (drop c.min-roo
 pub slice_bounds-extend_from_slice-end : goal.slice_bounds-extend_from_slice-end
 slice_bounds-extend_from_slice-end g c = sym (block_len c.in-Ok.count c.take.new.buf (drop c.min-room.result c.pieces.block) c.in-Ok.ensures.count)
 
-pub returns-in-Err-clause-fault : goal.returns-in-Err-clause-fault
-returns-in-Err-clause-fault g c =
+pub returns-in-Err-clause-answer : goal.returns-in-Err-clause-answer
+returns-in-Err-clause-answer g c =
     let at = c.pieces in
     let coming = g.R.Source.coming in
-    λ _. text_fails (coming c.args.source.now) (coming at.source) (coming c.take.new.self)
+    text_fails (coming c.args.source.now) (coming at.source) (coming c.take.new.self)
     c.in-Err.field-0 c.take.new.buf at.text.items at.invariant.text (same_most at.text.ok.0 at.invariant.short) c.in-Err.ensures.bytes
 
-pub returns-then-count-eq0-clause-ok : goal.returns-then-count-eq0-clause-ok
-returns-then-count-eq0-clause-ok g c =
+pub returns-then-count-eq0-clause-answer : goal.returns-then-count-eq0-clause-answer
+returns-then-count-eq0-clause-answer g c =
     let at = c.pieces in
     let coming = g.R.Source.coming in
     text_ends (coming c.args.source.now) (coming at.source) (coming c.take.new.self)
     c.in-Ok.count c.take.new.buf at.text.items at.invariant.text (same_most at.text.ok.0 at.invariant.short) c.if-count-eq0.true c.in-Ok.ensures.bytes
 
-pub returns-then-count-len-clause-fault : goal.returns-then-count-len-clause-fault
-returns-then-count-len-clause-fault g c =
+pub returns-then-count-len-clause-answer : goal.returns-then-count-len-clause-answer
+returns-then-count-len-clause-answer g c =
     let at = c.pieces in
     let coming = g.R.Source.coming in
     let past = past_most c.len-in-pieces.ensures at.text.ok.0 at.invariant.short c.if-count-len.true in
-    λ _. text_long (coming c.args.source.now) (coming at.source) (coming c.take.new.self)
+    text_long (coming c.args.source.now) (coming at.source) (coming c.take.new.self)
     c.in-Ok.count c.take.new.buf at.text.items at.invariant.text past c.in-Ok.ensures.bytes
+
+pub returns-in-Err-extend_from_slice-clause-answer : goal.returns-in-Err-extend_from_slice-clause-answer
+returns-in-Err-extend_from_slice-clause-answer g c = no_memory (g.R.Source.coming c.args.source.now)
 
 pub pieces-smaller : goal.pieces-smaller
 pieces-smaller g c =

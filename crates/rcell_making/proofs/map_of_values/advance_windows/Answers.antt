@@ -15,9 +15,6 @@ bounds-windows-i c = below_same c.loop-i-test.true (sym c.loop-i.auto.windows)
 pub map_at-requires-clause-place : goal.map_at-requires-clause-place
 map_at-requires-clause-place c = below_same c.loop-i-test.true c.requires.count
 
-pub map_at-requires-clause-within : goal.map_at-requires-clause-within
-map_at-requires-clause-within c = c.requires.within
-
 pub advance-requires-clause-window : goal.advance-requires-clause-window
 advance-requires-clause-window c =
     let at = c.loop-i in

@@ -4,9 +4,7 @@ use Rattle.cell_calc_operators.specs.Applied.{spot}
 use Rattle.cell_calc_binding.specs.Reach.{up_of, down_of}
 use Rattle.cell_calc_binding.specs.Value.{value}
 use Rattle.rcell_making.specs.parts.WindowsSet.{picked_maps}
-use Rattle.rcell_making.proofs.WindowLemmas.{written}
-use Rattle.rcell_making.proofs.WindowLemmas.{set_over, set_reach, rows_more, room_left, all_rows, row_made}
-use Rattle.std.proofs.lemmas.Result.{IfOk-from_err}
+use Rattle.rcell_making.proofs.WindowLemmas.{written, set_over, set_reach, rows_more, room_left, all_rows, row_made}
 use Rattle.cell_core.specs.Grid.{cell_at}
 use borrow.Author.Count.{falls}
 use Rattle.rcell_making.proofs.map_of_values.evaluate_over.Goals as goal
@@ -42,26 +40,6 @@ loop-row-preserved c =
           r lr k lk);
     }
 
-pub returns-in_err-windows : goal.returns-in_err-windows
-returns-in_err-windows c = IfOk-from_err c.from_residual.result _ c.from_residual.ensures.0
-
-pub returns-in_err-cells : goal.returns-in_err-cells
-returns-in_err-cells c = IfOk-from_err c.from_residual-in_err-cells.result _ c.from_residual-in_err-cells.ensures.0
-
-pub returns-in_err-eval_row : goal.returns-in_err-eval_row
-returns-in_err-eval_row c =
-    IfOk-from_err c.from_residual-in_err-eval_row.result _ c.from_residual-in_err-eval_row.ensures.0
-
-pub returns-in_err-push_row : goal.returns-in_err-push_row
-returns-in_err-push_row c =
-    IfOk-from_err c.from_residual-in_err-push_row.result _ c.from_residual-in_err-push_row.ensures.0
-
-pub open_windows-requires-clause-places : goal.open_windows-requires-clause-places
-open_windows-requires-clause-places c = c.requires.places
-
-pub open_windows-requires-clause-within : goal.open_windows-requires-clause-within
-open_windows-requires-clause-within c = c.requires.within
-
 pub eval_row-requires-clause-row : goal.eval_row-requires-clause-row
 eval_row-requires-clause-row c = rw c.rows-row-end.ensures.value at c.loop-row-test.true
 
@@ -94,9 +72,6 @@ push_row-requires-clause-room c =
 pub advance_windows-requires-clause-count : goal.advance_windows-requires-clause-count
 advance_windows-requires-clause-count c =
     ap (λ l. length l) c.as_mut_slice-in-loop-row.ensures.value ∙ c.loop-row.invariant.windows ∙ c.requires.places
-
-pub advance_windows-requires-clause-within : goal.advance_windows-requires-clause-within
-advance_windows-requires-clause-within c = c.requires.within
 
 pub advance_windows-requires-clause-set : goal.advance_windows-requires-clause-set
 advance_windows-requires-clause-set c =

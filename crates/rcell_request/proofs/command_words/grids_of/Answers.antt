@@ -1,4 +1,4 @@
-use Rattle.std.proofs.lemmas.Result.{err_from_is_err_and, IfOk-from_err}
+use Rattle.std.proofs.lemmas.Result.{err_from_is_err_and}
 use Rattle.std.proofs.Common.{Bor, Bool, Option, Some, true, false, Result, MatchResult, Ok, Err, if◌then◌else◌, arith, rules, refl, drop, ap, ap₂, sym, ◌≡◌, ◌∙◌, ◌++◌, ◌∷◌, [], ◌+◌, ◌<◌, take, length, vec_len, List, ℕ, is_ok}
 use Rattle.std.specs.List.{slice_index_or}
 use Rattle.std.specs.Option.{option_map}
@@ -22,45 +22,26 @@ refused_here is at told = rw (is, told, at) refl
 one_more : (index : ℕ) → index + 2 + 1 ≡ index + 1 + 2
 one_more index = omega arith
 
-pub returns-in_err-name : goal.returns-in_err-name
-returns-in_err-name c = record {
-  words = IfOk-from_err c.from_residual.result _ c.from_residual.ensures.0;
-  paths = IfOk-from_err c.from_residual.result _ c.from_residual.ensures.0;
-  good = let p = err_from_is_err_and c.from_residual.result c.from_residual.ensures.1 in rw p.1 tt;
-  bad =
-      let bad = c.in_err-name.ensures.bad in
-      let p = err_from_is_err_and c.from_residual.result c.from_residual.ensures.1 in
-      let place : c.saturating_add-place.result ≡ c.loop-word.word-index + 2 = omega arith in
-      rw (p.1, p.2) (λ other.
-      let told = bad other in
-      refused_here (c.loop-word.invariant.good ∙ first_bad_here (c.loop-word.word-index + 2) c.args.words.now c.loop-word.word-index _ c.loop-word-test.true told.0) place told.1);
-}
+pub returns-in_err-name-clause-bad : goal.returns-in_err-name-clause-bad
+returns-in_err-name-clause-bad c =
+    let bad = c.in_err-name.ensures.bad in
+    let p = err_from_is_err_and c.from_residual.result c.from_residual.ensures.1 in
+    let place : c.saturating_add-place.result ≡ c.loop-word.word-index + 2 = omega arith in
+    rw (p.1, p.2) (λ other.
+    let told = bad other in
+    refused_here (c.loop-word.invariant.good ∙ first_bad_here (c.loop-word.word-index + 2) c.args.words.now c.loop-word.word-index _ c.loop-word-test.true told.0) place told.1)
 
-pub returns-in_err-map_err : goal.returns-in_err-map_err
-returns-in_err-map_err c = record {
-  words = IfOk-from_err c.from_residual-in_err-map_err.result _ c.from_residual-in_err-map_err.ensures.0;
-  paths = IfOk-from_err c.from_residual-in_err-map_err.result _ c.from_residual-in_err-map_err.ensures.0;
-  good =
-      let p = err_from_is_err_and c.from_residual-in_err-map_err.result c.from_residual-in_err-map_err.ensures.1 in
-      rw p.1 tt;
-  bad =
-      let p = err_from_is_err_and c.from_residual-in_err-map_err.result c.from_residual-in_err-map_err.ensures.1 in
-      rw (p.1, p.2) (made_told c.push.result _ c.in_err-map_err.ensures.cases
-      (λ e h. let made : c.in_err-map_err.field-0.0 ≡ Memory = search rules in λ other. absurd (other made)));
-}
+pub returns-in_err-map_err-clause-bad : goal.returns-in_err-map_err-clause-bad
+returns-in_err-map_err-clause-bad c =
+    let p = err_from_is_err_and c.from_residual-in_err-map_err.result c.from_residual-in_err-map_err.ensures.1 in
+    rw (p.1, p.2) (made_told c.push.result _ c.in_err-map_err.ensures.cases
+    (λ e h. let made : c.in_err-map_err.field-0.0 ≡ Memory = search rules in λ other. absurd (other made)))
 
-pub returns-in_err-map_err-2 : goal.returns-in_err-map_err-2
-returns-in_err-map_err-2 c = record {
-  words = IfOk-from_err c.from_residual-in_err-map_err-2.result _ c.from_residual-in_err-map_err-2.ensures.0;
-  paths = IfOk-from_err c.from_residual-in_err-map_err-2.result _ c.from_residual-in_err-map_err-2.ensures.0;
-  good =
-      let p = err_from_is_err_and c.from_residual-in_err-map_err-2.result c.from_residual-in_err-map_err-2.ensures.1 in
-      rw p.1 tt;
-  bad =
-      let p = err_from_is_err_and c.from_residual-in_err-map_err-2.result c.from_residual-in_err-map_err-2.ensures.1 in
-      rw (p.1, p.2) (made_told c.push-in-loop-word.result _ c.in_err-map_err-2.ensures.cases
-      (λ e h. let made : c.in_err-map_err-2.field-0.0 ≡ Memory = search rules in λ other. absurd (other made)));
-}
+pub returns-in_err-map_err-2-clause-bad : goal.returns-in_err-map_err-2-clause-bad
+returns-in_err-map_err-2-clause-bad c =
+    let p = err_from_is_err_and c.from_residual-in_err-map_err-2.result c.from_residual-in_err-map_err-2.ensures.1 in
+    rw (p.1, p.2) (made_told c.push-in-loop-word.result _ c.in_err-map_err-2.ensures.cases
+    (λ e h. let made : c.in_err-map_err-2.field-0.0 ≡ Memory = search rules in λ other. absurd (other made)))
 
 pub loop-word-init : goal.loop-word-init
 loop-word-init c =

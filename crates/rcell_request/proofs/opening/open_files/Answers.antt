@@ -1,7 +1,7 @@
 use Rattle.std.proofs.Common.{ℕ, List, map, length, vec_len, false, true, ap, sym, arith, ◌≡◌, ◌≢◌, ◌<◌, ◌==◌, ◌∙◌}
 use Rattle.std.proofs.lemmas.Bool.{eqb-false, eqb-true}
 use Rattle.std.proofs.lemmas.List.{length-map}
-use Rattle.std.proofs.lemmas.Result.{err_from_is_err_and, IfOk-from_err}
+use Rattle.std.proofs.lemmas.Result.{err_from_is_err_and}
 use Rattle.rcell_request.specs.Refusals.{IsOfOpening}
 use Rattle.rcell_request.specs.declared.refusal.Refusal.{Refusal}
 use Rattle.rcell_request.specs.declared.refusal.Refusal.TheVariants.{Usage, GridWord, Memory, ScriptFile, GridFile}
@@ -25,33 +25,19 @@ pub returns-then-is_empty-clause-told : goal.returns-then-is_empty-clause-told
 returns-then-is_empty-clause-told g c =
     let names = c.args.request.now.names in
     let grids = c.in_ok-grids.grids in
-    no_grids _ grids.items names.items (vec_len grids) (vec_len names) c.in_ok-grids.ensures.names grids.ok.0 names.ok.0
+    no_grids _ grids.items names.items (vec_len grids) (vec_len names) c.in_ok-grids.ensures.opened.named grids.ok.0 names.ok.0
     (sym c.is_empty.ensures ∙ c.if-is_empty.true)
 
 pub invariant_of-result : goal.invariant_of-result
 invariant_of-result g c =
     record { has_grid = some_grid (vec_len c.in_ok-grids.grids) (sym c.is_empty.ensures ∙ c.if-is_empty.false) }
 
-pub returns-clause-names : goal.returns-clause-names
-returns-clause-names g c = c.in_ok-grids.ensures.names
+pub returns-in_err-script-clause-told : goal.returns-in_err-script-clause-told
+returns-in_err-script-clause-told g c =
+    let p = err_from_is_err_and c.from_residual.result c.from_residual.ensures.1 in
+    rw (p.1, p.2) (of_script _ c.in_err-script.field-0.0 c.in_err-script.ensures.told)
 
-pub returns-in_err-script : goal.returns-in_err-script
-returns-in_err-script g c = record {
-  names = IfOk-from_err c.from_residual.result _ c.from_residual.ensures.0;
-  asked = IfOk-from_err c.from_residual.result _ c.from_residual.ensures.0;
-  told =
-      let p = err_from_is_err_and c.from_residual.result c.from_residual.ensures.1 in
-      rw (p.1, p.2) (of_script _ c.in_err-script.field-0.0 c.in_err-script.ensures.told);
-}
-
-pub returns-in_err-grids : goal.returns-in_err-grids
-returns-in_err-grids g c = record {
-  names = IfOk-from_err c.from_residual-in_err-grids.result _ c.from_residual-in_err-grids.ensures.0;
-  asked = IfOk-from_err c.from_residual-in_err-grids.result _ c.from_residual-in_err-grids.ensures.0;
-  told =
-      let p = err_from_is_err_and c.from_residual-in_err-grids.result c.from_residual-in_err-grids.ensures.1 in
-      rw (p.1, p.2) c.in_err-grids.ensures.told;
-}
-
-pub returns-clause-asked : goal.returns-clause-asked
-returns-clause-asked g c = (c.in_ok-script.ensures.asked, c.in_ok-grids.ensures.asked)
+pub returns-in_err-grids-clause-told : goal.returns-in_err-grids-clause-told
+returns-in_err-grids-clause-told g c =
+    let p = err_from_is_err_and c.from_residual-in_err-grids.result c.from_residual-in_err-grids.ensures.1 in
+    rw (p.1, p.2) c.in_err-grids.ensures.told

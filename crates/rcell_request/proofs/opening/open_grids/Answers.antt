@@ -1,4 +1,4 @@
-use Rattle.std.proofs.lemmas.Result.{err_from_is_err_and, IfOk-from_err}
+use Rattle.std.proofs.lemmas.Result.{err_from_is_err_and}
 use Rattle.std.proofs.Common.{rules, Bool, true, false, Result, MatchResult, Ok, Err, if◌then◌else◌, arith, ap, sym, map, take, length, ℕ, is_ok, subst, ◌≡◌, ◌≢◌, ◌<◌, ◌≤◌, ◌∙◌, ◌++◌, ◌∷◌, []}
 use Rattle.std.proofs.lemmas.List.{map-append, take_more, take_all}
 use Rattle.std.proofs.lemmas.List.Elements.{All-nil, All-push}
@@ -48,24 +48,20 @@ loop-grid-preserved g c =
           (All-push (λ grid. grid.1.1 ≡ Going) grids _ c.loop-grid.invariant.asked c.in_ok-opened.ensures.asked);
     }
 
-pub returns-in_err-opened : goal.returns-in_err-opened
-returns-in_err-opened g c = record {
-  names = IfOk-from_err c.from_residual.result _ c.from_residual.ensures.0;
-  asked = IfOk-from_err c.from_residual.result _ c.from_residual.ensures.0;
-  told =
-      let p = err_from_is_err_and c.from_residual.result c.from_residual.ensures.1 in
-      rw (p.1, p.2) (of_grid _ c.loop-grid.grid c.in_err-opened.field-0.0 (below c.loop-grid-test.true c.len-grid-end.ensures) c.in_err-opened.ensures.told);
-}
+pub returns-in_err-opened-clause-told : goal.returns-in_err-opened-clause-told
+returns-in_err-opened-clause-told g c =
+    let p = err_from_is_err_and c.from_residual.result c.from_residual.ensures.1 in
+    rw (p.1, p.2) (of_grid _ c.loop-grid.grid c.in_err-opened.field-0.0 (below c.loop-grid-test.true c.len-grid-end.ensures) c.in_err-opened.ensures.told)
 
-pub returns-in_err-map_err : goal.returns-in_err-map_err
-returns-in_err-map_err g c = record {
-  names = IfOk-from_err c.from_residual-in_err-map_err.result _ c.from_residual-in_err-map_err.ensures.0;
-  asked = IfOk-from_err c.from_residual-in_err-map_err.result _ c.from_residual-in_err-map_err.ensures.0;
-  told =
-      let p = err_from_is_err_and c.from_residual-in_err-map_err.result c.from_residual-in_err-map_err.ensures.1 in
-      rw (p.1, p.2) (made_told c.push.result _ c.in_err-map_err.ensures.cases (λ e h. let made : c.in_err-map_err.field-0.0 ≡ Memory = search rules in subst (IsOfOpening _) (sym made) tt));
-}
+pub returns-in_err-map_err-clause-told : goal.returns-in_err-map_err-clause-told
+returns-in_err-map_err-clause-told g c =
+    let p = err_from_is_err_and c.from_residual-in_err-map_err.result c.from_residual-in_err-map_err.ensures.1 in
+    rw (p.1, p.2) (made_told c.push.result _ c.in_err-map_err.ensures.cases (λ e h. let made : c.in_err-map_err.field-0.0 ≡ Memory = search rules in subst (IsOfOpening _) (sym made) tt))
 
-pub returns-clause-names : goal.returns-clause-names
-returns-clause-names g c =
-    c.loop-grid.invariant.names ∙ take_all c.loop-grid.grid _ (at_least c.loop-grid-test.false (c.len-grid-end.ensures ∙ c.args.request.now.names.ok.0))
+pub returns-clause-opened : goal.returns-clause-opened
+returns-clause-opened g c = record {
+  named = c.loop-grid.invariant.names
+      ∙ take_all c.loop-grid.grid _
+      (at_least c.loop-grid-test.false (c.len-grid-end.ensures ∙ c.args.request.now.names.ok.0));
+  asked = c.loop-grid.invariant.asked;
+}

@@ -1,0 +1,16 @@
+-- What the reading of a script answers.
+use Rattle.std.specs.Prelude.{ℕ, ◌≡◌, List}
+use Rattle.cell_core_devices.specs.Device.{Coming}
+use Rattle.rcell_script.specs.declared.statement.Statement.{Statement}
+use Rattle.rcell_loading.specs.declared.run_fault.RunFault.{RunFault}
+use Rattle.rcell.specs.runs.Endings.{ReadsScript, IsScriptRefusal}
+
+-- the script denotes these statements, and no others
+pub record ReadsOnly (known : List (List ℕ)) (script : Coming) (statements : List Statement) : Type 0 where
+  pub reads : ReadsScript known script statements
+  pub only : (others : List Statement) → ReadsScript known script others → statements ≡ others
+
+-- the fault is the script's, which denotes no statements
+pub record RefusesScript (known : List (List ℕ)) (script : Coming) (fault : RunFault) : Type 0 where
+  pub refusal : IsScriptRefusal known script fault
+  pub none : (statements : List Statement) → ReadsScript known script statements → ⊥
