@@ -15,8 +15,8 @@ use cell_core::memory::Memory;
 use cell_core::shelf::Shelf;
 use cell_core::sink::Sink;
 use cell_stats_combinations::skip::{Skip, is_left_out};
-use cell_stats_counts::cursor::{Cursor, cursors_of, pass_all, restart_all};
 use cell_stats_counts::selection::Selection;
+use cell_stats_cursors::cursor::{Cursor, cursors_of, pass_all, restart_all};
 use std::alloc::Global;
 use std::marker::Model;
 

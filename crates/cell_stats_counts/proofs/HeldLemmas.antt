@@ -1,5 +1,5 @@
 -- Counts that are held, and counts in the map.
-use Rattle.std.proofs.Common.{◌≡◌, ℕ, zero, suc, ◌+◌, ◌<◌, ◌≤◌, length, take, replicate, [], ◌∷◌, Bool, true, false, List, cond, get_or, set, length-set, subst, ap, sym, ◌∙◌, refl, arith, add-zero, zero-add}
+use Rattle.std.proofs.Common.{◌≡◌, ℕ, zero, suc, ◌+◌, ◌<◌, length, take, replicate, [], ◌∷◌, Bool, true, false, List, cond, get_or, set, length-set, subst, ap, sym, ◌∙◌, refl, arith, add-zero, zero-add}
 use Rattle.cell_stats_counts.specs.declared.gathered.Gathered.{Gathered}
 use Rattle.std.specs.Cmp.{eq_by_cmp_equiv}
 use Rattle.std.proofs.lemmas.List.Sums.{sum_by-append, sum_by-set}

@@ -14,7 +14,7 @@ use Rattle.cell_stats_combinations.specs.Combinations.{Combination, combination_
 use Rattle.cell_stats_counts.specs.Listed.{Counts, entry_of, listed_of, HasNoZero}
 use Rattle.cell_stats_counts.specs.parts.HeldPlaces.{is_same}
 use Rattle.cell_stats_counts.specs.parts.Joined.{IsRising, IsJoined}
-use Rattle.cell_stats_counts.proofs.CursorLemmas.{All-take-set}
+use Rattle.cell_stats_cursors.proofs.CursorLemmas.{All-take-set}
 use Rattle.cell_stats_counts.proofs.GatheredLemmas.{entry-own}
 use Rattle.cell_stats_counts.proofs.HeldLemmas.{cond-add}
 

@@ -1,4 +1,4 @@
-pub mod CursorLemmas
+pub mod ByteCountLemmas
 pub mod GatheredLemmas
 pub mod HeldLemmas
 pub mod JoinLemmas

@@ -10,17 +10,18 @@ use Rattle.cell_stats_combinations.specs.declared.skip.Skip.{Skip}
 use Rattle.cell_stats_combinations.specs.Combinations.{Combination, combination_at, all_combinations, row_combinations}
 use Rattle.cell_stats_counts.specs.Counts.{count_of}
 use Rattle.cell_stats_counts.specs.parts.Alone.{alone}
-use Rattle.cell_stats_counts.specs.Cursors.{row_in}
+use Rattle.cell_stats_cursors.specs.Cursors.{row_in}
 use Rattle.cell_stats_counts.specs.parts.HeldPlaces.{is_same}
 use Rattle.cell_stats_combinations.specs.LeftOut.{kept_cells, is_left_out}
-use Rattle.cell_stats_counts.proofs.WalkLemmas.{row-of, cell-row, count-append, count-replicate, kept-replicate, all_combinations_more, count_small}
+use Rattle.cell_stats_cursors.proofs.CursorLemmas.{row-of}
+use Rattle.cell_stats_counts.proofs.WalkLemmas.{cell-row, count-append, count-replicate, kept-replicate, all_combinations_more, count_small}
 
 -- the counts of two parts
-count-both : (skip : Skip) (k : Combination) (xs ys : List Combination) → count_of k (kept_cells skip (xs ++ ys)) ≡ count_of k (kept_cells skip xs) + count_of k (kept_cells skip ys)
+pub count-both : (skip : Skip) (k : Combination) (xs ys : List Combination) → count_of k (kept_cells skip (xs ++ ys)) ≡ count_of k (kept_cells skip xs) + count_of k (kept_cells skip ys)
 count-both skip k xs ys = ap (count_of k) (filter-append (λ x. not (is_left_out skip x)) xs ys) ∙ count-append k (kept_cells skip xs) (kept_cells skip ys)
 
 -- a stretch of a combination by itself
-count-stretch : (skip : Skip) (k q : Combination) (n : ℕ) (b : Bool) → is_left_out skip q ≡ b → count_of k (kept_cells skip (replicate n q)) ≡ cond b 0 (cond (is_same k q) n 0)
+pub count-stretch : (skip : Skip) (k q : Combination) (n : ℕ) (b : Bool) → is_left_out skip q ≡ b → count_of k (kept_cells skip (replicate n q)) ≡ cond b 0 (cond (is_same k q) n 0)
 count-stretch skip k q n true l = ap (count_of k) (kept-replicate skip q n true l)
 count-stretch skip k q n false l = ap (count_of k) (kept-replicate skip q n false l) ∙ count-replicate k q n
 
@@ -94,14 +95,21 @@ single (p ∷ []) d e = refl
 single (p ∷ q ∷ places) d e = absurd (omega (arith, e))
 
 -- a row more of one map is counted
-pub counted-alone : (skip : Skip) (k : Combination) (maps : List Grid) (picks : List ℕ) (row p cols : ℕ) (m : Grid) (runs : List RunValue) (old new : ℕ) → picks ≡ p ∷ [] → slice_get maps p ≡ Some m → written_out runs ≡ row_at m row → length (written_out runs) ≡ cols → old ≡ count_of k (kept_cells skip (all_combinations maps picks row cols)) → new ≡ old + runs-count skip k runs → new ≡ count_of k (kept_cells skip (all_combinations maps picks (row + 1) cols))
-counted-alone skip k maps picks row p cols m runs old new sole e written wide was grown =
+pub counted-alone : (skip : Skip) (k : Combination) (maps : List Grid) (picks : List ℕ) (row p cols : ℕ) (m : Grid)
+    (old new : ℕ) → picks ≡ p ∷ [] → slice_get maps p ≡ Some m → length (row_at m row) ≡ cols
+    → old ≡ count_of k (kept_cells skip (all_combinations maps picks row cols))
+    → new ≡ old + count_of k (kept_cells skip (map alone (row_at m row)))
+    → new ≡ count_of k (kept_cells skip (all_combinations maps picks (row + 1) cols))
+counted-alone skip k maps picks row p cols m old new sole e wide was grown =
     let base = all_combinations maps picks row cols in
-    let same : row_in maps row p ≡ written_out runs = row-of maps row p m e ∙ sym written in
-    let line : map alone (written_out runs) ≡ row_combinations maps picks cols row =
-    ap (map alone) (sym same) ∙ sym (row-alone maps row p cols (ap length same ∙ wide)) ∙ ap (λ (l : List ℕ). row_combinations maps l cols row) (sym sole) in
-    grown ∙ ap (λ n. n + runs-count skip k runs) was ∙ ap (λ (l : List Combination). count_of k (kept_cells skip base) + count_of k (kept_cells skip l)) line
-    ∙ sym (count-both skip k base (row_combinations maps picks cols row)) ∙ ap (λ (l : List Combination). count_of k (kept_cells skip l)) (sym (all_combinations_more maps picks cols row))
+    let same : row_in maps row p ≡ row_at m row = row-of maps row p m e in
+    let line : map alone (row_at m row) ≡ row_combinations maps picks cols row =
+    ap (map alone) (sym same) ∙ sym (row-alone maps row p cols (ap length same ∙ wide))
+    ∙ ap (λ (l : List ℕ). row_combinations maps l cols row) (sym sole) in
+    grown ∙ ap (λ n. n + count_of k (kept_cells skip (map alone (row_at m row)))) was
+    ∙ ap (λ (l : List Combination). count_of k (kept_cells skip base) + count_of k (kept_cells skip l)) line
+    ∙ sym (count-both skip k base (row_combinations maps picks cols row))
+    ∙ ap (λ (l : List Combination). count_of k (kept_cells skip l)) (sym (all_combinations_more maps picks cols row))
     ∙ ap (λ r. count_of k (kept_cells skip (all_combinations maps picks r cols))) (sym (add-one row))
 
 -- and its cells fit

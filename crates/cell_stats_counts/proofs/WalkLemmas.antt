@@ -14,7 +14,7 @@ use Rattle.cell_core.specs.Runs.{RunValue, written_out}
 use Rattle.cell_stats_combinations.specs.declared.skip.Skip.{Skip}
 use Rattle.cell_stats_combinations.specs.Combinations.{Combination, combination_cmp, cell_of_map, combination_at, all_combinations, row_combinations}
 use Rattle.cell_stats_counts.specs.Counts.{count_of}
-use Rattle.cell_stats_counts.specs.Cursors.{CursorValue, to_come, AreCursorsReady, row_in}
+use Rattle.cell_stats_cursors.specs.Cursors.{CursorValue, to_come, AreCursorsReady, row_in}
 use Rattle.cell_stats_counts.specs.parts.HeldPlaces.{is_same}
 use Rattle.cell_stats_combinations.specs.LeftOut.{kept_cells, is_left_out}
 
@@ -52,10 +52,6 @@ drop-drop n (suc i) [] = drop-nil n ∙ sym (drop-nil (suc i + n))
 drop-drop n (suc i) (x ∷ xs) =
     let sum : suc (i + n) ≡ suc i + n = omega arith in
     drop-drop n i xs ∙ ap (λ k. drop k (x ∷ xs)) sum
-
--- the row of a map on the shelf
-pub row-of : (maps : List Grid) (row p : ℕ) (m : Grid) → slice_get maps p ≡ Some m → row_in maps row p ≡ row_at m row
-row-of maps row p m e = ap (λ o. option_map_or (λ x. row_at x row) o []) e
 
 module _ (maps : List Grid) (row col : ℕ) where
   -- the cells of the cursors are the combination of each column of the stretch

@@ -1,5 +1,4 @@
 -- How often each combination of categories occurs over several maps.
 pub mod Counts
-pub mod Cursors
 pub mod Listed
 pub mod parts

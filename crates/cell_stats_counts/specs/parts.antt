@@ -1,5 +1,6 @@
 -- Combinations of one map, counts on their way to the list, the list in order.
 pub mod Alone
+pub mod ByteCounts
 pub mod GatheredCounts
 pub mod HeldPlaces
 pub mod Joined

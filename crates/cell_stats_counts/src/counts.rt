@@ -2,52 +2,24 @@
 
 ghost use Rattle.std.specs.Prelude.{◌≡◌, ◌+◌, ◌<◌, ◌≤◌, All, OnOk, IfOk, length, map};
 ghost use Rattle.cell_core_values.specs.Region.{IsRegion};
-ghost use Rattle.cell_core.specs.Runs.{written_out};
 ghost use Rattle.cell_stats_combinations.specs.Combinations.{ArePicks, Combination, shelf_combinations};
 ghost use Rattle.cell_stats_counts.specs.Counts.{count_of};
-ghost use Rattle.cell_stats_counts.specs.Cursors.{to_come, AreCursorsReady, AreWideRows, row_in};
+ghost use Rattle.cell_stats_cursors.specs.Cursors.{to_come, AreCursorsReady, AreWideRows, row_in};
 ghost use Rattle.cell_stats_counts.specs.Listed.{AreCountsOf};
-ghost use Rattle.cell_stats_counts.specs.parts.Alone.{alone};
 ghost use Rattle.cell_stats_counts.specs.parts.HeldPlaces.{total_of, AreCounted, HasRoom, IsCounting};
 ghost use Rattle.cell_stats_combinations.specs.LeftOut.{kept_cells};
 
+use crate::alone::count_alone;
 use crate::counting::{CountPlace, add_count, first_places, flush_all, make_room};
-use crate::cursor::{Cursor, cursors_of, pass_all, restart_all, start};
 use crate::gathered::{Gathered, ordered_entries};
 use crate::selection::Selection;
 use cell_core::cell::Cell;
 use cell_core::memory::Memory;
 use cell_core::shelf::Shelf;
-use cell_core::stretches::Stretches;
 use cell_stats_combinations::combination::Combo;
 use cell_stats_combinations::skip::{Skip, is_left_out};
+use cell_stats_cursors::cursor::{Cursor, cursors_of, pass_all, restart_all, start};
 use std::alloc::Global;
-
-// Counts the cells of the stretches of one map.
-fn count_stretches(
-    alloc: Global,
-    stretches: Stretches<'_>,
-    skip: Skip,
-    spare: &mut Combo,
-    places: &mut [CountPlace],
-    counted: &mut Gathered,
-) -> Result<(), Memory>
-    requires going { IsCounting 1 spare.old places.old counted.old }
-    requires fits { HasRoom 1 places.old counted.old (length (written_out stretches)) }
-    ensures ok { OnOk result ((k : Combination)
-        → total_of 1 k places.new counted.new
-        ≡ total_of 1 k places.old counted.old
-        + count_of k (kept_cells skip (map alone (written_out stretches.entry)))) }
-    ensures going { OnOk result (IsCounting 1 spare.new places.new counted.new) }
-{
-    for (cell, count) in stretches {
-        let cells = [cell];
-        if !is_left_out(skip, &cells) {
-            add_count(alloc, &cells, u64::from(count), spare, places, counted)?;
-        }
-    }
-    Ok(())
-}
 
 // Counts the cells of a row by the columns in which no map changes, from cursors at its first cells on.
 #[inline(always)]
@@ -114,8 +86,8 @@ fn count_row<'a>(
         (IsCounting (length selection.entry.picks.now) spare.new places.new counted.new) }
 {
     if let [place] = selection.picks {
-        let stretches = selection.shelf.map(*place).stretches(row);
-        count_stretches(alloc, stretches, selection.skip, spare, places, counted)?;
+        let grid = selection.shelf.map(*place);
+        count_alone(alloc, grid, row, selection.skip, spare, places, counted)?;
         return Ok(());
     }
     if let [first, second] = selection.picks {

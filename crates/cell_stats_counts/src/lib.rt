@@ -1,8 +1,8 @@
 //! How often each combination of categories occurs over several maps (r.stats manual).
 #![tactic(auto)]
 
+mod alone;
 mod counting;
 pub mod counts;
-pub mod cursor;
 mod gathered;
 pub mod selection;

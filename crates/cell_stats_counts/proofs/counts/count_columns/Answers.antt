@@ -9,7 +9,7 @@ use Rattle.cell_core.specs.Grid.{CellValue}
 use Rattle.cell_stats_combinations.specs.Combinations.{Combination, all_combinations, combination_at}
 use Rattle.cell_stats_counts.specs.Counts.{count_of}
 use Rattle.cell_stats_counts.specs.parts.HeldPlaces.{IsCounting}
-use Rattle.cell_stats_counts.specs.Cursors.{CursorValue, to_come}
+use Rattle.cell_stats_cursors.specs.Cursors.{CursorValue, to_come}
 use Rattle.cell_stats_counts.specs.parts.HeldPlaces.{total_of, is_same}
 use Rattle.cell_stats_combinations.specs.LeftOut.{kept_cells, is_left_out}
 use Rattle.cell_stats_counts.specs.declared.counting.CountPlace.{CountPlace}

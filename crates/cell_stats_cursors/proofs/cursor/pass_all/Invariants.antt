@@ -1,6 +1,6 @@
 use Rattle.std.proofs.Common.{◌≡◌, ◌<◌, ◌≤◌, length, map, take, drop, All}
-use Rattle.cell_stats_counts.specs.Cursors.{to_come, AreCursorsReady}
-use Rattle.cell_stats_counts.proofs.cursor.pass_all.Given as goal
+use Rattle.cell_stats_cursors.specs.Cursors.{to_come, AreCursorsReady}
+use Rattle.cell_stats_cursors.proofs.cursor.pass_all.Given as goal
 
 abbrev pub invariant-loop-i : goal.invariant-loop-i
 invariant-loop-i l = record {

@@ -4,10 +4,9 @@ use Rattle.std.proofs.lemmas.List.{take_more}
 use Rattle.std.proofs.lemmas.List.Elements.{All-nil, All-push}
 use Rattle.cell_core_values.specs.Region.{RegionValue}
 use Rattle.cell_core.specs.Grid.{row_at}
-use Rattle.cell_stats_counts.specs.Cursors.{to_come, AreCursorsReady, row_in}
-use Rattle.cell_stats_counts.proofs.CursorLemmas.{map-take-more, map-take-set, All-take-set}
-use Rattle.cell_stats_counts.proofs.WalkLemmas.{row-of}
-use Rattle.cell_stats_counts.proofs.cursor.restart_all.Goals as goal
+use Rattle.cell_stats_cursors.specs.Cursors.{to_come, AreCursorsReady, row_in}
+use Rattle.cell_stats_cursors.proofs.CursorLemmas.{row-of, map-take-more, map-take-set, All-take-set}
+use Rattle.cell_stats_cursors.proofs.cursor.restart_all.Goals as goal
 
 below : {n m most : ℕ} → n < m → m ≡ most → n < most
 below lower same = omega arith

@@ -1,11 +1,13 @@
 -- Rows of several maps, and the stretch of columns in which none changes.
-use Rattle.std.proofs.Common.{◌≡◌, ℕ, zero, suc, ◌+◌, ◌-◌, ◌<◌, ◌≤◌, List, [], ◌∷◌, ◌++◌, length, take, drop, map, replicate, get_or, set, All, refl, ap, sym, ◌∙◌, arith, length-append, length-take, add-one, add-zero}
+use Rattle.std.proofs.Common.{◌≡◌, ℕ, zero, suc, ◌+◌, ◌-◌, ◌<◌, ◌≤◌, List, Some, [], ◌∷◌, ◌++◌, length, take, drop, map, replicate, get_or, set, All, refl, ap, sym, ◌∙◌, arith, length-append, length-take, add-one, add-zero}
 use Rattle.std.proofs.Math.Seq.{get_or-append_seam}
 use Rattle.std.proofs.lemmas.List.Elements.{All-push}
 use Rattle.std.proofs.lemmas.List.{take_more, take_more_set, map-append, get_or-drop, length-replicate, drop-append-le, drop-replicate, get_or_append_left}
-use Rattle.cell_core.specs.Grid.{CellValue}
+use Rattle.std.specs.Option.{option_map_or}
+use Rattle.std.specs.Prelude.{slice_get}
+use Rattle.cell_core.specs.Grid.{Grid, CellValue, row_at}
 use Rattle.cell_core.specs.Runs.{RunValue}
-use Rattle.cell_stats_counts.specs.Cursors.{AreCursorsReady}
+use Rattle.cell_stats_cursors.specs.Cursors.{AreCursorsReady, row_in}
 
 -- some columns of the first run are passed
 pub drop-run : (n left : ℕ) (x : CellValue) (rest : List CellValue) → n ≤ left → drop n (replicate left x ++ rest) ≡ replicate (left - n) x ++ rest
@@ -59,3 +61,7 @@ All-take-front P xs i y h all =
       λ k d within. rw (get_or_append_left (take i xs) (y ∷ []) d k within) at (both k d (omega (arith, length-append (take i xs) (y ∷ [])))),
       rw (get_or-append_seam (take i xs) y [] y) at (both (length (take i xs)) y (omega (arith, length-append (take i xs) (y ∷ [])))),
     )
+
+-- the row of a map on the shelf
+pub row-of : (maps : List Grid) (row p : ℕ) (m : Grid) → slice_get maps p ≡ Some m → row_in maps row p ≡ row_at m row
+row-of maps row p m e = ap (λ o. option_map_or (λ x. row_at x row) o []) e

@@ -7,7 +7,7 @@ use Rattle.cell_stats_counts.specs.parts.Alone.{alone}
 use Rattle.cell_stats_counts.specs.parts.HeldPlaces.{total_of, is_same}
 use Rattle.cell_stats_combinations.specs.LeftOut.{is_left_out}
 use Rattle.cell_stats_counts.proofs.RunCountLemmas.{runs-count, run-left, run-more, room-left, room-more, room-first}
-use Rattle.cell_stats_counts.proofs.counts.count_stretches.Goals as goal
+use Rattle.cell_stats_counts.proofs.alone.count_stretches.Goals as goal
 
 one_few : 1 ≤ 16
 one_few = omega arith

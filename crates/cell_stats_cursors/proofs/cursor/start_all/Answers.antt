@@ -4,11 +4,10 @@ use borrow.Author.Count.{falls}
 use Rattle.std.proofs.lemmas.List.{map-append, take_more}
 use Rattle.std.proofs.lemmas.List.Elements.{All-nil, All-same, All-push}
 use Rattle.cell_core_values.specs.Region.{RegionValue}
-use Rattle.cell_stats_counts.specs.Cursors.{to_come, AreCursorsReady, row_in}
-use Rattle.cell_stats_counts.proofs.CursorLemmas.{map-take-more}
-use Rattle.cell_stats_counts.proofs.WalkLemmas.{row-of}
+use Rattle.cell_stats_cursors.specs.Cursors.{to_come, AreCursorsReady, row_in}
+use Rattle.cell_stats_cursors.proofs.CursorLemmas.{row-of, map-take-more}
 use Rattle.cell_core.specs.Grid.{row_at}
-use Rattle.cell_stats_counts.proofs.cursor.start_all.Goals as goal
+use Rattle.cell_stats_cursors.proofs.cursor.start_all.Goals as goal
 
 below : {n m most : ℕ} → n < m → m ≡ most → n < most
 below lower same = omega arith

@@ -2,9 +2,9 @@ use Rattle.std.proofs.Common.{◌≡◌, ◌<◌, ◌≤◌, ◌+◌, get_or, se
 use borrow.Author.Count.{falls}
 use Rattle.std.proofs.lemmas.List.{take_more_set, drop-set-lt}
 use Rattle.std.proofs.lemmas.List.Elements.{All-nil, All-set}
-use Rattle.cell_stats_counts.specs.Cursors.{CursorValue, to_come, AreCursorsReady}
-use Rattle.cell_stats_counts.proofs.CursorLemmas.{same-here, same-behind, map-take-set, map-take-more, All-take-set, All-take-front}
-use Rattle.cell_stats_counts.proofs.cursor.pass_all.Goals as goal
+use Rattle.cell_stats_cursors.specs.Cursors.{CursorValue, to_come, AreCursorsReady}
+use Rattle.cell_stats_cursors.proofs.CursorLemmas.{same-here, same-behind, map-take-set, map-take-more, All-take-set, All-take-front}
+use Rattle.cell_stats_cursors.proofs.cursor.pass_all.Goals as goal
 
 below : {n m most : ℕ} → n < m → m ≡ most → n < most
 below lower same = omega arith

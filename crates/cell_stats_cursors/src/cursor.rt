@@ -4,7 +4,7 @@ ghost use Rattle.std.specs.Prelude.{◌≡◌, ◌<◌, ◌≤◌, length, map, 
 ghost use Rattle.cell_core.specs.Grid.{row_at};
 ghost use Rattle.cell_core.specs.Runs.{written_out};
 ghost use Rattle.cell_stats_combinations.specs.Combinations.{ArePicks};
-ghost use Rattle.cell_stats_counts.specs.Cursors.{to_come, AreCursorsReady, AreWideRows, row_in};
+ghost use Rattle.cell_stats_cursors.specs.Cursors.{to_come, AreCursorsReady, AreWideRows, row_in};
 
 use cell_core::cell::Cell;
 use cell_core::map::CellMap;
@@ -23,7 +23,7 @@ pub struct Cursor<'a> {
 }
 
 impl<'a> Model for Cursor<'a> {
-    ghost use Rattle.cell_stats_counts.specs.Cursors.{CursorValue, cursor_code};
+    ghost use Rattle.cell_stats_cursors.specs.Cursors.{CursorValue, cursor_code};
 
     ghost Value = { CursorValue };
 
@@ -67,8 +67,8 @@ impl<'a> Cursor<'a> {
     }
 }
 
-// The first cell of a row of a map.
-pub(crate) fn start<'a>(map: &'a CellMap, row: u32) -> Cursor<'a>
+/// The place of the first cell in a row of a map.
+pub fn start<'a>(map: &'a CellMap, row: u32) -> Cursor<'a>
     requires { row < map.now.region.rows }
     ensures cells { to_come result ≡ row_at map.now row }
     ensures width { length (row_at map.now row) ≡ map.now.region.cols }

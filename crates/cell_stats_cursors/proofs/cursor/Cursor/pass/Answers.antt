@@ -1,7 +1,7 @@
 use Rattle.std.proofs.Common.{sym}
 use Rattle.cell_core.specs.Runs.{written_out}
-use Rattle.cell_stats_counts.proofs.CursorLemmas.{drop-run, ready-next}
-use Rattle.cell_stats_counts.proofs.cursor.Cursor.pass.Goals as goal
+use Rattle.cell_stats_cursors.proofs.CursorLemmas.{drop-run, ready-next}
+use Rattle.cell_stats_cursors.proofs.cursor.Cursor.pass.Goals as goal
 
 pub returns-in-Some-clause-ready : goal.returns-in-Some-clause-ready
 returns-in-Some-clause-ready c =

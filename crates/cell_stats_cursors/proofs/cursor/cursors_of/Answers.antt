@@ -2,8 +2,8 @@ use Rattle.std.proofs.Common.{◌≡◌, ◌<◌, ◌≤◌, ◌-◌, ◌∙◌,
 use Rattle.std.specs.Prelude.{IfOk}
 use Rattle.std.proofs.lemmas.List.{length-map}
 use Rattle.cell_core_values.specs.Region.{RegionValue}
-use Rattle.cell_stats_counts.specs.Cursors.{to_come, row_in}
-use Rattle.cell_stats_counts.proofs.cursor.cursors_of.Goals as goal
+use Rattle.cell_stats_cursors.specs.Cursors.{to_come, row_in}
+use Rattle.cell_stats_cursors.proofs.cursor.cursors_of.Goals as goal
 
 some_rows : {rows row : ℕ} → 1 ≤ rows → row ≡ rows → 1 ≤ row
 some_rows some same = omega arith

@@ -1,0 +1,118 @@
+-- What is summed over bytes, by how often each occurs.
+use Rattle.std.proofs.Common.{◌≡◌, ℕ, zero, suc, ◌+◌, ◌*◌, ◌<◌, ◌≤◌, List, [], ◌∷◌, length, drop, map, replicate}
+use Rattle.std.proofs.Common.{get_or, set, sum_by, Bool, true, false, cond, refl, ap, sym, ◌∙◌, arith, add-zero}
+use Rattle.std.proofs.lemmas.List.{drop_more}
+use Rattle.std.proofs.lemmas.List.Sums.{sum_by-cons}
+use Rattle.cell_core_values.specs.SmallCells.{byte_cell, cells_of_bytes}
+use Rattle.cell_stats_combinations.specs.declared.skip.Skip.{Skip}
+use Rattle.cell_stats_combinations.specs.Combinations.{Combination}
+use Rattle.cell_stats_combinations.specs.LeftOut.{kept_cells, is_left_out}
+use Rattle.cell_stats_counts.specs.Counts.{count_of}
+use Rattle.cell_stats_counts.specs.parts.Alone.{alone}
+use Rattle.cell_stats_counts.specs.parts.ByteCounts.{sum_counted}
+use Rattle.cell_stats_counts.specs.parts.HeldPlaces.{is_same}
+use Rattle.cell_stats_counts.proofs.RunCountLemmas.{count-both, count-stretch}
+
+-- no byte is counted yet
+pub sum_counted-none : (f : ℕ → ℕ) (byte n : ℕ) → sum_counted f byte (replicate n 0) ≡ 0
+sum_counted-none f byte zero = refl
+sum_counted-none f byte (suc n) = omega (arith, sum_counted-none f (byte + 1) n)
+
+-- a byte occurs once more
+pub sum_counted-more : (f : ℕ → ℕ) (byte i d : ℕ) (counts : List ℕ) → i < length counts
+    → sum_counted f byte (set counts i (get_or counts i d + 1)) ≡ sum_counted f byte counts + f (byte + i)
+sum_counted-more f byte i d [] within = absurd (omega (arith, within))
+sum_counted-more f byte zero d (n ∷ counts) within =
+    let here : f (byte + 0) ≡ f byte = ap f (add-zero byte) in
+    let once : f byte * (n + 1) ≡ f byte * n + f byte = omega arith in
+    omega (arith, here, once)
+sum_counted-more f byte (suc i) d (n ∷ counts) within =
+    let place : byte + 1 + i ≡ byte + suc i = omega arith in
+    let on = sum_counted-more f (byte + 1) i d counts (omega (arith, within)) in
+    omega (arith, on, ap f place)
+
+-- no byte is counted more often than all
+pub counted-le : (byte i : ℕ) (counts : List ℕ) → get_or counts i 0 ≤ sum_counted (λ b. 1) byte counts
+counted-le byte i [] = omega arith
+counted-le byte zero (n ∷ counts) = omega arith
+counted-le byte (suc i) (n ∷ counts) = omega (arith, counted-le (byte + 1) i counts)
+
+-- the counts from a byte on
+pub sum_counted-first : (f : ℕ → ℕ) (byte n : ℕ) (counts : List ℕ) → byte < length counts → n ≡ get_or counts byte 0
+    → sum_counted f byte (drop byte counts) ≡ f byte * n + sum_counted f (byte + 1) (drop (byte + 1) counts)
+sum_counted-first f byte n counts within is =
+    ap (sum_counted f byte) (drop_more counts byte 0 within)
+    ∙ ap (λ m. f byte * m + sum_counted f (byte + 1) (drop (byte + 1) counts)) (sym is)
+
+-- what one cell that a byte stands for counts
+abbrev pub one_counted : Skip → Combination → ℕ → ℕ
+one_counted skip k byte = count_of k (kept_cells skip (alone (byte_cell byte) ∷ []))
+
+pub cells-sum : (skip : Skip) (k : Combination) (bytes : List ℕ)
+    → count_of k (kept_cells skip (map alone (cells_of_bytes bytes))) ≡ sum_by (one_counted skip k) bytes
+cells-sum skip k [] = refl
+cells-sum skip k (byte ∷ bytes) =
+    count-both skip k (alone (byte_cell byte) ∷ []) (map alone (cells_of_bytes bytes))
+    ∙ ap (λ m. one_counted skip k byte + m) (cells-sum skip k bytes)
+    ∙ sym (sum_by-cons (one_counted skip k) byte bytes)
+
+pub length-sum : (bytes : List ℕ) → length bytes ≡ sum_by (λ b. 1) bytes
+length-sum [] = refl
+length-sum (byte ∷ bytes) = omega (arith, length-sum bytes, sum_by-cons (λ b. 1) byte bytes)
+
+times-cond : (b : Bool) (n : ℕ) → cond b 1 0 * n ≡ cond b n 0
+times-cond true n = omega arith
+times-cond false n = omega arith
+
+module _ (skip : Skip) (k : Combination) (byte n : ℕ) (counts : List ℕ) (within : byte < length counts)
+    (is : n ≡ get_or counts byte 0) where
+  -- the cells of a byte that are left out, or are none, add nothing
+  pub byte-left : (now all : ℕ) → is_left_out skip (alone (byte_cell byte)) ≡ true
+      → now + sum_counted (one_counted skip k) byte (drop byte counts) ≡ all
+      → now + sum_counted (one_counted skip k) (byte + 1) (drop (byte + 1) counts) ≡ all
+  byte-left now all left e =
+      let first = sum_counted-first (one_counted skip k) byte n counts within is in
+      let none : one_counted skip k byte ≡ 0 = count-stretch skip k (alone (byte_cell byte)) 1 true left in
+      let nothing : one_counted skip k byte * n ≡ 0 = ap (λ m. m * n) none ∙ omega arith in
+      omega (arith, e, first, nothing)
+
+  pub byte-none : (now all : ℕ) → n ≡ 0
+      → now + sum_counted (one_counted skip k) byte (drop byte counts) ≡ all
+      → now + sum_counted (one_counted skip k) (byte + 1) (drop (byte + 1) counts) ≡ all
+  byte-none now all zero_times e =
+      let first = sum_counted-first (one_counted skip k) byte n counts within is in
+      let nothing : one_counted skip k byte * n ≡ 0 = ap (λ m. one_counted skip k byte * m) zero_times ∙ omega arith in
+      omega (arith, e, first, nothing)
+
+  -- others add theirs
+  pub byte-more : (now new all : ℕ) → is_left_out skip (alone (byte_cell byte)) ≡ false
+      → new ≡ now + cond (is_same k (alone (byte_cell byte))) n 0
+      → now + sum_counted (one_counted skip k) byte (drop byte counts) ≡ all
+      → new + sum_counted (one_counted skip k) (byte + 1) (drop (byte + 1) counts) ≡ all
+  byte-more now new all kept grown e =
+      let first = sum_counted-first (one_counted skip k) byte n counts within is in
+      let one = count-stretch skip k (alone (byte_cell byte)) 1 false kept in
+      let same = is_same k (alone (byte_cell byte)) in
+      let all_of : one_counted skip k byte * n ≡ cond same n 0 = ap (λ m. m * n) one ∙ times-cond same n in
+      omega (arith, e, first, all_of, grown)
+
+  ones-first : sum_counted (λ b. 1) byte (drop byte counts)
+      ≡ n + sum_counted (λ b. 1) (byte + 1) (drop (byte + 1) counts)
+  ones-first = omega (arith, sum_counted-first (λ b. 1) byte n counts within is)
+
+  cond-le : (b : Bool) → cond b n 0 ≤ n
+  cond-le true = omega arith
+  cond-le false = omega arith
+
+  -- and still fit
+  pub byte-fits : (now most : ℕ) → now + sum_counted (λ b. 1) byte (drop byte counts) < most → now + n < most
+  byte-fits now most h = omega (arith, h, ones-first)
+
+  pub room-on : (now most : ℕ) → now + sum_counted (λ b. 1) byte (drop byte counts) < most
+      → now + sum_counted (λ b. 1) (byte + 1) (drop (byte + 1) counts) < most
+  room-on now most h = omega (arith, h, ones-first)
+
+  pub room-grown : (now new most : ℕ) → new ≡ now + cond (is_same k (alone (byte_cell byte))) n 0
+      → now + sum_counted (λ b. 1) byte (drop byte counts) < most
+      → new + sum_counted (λ b. 1) (byte + 1) (drop (byte + 1) counts) < most
+  room-grown now new most grown h = omega (arith, h, ones-first, grown, cond-le (is_same k (alone (byte_cell byte))))

@@ -1,0 +1,123 @@
+//! The cells of one map counted.
+
+ghost use Rattle.std.specs.Prelude.{◌≡◌, ◌+◌, ◌<◌, ◌^◌, ℕ, OnOk, length, map, sum_by};
+ghost use Rattle.cell_core_values.specs.SmallCells.{cells_of_bytes};
+ghost use Rattle.cell_core.specs.Grid.{row_at};
+ghost use Rattle.cell_core.specs.Runs.{written_out};
+ghost use Rattle.cell_stats_combinations.specs.Combinations.{Combination};
+ghost use Rattle.cell_stats_combinations.specs.LeftOut.{kept_cells};
+ghost use Rattle.cell_stats_counts.specs.Counts.{count_of};
+ghost use Rattle.cell_stats_counts.specs.parts.Alone.{alone};
+ghost use Rattle.cell_stats_counts.specs.parts.ByteCounts.{sum_counted};
+ghost use Rattle.cell_stats_counts.specs.parts.HeldPlaces.{total_of, HasRoom, IsCounting};
+
+use crate::counting::{CountPlace, add_count};
+use crate::gathered::Gathered;
+use cell_core::map::CellMap;
+use cell_core::memory::Memory;
+use cell_core::stretches::Stretches;
+use cell_core_values::small_cells::cell_of_byte;
+use cell_stats_combinations::combination::Combo;
+use cell_stats_combinations::skip::{Skip, is_left_out};
+use std::alloc::Global;
+
+// How many bytes there are.
+const BYTES: usize = 256;
+
+// Counts the cells of stretches.
+fn count_stretches(
+    alloc: Global,
+    stretches: Stretches<'_>,
+    skip: Skip,
+    spare: &mut Combo,
+    places: &mut [CountPlace],
+    counted: &mut Gathered,
+) -> Result<(), Memory>
+    requires going { IsCounting 1 spare.old places.old counted.old }
+    requires fits { HasRoom 1 places.old counted.old (length (written_out stretches)) }
+    ensures ok { OnOk result ((k : Combination)
+        → total_of 1 k places.new counted.new
+        ≡ total_of 1 k places.old counted.old
+        + count_of k (kept_cells skip (map alone (written_out stretches.entry)))) }
+    ensures going { OnOk result (IsCounting 1 spare.new places.new counted.new) }
+{
+    for (cell, count) in stretches {
+        let cells = [cell];
+        if !is_left_out(skip, &cells) {
+            add_count(alloc, &cells, u64::from(count), spare, places, counted)?;
+        }
+    }
+    Ok(())
+}
+
+// How often each byte occurs: what is summed over the bytes is summed over these counts.
+fn byte_counts(bytes: &[u8]) -> [u32; BYTES]
+    requires { length bytes.now < 2 ^ 32 }
+    ensures sums { (f : ℕ → ℕ) → sum_counted f 0 result ≡ sum_by f bytes.now }
+    ensures size { length result ≡ 256 }
+{
+    let mut counts = [0u32; BYTES];
+    for byte in bytes {
+        counts[*byte as usize] += 1;
+    }
+    counts
+}
+
+// Counts the cells that bytes stand for: those of each byte together.
+fn count_bytes(
+    alloc: Global,
+    bytes: &[u8],
+    skip: Skip,
+    spare: &mut Combo,
+    places: &mut [CountPlace],
+    counted: &mut Gathered,
+) -> Result<(), Memory>
+    requires going { IsCounting 1 spare.old places.old counted.old }
+    requires short { length bytes.now < 2 ^ 32 }
+    requires fits { HasRoom 1 places.old counted.old (length bytes.now) }
+    ensures ok { OnOk result ((k : Combination)
+        → total_of 1 k places.new counted.new
+        ≡ total_of 1 k places.old counted.old
+        + count_of k (kept_cells skip (map alone (cells_of_bytes bytes.now)))) }
+    ensures going { OnOk result (IsCounting 1 spare.new places.new counted.new) }
+{
+    let counts = byte_counts(bytes);
+    for byte in 0..BYTES {
+        let count = counts[byte];
+        let cells = [cell_of_byte(byte as u8)];
+        if count > 0 && !is_left_out(skip, &cells) {
+            add_count(alloc, &cells, u64::from(count), spare, places, counted)?;
+        }
+    }
+    Ok(())
+}
+
+// Counts the cells of a row of one map, as they are kept: those of each byte together, if the row is long enough for this to
+// be faster than one by one.
+pub(crate) fn count_alone(
+    alloc: Global,
+    grid: &CellMap,
+    row: u32,
+    skip: Skip,
+    spare: &mut Combo,
+    places: &mut [CountPlace],
+    counted: &mut Gathered,
+) -> Result<(), Memory>
+    requires row_in_range { row < grid.now.region.rows }
+    requires short { grid.now.region.cols < 2 ^ 32 }
+    requires going { IsCounting 1 spare.old places.old counted.old }
+    requires fits { HasRoom 1 places.old counted.old grid.now.region.cols }
+    ensures ok { OnOk result ((k : Combination)
+        → total_of 1 k places.new counted.new
+        ≡ total_of 1 k places.old counted.old
+        + count_of k (kept_cells skip (map alone (row_at grid.now row)))) }
+    ensures going { OnOk result (IsCounting 1 spare.new places.new counted.new) }
+    ensures width { length (row_at grid.now row) ≡ grid.now.region.cols }
+{
+    if let Some(bytes) = grid.bytes(row) {
+        if bytes.len() >= BYTES {
+            return count_bytes(alloc, bytes, skip, spare, places, counted);
+        }
+    }
+    count_stretches(alloc, grid.stretches(row), skip, spare, places, counted)
+}

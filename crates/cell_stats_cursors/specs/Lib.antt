@@ -1,0 +1,2 @@
+-- Walks along the rows of several maps together.
+pub mod Cursors
