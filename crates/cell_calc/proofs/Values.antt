@@ -119,7 +119,7 @@ same_step windows maps s (step.Map i down right) reach xs =
 same_step windows maps s _ reach xs = refl
 
 -- steps that make the same of operands
-after_same : {X : Type 0} (g h : Step ℕ → List X → X) (steps : List (Step ℕ)) → All (λ s. (xs : List X) → g s xs ≡ h s xs) steps
+pub after_same : {X : Type 0} (g h : Step ℕ → List X → X) (steps : List (Step ℕ)) → All (λ s. (xs : List X) → g s xs ≡ h s xs) steps
     → (xs : List X) → values_after g steps xs ≡ values_after h steps xs
 after_same g h [] all xs = refl
 after_same {X} g h (s ∷ steps) all xs =

@@ -2,3 +2,4 @@
 pub mod WindowRows
 pub mod Operands
 pub mod WindowsOver
+pub mod Stretches

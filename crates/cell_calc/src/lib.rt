@@ -4,6 +4,7 @@
 mod along;
 mod operand;
 pub mod rows_of_values;
+mod stretches;
 mod strip;
 pub mod window;
 mod window_rows;

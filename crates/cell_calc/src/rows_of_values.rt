@@ -9,8 +9,10 @@ ghost use Rattle.cell_calc_binding.specs.Reach.{top_of, up_of, down_of};
 ghost use Rattle.cell_calc_binding.specs.Value.{value};
 ghost use Rattle.cell_calc.specs.Window.{IsOver, HasReach};
 ghost use Rattle.cell_calc.specs.parts.Operands.{IsReadyStep, seen_cell};
+ghost use Rattle.cell_calc.specs.parts.Stretches.{IsInPlace, AreStretches, IsLikeStart};
 
 use crate::along::along;
+use crate::stretches::{few_stretches, short_windows, spread};
 use crate::strip::{Spare, Strip};
 use crate::window::RowWindow;
 use cell_calc_binding::bound::Bound;
@@ -23,22 +25,24 @@ use std::alloc::Global;
 // The columns whose values are worked out at a time, so that the rows that a value needs stay near.
 const STRIP: usize = 1024;
 
-// The values of an expression along a row, strip by strip.
-fn along_row(
+// The values of an expression along the first columns of a row, strip by strip.
+fn along_columns(
     alloc: Global,
     steps: &[Step<usize>],
     region: Region,
     row: u32,
+    cols: usize,
     windows: &[RowWindow],
 ) -> Result<Vec<Cell>, Memory>
     requires row { row < region.rows }
+    requires cols { cols ≤ region.cols }
     requires ready { All (IsReadyStep windows.now) steps.now }
     requires enough { AreEnough steps.now 0 }
-    ensures width { IfOk result (λ cells. length cells.items ≡ region.cols) }
-    ensures each { IfOk result (λ cells. (c : ℕ) → c < region.cols
+    ensures width { IfOk result (λ cells. length cells.items ≡ cols) }
+    ensures each { IfOk result (λ cells. (c : ℕ) → c < cols
         → at cells.items c ∷ [] ≡ values_after (seen_cell windows.now (spot region row c)) steps.now []) }
 {
-    let cols = region.cols() as usize;
+    let _all = region.cols();
     let mut cells = Vec::with_capacity(alloc, cols)?;
     let mut operands = Vec::new(alloc);
     let mut spare = Spare {
@@ -60,6 +64,59 @@ fn along_row(
         from += width;
     }
     Ok(cells)
+}
+
+// A value for each stretch of a row: that of each column which has the cells where the stretch begins.
+fn along_stretches(
+    alloc: Global,
+    steps: &[Step<usize>],
+    region: Region,
+    row: u32,
+    windows: &[RowWindow],
+    widths: &[u32],
+) -> Result<Vec<Cell>, Memory>
+    requires row { row < region.rows }
+    requires in_place { All IsInPlace steps.now }
+    requires ready { All (IsReadyStep windows.now) steps.now }
+    requires enough { AreEnough steps.now 0 }
+    requires stretches { AreStretches region.cols windows.now widths.now }
+    ensures count { IfOk result (λ values. length values.items ≡ length widths.now) }
+    ensures each { IfOk result (λ values. (k c : ℕ) → k < length widths.now
+        → IsLikeStart widths.now windows.now k c → at values.items k ∷ []
+        ≡ values_after (seen_cell windows.now (spot region row c)) steps.now []) }
+{
+    let _all = region.cols();
+    let short = short_windows(alloc, windows, widths)?;
+    let values = along_columns(alloc, steps, region, row, widths.len(), short.as_slice())?;
+    Ok(values)
+}
+
+// Writes the values of an expression along a row: one for each stretch where these are few, else one for each column.
+fn write_row(
+    alloc: Global,
+    steps: &[Step<usize>],
+    region: Region,
+    row: u32,
+    windows: &[RowWindow],
+    cells: &mut [Cell],
+) -> Result<(), Memory>
+    requires row { row < region.rows }
+    requires width { length cells.old ≡ region.cols }
+    requires ready { All (IsReadyStep windows.now) steps.now }
+    requires enough { AreEnough steps.now 0 }
+    ensures each { OnOk result ((c : ℕ) → c < region.cols
+        → at cells.new c ∷ [] ≡ values_after (seen_cell windows.now (spot region row c)) steps.now []) }
+    ensures err { OnErr result (cells.new ≡ cells.old) }
+{
+    let cols = region.cols() as usize;
+    if let Some(widths) = few_stretches(alloc, steps, windows, cols)? {
+        let values = along_stretches(alloc, steps, region, row, windows, widths.as_slice())?;
+        spread(values.as_slice(), widths.as_slice(), cells);
+        return Ok(());
+    }
+    let values = along_columns(alloc, steps, region, row, cols, windows)?;
+    cells.copy_from_slice(values.as_slice());
+    Ok(())
 }
 
 /// Writes the values of an expression along a row into a slice, from windows that stand at the row.
@@ -85,7 +142,6 @@ pub fn eval_row(
         → slice_index_or cells.new c None ≡ value bound.now maps (spot region.now row c)) }
     ensures err { OnErr result (cells.new ≡ cells.old) }
 {
-    let values = along_row(alloc, bound.steps(), *region, row, windows)?;
-    cells.copy_from_slice(values.as_slice());
+    write_row(alloc, bound.steps(), *region, row, windows, cells)?;
     Ok(())
 }

@@ -4,6 +4,7 @@ ghost use Rattle.std.specs.Prelude.{◌≡◌, ◌≤◌, ◌<◌, ◌+◌, ◌+
 ghost use Rattle.cell_core.specs.Grid.{Grid};
 ghost use Rattle.cell_calc_operators.specs.Offsets.{row_of, cell_at_offset, item_at};
 ghost use Rattle.cell_calc.specs.Window.{IsWindowOf, Reaches};
+ghost use Rattle.cell_calc.specs.parts.Stretches.{centre_row};
 ghost use Rattle.cell_calc.specs.parts.WindowsOver.{row_below};
 
 use crate::window_rows::WindowRows;
@@ -108,6 +109,28 @@ impl RowWindow {
             → result ≡ cell_at_offset m (pos self.now.centre +ℤ dr) c }
     {
         cell_at(self.row(dr), c)
+    }
+
+    // A window that stands at these cells, and reaches no other row.
+    pub(crate) fn of_row(alloc: Global, cells: Vec<Cell>) -> Result<RowWindow, Memory>
+        requires { length cells.items ≤ 65535 }
+        ensures { IfOk result (λ w. centre_row w ≡ cells.items) }
+    {
+        let held = WindowRows::of_row(alloc, cells)?;
+        Ok(RowWindow {
+            above: 0,
+            below: 0,
+            centre: 0,
+            rows: 1,
+            held,
+        })
+    }
+
+    // The cells of the row that it stands at.
+    pub(crate) fn centre_row(&self) -> &[Cell]
+        ensures { result.now ≡ centre_row self.now }
+    {
+        self.row(0)
     }
 
     // The cells of the row so many below the centre, none outside the map.

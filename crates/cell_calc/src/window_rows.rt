@@ -57,6 +57,23 @@ impl WindowRows {
         })
     }
 
+    /// One row, and none that waits.
+    pub(crate) fn of_row(alloc: Global, row: Vec<Cell>) -> Result<WindowRows, Memory>
+        requires { length row.items ≤ 65535 }
+        ensures rows { IfOk result (λ h. h.rows ≡ row.items ∷ []) }
+        ensures free { IfOk result (λ h. h.free ≡ 0) }
+    {
+        let cols = row.len() as u32;
+        let mut rows = HeapCircularBuffer::with_capacity(alloc, 1)?;
+        let waiting = HeapCircularBuffer::with_capacity(alloc, 1)?;
+        put_row_last(&mut rows, row);
+        Ok(WindowRows {
+            cols,
+            rows,
+            waiting,
+        })
+    }
+
     /// The row at a place, none past the last.
     pub(crate) fn row(&self, i: usize) -> &[Cell]
         ensures { result.now ≡ slice_index_or self.now.rows i [] }

@@ -3,7 +3,7 @@ use Rattle.cell_calc_operators.specs.Applied.{spot}
 use Rattle.cell_calc.specs.parts.Operands.{seen_cell}
 use Rattle.cell_calc_steps.specs.Postfix.{values_after}
 use Rattle.cell_calc_rows.specs.RowValues.{at}
-use Rattle.cell_calc.proofs.rows_of_values.along_row.Given as goal
+use Rattle.cell_calc.proofs.rows_of_values.along_columns.Given as goal
 
 abbrev pub invariant-strips : goal.invariant-strips
 invariant-strips l =

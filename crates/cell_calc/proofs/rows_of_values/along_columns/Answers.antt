@@ -8,7 +8,7 @@ use Rattle.cell_calc_operators.specs.Applied.{spot}
 use Rattle.cell_calc_steps.specs.Postfix.{values_after}
 use Rattle.cell_calc_rows.specs.RowValues.{at}
 use Rattle.cell_calc.specs.parts.Operands.{seen_cell}
-use Rattle.cell_calc.proofs.rows_of_values.along_row.Goals as goal
+use Rattle.cell_calc.proofs.rows_of_values.along_columns.Goals as goal
 
 -- a strip lies within the row, and the next one begins further on
 within : (from width cols : ℕ) → from ≤ cols → width ≡ min 1024 (cols - from) → from + width ≤ cols
@@ -17,12 +17,15 @@ within from width cols le is = omega arith
 further : (from width cols : ℕ) → from < cols → width ≡ min 1024 (cols - from) → cols - (from + width) < cols - from
 further from width cols lt is = omega arith
 
--- at the end, the row is as wide as the region
-ended : (n from cols all : ℕ) → n ≡ from → from ≤ cols → cols ≤ from → cols ≡ all → n ≡ all
-ended n from cols all width within over same = omega arith
+-- at the end, the row has as many columns as were asked for
+ended : (n from cols : ℕ) → n ≡ from → from ≤ cols → cols ≤ from → n ≡ cols
+ended n from cols width within over = omega arith
 
-before_end : (k from cols all : ℕ) → cols ≤ from → cols ≡ all → k < all → k < from
-before_end k from cols all over same lt = omega arith
+before_end : (k from cols : ℕ) → cols ≤ from → k < cols → k < from
+before_end k from cols over lt = omega arith
+
+no_further : (n cols all : ℕ) → n ≤ cols → cols ≤ all → n ≤ all
+no_further n cols all le most = omega arith
 
 none_below : (k : ℕ) → k < 0 → ⊥
 none_below k lt = omega arith
@@ -57,7 +60,7 @@ returns-in_err-cells c =
 
 pub strips-init : goal.strips-init
 strips-init c = record {
-  within = least c.cols-cols.result;
+  within = least c.args.cols;
   width = ap (λ l. length l) c.in_ok-cells.ensures.items;
   done = λ k h. absurd (none_below k h);
 }
@@ -70,11 +73,11 @@ along-requires c = record {
   strip =
       let from = c.strips.from in
       let width = c.min-width.result in
-      let inside = within from width c.cols-cols.result c.strips.invariant.within c.min-width.ensures in
+      let inside = within from width c.args.cols c.strips.invariant.within c.min-width.ensures in
       record {
         row = c.requires.row;
-        columns = subst (λ n. from + width ≤ n) c.cols-cols.ensures.value inside;
-        most = c.cols-cols.ensures.region.cols_most;
+        columns = no_further (from + width) c.args.cols _ inside c.requires.cols;
+        most = c.cols-all.ensures.region.cols_most;
       };
   ready = c.requires.ready;
   enough = c.requires.enough;
@@ -100,7 +103,7 @@ returns-in_err-push c =
 
 pub strips-smaller : goal.strips-smaller
 strips-smaller c =
-    further c.strips.from c.min-width.result c.cols-cols.result c.strips-test.true c.min-width.ensures
+    further c.strips.from c.min-width.result c.args.cols c.strips-test.true c.min-width.ensures
 
 pub strips-preserved : goal.strips-preserved
 strips-preserved c =
@@ -113,7 +116,7 @@ strips-preserved c =
     let values = c.in_ok-values in
     let same = c.as_slice.ensures.value in
     record {
-      within = within from width c.cols-cols.result so_far.within c.min-width.ensures;
+      within = within from width c.args.cols so_far.within c.min-width.ensures;
       width = longer old c.as_slice.result.now values.values.items new from width is same so_far.width
           values.ensures.width;
       done = λ k h.
@@ -126,9 +129,7 @@ strips-preserved c =
 
 pub returns-clause-width : goal.returns-clause-width
 returns-clause-width c =
-    ended _ c.strips.from c.cols-cols.result _ c.strips.invariant.width c.strips.invariant.within c.strips-test.false
-    c.cols-cols.ensures.value
+    ended _ c.strips.from c.args.cols c.strips.invariant.width c.strips.invariant.within c.strips-test.false
 
 pub returns-clause-each : goal.returns-clause-each
-returns-clause-each c = λ k h. c.strips.invariant.done k
-    (before_end k c.strips.from c.cols-cols.result _ c.strips-test.false c.cols-cols.ensures.value h)
+returns-clause-each c = λ k h. c.strips.invariant.done k (before_end k c.strips.from c.args.cols c.strips-test.false h)

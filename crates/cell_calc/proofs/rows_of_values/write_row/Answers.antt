@@ -1,0 +1,17 @@
+use Rattle.std.proofs.Common.{◌<◌, ◌∷◌, [], ap, ◌∙◌, arith}
+use Rattle.cell_calc_rows.specs.RowValues.{at}
+use Rattle.cell_calc.specs.parts.Stretches.{total, owner}
+use Rattle.cell_calc.proofs.StretchValues.{spread-at, owner-within, like_start}
+use Rattle.cell_calc.proofs.rows_of_values.write_row.Goals as goal
+
+pub returns-in-Some-clause-each : goal.returns-in-Some-clause-each
+returns-in-Some-clause-each c = λ k lt.
+    let widths = c.in-Some.widths.items in
+    let values = c.in_ok-values.values.items in
+    let stretches = rw c.in-Some.is at c.in_ok-widths.ensures.stretches in
+    let below : k < total widths = omega (arith, stretches.all, c.cols-cols.ensures.value, lt) in
+    let count = rw c.as_slice.ensures.value at c.in_ok-values.ensures.count in
+    let each = rw c.as_slice.ensures.value at c.in_ok-values.ensures.each in
+    let spread_out = rw (c.as_slice-in-Some.ensures.value, c.as_slice-in-Some-2.ensures.value) at c.spread.ensures in
+    ap (λ l. at l k ∷ []) spread_out ∙ ap (λ v. v ∷ []) (spread-at values widths k count below)
+    ∙ each (owner widths k) k (owner-within widths k below) (like_start c.args.windows.now widths k stretches.go below)
