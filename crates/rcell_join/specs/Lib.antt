@@ -1,2 +1,6 @@
 -- What the program tells where nothing, or not all, was joined.
 pub mod FaultLines
+pub mod KindStatuses
+pub mod TablesFaultLine
+pub mod EdgesFaultLine
+pub mod SizesFaultLine

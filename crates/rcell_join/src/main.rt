@@ -1,24 +1,34 @@
-//! The program `rcell-join`: joins what parts of maps gave, `rcell-join tables [separator=S] [null_value=N] FILE...`.
+//! The program `rcell-join`: joins what parts of maps gave, by `rcell-join tables`, `edges` or `sizes`.
 #![tactic(auto)]
 
+mod edges_fault_line;
 mod fault_line;
+mod kind_status;
+mod sizes_fault_line;
+mod tables_fault_line;
 
-use crate::fault_line::{fault_line, refusal_line, status_of};
+use crate::edges_fault_line::{edges_fault_line, edges_status};
+use crate::fault_line::{FaultLine, refusal_line};
+use crate::sizes_fault_line::{sizes_fault_line, sizes_status};
+use crate::tables_fault_line::{tables_fault_line, tables_status};
 use cell_core::sink::WriteSink;
-use cell_tiles_texts::text_joining::{JoinOutcome, join_texts};
+use cell_tiles_edges::band_edges::write_edges;
+use cell_tiles_sizes::table_sizes::join_table_sizes;
+use cell_tiles_texts::text_joining::join_texts;
 use rcell_join_request::command_words::read_words;
-use rcell_join_request::opening::open_files;
-use rcell_join_request::refusal::Refusal;
-use std::env;
+use rcell_join_request::opening::{open_file, open_files};
+use rcell_join_request::refusal::{Refusal, Usage};
+use rcell_join_request::request::{Request, TableFormat};
 use std::io::{self, ErrorKind};
 use std::process::ExitCode;
 use std::rt::{Env, Files};
+use std::{env, fmt};
 
 // The words that the program was given, its own name first.
 fn words_given<R: Env + AllocGlobal>(rt: &R) -> Result<Vec<String>, Refusal> {
     let given = env::args(rt).map_err(|fault| match fault.kind() {
         ErrorKind::OutOfMemory => Refusal::Memory,
-        _ => Refusal::Usage,
+        _ => Refusal::Usage(Usage::AnyCommand),
     })?;
     given.collect(rt.alloc()).map_err(|_| Refusal::Memory)
 }
@@ -30,11 +40,69 @@ fn tell<R: Eprint>(rt: &R, refusal: Refusal, paths: &[&str]) -> u8 {
     refusal.status()
 }
 
-// Reports the fault of a join on standard error, if there is one.
-fn report<R: Eprint>(rt: &R, outcome: JoinOutcome, paths: &[&str]) {
-    if let Some(line) = fault_line(outcome, paths) {
+// Reports a fault on standard error, if there is one.
+fn report<R: Eprint, T: fmt::Display + Drop>(rt: &R, told: Option<FaultLine<'_, T>>) {
+    if let Some(line) = told {
         let _ = eprintln!(rt; "{line}");
     }
+}
+
+// Joins tables of parts to the table of the whole.
+fn join_tables<R: Files + Print + Eprint + AllocGlobal>(
+    rt: &R,
+    format: &TableFormat,
+    paths: &[&str],
+) -> u8 {
+    let sources = match open_files(rt, paths) {
+        Ok(sources) => sources,
+        Err(refusal) => return tell(rt, refusal, paths),
+    };
+    let mut output = WriteSink::new(io::writer(rt));
+    let outcome = join_texts(rt.alloc(), &format.lent(), sources, &mut output);
+    let status = tables_status(&outcome.fault);
+    report(rt, tables_fault_line(outcome, paths));
+    status
+}
+
+// Writes the edges of a band.
+fn write_band_edges<R: Files + Print + Eprint + AllocGlobal>(
+    rt: &R,
+    map: &str,
+    numbers: &str,
+) -> u8 {
+    let map_source = match open_file(rt, map, 0) {
+        Ok(source) => source,
+        Err(refusal) => return tell(rt, refusal, &[map]),
+    };
+    let number_source = match open_file(rt, numbers, 0) {
+        Ok(source) => source,
+        Err(refusal) => return tell(rt, refusal, &[numbers]),
+    };
+    let mut output = WriteSink::new(io::writer(rt));
+    let outcome = write_edges(rt.alloc(), map_source, number_source, &mut output);
+    report(rt, edges_fault_line(outcome, map, numbers));
+    edges_status(outcome.fault)
+}
+
+// Adds up the sizes of the areas of bands.
+fn add_sizes<R: Files + Print + Eprint + AllocGlobal>(
+    rt: &R,
+    format: &TableFormat,
+    joined: &str,
+    tables: &[&str],
+) -> u8 {
+    let areas = match open_file(rt, joined, 0) {
+        Ok(source) => source,
+        Err(refusal) => return tell(rt, refusal, &[joined]),
+    };
+    let sources = match open_files(rt, tables) {
+        Ok(sources) => sources,
+        Err(refusal) => return tell(rt, refusal, tables),
+    };
+    let mut output = WriteSink::new(io::writer(rt));
+    let outcome = join_table_sizes(rt.alloc(), &format.lent(), areas, sources, &mut output);
+    report(rt, sizes_fault_line(outcome, joined, tables));
+    sizes_status(outcome.fault)
 }
 
 // Does what the words ask for, and returns the exit status.
@@ -47,15 +115,16 @@ fn work<R: Env + Files + Print + Eprint + AllocGlobal>(rt: &R) -> u8 {
         Ok(request) => request,
         Err(refusal) => return tell(rt, refusal, &[]),
     };
-    let sources = match open_files(rt, &request.paths) {
-        Ok(sources) => sources,
-        Err(refusal) => return tell(rt, refusal, &request.paths),
-    };
-    let mut output = WriteSink::new(io::writer(rt));
-    let outcome = join_texts(rt.alloc(), &request.format(), sources, &mut output);
-    let status = status_of(&outcome.fault);
-    report(rt, outcome, &request.paths);
-    status
+    match request {
+        Request::Tables { format, tables } => join_tables(rt, &format, &tables),
+        Request::Edges { map, numbers } => write_band_edges(rt, map, numbers),
+        Request::Areas { .. } => tell(rt, Refusal::Usage(Usage::Areas), &[]),
+        Request::Sizes {
+            format,
+            joined,
+            tables,
+        } => add_sizes(rt, &format, joined, &tables),
+    }
 }
 
 fn main(rt: HostRuntime) -> ExitCode {

@@ -1,3 +1,4 @@
 -- What several proofs share.
+pub mod CommandLemmas
 pub mod ParseLemmas
 pub mod WordLemmas

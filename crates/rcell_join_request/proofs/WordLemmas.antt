@@ -1,9 +1,11 @@
--- Words that are kept one after another.
+-- Words that are kept one after another, and words of which one is as asked.
 use Rattle.std.proofs.Common.{Bor, ◌≡◌, ◌∙◌, ◌+◌, ◌<◌, ◌∷◌, ◌++◌, [], ℕ, Bool, List, true, false, length, map, take, cond, ap, sym, refl}
-use Rattle.std.specs.List.{filter, slice_index_or}
+use Rattle.std.specs.List.{filter, list_any, slice_index_or}
 use Rattle.std.proofs.lemmas.List.{append-nil, map-append, take_more}
 use Rattle.std.proofs.lemmas.List.Elements.{filter-append}
+use Rattle.clap.proofs.WalkLemmas.{list_any-map}
 use Rattle.clap.specs.Walk.{Text, texts}
+use Rattle.rcell_join_request.specs.CommandLine.{begins_with_hyphen, is_corners_flag}
 
 module _ (p : Text → Bool) (words : List (Bor Text)) (i : ℕ) (word : Bor Text) (bytes : Text)
     (within : i < length words) (same : bytes ≡ (slice_index_or words i word).now) where
@@ -22,3 +24,12 @@ module _ (p : Text → Bool) (words : List (Bor Text)) (i : ℕ) (word : Bor Tex
   pub left-more : p bytes ≡ false → filter p (texts (take (i + 1) words)) ≡ filter p (texts (take i words))
   left-more is_left = one-more ∙ ap (λ t. filter p (texts (take i words)) ++ cond t (bytes ∷ []) []) is_left
       ∙ append-nil (filter p (texts (take i words)))
+
+-- the words that are lent, and their bytes
+pub hyphens_of_texts : (words : List (Bor Text)) → list_any (λ word. begins_with_hyphen word.now) words
+    ≡ list_any begins_with_hyphen (texts words)
+hyphens_of_texts words = list_any-map begins_with_hyphen (λ (w : Bor Text). w.now) words
+
+pub flags_of_texts : (words : List (Bor Text)) → list_any (λ word. is_corners_flag word.now) words
+    ≡ list_any is_corners_flag (texts words)
+flags_of_texts words = list_any-map is_corners_flag (λ (w : Bor Text). w.now) words

@@ -1,7 +1,10 @@
--- What the words of a command line ask for: rcell-join tables [separator=S] [null_value=N] FILE... (profile).
-use Rattle.std.specs.Prelude.{ℕ, Bool, not, List, [], ◌∷◌, ◌==◌, ◌||◌, false, true, length, nat_lt, Result, Ok, Err, is_some, unwrap_or, if◌then◌else◌, bytes_eq, codes}
+-- What the words of a command line ask for: rcell-join tables, edges, areas or sizes, and what stands behind it (profile).
+use Rattle.std.specs.Prelude.{ℕ, Bool, not, List, [], ◌∷◌, ◌==◌, ◌||◌, false, true, map, Result, Ok, Err, is_some, unwrap_or, if◌then◌else◌, bytes_eq, codes}
 use Rattle.std.specs.List.{filter, list_any}
 use Rattle.cell_ascii_meaning.specs.Header.{usual_null}
+use Rattle.cell_cats_areas.specs.declared.clump.Joining.{Joining}
+use Rattle.cell_cats_areas.specs.declared.clump.Joining.TheVariants as joinings
+use Rattle.cell_core_text.specs.Answers.{◌>>=◌}
 use Rattle.cell_core_values.specs.Letters.{byte}
 use Rattle.cell_stats.specs.TableText.{FormatValue}
 use Rattle.cell_tiles_lines.specs.ClearFormats.{is_clear}
@@ -11,15 +14,32 @@ use Rattle.rcell_script_options.specs.declared.option_fault.OptionFault.{OptionF
 use Rattle.rcell_script_options.specs.declared.options.Form.TheVariants.{Stats}
 use Rattle.rcell_join_request.specs.declared.refusal.Refusal.{Refusal}
 use Rattle.rcell_join_request.specs.declared.refusal.Refusal.TheVariants.{Usage, BadOption}
+use Rattle.rcell_join_request.specs.declared.refusal.Usage.TheVariants as usages
+use Rattle.rcell_join_request.specs.declared.request.Request.{Request}
+use Rattle.rcell_join_request.specs.declared.request.Request.TheVariants as requests
+
+-- what is asked for, with the paths of the texts that are read
+pub data RequestValue : Type 0 where
+  Tables : (format : FormatValue) → (tables : List (List ℕ)) → RequestValue
+  Edges : (map numbers : List ℕ) → RequestValue
+  Areas : (joining : Joining) → (bands : List (List ℕ)) → RequestValue
+  Sizes : (format : FormatValue) → (joined : List ℕ) → (tables : List (List ℕ)) → RequestValue
+
+-- what a request asks for
+abbrev pub request_value : Request → RequestValue
+request_value (requests.Tables format tables) = Tables format (map (λ path. path.now) tables.items)
+request_value (requests.Edges cells numbers) = Edges cells.now numbers.now
+request_value (requests.Areas joining bands) = Areas joining (map (λ path. path.now) bands.items)
+request_value (requests.Sizes format joined tables) = Sizes format joined.now (map (λ path. path.now) tables.items)
 
 -- a word that begins with a hyphen
 abbrev pub begins_with_hyphen : List ℕ → Bool
 begins_with_hyphen [] = false
 begins_with_hyphen (b ∷ rest) = b == byte (codes "-")
 
--- one of the words begins with a hyphen, or they are fewer than two, a command and a word
-abbrev pub is_misuse : List (List ℕ) → Bool
-is_misuse words = list_any begins_with_hyphen words || nat_lt (length words) 2
+-- one of the words begins with a hyphen
+abbrev pub has_hyphen_word : List (List ℕ) → Bool
+has_hyphen_word words = list_any begins_with_hyphen words
 
 -- a word that gives the separator or the null text
 abbrev pub is_option : List ℕ → Bool
@@ -32,34 +52,80 @@ options_in words = filter is_option words
 abbrev pub paths_in : List (List ℕ) → List (List ℕ)
 paths_in words = filter (λ word. not (is_option word)) words
 
--- what is asked for: the byte between two fields, the text of null, and the path of each text
-pub record AskedTables : Type 0 where
-  pub separator : ℕ
-  pub null_text : List ℕ
-  pub paths : List (List ℕ)
+-- how tables are printed: with counts and without labels, and else as those of r.stats
+abbrev pub format_given : Given → FormatValue
+format_given given = record { separator = unwrap_or given.separator (byte (codes " ")); null_text = unwrap_or given.table_null_text usual_null; labels = false; counts = true }
 
--- how tables are printed: with counts and without labels
-abbrev pub format_of : AskedTables → FormatValue
-format_of asked = record { separator = asked.separator; null_text = asked.null_text; labels = false; counts = true }
+-- a format by which fields can be told apart
+abbrev pub if_clear : FormatValue → Result FormatValue Refusal
+if_clear format = if is_clear format then Ok format else Err BadOption
 
--- what is asked for, where fields can be told apart
-abbrev pub if_clear : AskedTables → Result AskedTables Refusal
-if_clear asked = if is_clear (format_of asked) then Ok asked else Err BadOption
+-- the format that options give
+abbrev pub format_of : Result Given OptionFault → Result FormatValue Refusal
+format_of (Err fault) = Err BadOption
+format_of (Ok given) = if_clear (format_given given)
 
--- paths, with options that are read as those of r.stats: a separator and a null text like its own
-abbrev pub with_options : List (List ℕ) → Result Given OptionFault → Result AskedTables Refusal
-with_options paths (Err fault) = Err BadOption
-with_options paths (Ok given) = if_clear (record { separator = unwrap_or given.separator (byte (codes " ")); null_text = unwrap_or given.table_null_text usual_null; paths = paths })
+abbrev pub format_in : List (List ℕ) → Result FormatValue Refusal
+format_in words = format_of (options_of Stats (options_in words))
 
--- what words behind `tables` ask for: a path or more
-abbrev pub asked_tables : List (List ℕ) → Result AskedTables Refusal
-asked_tables words = if nat_lt 0 (length (paths_in words)) then with_options (paths_in words) (options_of Stats (options_in words)) else Err Usage
+-- one table or more
+abbrev pub asked_of_tables : List (List ℕ) → Result FormatValue Refusal → Result RequestValue Refusal
+asked_of_tables [] reading = Err (Usage usages.Tables)
+asked_of_tables (table ∷ tables) reading = reading >>= λ format. Ok (Tables format (table ∷ tables))
+
+-- what words behind `tables` ask for
+abbrev pub asked_tables : List (List ℕ) → Result RequestValue Refusal
+asked_tables words = if has_hyphen_word words then Err (Usage usages.Tables) else asked_of_tables (paths_in words) (format_in words)
+
+-- a map and its numbers
+abbrev pub asked_of_edges : List (List ℕ) → Result RequestValue Refusal
+asked_of_edges (cells ∷ numbers ∷ []) = Ok (Edges cells numbers)
+asked_of_edges words = Err (Usage usages.Edges)
+
+-- what words behind `edges` ask for
+abbrev pub asked_edges : List (List ℕ) → Result RequestValue Refusal
+asked_edges words = if has_hyphen_word words then Err (Usage usages.Edges) else asked_of_edges words
+
+-- the flag by which areas join at corners too
+abbrev pub is_corners_flag : List ℕ → Bool
+is_corners_flag word = bytes_eq word (codes "-d")
+
+-- which cells are adjacent: by edges, or where the flag is given by edges and corners
+abbrev pub joining_in : List (List ℕ) → Joining
+joining_in words = if list_any is_corners_flag words then joinings.EdgesAndCorners else joinings.Edges
+
+-- the other words, which are paths
+abbrev pub bands_in : List (List ℕ) → List (List ℕ)
+bands_in words = filter (λ word. not (is_corners_flag word)) words
+
+-- the edges of one band or more
+abbrev pub asked_of_areas : Joining → List (List ℕ) → Result RequestValue Refusal
+asked_of_areas joining [] = Err (Usage usages.Areas)
+asked_of_areas joining (band ∷ bands) = Ok (Areas joining (band ∷ bands))
+
+-- what words behind `areas` ask for
+abbrev pub asked_areas : List (List ℕ) → Result RequestValue Refusal
+asked_areas words = if has_hyphen_word (bands_in words) then Err (Usage usages.Areas) else asked_of_areas (joining_in words) (bands_in words)
+
+-- an areas text, and one table or more
+abbrev pub asked_of_sizes : List (List ℕ) → Result FormatValue Refusal → Result RequestValue Refusal
+asked_of_sizes (joined ∷ table ∷ tables) reading = reading >>= λ format. Ok (Sizes format joined (table ∷ tables))
+asked_of_sizes words reading = Err (Usage usages.Sizes)
+
+-- what words behind `sizes` ask for
+abbrev pub asked_sizes : List (List ℕ) → Result RequestValue Refusal
+asked_sizes words = if has_hyphen_word words then Err (Usage usages.Sizes) else asked_of_sizes (paths_in words) (format_in words)
 
 -- what a command and the words behind it ask for
-abbrev pub command_of : List (List ℕ) → Result AskedTables Refusal
-command_of [] = Err Usage
-command_of (command ∷ words) = if bytes_eq command (codes "tables") then asked_tables words else Err Usage
+abbrev pub command_of : List ℕ → List (List ℕ) → Result RequestValue Refusal
+command_of command words =
+    if bytes_eq command (codes "tables") then asked_tables words
+    else (if bytes_eq command (codes "edges") then asked_edges words
+    else (if bytes_eq command (codes "areas") then asked_areas words
+    else (if bytes_eq command (codes "sizes") then asked_sizes words
+    else Err (Usage usages.AnyCommand))))
 
 -- what the words that follow the program's own name ask for
-abbrev pub asked_of : List (List ℕ) → Result AskedTables Refusal
-asked_of words = if is_misuse words then Err Usage else command_of words
+abbrev pub asked_of : List (List ℕ) → Result RequestValue Refusal
+asked_of [] = Err (Usage usages.AnyCommand)
+asked_of (command ∷ words) = command_of command words

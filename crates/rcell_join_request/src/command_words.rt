@@ -1,54 +1,33 @@
 //! The words of the command line.
 
-ghost use Rattle.std.specs.Prelude.{◌≡◌, ◌≢◌, false, true, IfErr, IfOk, Ok, Err, drop, filter, map, not};
+ghost use Rattle.std.specs.Prelude.{◌≡◌, ◌≢◌, false, true, IfErr, IfOk, drop, map, not};
 ghost use Rattle.std.specs.List.{list_any};
 ghost use Rattle.std.specs.String.{string_bytes};
 ghost use Rattle.clap.specs.Words.{app_of};
 ghost use Rattle.clap.specs.Walk.{texts};
 ghost use Rattle.cell_core_text.specs.Answers.{Answers};
-ghost use Rattle.rcell_join_request.specs.CommandLine.{asked_of, begins_with_hyphen, format_of, is_misuse, is_option, options_in, paths_in, asked_tables};
-ghost use Rattle.rcell_join_request.specs.parts.ClapWords.{FindsAll, command_line};
+ghost use Rattle.rcell_join_request.specs.CommandLine.{asked_areas, request_value, asked_edges, asked_of, asked_sizes, asked_tables, bands_in, begins_with_hyphen, command_of, format_in, is_corners_flag, is_option, joining_in, options_in, paths_in};
+ghost use Rattle.rcell_join_request.specs.parts.ClapWords.{FindsAll, command_line, has_no_command};
 
-use crate::refusal::Refusal;
+use crate::refusal::{Refusal, Usage};
+use crate::request::{Request, TableFormat};
+use cell_cats_areas::clump::Joining;
 use cell_core_text::words::pair_of;
-use cell_stats::format::Format;
 use cell_tiles_lines::clear_formats::is_clear;
 use clap::error::ErrorKind;
 use clap::{Arg, ArgAction, ArgMatches, Command};
-use rcell_script_options::null_text::TableNullText;
 use rcell_script_options::option_fault::OptionFault;
 use rcell_script_options::options::{Form, options_of};
 use std::alloc::{AllocError, Global};
-use std::marker::Model;
-
-/// What the words ask for: the texts of these paths, whose fields stand between separators, and where null is this text.
-#[derive(Drop)]
-pub struct Request<'a> {
-    /// The byte between two fields.
-    pub separator: u8,
-    /// The text of null.
-    pub null_text: TableNullText,
-    /// The path of each text, in order.
-    pub paths: Vec<&'a str>,
-}
-
-impl<'a> Model for Request<'a> {
-    ghost use Rattle.std.specs.Prelude.{map};
-    ghost use Rattle.rcell_join_request.specs.CommandLine.{AskedTables};
-
-    ghost Value = { AskedTables };
-
-    ghost view = { λ r. record { separator = r.separator; null_text = r.null_text; paths = map (λ path. path.now) r.paths.items } };
-}
 
 // The refusal for a fault of clap.
 fn of_clap(kind: ErrorKind) -> Refusal
     ensures memory { kind ≡ ErrorKind.OutOfMemory → result ≡ Refusal.Memory }
-    ensures usage { result ≢ Refusal.Memory → result ≡ Refusal.Usage }
+    ensures usage { result ≢ Refusal.Memory → result ≡ Refusal.Usage Usage.AnyCommand }
 {
     match kind {
         ErrorKind::OutOfMemory => Refusal::Memory,
-        _ => Refusal::Usage,
+        _ => Refusal::Usage(Usage::AnyCommand),
     }
 }
 
@@ -59,37 +38,40 @@ fn begins_with_hyphen(word: &str) -> bool
 }
 
 // Whether one of the words begins with a hyphen.
-#[tactic(auto, using(std::proofs::lemmas::List::Folds::list_any_at, std::proofs::lemmas::List::Folds::list_any_more))]
-fn has_hyphen_word(words: &[String]) -> bool
-    ensures { result ≡ list_any (λ word. begins_with_hyphen (string_bytes word)) words.now }
+fn has_hyphen_word(words: &[&str]) -> bool
+    ensures { result ≡ list_any (λ word. begins_with_hyphen word.now) words.now }
 {
-    for word in words {
-        if begins_with_hyphen(word.as_str()) {
-            return true;
-        }
-    }
-    false
+    words.iter().any(|word| begins_with_hyphen(word))
 }
 
-// The words that clap takes: a command, and then a word or more.
+// Whether there is no word, or the first one begins with a hyphen.
+fn has_no_command(words: &[String]) -> bool
+    ensures { result ≡ has_no_command (map string_bytes words.now) }
+{
+    match words {
+        [] => true,
+        [command, ..] => begins_with_hyphen(command.as_str()),
+    }
+}
+
+// The words that clap takes: a command and what is behind it, with hyphens or without.
 fn command<'a>(alloc: Global) -> Result<Command<'a>, AllocError>
     ensures { IfOk result (λ command. app_of command ≡ command_line) }
 {
-    let first = Arg::new(alloc, "COMMAND")
-        .required(true)
-        .action(ArgAction::Set);
-    let behind = Arg::new(alloc, "WORD")
+    let words = Arg::new(alloc, "WORD")
         .required(true)
         .num_args(1..)
+        .trailing_var_arg(true)
         .action(ArgAction::Append);
-    Command::new(alloc, "rcell-join").arg(first)?.arg(behind)
+    Command::new(alloc, "rcell-join").arg(words)
 }
 
 // What clap finds among the words, the program's own name first.
 fn clap_matches<'a>(alloc: Global, words: &'a [String]) -> Result<ArgMatches<'a>, Refusal>
     ensures found { IfOk result (FindsAll (map string_bytes words.now)) }
     ensures misuse { IfErr result (λ refusal. refusal ≢ Refusal.Memory
-        → (refusal ≡ Refusal.Usage) × (is_misuse (drop 1 (map string_bytes words.now)) ≡ true)) }
+        → (refusal ≡ Refusal.Usage Usage.AnyCommand)
+        × (has_no_command (drop 1 (map string_bytes words.now)) ≡ true)) }
 {
     let command = command(alloc).map_err(|_| Refusal::Memory)?;
     match command.try_get_matches_from(words) {
@@ -163,26 +145,10 @@ fn of_options(fault: OptionFault) -> Refusal
     }
 }
 
-impl<'a> Request<'a> {
-    /// How tables are printed: with counts and without labels.
-    pub fn format(&self) -> Format
-        ensures { result ≡ format_of self.now }
-    {
-        Format::new(self.separator, self.null_text.bytes(), false, true)
-    }
-}
-
-// What the words behind `tables` ask for.
-fn asked_tables<'a>(alloc: Global, words: &[&'a str]) -> Result<Request<'a>, Refusal>
-    ensures { Answers Refusal.Memory (λ request. request) result (asked_tables (texts words.now)) }
+// The format that the options among the words give.
+fn format_in(alloc: Global, words: &[&str]) -> Result<TableFormat, Refusal>
+    ensures { Answers Refusal.Memory (λ format. format) result (format_in (texts words.now)) }
 {
-    let paths = match paths_in(alloc, words) {
-        Ok(paths) => paths,
-        Err(refusal) => return Err(refusal),
-    };
-    if paths.is_empty() {
-        return Err(Refusal::Usage);
-    }
     let option_words = match options_in(alloc, words) {
         Ok(option_words) => option_words,
         Err(refusal) => return Err(refusal),
@@ -196,44 +162,184 @@ fn asked_tables<'a>(alloc: Global, words: &[&'a str]) -> Result<Request<'a>, Ref
         Ok(null_text) => null_text,
         Err(_) => return Err(Refusal::Memory),
     };
-    if !is_clear(&Format::new(separator, null_text.bytes(), false, true)) {
+    let format = TableFormat::new(separator, null_text);
+    if !is_clear(&format.lent()) {
         return Err(Refusal::BadOption);
     }
-    Ok(Request {
-        separator,
-        null_text,
-        paths,
-    })
+    Ok(format)
+}
+
+// What the words behind `tables` ask for.
+#[tactic(auto, using(crate::proofs::WordLemmas::hyphens_of_texts))]
+fn asked_tables<'a>(alloc: Global, words: &[&'a str]) -> Result<Request<'a>, Refusal>
+    ensures { Answers Refusal.Memory request_value result (asked_tables (texts words.now)) }
+{
+    if has_hyphen_word(words) {
+        return Err(Refusal::Usage(Usage::Tables));
+    }
+    let tables = match paths_in(alloc, words) {
+        Ok(tables) => tables,
+        Err(refusal) => return Err(refusal),
+    };
+    if tables.is_empty() {
+        return Err(Refusal::Usage(Usage::Tables));
+    }
+    match format_in(alloc, words) {
+        Ok(format) => Ok(Request::Tables { format, tables }),
+        Err(refusal) => Err(refusal),
+    }
+}
+
+// What the words behind `edges` ask for.
+#[tactic(auto, using(crate::proofs::WordLemmas::hyphens_of_texts))]
+fn asked_edges<'a>(words: &[&'a str]) -> Result<Request<'a>, Refusal>
+    ensures { Answers Refusal.Memory request_value result (asked_edges (texts words.now)) }
+{
+    if has_hyphen_word(words) {
+        return Err(Refusal::Usage(Usage::Edges));
+    }
+    match words {
+        [map, numbers] => Ok(Request::Edges {
+            map: *map,
+            numbers: *numbers,
+        }),
+        _ => Err(Refusal::Usage(Usage::Edges)),
+    }
+}
+
+// Whether a word is the flag by which areas join at corners too.
+fn is_corners_flag(word: &[u8]) -> bool
+    ensures { result ≡ is_corners_flag word.now }
+{
+    word == b"-d".as_slice()
+}
+
+// Whether one of the words is that flag.
+fn has_corners_flag(words: &[&str]) -> bool
+    ensures { result ≡ list_any (λ word. is_corners_flag word.now) words.now }
+{
+    words.iter().any(|word| is_corners_flag(word.as_bytes()))
+}
+
+// Which cells are adjacent.
+#[tactic(auto, using(crate::proofs::WordLemmas::flags_of_texts))]
+fn joining_in(words: &[&str]) -> Joining
+    ensures { result ≡ joining_in (texts words.now) }
+{
+    if has_corners_flag(words) {
+        Joining::EdgesAndCorners
+    } else {
+        Joining::Edges
+    }
+}
+
+// The words that are no flags, which are paths.
+fn bands_in<'a>(alloc: Global, words: &[&'a str]) -> Result<Vec<&'a str>, Refusal>
+    ensures bands { IfOk result (λ bands. texts bands.items ≡ bands_in (texts words.now)) }
+    ensures memory { IfErr result (λ refusal. refusal ≡ Refusal.Memory) }
+{
+    let mut bands = Vec::new(alloc);
+    'words: for word in words {
+        let band = *word;
+        if is_corners_flag(band.as_bytes()) {
+            continue;
+        }
+        if bands.push(band).is_err() {
+            return Err(Refusal::Memory);
+        }
+    }
+    Ok(bands)
+}
+
+// What the words behind `areas` ask for.
+#[tactic(auto, using(crate::proofs::WordLemmas::hyphens_of_texts))]
+fn asked_areas<'a>(alloc: Global, words: &[&'a str]) -> Result<Request<'a>, Refusal>
+    ensures { Answers Refusal.Memory request_value result (asked_areas (texts words.now)) }
+{
+    let bands = match bands_in(alloc, words) {
+        Ok(bands) => bands,
+        Err(refusal) => return Err(refusal),
+    };
+    if has_hyphen_word(bands.as_slice()) {
+        return Err(Refusal::Usage(Usage::Areas));
+    }
+    if bands.is_empty() {
+        return Err(Refusal::Usage(Usage::Areas));
+    }
+    let joining = joining_in(words);
+    Ok(Request::Areas { joining, bands })
+}
+
+// What the words behind `sizes` ask for.
+#[tactic(auto, using(crate::proofs::WordLemmas::hyphens_of_texts))]
+fn asked_sizes<'a>(alloc: Global, words: &[&'a str]) -> Result<Request<'a>, Refusal>
+    ensures { Answers Refusal.Memory request_value result (asked_sizes (texts words.now)) }
+{
+    if has_hyphen_word(words) {
+        return Err(Refusal::Usage(Usage::Sizes));
+    }
+    let mut tables = match paths_in(alloc, words) {
+        Ok(tables) => tables,
+        Err(refusal) => return Err(refusal),
+    };
+    if tables.len() < 2 {
+        return Err(Refusal::Usage(Usage::Sizes));
+    }
+    let joined = tables.remove(0);
+    match format_in(alloc, words) {
+        Ok(format) => Ok(Request::Sizes {
+            format,
+            joined,
+            tables,
+        }),
+        Err(refusal) => Err(refusal),
+    }
+}
+
+// What a command and the words behind it ask for.
+fn command_of<'a>(alloc: Global, command: &str, words: &[&'a str]) -> Result<Request<'a>, Refusal>
+    ensures { Answers Refusal.Memory request_value result
+        (command_of command.now (texts words.now)) }
+{
+    if command == "tables" {
+        asked_tables(alloc, words)
+    } else if command == "edges" {
+        asked_edges(words)
+    } else if command == "areas" {
+        asked_areas(alloc, words)
+    } else if command == "sizes" {
+        asked_sizes(alloc, words)
+    } else {
+        Err(Refusal::Usage(Usage::AnyCommand))
+    }
 }
 
 /// Reads the words, of which the first is the program's own name.
 ///
 /// # Errors
 ///
-/// [`Refusal::Usage`] where a later word begins with `-`, the first of these is not `tables`, or none is a path;
-/// [`Refusal::BadOption`]; [`Refusal::Memory`].
+/// [`Refusal::Usage`] where no word follows it, the next one is no command, a word behind that begins with `-` and is not
+/// the flag `-d` of `areas`, or there are fewer or more paths than the command takes; [`Refusal::BadOption`];
+/// [`Refusal::Memory`].
 pub fn read_words<'a>(alloc: Global, words: &'a [String]) -> Result<Request<'a>, Refusal>
-    ensures { Answers Refusal.Memory (λ request. request) result
+    ensures { Answers Refusal.Memory request_value result
         (asked_of (drop 1 (map string_bytes words.now))) }
 {
     let Some((_, later)) = words.split_first() else {
-        return Err(Refusal::Usage);
+        return Err(Refusal::Usage(Usage::AnyCommand));
     };
-    if has_hyphen_word(later) {
-        return Err(Refusal::Usage);
+    if has_no_command(later) {
+        return Err(Refusal::Usage(Usage::AnyCommand));
     }
     let matches = match clap_matches(alloc, words) {
         Ok(matches) => matches,
         Err(refusal) => return Err(refusal),
     };
-    let Some(command) = matches.get_str("COMMAND") else {
-        return Err(Refusal::Usage);
+    let Some(given) = matches.get_strs("WORD") else {
+        return Err(Refusal::Usage(Usage::AnyCommand));
     };
-    let Some(behind) = matches.get_strs("WORD") else {
-        return Err(Refusal::Usage);
+    let Some((command, behind)) = given.split_first() else {
+        return Err(Refusal::Usage(Usage::AnyCommand));
     };
-    if command != "tables" {
-        return Err(Refusal::Usage);
-    }
-    asked_tables(alloc, behind)
+    command_of(alloc, *command, behind)
 }

@@ -1,7 +1,8 @@
-//! What the words of rcell-join's command line ask for: how tables are printed and where their texts are, and the files of
+//! What the words of rcell-join's command line ask for: a command, with the paths of the texts that it reads, and the files of
 //! these, opened.
 #![tactic(auto)]
 
 pub mod command_words;
 pub mod opening;
 pub mod refusal;
+pub mod request;

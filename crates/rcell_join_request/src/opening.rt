@@ -20,8 +20,12 @@ fn of_opening(kind: ErrorKind, file: usize) -> Refusal
     }
 }
 
-// The file of a path, which has this place.
-fn open_file<R: Files>(rt: &R, path: &str, file: usize) -> Result<ReadSource<R::File>, Refusal>
+/// Opens the file of a path, which has this place.
+///
+/// # Errors
+///
+/// [`Refusal::File`] of the place; [`Refusal::Memory`].
+pub fn open_file<R: Files>(rt: &R, path: &str, file: usize) -> Result<ReadSource<R::File>, Refusal>
     ensures asked { IfOk result (λ source. source.1 ≡ Asked.Going) }
     ensures told { IfErr result (λ refusal. refusal ≢ Refusal.Memory
         → refusal ≡ Refusal.File file) }

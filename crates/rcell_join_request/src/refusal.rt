@@ -5,12 +5,32 @@ ghost use Rattle.rcell_join_request.specs.Refusals.{refusal_status};
 
 use thiserror::Error;
 
+/// The words that a command line should have had: those of a command, or any command.
+#[derive(Clone, Copy, Debug, PartialEq, Eq, Error)]
+pub enum Usage {
+    /// No command, or another one than these four.
+    #[error("usage: rcell-join (tables|edges|areas|sizes) ...")]
+    AnyCommand,
+    /// The words of `tables`.
+    #[error("usage: rcell-join tables [separator=S] [null_value=N] FILE...")]
+    Tables,
+    /// The words of `edges`.
+    #[error("usage: rcell-join edges MAP NUMBERS")]
+    Edges,
+    /// The words of `areas`.
+    #[error("usage: rcell-join areas [-d] EDGES...")]
+    Areas,
+    /// The words of `sizes`.
+    #[error("usage: rcell-join sizes [separator=S] [null_value=N] JOINED TABLE...")]
+    Sizes,
+}
+
 /// Why nothing was joined.
 #[derive(Clone, Copy, Debug, PartialEq, Eq, Error)]
 pub enum Refusal {
-    /// Another command than `tables`, no file, a word that begins with `-`, or one that is not UTF-8.
-    #[error("usage: rcell-join tables [separator=S] [null_value=N] FILE...")]
-    Usage,
+    /// Other words: too few or too many paths, a word that begins with `-` and is no flag, or one that is not UTF-8.
+    #[error(transparent)]
+    Usage(Usage),
     /// An option that is given twice, or a bad separator or null text.
     #[error("bad option")]
     BadOption,
@@ -28,7 +48,7 @@ impl Refusal {
         ensures { result ≡ refusal_status self }
     {
         match self {
-            Refusal::Usage => 2,
+            Refusal::Usage(_) => 2,
             Refusal::BadOption => 2,
             Refusal::Memory => 3,
             Refusal::File { .. } => 4,

@@ -4,11 +4,12 @@ use Rattle.std.proofs.lemmas.List.{length-map}
 use Rattle.std.specs.Result.{IfOk, MatchResult}
 use Rattle.std.proofs.lemmas.Result.{IfOk-from_err}
 use Rattle.clap.specs.Lexer.{usize_max}
-use Rattle.clap.specs.Words.{all_of, app_of, first_of, found_of, is_simple, matches_of, rows_of, takes}
-use Rattle.clap.proofs.WalkLemmas.{first_value-rows, raw_values-rows}
+use Rattle.clap.specs.Words.{all_of, app_of, found_of, is_simple, matches_of, rows_of, takes}
+use Rattle.clap.proofs.WalkLemmas.{raw_values-rows}
 use Rattle.rcell_join_request.specs.declared.refusal.Refusal.{Refusal}
 use Rattle.rcell_join_request.specs.parts.ClapWords.{command_line}
-use Rattle.rcell_join_request.proofs.ParseLemmas.{by_contradiction, is_simple_line, words_asked, words_found, words_taken}
+use Rattle.rcell_join_request.proofs.ParseLemmas.{by_contradiction, is_simple_line}
+use Rattle.rcell_join_request.proofs.ParseLemmas.{words_asked, words_found, words_taken}
 use Rattle.rcell_join_request.proofs.command_words.clap_matches.Goals as goal
 
 same_of : {T E X : Type 0} (D : Type 0) (f : T → X) (r : Result T E) (t : T) (x : X)
@@ -27,13 +28,10 @@ returns-in-Ok-clause-found c =
     c.in_ok-command.ensures.cases c.command.ensures in
     let rows_are : rows_of found ≡ matches_of command_line words =
     (c.in-Ok.ensures.matches (ap is_simple line ∙ is_simple_line)).0 ∙ ap (λ a. matches_of a words) line in
-    let command_is = first_value-rows found (codes "COMMAND") ∙ ap (first_of (codes "COMMAND")) rows_are in
-    let behind_are = raw_values-rows found (codes "WORD") ∙ ap (all_of (codes "WORD")) rows_are in
+    let words_are = raw_values-rows found (codes "WORD") ∙ ap (all_of (codes "WORD")) rows_are in
     record {
-      all = λ command behind plain first all. words_asked words command behind plain (sym command_is ∙ first)
-          (sym behind_are ∙ all);
-      some = λ good. let both = words_found words good in
-          (ap is_some command_is ∙ both.0, ap is_some behind_are ∙ both.1);
+      all = λ given plain all. words_asked words given plain (sym words_are ∙ all);
+      some = λ plain. ap is_some words_are ∙ words_found words plain;
     }
 
 pub returns-in-Err-clause-misuse : goal.returns-in-Err-clause-misuse
@@ -45,7 +43,7 @@ returns-in-Err-clause-misuse c = λ other.
     let few : length words ≤ usize_max = subst (λ n. n ≤ usize_max) (sym (length-map c.args.words.now string_bytes))
     fits in (
       c.of_clap.ensures.usage other,
-      by_contradiction _ (λ good.
-          let taken = ap (λ a. takes a words) line ∙ words_taken words few good in
+      by_contradiction _ (λ plain.
+          let taken = ap (λ a. takes a words) line ∙ words_taken words few plain in
           other (c.of_clap.ensures.memory (c.kind.ensures ∙ c.in-Err.ensures.passes taken))),
     )

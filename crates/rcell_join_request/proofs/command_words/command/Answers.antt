@@ -2,7 +2,7 @@ use Rattle.std.proofs.Common.{rules, ap, ap₂, ◌≡◌, ◌∙◌, Option, So
 use Rattle.std.specs.Option.{IsSomeAnd}
 use Rattle.std.proofs.lemmas.Result.{IfOk-weaker}
 use Rattle.clap.specs.Words.{rule_of, with_rule}
-use Rattle.rcell_join_request.specs.parts.ClapWords.{any_number, command_rule, word_rule}
+use Rattle.rcell_join_request.specs.parts.ClapWords.{any_number, word_rule}
 use Rattle.rcell_join_request.proofs.command_words.command.Goals as goal
 
 some_is : {T : Type 0} (o : Option T) (x : T) → IsSomeAnd o (λ y. y ≡ x) → o ≡ Some x
@@ -11,8 +11,7 @@ some_is None x is = elim is [ ]
 
 pub returns : goal.returns
 returns c =
-    let command_is : rule_of c.action-first.result ≡ command_rule = search rules in
     let range_is : c.num_args.result.num_vals ≡ Some any_number = some_is _ _ c.num_args.ensures.1 in
-    let next_is : rule_of c.action-behind.result ≡ word_rule = search rules in
-    let command_added = c.in_ok-arg.ensures.shape (search rules) ∙ ap₂ with_rule c.new-3.ensures.app command_is in
-    IfOk-weaker c.arg-2.result _ _ (λ r h. h.shape (search rules) ∙ ap₂ with_rule command_added next_is) c.arg-2.ensures
+    let words_are : rule_of c.action-words.result ≡ word_rule = search rules in
+    IfOk-weaker c.arg.result _ _ (λ r h. h.shape (search rules) ∙ ap₂ with_rule c.new-2.ensures.app words_are)
+    c.arg.ensures

@@ -1,0 +1,126 @@
+//! The line that tells why tables were not joined, and the exit status.
+
+ghost use Rattle.std.specs.Prelude.{◌≡◌, is_some, IfSome, map};
+ghost use Rattle.rcell_join.specs.TablesFaultLine.{tables_fault_line_number, tables_fault_source, tables_fault_status, tables_fault_text, tables_status};
+
+use crate::fault_line::{FaultLine, path_at};
+use crate::kind_status::table_kind_status;
+use cell_stats_combinations::combination::Combo;
+use cell_tiles_lines::table_fault::TableKind;
+use cell_tiles_texts::join_fault::JoinFault;
+use cell_tiles_texts::text_joining::JoinOutcome;
+use std::fmt;
+use thiserror::Error;
+
+/// The cells of a combination, with a blank between two of them, and `*` for null.
+#[derive(Debug, Drop)]
+pub struct CellList {
+    combo: Combo,
+}
+
+impl fmt::Display for CellList {
+    fn fmt<W: fmt::Write>(&self, f: &mut fmt::Formatter<W>) -> fmt::Result {
+        for (i, cell) in self.combo.cells().iter().enumerate() {
+            let blank = if i == 0 { "" } else { " " };
+            match cell.get() {
+                Some(category) => write!(f, "{blank}{category}")?,
+                None => write!(f, "{blank}*")?,
+            }
+        }
+        Ok(())
+    }
+}
+
+/// What a fault of joining tables says.
+#[derive(Debug, Drop, Error)]
+pub enum TablesFaultText {
+    #[error(transparent)]
+    Text(TableKind),
+    #[error("count too great for {0}")]
+    TooMany(CellList),
+    #[error("table too long")]
+    TooLong,
+    #[error("no memory")]
+    Memory,
+    #[error("write failed after {written} bytes")]
+    Write { written: u64 },
+}
+
+fn tables_fault_source<'a>(paths: &[&'a str], fault: &JoinFault) -> &'a str
+    ensures { result.now ≡ tables_fault_source (map (λ path. path.now) paths.now) fault.now }
+{
+    match fault {
+        JoinFault::Text { text, .. } => path_at(paths, *text),
+        JoinFault::TooMany(_) => "output",
+        JoinFault::TooLong => "output",
+        JoinFault::Memory => "tables",
+        JoinFault::Write => "output",
+    }
+}
+
+fn tables_fault_line_number(fault: &JoinFault) -> u64
+    ensures { result ≡ tables_fault_line_number fault.now }
+{
+    match fault {
+        JoinFault::Text { text: _, fault } => fault.line,
+        _ => 0,
+    }
+}
+
+fn tables_fault_text(written: u64, fault: JoinFault) -> TablesFaultText
+    ensures { result ≡ tables_fault_text written fault }
+{
+    match fault {
+        JoinFault::Text { text: _, fault } => TablesFaultText::Text(fault.kind),
+        JoinFault::TooMany(combo) => TablesFaultText::TooMany(CellList { combo }),
+        JoinFault::TooLong => TablesFaultText::TooLong,
+        JoinFault::Memory => TablesFaultText::Memory,
+        JoinFault::Write => TablesFaultText::Write { written },
+    }
+}
+
+/// The line that tells why tables were not joined, by the paths of their texts; None where there is no fault.
+pub fn tables_fault_line<'a>(
+    outcome: JoinOutcome,
+    paths: &[&'a str],
+) -> Option<FaultLine<'a, TablesFaultText>>
+    ensures told { is_some result ≡ is_some outcome.fault }
+    ensures source { IfSome result (λ told. IfSome outcome.fault (λ fault. told.source.now
+        ≡ tables_fault_source (map (λ path. path.now) paths.now) fault)) }
+    ensures line { IfSome result (λ told. IfSome outcome.fault
+        (λ fault. told.line ≡ tables_fault_line_number fault)) }
+    ensures text { IfSome result (λ told. IfSome outcome.fault (λ fault. told.text
+        ≡ tables_fault_text outcome.written fault)) }
+{
+    let JoinOutcome { written, fault } = outcome;
+    let fault = fault?;
+    let source = tables_fault_source(paths, &fault);
+    let line = tables_fault_line_number(&fault);
+    Some(FaultLine {
+        source,
+        line,
+        text: tables_fault_text(written, fault),
+    })
+}
+
+fn tables_fault_status(fault: &JoinFault) -> u8
+    ensures { result ≡ tables_fault_status fault.now }
+{
+    match fault {
+        JoinFault::Text { text: _, fault } => table_kind_status(fault.kind),
+        JoinFault::TooMany(_) => 1,
+        JoinFault::TooLong => 1,
+        JoinFault::Memory => 3,
+        JoinFault::Write => 4,
+    }
+}
+
+/// The exit status: 0 without a fault, 1 where a text was refused, 3 when out of memory, 4 where a read or a write failed.
+pub fn tables_status(fault: &Option<JoinFault>) -> u8
+    ensures { result ≡ tables_status fault.now }
+{
+    match fault {
+        Some(fault) => tables_fault_status(fault),
+        None => 0,
+    }
+}

@@ -1,0 +1,83 @@
+//! What the words of a command line ask for.
+
+ghost use Rattle.std.specs.Prelude.{◌≡◌, false, true};
+
+use cell_cats_areas::clump::Joining;
+use cell_stats::format::Format;
+use rcell_script_options::null_text::TableNullText;
+use std::marker::Model;
+
+/// How tables of counts are printed: the byte between two fields, and the text of null.
+#[derive(Drop)]
+pub struct TableFormat {
+    separator: u8,
+    null_text: TableNullText,
+}
+
+impl Model for TableFormat {
+    ghost use Rattle.std.specs.Prelude.{false, true};
+    ghost use Rattle.cell_stats.specs.TableText.{FormatValue};
+
+    ghost Value = { FormatValue };
+
+    ghost view = { λ f. record { separator = f.separator; null_text = f.null_text; labels = false; counts = true } };
+}
+
+impl TableFormat {
+    /// A format with counts and without labels.
+    pub fn new(separator: u8, null_text: TableNullText) -> TableFormat
+        ensures { result ≡ record {
+          separator = separator;
+          null_text = null_text;
+          labels = false;
+          counts = true;
+        } }
+    {
+        TableFormat {
+            separator,
+            null_text,
+        }
+    }
+
+    /// The same, with its null text lent.
+    pub fn lent(&self) -> Format
+        ensures { result ≡ self.now }
+    {
+        Format::new(self.separator, self.null_text.bytes(), false, true)
+    }
+}
+
+/// What the words ask for, with the paths of the texts that are read.
+#[derive(Drop)]
+pub enum Request<'a> {
+    /// The tables of parts, joined to the table of the whole.
+    Tables {
+        /// How they are printed.
+        format: TableFormat,
+        /// One or more, in order.
+        tables: Vec<&'a str>,
+    },
+    /// The edges of a band.
+    Edges {
+        /// The band's map.
+        map: &'a str,
+        /// The numbers of its areas, as r.clump gives them.
+        numbers: &'a str,
+    },
+    /// The areas of bands, joined to those of the whole.
+    Areas {
+        /// Which cells are adjacent.
+        joining: Joining,
+        /// The edges of one band or more, from the top.
+        bands: Vec<&'a str>,
+    },
+    /// The sizes of the areas of the whole.
+    Sizes {
+        /// How the tables are printed.
+        format: TableFormat,
+        /// The areas text.
+        joined: &'a str,
+        /// The table of each band's numbers, from the top.
+        tables: Vec<&'a str>,
+    },
+}
