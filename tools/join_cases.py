@@ -37,7 +37,7 @@ def of_words() -> Iterator[Case]:
     bad += [[b"separator=comma"] * 2, [b"null_value=x"] * 2, [b"separator=x", b"null_value=axb"], [b"null_value=" + b"x" * 65]]
     for options in bad:
         for command in (b"tables", b"sizes"):
-            yield f"bad option {command} {options}", [command, b"a", *options, b"a"], one, told(b"arguments", 0, b"bad option", 2)
+            yield f"bad option {command!r} {options}", [command, b"a", *options, b"a"], one, told(b"arguments", 0, b"bad option", 2)
     for words, missing in (([b"tables", b"a", b"nowhere"], b"nowhere"), ([b"edges", b"a", b"nowhere"], b"nowhere"), ([b"edges", b"no", b"nowhere"], b"no"),
                            ([b"edges", b"separator=comma", b"a"], b"separator=comma"), ([b"areas", b"a", b"nowhere"], b"nowhere"),
                            ([b"areas", b"a", b"null_value=5"], b"null_value=5"), ([b"sizes", b"no", b"a"], b"no"), ([b"sizes", b"a", b"no", b"nowhere"], b"no")):

@@ -114,8 +114,9 @@ SHAPES: dict[str, Callable[[int, int], Rows]] = {
 
 def random_rows(draw: random.Random, rows: int, cols: int) -> Rows:
     """Cells at random: few categories make large areas, and copies of neighbours longer ones."""
-    some = draw.choice([[1, 1, 2, None], [1, 2], [0, 1, 2, 3, None], [-2147483647, 2147483647], list(range(9))])
-    likeness, cells = draw.choice([0, 0.4, 0.8]), []
+    kinds: Rows = [[1, 1, 2, None], [1, 2], [0, 1, 2, 3, None], [-2147483647, 2147483647], list(range(9))]
+    some, likeness = draw.choice(kinds), draw.choice([0, 0.4, 0.8])
+    cells: Rows = []
     for row in range(rows):
         cells.append([])
         for col in range(cols):
@@ -137,8 +138,8 @@ def in_region(draw: random.Random, rows: Rows) -> CellMap:
     north = draw.choice([0, len(rows) * height, 5 * 10**6, -0.25])
     south, west = north - len(rows) * height, draw.choice([0, -3.5, 4 * 10**5])
     east = west + len(rows[0]) * width
-    sides = (round(side * COORDINATE_UNIT) for side in (north, south, east, west))
-    return CellMap(Region(*sides, len(rows), len(rows[0])), rows)
+    north, south, east, west = (round(side * COORDINATE_UNIT) for side in (north, south, east, west))
+    return CellMap(Region(north, south, east, west, len(rows), len(rows[0])), rows)
 
 
 # Bands

@@ -137,7 +137,8 @@ class Bands(unittest.TestCase):
         for edges in ([one, one], [one[:-4]], [b""]):
             with self.subTest(edges=edges), self.assertRaises(rcell.WrongProgram):
                 joined_areas(edges)
-        for areas, tables in ((b"1 1 2 1\n", [b"1 1\n"]), (b"1 1 1 1\n", []), (b"1 1 1 2\n", [b"1 1\n"])):
+        refused: list[tuple[bytes, list[bytes]]] = [(b"1 1 2 1\n", [b"1 1\n"]), (b"1 1 1 1\n", []), (b"1 1 1 2\n", [b"1 1\n"])]
+        for areas, tables in refused:
             with self.subTest(areas=areas), self.assertRaises(rcell.WrongProgram):
                 joined_sizes(areas, tables)
 
