@@ -59,7 +59,7 @@ mkdir -p bin && cp crates/rcell_program/out/rcell_program bin/rcell && cp crates
 kit=$(dirname "$(rt doc)")
 try cases python3 tools/cases.py "$kit/toolchain/bin/clang"
 
-# The joiner of tables, beside a plain one.
+# The joiner, beside a plain model of it and beside maps that are not cut.
 try joined python3 tools/test_join.py "$kit/toolchain/bin/clang"
 
 # What the documents show.

@@ -1,4 +1,4 @@
-"""The proved joiner of tables beside the one of numpy and beside the undivided map; it needs numpy alone."""
+"""The proved joiner beside the one of numpy and beside the undivided map; it needs numpy alone."""
 
 from __future__ import annotations
 
@@ -13,11 +13,11 @@ import numpy as np
 
 import rcell
 from rcell import _joiner
-from rcell._joiner import joined
+from rcell._joiner import joined, joined_areas, joined_sizes
 from rcell._maps import ArrayMap
 from rcell._merging import Counts, TooManyCells, counts_of, merge
 from rcell._numbers import NULL
-from rcell._program import table_text
+from rcell._program import execute, table_text
 from rcell._region import Region
 
 NULL_CELL = 255
@@ -84,6 +84,65 @@ class Tilings(unittest.TestCase):
         self.assertEqual(joined([printed(table) for table in tables]), printed(merge(tables)))
 
 
+def clump_script(diagonal: bool) -> str:
+    return f"r.clump {'-d ' if diagonal else ''}input=a output=k"
+
+
+def clumped(cells: Any, diagonal: bool) -> tuple[Any, bytes]:
+    """The numbers of the areas of a map, 0 where it is null, and their table."""
+    maps = {"a": ArrayMap("a", cells, Region.of_cells(*cells.shape), nodata_value=NULL_CELL)}
+    numbers = execute(clump_script(diagonal), maps, wanted=("k",))[-1].values
+    return np.maximum(numbers, 0), table_text(f"{clump_script(diagonal)}\nr.stats -c input=k", maps)
+
+
+def grid_text(cells: Any, null: int, top: int) -> bytes:
+    """A grid of the rows from `top` on of a map whose cells have sides of 1."""
+    rows, cols = cells.shape
+    lines = [" ".join("*" if cell == null else str(cell) for cell in row) for row in cells.tolist()]
+    return "\n".join([f"north: {-top}", f"south: {-top - rows}", f"east: {cols}", "west: 0", f"rows: {rows}", f"cols: {cols}", *lines, ""]).encode()
+
+
+def edges_of(cells: Any, numbers: Any, top: int) -> bytes:
+    with tempfile.TemporaryDirectory() as folder:
+        for name, text in (("map", grid_text(cells, NULL_CELL, top)), ("numbers", grid_text(numbers, 0, top))):
+            with open(f"{folder}/{name}", "wb") as file:
+                file.write(text)
+        return subprocess.run([rcell.joiner(), "edges", "map", "numbers"], cwd=folder, capture_output=True, check=True).stdout
+
+
+class Bands(unittest.TestCase):
+    def test_areas_of_bands_join_to_those_of_the_whole(self) -> None:
+        for seed in range(TILINGS // 2):
+            random = np.random.default_rng(seed)
+            cells = random.choice(np.array([1, 1, 2, 30, NULL_CELL], np.uint8), random.integers(1, 12, 2))
+            diagonal = bool(seed % 2)
+            parts = [(top, np.ascontiguousarray(cells[top:low])) for top, low in cuts(random, len(cells))]
+            own = [clumped(part, diagonal) for _, part in parts]
+            text = joined_areas([edges_of(part, numbers, top) for (top, part), (numbers, _) in zip(parts, own)], diagonal)
+            with self.subTest(seed=seed):
+                expected, table = clumped(cells, diagonal)
+                self.assertEqual(self.renumbered(text, [numbers for numbers, _ in own]).tolist(), expected.tolist())
+                sizes = joined_sizes(text, [part for _, part in own])
+                self.assertEqual(sizes, b"".join(line for line in table.splitlines(keepends=True) if not line.startswith(b"*")))
+
+    def renumbered(self, text: bytes, bands: list[Any]) -> Any:
+        """The numbers of bands with those of the whole in their place."""
+        found = [np.zeros(band.max() + 1, np.int64) for band in bands]
+        for band, first, last, number in (map(int, line.split()) for line in text.splitlines()):
+            found[band - 1][first : last + 1] = np.arange(number, number + last - first + 1)
+        return np.concatenate([table[band] for table, band in zip(found, bands)])
+
+    def test_refused(self) -> None:
+        one = grid_text(np.array([[7, 7], [1, 1], [7, 7], [1, 1], [1, 0]]), 0, 0)
+        for edges in ([one, one], [one[:-4]], [b""]):
+            with self.subTest(edges=edges), self.assertRaises(rcell.WrongProgram):
+                joined_areas(edges)
+        refused: list[tuple[bytes, list[bytes]]] = [(b"1 1 2 1\n", [b"1 1\n"]), (b"1 1 1 1\n", []), (b"1 1 1 2\n", [b"1 1\n"])]
+        for areas, tables in refused:
+            with self.subTest(areas=areas), self.assertRaises(rcell.WrongProgram):
+                joined_sizes(areas, tables)
+
+
 class Counted(unittest.TestCase):
     def test_read(self) -> None:
         found = counts_of(b"-1 5 3\n* 2147483647 9223372036854775807\n", 2)
@@ -140,7 +199,8 @@ class Programs(unittest.TestCase):
     def test_missing_and_wrong(self) -> None:
         with self.assertRaises(rcell.MissingProgram):
             rcell.joiner("/nowhere/rcell-join")
-        for body in ("exit 0", "echo 1 2", "cat \"$2\" \"$3\"", "exit 3"):
+        only_tables = f"[ $1 = tables ] && exec {rcell.joiner()} \"$@\"; exit 2"
+        for body in ("exit 0", "echo 1 2", "cat \"$2\" \"$3\"", "exit 3", only_tables):
             with self.subTest(body=body), self.assertRaises(rcell.WrongProgram):
                 rcell.joiner(self.program(body))
         path = self.program("")

@@ -1,8 +1,9 @@
-"""The joiner: where it is, and a run of it over texts that are held in memory.
+"""The joiner: where it is, and runs of it over texts that are held in memory.
 
-`rcell-join tables` is proved from bytes to bytes: the texts that `r.stats -c` prints of the parts of a map are joined to the text
-that it prints of the map. So the texts come here as the program printed them, and go on as the joiner printed them: they are
-read once, where the last one is needed as numbers.
+`rcell-join` is proved from bytes to bytes: the texts that `r.stats -c` prints of the parts of a map are joined to the text that it
+prints of the map, the edges of the bands of a map to the numbers of its areas, and the tables of these to the sizes of its areas. So
+the texts come here as the program printed them, and go on as the joiner printed them: they are read once, where the last one is
+needed as numbers.
 """
 
 from __future__ import annotations
@@ -18,7 +19,7 @@ from ._errors import Killed, MissingProgram, OutOfMemory, RcellError, WrongProgr
 from ._merging import counts_of, merge
 from ._program import candidates, find_program, known_after
 
-__all__ = ["find_joiner", "joined"]
+__all__ = ["find_joiner", "joined", "joined_areas", "joined_sizes"]
 
 MESSAGE_LIMIT = 1 << 16
 _MESSAGE = re.compile(r"rcell-join: ([^:]*):(\d+): (.*)")
@@ -55,11 +56,19 @@ def _found() -> str:
     return beside if os.path.isfile(beside) else next(candidates("rcell-join"), "")
 
 
+_PROBE_EDGES = b"north: 1\nsouth: 0\neast: 2\nwest: 0\nrows: 5\ncols: 2\n8 9\n1 2\n8 9\n1 2\n2 *\n"
+_PROBES: list[tuple[list[str], list[bytes], bytes]] = [
+    (["tables"], [b"1 * 2\n2 1 1\n", b"-1 7 1\n1 * 3\n* 4 5\n", b""], b"-1 7 1\n1 * 5\n2 1 1\n* 4 5\n"),
+    (["areas", "-d"], [_PROBE_EDGES], b"1 1 2 1\n"),
+    (["sizes"], [b"1 1 2 1\n", b"1 7\n2 8\n* 9\n"], b"1 7\n2 8\n"),
+]
+
+
 def _probe(path: str) -> None:
-    """Runs the program once on two tables and an empty one."""
-    status, output, _ = _run(path, [b"1 * 2\n2 1 1\n", b"-1 7 1\n1 * 3\n* 4 5\n", b""])
-    if (status, output) != (0, b"-1 7 1\n1 * 5\n2 1 1\n* 4 5\n"):
-        raise WrongProgram(f"{path} is not a program rcell-join of a version that this package knows")
+    """Runs each command of the program once."""
+    for words, texts, answer in _PROBES:
+        if _run(path, words, texts)[:2] != (0, answer):
+            raise WrongProgram(f"{path} is not a program rcell-join of a version that this package knows")
 
 
 def joined(texts: Sequence[bytes], program: str | os.PathLike[str] | None = None) -> bytes:
@@ -84,20 +93,68 @@ def joined(texts: Sequence[bytes], program: str | os.PathLike[str] | None = None
     >>> joined([b"1 10\\n5 3\\n", b"5 4\\n* 1\\n"])
     b'1 10\\n5 7\\n* 1\\n'
     """
+    return _answer(["tables"], texts, program)
+
+
+def joined_areas(edges: Sequence[bytes], diagonal: bool = False, program: str | os.PathLike[str] | None = None) -> bytes:
+    """Join the areas of bands of a map, by the texts of their edges from the top, to those of the map.
+
+    Returns
+    -------
+    bytes
+        The areas text: lines `BAND FIRST LAST NUMBER`, of which each tells that in the map the areas FIRST to LAST of a band have
+        NUMBER, the number after it, and so on. Bands and areas are counted from 1.
+
+    Raises
+    ------
+    OutOfMemory, Killed, MissingProgram, WrongProgram
+
+    Examples
+    --------
+    >>> band = b"north: %d\\nsouth: %d\\neast: 2\\nwest: 0\\nrows: 5\\ncols: 2\\n8 9\\n1 2\\n8 9\\n1 2\\n2 *\\n"
+    >>> joined_areas([band % (2, 1), band % (1, 0)])
+    b'1 1 2 1\\n2 1 2 1\\n'
+    """
+    return _answer(["areas", *["-d"] * diagonal], edges, program)
+
+
+def joined_sizes(areas: bytes, tables: Sequence[bytes], program: str | os.PathLike[str] | None = None) -> bytes:
+    """Add up the sizes of the areas of bands, by their areas text, to those of the areas of the map.
+
+    Parameters
+    ----------
+    areas : bytes
+        The areas text of the bands.
+    tables : sequence of bytes
+        Of each band the table of the numbers of its areas, as `r.stats -c` prints it.
+
+    Raises
+    ------
+    OutOfMemory, Killed, MissingProgram, WrongProgram
+
+    Examples
+    --------
+    >>> joined_sizes(b"1 1 2 1\\n2 1 2 1\\n", [b"1 1\\n2 1\\n", b"1 4\\n2 5\\n* 3\\n"])
+    b'1 5\\n2 6\\n'
+    """
+    return _answer(["sizes"], [areas, *tables], program)
+
+
+def _answer(words: list[str], texts: Sequence[bytes], program: str | os.PathLike[str] | None) -> bytes:
     path = find_joiner(program)
-    status, output, told = _run(path, texts)
+    status, output, told = _run(path, words, texts)
     if status == 0:
         return output
-    raise _fault(path, status, told, texts)
+    raise _fault(path, words, status, told, texts)
 
 
-def _run(path: str, texts: Sequence[bytes]) -> tuple[int, bytes, str]:
+def _run(path: str, words: list[str], texts: Sequence[bytes]) -> tuple[int, bytes, str]:
     """The status, the output and what was told."""
     with ExitStack() as opened:
         files = [opened.enter_context(_held(text)).fileno() for text in texts]
-        words = [path, "tables", *(f"/dev/fd/{file}" for file in files)]
+        given = [path, *words, *(f"/dev/fd/{file}" for file in files)]
         try:
-            ran = subprocess.run(words, stdin=subprocess.DEVNULL, capture_output=True, pass_fds=files, check=False)
+            ran = subprocess.run(given, stdin=subprocess.DEVNULL, capture_output=True, pass_fds=files, check=False)
         except OSError as error:
             raise MissingProgram(f"the program {path} cannot be executed: {error.strerror}") from None
     return ran.returncode, ran.stdout, ran.stderr[:MESSAGE_LIMIT].decode("utf-8", "replace").rstrip("\n")
@@ -119,14 +176,14 @@ def _held(text: bytes) -> IO[bytes]:
     return file
 
 
-def _fault(path: str, status: int, told: str, texts: Sequence[bytes]) -> RcellError:
-    """The error of a run that did not end well; a sum that is too great is raised by the joiner in Python, which tells of what."""
+def _fault(path: str, words: list[str], status: int, told: str, texts: Sequence[bytes]) -> RcellError:
+    """The error of a run that did not end well; a sum of tables that is too great is raised by the joiner in Python, which tells of what."""
     if status < 0:
         return Killed(-status)
     found = _MESSAGE.fullmatch(told)
     if found and status == 3:
         return OutOfMemory(found[3], found[1], int(found[2]), status)
-    if found and found[3].startswith(_TOO_GREAT):
+    if words == ["tables"] and found and found[3].startswith(_TOO_GREAT):
         width = next(text.partition(b"\n")[0].count(b" ") for text in texts if text)
         merge([counts_of(text, width) for text in texts])
     return WrongProgram(f"{path} ended in status {status} and said: {told or 'nothing'}")

@@ -12,7 +12,7 @@ from ._scripts import NO_REACH, Reach
 from ._sheet import Sheet
 from .joining import Rectangle
 
-__all__ = ["areas_demand", "Demand", "grid_demand", "sizes_demand", "table_demand", "places", "size_for"]
+__all__ = ["areas_demand", "band_sizes_demand", "Demand", "grid_demand", "sizes_demand", "table_demand", "places", "size_for"]
 
 WORKER = 165 * 10**6
 """Bytes of a worker without a tile: Python, Dask, numpy and rasterio, the buffers of GDAL, of pipes and of text."""
@@ -48,6 +48,8 @@ class Demand:
         Bytes a cell when the program has ended.
     area : int
         Bytes an area when the program has ended; there are at most as many areas as runs.
+    entry : int
+        Bytes an area of a table that the program makes of them, and of its text.
     reach : Reach
         The halo.
     """
@@ -58,6 +60,7 @@ class Demand:
     answer: int = 0
     after: int = 0
     area: int = 0
+    entry: int = 0
     reach: Reach = NO_REACH
 
     def bytes(self, rows: int, cols: int, runs: float = 1.0, areas: float | None = None) -> int:
@@ -74,8 +77,9 @@ class Demand:
         """
         cells = (rows + self.reach.up + self.reach.down) * (cols + self.reach.left + self.reach.right)
         program = self.maps * min(CELL, RUN * runs)
-        beside = self.read + program + max(self.answer, self.clumps * CLUMP * runs)
-        afterwards = self.after + self.area * (runs if areas is None else areas)
+        part = runs if areas is None else areas
+        beside = self.read + program + max(self.answer, self.clumps * CLUMP * runs, self.entry * part)
+        afterwards = self.after + self.area * part
         return WORKER + math.ceil(cells * max(beside, afterwards))
 
 
@@ -98,6 +102,11 @@ def sizes_demand(read: int) -> Demand:
     """The numbers of areas in int32, and again to count them; then of each area its category, cells and number in the
     whole, with those of tiles that wait to be taken."""
     return Demand(read, maps=2, clumps=1, answer=4, after=read + 12, area=44)
+
+
+def band_sizes_demand(read: int) -> Demand:
+    """A table of the areas and their categories, of 75 bytes an entry, and its text; then the text twice, and its numbers."""
+    return Demand(read, maps=2, clumps=1, after=read, area=60, entry=91)
 
 
 def size_for(demand: Demand, sheet: Sheet, memory: int, tasks: int) -> tuple[int, int]:

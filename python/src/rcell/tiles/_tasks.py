@@ -14,18 +14,23 @@ import numpy.typing as npt
 from .._errors import OutOfMemory
 from .._joiner import joined
 from .._maps import ArrayMap, Source
+from .._merging import counts_of
 from .._program import execute, table_text
 from .._region import Region
 from ._scripts import NO_REACH, Assignment, Reach, Reclass, Stats, TileScript
 from ._sheet import MapFile, Sheet
-from .joining import Counts, Edges, Rectangle, TileNumbers, edges, merge, renumber
+from .joining import Counts, Edges, Numbering, Rectangle, TileNumbers, edges, merge, renumber
 
-__all__ = ["TileRun", "TileSizes", "edges_of", "grid_cells", "join_tables", "numbered_cells", "sizes_in_whole", "tile_sizes", "tile_table"]
+__all__ = ["TileRun", "TileSizes", "band_sizes", "edges_of", "grid_cells", "join_tables", "numbered_cells", "sizes_in_whole", "tile_sizes",
+           "tile_table"]
 
 Integers = npt.NDArray[Any]
 
 ALL_NULL = re.compile(rb"(?:\* )+[0-9]+\n")
 """The line of a table, as r.stats -c prints it, of the cells that are null in all maps."""
+
+CATEGORY_OF_AREA = re.compile(rb"^([0-9]+) \S+", re.MULTILINE)
+"""What a line of a table of areas and categories begins with."""
 
 
 def with_halo(place: Rectangle, reach: Reach, sheet: Sheet) -> Rectangle:
@@ -140,9 +145,24 @@ def grid_cells(task: TileRun, place: Rectangle) -> Integers:
 def clumped(file: MapFile, sheet: Sheet, place: Rectangle, diagonal: bool) -> tuple[Integers, Integers]:
     """The cells of a tile and the numbers of its areas, 0 where it is null (law `cut_outs_are_tiles`)."""
     tile = file.read(place, sheet)
-    text = f"r.clump {'-d ' if diagonal else ''}input=cells output=areas"
-    numbers = made_cells(text, {"cells": tile}, "areas")
+    numbers = made_cells(clump_line(diagonal), {"cells": tile}, "areas")
     return tile.array, np.maximum(numbers, 0, out=numbers)
+
+
+def clump_line(diagonal: bool) -> str:
+    """The line of a script that clumps a tile."""
+    return f"r.clump {'-d ' if diagonal else ''}input=cells output=areas"
+
+
+def band_sizes(file: MapFile, sheet: Sheet, place: Rectangle, diagonal: bool) -> tuple[bytes, Integers]:
+    """The table of the numbers of a band's areas, as the program prints it, and the category of each.
+
+    The program prints a table of numbers and categories, since an area has one category: it is left out of each line.
+    """
+    maps: dict[str, Source] = {"cells": file.read(place, sheet)}
+    with told_of_size(maps):
+        text = table_text(f"{clump_line(diagonal)}\nr.stats -c -n input=areas,cells", maps)
+    return CATEGORY_OF_AREA.sub(rb"\1", text), counts_of(text, 2).combinations[:, 1].astype(np.int32)
 
 
 def edges_of(file: MapFile, sheet: Sheet, place: Rectangle, diagonal: bool) -> Edges:
@@ -206,7 +226,7 @@ def sizes_in_whole(tiles: Iterable[TileSizes], areas: int) -> tuple[Integers, In
     return categories, cells
 
 
-def numbered_cells(file: MapFile, sheet: Sheet, place: Rectangle, diagonal: bool, tile: TileNumbers, dtype: str) -> Integers:
+def numbered_cells(file: MapFile, sheet: Sheet, place: Rectangle, diagonal: bool, tile: Numbering, dtype: str) -> Integers:
     """The cells of a tile with the numbers of the areas of the whole, 0 where it is null."""
     _, numbers = clumped(file, sheet, place, diagonal)
     return renumber(numbers, tile, out=numbers if numbers.dtype == dtype else np.empty(numbers.shape, dtype))

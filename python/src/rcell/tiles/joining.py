@@ -4,17 +4,18 @@ Four functions do all of it, over numpy arrays alone: `merge` adds tables, `edge
 what the joining needs, `join` finds which areas of tiles are one area of the whole and what its number is, `renumber`
 gives the cells of a tile the numbers of the whole. None makes a Python object for an area or for an entry of a table.
 
-The tables of tiles are joined by the proved program rcell-join (`rcell._joiner`), and `merge` is the second opinion on them in
-the tests; the sizes of areas, whose numbers need not be categories, are still added by `merge`.
+The tables of tiles are joined by the proved program rcell-join (`rcell._joiner`), and so are the areas of bands, tiles as wide as the
+map, and their sizes (`rcell.tiles._bands`). There `merge` and `join` are the second opinion in the tests; of tiles that columns cut
+as well, `join` joins the areas and `merge` adds their sizes.
 
 The laws that the steps follow are proved in the crate `cell_tiles_law` of this project; each is named beside its step.
 """
 
 from __future__ import annotations
 
-from collections.abc import Iterable
+from collections.abc import Iterable, Sequence
 from dataclasses import dataclass
-from typing import Any, NamedTuple
+from typing import Any, NamedTuple, Protocol
 
 import numpy as np
 import numpy.typing as npt
@@ -24,7 +25,7 @@ from scipy.sparse.csgraph import connected_components
 from .._merging import Counts, TooManyCells, merge
 from .._numbers import NULL
 
-__all__ = ["NULL", "Counts", "Edge", "Edges", "Joined", "Rectangle", "TileNumbers", "TooManyCells", "edges", "join",
+__all__ = ["NULL", "Counts", "Edge", "Edges", "Joined", "Numbering", "Rectangle", "TileNumbers", "TooManyCells", "edges", "join",
            "merge", "renumber"]
 
 Integers = npt.NDArray[Any]
@@ -102,6 +103,21 @@ def edges(place: Rectangle, categories: Integers, numbers: Integers) -> Edges:
     return Edges(place, begun, edge(0, every), edge(-1, every), edge(every, 0), edge(every, -1))
 
 
+class Numbering(Protocol):
+    """The numbers that the areas of one tile have in the whole."""
+
+    @property
+    def place(self) -> Rectangle:
+        """Where the tile lies."""
+
+    @property
+    def areas(self) -> int:
+        """How many areas the tile has."""
+
+    def looked_up(self, numbers: Integers) -> Integers:
+        """Numbers of the whole in place of numbers of the tile, 0 for null."""
+
+
 @dataclass(frozen=True, eq=False)
 class TileNumbers:
     """The numbers that the areas of one tile have in the whole, told by its rows and its borders.
@@ -129,13 +145,24 @@ class TileNumbers:
     numbers: Integers
     later: Integers
 
+    @property
+    def areas(self) -> int:
+        return int(self.begun[-1])
+
+    def looked_up(self, numbers: Integers) -> Integers:
+        found = _numbers_of(np.maximum(numbers, 1), self)
+        if len(self.touching):
+            place = np.minimum(np.searchsorted(self.touching, numbers), len(self.touching) - 1)
+            found = np.where(self.touching[place] == numbers, self.numbers[place], found)
+        return np.where(numbers > 0, found, 0)
+
 
 @dataclass(frozen=True, eq=False)
 class Joined:
     """All tiles in the order they were given, and the number of areas of the whole."""
 
     areas: int
-    tiles: list[TileNumbers]
+    tiles: Sequence[TileNumbers]
 
 
 def join(tiles: Iterable[Edges], diagonal: bool = False) -> Joined:
@@ -341,14 +368,14 @@ def _numbers_of(numbers: Integers, tile: TileNumbers) -> Integers:
     return np.asarray(tile.before[row] + (numbers - begun) - later)
 
 
-def renumber(numbers: Integers, tile: TileNumbers, out: Integers | None = None) -> Integers:
+def renumber(numbers: Integers, tile: Numbering, out: Integers | None = None) -> Integers:
     """Give numbers of areas of a tile the numbers of the areas of the whole.
 
     Parameters
     ----------
     numbers : ndarray of integers, any shape
         Numbers of the tile's areas, as `edges` was given them, 0 for null.
-    tile : TileNumbers
+    tile : Numbering
         What `join` tells of the tile.
     out : ndarray of integers, the same shape, optional
         Where to put them: it may be `numbers` itself. Its type has room for the number of areas of the whole.
@@ -367,23 +394,14 @@ def renumber(numbers: Integers, tile: TileNumbers, out: Integers | None = None) 
     """
     if out is None:
         out = np.empty(numbers.shape, dtype=np.int64)
-    areas = int(tile.begun[-1])
     table = None
-    if numbers.size > areas:
-        table = np.zeros(areas + 1, dtype=out.dtype)
-        for start in range(1, areas + 1, PIECE):
-            piece = np.arange(start, min(start + PIECE, areas + 1))
-            table[piece] = _looked_up(piece, tile)
+    if numbers.size > tile.areas:
+        table = np.zeros(tile.areas + 1, dtype=out.dtype)
+        for start in range(1, tile.areas + 1, PIECE):
+            piece = np.arange(start, min(start + PIECE, tile.areas + 1))
+            table[piece] = tile.looked_up(piece)
     given, taken = numbers.reshape(-1), out.reshape(-1)
     for start in range(0, given.size, PIECE):
         piece = given[start:start + PIECE]
-        taken[start:start + PIECE] = _looked_up(piece, tile) if table is None else table[piece]
+        taken[start:start + PIECE] = tile.looked_up(piece) if table is None else table[piece]
     return out
-
-
-def _looked_up(numbers: Integers, tile: TileNumbers) -> Integers:
-    found = _numbers_of(np.maximum(numbers, 1), tile)
-    if len(tile.touching):
-        place = np.minimum(np.searchsorted(tile.touching, numbers), len(tile.touching) - 1)
-        found = np.where(tile.touching[place] == numbers, tile.numbers[place], found)
-    return np.where(numbers > 0, found, 0)

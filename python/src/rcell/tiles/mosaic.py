@@ -22,9 +22,10 @@ from .._script import labels_in
 from .._table import Table
 from .._text import NULL
 from . import _tasks
+from ._bands import JoinedBands, are_bands, join_bands, sizes_in_bands
 from ._cluster import SHARE, free_memory
 from ._engine import Engine
-from ._memory import Demand, areas_demand, grid_demand, places, size_for, sizes_demand, table_demand
+from ._memory import Demand, areas_demand, band_sizes_demand, grid_demand, places, size_for, sizes_demand, table_demand
 from ._output import tile_writer
 from ._scripts import COMMANDS, NO_REACH, Assignment, Clump, Reclass, Statement, Stats, TileScript, spare_name, statements
 from ._sheet import MapFile, Sheet, open_maps
@@ -367,7 +368,7 @@ class Mosaic:
         -------
         DataFrame, or a Table where pandas is not installed
             `patch` (the number that r.clump gives in the undivided map, ascending from 1), `category`, `cells`. This process
-            holds it whole: 24 bytes for each area.
+            holds it whole: 24 bytes for each area, and up to 60 more while bands are joined.
 
         Raises
         ------
@@ -386,21 +387,34 @@ class Mosaic:
         file = self._file(name)
         demand = sizes_demand(file.bytes)
         tiles = list(places(self.sheet, self._size_for(demand)))
+        if are_bands(tiles):
+            demand = band_sizes_demand(file.bytes)
+            tiles = list(places(self.sheet, self._size_for(demand)))
         memory = self._memory(demand, tiles[0])
         whole = self._joined(file, tiles, diagonal, memory)
-        calls = ((file, self.sheet, place, diagonal, tile) for place, tile in zip(tiles, whole.tiles))
-        with self._engine.tasks("patches", len(tiles)) as tasks:
-            sizes = (tile for _, tile in tasks.stream(_tasks.tile_sizes, calls, memory))
-            categories, cells = _tasks.sizes_in_whole(sizes, whole.areas)
+        categories, cells = self._sizes(file, tiles, diagonal, whole, memory)
         numbers = np.column_stack([np.arange(1, whole.areas + 1), categories])
         answer = Table("r.clump", 0, ("patch", "category"), numbers, cells, cell=self.sheet.cell, crs=self.sheet.crs)
         return answer.frame() if has("pandas") else answer
 
-    def _joined(self, file: MapFile, tiles: list[Rectangle], diagonal: bool, memory: int) -> Joined:
-        """The areas of tiles joined to those of the whole (law `numbers_join`)."""
+    def _joined(self, file: MapFile, tiles: list[Rectangle], diagonal: bool, memory: int) -> Joined | JoinedBands:
+        """The areas of tiles joined to those of the whole: of bands by rcell-join, of others in Python (law `numbers_join`)."""
+        if are_bands(tiles):
+            find_joiner()  # it is needed at the end, and missed at the beginning
         with self._engine.tasks("areas", len(tiles)) as tasks:
             found = [tasks.ask(_tasks.edges_of, file, self.sheet, place, diagonal, memory=memory) for place in tiles]
-            return join(tasks.take_each(found), diagonal)
+            edges = tasks.take_each(found)
+            return join_bands(edges, diagonal) if are_bands(tiles) else join(edges, diagonal)
+
+    def _sizes(self, file: MapFile, tiles: list[Rectangle], diagonal: bool, whole: Joined | JoinedBands, memory: int) -> tuple[Any, Any]:
+        """Categories and cells of the areas of the whole, in the order of their numbers."""
+        with self._engine.tasks("patches", len(tiles)) as tasks:
+            if isinstance(whole, JoinedBands):
+                calls = ((file, self.sheet, place, diagonal) for place in tiles)
+                bands = sorted(tasks.stream(_tasks.band_sizes, calls, memory), key=lambda band: band[0])
+                return sizes_in_bands(whole, [table for _, (table, _) in bands], [categories for _, (_, categories) in bands])
+            numbered = ((file, self.sheet, place, diagonal, tile) for place, tile in zip(tiles, whole.tiles))
+            return _tasks.sizes_in_whole((tile for _, tile in tasks.stream(_tasks.tile_sizes, numbered, memory)), whole.areas)
 
     def _file(self, name: str) -> MapFile:
         if name not in self._files:

@@ -1,0 +1,280 @@
+#!/usr/bin/python3
+"""Times rcell-join beside sort and scipy, and writes what it measured into docs/SPEED.md.
+
+    joining.py [--rounds N] [--short] [--only WORD] [--program PATH] [--write]
+
+Three parts: `tables` of the tables of 64 tiles, beside `sort -m` alone and beside `sort -m` with an awk program behind it that adds up
+equal lines; `areas` of the edges of many bands, beside scipy's connected_components on the pairs of labels that meet over the cuts; and
+`sizes`. All are made here, at random and always the same, and the answers of the contenders are compared before they are timed. They
+take turns, and the least processor time (user and system, of all processes of a pipe) of all rounds counts. Memory is the peak of
+the process. Each part is doubled some times, so that the cost of an entry, of a label and of an area can be read down its column.
+
+It needs Debian's python3-scipy and time, and is run by Debian's own Python. --short takes inputs of a tenth and one round.
+"""
+from __future__ import annotations
+
+import argparse
+import os
+import shutil
+import subprocess
+import sys
+import tempfile
+from dataclasses import dataclass
+from typing import Any, Callable, Iterator
+
+import numpy as np
+
+HERE = os.path.dirname(os.path.abspath(__file__))
+ROOT = os.path.dirname(HERE)
+DOCUMENT = f"{ROOT}/docs/SPEED.md"
+MARKS = ("<!-- The tables of bench/joining.py -->\n", "<!-- End of them -->\n")
+ENVIRONMENT = {"PATH": "/usr/bin:/bin", "LC_ALL": "C"}
+TILES = 64
+ROW_OF_CATEGORIES = 4  # categories of the cells of an edge: few, so that areas go on in the next band
+LENGTH_OF_A_RUN = 8
+ADDING = "NR == 1 || $1 != before { if (NR > 1) print before, cells; before = $1; cells = 0 } { cells += $2 } END { print before, cells }"
+MEGABYTE = 2**20
+
+
+@dataclass
+class Cost:
+    """Processor seconds, and the most bytes of memory that one process took."""
+
+    seconds: float
+    memory: int
+
+
+def cost_of(commands: list[list[str]], output: str = "/dev/null") -> Cost:
+    """What a pipe of commands costs; all must end well. Of memory `time` tells, since a process that Python starts begins with its own."""
+    running: list[subprocess.Popen[bytes]] = []
+    with open(output, "wb") as file, tempfile.TemporaryDirectory() as told:
+        for place, words in enumerate(commands):
+            before, is_last = running[-1].stdout if running else None, place == len(commands) - 1
+            timed = ["/usr/bin/time", "-f", "%M", "-o", f"{told}/{place}", *words]
+            running.append(subprocess.Popen(timed, stdin=before, stdout=file if is_last else subprocess.PIPE, env=ENVIRONMENT))
+            if before:
+                before.close()
+        used = [os.wait4(process.pid, 0) for process in running]
+        if any(status for _, status, _ in used):
+            sys.exit(f"{commands} ended in {[os.waitstatus_to_exitcode(status) for _, status, _ in used]}")
+        memory = [int(open(f"{told}/{place}", encoding="ascii").read()) for place in range(len(commands))]
+    return Cost(sum(it.ru_utime + it.ru_stime for _, _, it in used), 1024 * max(memory))
+
+
+def least(contenders: dict[str, Callable[[], Cost]], rounds: int) -> dict[str, Cost]:
+    """The contenders by turns: of each the least seconds of all rounds, and the least memory."""
+    found: dict[str, Cost] = {}
+    for _ in range(rounds):
+        for name, run in contenders.items():
+            cost, known = run(), found.get(name)
+            found[name] = cost if known is None else Cost(min(cost.seconds, known.seconds), min(cost.memory, known.memory))
+    return found
+
+
+def megabytes(count: float) -> str:
+    return f"{count / MEGABYTE:.0f} MB" if count >= 10 * MEGABYTE else f"{count / MEGABYTE:.1f} MB"
+
+
+# Tables
+
+
+def make_tables(folder: str, entries: int) -> list[str]:
+    """Tables of so many entries together, whose categories are those of a quarter as many combinations."""
+    random = np.random.default_rng(entries)
+    paths = []
+    for tile in range(TILES):
+        categories = np.sort(random.choice(entries // 4, entries // TILES, replace=False))
+        cells = random.integers(1, 10**6, len(categories))
+        paths.append(f"{folder}/{tile}.table")
+        with open(paths[-1], "w", encoding="ascii") as file:
+            file.writelines(f"{category} {count}\n" for category, count in zip(categories.tolist(), cells.tolist()))
+    return paths
+
+
+def time_tables(program: str, folder: str, entries: int, rounds: int) -> Iterator[str]:
+    paths = make_tables(folder, entries)
+    sort = ["sort", "-m", "-n", "-s", "-k1,1", f"--batch-size={TILES}", *paths]
+    awk = ["awk", "-v", "OFMT=%.0f", "-v", "CONVFMT=%.0f", ADDING]
+    for name, commands in (("joined", [[program, "tables", *paths]]), ("added", [sort, awk])):
+        cost_of(commands, f"{folder}/{name}")
+    subprocess.run(["cmp", f"{folder}/joined", f"{folder}/added"], check=True)
+    found = least({"join": lambda: cost_of([[program, "tables", *paths]]), "sort": lambda: cost_of([sort]), "both": lambda: cost_of([sort, awk])}, rounds)
+    join, alone, both = (found[name] for name in ("join", "sort", "both"))
+    yield f"{entries:,} | {join.seconds:.2f} s | {alone.seconds:.2f} s | {join.seconds / alone.seconds:.2f} | {both.seconds:.2f} s | " \
+          f"{join.seconds / both.seconds:.2f} | {1e9 * join.seconds / entries:.0f} ns | {megabytes(join.memory)} | {megabytes(alone.memory)}"
+
+
+TABLES = ("Tables", "`rcell-join tables` of 64 tables, each entry in some four of them.",
+          "Entries of all | rcell-join | `sort -m` | ratio | `sort -m \\| awk` | ratio | an entry | memory: rcell-join | `sort -m`")
+
+# Areas
+
+
+@dataclass
+class Made:
+    """Bands whose edges were written: their paths, the pairs of labels that meet over the cuts, and how many labels there are."""
+
+    paths: list[str]
+    pairs: str
+    labels: int
+    columns: int
+
+
+def edge(random: np.random.Generator, columns: int, areas: int) -> tuple[Any, Any]:
+    """A row of cells in runs, and the numbers of their areas, each another one."""
+    runs = -(-columns // LENGTH_OF_A_RUN)
+    numbers = np.sort(random.choice(areas, runs, replace=False)) + 1
+    categories = random.integers(1, ROW_OF_CATEGORIES + 1, runs)
+    return np.repeat(categories, LENGTH_OF_A_RUN)[:columns], np.repeat(numbers, LENGTH_OF_A_RUN)[:columns]
+
+
+def make_bands(folder: str, bands: int, columns: int, areas: int) -> Made:
+    random = np.random.default_rng(bands + columns)
+    paths, pairs, above = [], [], None
+    for band in range(bands):
+        rows = [*edge(random, columns, areas), *edge(random, columns, areas)]
+        paths.append(f"{folder}/{band:05d}.edges")
+        with open(paths[-1], "w", encoding="ascii") as file:
+            file.write(f"north: {-band}\nsouth: {-band - 1}\neast: {columns}\nwest: 0\nrows: 5\ncols: {columns}\n")
+            file.writelines(" ".join(map(str, row.tolist())) + "\n" for row in rows)
+            file.write(f"{areas}{' *' * (columns - 1)}\n")
+        if above is not None:
+            meet = above[0] == rows[0]
+            pairs.append(np.unique(np.stack([above[1][meet] - 1 + (band - 1) * areas, rows[1][meet] - 1 + band * areas]), axis=1))
+        above = rows[2:]
+    np.save(f"{folder}/pairs.npy", np.concatenate(pairs, axis=1))
+    return Made(paths, f"{folder}/pairs.npy", bands * areas, columns)
+
+
+UNION = """
+import resource, sys, time
+import numpy as np
+from scipy.sparse import coo_matrix
+from scipy.sparse.csgraph import connected_components
+pairs, labels = np.load(sys.argv[1]), int(sys.argv[2])
+begin = time.process_time()
+links = coo_matrix((np.ones(pairs.shape[1], dtype=np.int8), (pairs[0], pairs[1])), shape=(labels, labels))
+count = connected_components(links, directed=False)[0]
+print(count, time.process_time() - begin, resource.getrusage(resource.RUSAGE_SELF).ru_maxrss * 1024)
+"""
+
+
+def union(made: Made) -> tuple[int, Cost]:
+    """How many areas scipy finds, and what its union alone costs, without the start of Python and the reading of pairs."""
+    words = [sys.executable, "-c", UNION, made.pairs, str(made.labels)]
+    count, seconds, memory = subprocess.run(words, check=True, capture_output=True, text=True, env=ENVIRONMENT).stdout.split()
+    return int(count), Cost(float(seconds), int(memory))
+
+
+def greatest_number(path: str) -> int:
+    """The greatest number that an areas text tells."""
+    ran = subprocess.run(["awk", "{ n = $4 + $3 - $2; if (n > most) most = n } END { printf \"%d\\n\", most }", path], check=True, capture_output=True)
+    return int(ran.stdout)
+
+
+def time_areas(program: str, folder: str, bands: int, columns: int, areas: int, rounds: int) -> Iterator[str]:
+    made = make_bands(folder, bands, columns, areas)
+    words = [program, "areas", *made.paths]
+    cost_of([words], f"{folder}/joined")
+    if (found := greatest_number(f"{folder}/joined")) != (expected := union(made)[0]):
+        sys.exit(f"{found} areas by rcell-join, {expected} by scipy")
+    costs = least({"join": lambda: cost_of([words]), "scipy": lambda: union(made)[1]}, rounds)
+    join, scipy = costs["join"], costs["scipy"]
+    text = sum(os.path.getsize(path) for path in made.paths)
+    formula = 8 * made.labels + 4 * 16 * columns
+    yield f"{bands:,} x {columns:,} | {made.labels:,} | {megabytes(text)} | {join.seconds:.2f} s | {scipy.seconds:.2f} s | {join.seconds / scipy.seconds:.2f} | " \
+          f"{1e9 * join.seconds / made.labels:.0f} ns | {1e9 * join.seconds / (5 * bands * columns):.0f} ns | {megabytes(join.memory)} | {megabytes(formula)} | " \
+          f"{megabytes(scipy.memory)}"
+
+
+AREAS = ("Areas", "`rcell-join areas` of the edges of bands, in runs of 8 cells of four categories, and scipy's union of the same pairs, without "
+         "the reading of texts, the search for pairs and the writing of numbers.",
+         "Bands x columns | areas | edges | rcell-join | scipy's union | ratio | an area | a cell of the edges | memory: rcell-join | formula | scipy")
+
+
+# Sizes
+
+
+def time_sizes(program: str, folder: str, bands: int, areas: int, rounds: int) -> Iterator[str]:
+    make_bands(folder, bands, 64, areas)
+    paths = sorted(f"{folder}/{name}" for name in os.listdir(folder) if name.endswith(".edges"))
+    cost_of([[program, "areas", *paths]], f"{folder}/joined")
+    count = greatest_number(f"{folder}/joined")
+    text = "".join(f"{area} {1 + area % 97}\n" for area in range(1, areas + 1))
+    tables = [f"{folder}/{band}.sizes" for band in range(bands)]
+    for path in tables:
+        with open(path, "w", encoding="ascii") as file:
+            file.write(text)
+    words = [program, "sizes", f"{folder}/joined", *tables]
+    cost_of([words], f"{folder}/sizes")
+    added = subprocess.run(["awk", "{ cells += $2 } END { printf \"%d %.0f\\n\", NR, cells }", f"{folder}/sizes"], check=True, capture_output=True, text=True)
+    if added.stdout.split() != [str(count), str(bands * sum(1 + area % 97 for area in range(1, areas + 1)))]:
+        sys.exit(f"sizes: {added.stdout}, where {count} areas are")
+    cost = least({"join": lambda: cost_of([words])}, rounds)["join"]
+    yield f"{bands:,} | {bands * areas:,} | {cost.seconds:.2f} s | {1e9 * cost.seconds / bands / areas:.0f} ns | {megabytes(cost.memory)} | {megabytes(8 * count)}"
+
+
+SIZES = ("Sizes", "`rcell-join sizes`.", "Bands | entries of all tables | rcell-join | an entry | memory | formula")
+
+
+def machine() -> str:
+    with open("/proc/cpuinfo", encoding="ascii") as file:
+        model = next(line.split(":")[1].strip() for line in file if line.startswith("model name"))
+    return f"{os.cpu_count()} processors of an {model}, Linux {os.uname().release.split('-')[0]}"
+
+
+def table(part: tuple[str, str, str], rows: list[str]) -> str:
+    title, text, header = part
+    columns = header.replace("\\|", "").count("|") + 1
+    return "\n".join([f"**{title}.** {text}", "", f"| {header} |", "|---" * columns + "|", *(f"| {row} |" for row in rows), ""])
+
+
+def measured(given: argparse.Namespace) -> Iterator[str]:
+    part, rounds = (10, 1) if given.short else (1, given.rounds)
+    tables = [(entries // part,) for entries in (1_000_000, 2_000_000, 4_000_000)]
+    bands = [(1000 // part, columns, areas) for columns, areas in ((1000, 10_000), (2000, 10_000), (4000, 10_000), (1000, 20_000), (1000, 40_000), (1000, 100_000))]
+    bands[1:1] = [(2000 // part, 1000, 10_000)]
+    sizes = [(100, areas // part) for areas in (50_000, 100_000, 200_000)]
+    for kind, run, inputs in ((TABLES, time_tables, tables), (AREAS, time_areas, bands), (SIZES, time_sizes, sizes)):
+        if given.only and given.only not in kind[0].lower():
+            continue
+        rows = []
+        for numbers in inputs:
+            folder = tempfile.mkdtemp(prefix="joining-", dir=given.folder)
+            try:
+                rows += run(os.path.abspath(given.program), folder, *numbers, rounds)
+            finally:
+                shutil.rmtree(folder)
+            print(rows[-1], file=sys.stderr, flush=True)
+        yield table(kind, rows)
+
+
+def write(text: str) -> None:
+    with open(DOCUMENT, encoding="utf-8") as file:
+        document = file.read()
+    begin, end = document.index(MARKS[0]) + len(MARKS[0]), document.index(MARKS[1])
+    with open(DOCUMENT, "w", encoding="utf-8") as file:
+        file.write(document[:begin] + text + document[end:])
+
+
+def main() -> None:
+    words = argparse.ArgumentParser(description="Times rcell-join beside sort and scipy.")
+    words.add_argument("--rounds", type=int, default=5)
+    words.add_argument("--short", action="store_true")
+    words.add_argument("--only", default="")
+    words.add_argument("--program", default=f"{ROOT}/bin/rcell-join")
+    words.add_argument("--folder", default=None, help="where inputs are made")
+    words.add_argument("--write", action="store_true")
+    given = words.parse_args()
+    before = os.getloadavg()[0]
+    parts = list(measured(given))
+    loads = sorted((before, os.getloadavg()[0]))
+    head = f"{machine()}; a load of {loads[0]:.0f} to {loads[1]:.0f} by other work; the least of {1 if given.short else given.rounds} rounds.\n\n"
+    text = head + "\n".join(parts)
+    if given.write:
+        write(text)
+    print(text)
+
+
+if __name__ == "__main__":
+    main()

@@ -1,0 +1,179 @@
+"""What rcell-join is tried on: tables at random, maps that are hard to cut, their bands, and texts that are damaged."""
+from __future__ import annotations
+
+import random
+from dataclasses import dataclass
+from typing import Callable
+
+from join_model import Format
+from model_grids import COORDINATE_UNIT, Cell, CellMap, Region
+
+Rows = list[list[Cell]]
+Named = list[tuple[bytes, bytes]]  # names of files with their texts
+
+FORMATS = [(Format(), []), (Format(b"|", b"NA"), [b"separator=pipe", b"null_value=NA"]), (Format(b","), [b"separator=,"])]
+
+
+# Tables
+
+
+def random_files(draw: random.Random, form: Format) -> Named:
+    """Texts of tables at random, of which one in three is damaged."""
+    width, cells = draw.randint(1, 4), draw.choice([2, 3, 9])
+    files = []
+    for place in range(draw.randint(1, 6)):
+        keys = {tuple((True, 0) if draw.random() < 0.2 else (False, draw.randint(-cells, cells)) for _ in range(width)) for _ in range(draw.randint(0, 12))}
+        counts = [draw.choice([1, 7, 10**6, 2**63]) if draw.random() < 0.05 else draw.randint(1, 99) for _ in keys]
+        files.append((b"t%d" % place, b"".join(map(form.printed, sorted(zip(keys, counts))))))
+    if draw.random() < 0.33:
+        at = draw.randrange(len(files))
+        name, text = files[at]
+        files[at] = name, damaged(draw, text, form.separator)
+    return files
+
+
+def long_files(draw: random.Random, form: Format) -> Named:
+    """Texts of tables that are longer than the blocks in which they are read, of which one in three is damaged."""
+    width, files = draw.choice([1, 2, 4, 16]), []
+    greatest = draw.choice([9, 5000, 2**31 - 1])
+    for place in range(draw.randint(1, 5)):
+        keys = {tuple((True, 0) if draw.random() < 0.05 else (False, draw.randint(-greatest, greatest)) for _ in range(width))
+                for _ in range(draw.choice([3, 1500, 9000]))}
+        files.append((b"t%d" % place, b"".join(form.printed((key, draw.choice([1, 99, 10**9]))) for key in sorted(keys))))
+    if draw.random() < 0.33:
+        name, text = files[-1]
+        files[-1] = name, damaged(draw, text, form.separator)
+    return files
+
+
+def damaged(draw: random.Random, text: bytes, separator: bytes = b" ") -> bytes:
+    """A text that was cut off, or has one byte other or more, or its lines in another order, or one of them twice."""
+    lines, at = text.splitlines(keepends=True), draw.randrange(len(text) + 1)
+    kind = draw.randrange(6)
+    if kind == 0:
+        return text[:at]
+    if kind == 1:
+        return text[:at] + bytes([draw.choice(b"0159-*x \n" + separator)]) + text[at + 1 :]
+    if kind == 2:
+        return text[:at] + bytes([draw.choice(b"0159-*x \n" + separator)]) + text[at:]
+    if kind == 3:
+        return b"".join(lines[: draw.randint(0, len(lines))])
+    draw.shuffle(lines)
+    return b"".join(lines if kind == 4 else lines + lines[:1])
+
+
+# Maps
+
+
+def comb(rows: int, cols: int) -> Rows:
+    """Teeth that meet in the last row alone: one area, which is many until the last band."""
+    return [[1 if row == rows - 1 or col % 2 == 0 else 2 for col in range(cols)] for row in range(rows)]
+
+
+def spiral(rows: int, cols: int) -> Rows:
+    """A way from the corner to the middle, one cell wide."""
+    cells: Rows = [[2] * cols for _ in range(rows)]
+
+    def is_way(row: int, col: int) -> bool:
+        return 0 <= row < rows and 0 <= col < cols and cells[row][col] == 1
+
+    row, col, down, right, turns = 0, 0, 0, 1, 0
+    cells[0][0] = 1
+    while turns < 2:
+        ahead = (row + down, col + right)
+        if 0 <= ahead[0] < rows and 0 <= ahead[1] < cols and not is_way(*ahead) and not is_way(ahead[0] + down, ahead[1] + right):
+            row, col = ahead
+            cells[row][col], turns = 1, 0
+        else:
+            down, right, turns = right, -down, turns + 1
+    return cells
+
+
+def of_places(cell: Callable[[int, int], Cell]) -> Callable[[int, int], Rows]:
+    return lambda rows, cols: [[cell(row, col) for col in range(cols)] for row in range(rows)]
+
+
+SHAPES: dict[str, Callable[[int, int], Rows]] = {
+    "comb": comb,
+    "comb upside down": lambda rows, cols: comb(rows, cols)[::-1],
+    "comb of rows": lambda rows, cols: [list(row) for row in zip(*comb(cols, rows))],
+    "spiral": spiral,
+    "spiral from below": lambda rows, cols: [row[::-1] for row in spiral(rows, cols)[::-1]],
+    "checkerboard": of_places(lambda row, col: (row + col) % 2),
+    "checkerboard with null": of_places(lambda row, col: None if (row + col) % 2 else -7),
+    "diagonals": of_places(lambda row, col: (row - col) % 3),
+    "diagonals to the left": of_places(lambda row, col: (row + col) % 3 or None),
+    "steep diagonals": of_places(lambda row, col: (row - 2 * col) % 5),
+    "crossing lines": of_places(lambda row, col: int(row % 4 == 1 or col % 5 == 2)),
+    "one area": of_places(lambda row, col: 2147483647),
+    "null": of_places(lambda row, col: None),
+    "rows": of_places(lambda row, col: row % 2),
+    "columns": of_places(lambda row, col: None if col % 3 == 2 else col % 3),
+}
+
+
+def random_rows(draw: random.Random, rows: int, cols: int) -> Rows:
+    """Cells at random: few categories make large areas, and copies of neighbours longer ones."""
+    kinds: Rows = [[1, 1, 2, None], [1, 2], [0, 1, 2, 3, None], [-2147483647, 2147483647], list(range(9))]
+    some, likeness = draw.choice(kinds), draw.choice([0, 0.4, 0.8])
+    cells: Rows = []
+    for row in range(rows):
+        cells.append([])
+        for col in range(cols):
+            near = [line[at] for line, at in ((cells[max(row - 1, 0)], col), (cells[row], col - 1)) if 0 <= at < len(line)]
+            cells[row].append(draw.choice(near if near and draw.random() < likeness else some))
+    return cells
+
+
+def random_map(draw: random.Random) -> CellMap:
+    """A map at random, or a shape that is hard to cut; some have one row or one column."""
+    rows, cols = draw.choice([(1, draw.randint(1, 20)), (draw.randint(1, 20), 1), *[(draw.randint(2, 14), draw.randint(2, 12))] * 8])
+    made = draw.choice(list(SHAPES.values()))(rows, cols) if draw.random() < 0.25 else random_rows(draw, rows, cols)
+    return in_region(draw, made)
+
+
+def in_region(draw: random.Random, rows: Rows) -> CellMap:
+    """Cells as a map; its sides have decimals in some, and are as far out as sides may be in others."""
+    height, width = draw.choice([(1, 1), (25, 25), (0.5, 2), (0.00000001, 3)])
+    north = draw.choice([0, len(rows) * height, 5 * 10**6, -0.25])
+    south, west = north - len(rows) * height, draw.choice([0, -3.5, 4 * 10**5])
+    east = west + len(rows[0]) * width
+    north, south, east, west = (round(side * COORDINATE_UNIT) for side in (north, south, east, west))
+    return CellMap(Region(north, south, east, west, len(rows), len(rows[0])), rows)
+
+
+# Bands
+
+
+@dataclass(frozen=True)
+class Cut:
+    """A map, and the row behind each of its bands, from the top."""
+
+    whole: CellMap
+    ends: list[int]
+
+    @property
+    def spans(self) -> list[tuple[int, int]]:
+        return list(zip([0, *self.ends], self.ends))
+
+
+def band_of(whole: CellMap, begin: int, end: int) -> CellMap:
+    """The rows from one up to another as a map of their own."""
+    region = whole.region
+    height = (region.north - region.south) // region.rows
+    north, south = region.north - begin * height, region.north - end * height
+    return CellMap(Region(north, south, region.east, region.west, end - begin, region.cols), whole.rows[begin:end])
+
+
+def random_cut(draw: random.Random, whole: CellMap) -> Cut:
+    """Cut at random; in bands of one row in some."""
+    rows = whole.region.rows
+    if draw.random() < 0.15:
+        return Cut(whole, list(range(1, rows + 1)))
+    inner = draw.sample(range(1, rows), draw.randint(0, min(rows - 1, 6)))
+    return Cut(whole, [*sorted(inner), rows])
+
+
+def every_cut(whole: CellMap) -> list[Cut]:
+    rows = whole.region.rows
+    return [Cut(whole, [row for row in range(1, rows) if chosen >> (row - 1) & 1] + [rows]) for chosen in range(2 ** (rows - 1))]
