@@ -7,7 +7,7 @@ use Rattle.std.specs.FinMap as finmap
 use Rattle.std.specs.Ordering.{int_cmp}
 use Rattle.cell_core_values.specs.Region.{RegionValue}
 use Rattle.std.proofs.lemmas.Bool.{cases_order}
-use Rattle.cell_core.specs.Grid.{Grid, CellValue, IsFilled}
+use Rattle.cell_core.specs.Grid.{Grid, CellValue, IsFilled, cell_at}
 use Rattle.cell_cats_areas.specs.declared.clump.Joining.{Joining}
 use Rattle.cell_cats_areas.specs.Areas.{Position, cell_at_spot, IsEarlierCell, HasNumber, IsClumping}
 use Rattle.cell_cats_areas.specs.ClumpLaw.{ClumpingIsOne}
@@ -94,7 +94,7 @@ cells_one j m a b one other p = at_cell (cell_at_spot m p) refl
         n.2 ∙ ap (λ (i : ℕ). Some (pos i)) (HasNumber-one j m p n.0 k.0 n.1 k.1) ∙ sym k.2
 
 -- maps of one region, of which each cell is the same, have the same rows
-same_rows : (a b : Grid) → IsFilled a.region a.rows → IsFilled b.region b.rows → a.region ≡ b.region → ((p : Position) → cell_at_spot a p ≡ cell_at_spot b p) → a.rows ≡ b.rows
+pub same_rows : (a b : Grid) → IsFilled a.region a.rows → IsFilled b.region b.rows → a.region ≡ b.region → ((r c : ℕ) → r < a.region.rows → c < a.region.cols → cell_at a r c ≡ cell_at b r c) → a.rows ≡ b.rows
 same_rows a b a_filled b_filled region cells =
     let a_count = a_filled.count in
     let b_count = b_filled.count in
@@ -107,10 +107,10 @@ same_rows a b a_filled b_filled region cells =
     let b_wide : length (get_or b.rows r []) ≡ b.region.cols = All-get_or (λ xs. length xs ≡ b.region.cols) b.rows r [] r_lt b_filled.width in
     get_or_default a.rows r d [] lt
     ∙ same_lists (get_or a.rows r []) (get_or b.rows r []) (omega arith)
-    (λ c e c_lt. get_or_default (get_or a.rows r []) c e None c_lt ∙ cells (position r c) ∙ get_or_default (get_or b.rows r []) c None e (omega arith))
+    (λ c e c_lt. get_or_default (get_or a.rows r []) c e None c_lt ∙ cells r c (omega arith) (omega arith) ∙ get_or_default (get_or b.rows r []) c None e (omega arith))
     ∙ get_or_default b.rows r [] d r_lt)
 
-same_grid : (a b : Grid) → a.region ≡ b.region → a.rows ≡ b.rows → a.labels ≡ b.labels → a ≡ b
+pub same_grid : (a b : Grid) → a.region ≡ b.region → a.rows ≡ b.rows → a.labels ≡ b.labels → a ≡ b
 same_grid a b region rows labels =
     let first : a ≡ record a { region = b.region } = ap (λ (r : RegionValue). record a { region = r }) region in
     let second : record a { region = b.region } ≡ record b { labels = a.labels } = ap (λ (rs : List (List CellValue)). record { region = b.region; rows = rs; labels = a.labels }) rows in
@@ -119,4 +119,4 @@ same_grid a b region rows labels =
 pub clumping_is_one : ClumpingIsOne
 clumping_is_one j m a b a_filled b_filled one other =
     let region : a.region ≡ b.region = one.region ∙ sym other.region in
-    same_grid a b region (same_rows a b a_filled b_filled region (cells_one j m a b one other)) (one.labels ∙ sym other.labels)
+    same_grid a b region (same_rows a b a_filled b_filled region (λ r c _ _. cells_one j m a b one other (position r c))) (one.labels ∙ sym other.labels)

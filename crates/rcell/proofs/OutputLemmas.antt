@@ -1,14 +1,11 @@
 -- One shelf after each command, one output, and outputs that join.
-use Rattle.std.proofs.Common.{◌≡◌, ℕ, ◌<◌, [], ◌∷◌, ◌++◌, List, Option, Some, None, length, get_or, refl, ap, sym, ◌∙◌, arith, subst, append_assoc}
+use Rattle.std.proofs.Common.{◌≡◌, ℕ, [], ◌∷◌, ◌++◌, List, Option, Some, None, refl, ap, sym, ◌∙◌, arith, subst, append_assoc}
 use Rattle.std.specs.Prelude.{slice_get}
-use Rattle.std.specs.FinMap as finmap
-use Rattle.std.specs.Ordering.{int_cmp}
-use Rattle.std.proofs.lemmas.List.{get_or_default, same_lists}
-use Rattle.std.proofs.lemmas.List.Elements.{All-get_or}
 use Rattle.cell_calc_binding.specs.Formula.{Formula}
+use Rattle.cell_cats_areas.proofs.LawLemmas.{same_grid, same_rows}
 use Rattle.cell_cats_areas.specs.ClumpLaw.{ClumpingIsOne}
 use Rattle.cell_cats_areas.specs.declared.clump.Joining.{Joining}
-use Rattle.cell_core.specs.Grid.{Grid, CellValue, IsFilled, cell_at}
+use Rattle.cell_core.specs.Grid.{Grid}
 use Rattle.cell_core_values.specs.Region.{RegionValue}
 use Rattle.cell_core.specs.Shelf.{ShelfValue}
 use Rattle.rcell_script_commands.specs.declared.command.Command.{Command}
@@ -19,29 +16,6 @@ use Rattle.rcell_script.specs.KnownMaps.{known_after}
 use Rattle.rcell.specs.After.{IsShelfAfter}
 use Rattle.rcell.specs.Output.{Executes, command_text}
 use Rattle.rcell.specs.OutputLaw.{OneOutput, PartsJoin}
-
--- maps of one region, of which each cell is the same, have the same rows
-same_rows : (a b : Grid) → IsFilled a.region a.rows → IsFilled b.region b.rows → a.region ≡ b.region → ((r c : ℕ) → r < a.region.rows → c < a.region.cols → cell_at a r c ≡ cell_at b r c) → a.rows ≡ b.rows
-same_rows a b a_filled b_filled region cells =
-    let a_count = a_filled.count in
-    let b_count = b_filled.count in
-    let rows : a.region.rows ≡ b.region.rows = ap (λ (r : RegionValue). r.rows) region in
-    let cols : a.region.cols ≡ b.region.cols = ap (λ (r : RegionValue). r.cols) region in
-    same_lists a.rows b.rows (omega arith)
-    (λ r d lt.
-    let r_lt : r < length b.rows = omega arith in
-    let a_wide : length (get_or a.rows r []) ≡ a.region.cols = All-get_or (λ xs. length xs ≡ a.region.cols) a.rows r [] lt a_filled.width in
-    let b_wide : length (get_or b.rows r []) ≡ b.region.cols = All-get_or (λ xs. length xs ≡ b.region.cols) b.rows r [] r_lt b_filled.width in
-    get_or_default a.rows r d [] lt
-    ∙ same_lists (get_or a.rows r []) (get_or b.rows r []) (omega arith)
-    (λ c e c_lt. get_or_default (get_or a.rows r []) c e None c_lt ∙ cells r c (omega arith) (omega arith) ∙ get_or_default (get_or b.rows r []) c None e (omega arith))
-    ∙ get_or_default b.rows r [] d r_lt)
-
-same_grid : (a b : Grid) → a.region ≡ b.region → a.rows ≡ b.rows → a.labels ≡ b.labels → a ≡ b
-same_grid a b region rows labels =
-    let first : a ≡ record a { region = b.region } = ap (λ (r : RegionValue). record a { region = r }) region in
-    let second : record a { region = b.region } ≡ record b { labels = a.labels } = ap (λ (rs : List (List CellValue)). record { region = b.region; rows = rs; labels = a.labels }) rows in
-    first ∙ second ∙ ap (λ (l : finmap.FinMap int_cmp (List ℕ)). record b { labels = l }) labels
 
 -- an expression has one map of values
 AreValues-one : (bound : Formula) (shelf : ShelfValue) (a b : Grid) → AreValues bound shelf a → AreValues bound shelf b → a ≡ b

@@ -22,7 +22,7 @@ use Rattle.rcell_loading.specs.declared.run_fault.RunFault.{RunFault}
 use Rattle.rcell_loading.specs.declared.run_fault.RunFault.TheVariants.{GridRegion, GridTwice}
 use Rattle.rcell_loading.specs.declared.run_fault.RunFault.TheVariants as faults
 
-differs : (t : Bool) → (t ≡ true → ⊥) → t ≡ false
+pub differs : (t : Bool) → (t ≡ true → ⊥) → t ≡ false
 differs true apart = absurd (apart refl)
 differs false apart = refl
 

@@ -1,5 +1,5 @@
 -- An accepted script over grids of one region has an output.
-use Rattle.std.proofs.Common.{◌≡◌, ◌≢◌, ℕ, suc, ◌+◌, ◌<◌, Bool, true, false, List, [], ◌∷◌, ◌++◌, length, map, get_or, All, Option, Some, None, Ok, refl, ap, sym, ◌∙◌, arith, append_assoc, append-nil, length-append}
+use Rattle.std.proofs.Common.{◌≡◌, ◌≢◌, ℕ, suc, ◌+◌, ◌<◌, Bool, false, List, [], ◌∷◌, ◌++◌, length, map, get_or, All, Option, Some, None, Ok, refl, ap, sym, ◌∙◌, arith, append_assoc, append-nil, length-append}
 use Rattle.std.specs.Prelude.{bytes_eq, nat_lt}
 use Rattle.std.specs.List.{AllZip, position_from}
 use Rattle.std.proofs.lemmas.Bool.Decides.{nat_tests}
@@ -11,7 +11,7 @@ use Rattle.cell_core.specs.Shelf.{ShelfValue}
 use Rattle.cell_ascii_meaning.specs.CellTexts.{grid_of}
 use Rattle.cell_ascii_meaning.specs.GridText.{Denotes}
 use Rattle.cell_ascii_law.proofs.GridLawLemmas.{reading_agrees}
-use Rattle.rcell_loading.proofs.LoadingLemmas.{added-same}
+use Rattle.rcell_loading.proofs.LoadingLemmas.{added-same, differs}
 use Rattle.rcell.specs.runs.Accepted.{AreGrids, IsAccepted}
 use Rattle.rcell_making.specs.Making.{with_map}
 use Rattle.rcell_loading.specs.Loading.{with_grid, shelf_of_one, shelf_from, then_grids}
@@ -21,10 +21,6 @@ use Rattle.rcell.specs.runs.Outcomes.{Writes}
 use Rattle.rcell.specs.declared.outcome.Outcome.{Outcome}
 use Rattle.rcell_loading.specs.Sources.{Named}
 use Rattle.rcell_script.specs.declared.statement.Statement.{Statement}
-
-differs : (t : Bool) → (t ≡ true → ⊥) → t ≡ false
-differs true apart = absurd (apart refl)
-differs false apart = refl
 
 name_at : (front : List (List ℕ)) (name : List ℕ) (back : List (List ℕ)) (d : List ℕ) → get_or (front ++ name ∷ back) (length front) d ≡ name
 name_at [] name back d = refl

@@ -19,7 +19,7 @@ use Rattle.rcell.specs.runs.Outcomes.{Failing, IsDone}
 use Rattle.rcell.specs.runs.Statuses.{fault_status}
 use Rattle.rcell.proofs.runs.ExecutionLemmas.{done_within, line_above}
 
-not_none : {X : Type 0} → true ≡ false → X
+pub not_none : {X : Type 0} → true ≡ false → X
 not_none none = cc
 
 module _ (shelf : ShelfValue) (statements : List Statement) (numbered : All (λ s. 0 < s.line) statements) (before now : Option (List ℕ)) (old between new : Faults) (fails : Bool) where

@@ -1,17 +1,14 @@
-use Rattle.std.proofs.Common.{◌≡◌, ◌<◌, ℕ, Option, Some, None, Result, Ok, Err, true, false, length, refl, sym, ◌∙◌, arith}
+use Rattle.std.proofs.Common.{◌≡◌, ◌<◌, ℕ, Option, Some, None, Result, Ok, Err, length, refl, sym, ◌∙◌, arith}
 use Rattle.std.specs.Prelude.{IfSome, IsNone}
 use Rattle.rcell_loading.specs.RunFaults.{IsBeforeExecution, IsInExecution, IsOfInput, NamesItsGrid}
 use Rattle.rcell_loading.specs.declared.run_fault.RunFault.{RunFault}
 use Rattle.rcell_loading.specs.declared.run_fault.RunFault.TheVariants.{GridTwice, GridRegion, Grid, ScriptRead, ScriptSize, Script, Memory, Write}
 use Rattle.rcell.specs.runs.Statuses.{fault_status, status_after}
 use Rattle.cell_core_devices.specs.Device.{has_failed}
-use Rattle.rcell.proofs.runs.EndLemmas.{failing_none, sound, write}
+use Rattle.rcell.proofs.runs.EndLemmas.{failing_none, not_none, sound, write}
 use Rattle.rcell.proofs.runs.AcceptedLemmas.{when_accepted}
 use Rattle.rcell.proofs.runs.WrittenLemmas.{input_unless_memory, read_written, read_refused}
 use Rattle.rcell.proofs.running.run.Goals as goal
-
-not_none : {X : Type 0} → true ≡ false → X
-not_none none = cc
 
 weaker : (fault : Option RunFault) (P Q : RunFault → Type 0) → ((f : RunFault) → P f → Q f) → IfSome fault P → IfSome fault Q
 weaker None P Q implied is = tt
