@@ -1,0 +1,16 @@
+-- An areas text put on a sink.
+use Rattle.std.specs.Prelude.{ℕ, ◌≡◌, true, List, [], ◌++◌, length, Option, None, IfSome}
+use Rattle.cell_core_devices.specs.Blocks.{capped_count}
+use Rattle.cell_core_devices.specs.Device.{Faults, append_known, has_failed}
+use Rattle.cell_tiles_areas.specs.declared.areas_join_fault.AreasJoinFault.{AreasJoinFault}
+use Rattle.cell_tiles_areas.specs.declared.areas_join_fault.AreasJoinFault.TheVariants.{Write}
+
+-- all of a text was put, or the first bytes of it where the sink failed
+pub record HasPut (text : List ℕ) (before now : Option (List ℕ)) (start faults : Faults) (written : ℕ) (fault : Option AreasJoinFault) : Type 0 where
+  pub front : List ℕ
+  pub rest : List ℕ
+  pub whole : front ++ rest ≡ text
+  pub taken : now ≡ append_known before front
+  pub count : written ≡ capped_count (length front)
+  pub all : fault ≡ None → (rest ≡ []) × (faults ≡ start)
+  pub write : IfSome fault (λ f. (f ≡ Write) × (has_failed faults ≡ true))

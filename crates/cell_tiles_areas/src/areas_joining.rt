@@ -1,0 +1,158 @@
+//! The areas text of texts of the edges of bands.
+
+ghost use Rattle.std.specs.Prelude.{◌≡◌, ◌≢◌, ◌+◌, ◌^◌, ◌<◌, List, None, Some, IfErr, IfOk, IfSome, false, true};
+ghost use Rattle.cell_core_devices.specs.Device.{Coming, has_failed};
+ghost use Rattle.cell_tiles_texts.specs.JoinedTexts.{Give};
+ghost use Rattle.cell_tiles_numbering.specs.AreasText.{areas_text, stretches_of};
+ghost use Rattle.cell_tiles_areas.specs.AreasOfTexts.{AreNumbersOf, HasAreasPrefix, HasWrittenAreas, IsAreasJoinFault};
+ghost use Rattle.cell_tiles_areas.specs.parts.PutAreas.{HasPut};
+ghost use Rattle.cell_tiles_areas.specs.parts.ReadBands.{HaveBeenRead};
+
+use crate::areas_join_fault::AreasJoinFault;
+use crate::bands::Bands;
+use cell_cats_areas::clump::Joining;
+use cell_core::block::OutputBlock;
+use cell_core::sink::Sink;
+use cell_core::source::Source;
+use cell_tiles_numbering::writing::write_areas;
+use std::alloc::Global;
+
+/// What the joining did.
+#[derive(Clone, Copy, Debug, PartialEq, Eq)]
+pub struct AreasOutcome {
+    /// The number of bytes that the sink took, or the greatest `u64` where it took more.
+    pub written: u64,
+    /// Why not all was written.
+    pub fault: Option<AreasJoinFault>,
+}
+
+// The areas of bands, and their numbers in the whole.
+#[derive(Drop)]
+struct NumberedAreas {
+    // How many each band has.
+    areas: Vec<u64>,
+    // The number of each, band by band.
+    numbers: Vec<u64>,
+}
+
+// Reads the bands of all texts, one after another.
+fn read_bands<R: Source + Drop>(
+    alloc: Global,
+    joining: Joining,
+    texts: Vec<R>,
+) -> Result<Bands, AreasJoinFault>
+    ensures joining { IfOk result (λ bands. bands.joiner.joining ≡ joining) }
+    ensures bands { IfOk result (λ bands. (all : List Coming) → Give R.coming texts.items all
+        → HaveBeenRead all bands) }
+    ensures fault { IfErr result (λ fault. (all : List Coming) → Give R.coming texts.items all
+        → IsAreasJoinFault all fault) }
+    ensures unwritten { IfErr result (λ fault. fault ≢ AreasJoinFault.Write) }
+{
+    let mut bands = Bands::new(alloc, joining);
+    let mut place = 0;
+    for text in texts {
+        bands = match bands.with_text(alloc, place, text) {
+            Ok(more) => more,
+            Err(fault) => return Err(fault),
+        };
+        place += 1;
+    }
+    Ok(bands)
+}
+
+// The numbers of the areas of the bands of all texts.
+fn number_areas<R: Source + Drop>(
+    alloc: Global,
+    joining: Joining,
+    texts: Vec<R>,
+) -> Result<NumberedAreas, AreasJoinFault>
+    ensures numbers { IfOk result (λ whole. (all : List Coming) → Give R.coming texts.items all
+        → AreNumbersOf joining all whole.areas.items whole.numbers.items) }
+    ensures fault { IfErr result (λ fault. (all : List Coming) → Give R.coming texts.items all
+        → IsAreasJoinFault all fault) }
+    ensures unwritten { IfErr result (λ fault. fault ≢ AreasJoinFault.Write) }
+{
+    let Bands {
+        joiner,
+        areas,
+        last: _,
+    } = read_bands(alloc, joining, texts)?;
+    let joined = joiner.finish();
+    Ok(NumberedAreas {
+        areas,
+        numbers: joined.numbers,
+    })
+}
+
+// Flushes the sink unless it refused a put, and answers.
+fn finish<W: Sink>(failed: bool, out: &mut W) -> Option<AreasJoinFault>
+    ensures taken { W.taken out.new ≡ W.taken out.old }
+    ensures flushed { result ≡ None → (failed ≡ false) × (W.faults out.new ≡ W.faults out.old) }
+    ensures write { IfSome result (λ fault. fault ≡ AreasJoinFault.Write) }
+    ensures fails { IfSome result (λ fault. failed ≡ false → has_failed (W.faults out.new) ≡ true) }
+    ensures kept { failed ≡ true → out.new ≡ out.old }
+{
+    if failed {
+        return Some(AreasJoinFault::Write);
+    }
+    match out.flush() {
+        Ok(()) => None,
+        Err(_) => Some(AreasJoinFault::Write),
+    }
+}
+
+// Writes the areas text, and flushes the sink unless it refused a put.
+fn put_areas<W: Sink>(out: &mut W, areas: &[u64], numbers: &[u64]) -> AreasOutcome
+    ensures { HasPut (areas_text (stretches_of areas.now numbers.now))
+        (W.taken out.old) (W.taken out.new) (W.faults out.old) (W.faults out.new)
+        result.written result.fault }
+{
+    let mut block = OutputBlock::new();
+    write_areas(out, &mut block, areas, numbers);
+    block.empty(out);
+    let fault = finish(block.has_failed(), out);
+    AreasOutcome {
+        written: block.written(),
+        fault,
+    }
+}
+
+/// Joins bands, of the texts of their edges from the top, and writes the areas text: which number each area of each band has
+/// in the undivided map, of whatever size that is.
+///
+/// The texts are read one after another. Eight bytes of memory are taken for each area of a band and for each band, and
+/// the edges of the last band are kept. Nothing is written before all texts are read. The sink is flushed once at the
+/// end, unless it refused a put.
+pub fn join_edges_texts<R: Source + Drop, W: Sink>(
+    alloc: Global,
+    joining: Joining,
+    texts: Vec<R>,
+    out: &mut W,
+) -> AreasOutcome
+    // Without a fault the texts spell the edges of bands that lie one below the other, and the sink has taken exactly the areas
+    // text of the numbers that their areas have in each map that is cut into such bands.
+    ensures joined { (all : List Coming) → Give R.coming texts.items all → result.fault ≡ None
+        → HasWrittenAreas joining all (W.taken out.old) (W.taken out.new) result.written }
+    // A fault of a text is its own, and the texts before it spell the edges of bands that lie one below the other.
+    ensures fault { (all : List Coming) → Give R.coming texts.items all
+        → IfSome result.fault (IsAreasJoinFault all) }
+    // With any other fault than a failed write the sink is as it was.
+    ensures untouched { IfSome result.fault (λ fault. fault ≢ AreasJoinFault.Write
+        → (out.new ≡ out.old) × (result.written ≡ 0)) }
+    // After a failed write it has taken a prefix of the areas text.
+    ensures cut { (all : List Coming) → Give R.coming texts.items all
+        → result.fault ≡ Some AreasJoinFault.Write
+        → HasAreasPrefix joining all (W.taken out.old) (W.taken out.new) result.written }
+    // Of a sink that had not failed before, no fault comes only where it did not fail, and Write only where it failed.
+    ensures sound { result.fault ≡ None → W.faults out.new ≡ W.faults out.old }
+    ensures write { result.fault ≡ Some AreasJoinFault.Write
+        → has_failed (W.faults out.new) ≡ true }
+{
+    match number_areas(alloc, joining, texts) {
+        Ok(whole) => put_areas(out, whole.areas.as_slice(), whole.numbers.as_slice()),
+        Err(fault) => AreasOutcome {
+            written: 0,
+            fault: Some(fault),
+        },
+    }
+}
