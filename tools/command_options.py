@@ -6,9 +6,9 @@
 Of each command docs/COMMANDS.md has a synopsis and a table of its flags and options, and docs/rcell.1 a synopsis; the three must
 name the same. Then the program is run with each letter and digit as a flag, and with each key that any command or GRASS has: it
 must take those that are named and no other, and must miss a key exactly where the table says that it is required. Of r.mapcalc
-the functions are compared and tried in this way. Of rcell-join the synopses of docs/COMMANDS.md and docs/rcell-join.1 must be its
-usage, the page must have all messages of the document, and it is tried with the same flags and keys, where an unknown key is a
-file. The last line is 'N passed, M failed'.
+the functions are compared and tried in this way. Of each command of rcell-join the synopses of docs/COMMANDS.md and
+docs/rcell-join.1 must be its usage, the page must have all messages of the document, and it is tried with the same flags and keys,
+where an unknown key is a file. The last line is 'N passed, M failed'.
 """
 import argparse
 import os
@@ -85,12 +85,18 @@ def of_page(command):
     return next(line for line in plain.split("\n") if re.match(rf"{re.escape(command)} .*=", line)).replace("= ", "=")
 
 
-def synopsis_of_joiner_page():
-    """The synopsis of rcell-join in its manual page, without its fonts."""
-    lines = re.search(r"^\.SH SYNOPSIS\n(.*?)^\.SH ", read(PAGE_OF_JOINER), re.MULTILINE | re.DOTALL)[1]
-    words = [re.sub(r"\\f.|^\.B |^\.RI ", "", line.replace("\\-", "-")) for line in lines.splitlines()]
-    # .RI sets the pieces that blanks part in turns, and none of these blanks.
-    return words[0] + " " + re.sub(r'"([^"]*)"|\s', lambda found: found[1] or "", words[1])
+def synopses_of_joiner():
+    """The synopsis of each command of rcell-join in docs/COMMANDS.md."""
+    return synopsis(JOINER).strip().splitlines()
+
+
+def synopses_of_joiner_page():
+    """The same in its manual page, without its fonts."""
+    for part in re.search(r"^\.SH SYNOPSIS\n(.*?)^\.SH ", read(PAGE_OF_JOINER), re.MULTILINE | re.DOTALL)[1].split(".br\n"):
+        command, behind = re.sub(r"\\f.|^\.B ", "", part.replace("\\-", "-"), flags=re.MULTILINE).splitlines()
+        font, _, words = behind.partition(" ")
+        # .RI sets the pieces that blanks part in turns, and none of these blanks.
+        yield f"{command} " + (re.sub(r'"([^"]*)"|\s', lambda found: found[1] or "", words) if font == ".RI" else words)
 
 
 def messages_of_joiner():
@@ -166,37 +172,44 @@ def faults_of_functions(tried):
 
 
 class TriedJoiner:
-    """The joiner over an empty table, in a folder of its own."""
+    """The joiner over empty files, in a folder of its own."""
 
     def __init__(self, joiner, folder):
         self.joiner, self.folder = joiner, folder
         with open(f"{folder}/{EMPTY}", "w", encoding="ascii"):
             pass
 
-    def refusal(self, *words):
-        ran = subprocess.run([self.joiner, "tables", *words, EMPTY], cwd=self.folder, capture_output=True, text=True)
+    def refusal(self, command, word):
+        files = [EMPTY] * (2 if command == "sizes" else 1)
+        ran = subprocess.run([self.joiner, command, word, *files], cwd=self.folder, capture_output=True, text=True)
         return ran.stderr.strip().removeprefix(f"{JOINER}: ") if ran.returncode else ""
 
 
-def faults_of_joiner(tried):
-    """What is wrong with each synopsis, flag and key of rcell-join, or ''."""
-    named, usage = in_table(JOINER), f"arguments:0: usage: {synopsis(JOINER).strip()}"
-    said = tried.refusal("-")
+def faults_of_joiner_command(tried, line):
+    """What is wrong with the synopsis, each flag and each key of a command of rcell-join, or ''."""
+    command, named, usage = line.split()[1], Named.of_synopsis(line), f"arguments:0: usage: {line}"
+    said = tried.refusal(command, "-")
     yield "" if said == usage else f"{DOCUMENT}, synopsis of {JOINER}: {usage!r}, and the program says {said!r}"
-    other = synopsis_of_joiner_page()
-    yield "" if usage.endswith(f" usage: {other}") else f"{PAGE_OF_JOINER}: {other!r}, and not {synopsis(JOINER)!r}"
+    for flag in FLAGS:
+        said = tried.refusal(command, f"-{flag}")
+        yield "" if (said == usage) != (flag in named.flags) else f"{JOINER} {command} -{flag}: {said or 'taken'}"
+    for key in (*VALUES, *KEYS_OF_GRASS):
+        option = f"{key}={VALUES.get(key, '1')}"
+        wanted, said = "" if key in named.keys else f"{option}:0: cannot open", tried.refusal(command, option)
+        yield "" if said == wanted else f"{JOINER} {command} {option}: {said or 'taken'}, and not {wanted or 'taken'}"
+
+
+def faults_of_joiner(tried):
+    """What is wrong with what the documents say of rcell-join, or ''."""
+    lines, others, named = synopses_of_joiner(), list(synopses_of_joiner_page()), in_table(JOINER)
+    yield "" if others == lines else f"{PAGE_OF_JOINER}: {others!r}, and not {lines!r}"
     other = Named.of_synopsis(synopsis(JOINER))
     yield "" if other == named else f"{DOCUMENT}, synopsis: {JOINER} has {other}, but {named} in its table"
     page = text_of_joiner_page()
     for text in messages_of_joiner():
         yield "" if text in page else f"{PAGE_OF_JOINER}: it says nothing of {text!r}"
-    for flag in FLAGS:
-        said = tried.refusal(f"-{flag}")
-        yield "" if said == usage else f"{JOINER} -{flag}: {said or 'taken'}, and not its usage"
-    for key in (*VALUES, *KEYS_OF_GRASS):
-        option = f"{key}={VALUES.get(key, '1')}"
-        wanted, said = "" if key in named.keys else f"{option}:0: cannot open", tried.refusal(option)
-        yield "" if said == wanted else f"{JOINER} {option}: {said or 'taken'}, and not {wanted or 'taken'}"
+    for line in lines:
+        yield from faults_of_joiner_command(tried, line)
 
 
 def faults(program, joiner):

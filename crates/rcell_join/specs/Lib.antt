@@ -3,4 +3,5 @@ pub mod FaultLines
 pub mod KindStatuses
 pub mod TablesFaultLine
 pub mod EdgesFaultLine
+pub mod AreasFaultLine
 pub mod SizesFaultLine

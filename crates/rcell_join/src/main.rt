@@ -1,17 +1,21 @@
-//! The program `rcell-join`: joins what parts of maps gave, by `rcell-join tables`, `edges` or `sizes`.
+//! The program `rcell-join`: joins what parts of maps gave, by `rcell-join tables`, `edges`, `areas` or `sizes`.
 #![tactic(auto)]
 
+mod areas_fault_line;
 mod edges_fault_line;
 mod fault_line;
 mod kind_status;
 mod sizes_fault_line;
 mod tables_fault_line;
 
+use crate::areas_fault_line::{areas_fault_line, areas_status};
 use crate::edges_fault_line::{edges_fault_line, edges_status};
 use crate::fault_line::{FaultLine, refusal_line};
 use crate::sizes_fault_line::{sizes_fault_line, sizes_status};
 use crate::tables_fault_line::{tables_fault_line, tables_status};
+use cell_cats_areas::clump::Joining;
 use cell_core::sink::WriteSink;
+use cell_tiles_areas::areas_joining::join_edges_texts;
 use cell_tiles_edges::band_edges::write_edges;
 use cell_tiles_sizes::table_sizes::join_table_sizes;
 use cell_tiles_texts::text_joining::join_texts;
@@ -84,6 +88,22 @@ fn write_band_edges<R: Files + Print + Eprint + AllocGlobal>(
     edges_status(outcome.fault)
 }
 
+// Joins the areas of bands to those of the whole.
+fn join_areas<R: Files + Print + Eprint + AllocGlobal>(
+    rt: &R,
+    joining: Joining,
+    paths: &[&str],
+) -> u8 {
+    let sources = match open_files(rt, paths) {
+        Ok(sources) => sources,
+        Err(refusal) => return tell(rt, refusal, paths),
+    };
+    let mut output = WriteSink::new(io::writer(rt));
+    let outcome = join_edges_texts(rt.alloc(), joining, sources, &mut output);
+    report(rt, areas_fault_line(outcome, paths));
+    areas_status(outcome.fault)
+}
+
 // Adds up the sizes of the areas of bands.
 fn add_sizes<R: Files + Print + Eprint + AllocGlobal>(
     rt: &R,
@@ -118,7 +138,7 @@ fn work<R: Env + Files + Print + Eprint + AllocGlobal>(rt: &R) -> u8 {
     match request {
         Request::Tables { format, tables } => join_tables(rt, &format, &tables),
         Request::Edges { map, numbers } => write_band_edges(rt, map, numbers),
-        Request::Areas { .. } => tell(rt, Refusal::Usage(Usage::Areas), &[]),
+        Request::Areas { joining, bands } => join_areas(rt, joining, &bands),
         Request::Sizes {
             format,
             joined,

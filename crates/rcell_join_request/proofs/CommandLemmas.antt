@@ -1,11 +1,11 @@
 -- What words ask for, by what is found among them.
-use Rattle.std.proofs.Common.{Bor, ◌≡◌, ◌≤◌, ◌∷◌, ◌==◌, [], ℕ, Bool, List, Ok, Err, true, false, length, ap, refl, arith}
+use Rattle.std.proofs.Common.{Bor, ◌≡◌, ◌≤◌, ◌∷◌, ◌==◌, [], List, Ok, Err, true, false, length, refl, arith}
 use Rattle.std.proofs.lemmas.Bool.{eqb-true}
-use Rattle.std.specs.List.{list_any, remove, slice_index_or}
+use Rattle.std.specs.List.{remove, slice_index_or}
 use Rattle.clap.specs.Walk.{Text, texts}
 use Rattle.cell_core_text.specs.Answers.{◌>>=◌}
 use Rattle.rcell_join_request.specs.CommandLine.{Areas, Sizes, Tables}
-use Rattle.rcell_join_request.specs.CommandLine.{asked_areas, asked_sizes, asked_tables, bands_in, command_of}
+use Rattle.rcell_join_request.specs.CommandLine.{asked_areas, asked_sizes, asked_tables, bands_in}
 use Rattle.rcell_join_request.specs.CommandLine.{format_in, has_hyphen_word, joining_in, paths_in}
 use Rattle.rcell_join_request.specs.declared.refusal.Refusal.TheVariants.{Usage}
 use Rattle.rcell_join_request.specs.declared.refusal.Usage.TheVariants as usages

@@ -1,5 +1,5 @@
 -- What clap finds among words of which the first has no hyphen in front.
-use Rattle.std.proofs.Common.{◌≡◌, ◌&&◌, ◌≤◌, nat_le, ◌∷◌, ◌++◌, ◌∙◌, ap, ap₂, sym, ℕ, Bool, List, [], Some, None, true, false, refl, is_some, length, codes, drop, arith}
+use Rattle.std.proofs.Common.{◌≡◌, ◌&&◌, ◌≤◌, nat_le, ◌∷◌, ◌++◌, ◌∙◌, ap, ap₂, sym, Bool, List, [], Some, None, true, false, refl, is_some, length, codes, drop, arith}
 use Rattle.std.specs.List.{fold, list_all}
 use Rattle.std.specs.Str.{bytes_eq}
 use Rattle.std.proofs.lemmas.Bool.Decides.{nat_tests}

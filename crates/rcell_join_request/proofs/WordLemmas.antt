@@ -1,5 +1,5 @@
 -- Words that are kept one after another, and words of which one is as asked.
-use Rattle.std.proofs.Common.{Bor, ◌≡◌, ◌∙◌, ◌+◌, ◌<◌, ◌∷◌, ◌++◌, [], ℕ, Bool, List, true, false, length, map, take, cond, ap, sym, refl}
+use Rattle.std.proofs.Common.{Bor, ◌≡◌, ◌∙◌, ◌+◌, ◌<◌, ◌∷◌, ◌++◌, [], ℕ, Bool, List, true, false, length, take, cond, ap, sym}
 use Rattle.std.specs.List.{filter, list_any, slice_index_or}
 use Rattle.std.proofs.lemmas.List.{append-nil, map-append, take_more}
 use Rattle.std.proofs.lemmas.List.Elements.{filter-append}

@@ -1,5 +1,5 @@
-use Rattle.std.proofs.Common.{Bor, ◌≡◌, ◌∙◌, ◌==◌, Bool, Ok, true, false, length, ap, sym}
-use Rattle.clap.specs.Walk.{Text, texts}
+use Rattle.std.proofs.Common.{◌≡◌, ◌∙◌, ◌==◌, Ok, true, false, length, ap, sym}
+use Rattle.clap.specs.Walk.{texts}
 use Rattle.rcell_join_request.specs.CommandLine.{Areas, bands_in, has_hyphen_word}
 use Rattle.rcell_join_request.proofs.CommandLemmas.{areas_lack, areas_misused, areas_read}
 use Rattle.rcell_join_request.proofs.WordLemmas.{hyphens_of_texts}

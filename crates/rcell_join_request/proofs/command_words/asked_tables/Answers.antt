@@ -1,5 +1,5 @@
-use Rattle.std.proofs.Common.{Bor, ◌≡◌, ◌∙◌, ◌==◌, Bool, Ok, false, length, ap, sym}
-use Rattle.clap.specs.Walk.{Text, texts}
+use Rattle.std.proofs.Common.{◌≡◌, ◌∙◌, ◌==◌, Ok, false, length, ap, sym}
+use Rattle.clap.specs.Walk.{texts}
 use Rattle.cell_core_text.specs.Answers.{◌>>=◌}
 use Rattle.rcell_join_request.specs.CommandLine.{Tables, has_hyphen_word}
 use Rattle.rcell_join_request.proofs.CommandLemmas.{tables_read}

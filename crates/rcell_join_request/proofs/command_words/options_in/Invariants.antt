@@ -1,4 +1,4 @@
-use Rattle.std.proofs.Common.{◌≡◌, take, not}
+use Rattle.std.proofs.Common.{◌≡◌, take}
 use Rattle.std.specs.List.{filter}
 use Rattle.clap.specs.Walk.{texts}
 use Rattle.rcell_join_request.specs.CommandLine.{is_option}

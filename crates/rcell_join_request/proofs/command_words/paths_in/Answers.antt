@@ -1,4 +1,4 @@
-use Rattle.std.proofs.Common.{Bor, is_ok, if◌then◌else◌, ◌≡◌, ◌∙◌, ◌++◌, ◌∷◌, [], Bool, true, false, not, arith, ap, sym, take, length}
+use Rattle.std.proofs.Common.{Bor, is_ok, if◌then◌else◌, ◌≡◌, ◌∙◌, ◌++◌, ◌∷◌, [], Bool, true, false, not, arith, ap, sym}
 use Rattle.std.specs.List.{filter}
 use Rattle.std.proofs.lemmas.List.{map-append, take_all}
 use Rattle.clap.specs.Walk.{Text, texts}
