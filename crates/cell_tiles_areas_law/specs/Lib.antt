@@ -1,0 +1,3 @@
+-- What the laws of joined texts of edges state.
+pub mod GoodTexts
+pub mod WrittenBands
