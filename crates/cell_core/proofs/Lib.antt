@@ -1,3 +1,4 @@
+mod ByteLemmas
 pub mod LabelLemmas
 pub mod RowLemmas
 pub mod RunLemmas

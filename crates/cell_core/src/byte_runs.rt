@@ -30,15 +30,14 @@ pub(crate) fn number_of_byte_runs(bytes: &[u8]) -> usize
     if bytes.is_empty() {
         return 0;
     }
-    // Of 32 bits, so that a vector counts as many as it compares.
-    let mut ends: u32 = 0;
-    let mut last = cell_of_byte(bytes[0]);
+    // Of 32 bits, so that a vector counts as many as it compares. Bytes are alike where their cells are.
+    let mut alike: u32 = 0;
+    let mut last = bytes[0];
     for byte in bytes {
-        let cell = cell_of_byte(*byte);
-        if cell != last {
-            ends = ends.wrapping_add(1);
+        if *byte == last {
+            alike = alike.wrapping_add(1);
         }
-        last = cell;
+        last = *byte;
     }
-    ends as usize + 1
+    bytes.len() - alike as usize + 1
 }

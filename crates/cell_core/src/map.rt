@@ -62,7 +62,8 @@ impl CellMap {
     }
 
     /// Copies the cells of a row, from left to right. The slice has as many cells as the region
-    /// has columns.
+    /// has columns. It stays out of the loops over its callers' cells, which the compiler makes faster without it.
+    #[inline(never)]
     pub fn copy_row(&self, row: u32, cells: &mut [Cell])
         requires row_in_range { row < self.now.region.rows }
         requires width { length cells.old ≡ self.now.region.cols }

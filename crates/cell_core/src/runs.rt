@@ -36,18 +36,18 @@ pub(crate) fn number_of_runs(row: &[Cell]) -> usize
     if row.is_empty() {
         return 0;
     }
-    // Of 32 bits, so that a vector counts as many as it compares.
-    let mut ends: u32 = 0;
+    // Of 32 bits, so that a vector counts as many as it compares. It counts those that go on, for which it needs one step less.
+    let mut alike: u32 = 0;
     let mut last = row[0];
     for cell in row {
         // The proof looks at each category. The count compares cells alone, several at a time.
         let _ = category_of(*cell);
-        if *cell != last {
-            ends = ends.wrapping_add(1);
+        if *cell == last {
+            alike = alike.wrapping_add(1);
         }
         last = *cell;
     }
-    ends as usize + 1
+    row.len() - alike as usize + 1
 }
 
 // Which of 64 bytes are not 0, as bits.

@@ -45,7 +45,8 @@ fn byte_of_cell(cell: Cell) -> u8
     ensures { byte_cell result ≡ cell }
 {
     match cell.get() {
-        Some(category) => category as u8,
+        // None is below 0 here. With this said again, null needs no case of its own where a vector takes several at a time.
+        Some(category) => category.max(-1) as u8,
         None => NULL,
     }
 }
@@ -54,6 +55,12 @@ fn byte_of_cell(cell: Cell) -> u8
 pub fn are_small(cells: &[Cell]) -> bool
     ensures { result ≡ true → All IsSmall cells.now }
 {
+    // Where a row has greater categories, its first cell most often tells.
+    if let Some(first) = cells.first() {
+        if !is_small(*first) {
+            return false;
+        }
+    }
     // It looks at each, so that a vector looks at several at a time.
     let mut all = true;
     for cell in cells {

@@ -104,10 +104,7 @@ module _ (skip : Skip) (k : Combination) (byte n : ℕ) (counts : List ℕ) (wit
   cond-le true = omega arith
   cond-le false = omega arith
 
-  -- and still fit
-  pub byte-fits : (now most : ℕ) → now + sum_counted (λ b. 1) byte (drop byte counts) < most → now + n < most
-  byte-fits now most h = omega (arith, h, ones-first)
-
+  -- and what is left still fits
   pub room-on : (now most : ℕ) → now + sum_counted (λ b. 1) byte (drop byte counts) < most
       → now + sum_counted (λ b. 1) (byte + 1) (drop (byte + 1) counts) < most
   room-on now most h = omega (arith, h, ones-first)

@@ -4,12 +4,14 @@ use Rattle.std.proofs.lemmas.List.Elements.{All-push, All-same}
 use Rattle.cell_core_values.specs.Cell.{IsCell, cell_eq}
 use Rattle.cell_core.proofs.RowLemmas.{breaks-none, breaks-one, breaks-whole}
 use Rattle.cell_core.proofs.runs.number_of_runs.Goals as goal
-use Rattle.cell_core.proofs.runs.number_of_runs.Goals.{then-ne, else-ne}
+use Rattle.cell_core.proofs.runs.number_of_runs.Goals.{then-eq, else-eq}
 
 pub loop-cell-init : goal.loop-cell-init
 loop-cell-init c = record {
   cells = λ k d within. absurd (omega (arith, within));
-  count = breaks-whole c.args.row.now c.index-row-0.result (search (rules, c.if-is_empty.false)) c.index-row-0.is;
+  count =
+      let some : 0 < length c.args.row.now = search (rules, c.if-is_empty.false) in
+      omega (arith, breaks-whole c.args.row.now c.index-row-0.result some c.index-row-0.is);
   few = omega arith;
 }
 
@@ -21,20 +23,20 @@ loop-cell-preserved c =
     let last = c.loop-cell.last in
     let within : i < length row = omega arith in
     let cells : All IsCell (take (i + 1) row) = All-same IsCell _ _ (take_more row i cell within ∙ ap (λ y. take i row ++ y ∷ []) (sym c.cell-item.is)) (All-push IsCell (take i row) cell c.loop-cell.invariant.cells c.category_of.ensures.cell) in
-    elim c.if-ne.branch [
-      | then-ne w ↦
-          let other : cell_eq cell last ≡ false = search (rules, w.if-ne, c.ne.ensures) in
+    elim c.if-eq.branch [
+      | then-eq w ↦
+          let same : cell_eq cell last ≡ true = search (rules, w.if-eq, c.eq.ensures) in
           record {
             cells = cells;
-            count = omega (arith, w.ends-is, breaks-one last cell row i within c.cell-item.is other, c.loop-cell.invariant.count);
-            few = omega (arith, w.ends-is, c.loop-cell.invariant.few);
+            count = omega (arith, w.alike-is, breaks-none last cell row i within c.cell-item.is same, c.loop-cell.invariant.count);
+            few = omega (arith, w.alike-is, c.loop-cell.invariant.few);
           }
-      | else-ne w ↦
-          let same : cell_eq cell last ≡ true = search (rules, w.if-ne, c.ne.ensures) in
+      | else-eq w ↦
+          let other : cell_eq cell last ≡ false = search (rules, w.if-eq, c.eq.ensures) in
           record {
             cells = cells;
-            count = omega (arith, w.ends-is, breaks-none last cell row i within c.cell-item.is same, c.loop-cell.invariant.count);
-            few = omega (arith, w.ends-is, c.loop-cell.invariant.few);
+            count = omega (arith, w.alike-is, breaks-one last cell row i within c.cell-item.is other, c.loop-cell.invariant.count);
+            few = omega (arith, w.alike-is, c.loop-cell.invariant.few);
           }
     ]
 
