@@ -8,7 +8,7 @@ ghost use Rattle.cell_calc_binding.specs.Value.{value};
 ghost use Rattle.rcell_making.specs.parts.WindowsSet.{AreSet, HasValues, picked_maps};
 
 use cell_calc::rows_of_values::eval_row;
-use cell_calc::window::RowWindow;
+use cell_calc_windows::window::RowWindow;
 use cell_calc_binding::bound::Bound;
 use cell_core::cell::Cell;
 use cell_core::map::{CellMap, MapBuilder};

@@ -6,7 +6,7 @@ use Rattle.cell_calc_operators.specs.Applied.{spot}
 use Rattle.cell_calc_binding.specs.Value.{value}
 use Rattle.cell_calc_binding.specs.Formula.{Formula}
 use Rattle.cell_calc_binding.specs.Reach.{up_of, down_of}
-use Rattle.cell_calc.specs.Window.{Window, IsWindowOf}
+use Rattle.cell_calc_windows.specs.Window.{Window, IsWindowOf}
 
 -- a window of a map that stands at a row and reaches so far
 abbrev pub IsSet : (row up down : ℕ) → Option Window → Option Grid → Type 0
