@@ -21,5 +21,6 @@ stretches-preserved c =
       go = λ k d lt.
           let row = centre_row (get_or windows k d) in
           let wide : length row ≡ c.args.cols = c.are_wide.ensures told k d lt in
-          rw is (goes_more row widths from width so_far.all (omega (arith, left, wide)) (so_far.go k d lt) (next.alike k d lt));
+          let within : from + width ≤ length row = omega (arith, left, wide) in
+          rw is (goes_more row widths from width so_far.all within (so_far.go k d lt) (next.alike k d lt));
     }

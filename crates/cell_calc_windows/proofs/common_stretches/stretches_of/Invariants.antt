@@ -9,7 +9,9 @@ invariant-stretches l =
       within : l.from ≤ l.cols;
       all : total l.widths.items ≡ l.from;
       few : length l.widths.items ≤ l.from;
-      go : All (λ w. spread (start_cells (centre_row w) l.widths.items) l.widths.items ≡ take l.from (centre_row w)) l.windows;
+      go : All
+          (λ w. spread (start_cells (centre_row w) l.widths.items) l.widths.items ≡ take l.from (centre_row w))
+          l.windows;
     }
 
 abbrev pub decreases-stretches : goal.decreases-stretches
