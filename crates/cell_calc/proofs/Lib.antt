@@ -1,8 +1,5 @@
 -- What several proofs share.
 pub mod Operands
-pub mod Ready
-pub mod Rings
-pub mod StretchValues
+pub mod StretchSteps
 pub mod Values
 pub mod Written
-pub mod Waiting

@@ -8,7 +8,7 @@ use Rattle.cell_core.specs.Grid.{CellValue}
 use Rattle.cell_calc_steps.specs.declared.step.Step.{Step}
 use Rattle.cell_calc.specs.declared.strip.Operand.{Operand}
 use Rattle.cell_calc.specs.declared.strip.Strip.{Strip}
-use Rattle.cell_calc.specs.Window.{Window}
+use Rattle.cell_calc_windows.specs.Window.{Window}
 use Rattle.cell_calc.specs.parts.Operands.{operand_at, cells_at, seen_cell, spot_at}
 use Rattle.cell_calc_steps.specs.Postfix.{arity, values_after, AreEnough}
 use Rattle.cell_calc_rows.specs.RowValues.{at, column}

@@ -1,3 +1,2 @@
--- Windows over maps.
-pub mod Window
+-- Values of expressions along rows.
 pub mod parts

@@ -1,5 +1,3 @@
 -- What only bodies and proofs speak of.
-pub mod WindowRows
+pub mod InPlace
 pub mod Operands
-pub mod WindowsOver
-pub mod Stretches

@@ -6,11 +6,11 @@ ghost use Rattle.cell_calc_steps.specs.Postfix.{arity, AreEnough};
 
 use crate::operand::{binary_value, choice_value, pop_operand, row_of, spare_row};
 use crate::strip::{Operand, Spare, Strip};
-use crate::window::RowWindow;
 use cell_calc_rows::calls::call_values;
 use cell_calc_rows::rows;
 use cell_calc_steps::step::Step;
 use cell_calc_tokens::function::Function;
+use cell_calc_windows::window::RowWindow;
 use cell_core::cell::Cell;
 use cell_core::memory::Memory;
 use std::alloc::Global;

@@ -4,14 +4,15 @@ ghost use Rattle.std.specs.Prelude.{◌≡◌, ◌<◌, ◌++◌, [], ◌∷◌,
 ghost use Rattle.cell_calc_operators.specs.Applied.{operator_value};
 ghost use Rattle.cell_calc_operators.specs.CellOperators.{chosen_cell};
 ghost use Rattle.cell_calc.specs.parts.Operands.{IsStrip, IsOperandReady, AtColumns, operand_at, HasCells};
-ghost use Rattle.cell_calc.specs.parts.WindowsOver.{IsInReach, row_below};
+ghost use Rattle.cell_calc_windows.specs.WindowsOver.{row_below};
+ghost use Rattle.cell_calc_windows.specs.parts.InReach.{IsInReach};
 ghost use Rattle.cell_calc_rows.specs.RowValues.{at, Becomes};
 
 use crate::strip::{Operand, Strip};
-use crate::window::RowWindow;
 use cell_calc_operators::cell_operators;
 use cell_calc_rows::rows;
 use cell_calc_tokens::operator::Operator;
+use cell_calc_windows::window::RowWindow;
 use cell_core::cell::Cell;
 use cell_core::memory::Memory;
 use std::alloc::Global;

@@ -7,7 +7,7 @@ use Rattle.cell_calc_operators.specs.Applied.{spot}
 use Rattle.cell_calc_binding.specs.Value.{value}
 use Rattle.cell_calc_binding.specs.Formula.{Formula}
 use Rattle.cell_calc_binding.specs.Reach.{up_of, down_of}
-use Rattle.cell_calc.specs.Window.{Window, IsWindowOf}
+use Rattle.cell_calc_windows.specs.Window.{Window, IsWindowOf}
 
 -- each place is that of a map of the shelf
 abbrev pub AreMapPlaces : ShelfValue → List ℕ → Type 0

@@ -2,12 +2,13 @@ use Rattle.std.proofs.Common.{[], ap, ◌∙◌}
 use Rattle.cell_calc_steps.specs.Postfix.{values_after}
 use Rattle.cell_calc_operators.specs.Applied.{spot}
 use Rattle.cell_calc.specs.parts.Operands.{seen_cell}
-use Rattle.cell_calc.proofs.StretchValues.{ready_all, stretch_value}
+use Rattle.cell_calc.proofs.StretchSteps.{ready_all, stretch_value}
 use Rattle.cell_calc.proofs.rows_of_values.along_stretches.Goals as goal
 
 pub along_columns-requires-clause-ready : goal.along_columns-requires-clause-ready
 along_columns-requires-clause-ready c =
-    rw c.as_slice.ensures.value (ready_all c.args.windows.now c.in_ok-short.short.items c.args.widths.now c.args.steps.now
+    let short = c.in_ok-short.short.items in
+    rw c.as_slice.ensures.value (ready_all c.args.windows.now short c.args.widths.now c.args.steps.now
     c.in_ok-short.ensures c.requires.in_place c.requires.ready)
 
 pub returns-clause-each : goal.returns-clause-each
@@ -16,5 +17,5 @@ returns-clause-each c = λ k col lt like.
     let steps = c.args.steps.now in
     c.in_ok-values.ensures.each k lt
     ∙ ap (λ l. values_after (seen_cell l (spot region c.args.row k)) steps []) c.as_slice.ensures.value
-    ∙ stretch_value c.args.windows.now c.in_ok-short.short.items c.args.widths.now region.rows region.cols c.args.row k col steps
-    c.in_ok-short.ensures like c.requires.in_place c.requires.ready
+    ∙ stretch_value c.args.windows.now c.in_ok-short.short.items c.args.widths.now region.rows region.cols
+    c.args.row k col steps c.in_ok-short.ensures like c.requires.in_place c.requires.ready

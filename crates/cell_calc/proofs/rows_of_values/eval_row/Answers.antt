@@ -19,5 +19,6 @@ pub returns-clause-ok : goal.returns-clause-ok
 returns-clause-ok c maps over k h =
     let f = c.args.bound.now in
     let s = spot c.args.region.now c.args.row k in
-    only_value _ _ (c.in_ok-write_row.ensures.each k h ∙ ap (λ l. values_after (seen_cell c.args.windows.now s) l []) c.steps.ensures.steps
+    only_value _ _ (c.in_ok-write_row.ensures.each k h
+    ∙ ap (λ l. values_after (seen_cell c.args.windows.now s) l []) c.steps.ensures.steps
     ∙ value_seen f c.args.windows.now maps s c.requires.windows over)

@@ -1,0 +1,17 @@
+-- Steps of expressions that make the same of the same cells at each column of a row.
+use Rattle.std.specs.Prelude.{◌≡◌, ℕ, pos, Bool, true, false}
+use Rattle.cell_calc_steps.specs.declared.step.Step.{Step}
+use Rattle.cell_calc_steps.specs.declared.step.Step.TheVariants as step
+use Rattle.cell_calc_tokens.specs.declared.function.Function.{Function}
+use Rattle.cell_calc_tokens.specs.declared.function.Function.TheVariants as function
+
+-- col()
+abbrev pub asks_column : Function → Bool
+asks_column function.Column = true
+asks_column f = false
+
+-- a step that makes the same of the same cells at each column of a row: it reads a map at the cell itself, and does not ask for the column
+abbrev pub IsInPlace : Step ℕ → Type 0
+IsInPlace (step.Map i down right) = (down ≡ pos 0) × (right ≡ pos 0)
+IsInPlace (step.Call f n) = asks_column f ≡ false
+IsInPlace _ = Unit {0}

@@ -1,0 +1,54 @@
+//! Expressions that need one value for each stretch of a row in which no map changes.
+
+ghost use Rattle.std.specs.Prelude.{◌≡◌, ◌≤◌, All, IfOk, IfSome, true};
+ghost use Rattle.cell_calc.specs.parts.InPlace.{IsInPlace};
+ghost use Rattle.cell_calc_windows.specs.CommonStretches.{AreStretches};
+
+use cell_calc_steps::step::Step;
+use cell_calc_tokens::function::Function;
+use cell_calc_windows::common_stretches::{are_changing, stretches_of};
+use cell_calc_windows::window::RowWindow;
+use cell_core::memory::Memory;
+use std::alloc::Global;
+
+// Whether a step makes the same of the same cells at each column of a row.
+fn is_in_place(step: Step<usize>) -> bool
+    ensures { result ≡ true → IsInPlace step }
+{
+    match step {
+        Step::Map { down, right, .. } => down == 0 && right == 0,
+        Step::Call(Function::Column, _) => false,
+        _ => true,
+    }
+}
+
+// Whether all steps do.
+fn are_in_place(steps: &[Step<usize>]) -> bool
+    ensures { result ≡ true → All IsInPlace steps.now }
+{
+    for step in steps {
+        if !is_in_place(*step) {
+            return false;
+        }
+    }
+    true
+}
+
+/// The widths of the stretches of the windows' rows, if one value for each is enough and they are few.
+pub(crate) fn few_stretches(
+    alloc: Global,
+    steps: &[Step<usize>],
+    windows: &[RowWindow],
+    cols: usize,
+) -> Result<Option<Vec<u32>>, Memory>
+    requires { cols ≤ 65535 }
+    ensures in_place { IfOk result (λ found. IfSome found (λ widths. All IsInPlace steps.now)) }
+    ensures stretches { IfOk result
+        (λ found. IfSome found (λ widths. AreStretches cols windows.now widths.items)) }
+{
+    if are_changing(windows) || !are_in_place(steps) {
+        return Ok(None);
+    }
+    let found = stretches_of(alloc, windows, cols)?;
+    Ok(found)
+}
