@@ -173,7 +173,7 @@ cut-line coming rest line is = by (nat_lt MOST_BYTES (length (before_first is_li
     by false false false true within e = cc
     by false false false false within e = cc
 
-cut-end : (coming : Coming) → first_line coming ≡ Ok None → coming.bytes ≡ []
+pub cut-end : (coming : Coming) → first_line coming ≡ Ok None → coming.bytes ≡ []
 cut-end coming is = by (nat_lt MOST_BYTES (length (before_first is_line_feed coming.bytes))) (nat_lt (position_or_len
     is_line_feed coming.bytes) (length coming.bytes)) coming.fails (length coming.bytes == 0) refl is
   where

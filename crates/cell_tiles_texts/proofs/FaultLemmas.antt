@@ -9,9 +9,10 @@ use Rattle.cell_tiles_lines.specs.declared.table_fault.TableFault.{TableFault}
 use Rattle.cell_tiles_lines.specs.declared.table_fault.TableKind.{TableKind}
 use Rattle.cell_tiles_lines.specs.declared.table_fault.TableKind.TheVariants as kinds
 use Rattle.cell_tiles_texts.specs.JoinedTexts.{HasFault, IsFirstFault, fault_place, last_combination}
-use Rattle.cell_tiles_texts.specs.parts.MergeEnds.{IsOpeningFault}
-use Rattle.cell_tiles_texts.specs.parts.Steps.{IsBeyondCounts, past, sum_if_any, sum_of_counts}
-use Rattle.cell_tiles_texts.specs.parts.Taking.{IsFaultOfText, StopsBehind}
+use Rattle.cell_tiles_texts.specs.JoinAnswers.{IsOpeningFault}
+use Rattle.cell_tiles_texts.specs.TextHeads.{past, sum_if_any, sum_of_counts}
+use Rattle.cell_tiles_texts.specs.parts.Steps.{IsBeyondCounts}
+use Rattle.cell_tiles_texts.specs.JoinAnswers.{IsFaultOfText, StopsBehind}
 use Rattle.cell_tiles_texts.specs.declared.join_fault.JoinFault.{JoinFault}
 use Rattle.cell_tiles_texts.specs.declared.join_fault.JoinFault.TheVariants.{Text, Memory}
 use Rattle.cell_tiles_texts.proofs.FaultOrderLemmas.{GoesOn, went-on}

@@ -20,8 +20,8 @@ use Rattle.cell_tiles_merging.proofs.PairLemmas.{keys_of}
 use Rattle.cell_tiles_texts.specs.JoinedTexts.{AreNoneBefore, HasFault, IsFirstFault, IsFirstPlace, IsMetFirst}
 use Rattle.cell_tiles_texts.specs.JoinedTexts.{fault_place, last_combination, tables_of}
 use Rattle.cell_tiles_texts.specs.MergedTables.{BeginsAt}
-use Rattle.cell_tiles_texts.specs.parts.Steps.{is_of, past, past_first}
-use Rattle.cell_tiles_texts.specs.parts.Taking.{StopsBehind}
+use Rattle.cell_tiles_texts.specs.TextHeads.{is_of, past, past_first}
+use Rattle.cell_tiles_texts.specs.JoinAnswers.{StopsBehind}
 
 -- a reading of which the first entry was read, if there is one
 abbrev pub GoesOn : TableReading → Type 0

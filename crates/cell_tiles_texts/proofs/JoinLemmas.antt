@@ -15,7 +15,8 @@ use Rattle.cell_tiles_merging.specs.Merging.{IsListing}
 use Rattle.cell_tiles_texts.proofs.MergeLemmas.{one-merge}
 use Rattle.cell_tiles_texts.specs.JoinedTexts.{AreTables, HasFault, HasLines, HasPrefix, HasWritten, AreJoinedTexts, IsJoinFault, IsMergeOf, tables_of}
 use Rattle.cell_tiles_texts.specs.MergedTables.{merge_of}
-use Rattle.cell_tiles_texts.specs.parts.MergeEnds.{EndsSo, IsAnswered, IsOpeningFault, answered, join_flush_failed, settled}
+use Rattle.cell_tiles_texts.specs.JoinAnswers.{IsAnswered, IsOpeningFault, answered, join_flush_failed, settled}
+use Rattle.cell_tiles_texts.specs.parts.MergeEnds.{EndsSo}
 use Rattle.cell_tiles_texts.specs.declared.join_fault.JoinFault.{JoinFault}
 use Rattle.cell_tiles_texts.specs.declared.join_fault.JoinFault.TheVariants.{Text, TooMany, TooLong, Memory, Write}
 use Rattle.cell_tiles_texts.proofs.StepLemmas.{merges-all}
@@ -155,7 +156,7 @@ fits merged k n fit at = subst (λ (e : Combination × ℕ). e.1 < 2 ^ 64) at.2 
 
 module _ (readings : List TableReading) (all : AllByRecursion IsListing (tables_of readings)) (merged : Pairs)
     (whole : IsMergeOf readings merged) where
-  refuted : (fault : JoinFault) → IsJoinFault readings fault → fault ≢ Memory → fault ≢ Write → ⊥
+  pub refuted : (fault : JoinFault) → IsJoinFault readings fault → fault ≢ Memory → fault ≢ Write → ⊥
   refuted (Text text fault) is memory write = no-fault readings text fault whole.tables is.has
   refuted (TooMany k) is memory write =
       let n = sum_by (count_in k) (tables_of readings) in

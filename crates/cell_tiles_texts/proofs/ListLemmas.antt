@@ -11,7 +11,8 @@ use Rattle.std.specs.declared.cmp.Ordering.{Ordering}
 use Rattle.std.specs.declared.cmp.Ordering.TheVariants.{Less, Equal, Greater}
 use Rattle.cell_stats_combinations.specs.Combinations.{Combination, combination_cmp, combination_cmp_total}
 use Rattle.cell_stats_combinations.proofs.OrderLemmas.{combination_cmp-exact}
-use Rattle.cell_tiles_texts.specs.parts.Steps.{sum_if_any, lesser_of, sum_of_counts}
+use Rattle.cell_tiles_texts.specs.TextHeads.{sum_if_any, sum_of_counts}
+use Rattle.cell_tiles_texts.specs.parts.Steps.{lesser_of}
 
 module _ {X Y : Type 0} (count : X → Option ℕ) (read after : X → Y) (old now : List X) (i : ℕ) (x y : X) where
   -- the text at a place was taken

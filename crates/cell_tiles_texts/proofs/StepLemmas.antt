@@ -12,7 +12,7 @@ use Rattle.cell_tiles_law.specs.TableParts.{IsMerge}
 use Rattle.cell_tiles_merging.specs.Merging.{IsListing}
 use Rattle.cell_tiles_merging.proofs.ListingLemmas.{listing-merged, listing-none, merge-none, merge-one, merge-split}
 use Rattle.cell_tiles_texts.specs.MergedTables.{BeginsAbove, BeginsAt, LeastGoesFirst, MergesAll, first_count, merge_of, put_first, total_in}
-use Rattle.cell_tiles_texts.specs.parts.Steps.{sum_if_any, is_of, past_first}
+use Rattle.cell_tiles_texts.specs.TextHeads.{sum_if_any, is_of, past_first}
 
 above-merged : (k : Combination) (xs ys : Pairs) → BeginsAbove k xs → BeginsAbove k ys → BeginsAbove k (merged_of xs ys)
 above-merged k [] ys one other = other

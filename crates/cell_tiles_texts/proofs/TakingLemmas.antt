@@ -19,8 +19,9 @@ use Rattle.cell_tiles_merging.specs.Merging.{IsListing}
 use Rattle.cell_tiles_merging.proofs.ListingLemmas.{beside-merge}
 use Rattle.cell_tiles_texts.specs.JoinedTexts.{IsFaultyAtOnce, first_entry, tables_of}
 use Rattle.cell_tiles_texts.specs.MergedTables.{BeginsAbove, BeginsAt, first_count, merge_of, put_first, total_in}
-use Rattle.cell_tiles_texts.specs.parts.Steps.{sum_if_any, head_count, is_of, past, past_first, sum_of_counts}
-use Rattle.cell_tiles_texts.specs.parts.Taking.{HasTaken, IsStepFault, IsFaultOfText}
+use Rattle.cell_tiles_texts.specs.TextHeads.{sum_if_any, head_count, is_of, past, past_first, sum_of_counts}
+use Rattle.cell_tiles_texts.specs.JoinAnswers.{IsFaultOfText}
+use Rattle.cell_tiles_texts.specs.parts.Taking.{HasTaken, IsStepFault}
 use Rattle.cell_tiles_texts.specs.declared.join_fault.JoinFault.{JoinFault}
 use Rattle.cell_tiles_texts.specs.declared.join_fault.JoinFault.TheVariants.{Text, TooMany, TooLong, Memory, Write}
 use Rattle.cell_tiles_texts.proofs.FaultOrderLemmas.{all-on, none-before, places-kept, stops-first}
@@ -156,7 +157,7 @@ module _ (format : FormatValue) (k : Combination) where
   abbrev IsNotBefore : TextValue → Type 0
   IsNotBefore text = IfSome text.head (λ entry. combination_cmp entry.0 k ≢ Less)
 
-  begins : (texts : List TextValue) (readings : List TableReading) → map read texts ≡ map Some readings
+  pub begins : (texts : List TextValue) (readings : List TableReading) → map read texts ≡ map Some readings
       → All IsNotBefore texts → AllByRecursion IsListing (tables_of readings)
       → AllByRecursion (BeginsAt k) (tables_of readings)
   begins [] [] known least all = tt
