@@ -1,18 +1,15 @@
 -- Many entries with labels taken one after the other, and how that ends.
-use Rattle.std.proofs.Common.{◌≡◌, ◌≢◌, ℕ, ◌+◌, ◌-◌, ◌<◌, ◌≤◌, ◌^◌, List, [], ◌∷◌, ◌++◌, length, map, Option, Some, None, Result, Ok, Err}
-use Rattle.std.proofs.Common.{refl, ap, sym, ◌∙◌, arith, subst, append_assoc, append-nil, length-append}
+use Rattle.std.proofs.Common.{◌≡◌, ℕ, ◌+◌, ◌-◌, ◌≤◌, ◌^◌, List, [], ◌∷◌, ◌++◌, map, Option, Some, None, Ok, Err}
+use Rattle.std.proofs.Common.{refl, ap, sym, ◌∙◌, subst, append_assoc, append-nil, length-append}
 use Rattle.std.proofs.lemmas.List.{map-append, length-map}
-use Rattle.std.specs.List.{AllByRecursion}
 use Rattle.std.specs.Prelude.{All}
 use Rattle.cell_core_devices.specs.Blocks.{BlockValue}
 use Rattle.cell_core_devices.specs.Device.{Faults}
 use Rattle.cell_core_devices.proofs.BlockLemmas.{appends_none, appends_then}
-use Rattle.cell_stats_combinations.specs.Combinations.{Combination}
 use Rattle.cell_stats.specs.TableText.{FormatValue}
 use Rattle.cell_tiles_lines.specs.LineLabels.{Labelled, labelled_from}
 use Rattle.cell_tiles_lines.specs.LineReading.{TableReading}
 use Rattle.cell_tiles_lines.specs.TextReading.{TextValue, reading_from}
-use Rattle.cell_tiles_merging.specs.Merging.{IsListing}
 use Rattle.cell_tiles_texts.specs.JoinedTexts.{AreNoneBefore, fault_place, tables_of}
 use Rattle.cell_tiles_texts.specs.MergedTables.{merge_of}
 use Rattle.cell_tiles_texts.specs.TextHeads.{past_labelled}
@@ -21,12 +18,13 @@ use Rattle.cell_tiles_texts.specs.parts.Taking.{StepFails, TakesEntries}
 use Rattle.cell_tiles_texts.specs.declared.join_fault.JoinFault.{JoinFault}
 use Rattle.cell_tiles_texts.specs.declared.join_fault.JoinFault.TheVariants.{TooLong, Write}
 use Rattle.cell_tiles_texts.proofs.MergingLemmas.{ends-ok, fault-of-all, takes-more, takes-none, too-long}
-use Rattle.cell_tiles_labels.specs.JoinedLabels.{AreOfTexts, HasOtherLabel, IsOfTexts, LabelledEntry, counted_line, counted_text}
-use Rattle.cell_tiles_labels.specs.JoinedLabels.{entries_of, entry_of, labelled_of}
+use Rattle.cell_tiles_labels.specs.JoinedLabels.{HasOtherLabel, IsOfTexts, LabelledEntry, counted_line, counted_text}
+use Rattle.cell_tiles_labels.specs.JoinedLabels.{plain_entries, plain_entry, labelled_of}
 use Rattle.cell_tiles_labels.specs.parts.LabelEnds.{IsLabelledEnd, StopsAtLabels}
-use Rattle.cell_tiles_labels.specs.parts.LabelSteps.{ArePassed, HasLabelledMerge, HasLabelledStep, HasPassed, PassesLines}
+use Rattle.cell_tiles_labels.specs.parts.LabelSteps.{ArePassed, HasLabelledMerge, HasLabelledStep, PassesLines}
 use Rattle.cell_tiles_labels.specs.declared.label_fault.OtherLabel.{OtherLabel}
-use Rattle.cell_tiles_labels.proofs.LabelledStepLemmas.{all-passed, all-push, left-known, line-whole, none-left, none-passed}
+use Rattle.cell_tiles_labels.proofs.LabelledStepLemmas.{all-passed, all-push, left-known, line-whole, none-left}
+use Rattle.cell_tiles_labels.proofs.LabelledStepLemmas.{none-passed}
 use Rattle.cell_tiles_labels.proofs.LabelledStepLemmas.{own-step, own-whole, passed-step}
 
 text-more : (done : List LabelledEntry) (e : LabelledEntry)
@@ -79,15 +77,15 @@ module _ (format : FormatValue) where
       labelled-more new next then step =
           let e = step.entry in
           let done = merged.done in
-          let entries : entries_of done ++ entry_of e ∷ [] ≡ entries_of (done ++ e ∷ []) =
-          sym (map-append entry_of done (e ∷ [])) in
+          let entries : plain_entries done ++ plain_entry e ∷ [] ≡ plain_entries (done ++ e ∷ []) =
+          sym (map-append plain_entry done (e ∷ [])) in
           let labelled : labelled_of done ++ e.0 ∷ [] ≡ labelled_of (done ++ e ∷ []) =
           sym (map-append (λ (x : LabelledEntry). x.0) done (e ∷ [])) in
           record {
             done = done ++ e ∷ [];
             counted = length-append done (e ∷ []) ∙ ap (λ n. n + 1) merged.counted;
             takes = subst (λ es. TakesEntries read texts new es) entries
-                (takes-more read texts mid new (entries_of done) (entry_of e) merged.takes step.takes);
+                (takes-more read texts mid new (plain_entries done) (plain_entry e) merged.takes step.takes);
             passes = λ wholes known.
                 let so = merged.passes wholes known in
                 let own = own-whole (labelled_of done) wholes so.left e.0 so.passed
@@ -112,7 +110,7 @@ module _ (format : FormatValue) where
         ends = λ readings wholes known all lines.
             let so = merged.takes readings known all in
             let passed = merged.passes wholes lines in
-            let end = ends-ok read readings all mid (entries_of merged.done) so (ended so.after so.known) in (
+            let end = ends-ok read readings all mid (plain_entries merged.done) so (ended so.after so.known) in (
               (
                 end.0,
                 (
@@ -153,7 +151,7 @@ module _ (format : FormatValue) where
             let so = merged.takes readings known all in
             let passed = merged.passes wholes lines in (
               (
-                fault-of-all read readings all mid (entries_of merged.done) so fault
+                fault-of-all read readings all mid (plain_entries merged.done) so fault
                     (fails so.after so.known so.listings),
                 (merge_of (tables_of so.after), so.merged),
               ),
@@ -180,8 +178,8 @@ module _ (format : FormatValue) where
             let so = merged.takes readings known all in
             let passed = merged.passes wholes lines in (
               (
-                too-long read readings all mid (entries_of merged.done) so count
-                    (length-map merged.done entry_of ∙ merged.counted) high,
+                too-long read readings all mid (plain_entries merged.done) so count
+                    (length-map merged.done plain_entry ∙ merged.counted) high,
                 (merge_of (tables_of so.after), so.merged),
               ),
               passed.own,

@@ -1,6 +1,7 @@
 -- What was written, and the answer, at the end of a join of texts with labels.
-use Rattle.std.proofs.Common.{◌≡◌, ◌≢◌, ℕ, zero, suc, ◌+◌, ◌<◌, List, [], ◌∷◌, ◌++◌, length, map, get_or, slice_get, Bool, true, false}
-use Rattle.std.proofs.Common.{Option, Some, None, Result, Ok, Err, ◌⊎◌, inl, inr, ⊎_elim, refl, ap, sym, ◌∙◌, arith, subst, append-nil}
+use Rattle.std.proofs.Common.{◌≡◌, ◌≢◌, ℕ, zero, suc, ◌<◌, List, [], ◌∷◌, ◌++◌, length, map, get_or, Bool, true, false}
+use Rattle.std.proofs.Common.{Option, Some, None, Result, Ok, Err, ◌⊎◌, inl, inr, ⊎_elim, refl, ap, sym, ◌∙◌, arith}
+use Rattle.std.proofs.Common.{subst, append-nil}
 use Rattle.std.specs.List.{AllByRecursion, Contains}
 use Rattle.std.specs.List.Sorted.{IsStrictlySortedBy}
 use Rattle.std.specs.Prelude.{IfSome}
@@ -15,7 +16,7 @@ use Rattle.cell_tiles_lines.specs.LineLabels.{Labelled}
 use Rattle.cell_tiles_lines.specs.LineReading.{TableReading}
 use Rattle.cell_tiles_merging.specs.Merging.{IsListing}
 use Rattle.cell_tiles_texts.specs.JoinAnswers.{IsOpeningFault, answered, settled}
-use Rattle.cell_tiles_texts.specs.JoinedTexts.{AreTables, readings_of, tables_of}
+use Rattle.cell_tiles_texts.specs.JoinedTexts.{readings_of, tables_of}
 use Rattle.cell_tiles_texts.specs.MergedTables.{merge_of}
 use Rattle.cell_tiles_texts.specs.declared.join_fault.JoinFault.{JoinFault}
 use Rattle.cell_tiles_texts.specs.declared.join_fault.JoinFault.TheVariants.{Text, TooMany, TooLong, Memory, Write}
@@ -23,9 +24,11 @@ use Rattle.cell_tiles_texts.proofs.JoinLemmas.{refuted}
 use Rattle.cell_tiles_texts.proofs.MergeLemmas.{one-merge}
 use Rattle.cell_tiles_texts.proofs.StepLemmas.{merges-all}
 use Rattle.cell_tiles_labels.specs.JoinedLabels.{AreFirst, AreJoinedLabels, AreLabelledSo, AreOfTexts, HasJoinWritten}
-use Rattle.cell_tiles_labels.specs.JoinedLabels.{HasLabelledLines, HasLabelledPrefix, HasLabelledWritten, HasLine, HasOtherLabel}
-use Rattle.cell_tiles_labels.specs.JoinedLabels.{IsLabelFault, IsLabelledMerge, IsOfTexts, LabelledEntry, counted_text, entries_of}
-use Rattle.cell_tiles_labels.specs.JoinedLabels.{entry_of, labelled_of, labels_of}
+use Rattle.cell_tiles_labels.specs.JoinedLabels.{HasLabelledLines, HasLabelledPrefix, HasLabelledWritten, HasLine}
+use Rattle.cell_tiles_labels.specs.JoinedLabels.{HasOtherLabel}
+use Rattle.cell_tiles_labels.specs.JoinedLabels.{IsLabelFault, IsLabelledMerge, IsOfTexts, LabelledEntry}
+use Rattle.cell_tiles_labels.specs.JoinedLabels.{counted_text, plain_entries}
+use Rattle.cell_tiles_labels.specs.JoinedLabels.{plain_entry, labelled_of, labels_of_texts}
 use Rattle.cell_tiles_labels.specs.parts.LabelEnds.{EndsLabelled, HasOthers, answer_of, label_fault_of, other_of}
 use Rattle.cell_tiles_labels.specs.declared.label_fault.OtherLabel.{OtherLabel}
 use Rattle.cell_tiles_labels.specs.declared.label_fault.LabelFault.{LabelFault}
@@ -34,7 +37,7 @@ use Rattle.cell_tiles_labels.specs.declared.label_fault.LabelFault.TheVariants a
 -- ---- one combination has one label
 
 abbrev keys_of : List LabelledEntry → List Combination
-keys_of entries = map (λ (e : Combination × ℕ). e.0) (entries_of entries)
+keys_of entries = map (λ (e : Combination × ℕ). e.0) (plain_entries entries)
 
 pub contains-cases : {X : Type 0} (x y : X) (xs : List X) → Contains (x ∷ xs) y → (x ≡ y) ⊎ Contains xs y
 contains-cases x y xs at = by at.0 at.1 at.2
@@ -70,15 +73,15 @@ one-label (x ∷ entries) up a b first second same = ⊎_elim
 
 -- entries that have the labels of others are these
 same-labels : (whole : List LabelledEntry) → IsStrictlySortedBy combination_cmp (keys_of whole)
-    → (one other : List LabelledEntry) → entries_of one ≡ entries_of other
+    → (one other : List LabelledEntry) → plain_entries one ≡ plain_entries other
     → AllByRecursion (λ (e : LabelledEntry). Contains (labelled_of whole) e.0) one
     → AllByRecursion (λ (e : LabelledEntry). Contains (labelled_of whole) e.0) other → one ≡ other
 same-labels whole up [] [] same first second = refl
 same-labels whole up [] (y ∷ ys) same first second = cc
 same-labels whole up (x ∷ xs) [] same first second = cc
 same-labels whole up (x ∷ xs) (y ∷ ys) same first second =
-    let here : entry_of x ≡ entry_of y = cc in
-    let rest : entries_of xs ≡ entries_of ys = cc in
+    let here : plain_entry x ≡ plain_entry y = cc in
+    let rest : plain_entries xs ≡ plain_entries ys = cc in
     let labelled : x.0 ≡ y.0 = one-label whole up x.0 y.0 first.0 second.0 (ap (λ (e : Combination × ℕ). e.0) here) in
     let count : x.1 ≡ y.1 = ap (λ (e : Combination × ℕ). e.1) here in
     λ i. (labelled i, count i) ∷ same-labels whole up xs ys rest first.1 second.1 i
@@ -163,15 +166,16 @@ module _ (format : FormatValue) (texts : List Coming)
     (all : AllByRecursion IsListing (tables_of (readings_of format texts))) (done : List LabelledEntry)
     (before now : Option (List ℕ)) (start faults : Faults) (block : BlockValue)
     (appended : Appended before start (counted_text done) now faults block)
-    (own : AreOfTexts (labels_of format texts) done) where
+    (own : AreOfTexts (labels_of_texts format texts) done) where
   abbrev readings : List TableReading
   readings = readings_of format texts
 
-  merge-is : (whole : List (Combination × ℕ)) → merge_of (tables_of readings) ≡ whole → IsMerge (tables_of readings) whole
+  merge-is : (whole : List (Combination × ℕ)) → merge_of (tables_of readings) ≡ whole
+      → IsMerge (tables_of readings) whole
   merge-is whole is = subst (IsMerge (tables_of readings)) is (merges-all (tables_of readings) all)
 
   are-first : HasOthers readings done → AreFirst format texts done
-  are-first rest = record { others = rest.0; merge = merge-is (entries_of done ++ rest.0) rest.1; own = own }
+  are-first rest = record { others = rest.0; merge = merge-is (plain_entries done ++ rest.0) rest.1; own = own }
 
   has-prefix : HasOthers readings done → HasLabelledPrefix format texts before now block.written
   has-prefix rest = record {
@@ -199,12 +203,12 @@ module _ (format : FormatValue) (texts : List Coming)
       count = appended.count ∙ ap (λ text. capped_count (length text)) all-front;
     }
 
-    is-joined : EndsLabelled readings (labels_of format texts) done (Ok None)
+    is-joined : EndsLabelled readings (labels_of_texts format texts) done (Ok None)
         → AreJoinedLabels format texts before now block.written
     is-joined ends = record {
       tables = ends.0;
       merged = done;
-      merge = merge-is (entries_of done) ends.1.0;
+      merge = merge-is (plain_entries done) ends.1.0;
       labels = ends.1.1;
       own = own;
       taken = appended.taken ∙ ap (append_known before) all-front;
@@ -220,18 +224,19 @@ module _ (format : FormatValue) (texts : List Coming)
     written-by Write not rest = absurd (not refl)
 
   others-of : (answer : Result (Option OtherLabel) JoinFault)
-      → EndsLabelled readings (labels_of format texts) done answer → HasOthers readings done
-  others-of (Ok None) ends = ([], ends.1.0 ∙ sym (append-nil (entries_of done)))
+      → EndsLabelled readings (labels_of_texts format texts) done answer → HasOthers readings done
+  others-of (Ok None) ends = ([], ends.1.0 ∙ sym (append-nil (plain_entries done)))
   others-of (Ok (Some told)) ends = ends.1
   others-of (Err fault) ends = ends.1
 
   module _ (answer : Result (Option OtherLabel) JoinFault)
-      (ends : EndsLabelled readings (labels_of format texts) done answer)
+      (ends : EndsLabelled readings (labels_of_texts format texts) done answer)
       (write : answer_of answer ≡ Err Write → block.failed ≡ true) (held : block.failed ≡ false → block.held ≡ [])
       (fails : Bool) where
     told-by : (failed : Bool) → block.failed ≡ failed → (a : Result (Option OtherLabel) JoinFault) → answer ≡ a
-        → EndsLabelled readings (labels_of format texts) done a → (fails : Bool)
-        → IsTold format texts before now block.written (label_fault_of (answered (settled failed (answer_of a)) fails) (other_of a))
+        → EndsLabelled readings (labels_of_texts format texts) done a → (fails : Bool)
+        → IsTold format texts before now block.written
+        (label_fault_of (answered (settled failed (answer_of a)) fails) (other_of a))
     told-by true failed a same so f = (tt, has-prefix (others-of a so))
     told-by false good (Err fault) same so f = (
       so.0,
@@ -246,7 +251,8 @@ module _ (format : FormatValue) (texts : List Coming)
     pub told-so : (fault : Option LabelFault)
         → fault ≡ label_fault_of (answered (settled block.failed (answer_of answer)) fails) (other_of answer)
         → IsTold format texts before now block.written fault
-    told-so fault is = subst (IsTold format texts before now block.written) (sym is) (told-by block.failed refl answer refl ends fails)
+    told-so fault is = subst (IsTold format texts before now block.written) (sym is)
+        (told-by block.failed refl answer refl ends fails)
 
 -- ---- where all texts have the same labels
 
@@ -254,7 +260,7 @@ module _ (format : FormatValue) (texts : List Coming)
     (all : AllByRecursion IsListing (tables_of (readings_of format texts))) (merged : List LabelledEntry)
     (whole : IsLabelledMerge format texts merged) where
   abbrev tables : List (List Labelled)
-  tables = labels_of format texts
+  tables = labels_of_texts format texts
 
   up : IsStrictlySortedBy combination_cmp (keys_of merged)
   up = whole.whole.merge.ascending
@@ -270,7 +276,8 @@ module _ (format : FormatValue) (texts : List Coming)
   pub one-labelled : (before now : Option (List ℕ)) (written : ℕ)
       → (joined : AreJoinedLabels format texts before now written) → joined.merged ≡ merged
   one-labelled before now written joined = same-labels merged up joined.merged merged
-      (one-merge (tables_of (readings_of format texts)) (entries_of joined.merged) (entries_of merged) joined.merge
+      (one-merge (tables_of (readings_of format texts)) (plain_entries joined.merged) (plain_entries merged)
+      joined.merge
       whole.whole.merge) (all-stand merged tables joined.merged whole.labels joined.own) (own-stand merged)
 
   pub wholly-labelled : (before now : Option (List ℕ)) (written : ℕ) (failed : Bool) (fault : Option LabelFault)
@@ -283,7 +290,7 @@ module _ (format : FormatValue) (texts : List Coming)
       let same : so.merged ≡ merged = one-labelled before now written so in
       (refl, so.taken ∙ ap (λ es. append_known before (counted_text es)) same)
   wholly-labelled before now written failed (Some (faults.Join fault)) is joined write memory good =
-      absurd (refuted (readings_of format texts) all (entries_of merged) whole.whole fault is
+      absurd (refuted (readings_of format texts) all (plain_entries merged) whole.whole fault is
       (λ e. memory (ap (λ f. Some (faults.Join f)) e))
       (λ e. let bad : failed ≡ true = write (ap (λ f. Some (faults.Join f)) e) in cc))
   wholly-labelled before now written failed (Some (faults.OtherLabel told)) is joined write memory good =

@@ -1,6 +1,8 @@
 -- Lines with labels that are passed one step after another.
-use Rattle.std.proofs.Common.{◌≡◌, ◌≢◌, ℕ, zero, suc, ◌+◌, ◌<◌, List, [], ◌∷◌, ◌++◌, length, map, get_or, slice_get, Bool, true, false}
-use Rattle.std.proofs.Common.{Option, Some, None, refl, ap, sym, ◌∙◌, arith, cond, subst, option_map, append_assoc, append-nil}
+use Rattle.std.proofs.Common.{◌≡◌, ℕ, zero, suc, ◌<◌, List, [], ◌∷◌, ◌++◌, length, map, get_or, slice_get, Bool, true}
+use Rattle.std.proofs.Common.{false}
+use Rattle.std.proofs.Common.{Option, Some, None, refl, ap, sym, ◌∙◌, arith, cond, subst, option_map, append_assoc}
+use Rattle.std.proofs.Common.{append-nil}
 use Rattle.std.proofs.lemmas.List.Elements.{All-head, All-tail, Contains-append_left, Contains-append_right}
 use Rattle.std.specs.List.{AllByRecursion, Contains}
 use Rattle.std.specs.Ordering.{eq_by_cmp}
@@ -9,11 +11,11 @@ use Rattle.cell_core_devices.specs.Device.{Coming}
 use Rattle.cell_stats_combinations.specs.Combinations.{Combination, combination_cmp}
 use Rattle.cell_stats_combinations.proofs.OrderLemmas.{combination_cmp-exact, is_equal}
 use Rattle.cell_stats.specs.TableText.{FormatValue}
-use Rattle.cell_tiles_lines.specs.LineLabels.{Labelled, before_count, labelled_from, labelled_from_head, labelled_head, labelled_in}
+use Rattle.cell_tiles_lines.specs.LineLabels.{Labelled, before_count, labelled_from, labelled_from_head, labelled_head}
 use Rattle.cell_tiles_lines.specs.TextReading.{TextValue}
 use Rattle.cell_tiles_texts.specs.TextHeads.{past_labelled}
 use Rattle.cell_tiles_labels.specs.JoinedLabels.{AreLabelledSo, HasLine, IsOfTexts, LabelledEntry, labelled_of}
-use Rattle.cell_tiles_labels.specs.parts.LabelSteps.{AgreesOn, ArePassed, IsPassed, heads_of}
+use Rattle.cell_tiles_labels.specs.parts.LabelSteps.{AgreesOn, ArePassed, IsReadPast, heads_of}
 
 -- ---- lists
 
@@ -108,20 +110,19 @@ module _ (format : FormatValue) where
     abbrev line : Labelled
     line = (k, labelled)
 
-    passed-one : (done whole left : List Labelled) → IsPassed done whole left → AgreesOn k labelled (first_of left)
-        → IsPassed (done ++ line ∷ []) whole (past_labelled k left)
+    passed-one : (done whole left : List Labelled) → IsReadPast done whole left → AgreesOn k labelled (first_of left)
+        → IsReadPast (done ++ line ∷ []) whole (past_labelled k left)
     passed-one done whole [] so agree = (so.0, (so.1.0, all-more done (line ∷ []) so.0 so.1.1))
     passed-one done whole (x ∷ xs) so agree = by (eq_by_cmp combination_cmp x.0 k) refl
       where
         by : (t : Bool) → eq_by_cmp combination_cmp x.0 k ≡ t
-            → IsPassed (done ++ line ∷ []) whole (cond t xs (x ∷ xs))
+            → IsReadPast (done ++ line ∷ []) whole (cond t xs (x ∷ xs))
         by false e = (so.0, (so.1.0, all-more done (line ∷ []) so.0 so.1.1))
         by true e =
             let same : x.0 ≡ k = combination_cmp-exact x.0 k (is_equal _ e) in
             let own : x ≡ line = λ i. (same i, agree same i) in
             let last : Contains (done ++ line ∷ []) line = Contains-append_right done (line ∷ []) line
-            (0, omega arith, refl) in
-            (
+            (0, omega arith, refl) in (
               so.0 ++ x ∷ [],
               (
                 so.1.0 ∙ sym (append_assoc so.0 (x ∷ []) xs),
@@ -166,7 +167,7 @@ none-passed [] = tt
 none-passed (w ∷ ws) = (([], (refl, tt)), none-passed ws)
 
 -- a line that is left is one of the whole
-line-left : (done whole left : List Labelled) (y : Labelled) → IsPassed done whole left → Contains left y
+line-left : (done whole left : List Labelled) (y : Labelled) → IsReadPast done whole left → Contains left y
     → Contains whole y
 line-left done whole left y so at = subst (λ lines. Contains lines y) (sym so.1.0)
     (Contains-append_right so.0 left y at)

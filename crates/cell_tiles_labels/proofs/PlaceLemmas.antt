@@ -1,6 +1,7 @@
 -- Which texts go on with a combination, and with which labels.
-use Rattle.std.proofs.Common.{◌≡◌, ◌≢◌, ℕ, zero, suc, ◌+◌, ◌<◌, ◌≤◌, List, [], ◌∷◌, length, map, get_or, slice_get, Bool, true, false}
-use Rattle.std.proofs.Common.{Option, Some, None, ◌⊎◌, inl, inr, ⊎_elim, refl, ap, sym, ◌∙◌, arith, subst, option_map, ◌&&◌, not}
+use Rattle.std.proofs.Common.{◌≡◌, ◌≢◌, ℕ, zero, suc, ◌+◌, ◌<◌, ◌≤◌, List, [], ◌∷◌, length, map, get_or, slice_get}
+use Rattle.std.proofs.Common.{Bool, true, false}
+use Rattle.std.proofs.Common.{Option, Some, None, ⊎_elim, refl, ap, sym, ◌∙◌, arith, subst, option_map, ◌&&◌, not}
 use Rattle.std.proofs.lemmas.Bool.{cases_lt}
 use Rattle.std.proofs.lemmas.List.Sums.{fails_before_first, passes_at_first, position_or_len_is}
 use Rattle.std.proofs.lemmas.Slice.Eq.{bytes_eq-Decides}
@@ -21,7 +22,8 @@ use Rattle.cell_tiles_labels.specs.JoinedLabels.{HasLine}
 use Rattle.cell_tiles_labels.specs.parts.LabelEnds.{StopsAtLabels}
 use Rattle.cell_tiles_labels.specs.declared.label_fault.OtherLabel.{OtherLabel}
 use Rattle.cell_tiles_labels.proofs.LabelledStepLemmas.{head-at}
-use Rattle.cell_tiles_labels.specs.parts.LabelSteps.{AgreesOn, AllAgree, DifferAt, heads_of, is_at, is_other, is_same}
+use Rattle.cell_tiles_labels.specs.parts.LabelSteps.{AgreesOn, AllAgree, DifferAt, heads_of, goes_on_with, is_other}
+use Rattle.cell_tiles_labels.specs.parts.LabelSteps.{is_combination}
 
 -- ---- the first place of a text that passes a test
 
@@ -68,42 +70,43 @@ module _ (format : FormatValue) (k : Combination) where
   abbrev labelled_by : List ℕ → Combination × ℕ → Labelled
   labelled_by line entry = (entry.0, before_count format.separator line)
 
-  head-there : (head : Option (Combination × ℕ)) (line : List ℕ) → is_same k (combination_of head) ≡ true
+  head-there : (head : Option (Combination × ℕ)) (line : List ℕ) → is_combination k (combination_of head) ≡ true
       → option_map (labelled_by line) head ≡ Some (k, before_count format.separator line)
   head-there None line is = cc
   head-there (Some e) line is =
       let same : e.0 ≡ k = combination_cmp-exact e.0 k (is_equal _ is) in
       ap (λ (c : Combination). let o : Option Labelled = Some (c, before_count format.separator line) in o) same
 
-  at-head : (text : TextValue) → is_at k text ≡ true → labelled_head format text ≡ Some (k, labels_there text)
+  at-head : (text : TextValue) → goes_on_with k text ≡ true → labelled_head format text ≡ Some (k, labels_there text)
   at-head text is = head-there text.head text.line is
 
   same-there : (own : Combination) → own ≡ k → eq_by_cmp combination_cmp own k ≡ true
   same-there own same = ap (λ c. eq_by_cmp combination_cmp c k) same ∙ ap is_eq (tied_itself combination_cmp_total k)
 
-  not-there : (own : Option Combination) → is_same k own ≡ false → own ≡ Some k → ⊥
+  not-there : (own : Option Combination) → is_combination k own ≡ false → own ≡ Some k → ⊥
   not-there None is same = cc
   not-there (Some own) is same =
       let one : own ≡ k = cc in
       let held = same-there own one in
       cc
 
-  none-at : (texts : List TextValue) → position_or_len (is_at k) texts ≡ length texts
+  none-at : (texts : List TextValue) → position_or_len (goes_on_with k) texts ≡ length texts
       → Contains (map (λ (text : TextValue). combination_of text.head) texts) (Some k) → ⊥
-  none-at texts none at = by texts (λ i d within. each-fails (is_at k) texts none i d within) at.0 at.1 at.2
+  none-at texts none at = by texts (λ i d within. each-fails (goes_on_with k) texts none i d within) at.0 at.1 at.2
     where
       by : (xs : List TextValue)
-          → ((i : ℕ) (d : TextValue) → i < length xs → is_at k (get_or xs i d) ≡ false) → (i : ℕ)
+          → ((i : ℕ) (d : TextValue) → i < length xs → goes_on_with k (get_or xs i d) ≡ false) → (i : ℕ)
           → i < length (map (λ (text : TextValue). combination_of text.head) xs)
           → get_or (map (λ (text : TextValue). combination_of text.head) xs) i (Some k) ≡ Some k → ⊥
       by [] fail i within is = absurd (omega (arith, within))
       by (x ∷ xs) fail zero within is = not-there (combination_of x.head) (fail 0 x (omega arith)) is
-      by (x ∷ xs) fail (suc i) within is = by xs (λ j d h. fail (suc j) d (omega (arith, h))) i (omega (arith, within)) is
+      by (x ∷ xs) fail (suc i) within is = by xs (λ j d h. fail (suc j) d (omega (arith, h))) i
+          (omega (arith, within)) is
 
   module _ (labelled : List ℕ) where
     agrees-by : (head : Option (Combination × ℕ)) (line : List ℕ)
-        → (is_same k (combination_of head) && not (bytes_eq (before_count format.separator line) labelled)) ≡ false
-        → AgreesOn k labelled (option_map (labelled_by line) head)
+        → (is_combination k (combination_of head) && not (bytes_eq (before_count format.separator line) labelled))
+        ≡ false → AgreesOn k labelled (option_map (labelled_by line) head)
     agrees-by None line is = tt
     agrees-by (Some e) line is = λ same. by (eq_by_cmp combination_cmp e.0 k)
         (bytes_eq (before_count format.separator line) labelled) (same-there e.0 same)
@@ -130,13 +133,13 @@ module _ (format : FormatValue) (k : Combination) where
         (λ i d within. each-fails (is_other format k labelled) texts none i d within)
 
     -- no text goes on with it
-    pub none-agree : (texts : List TextValue) → position_or_len (is_at k) texts ≡ length texts
+    pub none-agree : (texts : List TextValue) → position_or_len (goes_on_with k) texts ≡ length texts
         → AllAgree format k labelled texts
     none-agree texts none = agrees-where texts (λ i d within.
         ap (λ t. t && not (bytes_eq (before_count format.separator (get_or texts i d).line) labelled))
-        (each-fails (is_at k) texts none i d within))
+        (each-fails (goes_on_with k) texts none i d within))
 
-  pub none-own : (texts : List TextValue) (y : Labelled) → position_or_len (is_at k) texts ≡ length texts
+  pub none-own : (texts : List TextValue) (y : Labelled) → position_or_len (goes_on_with k) texts ≡ length texts
       → Contains (map (λ (text : TextValue). combination_of text.head) texts) (Some k)
       → Contains (heads_of format texts) (Some y)
   none-own texts y none at = absurd (none-at texts none at)
@@ -156,11 +159,11 @@ module _ (format : FormatValue) (k : Combination) where
       (suc at.0, omega (arith, at.1), at.2)
 
   module _ (texts : List TextValue) (first : ℕ) (x : TextValue) (labelled : List ℕ) (within : first < length texts)
-      (place : position_or_len (is_at k) texts ≡ first) (at : x ≡ get_or texts first x)
+      (place : position_or_len (goes_on_with k) texts ≡ first) (at : x ≡ get_or texts first x)
       (is : labelled ≡ labels_there x) where
-    there : is_at k x ≡ true
-    there = ap (is_at k) (at ∙ ap (λ n. get_or texts n x) (sym place))
-        ∙ passes_at_first (is_at k) texts x (omega (arith, within, place))
+    there : goes_on_with k x ≡ true
+    there = ap (goes_on_with k) (at ∙ ap (λ n. get_or texts n x) (sym place))
+        ∙ passes_at_first (goes_on_with k) texts x (omega (arith, within, place))
 
     own : labelled_head format (get_or texts first x) ≡ Some (k, labelled)
     own = ap (labelled_head format) (sym at) ∙ at-head x there ∙ ap (λ ls. Some (k, ls)) (sym is)
@@ -185,19 +188,20 @@ module _ (format : FormatValue) (k : Combination) where
         let y : TextValue = get_or texts text x in
         let is_one : is_other format k labelled y ≡ true = ap (λ n. is_other format k labelled (get_or texts n x))
         (sym other_place) ∙ passes_at_first (is_other format k labelled) texts x (omega (arith, inside, other_place)) in
-        let parts = both (is_at k y) (not (bytes_eq (labels_there y) labelled)) is_one in
-        let unequal : bytes_eq (labels_there y) labelled ≡ false = differs (bytes_eq (labels_there y) labelled) parts.1 in
+        let parts = both (goes_on_with k y) (not (bytes_eq (labels_there y) labelled)) is_one in
+        let unequal : bytes_eq (labels_there y) labelled ≡ false =
+        differs (bytes_eq (labels_there y) labelled) parts.1 in
         let apart : labels_there y ≢ labelled = λ same.
         (let equal : bytes_eq (labels_there y) labelled ≡ true =
         (bytes_eq-Decides (labels_there y) labelled).1 same in cc) in
         record {
           other = labels_there y;
           before = ⊎_elim (λ less. less) (λ high. ⊎_elim
-              (λ below. absurd (let no : is_at k y ≡ false = fails_before_first (is_at k) texts text x
+              (λ below. absurd (let no : goes_on_with k y ≡ false = fails_before_first (goes_on_with k) texts text x
               (omega (arith, below, place)) in let held = parts.0 in cc))
               (λ more. absurd (
-                let same : text ≡ first = omega (arith, high, more) in
-                apart (ap labels_there (ap (λ n. get_or texts n x) same ∙ sym at) ∙ sym is)
+              let same : text ≡ first = omega (arith, high, more) in
+              apart (ap labels_there (ap (λ n. get_or texts n x) same ∙ sym at) ∙ sym is)
               )) (cases_lt text first)) (cases_lt first text);
           one = slice-head texts first x within ∙ ap Some own;
           two = slice-head texts text x inside ∙ ap Some (at-head y parts.0);

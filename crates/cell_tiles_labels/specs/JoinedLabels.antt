@@ -1,5 +1,5 @@
 -- Texts of tables with labels joined to one: which labels an entry of the merge has, and what is written of it.
-use Rattle.std.specs.Prelude.{ℕ, ◌≡◌, ◌≢◌, ◌<◌, List, [], ◌∷◌, ◌++◌, length, map, flat_map, codes, decimal, slice_get, Option, Some, None}
+use Rattle.std.specs.Prelude.{ℕ, ◌≡◌, ◌≢◌, ◌<◌, List, ◌++◌, length, map, flat_map, codes, decimal, slice_get, Option, Some}
 use Rattle.std.specs.List.{AllByRecursion, Contains}
 use Rattle.cell_core_devices.specs.Blocks.{capped_count}
 use Rattle.cell_core_devices.specs.Device.{Coming, append_known}
@@ -21,11 +21,11 @@ abbrev pub LabelledEntry : Type 0
 LabelledEntry = Labelled × ℕ
 
 -- the same without the labels
-abbrev pub entry_of : LabelledEntry → Combination × ℕ
-entry_of entry = ((entry.0).0, entry.1)
+abbrev pub plain_entry : LabelledEntry → Combination × ℕ
+plain_entry entry = ((entry.0).0, entry.1)
 
-abbrev pub entries_of : List LabelledEntry → Pairs
-entries_of entries = map entry_of entries
+abbrev pub plain_entries : List LabelledEntry → Pairs
+plain_entries entries = map plain_entry entries
 
 -- the combinations with their labels
 abbrev pub labelled_of : List LabelledEntry → List Labelled
@@ -40,8 +40,8 @@ abbrev pub counted_text : List LabelledEntry → List ℕ
 counted_text entries = flat_map counted_line entries
 
 -- what the lines of texts have before their counts
-abbrev pub labels_of : FormatValue → List Coming → List (List Labelled)
-labels_of format texts = map (λ text. labelled_in format text.bytes) texts
+abbrev pub labels_of_texts : FormatValue → List Coming → List (List Labelled)
+labels_of_texts format texts = map (λ text. labelled_in format text.bytes) texts
 
 -- each line of each text stands among these entries with its labels, so that no two texts label one combination differently
 abbrev pub AreLabelledSo : List (List Labelled) → List LabelledEntry → Type 0
@@ -59,16 +59,16 @@ AreOfTexts texts entries = AllByRecursion (λ entry. IsOfTexts texts entry.0) en
 pub record AreJoinedLabels (format : FormatValue) (texts : List Coming) (before now : Option (List ℕ)) (written : ℕ) : Type 0 where
   pub tables : AreTables (readings_of format texts)
   pub merged : List LabelledEntry
-  pub merge : IsMerge (tables_of (readings_of format texts)) (entries_of merged)
-  pub labels : AreLabelledSo (labels_of format texts) merged
-  pub own : AreOfTexts (labels_of format texts) merged
+  pub merge : IsMerge (tables_of (readings_of format texts)) (plain_entries merged)
+  pub labels : AreLabelledSo (labels_of_texts format texts) merged
+  pub own : AreOfTexts (labels_of_texts format texts) merged
   pub taken : now ≡ append_known before (counted_text merged)
   pub count : written ≡ capped_count (length (counted_text merged))
 
 -- each text is a table to its end, and these are the entries of their merge, with the labels that all texts have
 pub record IsLabelledMerge (format : FormatValue) (texts : List Coming) (merged : List LabelledEntry) : Type 0 where
-  pub whole : IsMergeOf (readings_of format texts) (entries_of merged)
-  pub labels : AreLabelledSo (labels_of format texts) merged
+  pub whole : IsMergeOf (readings_of format texts) (plain_entries merged)
+  pub labels : AreLabelledSo (labels_of_texts format texts) merged
 
 -- the text at this place has this on one of its lines
 abbrev pub HasLine : List (List Labelled) → ℕ → Labelled → Type 0
@@ -86,13 +86,13 @@ pub record HasOtherLabel (readings : List TableReading) (texts : List (List Labe
 -- why texts with labels are not joined
 abbrev pub IsLabelFault : FormatValue → List Coming → LabelFault → Type 0
 IsLabelFault format texts (faults.Join fault) = IsJoinFault (readings_of format texts) fault
-IsLabelFault format texts (faults.OtherLabel told) = HasOtherLabel (readings_of format texts) (labels_of format texts) told
+IsLabelFault format texts (faults.OtherLabel told) = HasOtherLabel (readings_of format texts) (labels_of_texts format texts) told
 
 -- the first entries of the merge of all that was read, with the labels of their lines
 pub record AreFirst (format : FormatValue) (texts : List Coming) (first : List LabelledEntry) : Type 0 where
   pub others : Pairs
-  pub merge : IsMerge (tables_of (readings_of format texts)) (entries_of first ++ others)
-  pub own : AreOfTexts (labels_of format texts) first
+  pub merge : IsMerge (tables_of (readings_of format texts)) (plain_entries first ++ others)
+  pub own : AreOfTexts (labels_of_texts format texts) first
 
 -- the sink took the lines of the first entries
 pub record HasLabelledLines (format : FormatValue) (texts : List Coming) (before now : Option (List ℕ)) (written : ℕ) : Type 0 where

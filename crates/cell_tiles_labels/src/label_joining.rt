@@ -39,7 +39,7 @@ pub struct LabelOutcome {
 
 // What a step of the merge did.
 #[derive(Debug, Drop)]
-enum Step {
+enum LabelStep {
     Line,
     End,
     Other(OtherLabel),
@@ -63,14 +63,14 @@ fn write_labelled_least<R: Source, W: Sink>(
     labelled: &mut Vec<u8>,
     block: &mut OutputBlock,
     out: &mut W,
-) -> Result<Step, JoinFault>
-    ensures line { result ≡ Ok Step.Line → HasLabelledStep format.now texts.old texts.new
+) -> Result<LabelStep, JoinFault>
+    ensures line { result ≡ Ok LabelStep.Line → HasLabelledStep format.now texts.old texts.new
         W.taken W.faults out.old block.old out.new block.new }
-    ensures end { result ≡ Ok Step.End
+    ensures end { result ≡ Ok LabelStep.End
         → AreEnded (λ text. reading_from format.now text) texts.old
         × All (λ text. text.head ≡ None) texts.old
         × (texts.new ≡ texts.old) × (out.new ≡ out.old) × (block.new ≡ block.old) }
-    ensures other { (told : OtherLabel) → result ≡ Ok (Step.Other told)
+    ensures other { (told : OtherLabel) → result ≡ Ok (LabelStep.Other told)
         → StopsAtLabels format.now texts.old told
         × (out.new ≡ out.old) × (block.new ≡ block.old) }
     ensures fault { IfErr result (StepFails (λ text. reading_from format.now text) texts.old) }
@@ -79,21 +79,21 @@ fn write_labelled_least<R: Source, W: Sink>(
 {
     let combo = match least_copy(alloc, texts) {
         Ok(Some(combo)) => combo,
-        Ok(None) => return Ok(Step::End),
+        Ok(None) => return Ok(LabelStep::End),
         Err(fault) => return Err(fault),
     };
     match compare_labels(format, texts, &combo, labelled) {
         Ok(None) => match take_all(alloc, format, texts, &combo) {
             Ok(Some(count)) => {
                 write_counted(out, block, labelled, count);
-                Ok(Step::Line)
+                Ok(LabelStep::Line)
             }
             Ok(None) => unreachable!(),
             Err(fault) => Err(fault),
         },
         Ok(Some((first, text))) => {
             match other_label(alloc, format, texts, combo, labelled, first, text) {
-                Ok(told) => Ok(Step::Other(told)),
+                Ok(told) => Ok(LabelStep::Other(told)),
                 Err(fault) => Err(fault),
             }
         }
@@ -116,9 +116,9 @@ fn merge_labelled<R: Source, W: Sink>(
     let mut labelled = Vec::new(alloc);
     'lines: for line in 0..u64::MAX {
         match write_labelled_least(alloc, format, texts, &mut labelled, block, out) {
-            Ok(Step::Line) => {}
-            Ok(Step::End) => return Ok(None),
-            Ok(Step::Other(told)) => return Ok(Some(told)),
+            Ok(LabelStep::Line) => {}
+            Ok(LabelStep::End) => return Ok(None),
+            Ok(LabelStep::Other(told)) => return Ok(Some(told)),
             Err(fault) => return Err(fault),
         }
         if block.has_failed() {

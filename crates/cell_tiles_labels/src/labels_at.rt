@@ -4,7 +4,7 @@ ghost use Rattle.std.specs.Prelude.{◌≡◌, ◌<◌, length, map, slice_get, 
 ghost use Rattle.std.specs.List.{Contains, position_or_len};
 ghost use Rattle.cell_tiles_lines.specs.LineLabels.{before_count};
 ghost use Rattle.cell_tiles_lines.specs.TextReading.{combination_of};
-ghost use Rattle.cell_tiles_labels.specs.parts.LabelSteps.{AllAgree, DifferAt, heads_of, is_at, is_other};
+ghost use Rattle.cell_tiles_labels.specs.parts.LabelSteps.{AllAgree, DifferAt, heads_of, goes_on_with, is_other};
 
 use crate::label_fault::OtherLabel;
 use cell_core::source::Source;
@@ -15,8 +15,8 @@ use cell_tiles_texts::join_fault::JoinFault;
 use std::alloc::Global;
 
 // Whether a text goes on with the combination.
-fn is_at<R: Source>(text: &TableText<R>, combo: &Combo) -> bool
-    ensures { result ≡ is_at combo.now text.now }
+fn goes_on_with<R: Source>(text: &TableText<R>, combo: &Combo) -> bool
+    ensures { result ≡ goes_on_with combo.now text.now }
 {
     match text.head() {
         Some((own, _)) => own == combo,
@@ -25,25 +25,20 @@ fn is_at<R: Source>(text: &TableText<R>, combo: &Combo) -> bool
 }
 
 // Whether it has other labels there.
-fn is_other<R: Source>(
-    format: &Format,
-    text: &TableText<R>,
-    combo: &Combo,
-    labelled: &[u8],
-) -> bool
+fn is_other<R: Source>(format: &Format, text: &TableText<R>, combo: &Combo, labelled: &[u8]) -> bool
     ensures { result ≡ is_other format.now combo.now labelled.now text.now }
 {
-    is_at(text, combo) && text.before_count(format.separator()) != labelled
+    goes_on_with(text, combo) && text.before_count(format.separator()) != labelled
 }
 
 // The first text that goes on with the combination.
 fn first_at<R: Source>(texts: &[TableText<R>], combo: &Combo) -> Option<usize>
     ensures { MatchOption result
-        (position_or_len (is_at combo.now) texts.now ≡ length texts.now)
-        (λ text. (text < length texts.now) × (position_or_len (is_at combo.now) texts.now ≡ text)) }
+        (position_or_len (goes_on_with combo.now) texts.now ≡ length texts.now)
+        (λ text. (text < length texts.now) × (position_or_len (goes_on_with combo.now) texts.now ≡ text)) }
 {
     'texts: for text in 0..texts.len() {
-        if is_at(&texts[text], combo) {
+        if goes_on_with(&texts[text], combo) {
             return Some(text);
         }
     }

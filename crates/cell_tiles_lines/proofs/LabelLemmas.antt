@@ -1,9 +1,8 @@
 -- What stands on lines before their counts, line by line.
-use Rattle.std.proofs.Common.{◌≡◌, ℕ, zero, suc, ◌+◌, ◌<◌, ◌≤◌, List, [], ◌∷◌, length, take, get_or}
-use Rattle.std.proofs.Common.{Bool, true, false, Option, Some, None, Result, Ok, Err, refl, ap, sym, ◌∙◌, arith}
+use Rattle.std.proofs.Common.{◌≡◌, ℕ, zero, suc, ◌+◌, ◌<◌, List, [], ◌∷◌, length, take, get_or}
+use Rattle.std.proofs.Common.{Bool, true, false, Option, Some, None, Result, Ok, Err, refl, ap, ◌∙◌, arith}
 use Rattle.std.proofs.Common.{cond, ◌==◌, nat_lt, MatchOption}
 use Rattle.std.proofs.lemmas.Bool.{ltb-true}
-use Rattle.std.proofs.lemmas.Bool.Decides.{Decides-eqb}
 use Rattle.std.proofs.lemmas.List.Splits.{slice_split_first}
 use Rattle.std.specs.List.{position_or_len, before_first, after_first, slice_split, onto_first}
 use Rattle.std.specs.Option.{option_map}
@@ -11,7 +10,7 @@ use Rattle.cell_core_devices.specs.Device.{Coming}
 use Rattle.cell_stats_combinations.specs.Combinations.{Combination}
 use Rattle.cell_stats.specs.TableText.{FormatValue}
 use Rattle.cell_tiles_lines.specs.LineFields.{spelled_entry}
-use Rattle.cell_tiles_lines.specs.LineLabels.{Labelled, before_count, labelled_in, labelled_in_lines, labelled_then}
+use Rattle.cell_tiles_lines.specs.LineLabels.{before_count, labelled_in, labelled_in_lines, labelled_then}
 use Rattle.cell_tiles_lines.specs.LineLabels.{up_to_separator}
 use Rattle.cell_tiles_lines.specs.LineReading.{is_line_feed}
 use Rattle.cell_tiles_lines.specs.SourceLines.{IsFirstLine, LinesValue, first_line, lines_coming}

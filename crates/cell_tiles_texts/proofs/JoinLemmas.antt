@@ -1,10 +1,10 @@
 -- What was written, and the answer, at the end of a join.
-use Rattle.std.proofs.Common.{◌≡◌, ◌≢◌, ℕ, zero, suc, ◌+◌, ◌<◌, ◌≤◌, ◌-◌, ◌^◌, ◌||◌, List, [], ◌∷◌, ◌++◌, length, map, slice_get, Bool, true, false, Option, Some, None, Result, Ok, Err, refl, ap, sym, ◌∙◌, arith, cond, subst, append_assoc, append-nil}
+use Rattle.std.proofs.Common.{◌≡◌, ◌≢◌, ℕ, zero, suc, ◌<◌, ◌^◌, ◌||◌, List, [], ◌∷◌, ◌++◌, length, Bool, true, false, Option, Some, None, Result, Ok, Err, refl, ap, sym, ◌∙◌, arith, subst, append_assoc, append-nil}
 use Rattle.std.specs.List.{AllByRecursion, Contains}
-use Rattle.std.specs.Prelude.{All, IfSome, sum_by, flat_map}
+use Rattle.std.specs.Prelude.{All, IfSome, sum_by}
 use Rattle.cell_core_devices.specs.Blocks.{BlockValue, Appended, IsRest, capped_count}
 use Rattle.cell_core_devices.specs.Device.{Faults, after_flush, after_put, append_known, has_failed}
-use Rattle.cell_stats_combinations.specs.Combinations.{Combination, combination_cmp}
+use Rattle.cell_stats_combinations.specs.Combinations.{Combination}
 use Rattle.cell_stats.specs.CategoryTables.{Pairs}
 use Rattle.cell_stats.specs.TableText.{FormatValue}
 use Rattle.cell_tiles_law.specs.TableParts.{IsMerge, count_in}

@@ -1,5 +1,6 @@
 -- Texts opened one after the other.
-use Rattle.std.proofs.Common.{◌≡◌, ◌≢◌, ℕ, zero, suc, ◌+◌, List, [], ◌∷◌, ◌++◌, length, map, slice_get, get_or, ◌<◌, Option, Some, None, refl, ap, sym, ◌∙◌, arith, subst, option_map, append_assoc, append-nil}
+use Rattle.std.proofs.Common.{◌≡◌, ℕ, List, [], ◌∷◌, ◌++◌, length, map, slice_get, Option, Some, refl, ap, sym, ◌∙◌}
+use Rattle.std.proofs.Common.{arith, subst, option_map, append_assoc, append-nil}
 use Rattle.std.specs.Prelude.{IfSome}
 use Rattle.std.proofs.lemmas.List.{map-append, length-map}
 use Rattle.cell_core_devices.specs.Device.{Coming}

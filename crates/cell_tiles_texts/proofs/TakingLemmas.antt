@@ -1,5 +1,5 @@
 -- The first entries of texts taken: what that makes of the merge of what they are read as.
-use Rattle.std.proofs.Common.{◌≡◌, ◌≢◌, ℕ, zero, suc, ◌+◌, ◌<◌, ◌≤◌, ◌^◌, List, [], ◌∷◌, ◌++◌, length, map, fold, get_or, slice_get, Bool, true, false, Option, Some, None, unwrap_or, refl, ap, sym, ◌∙◌, arith, cond, subst, option_map}
+use Rattle.std.proofs.Common.{◌≡◌, ◌≢◌, ℕ, zero, suc, ◌+◌, ◌<◌, ◌≤◌, ◌^◌, List, [], ◌∷◌, length, map, fold, get_or, Bool, true, false, Option, Some, None, unwrap_or, refl, ap, sym, ◌∙◌, arith, cond, subst, option_map}
 use Rattle.std.proofs.lemmas.List.Elements.{All-head, All-tail}
 use Rattle.std.specs.List.{AllByRecursion, Contains}
 use Rattle.std.specs.List.Sorted.{IsStrictlySortedBy}

@@ -1,5 +1,5 @@
 -- Which fault is met where a text is opened or goes on, and how a merge is answered.
-use Rattle.std.specs.Prelude.{ℕ, ◌≡◌, ◌<◌, Bool, true, false, List, [], map, slice_get, Option, Some, None, Result, Ok, Err, if◌then◌else◌}
+use Rattle.std.specs.Prelude.{ℕ, ◌≡◌, ◌<◌, Bool, false, List, [], map, slice_get, Option, Some, None, Result, Ok, Err, if◌then◌else◌}
 use Rattle.cell_core_devices.specs.Device.{Faults, after_flush}
 use Rattle.cell_stats_combinations.specs.Combinations.{Combination}
 use Rattle.cell_tiles_lines.specs.LineReading.{TableReading}

@@ -92,7 +92,10 @@ pub fn open_texts<R: Source + Drop>(
 /// # Errors
 ///
 /// [`JoinFault::Memory`].
-pub fn least_copy<R: Source>(alloc: Global, texts: &[TableText<R>]) -> Result<Option<Combo>, JoinFault>
+pub fn least_copy<R: Source>(
+    alloc: Global,
+    texts: &[TableText<R>],
+) -> Result<Option<Combo>, JoinFault>
     ensures least { IfOk result (λ least. MatchOption least
         (All (λ text. text.head ≡ None) texts.now)
         (λ combo. All (λ text. IfSome text.head (λ entry. combination_cmp entry.0 combo ≢ Less)) texts.now)) }

@@ -12,7 +12,7 @@ use Rattle.cell_tiles_merging.specs.Merging.{IsListing}
 use Rattle.cell_tiles_texts.specs.JoinedTexts.{AreTables, IsJoinFault, tables_of}
 use Rattle.cell_tiles_texts.specs.MergedTables.{merge_of}
 use Rattle.cell_tiles_texts.specs.declared.join_fault.JoinFault.{JoinFault}
-use Rattle.cell_tiles_labels.specs.JoinedLabels.{AreLabelledSo, AreOfTexts, HasOtherLabel, LabelledEntry, counted_text, entries_of}
+use Rattle.cell_tiles_labels.specs.JoinedLabels.{AreLabelledSo, AreOfTexts, HasOtherLabel, LabelledEntry, counted_text, plain_entries}
 use Rattle.cell_tiles_labels.specs.declared.label_fault.OtherLabel.{OtherLabel}
 use Rattle.cell_tiles_labels.specs.declared.label_fault.LabelFault.{LabelFault}
 use Rattle.cell_tiles_labels.specs.declared.label_fault.LabelFault.TheVariants as faults
@@ -23,11 +23,11 @@ StopsAtLabels format texts told = (readings : List TableReading) (labels : List 
 
 -- these are the first entries of the merge
 abbrev pub HasOthers : List TableReading → List LabelledEntry → Type 0
-HasOthers readings done = (others : Pairs) × (merge_of (tables_of readings) ≡ entries_of done ++ others)
+HasOthers readings done = (others : Pairs) × (merge_of (tables_of readings) ≡ plain_entries done ++ others)
 
 -- what the lines that were appended are of the merge, by the answer
 abbrev pub EndsLabelled : List TableReading → List (List Labelled) → List LabelledEntry → Result (Option OtherLabel) JoinFault → Type 0
-EndsLabelled readings labels done (Ok None) = AreTables readings × ((merge_of (tables_of readings) ≡ entries_of done) × AreLabelledSo labels done)
+EndsLabelled readings labels done (Ok None) = AreTables readings × ((merge_of (tables_of readings) ≡ plain_entries done) × AreLabelledSo labels done)
 EndsLabelled readings labels done (Ok (Some told)) = HasOtherLabel readings labels told × HasOthers readings done
 EndsLabelled readings labels done (Err fault) = IsJoinFault readings fault × HasOthers readings done
 

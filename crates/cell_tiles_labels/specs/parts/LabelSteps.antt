@@ -1,5 +1,5 @@
 -- What a merge with labels takes from each text in one step, and what it has taken.
-use Rattle.std.specs.Prelude.{ℕ, ◌≡◌, ◌≢◌, ◌<◌, ◌&&◌, not, bytes_eq, Bool, true, false, List, [], ◌∷◌, ◌++◌, map, length, slice_get, Option, Some, None, option_map}
+use Rattle.std.specs.Prelude.{ℕ, ◌≡◌, ◌≢◌, ◌<◌, ◌&&◌, not, bytes_eq, Bool, false, List, [], ◌∷◌, ◌++◌, map, length, slice_get, Option, Some, None, option_map}
 use Rattle.std.specs.List.{AllByRecursion, Contains}
 use Rattle.std.specs.Ordering.{eq_by_cmp}
 use Rattle.cell_core_devices.specs.Blocks.{BlockValue, Appends}
@@ -10,20 +10,20 @@ use Rattle.cell_tiles_lines.specs.LineLabels.{Labelled, before_count, labelled_f
 use Rattle.cell_tiles_lines.specs.TextReading.{TextValue, combination_of, reading_from}
 use Rattle.cell_tiles_texts.specs.TextHeads.{past_labelled}
 use Rattle.cell_tiles_texts.specs.parts.Taking.{TakesEntries}
-use Rattle.cell_tiles_labels.specs.JoinedLabels.{AreOfTexts, LabelledEntry, counted_line, counted_text, entries_of, entry_of, labelled_of}
+use Rattle.cell_tiles_labels.specs.JoinedLabels.{AreOfTexts, LabelledEntry, counted_line, counted_text, plain_entries, plain_entry, labelled_of}
 
 -- whether a combination that may be is this one
-abbrev pub is_same : Combination → Option Combination → Bool
-is_same k None = false
-is_same k (Some own) = eq_by_cmp combination_cmp own k
+abbrev pub is_combination : Combination → Option Combination → Bool
+is_combination k None = false
+is_combination k (Some own) = eq_by_cmp combination_cmp own k
 
 -- whether a text goes on with the combination
-abbrev pub is_at : Combination → TextValue → Bool
-is_at k text = is_same k (combination_of text.head)
+abbrev pub goes_on_with : Combination → TextValue → Bool
+goes_on_with k text = is_combination k (combination_of text.head)
 
 -- whether it has other labels there
 abbrev pub is_other : FormatValue → Combination → List ℕ → TextValue → Bool
-is_other format k labelled text = is_at k text && not (bytes_eq (before_count format.separator text.line) labelled)
+is_other format k labelled text = goes_on_with k text && not (bytes_eq (before_count format.separator text.line) labelled)
 
 -- what a text goes on with has these labels, if it is of the combination
 abbrev pub AgreesOn : Combination → List ℕ → Option Labelled → Type 0
@@ -47,21 +47,21 @@ pub record DifferAt (format : FormatValue) (k : Combination) (labelled : List �
 -- an entry was taken from all texts, which agree on its labels
 pub record HasLabelledStep {S : Type 0} (format : FormatValue) (old new : List TextValue) (taken : S → Option (List ℕ)) (faults : S → Faults) (out : S) (block : BlockValue) (now : S) (after : BlockValue) : Type 0 where
   pub entry : LabelledEntry
-  pub takes : TakesEntries (λ text. reading_from format text) old new (entry_of entry ∷ [])
+  pub takes : TakesEntries (λ text. reading_from format text) old new (plain_entry entry ∷ [])
   pub left : map (λ text. labelled_from format text) new ≡ map (λ text. option_map (past_labelled (entry.0).0) (labelled_from format text)) old
   pub agree : AllAgree format (entry.0).0 (entry.0).1 old
   pub own : Contains (heads_of format old) (Some entry.0)
   pub appends : Appends taken faults out block (counted_line entry) now after
 
 -- the lines before those that are left stand among these
-abbrev pub IsPassed : List Labelled → List Labelled → List Labelled → Type 0
-IsPassed done whole left = (passed : List Labelled) × ((whole ≡ passed ++ left) × AllByRecursion (λ line. Contains done line) passed)
+abbrev pub IsReadPast : List Labelled → List Labelled → List Labelled → Type 0
+IsReadPast done whole left = (passed : List Labelled) × ((whole ≡ passed ++ left) × AllByRecursion (λ line. Contains done line) passed)
 
 abbrev pub ArePassed : List Labelled → List (List Labelled) → List (List Labelled) → Type 0
 ArePassed done [] [] = Unit {0}
 ArePassed done [] (left ∷ lefts) = ⊥
 ArePassed done (whole ∷ wholes) [] = ⊥
-ArePassed done (whole ∷ wholes) (left ∷ lefts) = IsPassed done whole left × ArePassed done wholes lefts
+ArePassed done (whole ∷ wholes) (left ∷ lefts) = IsReadPast done whole left × ArePassed done wholes lefts
 
 -- of what the lines of texts have, all that was passed stands among these entries, which have labels of the texts
 pub record HasPassed (format : FormatValue) (wholes : List (List Labelled)) (texts : List TextValue) (done : List LabelledEntry) : Type 0 where
@@ -78,6 +78,6 @@ PassesLines format old new done = (wholes : List (List Labelled)) → map (λ te
 pub record HasLabelledMerge {S : Type 0} (format : FormatValue) (old new : List TextValue) (taken : S → Option (List ℕ)) (faults : S → Faults) (out : S) (block : BlockValue) (now : S) (after : BlockValue) (count : ℕ) : Type 0 where
   pub done : List LabelledEntry
   pub counted : length done ≡ count
-  pub takes : TakesEntries (λ text. reading_from format text) old new (entries_of done)
+  pub takes : TakesEntries (λ text. reading_from format text) old new (plain_entries done)
   pub passes : PassesLines format old new done
   pub appends : Appends taken faults out block (counted_text done) now after

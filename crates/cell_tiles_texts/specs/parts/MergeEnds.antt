@@ -1,19 +1,18 @@
 -- How a merge of texts ends, and how it is answered.
-use Rattle.std.specs.Prelude.{ℕ, ◌≡◌, Bool, true, false, List, [], ◌∷◌, ◌++◌, length, map, Option, Some, None, Result, Ok, Err, if◌then◌else◌}
+use Rattle.std.specs.Prelude.{ℕ, ◌≡◌, List, [], ◌∷◌, ◌++◌, length, map, Option, Some, Result, Ok, Err}
 use Rattle.std.specs.List.{AllByRecursion}
 use Rattle.cell_core_devices.specs.Blocks.{BlockValue, Appends}
-use Rattle.cell_core_devices.specs.Device.{Coming, Faults, after_flush}
+use Rattle.cell_core_devices.specs.Device.{Coming, Faults}
 use Rattle.cell_stats_combinations.specs.Combinations.{Combination}
 use Rattle.cell_stats.specs.CategoryTables.{Pairs}
 use Rattle.cell_stats.specs.TableText.{FormatValue}
 use Rattle.cell_tiles_lines.specs.LineReading.{TableReading, ended}
 use Rattle.cell_tiles_lines.specs.TableLines.{entries_text, entry_line}
 use Rattle.cell_tiles_merging.specs.Merging.{IsListing}
-use Rattle.cell_tiles_texts.specs.JoinedTexts.{AreTables, Give, IsFirstFault, IsJoinFault, readings_from, readings_of, tables_of}
+use Rattle.cell_tiles_texts.specs.JoinedTexts.{AreTables, Give, IsJoinFault, readings_from, readings_of, tables_of}
 use Rattle.cell_tiles_texts.specs.MergedTables.{merge_of}
 use Rattle.cell_tiles_texts.specs.parts.Taking.{TakesEntries}
 use Rattle.cell_tiles_texts.specs.declared.join_fault.JoinFault.{JoinFault}
-use Rattle.cell_tiles_texts.specs.declared.join_fault.JoinFault.TheVariants.{Text, TooMany, TooLong, Memory, Write}
 
 -- the first texts were opened, which are read so, and of the others so many cells are wanted
 pub record HasOpened {R X : Type 0} (coming : R → Option Coming) (read : X → Option TableReading) (format : FormatValue) (left : List R) (texts : List X) (width : ℕ) (comings : List Coming) : Type 0 where

@@ -1,9 +1,7 @@
 -- What a merge takes from each text in one step: its first entry, where that is of one combination.
-use Rattle.std.specs.Prelude.{ℕ, ◌+◌, ◌≡◌, ◌≤◌, ◌^◌, Bool, List, [], ◌∷◌, map, fold, Option, Some, None, if◌then◌else◌}
-use Rattle.std.specs.Ordering.{eq_by_cmp, is_lt}
+use Rattle.std.specs.Prelude.{ℕ, ◌+◌, ◌≤◌, ◌^◌, Option, Some, None, if◌then◌else◌}
+use Rattle.std.specs.Ordering.{is_lt}
 use Rattle.cell_stats_combinations.specs.Combinations.{Combination, combination_cmp}
-use Rattle.cell_stats.specs.CategoryTables.{Pairs}
-use Rattle.cell_tiles_lines.specs.LineReading.{TableReading}
 
 -- counts whose sum is beyond 64 bits
 abbrev pub IsBeyondCounts : Option ℕ → Option ℕ → Type 0

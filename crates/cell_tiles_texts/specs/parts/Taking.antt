@@ -1,14 +1,11 @@
 -- Entries of a merge that were taken from texts, one after the other.
-use Rattle.std.specs.Prelude.{ℕ, ◌≡◌, ◌<◌, ◌≤◌, ◌^◌, List, [], ◌++◌, map, slice_get, sum_by, Option, Some, None}
+use Rattle.std.specs.Prelude.{◌≡◌, ◌≤◌, ◌^◌, List, ◌++◌, map, sum_by, Option, Some}
 use Rattle.std.specs.List.{AllByRecursion}
 use Rattle.cell_stats.specs.CategoryTables.{Pairs}
-use Rattle.cell_stats_combinations.specs.Combinations.{Combination}
 use Rattle.cell_tiles_law.specs.TableParts.{count_in}
 use Rattle.cell_tiles_lines.specs.LineReading.{TableReading}
-use Rattle.cell_tiles_lines.specs.declared.table_fault.TableFault.{TableFault}
 use Rattle.cell_tiles_merging.specs.Merging.{IsListing}
-use Rattle.cell_tiles_texts.specs.JoinedTexts.{AreNoneBefore, HasFault, IsFirstFault, fault_place, tables_of}
-use Rattle.cell_tiles_texts.specs.TextHeads.{past_first}
+use Rattle.cell_tiles_texts.specs.JoinedTexts.{AreNoneBefore, IsFirstFault, fault_place, tables_of}
 use Rattle.cell_tiles_texts.specs.MergedTables.{merge_of}
 use Rattle.cell_tiles_texts.specs.declared.join_fault.JoinFault.{JoinFault}
 use Rattle.cell_tiles_texts.specs.declared.join_fault.JoinFault.TheVariants.{Text, TooMany, TooLong, Memory, Write}

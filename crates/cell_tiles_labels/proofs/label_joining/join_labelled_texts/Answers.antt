@@ -1,10 +1,10 @@
-use Rattle.std.proofs.Common.{◌≡◌, [], List, Result, map, Some, None, Err, append-nil, ap, sym, ◌∙◌, subst}
+use Rattle.std.proofs.Common.{◌≡◌, [], map, Some, Err, append-nil, ap, sym, ◌∙◌, subst}
 use Rattle.cell_core_devices.specs.Blocks.{Appended}
 use Rattle.cell_core_devices.specs.Device.{Coming, has_failed}
 use Rattle.cell_core_devices.proofs.BlockLemmas.{appends_then}
 use Rattle.cell_tiles_lines.specs.LineLabels.{labelled_in}
 use Rattle.cell_tiles_texts.specs.JoinAnswers.{IsAnswered, answered, settled}
-use Rattle.cell_tiles_texts.specs.JoinedTexts.{Give, readings_of}
+use Rattle.cell_tiles_texts.specs.JoinedTexts.{readings_of}
 use Rattle.cell_tiles_texts.specs.declared.join_fault.JoinFault.TheVariants.{Write}
 use Rattle.cell_tiles_texts.proofs.JoinLemmas.{no-fault-sound, opening-join, write-failed}
 use Rattle.cell_tiles_texts.proofs.ReadingLemmas.{readings-listing}
@@ -13,7 +13,8 @@ use Rattle.cell_tiles_labels.specs.JoinedLabels.{counted_text}
 use Rattle.cell_tiles_labels.specs.parts.LabelEnds.{answer_of, label_fault_of}
 use Rattle.cell_tiles_labels.specs.declared.label_fault.LabelFault.TheVariants as faults
 use Rattle.cell_tiles_labels.proofs.LabelledJoinLemmas.{IsTold, answer-write, fault-told, joined-told, label-none}
-use Rattle.cell_tiles_labels.proofs.LabelledJoinLemmas.{label-write, opening-labelled, some-each, told-so, wholly-labelled}
+use Rattle.cell_tiles_labels.proofs.LabelledJoinLemmas.{label-write, opening-labelled, some-each, told-so}
+use Rattle.cell_tiles_labels.proofs.LabelledJoinLemmas.{wholly-labelled}
 use Rattle.cell_tiles_labels.proofs.LabelledJoinLemmas.{written-told}
 use Rattle.cell_tiles_labels.proofs.label_joining.join_labelled_texts.Goals as goal
 
@@ -47,9 +48,10 @@ returns-clause-joined g c = λ texts give none.
     c.settle-settled.ensures.answer ∙ ap (settled block.failed) c.parted-answer.ensures.answer in
     let all = readings-listing format 0 texts in
     let known = c.in-Ok.ensures.read texts give in
-    let lines = c.in-Ok.ensures.labelled texts give ∙ some-each (λ (coming : Coming). labelled_in format coming.bytes) texts in
-    let ends = end.ends (readings_of format texts) (map (λ (coming : Coming). labelled_in format coming.bytes) texts) (cc)
-    all (cc) in
+    let lines = c.in-Ok.ensures.labelled texts give
+    ∙ some-each (λ (coming : Coming). labelled_in format coming.bytes) texts in
+    let ends = end.ends (readings_of format texts) (map (λ (coming : Coming). labelled_in format coming.bytes) texts)
+    (cc) all (cc) in
     let so = c.finish-fault.ensures.answered in
     let write = λ (e : answer_of c.merge_labelled-merged.result ≡ Err Write). c.settle-settled.ensures.keeps
     (c.merge_labelled-merged.ensures.write (answer-write c.merge_labelled-merged.result e)) in
@@ -78,9 +80,10 @@ returns-clause-fault g c = λ texts give.
     c.settle-settled.ensures.answer ∙ ap (settled block.failed) c.parted-answer.ensures.answer in
     let all = readings-listing format 0 texts in
     let known = c.in-Ok.ensures.read texts give in
-    let lines = c.in-Ok.ensures.labelled texts give ∙ some-each (λ (coming : Coming). labelled_in format coming.bytes) texts in
-    let ends = end.ends (readings_of format texts) (map (λ (coming : Coming). labelled_in format coming.bytes) texts) (cc)
-    all (cc) in
+    let lines = c.in-Ok.ensures.labelled texts give
+    ∙ some-each (λ (coming : Coming). labelled_in format coming.bytes) texts in
+    let ends = end.ends (readings_of format texts) (map (λ (coming : Coming). labelled_in format coming.bytes) texts)
+    (cc) all (cc) in
     let so = c.finish-fault.ensures.answered in
     let write = λ (e : answer_of c.merge_labelled-merged.result ≡ Err Write). c.settle-settled.ensures.keeps
     (c.merge_labelled-merged.ensures.write (answer-write c.merge_labelled-merged.result e)) in
@@ -108,9 +111,10 @@ returns-clause-written g c = λ texts give.
     c.settle-settled.ensures.answer ∙ ap (settled block.failed) c.parted-answer.ensures.answer in
     let all = readings-listing format 0 texts in
     let known = c.in-Ok.ensures.read texts give in
-    let lines = c.in-Ok.ensures.labelled texts give ∙ some-each (λ (coming : Coming). labelled_in format coming.bytes) texts in
-    let ends = end.ends (readings_of format texts) (map (λ (coming : Coming). labelled_in format coming.bytes) texts) (cc)
-    all (cc) in
+    let lines = c.in-Ok.ensures.labelled texts give
+    ∙ some-each (λ (coming : Coming). labelled_in format coming.bytes) texts in
+    let ends = end.ends (readings_of format texts) (map (λ (coming : Coming). labelled_in format coming.bytes) texts)
+    (cc) all (cc) in
     let so = c.finish-fault.ensures.answered in
     let write = λ (e : answer_of c.merge_labelled-merged.result ≡ Err Write). c.settle-settled.ensures.keeps
     (c.merge_labelled-merged.ensures.write (answer-write c.merge_labelled-merged.result e)) in
@@ -179,9 +183,10 @@ returns-clause-headline g c = λ texts merged give whole memory good.
     c.settle-settled.ensures.answer ∙ ap (settled block.failed) c.parted-answer.ensures.answer in
     let all = readings-listing format 0 texts in
     let known = c.in-Ok.ensures.read texts give in
-    let lines = c.in-Ok.ensures.labelled texts give ∙ some-each (λ (coming : Coming). labelled_in format coming.bytes) texts in
-    let ends = end.ends (readings_of format texts) (map (λ (coming : Coming). labelled_in format coming.bytes) texts) (cc)
-    all (cc) in
+    let lines = c.in-Ok.ensures.labelled texts give
+    ∙ some-each (λ (coming : Coming). labelled_in format coming.bytes) texts in
+    let ends = end.ends (readings_of format texts) (map (λ (coming : Coming). labelled_in format coming.bytes) texts)
+    (cc) all (cc) in
     let so = c.finish-fault.ensures.answered in
     let write = λ (e : answer_of c.merge_labelled-merged.result ≡ Err Write). c.settle-settled.ensures.keeps
     (c.merge_labelled-merged.ensures.write (answer-write c.merge_labelled-merged.result e)) in

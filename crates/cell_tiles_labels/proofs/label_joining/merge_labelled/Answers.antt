@@ -1,11 +1,11 @@
-use Rattle.std.proofs.Common.{◌≡◌, ◌+◌, Result, Ok, ap, arith}
+use Rattle.std.proofs.Common.{◌+◌, Result, Ok, ap, arith}
 use Rattle.cell_tiles_texts.specs.declared.join_fault.JoinFault.{JoinFault}
-use Rattle.cell_tiles_labels.specs.declared.label_joining.Step.{Step}
+use Rattle.cell_tiles_labels.specs.declared.label_joining.LabelStep.{LabelStep}
 use Rattle.cell_tiles_labels.proofs.LabelledEndLemmas.{labelled-all, labelled-fault, labelled-long, labelled-more}
 use Rattle.cell_tiles_labels.proofs.LabelledEndLemmas.{labelled-none, labelled-other, labelled-write}
 use Rattle.cell_tiles_labels.proofs.label_joining.merge_labelled.Goals as goal
 
-answer : Step → Result Step JoinFault
+answer : LabelStep → Result LabelStep JoinFault
 answer step = Ok step
 
 pub lines-init : goal.lines-init

@@ -67,8 +67,8 @@ pub other_label-requires : goal.other_label-requires
 other_label-requires g c =
     let k = c.in-Ok-Some.combo in
     let found = c.in-Ok-Some-compare_labels in
-    let differ : DifferAt c.args.format.now k c.compare_labels.new.labelled.items c.args.texts.now found.first found.text =
-    rw found.field-0-is at found.ensures.differ in
+    let differ : DifferAt c.args.format.now k c.compare_labels.new.labelled.items c.args.texts.now found.first
+    found.text = rw found.field-0-is at found.ensures.differ in
     place-within c.args.format.now c.args.texts.now found.text (Some (k, differ.other)) differ.two
 
 pub returns-in-Ok-clause-other : goal.returns-in-Ok-clause-other
@@ -83,7 +83,8 @@ returns-in-Ok-clause-other g c = λ told e.
     let is = c.in-Ok.ensures.told in
     let same : c.deref-in-Ok-Some-compare_labels.result.now ≡ items =
     (let value = c.deref-in-Ok-Some-compare_labels.ensures.value in cc) in
-    let stops = stops-at c.args.format.now k items c.args.texts.now found.first found.text differ c.in-Ok.told is.0 is.1 is.2
+    let stops = stops-at c.args.format.now k items c.args.texts.now found.first found.text differ c.in-Ok.told is.0
+    is.1 is.2
     (is.3 ∙ same) c.in-Ok.ensures.other least in
     let own : c.in-Ok.told ≡ told = cc in
     (subst (StopsAtLabels c.args.format.now c.args.texts.now) own stops, refl, refl)

@@ -1,4 +1,4 @@
-use Rattle.std.proofs.Common.{◌≡◌, ◌++◌, length, ap, sym, ◌∙◌}
+use Rattle.std.proofs.Common.{◌≡◌, ◌++◌, ap, sym, ◌∙◌}
 use Rattle.std.specs.List.{position_or_len}
 use Rattle.cell_tiles_lines.specs.LineLabels.{before_count}
 use Rattle.cell_tiles_labels.specs.parts.LabelSteps.{is_other}

@@ -1,5 +1,4 @@
-use Rattle.std.proofs.Common.{Bool, sym, ◌∙◌, arith}
-use Rattle.cell_tiles_lines.specs.TextReading.{TextValue}
+use Rattle.std.proofs.Common.{sym, ◌∙◌, arith}
 use Rattle.cell_tiles_labels.specs.parts.LabelSteps.{is_other}
 use Rattle.cell_tiles_labels.proofs.PlaceLemmas.{fail-more, fail-none, first-is, none-is}
 use Rattle.cell_tiles_labels.proofs.labels_at.other_at.Goals as goal

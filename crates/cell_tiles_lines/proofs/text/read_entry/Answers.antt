@@ -1,4 +1,4 @@
-use Rattle.std.proofs.Common.{rules, ◌≡◌, Bool, true, false, List, ℕ, Ok, Err, Option, Some, ap, sym, ◌∙◌, subst, option_map}
+use Rattle.std.proofs.Common.{◌≡◌, Bool, true, false, Ok, Err, Option, ap, sym, ◌∙◌, subst, option_map}
 use Rattle.cell_stats_combinations.specs.Combinations.{Combination}
 use Rattle.cell_tiles_lines.specs.LineReading.{next_entry}
 use Rattle.cell_tiles_lines.specs.SourceLines.{IsFirstLine, lines_coming}

@@ -1,4 +1,4 @@
-use Rattle.std.proofs.Common.{◌≡◌, ◌++◌, map, take, drop, option_map}
+use Rattle.std.proofs.Common.{◌≡◌, map, take, drop, option_map}
 use Rattle.cell_tiles_lines.specs.LineLabels.{labelled_from}
 use Rattle.cell_tiles_lines.specs.TextReading.{reading_from}
 use Rattle.cell_tiles_texts.specs.TextHeads.{past_labelled, head_count, past, sum_of_counts}

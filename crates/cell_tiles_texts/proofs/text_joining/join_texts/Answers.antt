@@ -1,5 +1,4 @@
-use Rattle.std.proofs.Common.{◌≡◌, ◌≢◌, [], Some, None, Err, append-nil, refl, ap, sym, ◌∙◌, subst}
-use Rattle.std.specs.Prelude.{IfSome}
+use Rattle.std.proofs.Common.{◌≡◌, [], Some, Err, append-nil, ap, ◌∙◌, subst}
 use Rattle.cell_core_devices.specs.Blocks.{Appended}
 use Rattle.cell_core_devices.specs.Device.{has_failed}
 use Rattle.cell_core_devices.proofs.BlockLemmas.{appends_then}
