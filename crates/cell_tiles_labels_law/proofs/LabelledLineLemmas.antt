@@ -1,8 +1,8 @@
 -- What the lines of a text that is printed with labels have before their counts.
-use Rattle.std.proofs.Common.{◌≡◌, ℕ, ℤ, zero, suc, ◌+◌, ◌*◌, ◌<◌, ◌≤◌, ◌^◌, max, List, [], ◌∷◌, ◌++◌, length, map}
-use Rattle.std.proofs.Common.{flat_map, Bool, true, false}
-use Rattle.std.proofs.Common.{◌==◌, Option, Some, None, Ok, refl, ap, sym, ◌∙◌, arith, cond, codes, decimal}
-use Rattle.std.proofs.Common.{append_assoc, length-append}
+use Rattle.std.proofs.Common.{◌≡◌, ℕ, ℤ, ◌+◌, ◌*◌, ◌<◌, ◌≤◌, ◌^◌, max, List, [], ◌∷◌, ◌++◌, length, map}
+use Rattle.std.proofs.Common.{flat_map, true, false}
+use Rattle.std.proofs.Common.{◌==◌, Some, None, refl, ap, sym, ◌∙◌, arith, cond, codes, decimal}
+use Rattle.std.proofs.Common.{append_assoc}
 use Rattle.std.proofs.lemmas.Bool.Decides.{Decides-eqb}
 use Rattle.std.proofs.lemmas.Fmt.{length-decimal-le}
 use Rattle.std.proofs.lemmas.List.Elements.{All-head, All-tail}
@@ -15,8 +15,7 @@ use Rattle.cell_core.specs.Text.{cell_text}
 use Rattle.cell_stats_combinations.specs.Combinations.{Combination}
 use Rattle.cell_stats.specs.CategoryTables.{Pairs}
 use Rattle.cell_stats.specs.TableText.{FormatValue}
-use Rattle.cell_tiles_lines.specs.LineFields.{spelled_entry}
-use Rattle.cell_tiles_lines.specs.LineLabels.{Labelled, before_count, labelled_in, labelled_in_lines, labelled_then}
+use Rattle.cell_tiles_lines.specs.LineLabels.{before_count, labelled_in, labelled_in_lines, labelled_then}
 use Rattle.cell_tiles_lines.specs.LineLabels.{up_to_separator}
 use Rattle.cell_tiles_lines.specs.LineReading.{is_line_feed}
 use Rattle.cell_tiles_lines.specs.TableLines.{Labelling, label_in, labelled_entry_fields, labelled_fields}

@@ -1,8 +1,8 @@
 -- Texts that are printed with labels of parts are read as the tables of the parts, whose merge is the table of
 -- the whole, and each of their lines has the labels of the whole.
-use Rattle.std.proofs.Common.{◌≡◌, ℕ, ℤ, zero, suc, ◌+◌, ◌-◌, ◌*◌, ◌<◌, ◌≤◌, ◌^◌, ◌==◌, inl, inr, List, [], ◌∷◌, length}
+use Rattle.std.proofs.Common.{◌≡◌, ℕ, zero, suc, ◌+◌, ◌-◌, ◌*◌, ◌<◌, ◌≤◌, ◌^◌, inl, List, [], ◌∷◌, length}
 use Rattle.std.proofs.Common.{map, get_or, max}
-use Rattle.std.proofs.Common.{false, Some, None, refl, ap, sym, subst, ◌∙◌, arith, mul-le-mul, unwrap_or}
+use Rattle.std.proofs.Common.{false, refl, ap, sym, subst, ◌∙◌, arith, mul-le-mul, unwrap_or}
 use Rattle.std.proofs.lemmas.List.Elements.{All-nil, All-cons, All-head, All-tail}
 use Rattle.std.proofs.lemmas.List.Sums.{sum_by-cons}
 use Rattle.std.specs.Prelude.{All, sum_by}
@@ -31,7 +31,7 @@ use Rattle.cell_tiles_texts_law.specs.PrintedParts.{text_of_part}
 use Rattle.cell_tiles_texts_law.proofs.JoinedPartLemmas.{MayWant, table_read, want-behind}
 use Rattle.cell_tiles_texts_law.proofs.PartCellLemmas.{part-of-cells, whole-of-cells}
 use Rattle.cell_tiles_texts_law.proofs.PartEntryLemmas.{count-fits, entry-of-cells, entry-wide, stands, table-length}
-use Rattle.cell_tiles_labels.specs.JoinedLabels.{AreLabelledSo, IsLabelledMerge, counted_text, plain_entries}
+use Rattle.cell_tiles_labels.specs.JoinedLabels.{IsLabelledMerge, counted_text, plain_entries}
 use Rattle.cell_tiles_labels.specs.JoinedLabels.{labelled_of, labels_of_texts}
 use Rattle.cell_tiles_labels.proofs.LabelledJoinLemmas.{one-labelled}
 use Rattle.cell_tiles_labels_law.specs.LabelledParts.{CanBeReadLabelled, HasLabels, LabelledAsOne, LabelledPartsJoin}
@@ -205,8 +205,7 @@ module _ (format : FormatValue) (picks : List ℕ) (rows cols : ℕ) (whole : Li
       (part-good part here) in
       let more : (k : Combination) → sum_by (count_in k) (map table_of_part (part ∷ parts))
       ≡ count_in k (table_of_part part) + sum_by (count_in k) (map table_of_part parts) =
-      λ k. sum_by-cons (count_in k) (table_of_part part) (map table_of_part parts) in
-      (
+      λ k. sum_by-cons (count_in k) (table_of_part part) (map table_of_part parts) in (
         subst (λ ls. AllByRecursion (λ line. Contains (map front_of_entry whole_table) line) ls) (sym lines)
             (entries-stand whole_table (table_of_part part)
             (part-counts part whole_table (λ k some. have k (omega (arith, some, more k))))),
