@@ -3,3 +3,4 @@ pub mod FieldLemmas
 pub mod LabelledFieldLemmas
 pub mod LinePartLemmas
 pub mod TextLemmas
+pub mod LabelLemmas

@@ -1,9 +1,9 @@
 -- A line gathered from the parts that a buffer holds.
-use Rattle.std.proofs.Common.{◌≡◌, ◌≢◌, ℕ, suc, ◌+◌, ◌-◌, ◌<◌, ◌≤◌, List, [], ◌∷◌, ◌++◌, length, take, drop, Bool, true, false, Option, Some, None, Result, Ok, Err, refl, ap, sym, ◌∙◌, arith, cond, ◌==◌, nat_lt, not, subst, ◌⊎◌, inl, inr, ⊎_elim}
+use Rattle.std.proofs.Common.{◌≡◌, ◌≢◌, ℕ, ◌+◌, ◌-◌, ◌<◌, ◌≤◌, List, [], ◌++◌, length, take, drop, Bool, true, false, Option, Some, None, Result, Ok, Err, refl, ap, sym, ◌∙◌, arith, cond, ◌==◌, nat_lt, not, subst, ⊎_elim}
 use Rattle.std.proofs.Math.Seq.{drop-append-add, take-append-add}
 use Rattle.std.proofs.lemmas.Bool.{cases_lt, lt-ltb, ne_eqb}
 use Rattle.std.proofs.lemmas.Bool.Decides.{Decides-eqb}
-use Rattle.std.proofs.lemmas.List.{append_assoc, drop-append-le, drop-drop, drop-take, drop_all, length-take, length-append, length-drop, take-append-le}
+use Rattle.std.proofs.lemmas.List.{append_assoc, drop-append-le, drop-drop, drop-take, drop_all, length-take, length-append, take-append-le}
 use Rattle.std.proofs.lemmas.List.Folds.{prefix_len-append}
 use Rattle.std.proofs.lemmas.List.Sums.{prefix_len-le-length}
 use Rattle.std.specs.List.{position_or_len, before_first, after_first}
@@ -11,9 +11,9 @@ use Rattle.std.specs.Option.{option_map}
 use Rattle.std.specs.Prelude.{IfSome}
 use Rattle.cell_core_devices.specs.Device.{Coming}
 use Rattle.cell_tiles_lines.specs.LineReading.{is_line_feed}
-use Rattle.cell_tiles_lines.specs.SourceLines.{LinesValue, HasEnded, IsFirstLine, IsPassed, held_before, first_line, lines_coming}
+use Rattle.cell_tiles_lines.specs.SourceLines.{LinesValue, IsFirstLine, IsPassed, held_before, first_line, lines_coming}
 use Rattle.cell_tiles_lines.specs.declared.table_fault.TableKind.{TableKind}
-use Rattle.cell_tiles_lines.specs.declared.table_fault.TableKind.TheVariants.{LongLine, CutOff, Read, Memory}
+use Rattle.cell_tiles_lines.specs.declared.table_fault.TableKind.TheVariants.{LongLine, CutOff, Read}
 use Rattle.cell_tiles_lines.specs.declared.table_fault.TheConstants.{MOST_BYTES}
 
 -- what is held behind a place

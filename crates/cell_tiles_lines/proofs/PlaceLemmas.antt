@@ -1,9 +1,8 @@
 -- Where a byte stands in a text, and how it cuts the text.
-use Rattle.std.proofs.Common.{◌≡◌, ℕ, suc, ◌+◌, ◌<◌, ◌≤◌, List, [], ◌∷◌, length, get_or, Bool, true, false, Option, Some, None, refl, ap, sym, ◌∙◌, arith, cond, ◌==◌, MatchOption}
-use Rattle.std.proofs.lemmas.List.Splits.{slice_split_none, slice_split_first}
+use Rattle.std.proofs.Common.{◌≡◌, ℕ, ◌<◌, List, [], ◌∷◌, length, Bool, true, false, Option, Some, None, refl, arith, ◌==◌, MatchOption}
+use Rattle.std.proofs.lemmas.List.Splits.{slice_split_none}
 use Rattle.std.proofs.lemmas.List.Sums.{position_or_len_is, fails_before_first}
-use Rattle.std.specs.Prelude.{All}
-use Rattle.std.specs.List.{position_or_len, before_first, after_first, slice_split}
+use Rattle.std.specs.List.{position_or_len, slice_split}
 use Rattle.memchr.specs.Find.{IsFirstByte, is_byte}
 
 fails : (b : Bool) → ¬ (b ≡ true) → b ≡ false

@@ -1,7 +1,7 @@
 -- A text read line by line.
-use Rattle.std.proofs.Common.{◌≡◌, ◌≢◌, ℕ, suc, ◌+◌, ◌-◌, ◌<◌, ◌≤◌, List, [], ◌∷◌, ◌++◌, length, take, drop, get_or}
+use Rattle.std.proofs.Common.{◌≡◌, ℕ, ◌<◌, ◌≤◌, List, [], ◌∷◌, ◌++◌, length, take, get_or}
 use Rattle.std.proofs.Common.{Bool, true, false, Option, Some, None, Result, Ok, Err, refl, ap, sym, ◌∙◌, arith}
-use Rattle.std.proofs.Common.{cond, ◌==◌, nat_lt, not, subst, ◌⊎◌, inl, inr, ⊎_elim}
+use Rattle.std.proofs.Common.{cond, ◌==◌, nat_lt, not, ⊎_elim}
 use Rattle.std.proofs.Math.Seq.{take-length}
 use Rattle.std.proofs.lemmas.Bool.{cases_lt, lt-ltb, le-ltb, ltb-true}
 use Rattle.std.proofs.lemmas.Bool.Decides.{Decides-eqb}
@@ -24,7 +24,7 @@ use Rattle.cell_tiles_lines.specs.LineReading.{reading_of_rest, stopped, then_re
 use Rattle.cell_tiles_lines.specs.SourceLines.{LinesValue, IsFirstLine, first_line, lines_coming}
 use Rattle.cell_tiles_lines.specs.parts.FirstLine.{reading_by}
 use Rattle.cell_tiles_lines.specs.declared.table_fault.TableKind.{TableKind}
-use Rattle.cell_tiles_lines.specs.declared.table_fault.TableKind.TheVariants.{BadWidth, LongLine, CutOff, Read, Memory}
+use Rattle.cell_tiles_lines.specs.declared.table_fault.TableKind.TheVariants.{BadWidth, LongLine, CutOff, Read}
 use Rattle.cell_tiles_lines.specs.declared.table_fault.TheConstants.{MOST_BYTES}
 use Rattle.cell_tiles_lines.proofs.PlaceLemmas.{split-none}
 
@@ -173,7 +173,7 @@ cut-line coming rest line is = by (nat_lt MOST_BYTES (length (before_first is_li
     by false false false true within e = cc
     by false false false false within e = cc
 
-cut-end : (coming : Coming) → first_line coming ≡ Ok None → coming.bytes ≡ []
+pub cut-end : (coming : Coming) → first_line coming ≡ Ok None → coming.bytes ≡ []
 cut-end coming is = by (nat_lt MOST_BYTES (length (before_first is_line_feed coming.bytes))) (nat_lt (position_or_len
     is_line_feed coming.bytes) (length coming.bytes)) coming.fails (length coming.bytes == 0) refl is
   where

@@ -2,8 +2,9 @@
 
 ghost use Rattle.std.specs.Prelude.{◌≡◌, ◌==◌, ◌<◌, MatchOption, length};
 ghost use Rattle.std.specs.List.{after_first, before_first, position_or_len};
+ghost use Rattle.cell_tiles_lines.specs.LineLabels.{before_count};
 
-use memchr::memchr;
+use memchr::{memchr, memrchr};
 
 // The first place of a byte.
 pub(crate) fn place_of(byte: u8, text: &[u8]) -> Option<usize>
@@ -25,5 +26,15 @@ pub fn cut_at<'a>(byte: u8, text: &'a [u8]) -> Option<(&'a [u8], &'a [u8])>
     match place_of(byte, text) {
         Some(place) => Some((&text[..place], &text[place..][1..])),
         None => None,
+    }
+}
+
+/// The bytes up to the last place of a byte, that one too; none where it stands nowhere.
+pub(crate) fn before_last(byte: u8, text: &[u8]) -> &[u8]
+    ensures { result.now ≡ before_count byte text.now }
+{
+    match memrchr(byte, text) {
+        Some(place) => &text[..place + 1],
+        None => &text[..0],
     }
 }

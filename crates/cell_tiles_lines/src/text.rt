@@ -4,10 +4,12 @@ ghost use Rattle.std.specs.Prelude.{◌≡◌, ◌≢◌, ℕ, length, Ok, Err, 
 ghost use Rattle.cell_tiles_lines.specs.LineReading.{is_as_wide, in_order, line_after, next_entry, reading_of, stopped};
 ghost use Rattle.cell_tiles_lines.specs.SourceLines.{lines_coming};
 ghost use Rattle.cell_tiles_lines.specs.LineFields.{spelled_entry};
+ghost use Rattle.cell_tiles_lines.specs.LineLabels.{before_count, labelled_behind, labelled_from, labelled_from_head, labelled_in};
 ghost use Rattle.cell_tiles_lines.specs.TextReading.{IsSpelled, bytes_behind, bytes_from, bytes_from_head, combination_of, reading_behind, reading_from};
 ghost use Rattle.cell_tiles_lines.specs.parts.FirstLine.{IsRead, IsRefused};
 
 use crate::line_fields::read_line;
+use crate::places::before_last;
 use crate::source_lines::Lines;
 use crate::table_fault::{TableFault, TableKind};
 use cell_core::cell::Cell;
@@ -95,6 +97,10 @@ fn read_entry<R: Source>(
         (lines_coming lines.new)) }
     ensures spelled { IfOk result (λ head. IfSome head
         (λ entry. spelled_entry format.now lines.new.line ≡ Ok entry)) }
+    ensures labelled { IfOk result (λ head. option_map
+        (λ coming. labelled_in format.now coming.bytes) (lines_coming lines.old)
+        ≡ option_map (labelled_from_head format.now head lines.new.line)
+        (lines_coming lines.new)) }
     ensures fault { IfErr result (λ kind. kind ≢ TableKind.Memory → (number : ℕ) → IsRefused
         format.now width number (option_map (λ k. k.now) last.entry) (lines_coming lines.old)
         kind) }
@@ -164,6 +170,9 @@ impl<R: Source> TableText<R> {
         ensures bytes { IfOk result (λ text. option_map (λ coming. coming.bytes) (R.coming source)
             ≡ bytes_from text) }
         ensures spelled { IfOk result (IsSpelled format.now) }
+        ensures labelled { IfOk result (λ text. option_map
+            (λ coming. labelled_in format.now coming.bytes) (R.coming source)
+            ≡ labelled_from format.now text) }
         ensures width { IfOk result (λ text. text.width ≡ width) }
         ensures fault { IfErr result (λ fault. fault.kind ≢ TableKind.Memory → IfSome (R.coming
             source) (λ coming. reading_of format.now width coming ≡ stopped fault.line
@@ -196,6 +205,21 @@ impl<R: Source> TableText<R> {
         &self.head
     }
 
+    /// What stands on the line of the entry that was read last up to its last separator, that one too: its cells as they are
+    /// printed, and their labels.
+    pub fn before_count(&self, separator: u8) -> &[u8]
+        ensures { result.now ≡ before_count separator self.now.line }
+    {
+        before_last(separator, self.lines.last_line())
+    }
+
+    /// The number of the line behind that of the entry that was read last, or the greatest `u64`.
+    pub fn next_number(&self) -> u64
+        ensures { result ≡ self.now.number }
+    {
+        self.number
+    }
+
     /// Reads the next entry.
     ///
     /// # Errors
@@ -206,6 +230,8 @@ impl<R: Source> TableText<R> {
             self.new) }
         ensures bytes { OnOk result (bytes_behind self.old ≡ bytes_from self.new) }
         ensures spelled { OnOk result (IsSpelled format.now self.new) }
+        ensures labelled { OnOk result
+            (labelled_behind format.now self.old ≡ labelled_from format.now self.new) }
         ensures width { self.new.width ≡ self.old.width }
         ensures fault { IfErr result (λ fault. fault.kind ≢ TableKind.Memory → IfSome
             (reading_behind format.now self.old) (λ reading. reading ≡ stopped fault.line

@@ -120,7 +120,7 @@ module _ (format : FormatValue) (labels : Labelling) (clear : IsClear format) (w
   cut-again (cell ∷ cells) n free = split-joined format.separator (cell_text format.null_text cell) (label_in labels
       0 cell ∷ labelled_fields format.null_text labels 1 cells ++ decimal n ∷ []) free
 
-  line-back : (entry : Combination × ℕ) → IsLabelledEntry format labels width entry
+  pub line-back : (entry : Combination × ℕ) → IsLabelledEntry format labels width entry
       → spelled_entry format (line_bytes entry) ≡ Ok entry
   line-back entry is =
       let free = labelled-free is_separator (digit-apart format.separator clear.separator) (minus-apart
@@ -131,7 +131,7 @@ module _ (format : FormatValue) (labels : Labelling) (clear : IsClear format) (w
       ∙ ap (entry_of_labelled format.null_text) (cut-again entry.0 entry.1 free)
       ∙ labelled-back format.null_text labels clear.null 0 entry.0 entry.1 is.cells is.some is.fits
 
-  line-free : (entry : Combination × ℕ) → IsLabelledEntry format labels width entry
+  pub line-free : (entry : Combination × ℕ) → IsLabelledEntry format labels width entry
       → All (λ b. is_line_feed b ≡ false) (line_bytes entry)
   line-free entry is =
       joined-free is_line_feed digit-feed refl format.separator (feed-apart format.separator clear.separator)

@@ -1,5 +1,5 @@
 -- Faults of texts at their places, and counts beyond 64 bits.
-use Rattle.std.proofs.Common.{◌≡◌, ◌≢◌, ℕ, zero, suc, ◌+◌, ◌-◌, ◌<◌, ◌≤◌, ◌^◌, List, [], ◌∷◌, ◌++◌, length, map, fold, take, drop, get_or, slice_get, Option, Some, None, unwrap_or, option_map, ◌⊎◌, inl, inr, ⊎_elim, refl, ap, sym, ◌∙◌, arith, subst}
+use Rattle.std.proofs.Common.{◌≡◌, ◌≢◌, ℕ, zero, suc, ◌+◌, ◌<◌, ◌≤◌, ◌^◌, List, [], ◌∷◌, ◌++◌, length, map, fold, take, drop, get_or, slice_get, Option, Some, None, unwrap_or, option_map, ◌⊎◌, inl, inr, ⊎_elim, refl, ap, sym, ◌∙◌, arith, subst}
 use Rattle.std.proofs.lemmas.List.{map-append, take_more, take-append-drop, get_or-drop, length-drop}
 use Rattle.std.proofs.lemmas.List.Sums.{fold-append}
 use Rattle.std.specs.Prelude.{IfSome}
@@ -9,9 +9,10 @@ use Rattle.cell_tiles_lines.specs.declared.table_fault.TableFault.{TableFault}
 use Rattle.cell_tiles_lines.specs.declared.table_fault.TableKind.{TableKind}
 use Rattle.cell_tiles_lines.specs.declared.table_fault.TableKind.TheVariants as kinds
 use Rattle.cell_tiles_texts.specs.JoinedTexts.{HasFault, IsFirstFault, fault_place, last_combination}
-use Rattle.cell_tiles_texts.specs.parts.MergeEnds.{IsOpeningFault}
-use Rattle.cell_tiles_texts.specs.parts.Steps.{IsBeyondCounts, past, sum_if_any, sum_of_counts}
-use Rattle.cell_tiles_texts.specs.parts.Taking.{IsFaultOfText, StopsBehind}
+use Rattle.cell_tiles_texts.specs.JoinAnswers.{IsOpeningFault}
+use Rattle.cell_tiles_texts.specs.TextHeads.{past, sum_if_any, sum_of_counts}
+use Rattle.cell_tiles_texts.specs.parts.Steps.{IsBeyondCounts}
+use Rattle.cell_tiles_texts.specs.JoinAnswers.{IsFaultOfText, StopsBehind}
 use Rattle.cell_tiles_texts.specs.declared.join_fault.JoinFault.{JoinFault}
 use Rattle.cell_tiles_texts.specs.declared.join_fault.JoinFault.TheVariants.{Text, Memory}
 use Rattle.cell_tiles_texts.proofs.FaultOrderLemmas.{GoesOn, went-on}

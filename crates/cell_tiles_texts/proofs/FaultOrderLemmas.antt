@@ -1,9 +1,8 @@
 -- Which fault of several texts is met first.
-use Rattle.std.proofs.Common.{◌≡◌, ◌≢◌, ℕ, zero, suc, ◌+◌, ◌<◌, ◌≤◌, List, [], ◌∷◌, ◌++◌, length, map, take}
+use Rattle.std.proofs.Common.{◌≡◌, ◌≢◌, ℕ, zero, suc, ◌<◌, ◌≤◌, List, [], ◌∷◌, ◌++◌, length, map, take}
 use Rattle.std.proofs.Common.{slice_get, Bool, true, false, Option, Some, None, ◌⊎◌, inl, inr, ⊎_elim, refl, ap}
 use Rattle.std.proofs.Common.{sym, ◌∙◌, arith, cond, subst, option_map}
 use Rattle.std.proofs.lemmas.Bool.{cases_lt}
-use Rattle.std.proofs.lemmas.Option.{slice_get-map}
 use Rattle.std.specs.List.{AllByRecursion}
 use Rattle.std.specs.List.Sorted.{IsStrictlySortedBy}
 use Rattle.std.specs.Ordering.{eq_by_cmp, is_eq, ordering_reverse}
@@ -17,11 +16,11 @@ use Rattle.cell_tiles_lines.specs.LineReading.{TableReading}
 use Rattle.cell_tiles_lines.specs.declared.table_fault.TableFault.{TableFault}
 use Rattle.cell_tiles_merging.specs.Merging.{IsListing}
 use Rattle.cell_tiles_merging.proofs.PairLemmas.{keys_of}
-use Rattle.cell_tiles_texts.specs.JoinedTexts.{AreNoneBefore, HasFault, IsFirstFault, IsFirstPlace, IsMetFirst}
+use Rattle.cell_tiles_texts.specs.JoinedTexts.{AreNoneBefore, IsFirstFault, IsFirstPlace, IsMetFirst}
 use Rattle.cell_tiles_texts.specs.JoinedTexts.{fault_place, last_combination, tables_of}
 use Rattle.cell_tiles_texts.specs.MergedTables.{BeginsAt}
-use Rattle.cell_tiles_texts.specs.parts.Steps.{is_of, past, past_first}
-use Rattle.cell_tiles_texts.specs.parts.Taking.{StopsBehind}
+use Rattle.cell_tiles_texts.specs.TextHeads.{is_of, past, past_first}
+use Rattle.cell_tiles_texts.specs.JoinAnswers.{StopsBehind}
 
 -- a reading of which the first entry was read, if there is one
 abbrev pub GoesOn : TableReading → Type 0

@@ -1,10 +1,10 @@
 -- What was written, and the answer, at the end of a join.
-use Rattle.std.proofs.Common.{◌≡◌, ◌≢◌, ℕ, zero, suc, ◌+◌, ◌<◌, ◌≤◌, ◌-◌, ◌^◌, ◌||◌, List, [], ◌∷◌, ◌++◌, length, map, slice_get, Bool, true, false, Option, Some, None, Result, Ok, Err, refl, ap, sym, ◌∙◌, arith, cond, subst, append_assoc, append-nil}
+use Rattle.std.proofs.Common.{◌≡◌, ◌≢◌, ℕ, zero, suc, ◌<◌, ◌^◌, ◌||◌, List, [], ◌∷◌, ◌++◌, length, Bool, true, false, Option, Some, None, Result, Ok, Err, refl, ap, sym, ◌∙◌, arith, subst, append_assoc, append-nil}
 use Rattle.std.specs.List.{AllByRecursion, Contains}
-use Rattle.std.specs.Prelude.{All, IfSome, sum_by, flat_map}
+use Rattle.std.specs.Prelude.{All, IfSome, sum_by}
 use Rattle.cell_core_devices.specs.Blocks.{BlockValue, Appended, IsRest, capped_count}
 use Rattle.cell_core_devices.specs.Device.{Faults, after_flush, after_put, append_known, has_failed}
-use Rattle.cell_stats_combinations.specs.Combinations.{Combination, combination_cmp}
+use Rattle.cell_stats_combinations.specs.Combinations.{Combination}
 use Rattle.cell_stats.specs.CategoryTables.{Pairs}
 use Rattle.cell_stats.specs.TableText.{FormatValue}
 use Rattle.cell_tiles_law.specs.TableParts.{IsMerge, count_in}
@@ -15,7 +15,8 @@ use Rattle.cell_tiles_merging.specs.Merging.{IsListing}
 use Rattle.cell_tiles_texts.proofs.MergeLemmas.{one-merge}
 use Rattle.cell_tiles_texts.specs.JoinedTexts.{AreTables, HasFault, HasLines, HasPrefix, HasWritten, AreJoinedTexts, IsJoinFault, IsMergeOf, tables_of}
 use Rattle.cell_tiles_texts.specs.MergedTables.{merge_of}
-use Rattle.cell_tiles_texts.specs.parts.MergeEnds.{EndsSo, IsAnswered, IsOpeningFault, answered, join_flush_failed, settled}
+use Rattle.cell_tiles_texts.specs.JoinAnswers.{IsAnswered, IsOpeningFault, answered, join_flush_failed, settled}
+use Rattle.cell_tiles_texts.specs.parts.MergeEnds.{EndsSo}
 use Rattle.cell_tiles_texts.specs.declared.join_fault.JoinFault.{JoinFault}
 use Rattle.cell_tiles_texts.specs.declared.join_fault.JoinFault.TheVariants.{Text, TooMany, TooLong, Memory, Write}
 use Rattle.cell_tiles_texts.proofs.StepLemmas.{merges-all}
@@ -155,7 +156,7 @@ fits merged k n fit at = subst (λ (e : Combination × ℕ). e.1 < 2 ^ 64) at.2 
 
 module _ (readings : List TableReading) (all : AllByRecursion IsListing (tables_of readings)) (merged : Pairs)
     (whole : IsMergeOf readings merged) where
-  refuted : (fault : JoinFault) → IsJoinFault readings fault → fault ≢ Memory → fault ≢ Write → ⊥
+  pub refuted : (fault : JoinFault) → IsJoinFault readings fault → fault ≢ Memory → fault ≢ Write → ⊥
   refuted (Text text fault) is memory write = no-fault readings text fault whole.tables is.has
   refuted (TooMany k) is memory write =
       let n = sum_by (count_in k) (tables_of readings) in

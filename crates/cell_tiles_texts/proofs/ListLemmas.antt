@@ -1,5 +1,5 @@
 -- Texts taken one after the other, and the least of their heads.
-use Rattle.std.proofs.Common.{◌≡◌, ◌≢◌, ℕ, suc, ◌+◌, ◌-◌, ◌<◌, ◌≤◌, List, [], ◌∷◌, ◌++◌, length, take, drop, get_or, map, fold, Bool, true, false, Option, Some, None, MatchOption, ◌⊎◌, inl, inr, ⊎_elim, refl, ap, sym, ◌∙◌, arith, cond, subst, option_map}
+use Rattle.std.proofs.Common.{◌≡◌, ◌≢◌, ℕ, suc, ◌+◌, ◌<◌, List, [], ◌∷◌, ◌++◌, length, take, drop, get_or, map, fold, Bool, true, false, Option, Some, None, MatchOption, ◌⊎◌, inl, inr, ⊎_elim, refl, ap, sym, ◌∙◌, arith, cond, subst, option_map}
 use Rattle.std.proofs.Math.ListN.{set}
 use Rattle.std.proofs.lemmas.List.{map-append, take_more, take_more_set, drop-set-lt, drop-drop, get_or-drop, length-drop}
 use Rattle.std.proofs.lemmas.List.Elements.{All-nil, All-cons}
@@ -11,7 +11,8 @@ use Rattle.std.specs.declared.cmp.Ordering.{Ordering}
 use Rattle.std.specs.declared.cmp.Ordering.TheVariants.{Less, Equal, Greater}
 use Rattle.cell_stats_combinations.specs.Combinations.{Combination, combination_cmp, combination_cmp_total}
 use Rattle.cell_stats_combinations.proofs.OrderLemmas.{combination_cmp-exact}
-use Rattle.cell_tiles_texts.specs.parts.Steps.{sum_if_any, lesser_of, sum_of_counts}
+use Rattle.cell_tiles_texts.specs.TextHeads.{sum_if_any, sum_of_counts}
+use Rattle.cell_tiles_texts.specs.parts.Steps.{lesser_of}
 
 module _ {X Y : Type 0} (count : X → Option ℕ) (read after : X → Y) (old now : List X) (i : ℕ) (x y : X) where
   -- the text at a place was taken

@@ -1,5 +1,5 @@
 -- Tables have one merge.
-use Rattle.std.proofs.Common.{◌≡◌, ℕ, suc, ◌<◌, [], ◌∷◌, get_or, Option, Some, None, true, false, cond, refl, ap, sym, ◌∙◌, arith}
+use Rattle.std.proofs.Common.{◌≡◌, ℕ, suc, [], ◌∷◌, get_or, Option, Some, None, true, false, cond, refl, sym, ◌∙◌, arith}
 use Rattle.std.specs.List.{Contains}
 use Rattle.std.specs.List.Sorted.{IsStrictlySortedBy}
 use Rattle.std.specs.Ordering.{eq_by_cmp}
@@ -27,7 +27,7 @@ stands k n (x ∷ es) e =
     ] refl e
 
 -- and what is listed stands beside its combination
-found : (k : Combination) (n : ℕ) (es : Pairs)
+pub found : (k : Combination) (n : ℕ) (es : Pairs)
     → IsStrictlySortedBy combination_cmp (map (λ (pair : Combination × ℕ). pair.0) es) → Contains es (k, n)
     → find combination_cmp k es ≡ Some n
 found k n es up c = let at : find combination_cmp (get_or es c.0 (k, n)).0 es ≡ Some (get_or es c.0 (k, n)).1 =

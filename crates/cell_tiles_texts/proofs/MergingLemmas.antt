@@ -1,9 +1,9 @@
 -- Many entries of a merge, one after the other, and its end.
-use Rattle.std.proofs.Common.{◌≡◌, ◌≢◌, ℕ, zero, suc, ◌+◌, ◌-◌, ◌<◌, ◌≤◌, ◌^◌, List, [], ◌∷◌, ◌++◌, length, map, flat_map, get_or, slice_get, Bool, true, false, Option, Some, None, Result, Ok, Err, unwrap_or, refl, ap, sym, ◌∙◌, arith, cond, subst, option_map, append_assoc, append-nil, length-append}
+use Rattle.std.proofs.Common.{◌≡◌, ℕ, ◌+◌, ◌-◌, ◌<◌, ◌≤◌, ◌^◌, List, [], ◌∷◌, ◌++◌, length, map, slice_get, Option, None, Ok, Err, refl, ap, sym, ◌∙◌, arith, subst, append_assoc, append-nil, length-append}
 use Rattle.std.specs.List.{AllByRecursion, Contains}
-use Rattle.std.specs.Prelude.{IfSome, sum_by}
+use Rattle.std.specs.Prelude.{sum_by}
 use Rattle.std.proofs.lemmas.List.{get_or-append-add}
-use Rattle.cell_core_devices.specs.Blocks.{BlockValue, Appends}
+use Rattle.cell_core_devices.specs.Blocks.{BlockValue}
 use Rattle.cell_core_devices.specs.Device.{Faults}
 use Rattle.cell_core_devices.proofs.BlockLemmas.{appends_none, appends_then}
 use Rattle.cell_stats_combinations.specs.Combinations.{Combination}
@@ -88,7 +88,7 @@ module _ {X : Type 0} (read : X → Option TableReading) (readings : List TableR
     (all : AllByRecursion IsListing (tables_of readings)) (texts : List X) (done : Pairs)
     (taken : HasTaken read readings texts done) where
   -- a fault of what is left is one of all
-  fault-of-all : (fault : JoinFault) → IsStepFault taken.after fault → IsJoinFault readings fault
+  pub fault-of-all : (fault : JoinFault) → IsStepFault taken.after fault → IsJoinFault readings fault
   fault-of-all (Text text fault) is = record {
     has = ap (λ faults. slice_get faults text) (sym taken.faults) ∙ is.has;
     first = subst (λ places. IsFirstPlace places text) taken.places is.first;
@@ -104,7 +104,7 @@ module _ {X : Type 0} (read : X → Option TableReading) (readings : List TableR
   ends-err : (fault : JoinFault) → IsJoinFault readings fault → EndsSo readings done (Err fault)
   ends-err fault is = (is, (merge_of (tables_of taken.after), taken.merged))
 
-  ends-ok : taken.after ≡ map (λ r. ended) taken.after → EndsSo readings done (Ok tt)
+  pub ends-ok : taken.after ≡ map (λ r. ended) taken.after → EndsSo readings done (Ok tt)
   ends-ok is =
       let none : merge_of (tables_of taken.after) ≡ [] = ap (λ rs. merge_of (tables_of rs)) is
       ∙ none-left taken.after in
@@ -113,7 +113,7 @@ module _ {X : Type 0} (read : X → Option TableReading) (readings : List TableR
         taken.merged ∙ ap (λ es. done ++ es) none ∙ append-nil done,
       )
 
-  too-long : (count : ℕ) → length done ≡ count → 2 ^ 64 - 1 ≤ count → IsJoinFault readings TooLong
+  pub too-long : (count : ℕ) → length done ≡ count → 2 ^ 64 - 1 ≤ count → IsJoinFault readings TooLong
   too-long count counted high = omega
       (arith, counted, high, ap length taken.merged, length-append done (merge_of (tables_of taken.after)))
 

@@ -1,5 +1,6 @@
 -- Texts opened one after the other.
-use Rattle.std.proofs.Common.{◌≡◌, ◌≢◌, ℕ, zero, suc, ◌+◌, List, [], ◌∷◌, ◌++◌, length, map, slice_get, get_or, ◌<◌, Option, Some, None, refl, ap, sym, ◌∙◌, arith, subst, option_map, append_assoc, append-nil}
+use Rattle.std.proofs.Common.{◌≡◌, ℕ, List, [], ◌∷◌, ◌++◌, length, map, slice_get, Option, Some, refl, ap, sym, ◌∙◌}
+use Rattle.std.proofs.Common.{arith, subst, option_map, append_assoc, append-nil}
 use Rattle.std.specs.Prelude.{IfSome}
 use Rattle.std.proofs.lemmas.List.{map-append, length-map}
 use Rattle.cell_core_devices.specs.Device.{Coming}
@@ -9,7 +10,7 @@ use Rattle.cell_tiles_lines.specs.LineReading.{TableReading, reading_of, stopped
 use Rattle.cell_tiles_lines.specs.declared.table_fault.TableFault.{TableFault}
 use Rattle.cell_tiles_texts.specs.JoinedTexts.{Give, IsFirstFault, IsFirstPlace, fault_place, first_entry}
 use Rattle.cell_tiles_texts.specs.JoinedTexts.{readings_from, readings_of, width_behind}
-use Rattle.cell_tiles_texts.specs.parts.MergeEnds.{HasOpened}
+use Rattle.cell_tiles_texts.specs.parts.MergeEnds.{HasOpened, HasSeen}
 use Rattle.cell_tiles_texts.proofs.FaultOrderLemmas.{GoesOn, all-on, opening-first}
 
 pub no-more : {A : Type 0} (xs : List A) → length xs ≡ 0 → xs ≡ []
@@ -125,3 +126,45 @@ module _ {R X : Type 0} (coming : R → Option Coming) (read : X → Option Tabl
       nothing : (others : List Coming) → Give coming [] others → others ≡ []
       nothing [] give = refl
       nothing (c ∷ others) give = cc
+
+-- ---- what is seen of texts that are opened
+
+module _ {R X Y : Type 0} (coming : R → Option Coming) (see : X → Option Y) (of : Coming → Y) where
+  abbrev seen_of : Coming → Option Y
+  seen_of c = Some (of c)
+
+  pub seen-none : (sources : List R) (comings : List Coming) → Give coming sources comings
+      → HasSeen coming see of sources [] comings
+  seen-none sources comings give = record { others = comings; give = give; known = refl }
+
+  more-seen : (source : R) (left : List R) (texts : List X) (text : X) (others comings : List Coming)
+      → Give coming (source ∷ left) others → map see texts ++ map seen_of others ≡ map seen_of comings
+      → option_map of (coming source) ≡ see text → HasSeen coming see of left (texts ++ text ∷ []) comings
+  more-seen source left texts text [] comings give known is = cc
+  more-seen source left texts text (c ∷ others) comings give known is =
+      let one : coming source ≡ Some c = cc in
+      record {
+        others = others;
+        give = cc;
+        known = ap (λ ts. ts ++ map seen_of others) (map-append see texts (text ∷ []))
+            ∙ append_assoc (map see texts) (see text ∷ []) (map seen_of others)
+            ∙ ap (λ o. map see texts ++ (o ∷ map seen_of others)) (sym is ∙ ap (option_map of) one) ∙ known;
+      }
+
+  -- one more
+  pub seen-more : (source : R) (left sources : List R) (texts : List X) (text : X) (comings : List Coming)
+      → sources ≡ source ∷ left → HasSeen coming see of sources texts comings
+      → option_map of (coming source) ≡ see text → HasSeen coming see of left (texts ++ text ∷ []) comings
+  seen-more source left sources texts text comings is seen same = more-seen source left texts text seen.others comings
+      (subst (λ rs. Give coming rs seen.others) is seen.give) seen.known same
+
+  -- all of them
+  pub seen-all : (left : List R) (texts : List X) (comings : List Coming) → left ≡ []
+      → HasSeen coming see of left texts comings → map see texts ≡ map seen_of comings
+  seen-all left texts comings none seen = by seen.others (subst (λ rs. Give coming rs seen.others) none seen.give)
+      seen.known
+    where
+      by : (others : List Coming) → Give coming [] others → map see texts ++ map seen_of others ≡ map seen_of comings
+          → map see texts ≡ map seen_of comings
+      by [] give known = sym (append-nil (map see texts)) ∙ known
+      by (c ∷ others) give known = cc

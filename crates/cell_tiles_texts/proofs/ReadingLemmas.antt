@@ -1,7 +1,7 @@
 -- The entries that a text is read as: in order, and none counts nothing.
-use Rattle.std.proofs.Common.{◌≡◌, ℕ, ◌+◌, ◌<◌, List, [], ◌∷◌, length, map, Bool, true, false, ◌&&◌, ◌==◌, nat_lt, Option, Some, None, Result, Ok, Err, refl, ap, sym, ◌∙◌, arith, cond, decimal, subst}
-use Rattle.std.proofs.lemmas.Bool.{and_parts, ltb-true}
-use Rattle.std.proofs.lemmas.List.Elements.{All-nil, All-cons}
+use Rattle.std.proofs.Common.{◌≡◌, ℕ, ◌<◌, List, [], ◌∷◌, length, Bool, true, false, ◌&&◌, ◌==◌, nat_lt, Option, Some, None, Result, Ok, Err, refl, cond, decimal, subst}
+use Rattle.std.proofs.lemmas.Bool.{ltb-true}
+use Rattle.std.proofs.lemmas.List.Elements.{All-cons}
 use Rattle.std.specs.Prelude.{bytes_eq}
 use Rattle.std.specs.List.{AllByRecursion, slice_split}
 use Rattle.std.specs.List.Sorted.{IsStrictlySortedBy}
@@ -13,8 +13,8 @@ use Rattle.cell_core_text.specs.Answers.{◌>>=◌}
 use Rattle.cell_stats_combinations.specs.Combinations.{Combination, combination_cmp, combination_cmp_total}
 use Rattle.cell_stats.specs.CategoryTables.{Pairs}
 use Rattle.cell_stats.specs.TableText.{FormatValue}
-use Rattle.cell_tiles_lines.specs.LineFields.{capped_value, cell_before, cell_of_field, count_of_field, entry_of_fields, entry_of_labelled, entry_of_line, labelled_cell, labelled_entry_of_line, spelled_entry, with_count}
-use Rattle.cell_tiles_lines.specs.LineReading.{TableReading, at_text_end, in_order, is_as_wide, is_line_feed, line_after, next_entry, ordered_entry, reading_of, reading_of_lines, reading_of_rest, stopped, then_reads}
+use Rattle.cell_tiles_lines.specs.LineFields.{capped_value, cell_before, cell_of_field, entry_of_fields, entry_of_labelled, entry_of_line, labelled_cell, labelled_entry_of_line, spelled_entry, with_count}
+use Rattle.cell_tiles_lines.specs.LineReading.{TableReading, at_text_end, in_order, is_as_wide, is_line_feed, line_after, next_entry, ordered_entry, reading_of, reading_of_lines, stopped, then_reads}
 use Rattle.cell_tiles_lines.specs.declared.table_fault.TableKind.{TableKind}
 use Rattle.cell_tiles_lines.specs.declared.table_fault.TableKind.TheVariants.{BadWidth, LongLine}
 use Rattle.cell_tiles_lines.specs.declared.table_fault.TheConstants.{MOST_BYTES}

@@ -1,7 +1,7 @@
 -- One step of a merge of tables: the least combination of all.
-use Rattle.std.proofs.Common.{◌≡◌, ◌≢◌, ℕ, ◌+◌, List, [], ◌∷◌, map, Bool, true, false, Option, Some, None, refl, ap, sym, ◌∙◌, cond, subst}
+use Rattle.std.proofs.Common.{◌≡◌, ◌≢◌, ℕ, ◌+◌, List, [], ◌∷◌, map, Bool, true, false, Option, Some, None, refl, ap, ◌∙◌, cond, subst}
 use Rattle.std.specs.List.{AllByRecursion}
-use Rattle.std.specs.Ordering.{eq_by_cmp, is_eq, ordering_reverse}
+use Rattle.std.specs.Ordering.{is_eq, ordering_reverse}
 use Rattle.std.specs.declared.cmp.Ordering.{Ordering}
 use Rattle.std.specs.declared.cmp.Ordering.TheVariants.{Less, Equal, Greater}
 use Rattle.cell_stats_combinations.specs.Combinations.{Combination, combination_cmp, combination_cmp_total}
@@ -12,7 +12,7 @@ use Rattle.cell_tiles_law.specs.TableParts.{IsMerge}
 use Rattle.cell_tiles_merging.specs.Merging.{IsListing}
 use Rattle.cell_tiles_merging.proofs.ListingLemmas.{listing-merged, listing-none, merge-none, merge-one, merge-split}
 use Rattle.cell_tiles_texts.specs.MergedTables.{BeginsAbove, BeginsAt, LeastGoesFirst, MergesAll, first_count, merge_of, put_first, total_in}
-use Rattle.cell_tiles_texts.specs.parts.Steps.{sum_if_any, is_of, past_first}
+use Rattle.cell_tiles_texts.specs.TextHeads.{sum_if_any, is_of, past_first}
 
 above-merged : (k : Combination) (xs ys : Pairs) → BeginsAbove k xs → BeginsAbove k ys → BeginsAbove k (merged_of xs ys)
 above-merged k [] ys one other = other

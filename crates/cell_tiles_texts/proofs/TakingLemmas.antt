@@ -1,5 +1,5 @@
 -- The first entries of texts taken: what that makes of the merge of what they are read as.
-use Rattle.std.proofs.Common.{◌≡◌, ◌≢◌, ℕ, zero, suc, ◌+◌, ◌<◌, ◌≤◌, ◌^◌, List, [], ◌∷◌, ◌++◌, length, map, fold, get_or, slice_get, Bool, true, false, Option, Some, None, unwrap_or, refl, ap, sym, ◌∙◌, arith, cond, subst, option_map}
+use Rattle.std.proofs.Common.{◌≡◌, ◌≢◌, ℕ, zero, suc, ◌+◌, ◌<◌, ◌≤◌, ◌^◌, List, [], ◌∷◌, length, map, fold, get_or, Bool, true, false, Option, Some, None, unwrap_or, refl, ap, sym, ◌∙◌, arith, cond, subst, option_map}
 use Rattle.std.proofs.lemmas.List.Elements.{All-head, All-tail}
 use Rattle.std.specs.List.{AllByRecursion, Contains}
 use Rattle.std.specs.List.Sorted.{IsStrictlySortedBy}
@@ -19,8 +19,9 @@ use Rattle.cell_tiles_merging.specs.Merging.{IsListing}
 use Rattle.cell_tiles_merging.proofs.ListingLemmas.{beside-merge}
 use Rattle.cell_tiles_texts.specs.JoinedTexts.{IsFaultyAtOnce, first_entry, tables_of}
 use Rattle.cell_tiles_texts.specs.MergedTables.{BeginsAbove, BeginsAt, first_count, merge_of, put_first, total_in}
-use Rattle.cell_tiles_texts.specs.parts.Steps.{sum_if_any, head_count, is_of, past, past_first, sum_of_counts}
-use Rattle.cell_tiles_texts.specs.parts.Taking.{HasTaken, IsStepFault, IsFaultOfText}
+use Rattle.cell_tiles_texts.specs.TextHeads.{sum_if_any, head_count, is_of, past, past_first, sum_of_counts}
+use Rattle.cell_tiles_texts.specs.JoinAnswers.{IsFaultOfText}
+use Rattle.cell_tiles_texts.specs.parts.Taking.{HasTaken, IsStepFault}
 use Rattle.cell_tiles_texts.specs.declared.join_fault.JoinFault.{JoinFault}
 use Rattle.cell_tiles_texts.specs.declared.join_fault.JoinFault.TheVariants.{Text, TooMany, TooLong, Memory, Write}
 use Rattle.cell_tiles_texts.proofs.FaultOrderLemmas.{all-on, none-before, places-kept, stops-first}
@@ -156,7 +157,7 @@ module _ (format : FormatValue) (k : Combination) where
   abbrev IsNotBefore : TextValue → Type 0
   IsNotBefore text = IfSome text.head (λ entry. combination_cmp entry.0 k ≢ Less)
 
-  begins : (texts : List TextValue) (readings : List TableReading) → map read texts ≡ map Some readings
+  pub begins : (texts : List TextValue) (readings : List TableReading) → map read texts ≡ map Some readings
       → All IsNotBefore texts → AllByRecursion IsListing (tables_of readings)
       → AllByRecursion (BeginsAt k) (tables_of readings)
   begins [] [] known least all = tt

@@ -1,4 +1,6 @@
 -- Texts of tables merged.
+pub mod JoinAnswers
 pub mod JoinedTexts
 pub mod MergedTables
+pub mod TextHeads
 pub mod parts

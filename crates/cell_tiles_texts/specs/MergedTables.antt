@@ -7,7 +7,7 @@ use Rattle.cell_stats.specs.CategoryTables.{Pairs}
 use Rattle.cell_tiles_law.specs.TableParts.{IsMerge}
 use Rattle.cell_tiles_merging.specs.Merging.{IsListing}
 use Rattle.cell_tiles_merging.specs.parts.Pairwise.{merged_of}
-use Rattle.cell_tiles_texts.specs.parts.Steps.{sum_if_any, is_of, past_first}
+use Rattle.cell_tiles_texts.specs.TextHeads.{sum_if_any, is_of, past_first}
 
 -- tables merged, each with all behind it
 abbrev pub merge_of : List Pairs → Pairs

@@ -4,11 +4,13 @@ ghost use Rattle.std.specs.Prelude.{◌≡◌, ◌≢◌, ◌≤◌, ◌^◌, Li
 ghost use Rattle.std.specs.List.{Contains};
 ghost use Rattle.std.specs.declared.cmp.Ordering.TheVariants.{Less};
 ghost use Rattle.cell_stats_combinations.specs.Combinations.{Combination, combination_cmp};
+ghost use Rattle.cell_tiles_lines.specs.LineLabels.{labelled_from};
 ghost use Rattle.cell_tiles_lines.specs.LineReading.{TableReading};
 ghost use Rattle.cell_tiles_lines.specs.TextReading.{combination_of, reading_from};
 ghost use Rattle.cell_tiles_texts.specs.JoinedTexts.{last_combination};
-ghost use Rattle.cell_tiles_texts.specs.parts.Steps.{IsBeyondCounts, sum_if_any, head_count, lesser_of, past, sum_of_counts};
-ghost use Rattle.cell_tiles_texts.specs.parts.Taking.{IsFaultOfText};
+ghost use Rattle.cell_tiles_texts.specs.TextHeads.{past_labelled, sum_if_any, head_count, past, sum_of_counts};
+ghost use Rattle.cell_tiles_texts.specs.parts.Steps.{IsBeyondCounts, lesser_of};
+ghost use Rattle.cell_tiles_texts.specs.JoinAnswers.{IsFaultOfText};
 
 use crate::join_fault::JoinFault;
 use cell_core::source::Source;
@@ -39,6 +41,8 @@ fn take<R: Source>(
     ensures count { IfOk result (λ count. count ≡ head_count combo.now text.old.head) }
     ensures taken { OnOk result (reading_from format.now text.new
         ≡ option_map (past combo.now) (reading_from format.now text.old)) }
+    ensures labelled { OnOk result (labelled_from format.now text.new
+        ≡ option_map (past_labelled combo.now) (labelled_from format.now text.old)) }
     ensures fault { IfErr result (λ fault. fault.kind ≢ TableKind.Memory
         → IfSome (reading_from format.now text.old) (λ reading. (reading.fault ≡ Some fault)
         × (last_combination reading.entries ≡ Some combo.now))) }
@@ -115,7 +119,7 @@ fn too_many(alloc: Global, combo: &Combo) -> JoinFault
 ///
 /// [`JoinFault::Text`] of the first text that has a fault behind its head, [`JoinFault::TooMany`] where the counts are
 /// beyond 64 bits, [`JoinFault::Memory`].
-pub(crate) fn take_all<R: Source>(
+pub fn take_all<R: Source>(
     alloc: Global,
     format: &Format,
     texts: &mut [TableText<R>],
@@ -125,6 +129,9 @@ pub(crate) fn take_all<R: Source>(
         ≡ sum_of_counts (map (λ text. head_count combo.now text.head) texts.old)) }
     ensures taken { OnOk result (map (λ text. reading_from format.now text) texts.new
         ≡ map (λ text. option_map (past combo.now) (reading_from format.now text)) texts.old) }
+    ensures labelled { OnOk result (map (λ text. labelled_from format.now text) texts.new
+        ≡ map (λ text. option_map (past_labelled combo.now) (labelled_from format.now text))
+        texts.old) }
     ensures fault { (readings : List TableReading)
         → map (λ text. reading_from format.now text) texts.old ≡ map Some readings
         → IfErr result (IsFaultOfText combo.now readings) }

@@ -7,11 +7,13 @@ ghost use Rattle.cell_stats_combinations.specs.Combinations.{combination_cmp};
 ghost use Rattle.cell_stats.specs.CategoryTables.{Pairs};
 ghost use Rattle.cell_core_devices.specs.Blocks.{Appends};
 ghost use Rattle.cell_core_devices.specs.Device.{Coming, append_known, has_failed};
+ghost use Rattle.cell_tiles_lines.specs.LineLabels.{labelled_from, labelled_in};
 ghost use Rattle.cell_tiles_lines.specs.LineReading.{TableReading};
 ghost use Rattle.cell_tiles_lines.specs.TableLines.{entries_text};
 ghost use Rattle.cell_tiles_lines.specs.TextReading.{combination_of, reading_from};
 ghost use Rattle.cell_tiles_texts.specs.JoinedTexts.{Give, HasWritten, AreJoinedTexts, IsFaultyAtOnce, IsJoinFault, IsMergeOf, readings_of, width_behind};
-ghost use Rattle.cell_tiles_texts.specs.parts.MergeEnds.{AreEnded, HasStepped, IsAnswered, IsMergeEnd, IsOpeningFault, settled};
+ghost use Rattle.cell_tiles_texts.specs.JoinAnswers.{IsAnswered, IsOpeningFault, settled};
+ghost use Rattle.cell_tiles_texts.specs.parts.MergeEnds.{AreEnded, HasStepped, IsMergeEnd};
 ghost use Rattle.cell_tiles_texts.specs.parts.Taking.{StepFails};
 
 use crate::entry_lines::write_entry;
@@ -47,8 +49,12 @@ fn width_behind(width: usize, head: &Option<(Combo, u64)>) -> usize
     }
 }
 
-// The texts of sources, of each of which the first entry was read.
-fn open_texts<R: Source + Drop>(
+/// The texts of sources, of each of which the first entry was read; all have as many cells as the first entry of all.
+///
+/// # Errors
+///
+/// [`JoinFault::Text`] of the first text whose first line is faulty, [`JoinFault::Memory`].
+pub fn open_texts<R: Source + Drop>(
     alloc: Global,
     format: &Format,
     sources: Vec<R>,
@@ -57,6 +63,10 @@ fn open_texts<R: Source + Drop>(
         → Give R.coming sources.items comings
         → map (λ text. reading_from format.now text) texts.items
         ≡ map Some (readings_of format.now comings)) }
+    ensures labelled { IfOk result (λ texts. (comings : List Coming)
+        → Give R.coming sources.items comings
+        → map (λ text. labelled_from format.now text) texts.items
+        ≡ map (λ coming. Some (labelled_in format.now coming.bytes)) comings) }
     ensures fault { IfErr result (λ fault. (comings : List Coming)
         → Give R.coming sources.items comings
         → IsOpeningFault (readings_of format.now comings) fault) }
@@ -77,8 +87,15 @@ fn open_texts<R: Source + Drop>(
     Ok(texts)
 }
 
-// A copy of the least combination that a text begins with; None where each is at its end.
-fn least_copy<R: Source>(alloc: Global, texts: &[TableText<R>]) -> Result<Option<Combo>, JoinFault>
+/// A copy of the least combination that a text begins with; None where each is at its end.
+///
+/// # Errors
+///
+/// [`JoinFault::Memory`].
+pub fn least_copy<R: Source>(
+    alloc: Global,
+    texts: &[TableText<R>],
+) -> Result<Option<Combo>, JoinFault>
     ensures least { IfOk result (λ least. MatchOption least
         (All (λ text. text.head ≡ None) texts.now)
         (λ combo. All (λ text. IfSome text.head (λ entry. combination_cmp entry.0 combo ≢ Less)) texts.now)) }
@@ -152,8 +169,12 @@ fn merge_texts<R: Source, W: Sink>(
     Err(JoinFault::TooLong)
 }
 
-// Puts what the block holds, unless a put was refused, and changes the answer where one is.
-fn settle<W: Sink>(
+/// Puts what the block holds, unless a put was refused, and changes the answer where one is.
+///
+/// # Errors
+///
+/// [`JoinFault::Write`] where a put was refused, and otherwise the fault that is given.
+pub fn settle<W: Sink>(
     merged: Result<(), JoinFault>,
     block: &mut OutputBlock,
     out: &mut W,
@@ -173,9 +194,9 @@ fn settle<W: Sink>(
     merged
 }
 
-// Flushes the sink unless it refused a put, and answers. A flush that fails turns what is done into a failed write, and
-// changes no other answer.
-fn finish<W: Sink>(merged: Result<(), JoinFault>, out: &mut W) -> Option<JoinFault>
+/// Flushes the sink unless it refused a put, and answers. A flush that fails turns what is done into a failed write, and
+/// changes no other answer.
+pub fn finish<W: Sink>(merged: Result<(), JoinFault>, out: &mut W) -> Option<JoinFault>
     ensures taken { W.taken out.new ≡ W.taken out.old }
     ensures answered { IsAnswered merged (W.faults out.old) (W.faults out.new) result }
 {

@@ -25,11 +25,11 @@ use Rattle.cell_tiles_texts_law.proofs.PartCellLemmas.{part-of-cells, whole-of-c
 use Rattle.cell_tiles_texts_law.proofs.PartEntryLemmas.{count-fits, entry-printed, entry-wide, table-length}
 
 -- a table that is read to its end
-abbrev table_read : Pairs → TableReading
+abbrev pub table_read : Pairs → TableReading
 table_read entries = record { entries = entries; fault = None }
 
 -- no width is known, or this one
-abbrev MayWant : ℕ → ℕ → Type 0
+abbrev pub MayWant : ℕ → ℕ → Type 0
 MayWant width wanted = (wanted ≡ 0) ⊎ (wanted ≡ width)
 
 first-wide : (width : ℕ) (es : Pairs) → All (λ entry. length entry.0 ≡ width) es
@@ -37,7 +37,7 @@ first-wide : (width : ℕ) (es : Pairs) → All (λ entry. length entry.0 ≡ wi
 first-wide width [] wide = inl refl
 first-wide width (e ∷ es) wide = inr (All-head (λ (entry : Combination × ℕ). length entry.0 ≡ width) e es wide)
 
-want-behind : (width wanted : ℕ) (es : Pairs) → All (λ entry. length entry.0 ≡ width) es → MayWant width wanted
+pub want-behind : (width wanted : ℕ) (es : Pairs) → All (λ entry. length entry.0 ≡ width) es → MayWant width wanted
     → MayWant width (width_behind wanted (first_entry es))
 want-behind width wanted es wide may = by (wanted == 0)
   where

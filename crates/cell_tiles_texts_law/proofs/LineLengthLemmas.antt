@@ -14,7 +14,7 @@ use Rattle.cell_stats_combinations.specs.Combinations.{Combination}
 use Rattle.cell_stats.specs.TableText.{FormatValue}
 use Rattle.cell_tiles_lines.specs.TableLines.{entry_fields}
 
-joined-more : (c : ℕ) (text : List ℕ) (texts : List (List ℕ))
+pub joined-more : (c : ℕ) (text : List ℕ) (texts : List (List ℕ))
     → length (join_with_byte c (text ∷ texts)) ≤ length text + 1 + length (join_with_byte c texts)
 joined-more c text [] = omega arith
 joined-more c text (next ∷ texts) = omega (arith, length-append text (c ∷ join_with_byte c (next ∷ texts)))
@@ -23,7 +23,7 @@ category-below : (n : ℤ) → is_category n ≡ true → mag n < 2147483648
 category-below (pos n) is = grind (arith, ints)
 category-below (negsuc n) is = grind (arith, ints)
 
-cell-length : (null_text : List ℕ) (cell : CellValue) → IsCell cell
+pub cell-length : (null_text : List ℕ) (cell : CellValue) → IsCell cell
     → length (cell_text null_text cell) ≤ max 11 (length null_text)
 cell-length null_text None is = omega arith
 cell-length null_text (Some n) is =

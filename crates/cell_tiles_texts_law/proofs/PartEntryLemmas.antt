@@ -36,9 +36,9 @@ counted-is P k (x ∷ cells) all some =
     ] refl
 
 -- an entry stands for cells: some, and so many
-record StandsFor (cells : List Combination) (entry : Combination × ℕ) : Type 0 where
-  some : 0 < entry.1
-  count : entry.1 ≡ count_of entry.0 cells
+pub record StandsFor (cells : List Combination) (entry : Combination × ℕ) : Type 0 where
+  pub some : 0 < entry.1
+  pub count : entry.1 ≡ count_of entry.0 cells
 
 each-stands : (skip : Skip) (cells : List Combination) (es : Pairs) → IsTable skip cells es → All (StandsFor cells) es
 each-stands skip cells es table i d within =
@@ -56,7 +56,7 @@ module _ (maps : List Grid) (picks : List ℕ) (rows cols : ℕ) (skip : Skip) w
   abbrev table : Pairs
   table = table_of skip cells
 
-  stands : All (StandsFor cells) table
+  pub stands : All (StandsFor cells) table
   stands = each-stands skip cells table (table_of-IsTable skip cells)
 
   pub count-fits : All (λ entry. entry.1 ≤ rows * cols) table
@@ -67,7 +67,7 @@ module _ (maps : List Grid) (picks : List ℕ) (rows cols : ℕ) (skip : Skip) w
       omega (arith, is.count, few, length_all maps picks cols rows)
 
   module _ (of_cells : All (IsOfCells picks) cells) where
-    entry-of-cells : All (λ entry. IsOfCells picks entry.0) table
+    pub entry-of-cells : All (λ entry. IsOfCells picks entry.0) table
     entry-of-cells i d within =
         let entry = get_or table i d in
         let is = stands i d within in

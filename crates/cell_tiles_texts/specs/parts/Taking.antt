@@ -1,14 +1,11 @@
 -- Entries of a merge that were taken from texts, one after the other.
-use Rattle.std.specs.Prelude.{ℕ, ◌≡◌, ◌<◌, ◌≤◌, ◌^◌, List, [], ◌++◌, map, slice_get, sum_by, Option, Some, None}
+use Rattle.std.specs.Prelude.{◌≡◌, ◌≤◌, ◌^◌, List, ◌++◌, map, sum_by, Option, Some}
 use Rattle.std.specs.List.{AllByRecursion}
 use Rattle.cell_stats.specs.CategoryTables.{Pairs}
-use Rattle.cell_stats_combinations.specs.Combinations.{Combination}
 use Rattle.cell_tiles_law.specs.TableParts.{count_in}
 use Rattle.cell_tiles_lines.specs.LineReading.{TableReading}
-use Rattle.cell_tiles_lines.specs.declared.table_fault.TableFault.{TableFault}
 use Rattle.cell_tiles_merging.specs.Merging.{IsListing}
-use Rattle.cell_tiles_texts.specs.JoinedTexts.{AreNoneBefore, HasFault, IsFirstFault, fault_place, tables_of}
-use Rattle.cell_tiles_texts.specs.parts.Steps.{past_first}
+use Rattle.cell_tiles_texts.specs.JoinedTexts.{AreNoneBefore, IsFirstFault, fault_place, tables_of}
 use Rattle.cell_tiles_texts.specs.MergedTables.{merge_of}
 use Rattle.cell_tiles_texts.specs.declared.join_fault.JoinFault.{JoinFault}
 use Rattle.cell_tiles_texts.specs.declared.join_fault.JoinFault.TheVariants.{Text, TooMany, TooLong, Memory, Write}
@@ -25,20 +22,6 @@ pub record HasTaken {X : Type 0} (read : X → Option TableReading) (readings : 
 -- the same of whatever texts are read as, in order
 abbrev pub TakesEntries : {X : Type 0} → (X → Option TableReading) → List X → List X → Pairs → Type 0
 TakesEntries read old new done = (readings : List TableReading) → map read old ≡ map Some readings → AllByRecursion IsListing (tables_of readings) → HasTaken read readings new done
-
--- the text at this place has a fault right behind the combination, and those before it went on behind theirs
-pub record StopsBehind (k : Combination) (readings : List TableReading) (text : ℕ) (fault : TableFault) : Type 0 where
-  pub has : HasFault readings text fault
-  pub place : slice_get (map fault_place readings) text ≡ Some (Some (Some k))
-  pub others : (other : ℕ) (reading : TableReading) → other < text → slice_get readings other ≡ Some reading → past_first k reading.entries ≡ [] → reading.fault ≡ None
-
--- of a fault of a text, that it stops there; of any other nothing
-abbrev pub IsFaultOfText : Combination → List TableReading → JoinFault → Type 0
-IsFaultOfText k readings (Text text fault) = StopsBehind k readings text fault
-IsFaultOfText k readings (TooMany j) = Unit {0}
-IsFaultOfText k readings TooLong = ⊥
-IsFaultOfText k readings Memory = Unit {0}
-IsFaultOfText k readings Write = ⊥
 
 -- why no more is taken
 abbrev pub IsStepFault : List TableReading → JoinFault → Type 0

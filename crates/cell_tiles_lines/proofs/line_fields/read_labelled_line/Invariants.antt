@@ -1,4 +1,4 @@
-use Rattle.std.proofs.Common.{◌≡◌, ℕ, length}
+use Rattle.std.proofs.Common.{◌≡◌, length}
 use Rattle.cell_tiles_lines.specs.LineFields.{labelled_entry_of_line}
 use Rattle.cell_tiles_lines.proofs.FieldLemmas.{with_cells}
 use Rattle.cell_tiles_lines.proofs.line_fields.read_labelled_line.Given as goal

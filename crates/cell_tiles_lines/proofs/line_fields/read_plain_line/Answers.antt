@@ -1,7 +1,6 @@
-use Rattle.std.proofs.Common.{rules, ◌≡◌, ◌++◌, [], ◌∷◌, Some, None, sym, ◌∙◌, ap, ◌==◌}
-use Rattle.std.specs.List.{before_first}
+use Rattle.std.proofs.Common.{rules, ◌≡◌, ◌++◌, [], ◌∷◌, Some, None, sym, ◌∙◌, ap}
 use Rattle.cell_tiles_lines.specs.LineFields.{cell_of_field, count_of_field, entry_of_line}
-use Rattle.cell_tiles_lines.proofs.FieldLemmas.{fields-start, fields-cell, fields-bad, fields-count, fields-no-count, with_cells}
+use Rattle.cell_tiles_lines.proofs.FieldLemmas.{fields-cell, fields-bad, fields-count, fields-no-count, with_cells}
 use Rattle.cell_tiles_lines.proofs.line_fields.read_plain_line.Goals as goal
 
 pub returns-in-None-clause-err : goal.returns-in-None-clause-err

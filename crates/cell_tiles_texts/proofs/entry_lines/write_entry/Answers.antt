@@ -1,4 +1,4 @@
-use Rattle.std.proofs.Common.{◌≡◌, flat_map, ap}
+use Rattle.std.proofs.Common.{flat_map, ap}
 use Rattle.cell_core_devices.proofs.BlockLemmas.{appends_then}
 use Rattle.cell_tiles_texts.specs.parts.EntryParts.{cell_and_separator}
 use Rattle.cell_tiles_texts.proofs.EntryLemmas.{entry-parts}

@@ -1,4 +1,4 @@
-use Rattle.std.proofs.Common.{◌≡◌, None, take, map, fold, option_map, arith, ap, ◌∙◌}
+use Rattle.std.proofs.Common.{None, map, fold, arith, ap, ◌∙◌}
 use Rattle.std.proofs.lemmas.List.{take_all}
 use Rattle.cell_tiles_lines.specs.TextReading.{combination_of}
 use Rattle.cell_tiles_texts.specs.parts.Steps.{lesser_of}

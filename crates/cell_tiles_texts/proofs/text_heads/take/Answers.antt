@@ -1,5 +1,5 @@
 use Rattle.std.proofs.Common.{◌≡◌, Some}
-use Rattle.cell_tiles_texts.specs.parts.Steps.{head_count}
+use Rattle.cell_tiles_texts.specs.TextHeads.{head_count}
 use Rattle.cell_tiles_texts.proofs.HeadLemmas.{taken-fault}
 use Rattle.cell_tiles_texts.proofs.text_heads.take.Goals as goal
 

@@ -1,6 +1,7 @@
 use Rattle.std.proofs.Common.{option_map, arith, ap, get_or}
+use Rattle.cell_tiles_lines.specs.LineLabels.{labelled_from}
 use Rattle.cell_tiles_lines.specs.TextReading.{reading_from}
-use Rattle.cell_tiles_texts.specs.parts.Steps.{head_count, past}
+use Rattle.cell_tiles_texts.specs.TextHeads.{past_labelled, head_count, past}
 use Rattle.cell_tiles_texts.proofs.FaultLemmas.{beyond-at, fault-at, text-fault}
 use Rattle.cell_tiles_texts.proofs.ListLemmas.{one-more}
 use Rattle.cell_tiles_texts.proofs.TakingLemmas.{no-entry}
@@ -8,12 +9,20 @@ use Rattle.cell_tiles_texts.proofs.text_heads.take_all.Goals as goal
 
 pub texts-preserved : goal.texts-preserved
 texts-preserved g c =
-    one-more (λ text. head_count c.args.combo.now text.head) (λ text. reading_from c.args.format.now text)
-    (λ text. option_map (past c.args.combo.now) (reading_from c.args.format.now text))
-    c.args.texts.now c.texts.texts c.texts.text (get_or c.texts.texts c.texts.text c.index-texts-text.result)
-    c.take.new.text c.texts.total c.in-Some.sum c.in-Ok.count (omega arith)
-    (ap (get_or c.texts.texts c.texts.text) c.index-texts-text.is) c.texts.invariant c.in-Ok.ensures.count
-    c.in-Ok.ensures.taken c.in-Some.ensures
+    let k = c.args.combo.now in
+    let format = c.args.format.now in
+    let inv = c.texts.invariant in
+    let x = get_or c.texts.texts c.texts.text c.index-texts-text.result in
+    let at = ap (get_or c.texts.texts c.texts.text) c.index-texts-text.is in
+    let step = one-more (λ text. head_count k text.head) (λ text. reading_from format text)
+    (λ text. option_map (past k) (reading_from format text)) c.args.texts.now c.texts.texts c.texts.text x c.take.new.text
+    c.texts.total c.in-Some.sum c.in-Ok.count (omega arith) at (inv.0, inv.1, inv.2) c.in-Ok.ensures.count
+    c.in-Ok.ensures.taken c.in-Some.ensures in
+    let labels = one-more (λ text. head_count k text.head) (λ text. labelled_from format text)
+    (λ text. option_map (past_labelled k) (labelled_from format text)) c.args.texts.now c.texts.texts c.texts.text x
+    c.take.new.text c.texts.total c.in-Some.sum c.in-Ok.count (omega arith) at (inv.0, inv.3, inv.2)
+    c.in-Ok.ensures.count c.in-Ok.ensures.labelled c.in-Some.ensures in
+    (step.0, step.1, step.2, labels.1)
 
 pub returns-in-Err-clause-fault : goal.returns-in-Err-clause-fault
 returns-in-Err-clause-fault g c = λ readings known.

@@ -1,6 +1,7 @@
-use Rattle.std.proofs.Common.{◌≡◌, ◌++◌, map, take, drop, option_map}
+use Rattle.std.proofs.Common.{◌≡◌, map, take, drop, option_map}
+use Rattle.cell_tiles_lines.specs.LineLabels.{labelled_from}
 use Rattle.cell_tiles_lines.specs.TextReading.{reading_from}
-use Rattle.cell_tiles_texts.specs.parts.Steps.{head_count, past, sum_of_counts}
+use Rattle.cell_tiles_texts.specs.TextHeads.{past_labelled, head_count, past, sum_of_counts}
 use Rattle.cell_tiles_texts.proofs.text_heads.take_all.Given as goal
 
 abbrev pub invariant-texts : goal.invariant-texts
@@ -9,3 +10,5 @@ invariant-texts g l =
     × (map (λ text. reading_from l.format text) (take l.text l.texts) ≡ map
     (λ text. option_map (past l.combo) (reading_from l.format text)) (take l.text l.initial.texts))
     × (drop l.text l.texts ≡ drop l.text l.initial.texts)
+    × (map (λ text. labelled_from l.format text) (take l.text l.texts) ≡ map
+    (λ text. option_map (past_labelled l.combo) (labelled_from l.format text)) (take l.text l.initial.texts))

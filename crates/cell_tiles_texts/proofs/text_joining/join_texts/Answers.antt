@@ -1,11 +1,10 @@
-use Rattle.std.proofs.Common.{◌≡◌, ◌≢◌, [], Some, None, Err, append-nil, refl, ap, sym, ◌∙◌, subst}
-use Rattle.std.specs.Prelude.{IfSome}
+use Rattle.std.proofs.Common.{◌≡◌, [], Some, Err, append-nil, ap, ◌∙◌, subst}
 use Rattle.cell_core_devices.specs.Blocks.{Appended}
 use Rattle.cell_core_devices.specs.Device.{has_failed}
 use Rattle.cell_core_devices.proofs.BlockLemmas.{appends_then}
 use Rattle.cell_tiles_lines.specs.TableLines.{entries_text}
 use Rattle.cell_tiles_texts.specs.JoinedTexts.{readings_of}
-use Rattle.cell_tiles_texts.specs.parts.MergeEnds.{IsAnswered, answered, settled}
+use Rattle.cell_tiles_texts.specs.JoinAnswers.{IsAnswered, answered, settled}
 use Rattle.cell_tiles_texts.specs.declared.join_fault.JoinFault.TheVariants.{Write}
 use Rattle.cell_tiles_texts.proofs.JoinLemmas.{fault-so, joined-so, no-fault-sound, opening-join, opening-written, wholly, write-failed, written-so}
 use Rattle.cell_tiles_texts.proofs.ReadingLemmas.{readings-listing}

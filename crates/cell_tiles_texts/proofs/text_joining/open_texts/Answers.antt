@@ -1,10 +1,11 @@
 use Rattle.std.proofs.Common.{rules, ◌≡◌, ◌++◌, ◌∷◌, [], ℕ, List, length, arith, ap, sym, ◌∙◌, subst}
 use Rattle.std.specs.Vec.Iter.{into_iter_items}
+use Rattle.cell_tiles_lines.specs.LineLabels.{labelled_from, labelled_in}
 use Rattle.cell_tiles_lines.specs.TextReading.{TextValue, reading_from}
 use Rattle.cell_tiles_texts.specs.JoinedTexts.{IsFirstFault, readings_of, width_behind}
-use Rattle.cell_tiles_texts.specs.parts.MergeEnds.{HasOpened}
+use Rattle.cell_tiles_texts.specs.parts.MergeEnds.{HasOpened, HasSeen}
 use Rattle.cell_tiles_texts.proofs.FaultLemmas.{opening-fault}
-use Rattle.cell_tiles_texts.proofs.OpeningLemmas.{no-more, opened-all, opened-more, opened-refused}
+use Rattle.cell_tiles_texts.proofs.OpeningLemmas.{no-more, opened-all, opened-more, opened-refused, seen-all, seen-more}
 use Rattle.cell_tiles_texts.proofs.TakingLemmas.{head-read, no-entry}
 use Rattle.cell_tiles_texts.proofs.text_joining.open_texts.Goals as goal
 
@@ -42,6 +43,12 @@ loop-source-preserved g c =
           subst (λ (texts : List TextValue). HasOpened g.R.Source.coming
           (λ (text : TextValue). reading_from format text) format left texts c.width_behind-width.result comings)
           (sym items) wide;
+      seen = λ comings give.
+          subst (λ (texts : List TextValue). HasSeen g.R.Source.coming (λ (text : TextValue). labelled_from format text)
+          (λ coming. labelled_in format coming.bytes) left texts comings) (sym items)
+          (seen-more g.R.Source.coming (λ (text : TextValue). labelled_from format text)
+          (λ coming. labelled_in format coming.bytes) c.in-Some.source left (into_iter_items at.source-iterator)
+          at.texts.items text comings is (at.invariant.seen comings give) c.in-Ok.ensures.labelled);
       len = let was = at.invariant.len in
           let gone = c.in-Some.ensures.steps.1 in
           let short = ap (λ l. length l) is in
@@ -56,3 +63,12 @@ returns-clause-read g c = λ comings give.
     let none : left ≡ [] = no-more left (sym at.invariant.len ∙ c.in-None.ensures.steps.0) in
     opened-all g.R.Source.coming (λ (text : TextValue). reading_from format text) format left at.texts.items at.width
     comings none (at.invariant.opened comings give)
+
+pub returns-clause-labelled : goal.returns-clause-labelled
+returns-clause-labelled g c = λ comings give.
+    let at = c.loop-source in
+    let format = c.args.format.now in
+    let left = into_iter_items at.source-iterator in
+    let none : left ≡ [] = no-more left (sym at.invariant.len ∙ c.in-None.ensures.steps.0) in
+    seen-all g.R.Source.coming (λ (text : TextValue). labelled_from format text) (λ coming. labelled_in format coming.bytes)
+    left at.texts.items comings none (at.invariant.seen comings give)

@@ -1,9 +1,9 @@
-use Rattle.std.proofs.Common.{rules, ◌≡◌, ◌<◌, Bool, true, false, length, sym, ◌∙◌, ap, arith, subst}
+use Rattle.std.proofs.Common.{◌≡◌, ◌<◌, Bool, true, false, length, sym, ◌∙◌, ap, subst}
 use Rattle.std.proofs.lemmas.Bool.{leb-false}
 use Rattle.std.specs.List.{position_or_len}
 use Rattle.std.specs.Option.{option_map}
 use Rattle.cell_tiles_lines.specs.LineReading.{is_line_feed}
-use Rattle.cell_tiles_lines.specs.SourceLines.{LinesValue, IsPassed, held_before, lines_coming}
+use Rattle.cell_tiles_lines.specs.SourceLines.{IsPassed, held_before, lines_coming}
 use Rattle.cell_tiles_lines.specs.declared.table_fault.TheConstants.{MOST_BYTES}
 use Rattle.cell_tiles_lines.proofs.LinePartLemmas.{whole-told, part-clean, part-same, long-told}
 use Rattle.cell_tiles_lines.proofs.source_lines.Lines.next_line.Goals as goal

@@ -1,4 +1,4 @@
-use Rattle.std.proofs.Common.{rules, ◌≡◌, ◌≢◌, ◌<◌, ◌-◌, ◌+◌, List, ℕ, [], ◌++◌, length, take, drop, sym, ◌∙◌, ap, arith, subst}
+use Rattle.std.proofs.Common.{◌≡◌, ◌≢◌, ◌<◌, ◌-◌, ◌+◌, List, ℕ, [], ◌++◌, length, take, drop, sym, ◌∙◌, ap, arith, subst}
 use Rattle.std.specs.List.{position_or_len, before_first, after_first}
 use Rattle.cell_tiles_lines.specs.LineReading.{is_line_feed}
 use Rattle.cell_tiles_lines.specs.SourceLines.{LinesValue}

@@ -1,4 +1,4 @@
-use Rattle.std.proofs.Common.{Option, subst, option_map}
+use Rattle.std.proofs.Common.{Option, subst}
 use Rattle.std.specs.Prelude.{IfSome, ◌≡◌}
 use Rattle.cell_stats_combinations.specs.Combinations.{Combination}
 use Rattle.cell_tiles_lines.specs.LineReading.{stopped}

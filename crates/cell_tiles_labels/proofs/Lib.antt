@@ -1,0 +1,4 @@
+pub mod LabelledStepLemmas
+pub mod LabelledEndLemmas
+pub mod LabelledJoinLemmas
+pub mod PlaceLemmas

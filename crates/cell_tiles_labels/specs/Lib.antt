@@ -1,0 +1,3 @@
+-- Texts of tables with labels joined.
+pub mod JoinedLabels
+pub mod parts

@@ -1,0 +1,2 @@
+pub mod LabelledLineLemmas
+pub mod LabelledPartLemmas

@@ -1,0 +1,2 @@
+-- Texts printed with labels of parts and joined.
+pub mod LabelledParts
