@@ -1,0 +1,114 @@
+#!/usr/bin/env python3
+"""Counts a map of more cells than one run takes by bands, joins them by rcell-join, and compares with what is known by its making.
+
+    beyond_bands.py [--rows N] [--cols N] [--height N] [--jobs N] [--rcell PROGRAM] [--program PROGRAM] [--folder F]
+
+The map, 62,000 x 65,000 where no numbers are given, is of blocks of 50 x 52 cells, one of 9 residues each: of the number of the block's
+row less that of its column. Residue 0 is null, the others are categories. So blocks of one category meet at corners alone, and by
+corners each diagonal is an area, whose cells are reckoned without a look at the map. Bands of 1,025 rows cut blocks and diagonals.
+Each band is written, counted and clumped by rcell, its edges are taken, and its texts are deleted: what stays of it is small. The map
+is that of python/bench/beyond.py. Seconds are of the processor; it needs Debian's package time.
+"""
+from __future__ import annotations
+
+import argparse
+import concurrent.futures
+import os
+import subprocess
+import sys
+import tempfile
+
+ROOT = os.path.dirname(os.path.dirname(os.path.abspath(__file__)))
+HEIGHT, WIDTH, RESIDUES = 50, 52, 9
+SCRIPTS = {"table": "r.stats -c input=m", "sizes": "r.clump -d input=m output=a\nr.stats -c input=a",
+           "numbers": "r.clump -d input=m output=a\nr.out.ascii input=a"}
+MILLION = 10**6
+
+
+class Costs:
+    """The seconds of each step, of all bands, and the most bytes that one of its processes took."""
+
+    def __init__(self, folder: str):
+        self.folder, self.steps = folder, {}
+
+    def run(self, step: str, words: list[str], output: str) -> None:
+        told = f"{self.folder}/{output}.cost"
+        with open(f"{self.folder}/{output}", "wb") as file:
+            subprocess.run(["/usr/bin/time", "-f", "%U %S %M", "-o", told, *words], cwd=self.folder, stdout=file, check=True)
+        with open(told, encoding="ascii") as file:
+            user, system, kilobytes = map(float, file.read().split())
+        seconds, memory = self.steps.get(step, (0, 0))
+        self.steps[step] = (seconds + user + system, max(memory, 1024 * kilobytes))
+
+
+def lines(cols: int) -> list[bytes]:
+    """The line of a row of blocks, by its residue."""
+    words = [b"*", *(b"%d" % residue for residue in range(1, RESIDUES))]
+    return [b" ".join(words[(down - col // WIDTH) % RESIDUES] for col in range(cols)) + b"\n" for down in range(RESIDUES)]
+
+
+def do_band(costs: Costs, given: argparse.Namespace, texts: list[bytes], band: int) -> None:
+    top, low = band * given.height, min((band + 1) * given.height, given.rows)
+    grid = f"{band:04d}.txt"
+    with open(f"{costs.folder}/{grid}", "wb") as file:
+        file.write(b"north: %d\nsouth: %d\neast: %d\nwest: 0\nrows: %d\ncols: %d\n" % (-top, -low, given.cols, low - top, given.cols))
+        file.writelines(texts[row // HEIGHT % RESIDUES] for row in range(top, low))
+    for step in SCRIPTS:
+        costs.run(step, [given.rcell, step, f"m={grid}"], f"{band:04d}.{step}")
+    costs.run("edges", [given.program, "edges", grid, f"{band:04d}.numbers"], f"{band:04d}.edges")
+    os.remove(f"{costs.folder}/{grid}")
+    os.remove(f"{costs.folder}/{band:04d}.numbers")
+
+
+def sides(cells: int, side: int) -> list[int]:
+    """The lengths of the blocks along one side of the map; the last may be cut."""
+    return [min(side, cells - begin) for begin in range(0, cells, side)]
+
+
+def known_table(heights: list[int], widths: list[int]) -> str:
+    high, wide = ([sum(lengths[residue::RESIDUES]) for residue in range(RESIDUES)] for lengths in (heights, widths))
+    cells = [sum(high[(residue + other) % RESIDUES] * wide[other] for other in range(RESIDUES)) for residue in range(RESIDUES)]
+    return "".join(f"{residue or '*'} {cells[residue]}\n" for residue in [*range(1, RESIDUES), 0])
+
+
+def known_sizes(heights: list[int], widths: list[int]) -> str:
+    """Those of the diagonals that begin in the first row of blocks, then of those that begin below it."""
+    begins = [(0, col) for col in range(len(widths))] + [(row, 0) for row in range(1, len(heights))]
+    sizes = [sum(high * wide for high, wide in zip(heights[row:], widths[col:])) for row, col in begins if (row - col) % RESIDUES]
+    return "".join(f"{number} {size}\n" for number, size in enumerate(sizes, 1))
+
+
+def main() -> int:
+    words = argparse.ArgumentParser(description="Counts a map of more cells than one run takes by bands, and joins them by rcell-join.")
+    for name, usual in (("rows", 62_000), ("cols", 65_000), ("height", 1025), ("jobs", 4)):
+        words.add_argument(f"--{name}", type=int, default=usual)
+    for name, usual in (("rcell", "rcell"), ("program", "rcell-join")):
+        words.add_argument(f"--{name}", type=os.path.abspath, default=f"{ROOT}/bin/{usual}")
+    words.add_argument("--folder", default=None, help="where bands are made")
+    given = words.parse_args()
+    heights, widths = sides(given.rows, HEIGHT), sides(given.cols, WIDTH)
+    with tempfile.TemporaryDirectory(prefix="beyond-", dir=given.folder) as folder:
+        costs, texts, bands = Costs(folder), lines(given.cols), range(-(-given.rows // given.height))
+        for step, script in SCRIPTS.items():
+            with open(f"{folder}/{step}", "w", encoding="ascii") as file:
+                file.write(script + "\n")
+        with concurrent.futures.ThreadPoolExecutor(given.jobs) as pool:
+            list(pool.map(lambda band: do_band(costs, given, texts, band), bands))
+        of = {ending: [f"{band:04d}.{ending}" for band in bands] for ending in ("table", "edges", "sizes")}
+        costs.run("rcell-join tables", [given.program, "tables", *of["table"]], "joined.table")
+        costs.run("rcell-join areas -d", [given.program, "areas", "-d", *of["edges"]], "joined")
+        costs.run("rcell-join sizes", [given.program, "sizes", "joined", *of["sizes"]], "joined.sizes")
+        wrong = 0
+        for name, known in (("joined.table", known_table(heights, widths)), ("joined.sizes", known_sizes(heights, widths))):
+            with open(f"{folder}/{name}", encoding="ascii") as file:
+                found = file.read()
+            wrong += found != known
+            lines_of = found.count("\n")
+            print(f"{name}: {lines_of:,} lines, {'all as known' if found == known else 'NOT AS KNOWN'}")
+    for step, (seconds, memory) in costs.steps.items():
+        print(f"{step}: {seconds:.1f} s, {memory / MILLION:.0f} MB")
+    return 1 if wrong else 0
+
+
+if __name__ == "__main__":
+    sys.exit(main())
