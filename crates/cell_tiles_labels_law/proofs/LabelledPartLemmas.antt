@@ -250,6 +250,7 @@ labelled-parts-join format picks rows cols whole most can parts are have cells s
 
 pub labelled-as-one : LabelledAsOne
 labelled-as-one format texts text join before now written joined =
-    let same = one-labelled format texts (readings-listing format 0 texts) join.merged join.merge before now written joined in
+    let same = one-labelled format texts (readings-listing format 0 texts) join.merged join.merge before now written
+    joined in
     let text_is : counted_text joined.merged ≡ text = ap counted_text same ∙ join.whole in
     (joined.taken ∙ ap (append_known before) text_is, joined.count ∙ ap (λ t. capped_count (length t)) text_is)
