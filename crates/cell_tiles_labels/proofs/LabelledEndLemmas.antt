@@ -7,7 +7,7 @@ use Rattle.cell_core_devices.specs.Blocks.{BlockValue}
 use Rattle.cell_core_devices.specs.Device.{Faults}
 use Rattle.cell_core_devices.proofs.BlockLemmas.{appends_none, appends_then}
 use Rattle.cell_stats.specs.TableText.{FormatValue}
-use Rattle.cell_tiles_lines.specs.LineLabels.{Labelled, labelled_from}
+use Rattle.cell_tiles_lines.specs.LineLabels.{Labelled}
 use Rattle.cell_tiles_lines.specs.LineReading.{TableReading}
 use Rattle.cell_tiles_lines.specs.TextReading.{TextValue, reading_from}
 use Rattle.cell_tiles_texts.specs.JoinedTexts.{AreNoneBefore, fault_place, tables_of}
@@ -49,9 +49,6 @@ other-whole readings after done wholes lefts told passed places so = record {
 module _ (format : FormatValue) where
   abbrev read : TextValue → Option TableReading
   read text = reading_from format text
-
-  abbrev lines_of : TextValue → Option (List Labelled)
-  lines_of text = labelled_from format text
 
   passes-none : (texts : List TextValue) → PassesLines format texts texts []
   passes-none texts wholes known = record { left = wholes; known = known; passed = none-passed wholes; own = tt }

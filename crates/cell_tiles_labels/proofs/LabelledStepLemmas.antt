@@ -11,11 +11,11 @@ use Rattle.cell_core_devices.specs.Device.{Coming}
 use Rattle.cell_stats_combinations.specs.Combinations.{Combination, combination_cmp}
 use Rattle.cell_stats_combinations.proofs.OrderLemmas.{combination_cmp-exact, is_equal}
 use Rattle.cell_stats.specs.TableText.{FormatValue}
-use Rattle.cell_tiles_lines.specs.LineLabels.{Labelled, before_count, labelled_from, labelled_from_head, labelled_head}
+use Rattle.cell_tiles_lines.specs.LineLabels.{Labelled, before_count, labelled_from, labelled_from_head}
 use Rattle.cell_tiles_lines.specs.TextReading.{TextValue}
 use Rattle.cell_tiles_texts.specs.TextHeads.{past_labelled}
 use Rattle.cell_tiles_labels.specs.JoinedLabels.{AreLabelledSo, HasLine, IsOfTexts, LabelledEntry, labelled_of}
-use Rattle.cell_tiles_labels.specs.parts.LabelSteps.{AgreesOn, ArePassed, IsReadPast, heads_of}
+use Rattle.cell_tiles_labels.specs.parts.LabelSteps.{AgreesOn, ArePassed, IsReadPast, heads_of, labelled_head}
 
 -- ---- lists
 

@@ -13,7 +13,7 @@ use Rattle.std.specs.Cmp.{tied_itself}
 use Rattle.cell_stats_combinations.specs.Combinations.{Combination, combination_cmp, combination_cmp_total}
 use Rattle.cell_stats_combinations.proofs.OrderLemmas.{combination_cmp-exact, is_equal}
 use Rattle.cell_stats.specs.TableText.{FormatValue}
-use Rattle.cell_tiles_lines.specs.LineLabels.{Labelled, before_count, labelled_head}
+use Rattle.cell_tiles_lines.specs.LineLabels.{Labelled, before_count}
 use Rattle.cell_tiles_lines.specs.TextReading.{TextValue, combination_of, reading_from}
 use Rattle.cell_tiles_texts.specs.JoinedTexts.{AreNoneBefore, fault_place}
 use Rattle.cell_tiles_texts.proofs.FaultOrderLemmas.{all-on, none-before}
@@ -23,7 +23,7 @@ use Rattle.cell_tiles_labels.specs.parts.LabelEnds.{StopsAtLabels}
 use Rattle.cell_tiles_labels.specs.declared.label_fault.OtherLabel.{OtherLabel}
 use Rattle.cell_tiles_labels.proofs.LabelledStepLemmas.{head-at}
 use Rattle.cell_tiles_labels.specs.parts.LabelSteps.{AgreesOn, AllAgree, DifferAt, heads_of, goes_on_with, is_other}
-use Rattle.cell_tiles_labels.specs.parts.LabelSteps.{is_combination}
+use Rattle.cell_tiles_labels.specs.parts.LabelSteps.{is_combination, labelled_head}
 
 -- ---- the first place of a text that passes a test
 

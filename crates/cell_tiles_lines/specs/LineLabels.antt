@@ -39,10 +39,6 @@ labelled_in_lines format (line ∷ next ∷ lines) = labelled_then format line (
 abbrev pub labelled_in : FormatValue → List ℕ → List Labelled
 labelled_in format bytes = labelled_in_lines format (slice_split is_line_feed bytes)
 
--- what the line of a head has, where there is a head
-abbrev pub labelled_head : FormatValue → TextValue → Option Labelled
-labelled_head format text = option_map (λ entry. (entry.0, before_count format.separator text.line)) text.head
-
 -- what a head's line and those behind it have, and nothing where there is no head
 abbrev pub labelled_from_head : FormatValue → Option (Combination × ℕ) → List ℕ → Coming → List Labelled
 labelled_from_head format None line coming = []

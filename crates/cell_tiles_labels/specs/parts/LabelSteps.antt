@@ -6,7 +6,7 @@ use Rattle.cell_core_devices.specs.Blocks.{BlockValue, Appends}
 use Rattle.cell_core_devices.specs.Device.{Faults}
 use Rattle.cell_stats_combinations.specs.Combinations.{Combination, combination_cmp}
 use Rattle.cell_stats.specs.TableText.{FormatValue}
-use Rattle.cell_tiles_lines.specs.LineLabels.{Labelled, before_count, labelled_from, labelled_head}
+use Rattle.cell_tiles_lines.specs.LineLabels.{Labelled, before_count, labelled_from}
 use Rattle.cell_tiles_lines.specs.TextReading.{TextValue, combination_of, reading_from}
 use Rattle.cell_tiles_texts.specs.TextHeads.{past_labelled}
 use Rattle.cell_tiles_texts.specs.parts.Taking.{TakesEntries}
@@ -29,6 +29,10 @@ is_other format k labelled text = goes_on_with k text && not (bytes_eq (before_c
 abbrev pub AgreesOn : Combination → List ℕ → Option Labelled → Type 0
 AgreesOn k labelled None = Unit {0}
 AgreesOn k labelled (Some line) = line.0 ≡ k → line.1 ≡ labelled
+
+-- what the line of a head has, where there is a head
+abbrev pub labelled_head : FormatValue → TextValue → Option Labelled
+labelled_head format text = option_map (λ entry. (entry.0, before_count format.separator text.line)) text.head
 
 abbrev pub heads_of : FormatValue → List TextValue → List (Option Labelled)
 heads_of format texts = map (labelled_head format) texts
