@@ -29,17 +29,38 @@ pub(crate) fn expect_as_whole<R: Abort + AllocGlobal>(
     Ok(())
 }
 
-#[test]
-fn random_maps_in_every_grid(rt: HostRuntime) -> Result<(), Fail> {
-    let mut seed = 2026u64;
-    for rows in 1..6u32 {
-        for cols in 1..6u32 {
+// Maps of up to six rows and columns with two, three or four categories, each in every grid: 23,814 grids.
+fn expect_random_maps<R: Abort + AllocGlobal>(rt: &R, mut seed: u64) -> Result<(), Fail> {
+    for rows in 1..7u32 {
+        for cols in 1..7u32 {
             for kinds in 2..5u64 {
                 let count = (rows * cols) as usize;
                 let categories = categories_by(rt.alloc(), &mut seed, count, kinds)?;
-                expect_as_whole(&rt, &categories, rows, cols)?;
+                expect_as_whole(rt, &categories, rows, cols)?;
             }
         }
     }
     Ok(())
+}
+
+// Four tests and not one, since a test has a minute.
+
+#[test]
+fn random_maps_in_every_grid(rt: HostRuntime) -> Result<(), Fail> {
+    expect_random_maps(&rt, 2026)
+}
+
+#[test]
+fn other_maps_in_every_grid(rt: HostRuntime) -> Result<(), Fail> {
+    expect_random_maps(&rt, 1969)
+}
+
+#[test]
+fn more_maps_in_every_grid(rt: HostRuntime) -> Result<(), Fail> {
+    expect_random_maps(&rt, 31)
+}
+
+#[test]
+fn still_more_maps_in_every_grid(rt: HostRuntime) -> Result<(), Fail> {
+    expect_random_maps(&rt, 65535)
 }
