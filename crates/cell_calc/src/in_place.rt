@@ -11,6 +11,14 @@ use cell_calc_windows::window::RowWindow;
 use cell_core::memory::Memory;
 use std::alloc::Global;
 
+// So many steps for each map have to be saved, so that stretches cost less to find than they save.
+const STEPS_A_WINDOW: usize = 16;
+
+// Whether an expression has enough steps for its maps.
+fn is_long(steps: &[Step<usize>], windows: &[RowWindow]) -> bool {
+    steps.len() / STEPS_A_WINDOW >= windows.len()
+}
+
 // Whether a step makes the same of the same cells at each column of a row.
 fn is_in_place(step: Step<usize>) -> bool
     ensures { result ≡ true → IsInPlace step }
@@ -46,7 +54,7 @@ pub(crate) fn few_stretches(
     ensures stretches { IfOk result
         (λ found. IfSome found (λ widths. AreStretches cols windows.now widths.items)) }
 {
-    if are_changing(windows) || !are_in_place(steps) {
+    if !is_long(steps, windows) || are_changing(windows) || !are_in_place(steps) {
         return Ok(None);
     }
     let found = stretches_of(alloc, windows, cols)?;
