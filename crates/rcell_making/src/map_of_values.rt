@@ -6,8 +6,8 @@ ghost use Rattle.rcell_making.specs.Making.{AreValues};
 ghost use Rattle.rcell_making.specs.parts.WindowsSet.{AreMapPlaces, AreSet, HasValues, picked_maps};
 
 use cell_calc::rows_of_values::eval_row;
-use cell_calc_windows::window::RowWindow;
 use cell_calc_binding::bound::Bound;
+use cell_calc_windows::window::RowWindow;
 use cell_core::cell::Cell;
 use cell_core::map::{CellMap, MapBuilder};
 use cell_core::memory::Memory;
