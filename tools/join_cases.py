@@ -27,18 +27,21 @@ def of_words() -> Iterator[Case]:
     one = {b"a": b"1 5\n"}
     for words in ([], [b""], [b"--help"], [b"-d"], [b"Tables", b"a"], [b"table", b"a"], [b"-d", b"areas", b"a"], [b"tables", b"\xff"], [b"\xe4", b"a"]):
         yield f"misuse {words}", words, one, told(b"arguments", 0, USAGE, 2)
-    for command, *words in ([b"tables"], [b"tables", b"separator=comma"], [b"tables", b"-l", b"a"], [b"tables", b"-d", b"a"], [b"tables", b"a", b"-"],
+    for command, *words in ([b"tables"], [b"tables", b"separator=comma"], [b"tables", b"-l"], [b"tables", b"-l", b"separator=comma"], [b"tables", b"-ll", b"a"], [b"tables", b"-cl", b"a"], [b"tables", b"-d", b"a"], [b"tables", b"a", b"-"],
                             [b"edges"], [b"edges", b"a"], [b"edges", b"a", b"a", b"a"], [b"edges", b"-d", b"a", b"a"], [b"edges", b"a", b"--"],
                             [b"areas"], [b"areas", b"-d"], [b"areas", b"-d", b"-d"], [b"areas", b"-dd", b"a"], [b"areas", b"-", b"a"],
                             [b"areas", b"a", b"-x"], [b"areas", b"--", b"a"], [b"sizes"], [b"sizes", b"a"], [b"sizes", b"separator=comma", b"a"],
-                            [b"sizes", b"-d", b"a", b"a"], [b"sizes", b"a", b"a", b"--"], [b"sizes", b"separator=ab", b"a"]):
+                            [b"sizes", b"-d", b"a", b"a"], [b"sizes", b"-l", b"separator=comma", b"a", b"a"], [b"areas", b"-l", b"a"], [b"sizes", b"a", b"a", b"--"], [b"sizes", b"separator=ab", b"a"]):
         yield f"misuse {[command, *words]}", [command, *words], one, told(b"arguments", 0, USAGES[command], 2)
     bad = [[it] for it in (b"separator=ab", b"separator=1", b"separator=-", b"separator=", b"null_value=5", b"null_value=-5", b"null_value=", b"separator=*")]
     bad += [[b"separator=comma"] * 2, [b"null_value=x"] * 2, [b"separator=x", b"null_value=axb"], [b"null_value=" + b"x" * 65]]
     for options in bad:
         for command in (b"tables", b"sizes"):
             yield f"bad option {command!r} {options}", [command, b"a", *options, b"a"], one, told(b"arguments", 0, b"bad option", 2)
-    for words, missing in (([b"tables", b"a", b"nowhere"], b"nowhere"), ([b"edges", b"a", b"nowhere"], b"nowhere"), ([b"edges", b"no", b"nowhere"], b"no"),
+    for options in ([], [b"separator=space"], [b"separator=d"], [b"separator=t", b"null_value=x"], [b"null_value=x"], [b"separator=;", b"separator=;"]):
+        yield f"bad option with labels {options}", [b"tables", b"-l", *options, b"a"], one, told(b"arguments", 0, b"bad option", 2)
+    for words, missing in (([b"tables", b"separator=d", b"nowhere", b"a"], b"nowhere"), ([b"tables", b"-l", b"separator=;", b"a", b"nowhere"], b"nowhere"),
+                           ([b"tables", b"a", b"nowhere"], b"nowhere"), ([b"edges", b"a", b"nowhere"], b"nowhere"), ([b"edges", b"no", b"nowhere"], b"no"),
                            ([b"edges", b"separator=comma", b"a"], b"separator=comma"), ([b"areas", b"a", b"nowhere"], b"nowhere"),
                            ([b"areas", b"a", b"null_value=5"], b"null_value=5"), ([b"sizes", b"no", b"a"], b"no"), ([b"sizes", b"a", b"no", b"nowhere"], b"no")):
         yield f"no file {words}", words, one, told(missing, 0, b"cannot open", 4)
@@ -68,6 +71,45 @@ def of_tables() -> Iterator[Case]:
     yield "beyond the greatest count", join, {b"a": b"0 1\n" + great, b"b": one}, told(b"output", 0, b"count too great for 1", output=b"0 1\n")
     yield "beyond it, of several maps", join, {b"a": wide, b"b": b"0 1 * 3 1\n"}, told(b"output", 0, b"count too great for 0 1 * 3")
     yield "a folder as a table of a map", [b"tables", b"."], {b".": FOLDER}, told(b".", 1, b"read failed", 4)
+
+
+def of_labels() -> Iterator[Case]:
+    north, south = b"1;forest;5\n3;;2\n*;no data;4\n", b"1;forest;7\n2;lake;1\n"
+    files, join = {b"a": north, b"b": south}, [b"tables", b"-l", b"separator=;", b"a", b"b"]
+    joined = b"1;forest;12\n2;lake;1\n3;;2\n*;no data;4\n"
+    for words in (join, [*join[:1], *join[2:], b"-l"], [b"tables", b"a", b"-l", b"b", b"separator=;", b"-l"]):
+        yield f"labels {words}", words, files, (0, joined, b"")
+    yield "a path with a flag before it", [*join[:3], b"./-l"], {b"./-l": north}, (0, north, b"")
+    yield "labels of a text twice", [*join[:4], b"a"], files, (0, b"1;forest;10\n3;;4\n*;no data;8\n", b"")
+    yield "labels and an empty table", join, {b"a": b"", b"b": south}, (0, south, b"")
+    yield "labels of two maps", join, {b"a": b"1;wood;-2;clay;1\n*;no data;7;;3\n", b"b": b"1;wood;-2;clay;4\n"}, (0, b"1;wood;-2;clay;5\n*;no data;7;;3\n", b"")
+    comma = {name: text.replace(b";", b",").replace(b"*", b"NA") for name, text in files.items()}
+    yield "labels with other separators", [b"tables", b"null_value=NA", b"separator=comma", b"-l", b"a", b"b"], comma, (
+        0, joined.replace(b";", b",").replace(b"*", b"NA"), b"")
+    yield "blanks and other bytes in labels", join, {b"a": b"1; a\t\xff\0b ;2\n", b"b": b"1; a\t\xff\0b ;3\n"}, (0, b"1; a\t\xff\0b ;5\n", b"")
+    yield "labels like numbers", join, {b"a": b"1;01;2\n2;*;1\n", b"b": b"1;01;3\n"}, (0, b"1;01;5\n2;*;1\n", b"")
+    for label, other in ((b"clay", b"loam"), (b"clay", b""), (b"", b"clay"), (b"clay", b"clay soil"), (b"clay", b"Clay"), (b"a b", b"a  b"), (b"7", b"07")):
+        texts = {b"a": b"2;lake;5;%s;2\n" % label, b"b": b"1;forest;5;clay;7\n2;lake;5;%s;1\n3;;5;clay;9\n" % other}
+        yield f"two labels {label!r}, {other!r}", join, texts, told(b"b", 2, b"two labels for 5: %s and %s" % (label, other), output=b"1;forest;5;clay;7\n")
+    yield "two labels in the first column", join, {b"a": b"-2;lake;5;clay;2\n", b"b": b"-2;pond;5;loam;2\n"}, told(b"b", 1, b"two labels for -2: lake and pond")
+    yield "two labels behind null", join, {b"a": b"*;no data;5;clay;2\n", b"b": b"*;no data;5;loam;2\n"}, told(b"b", 1, b"two labels for 5: clay and loam")
+    yield "two labels that are not UTF-8", join, {b"a": b"1;\xffx;1\n", b"b": b"1;\xc3\xa9\xe2\x82;1\n"}, told(
+        b"b", 1, b"two labels for 1: \xef\xbf\xbdx and \xc3\xa9\xef\xbf\xbd")
+    yield "the first text with another label", [*join, b"c", b"d"], {b"a": b"2;x;1\n", b"b": b"1;x;1\n", b"c": b"1;y;1\n", b"d": b"1;z;1\n"}, told(
+        b"c", 1, b"two labels for 1: x and y")
+    yield "a category of two combinations", join, {b"a": b"1;x;1;x;2\n", b"b": b"1;y;2;x;3\n"}, (0, b"1;x;1;x;2\n1;y;2;x;3\n", b"")
+    yield "two labels before a fault", join, {b"a": b"1;x;1\n2;y\n", b"b": b"1;y;1\n"}, told(b"b", 1, b"two labels for 1: x and y")
+    yield "a fault before two labels", join, {b"a": b"1;x;1\n2;y\n", b"b": b"3;x;1\n"}, told(b"a", 2, b"bad count")
+    yield "two labels, and too great a count", join, {b"a": b"1;x;%d\n" % GREATEST_COUNT, b"b": b"1;y;1\n"}, told(b"b", 1, b"two labels for 1: x and y")
+    yield "labels beyond the greatest count", join, {b"a": b"1;x;%d\n" % GREATEST_COUNT, b"b": b"1;x;1\n"}, told(b"output", 0, b"count too great for 1")
+    for text, line, wrong in ((b"bad count", 1, b"1;5\n"), (b"bad count", 1, b"1;forest\n"), (b"bad count", 1, b"1;forest;0\n"), (b"bad count", 1, b"1;a;b;5\n"),
+                              (b"bad cell", 1, b"1;a;b;c;5\n"), (b"bad cell", 1, b"*;nothing;4\n"), (b"bad cell", 1, b"*;;4\n"), (b"bad cell", 2, b"1;a;4\n02;forest;4\n"),
+                              (b"other number of cells", 1, b"5\n"), (b"other number of cells", 2, b"1;a;5\n2;a;2;b;5\n"),
+                              (b"combination listed twice", 2, b"1;a;5\n1;b;5\n"), (b"combination out of order", 2, b"2;a;5\n1;b;5\n"),
+                              (b"line cut off", 1, b"1;forest;5"), (b"line too long", 1, b"1;" + b"x" * 4097 + b";5\n")):
+        yield f"with labels, {text.decode()}, line {line} of {wrong[:30]!r}", [*join[:3], b"b"], {b"b": wrong}, told(b"b", line, text)
+    yield "labels without the flag", [b"tables", b"separator=;", b"a"], files, told(b"a", 1, b"bad cell")
+    yield "a folder as a table with labels", [*join[:3], b"."], {b".": FOLDER}, told(b".", 1, b"read failed", 4)
 
 
 def of_edges() -> Iterator[Case]:
@@ -186,5 +228,5 @@ def of_sizes() -> Iterator[Case]:
 
 
 def named_cases() -> Iterator[Case]:
-    for cases in (of_words, of_tables, of_edges, of_areas, of_sizes):
+    for cases in (of_words, of_tables, of_labels, of_edges, of_areas, of_sizes):
         yield from cases()

@@ -5,26 +5,38 @@ import random
 from dataclasses import dataclass
 from typing import Callable
 
-from join_model import Format
+from join_model import NULL_LABEL, Format, Labels
 from model_grids import COORDINATE_UNIT, Cell, CellMap, Region
 
 Rows = list[list[Cell]]
 Named = list[tuple[bytes, bytes]]  # names of files with their texts
+Cells = tuple[tuple[bool, int], ...]  # each with whether it is null first
 
-FORMATS = [(Format(), []), (Format(b"|", b"NA"), [b"separator=pipe", b"null_value=NA"]), (Format(b","), [b"separator=,"])]
+FORMATS = [(Format(), []), (Format(b"|", b"NA"), [b"separator=pipe", b"null_value=NA"]), (Format(b","), [b"separator=,"]),
+           (Format(b";", labels=True), [b"-l", b"separator=;"]), (Format(b"|", b"NA", True), [b"separator=pipe", b"-l", b"null_value=NA"])]
+LABELS = [b"", b"forest", b"forest edge", b"17", b"*", b"no data", b"\xc3\xa9t\xc3\xa9", b"\xff\xc3"]
 
 
 # Tables
 
 
+def labels_of(draw: random.Random, form: Format, cells: Cells, strange: float) -> Labels:
+    """The labels of cells, which all texts have, but others now and then."""
+    if not form.labels:
+        return ()
+    usual = [NULL_LABEL if is_null else LABELS[(category + 3 * column) % len(LABELS)] for column, (is_null, category) in enumerate(cells)]
+    return tuple(draw.choice(LABELS) if draw.random() < strange else label for label in usual)
+
+
 def random_files(draw: random.Random, form: Format) -> Named:
     """Texts of tables at random, of which one in three is damaged."""
-    width, cells = draw.randint(1, 4), draw.choice([2, 3, 9])
+    width, cells, strange = draw.randint(1, 4), draw.choice([2, 3, 9]), draw.choice([0, 0, 0.03])
     files = []
     for place in range(draw.randint(1, 6)):
         keys = {tuple((True, 0) if draw.random() < 0.2 else (False, draw.randint(-cells, cells)) for _ in range(width)) for _ in range(draw.randint(0, 12))}
         counts = [draw.choice([1, 7, 10**6, 2**63]) if draw.random() < 0.05 else draw.randint(1, 99) for _ in keys]
-        files.append((b"t%d" % place, b"".join(map(form.printed, sorted(zip(keys, counts))))))
+        entries = sorted(zip(keys, counts))
+        files.append((b"t%d" % place, b"".join(form.printed(it, labels_of(draw, form, it[0], strange)) for it in entries)))
     if draw.random() < 0.33:
         at = draw.randrange(len(files))
         name, text = files[at]
@@ -39,7 +51,8 @@ def long_files(draw: random.Random, form: Format) -> Named:
     for place in range(draw.randint(1, 5)):
         keys = {tuple((True, 0) if draw.random() < 0.05 else (False, draw.randint(-greatest, greatest)) for _ in range(width))
                 for _ in range(draw.choice([3, 1500, 9000]))}
-        files.append((b"t%d" % place, b"".join(form.printed((key, draw.choice([1, 99, 10**9]))) for key in sorted(keys))))
+        entries = [(key, draw.choice([1, 99, 10**9])) for key in sorted(keys)]
+        files.append((b"t%d" % place, b"".join(form.printed(it, labels_of(draw, form, it[0], 0)) for it in entries)))
     if draw.random() < 0.33:
         name, text = files[-1]
         files[-1] = name, damaged(draw, text, form.separator)
@@ -60,6 +73,22 @@ def damaged(draw: random.Random, text: bytes, separator: bytes = b" ") -> bytes:
         return b"".join(lines[: draw.randint(0, len(lines))])
     draw.shuffle(lines)
     return b"".join(lines if kind == 4 else lines + lines[:1])
+
+
+# Maps with labels
+
+
+def labelling(draw: random.Random, whole: CellMap) -> tuple[bytes, list[bytes]]:
+    """A script that gives the categories of a map labels and prints its table with them, and the options by which such tables are joined."""
+    cells = sorted({cell for row in whole.rows for cell in row if cell is not None})
+    rules = [b"* = *" if draw.random() < 0.5 else b"* = 5 the rest"]
+    for cell in draw.sample(cells, draw.randint(0, min(len(cells), 6))):
+        made = draw.choice([b"1 forest", b"2", b"3 wood, and water", b"-4 \xc3\xa9t\xc3\xa9", b"NULL", b"6 no data"])
+        rules.append(b"%d = %s" % (cell, made))
+    options = draw.choice([[b"separator=;"], [b"null_value=NA", b"separator=|"], [b"separator=tab"]])
+    names = draw.choice([b"c", b"c,m", b"m,c"])
+    script = b"r.reclass input=m output=c\n" + b"".join(rule + b"\n" for rule in rules) + b"end\n"
+    return script + b"r.stats -cl %s input=%s\n" % (b" ".join(options), names), [b"-l", *options]
 
 
 # Maps

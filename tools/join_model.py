@@ -16,10 +16,11 @@ Reply = tuple[int, bytes, bytes]  # the status, the output and what is told
 
 MOST_BYTES, GREATEST_COUNT, GREATEST_CATEGORY = 4096, 2**64 - 1, 2**31 - 1
 USAGE = b"usage: rcell-join (tables|edges|areas|sizes) ..."
-USAGES = {b"tables": b"usage: rcell-join tables [separator=S] [null_value=N] FILE...", b"edges": b"usage: rcell-join edges MAP NUMBERS",
+USAGES = {b"tables": b"usage: rcell-join tables [-l] [separator=S] [null_value=N] FILE...", b"edges": b"usage: rcell-join edges MAP NUMBERS",
           b"areas": b"usage: rcell-join areas [-d] EDGES...",
           b"sizes": b"usage: rcell-join sizes [separator=S] [null_value=N] JOINED TABLE..."}
 VISIBLE = re.compile(rb"[!-~]{1,64}")
+NULL_LABEL = b"no data"
 SEPARATORS = {b"pipe": b"|", b"comma": b",", b"space": b" ", b"tab": b"\t"}
 
 
@@ -37,21 +38,27 @@ class Fault(Exception):
 # Tables
 
 Entry = tuple[tuple[tuple[bool, int], ...], int]  # cells, each with whether it is null first, and their count
+Labels = tuple[bytes, ...]  # one behind each cell
 
 
 @dataclass(frozen=True)
 class Format:
     separator: bytes = b" "
     null_text: bytes = b"*"
+    labels: bool = False
 
     def is_clear(self) -> bool:
         """Whether fields printed so can be told apart."""
         is_in_number = self.separator.isdigit() or self.separator == b"-"
-        return not is_in_number and self.separator not in self.null_text and not is_category(self.null_text)
+        is_in_label = self.labels and self.separator in NULL_LABEL
+        return not is_in_number and not is_in_label and self.separator not in self.null_text and not is_category(self.null_text)
 
-    def printed(self, entry: Entry) -> bytes:
+    def printed(self, entry: Entry, labels: Labels = ()) -> bytes:
         cells, count = entry
-        return self.separator.join([*(self.null_text if is_null else b"%d" % cell for is_null, cell in cells), b"%d" % count]) + b"\n"
+        fields = [self.null_text if is_null else b"%d" % cell for is_null, cell in cells]
+        if self.labels:
+            fields = [field for pair in zip(fields, labels) for field in pair]
+        return self.separator.join([*fields, b"%d" % count]) + b"\n"
 
 
 def is_category(field: bytes) -> bool:
@@ -60,29 +67,33 @@ def is_category(field: bytes) -> bool:
 
 
 class TableText:
-    """A text of a table that is read line by line: its head is the entry that was read last, None at its end."""
+    """A text of a table that is read line by line: its head is the entry that was read last, None at its end, with its labels."""
 
     def __init__(self, name: bytes, given: bytes | Failing, width: int, form: Format):
         self.name, self.width, self.form, self.number = name, width, form, 0
         self.fails = isinstance(given, Failing)
         self.left = given.text if isinstance(given, Failing) else given
         self.head: Optional[Entry] = None
+        self.labels: Labels = ()
         self.next()
 
     def fault(self, text: bytes, status: int = 1) -> Fault:
         return Fault(self.name, self.number, text, status)
 
-    def cell_of(self, field: bytes) -> tuple[bool, int]:
-        if field == self.form.null_text:
+    def cell_of(self, field: bytes, label: bytes = NULL_LABEL) -> tuple[bool, int]:
+        if field == self.form.null_text and label == NULL_LABEL:
             return (True, 0)
         if not is_category(field):
             raise self.fault(b"bad cell")
         return (False, int(field))
 
     def entry_of(self, line: bytes) -> Entry:
+        """The cells of a line and its count; its labels are kept."""
         *fields, last = line.split(self.form.separator)
-        cells = tuple(self.cell_of(it) for it in fields)
-        if not last.isdigit() or last != b"%d" % int(last) or not 0 < int(last) <= GREATEST_COUNT:
+        step = 2 if self.form.labels else 1
+        cells = tuple(self.cell_of(*fields[at : at + step]) for at in range(0, len(fields) // step * step, step))
+        self.labels = tuple(fields[1::2]) if self.form.labels else ()
+        if len(fields) % step or not last.isdigit() or last != b"%d" % int(last) or not 0 < int(last) <= GREATEST_COUNT:
             raise self.fault(b"bad count")
         return cells, int(last)
 
@@ -126,16 +137,31 @@ def tables(form: Format, names: list[bytes], given: list[bytes | Failing]) -> by
     try:
         while heads := [it.head[0] for it in texts if it.head]:
             least, total = min(heads), 0
+            labels = labels_of([it for it in texts if it.head and it.head[0] == least])
             for it in texts:
                 if it.head and it.head[0] == least:
                     count = it.head[1]
                     it.next()
                     total = added(total, count, b" ".join(b"*" if is_null else b"%d" % cell for is_null, cell in least))
-            output += form.printed((least, total))
+            output += form.printed((least, total), labels)
     except Fault as fault:
         fault.output = output
         raise
     return output
+
+
+def labels_of(texts: list[TableText]) -> Labels:
+    """The labels that texts have for the combination that they all go on with; the first text that has others is told."""
+    labels = texts[0].labels
+    for it in texts[1:]:
+        for (_, category), label, other in zip(it.head[0], labels, it.labels):
+            if label != other:
+                raise it.fault(b"two labels for %d: %s and %s" % (category, as_utf8(label), as_utf8(other)))
+    return labels
+
+
+def as_utf8(label: bytes) -> bytes:
+    return label.decode(errors="replace").encode()
 
 
 def added(total: int, count: int, name: bytes) -> int:
@@ -380,13 +406,13 @@ def is_wrong(key: bytes, value: bytes) -> bool:
     return value not in SEPARATORS and not (len(value) == 1 and VISIBLE.fullmatch(value))
 
 
-def format_of(options: list[bytes]) -> Format:
+def format_of(labels: bool, options: list[bytes]) -> Format:
     given: dict[bytes, bytes] = {}
     for key, _, value in (word.partition(b"=") for word in options):
         if key in given or is_wrong(key, value):
             raise misuse(b"bad option")
         given[key] = SEPARATORS.get(value, value) if key == b"separator" else value
-    form = Format(given.get(b"separator", b" "), given.get(b"null_value", b"*"))
+    form = Format(given.get(b"separator", b" "), given.get(b"null_value", b"*"), labels)
     if not form.is_clear():
         raise misuse(b"bad option")
     return form
@@ -401,11 +427,11 @@ def is_utf8(word: bytes) -> bool:
 
 
 def with_options(join: Callable[[Format, list[bytes], list[bytes | Failing]], bytes], least: int, usage: bytes, words: list[bytes],
-                 files: Mapping[bytes, Given]) -> bytes:
+                 files: Mapping[bytes, Given], labels: bool = False) -> bytes:
     names = [word for word in words if not is_option(word)]
     if len(names) < least or any(word.startswith(b"-") for word in words):
         raise misuse(usage)
-    form = format_of([word for word in words if is_option(word)])
+    form = format_of(labels, [word for word in words if is_option(word)])
     return join(form, names, opened(names, files))
 
 
@@ -415,7 +441,7 @@ def output_of(words: list[bytes], files: Mapping[bytes, Given]) -> bytes:
         raise misuse(USAGE)
     usage = USAGES[command]
     if command == b"tables":
-        return with_options(tables, 1, usage, behind, files)
+        return with_options(tables, 1, usage, [word for word in behind if word != b"-l"], files, b"-l" in behind)
     if command == b"sizes":
         return with_options(sizes, 2, usage, behind, files)
     names = [word for word in behind if command == b"edges" or word != b"-d"]

@@ -3,8 +3,9 @@
 
     test_join.py [CLANG] [--program PROGRAM] [--rcell PROGRAM] [--runs N] [--seed N]
 
-Of each command named cases; tables at random, short and long ones; maps cut into bands, each clumped by rcell, whose joined numbers
-and sizes must be those of the undivided map, cell by cell: hard shapes by every cut, random ones by cuts at random; and damaged texts.
+Of each command named cases; tables at random, short and long ones, with labels and without; maps cut into bands, each clumped by
+rcell, whose joined numbers and sizes must be those of the undivided map, cell by cell: hard shapes by every cut, random ones by cuts
+at random; tables with labels of such bands, whose joined text must be that of the undivided map; and damaged texts.
 Some reads move few bytes, and each growth and each write is refused in turn. CLANG compiles what refuses growths and cuts reads;
 without it these parts are left out. The last line is 'N passed, M failed'.
 """
@@ -117,6 +118,25 @@ def try_tables(runner: Runner, count: Count, shims: Mapping[str, str], seed: int
     files = dict((join_made.long_files if seed % LONG_IN == 0 else join_made.random_files)(draw, form))
     words = [b"tables", *options, *files]
     count.add(f"seed {seed}", difference(runner.answer(words, files, **reads_of_pieces(draw, shims)), join_model.answer(words, files)))
+
+
+def try_labels(runner: Runner, count: Count, shims: Mapping[str, str], seed: int) -> None:
+    """Tables with labels of the bands of a map, joined, are the table of the undivided map."""
+    draw = random.Random(seed)
+    cut = join_made.random_cut(draw, join_made.random_map(draw))
+    script, options = join_made.labelling(draw, cut.whole)
+
+    def table(grid: CellMap) -> bytes:
+        status, output, told = runner.answer_of_rcell({b"m.txt": grid_text(grid, b"*"), b"script": script})
+        if status:
+            raise RuntimeError(told)
+        return output
+
+    files = {b"t%d" % place: table(join_made.band_of(cut.whole, *span)) for place, span in enumerate(cut.spans)}
+    words = [b"tables", *options, *files]
+    got = runner.answer(words, files, **reads_of_pieces(draw, shims))
+    wrong = difference(got, (0, table(cut.whole), b"")) or difference(join_model.answer(words, files), got)
+    count.add(f"labels {seed}, bands to {cut.ends}", wrong)
 
 
 # Maps by bands
@@ -233,6 +253,7 @@ def try_maps(runner: Runner, count: Count, shims: Mapping[str, str], seeds: rang
         try_cuts(runner, count, shims, name, draw, join_made.every_cut(join_made.in_region(draw, shape(5, 7))))
     for seed in seeds:
         try_random_map(runner, count, shims, seed)
+        try_labels(runner, count, shims, seed)
     for name, rows, cols in (("comb", 120, 401), ("spiral", 161, 150), ("checkerboard", 150, 201)):
         draw = random.Random(name)
         whole = join_made.in_region(draw, join_made.SHAPES[name](rows, cols))
@@ -283,7 +304,8 @@ def growths_refused(runner: Runner, words: list[bytes], files: Mapping[bytes, by
 def try_refusals(runner: Runner, count: Count, shims: Mapping[str, str]) -> None:
     named = {name: (words, files) for name, words, files, _ in join_cases.named_cases()}
     three = {b"a": b"1 2 3\n1 * 4\n2 2 2\n", b"b": b"0 1 9\n1 2 1\n", b"c": b""}
-    runs = {"tables": ([b"tables", *three], three), **{name: named[name] for name in ("edges of a band", "areas by edges", "sizes")}}
+    two = {b"a": b"1;forest;3\n2;;2\n", b"b": b"1;forest;9\n*;no data;1\n"}
+    runs = {"tables": ([b"tables", *three], three), "tables with labels": ([b"tables", b"-l", b"separator=;", *two], two), **{name: named[name] for name in ("edges of a band", "areas by edges", "sizes")}}
     for name, (words, files) in runs.items():
         wanted = join_model.answer(words, files)[1]
         count.add(f"{name}, outputs of each size", limited(runner, words, files, wanted))

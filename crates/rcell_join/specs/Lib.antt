@@ -2,6 +2,7 @@
 pub mod FaultLines
 pub mod KindStatuses
 pub mod TablesFaultLine
+pub mod LabelsFaultLine
 pub mod EdgesFaultLine
 pub mod AreasFaultLine
 pub mod SizesFaultLine

@@ -5,18 +5,21 @@ mod areas_fault_line;
 mod edges_fault_line;
 mod fault_line;
 mod kind_status;
+mod labels_fault_line;
 mod sizes_fault_line;
 mod tables_fault_line;
 
 use crate::areas_fault_line::{areas_fault_line, areas_status};
 use crate::edges_fault_line::{edges_fault_line, edges_status};
 use crate::fault_line::{FaultLine, refusal_line};
+use crate::labels_fault_line::{labels_fault_line, labels_status};
 use crate::sizes_fault_line::{sizes_fault_line, sizes_status};
 use crate::tables_fault_line::{tables_fault_line, tables_status};
 use cell_cats_areas::clump::Joining;
 use cell_core::sink::WriteSink;
 use cell_tiles_areas::areas_joining::join_edges_texts;
 use cell_tiles_edges::band_edges::write_edges;
+use cell_tiles_labels::label_joining::join_labelled_texts;
 use cell_tiles_sizes::table_sizes::join_table_sizes;
 use cell_tiles_texts::text_joining::join_texts;
 use rcell_join_request::command_words::read_words;
@@ -51,7 +54,7 @@ fn report<R: Eprint, T: fmt::Display + Drop>(rt: &R, told: Option<FaultLine<'_, 
     }
 }
 
-// Joins tables of parts to the table of the whole.
+// Joins tables of parts to the table of the whole, with labels where they have them.
 fn join_tables<R: Files + Print + Eprint + AllocGlobal>(
     rt: &R,
     format: &TableFormat,
@@ -62,6 +65,12 @@ fn join_tables<R: Files + Print + Eprint + AllocGlobal>(
         Err(refusal) => return tell(rt, refusal, paths),
     };
     let mut output = WriteSink::new(io::writer(rt));
+    if format.has_labels() {
+        let outcome = join_labelled_texts(rt.alloc(), &format.lent(), sources, &mut output);
+        let status = labels_status(&outcome.fault);
+        report(rt, labels_fault_line(outcome, paths));
+        return status;
+    }
     let outcome = join_texts(rt.alloc(), &format.lent(), sources, &mut output);
     let status = tables_status(&outcome.fault);
     report(rt, tables_fault_line(outcome, paths));

@@ -46,7 +46,8 @@ pub enum TablesFaultText {
     Write { written: u64 },
 }
 
-fn tables_fault_source<'a>(paths: &[&'a str], fault: &JoinFault) -> &'a str
+// What a fault belongs to.
+pub(crate) fn tables_fault_source<'a>(paths: &[&'a str], fault: &JoinFault) -> &'a str
     ensures { result.now ≡ tables_fault_source (map (λ path. path.now) paths.now) fault.now }
 {
     match fault {
@@ -58,7 +59,8 @@ fn tables_fault_source<'a>(paths: &[&'a str], fault: &JoinFault) -> &'a str
     }
 }
 
-fn tables_fault_line_number(fault: &JoinFault) -> u64
+// The line of a fault, 0 where it belongs to none.
+pub(crate) fn tables_fault_line_number(fault: &JoinFault) -> u64
     ensures { result ≡ tables_fault_line_number fault.now }
 {
     match fault {
@@ -67,7 +69,8 @@ fn tables_fault_line_number(fault: &JoinFault) -> u64
     }
 }
 
-fn tables_fault_text(written: u64, fault: JoinFault) -> TablesFaultText
+// The text of a fault.
+pub(crate) fn tables_fault_text(written: u64, fault: JoinFault) -> TablesFaultText
     ensures { result ≡ tables_fault_text written fault }
 {
     match fault {
@@ -103,7 +106,8 @@ pub fn tables_fault_line<'a>(
     })
 }
 
-fn tables_fault_status(fault: &JoinFault) -> u8
+// The exit status of a fault.
+pub(crate) fn tables_fault_status(fault: &JoinFault) -> u8
     ensures { result ≡ tables_fault_status fault.now }
 {
     match fault {

@@ -1,11 +1,11 @@
 -- What words ask for, by what is found among them.
-use Rattle.std.proofs.Common.{Bor, ◌≡◌, ◌≤◌, ◌∷◌, ◌==◌, [], List, Ok, Err, true, false, length, refl, arith}
+use Rattle.std.proofs.Common.{Bor, Bool, ◌≡◌, ◌≤◌, ◌∷◌, ◌==◌, [], List, Ok, Err, true, false, length, refl, arith}
 use Rattle.std.proofs.lemmas.Bool.{eqb-true}
 use Rattle.std.specs.List.{remove, slice_index_or}
 use Rattle.clap.specs.Walk.{Text, texts}
 use Rattle.cell_core_text.specs.Answers.{◌>>=◌}
 use Rattle.rcell_join_request.specs.CommandLine.{Areas, Sizes, Tables}
-use Rattle.rcell_join_request.specs.CommandLine.{asked_areas, asked_sizes, asked_tables, bands_in}
+use Rattle.rcell_join_request.specs.CommandLine.{asked_areas, asked_labelled, asked_sizes, bands_in}
 use Rattle.rcell_join_request.specs.CommandLine.{format_in, has_hyphen_word, joining_in, paths_in}
 use Rattle.rcell_join_request.specs.declared.refusal.Refusal.TheVariants.{Usage}
 use Rattle.rcell_join_request.specs.declared.refusal.Usage.TheVariants as usages
@@ -14,17 +14,17 @@ apart : {X : Type 0} → true ≡ false → X
 apart bad = cc
 
 -- one table or more, in the format of the words
-pub tables_read : (words : List Text) (found : List (Bor Text)) → has_hyphen_word words ≡ false
+pub tables_read : (labels : Bool) (words : List Text) (found : List (Bor Text)) → has_hyphen_word words ≡ false
     → texts found ≡ paths_in words → (length found == 0) ≡ false
-    → asked_tables words ≡ (format_in words >>= λ format. Ok (Tables format (texts found)))
-tables_read words [] plain are some = apart some
-tables_read words (table ∷ tables) plain are some = rw (plain, ← are) refl
+    → asked_labelled labels words ≡ (format_in labels words >>= λ format. Ok (Tables format (texts found)))
+tables_read labels words [] plain are some = apart some
+tables_read labels words (table ∷ tables) plain are some = rw (plain, ← are) refl
 
 -- an areas text, and one table or more
 pub sizes_read : (words : List Text) (found : List (Bor Text)) (joined : Bor Text) (tables : List (Bor Text))
     → has_hyphen_word words ≡ false → texts found ≡ paths_in words → 2 ≤ length found
     → joined ≡ slice_index_or found 0 joined → tables ≡ remove found 0
-    → asked_sizes words ≡ (format_in words >>= λ format. Ok (Sizes format joined.now (texts tables)))
+    → asked_sizes words ≡ (format_in false words >>= λ format. Ok (Sizes format joined.now (texts tables)))
 sizes_read words [] joined tables plain are some first others = absurd (omega (arith, some))
 sizes_read words (one ∷ []) joined tables plain are some first others = absurd (omega (arith, some))
 sizes_read words (one ∷ two ∷ rest) joined tables plain are some first others =

@@ -52,30 +52,50 @@ options_in words = filter is_option words
 abbrev pub paths_in : List (List ℕ) → List (List ℕ)
 paths_in words = filter (λ word. not (is_option word)) words
 
--- how tables are printed: with counts and without labels, and else as those of r.stats
-abbrev pub format_given : Given → FormatValue
-format_given given = record { separator = unwrap_or given.separator (byte (codes " ")); null_text = unwrap_or given.table_null_text usual_null; labels = false; counts = true }
+-- how tables are printed: with counts, with labels or without, and else as those of r.stats
+abbrev pub format_given : (labels : Bool) → Given → FormatValue
+format_given labels given = record { separator = unwrap_or given.separator (byte (codes " ")); null_text = unwrap_or given.table_null_text usual_null; labels = labels; counts = true }
 
 -- a format by which fields can be told apart
 abbrev pub if_clear : FormatValue → Result FormatValue Refusal
 if_clear format = if is_clear format then Ok format else Err BadOption
 
 -- the format that options give
-abbrev pub format_of : Result Given OptionFault → Result FormatValue Refusal
-format_of (Err fault) = Err BadOption
-format_of (Ok given) = if_clear (format_given given)
+abbrev pub format_of : (labels : Bool) → Result Given OptionFault → Result FormatValue Refusal
+format_of labels (Err fault) = Err BadOption
+format_of labels (Ok given) = if_clear (format_given labels given)
 
-abbrev pub format_in : List (List ℕ) → Result FormatValue Refusal
-format_in words = format_of (options_of Stats (options_in words))
+abbrev pub format_in : (labels : Bool) → List (List ℕ) → Result FormatValue Refusal
+format_in labels words = format_of labels (options_of Stats (options_in words))
+
+-- a word that is this flag
+abbrev pub is_flag : (flag word : List ℕ) → Bool
+is_flag flag word = bytes_eq word flag
+
+-- this flag is one of the words
+abbrev pub contains_flag : (flag : List ℕ) → List (List ℕ) → Bool
+contains_flag flag words = list_any (is_flag flag) words
+
+-- the words that are not this flag
+abbrev pub without_flag : (flag : List ℕ) → List (List ℕ) → List (List ℕ)
+without_flag flag words = filter (λ word. not (is_flag flag word)) words
+
+-- the flag by which categories have labels
+abbrev pub labels_flag : List ℕ
+labels_flag = codes "-l"
 
 -- one table or more
 abbrev pub asked_of_tables : List (List ℕ) → Result FormatValue Refusal → Result RequestValue Refusal
 asked_of_tables [] reading = Err (Usage usages.Tables)
 asked_of_tables (table ∷ tables) reading = reading >>= λ format. Ok (Tables format (table ∷ tables))
 
--- what words behind `tables` ask for
+-- what words behind `tables` ask for, beside the flag of labels, which is given or not
+abbrev pub asked_labelled : (labels : Bool) → List (List ℕ) → Result RequestValue Refusal
+asked_labelled labels words = if has_hyphen_word words then Err (Usage usages.Tables) else asked_of_tables (paths_in words) (format_in labels words)
+
+-- what words behind `tables` ask for: labels where the flag is one of them
 abbrev pub asked_tables : List (List ℕ) → Result RequestValue Refusal
-asked_tables words = if has_hyphen_word words then Err (Usage usages.Tables) else asked_of_tables (paths_in words) (format_in words)
+asked_tables words = asked_labelled (contains_flag labels_flag words) (without_flag labels_flag words)
 
 -- a map and its numbers
 abbrev pub asked_of_edges : List (List ℕ) → Result RequestValue Refusal
@@ -87,16 +107,16 @@ abbrev pub asked_edges : List (List ℕ) → Result RequestValue Refusal
 asked_edges words = if has_hyphen_word words then Err (Usage usages.Edges) else asked_of_edges words
 
 -- the flag by which areas join at corners too
-abbrev pub is_corners_flag : List ℕ → Bool
-is_corners_flag word = bytes_eq word (codes "-d")
+abbrev pub corners_flag : List ℕ
+corners_flag = codes "-d"
 
 -- which cells are adjacent: by edges, or where the flag is given by edges and corners
 abbrev pub joining_in : List (List ℕ) → Joining
-joining_in words = if list_any is_corners_flag words then joinings.EdgesAndCorners else joinings.Edges
+joining_in words = if contains_flag corners_flag words then joinings.EdgesAndCorners else joinings.Edges
 
 -- the other words, which are paths
 abbrev pub bands_in : List (List ℕ) → List (List ℕ)
-bands_in words = filter (λ word. not (is_corners_flag word)) words
+bands_in words = without_flag corners_flag words
 
 -- the edges of one band or more
 abbrev pub asked_of_areas : Joining → List (List ℕ) → Result RequestValue Refusal
@@ -114,7 +134,7 @@ asked_of_sizes words reading = Err (Usage usages.Sizes)
 
 -- what words behind `sizes` ask for
 abbrev pub asked_sizes : List (List ℕ) → Result RequestValue Refusal
-asked_sizes words = if has_hyphen_word words then Err (Usage usages.Sizes) else asked_of_sizes (paths_in words) (format_in words)
+asked_sizes words = if has_hyphen_word words then Err (Usage usages.Sizes) else asked_of_sizes (paths_in words) (format_in false words)
 
 -- what a command and the words behind it ask for
 abbrev pub command_of : List ℕ → List (List ℕ) → Result RequestValue Refusal

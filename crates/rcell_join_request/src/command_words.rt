@@ -6,7 +6,7 @@ ghost use Rattle.std.specs.String.{string_bytes};
 ghost use Rattle.clap.specs.Words.{app_of};
 ghost use Rattle.clap.specs.Walk.{texts};
 ghost use Rattle.cell_core_text.specs.Answers.{Answers};
-ghost use Rattle.rcell_join_request.specs.CommandLine.{asked_areas, request_value, asked_edges, asked_of, asked_sizes, asked_tables, bands_in, begins_with_hyphen, command_of, format_in, is_corners_flag, is_option, joining_in, options_in, paths_in};
+ghost use Rattle.rcell_join_request.specs.CommandLine.{asked_areas, asked_labelled, request_value, asked_edges, asked_of, asked_sizes, asked_tables, begins_with_hyphen, command_of, format_in, is_flag, is_option, joining_in, options_in, paths_in, without_flag};
 ghost use Rattle.rcell_join_request.specs.parts.ClapWords.{FindsAll, command_line, has_no_command};
 
 use crate::refusal::{Refusal, Usage};
@@ -19,6 +19,12 @@ use clap::{Arg, ArgAction, ArgMatches, Command};
 use rcell_script_options::option_fault::OptionFault;
 use rcell_script_options::options::{Form, options_of};
 use std::alloc::{AllocError, Global};
+
+// The flag by which areas join at corners too.
+const CORNERS_FLAG: &str = "-d";
+
+// The flag by which categories have labels.
+const LABELS_FLAG: &str = "-l";
 
 // The refusal for a fault of clap.
 fn of_clap(kind: ErrorKind) -> Refusal
@@ -145,9 +151,10 @@ fn of_options(fault: OptionFault) -> Refusal
     }
 }
 
-// The format that the options among the words give.
-fn format_in(alloc: Global, words: &[&str]) -> Result<TableFormat, Refusal>
-    ensures { Answers Refusal.Memory (λ format. format) result (format_in (texts words.now)) }
+// The format that the options among the words give, with labels or without.
+fn format_in(alloc: Global, labels: bool, words: &[&str]) -> Result<TableFormat, Refusal>
+    ensures { Answers Refusal.Memory (λ format. format) result
+        (format_in labels (texts words.now)) }
 {
     let option_words = match options_in(alloc, words) {
         Ok(option_words) => option_words,
@@ -162,17 +169,55 @@ fn format_in(alloc: Global, words: &[&str]) -> Result<TableFormat, Refusal>
         Ok(null_text) => null_text,
         Err(_) => return Err(Refusal::Memory),
     };
-    let format = TableFormat::new(separator, null_text);
+    let format = TableFormat::new(separator, null_text, labels);
     if !is_clear(&format.lent()) {
         return Err(Refusal::BadOption);
     }
     Ok(format)
 }
 
-// What the words behind `tables` ask for.
+// Whether a word is this flag.
+fn is_flag(flag: &str, word: &[u8]) -> bool
+    ensures { result ≡ is_flag flag.now word.now }
+{
+    word == flag.as_bytes()
+}
+
+// Whether one of the words is this flag.
+fn contains_flag(flag: &str, words: &[&str]) -> bool
+    ensures { result ≡ list_any (λ word. is_flag flag.now word.now) words.now }
+{
+    words.iter().any(|word| is_flag(flag, word.as_bytes()))
+}
+
+// The words that are not this flag.
+fn without_flag<'a>(alloc: Global, flag: &str, words: &[&'a str]) -> Result<Vec<&'a str>, Refusal>
+    ensures others { IfOk result
+        (λ others. texts others.items ≡ without_flag flag.now (texts words.now)) }
+    ensures memory { IfErr result (λ refusal. refusal ≡ Refusal.Memory) }
+{
+    let mut others = Vec::new(alloc);
+    'words: for word in words {
+        let other = *word;
+        if is_flag(flag, other.as_bytes()) {
+            continue;
+        }
+        if others.push(other).is_err() {
+            return Err(Refusal::Memory);
+        }
+    }
+    Ok(others)
+}
+
+// What words ask for behind `tables`, beside the flag of labels, which is given or not.
 #[tactic(auto, using(crate::proofs::WordLemmas::hyphens_of_texts))]
-fn asked_tables<'a>(alloc: Global, words: &[&'a str]) -> Result<Request<'a>, Refusal>
-    ensures { Answers Refusal.Memory request_value result (asked_tables (texts words.now)) }
+fn asked_labelled<'a>(
+    alloc: Global,
+    labels: bool,
+    words: &[&'a str],
+) -> Result<Request<'a>, Refusal>
+    ensures { Answers Refusal.Memory request_value result
+        (asked_labelled labels (texts words.now)) }
 {
     if has_hyphen_word(words) {
         return Err(Refusal::Usage(Usage::Tables));
@@ -184,10 +229,22 @@ fn asked_tables<'a>(alloc: Global, words: &[&'a str]) -> Result<Request<'a>, Ref
     if tables.is_empty() {
         return Err(Refusal::Usage(Usage::Tables));
     }
-    match format_in(alloc, words) {
+    match format_in(alloc, labels, words) {
         Ok(format) => Ok(Request::Tables { format, tables }),
         Err(refusal) => Err(refusal),
     }
+}
+
+// What the words behind `tables` ask for.
+fn asked_tables<'a>(alloc: Global, words: &[&'a str]) -> Result<Request<'a>, Refusal>
+    ensures { Answers Refusal.Memory request_value result (asked_tables (texts words.now)) }
+{
+    let others = match without_flag(alloc, LABELS_FLAG, words) {
+        Ok(others) => others,
+        Err(refusal) => return Err(refusal),
+    };
+    let labels = contains_flag(LABELS_FLAG, words);
+    asked_labelled(alloc, labels, others.as_slice())
 }
 
 // What the words behind `edges` ask for.
@@ -207,48 +264,15 @@ fn asked_edges<'a>(words: &[&'a str]) -> Result<Request<'a>, Refusal>
     }
 }
 
-// Whether a word is the flag by which areas join at corners too.
-fn is_corners_flag(word: &[u8]) -> bool
-    ensures { result ≡ is_corners_flag word.now }
-{
-    word == b"-d".as_slice()
-}
-
-// Whether one of the words is that flag.
-fn has_corners_flag(words: &[&str]) -> bool
-    ensures { result ≡ list_any (λ word. is_corners_flag word.now) words.now }
-{
-    words.iter().any(|word| is_corners_flag(word.as_bytes()))
-}
-
 // Which cells are adjacent.
-#[tactic(auto, using(crate::proofs::WordLemmas::flags_of_texts))]
 fn joining_in(words: &[&str]) -> Joining
     ensures { result ≡ joining_in (texts words.now) }
 {
-    if has_corners_flag(words) {
+    if contains_flag(CORNERS_FLAG, words) {
         Joining::EdgesAndCorners
     } else {
         Joining::Edges
     }
-}
-
-// The words that are no flags, which are paths.
-fn bands_in<'a>(alloc: Global, words: &[&'a str]) -> Result<Vec<&'a str>, Refusal>
-    ensures bands { IfOk result (λ bands. texts bands.items ≡ bands_in (texts words.now)) }
-    ensures memory { IfErr result (λ refusal. refusal ≡ Refusal.Memory) }
-{
-    let mut bands = Vec::new(alloc);
-    'words: for word in words {
-        let band = *word;
-        if is_corners_flag(band.as_bytes()) {
-            continue;
-        }
-        if bands.push(band).is_err() {
-            return Err(Refusal::Memory);
-        }
-    }
-    Ok(bands)
 }
 
 // What the words behind `areas` ask for.
@@ -256,7 +280,7 @@ fn bands_in<'a>(alloc: Global, words: &[&'a str]) -> Result<Vec<&'a str>, Refusa
 fn asked_areas<'a>(alloc: Global, words: &[&'a str]) -> Result<Request<'a>, Refusal>
     ensures { Answers Refusal.Memory request_value result (asked_areas (texts words.now)) }
 {
-    let bands = match bands_in(alloc, words) {
+    let bands = match without_flag(alloc, CORNERS_FLAG, words) {
         Ok(bands) => bands,
         Err(refusal) => return Err(refusal),
     };
@@ -286,7 +310,7 @@ fn asked_sizes<'a>(alloc: Global, words: &[&'a str]) -> Result<Request<'a>, Refu
         return Err(Refusal::Usage(Usage::Sizes));
     }
     let joined = tables.remove(0);
-    match format_in(alloc, words) {
+    match format_in(alloc, false, words) {
         Ok(format) => Ok(Request::Sizes {
             format,
             joined,
@@ -319,8 +343,8 @@ fn command_of<'a>(alloc: Global, command: &str, words: &[&'a str]) -> Result<Req
 /// # Errors
 ///
 /// [`Refusal::Usage`] where no word follows it, the next one is no command, a word behind that begins with `-` and is not
-/// the flag `-d` of `areas`, or there are fewer or more paths than the command takes; [`Refusal::BadOption`];
-/// [`Refusal::Memory`].
+/// the flag `-l` of `tables` or `-d` of `areas`, or there are fewer or more paths than the command takes;
+/// [`Refusal::BadOption`]; [`Refusal::Memory`].
 pub fn read_words<'a>(alloc: Global, words: &'a [String]) -> Result<Request<'a>, Refusal>
     ensures { Answers Refusal.Memory request_value result
         (asked_of (drop 1 (map string_bytes words.now))) }

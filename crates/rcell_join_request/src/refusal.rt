@@ -12,7 +12,7 @@ pub enum Usage {
     #[error("usage: rcell-join (tables|edges|areas|sizes) ...")]
     AnyCommand,
     /// The words of `tables`.
-    #[error("usage: rcell-join tables [separator=S] [null_value=N] FILE...")]
+    #[error("usage: rcell-join tables [-l] [separator=S] [null_value=N] FILE...")]
     Tables,
     /// The words of `edges`.
     #[error("usage: rcell-join edges MAP NUMBERS")]

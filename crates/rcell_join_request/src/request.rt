@@ -1,49 +1,58 @@
 //! What the words of a command line ask for.
 
-ghost use Rattle.std.specs.Prelude.{◌≡◌, false, true};
+ghost use Rattle.std.specs.Prelude.{◌≡◌, true};
 
 use cell_cats_areas::clump::Joining;
 use cell_stats::format::Format;
 use rcell_script_options::null_text::TableNullText;
 use std::marker::Model;
 
-/// How tables of counts are printed: the byte between two fields, and the text of null.
+/// How tables of counts are printed: the byte between two fields, the text of null, and whether labels are.
 #[derive(Drop)]
 pub struct TableFormat {
     separator: u8,
     null_text: TableNullText,
+    labels: bool,
 }
 
 impl Model for TableFormat {
-    ghost use Rattle.std.specs.Prelude.{false, true};
+    ghost use Rattle.std.specs.Prelude.{true};
     ghost use Rattle.cell_stats.specs.TableText.{FormatValue};
 
     ghost Value = { FormatValue };
 
-    ghost view = { λ f. record { separator = f.separator; null_text = f.null_text; labels = false; counts = true } };
+    ghost view = { λ f. record { separator = f.separator; null_text = f.null_text; labels = f.labels; counts = true } };
 }
 
 impl TableFormat {
-    /// A format with counts and without labels.
-    pub fn new(separator: u8, null_text: TableNullText) -> TableFormat
+    /// A format with counts, and with labels or without.
+    pub fn new(separator: u8, null_text: TableNullText, labels: bool) -> TableFormat
         ensures { result ≡ record {
           separator = separator;
           null_text = null_text;
-          labels = false;
+          labels = labels;
           counts = true;
         } }
     {
         TableFormat {
             separator,
             null_text,
+            labels,
         }
+    }
+
+    /// Whether each category is followed by its label.
+    pub fn has_labels(&self) -> bool
+        ensures { result ≡ self.now.labels }
+    {
+        self.labels
     }
 
     /// The same, with its null text lent.
     pub fn lent(&self) -> Format
         ensures { result ≡ self.now }
     {
-        Format::new(self.separator, self.null_text.bytes(), false, true)
+        Format::new(self.separator, self.null_text.bytes(), self.labels, true)
     }
 }
 
@@ -52,7 +61,7 @@ impl TableFormat {
 pub enum Request<'a> {
     /// The tables of parts, joined to the table of the whole.
     Tables {
-        /// How they are printed.
+        /// How they are printed, with labels or without.
         format: TableFormat,
         /// One or more, in order.
         tables: Vec<&'a str>,
@@ -73,7 +82,7 @@ pub enum Request<'a> {
     },
     /// The sizes of the areas of the whole.
     Sizes {
-        /// How the tables are printed.
+        /// How the tables are printed: without labels.
         format: TableFormat,
         /// The areas text.
         joined: &'a str,

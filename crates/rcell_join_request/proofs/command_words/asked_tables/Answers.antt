@@ -1,27 +1,15 @@
-use Rattle.std.proofs.Common.{◌≡◌, ◌∙◌, ◌==◌, Ok, false, length, ap, sym}
+use Rattle.std.proofs.Common.{◌≡◌, ◌∙◌, ap, ap₂, subst}
 use Rattle.clap.specs.Walk.{texts}
-use Rattle.cell_core_text.specs.Answers.{◌>>=◌}
-use Rattle.rcell_join_request.specs.CommandLine.{Tables, has_hyphen_word}
-use Rattle.rcell_join_request.proofs.CommandLemmas.{tables_read}
-use Rattle.rcell_join_request.proofs.WordLemmas.{hyphens_of_texts}
+use Rattle.cell_core_text.specs.Answers.{Answers}
+use Rattle.rcell_join_request.specs.CommandLine.{asked_labelled, asked_tables, labels_flag, request_value}
+use Rattle.rcell_join_request.specs.declared.refusal.Refusal.TheVariants.{Memory}
+use Rattle.rcell_join_request.proofs.WordLemmas.{flags_of_texts}
 use Rattle.rcell_join_request.proofs.command_words.asked_tables.Goals as goal
 
-pub returns-in-Ok-format_in : goal.returns-in-Ok-format_in
-returns-in-Ok-format_in c =
-    let words = texts c.args.words.now in
-    let found = c.in-Ok.tables.items in
-    let plain : has_hyphen_word words ≡ false =
-    sym (hyphens_of_texts c.args.words.now) ∙ sym c.has_hyphen_word.ensures ∙ c.if-has_hyphen_word.false in
-    let some : (length found == 0) ≡ false = ap (λ n. n == 0) (sym c.in-Ok.tables.ok.0) ∙ sym c.if-is_empty.ensures in
-    tables_read words found plain c.in-Ok.ensures.paths some
-    ∙ ap (λ reading. reading >>= λ format. Ok (Tables format (texts found))) c.in-Ok-format_in.ensures
-
 pub returns : goal.returns
-returns c = λ other.
-    let words = texts c.args.words.now in
-    let found = c.in-Ok.tables.items in
-    let plain : has_hyphen_word words ≡ false =
-    sym (hyphens_of_texts c.args.words.now) ∙ sym c.has_hyphen_word.ensures ∙ c.if-has_hyphen_word.false in
-    let some : (length found == 0) ≡ false = ap (λ n. n == 0) (sym c.in-Ok.tables.ok.0) ∙ sym c.if-is_empty.ensures in
-    tables_read words found plain c.in-Ok.ensures.paths some
-    ∙ ap (λ reading. reading >>= λ format. Ok (Tables format (texts found))) (c.in-Err-format_in.ensures other)
+returns c =
+    let given = c.contains_flag-labels.ensures ∙ flags_of_texts labels_flag c.args.words.now in
+    let same : asked_labelled c.contains_flag-labels.result (texts c.as_slice.result.now)
+    ≡ asked_tables (texts c.args.words.now) =
+    ap₂ asked_labelled given (ap texts c.as_slice.ensures.value ∙ c.in-Ok.ensures.others) in
+    subst (λ asked. Answers Memory request_value c.asked_labelled.result asked) same c.asked_labelled.ensures
