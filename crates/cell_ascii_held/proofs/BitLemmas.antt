@@ -13,10 +13,10 @@ use Rattle.cell_ascii_held.specs.TableWords.{blanks, feeds, cleared_front, kept_
 use lib.Count.{count_trailing_zeros}
 use lib.Lanes.{mask_l, number_l, digits_l, top, zip2}
 
-abbrev bit : Bool → ℕ
+abbrev pub bit : Bool → ℕ
 bit b = cond b 1 0
 
-turned : (a : Bool) (m : ℕ) → bit a + 2 * m ≡ m * 2 ^ 1 + bit a
+pub turned : (a : Bool) (m : ℕ) → bit a + 2 * m ≡ m * 2 ^ 1 + bit a
 turned a m = omega arith
 
 -- how many of the first lanes are false
@@ -58,7 +58,7 @@ cleared-cleared zero (suc m) ms le = absurd (omega arith)
 cleared-cleared (suc n) (suc m) [] le = refl
 cleared-cleared (suc n) (suc m) (x ∷ ms) le = ap (λ (l : List Bool). false ∷ l) (cleared-cleared n m ms (omega arith))
 
-itself : (ms : List Bool) → map (λ m. m) ms ≡ ms
+pub itself : (ms : List Bool) → map (λ m. m) ms ≡ ms
 itself [] = refl
 itself (m ∷ ms) = ap (λ (l : List Bool). m ∷ l) (itself ms)
 
@@ -195,7 +195,7 @@ next_end bs at e held some is =
     })
 
 -- the lower bits of a mask
-mask-take : (k : ℕ) (ms : List Bool) → mask_l ms % 2 ^ k ≡ mask_l (take k ms)
+pub mask-take : (k : ℕ) (ms : List Bool) → mask_l ms % 2 ^ k ≡ mask_l (take k ms)
 mask-take zero ms = omega arith
 mask-take (suc k) [] = mask_l-mod [] (suc k) (omega arith)
 mask-take (suc k) (m ∷ ms) =

@@ -5,4 +5,5 @@ pub mod AgainLemmas
 pub mod LaneLemmas
 mod ByteLemmas
 pub mod BitLemmas
+pub mod RunLemmas
 pub mod WordLemmas

@@ -137,24 +137,27 @@ list-all-append : (xs ys : List ℕ) → list_all is_space xs ≡ true → list_
 list-all-append [] ys e f = f
 list-all-append (x ∷ xs) ys e f = let parts = both (is_space x) (list_all is_space xs) e in rw (parts.0, list-all-append xs ys parts.1 f) refl
 
--- a gap, and one blank more
-pub gap-more : (bs : List ℕ) (last at : ℕ) → last ≤ at → at < length bs → list_all is_space (take (at - last) (drop last bs)) ≡ true → is_space (get_or bs at 0) ≡ true
-    → list_all is_space (take (at + 1 - last) (drop last bs)) ≡ true
-gap-more bs last at le within gap blank =
+-- a gap, and the blanks behind it
+pub gap-more : (bs : List ℕ) (last at behind : ℕ) → last ≤ at → at ≤ behind
+    → list_all is_space (take (at - last) (drop last bs)) ≡ true → list_all is_space (take (behind - at) (drop at bs)) ≡ true
+    → list_all is_space (take (behind - last) (drop last bs)) ≡ true
+gap-more bs last at behind le further gap more =
     let g = at - last in
-    let size : at + 1 - last ≡ g + 1 = omega arith in
+    let n = behind - at in
+    let size : behind - last ≡ g + n = omega arith in
     let place : last + g ≡ at = omega arith in
-    let one : take 1 (drop g (drop last bs)) ≡ get_or bs at 0 ∷ [] =
-    ap (take 1) (drop-drop g last bs ∙ ap (λ (k : ℕ). drop k bs) place ∙ drop_more bs at 0 within) in
+    let later : take n (drop g (drop last bs)) ≡ take n (drop at bs) =
+    ap (take n) (drop-drop g last bs ∙ ap (λ (k : ℕ). drop k bs) place) in
     ap (λ (k : ℕ). list_all is_space (take k (drop last bs))) size
-    ∙ ap (list_all is_space) (take-add g 1 (drop last bs) ∙ ap (λ (l : List ℕ). take g (drop last bs) ++ l) one)
-    ∙ list-all-append (take g (drop last bs)) (get_or bs at 0 ∷ []) gap (rw blank refl)
+    ∙ ap (list_all is_space) (take-add g n (drop last bs) ∙ ap (λ (l : List ℕ). take g (drop last bs) ++ l) later)
+    ∙ list-all-append (take g (drop last bs)) (take n (drop at bs)) gap more
 
 -- one blank is a gap
 pub gap-one : (bs : List ℕ) (at : ℕ) → at < length bs → is_space (get_or bs at 0) ≡ true → list_all is_space (take (at + 1 - at) (drop at bs)) ≡ true
 gap-one bs at within blank =
-    let none : at - at ≡ 0 = omega arith in
-    gap-more bs at at (omega arith) within (ap (λ (k : ℕ). list_all is_space (take k (drop at bs))) none) blank
+    let one : at + 1 - at ≡ 1 = omega arith in
+    let here : take 1 (drop at bs) ≡ get_or bs at 0 ∷ [] = ap (take 1) (drop_more bs at 0 within) in
+    ap (λ (k : ℕ). list_all is_space (take k (drop at bs))) one ∙ ap (list_all is_space) here ∙ rw blank refl
 
 -- one word more
 pub word-more : (h : HeaderValue) (bs : List ℕ) (cells : List CellValue) (count last at end : ℕ) (v : CellValue)

@@ -1,6 +1,6 @@
 //! Cells of words that were read before: each is read once, and then found by its bytes.
 
-ghost use Rattle.std.specs.Prelude.{true, false, ◌≡◌, ◌+◌, ◌-◌, ◌*◌, ◌%◌, ◌^◌, ◌<◌, ◌≤◌, length, take, drop, Some, Ok, IfOk, IfSome};
+ghost use Rattle.std.specs.Prelude.{ℕ, List, true, false, ◌≡◌, ◌+◌, ◌-◌, ◌*◌, ◌%◌, ◌^◌, ◌<◌, ◌≤◌, length, take, drop, Some, Ok, IfOk, IfSome};
 ghost use Rattle.std.specs.List.{All};
 ghost use Rattle.std.specs.Int.RustNames.{count_ones, bit_and};
 ghost use Rattle.std.specs.Simd.Lanes.{mask_l};
@@ -9,6 +9,7 @@ ghost use Rattle.cell_ascii_meaning.specs.CellTexts.{cell_of_word};
 ghost use Rattle.cell_ascii_meaning.specs.EdgeNumbers.{digits_of, whole_number};
 ghost use Rattle.cell_ascii_held.specs.TableWords.{HoldsLines, IsEntry, IsCellPut, blanks, feeds, kept_bytes, AreCellsRead};
 ghost use Rattle.cell_ascii_held.specs.parts.WordPlaces.{CanPut};
+ghost use Rattle.cell_ascii_held.specs.parts.BlankRuns.{IsAtBlank, IsBehindBlanks};
 
 use crate::short_cells::{MOST_DIGITS, negative};
 use cell_ascii_header::header::Header;
@@ -69,6 +70,10 @@ fn ones_below(bits: u64, n: usize) -> u64
     ensures value { result ≡ count_ones (bits % 2 ^ n) }
     ensures few { result ≤ 64 }
 {
+    // As of the line feeds in most blocks.
+    if bits == 0 {
+        return 0;
+    }
     (bits & ((1 << n) - 1)).count_ones() as u64
 }
 
@@ -79,6 +84,17 @@ fn next_bits(bits: u64) -> u64
     ensures { result ≡ bit_and bits (bits - 1) }
 {
     bits & (bits - 1)
+}
+
+// The place behind the blanks that stand from a place on, one behind another, and the bits of those behind that.
+#[inline(always)]
+fn pass_blanks(ends: u64, at: usize) -> (usize, u64)
+    requires { at < 64 }
+    ensures { (bytes : List ℕ) → IsAtBlank bytes ends at → IsBehindBlanks bytes at result }
+{
+    // What is added carries through the bits of the blanks, and sets the one behind them.
+    let carried = ends.wrapping_add(1 << at);
+    (carried.trailing_zeros() as usize, ends & carried)
 }
 
 // The first bytes of a word, as the upper bytes of a number.
@@ -248,9 +264,13 @@ fn block_cells_in(
             }
             i += 1;
             last = end;
+            at = end + 1;
+            ends = next_bits(ends);
+        } else {
+            let passed = pass_blanks(ends, at);
+            at = passed.0;
+            ends = passed.1;
         }
-        at = end + 1;
-        ends = next_bits(ends);
     }
     (i, last)
 }
