@@ -28,7 +28,7 @@ one-map text m n one other = by (texts_are_judged text)
     by (inl is) = is.alone m one ∙ sym (is.alone n other)
     by (inr is) = absurd (is.none m one)
 
-no-fault : (text : Coming) (m : Grid) (fault : GridFault) → Denotes text m → text_fault text ≢ Some fault
+pub no-fault : (text : Coming) (m : Grid) (fault : GridFault) → Denotes text m → text_fault text ≢ Some fault
 no-fault text m fault denotes = λ told. by told (texts_are_judged text)
   where
     by : text_fault text ≡ Some fault → IsMapText text ⊎ IsFaultText text → ⊥
