@@ -10,7 +10,7 @@
 # make edits     tries the edits of crates/NAME/edits/, which the gate leaves alone: each must be refused
 # make hostile   uses the program as an enemy would: each growth, read, write and byte in turn, and the greatest inputs (an hour)
 # make fuzz      runs it on random input beside a plain model, SECONDS=60 of them, from SEED=
-# make bench     times each task beside a yardstick in C++; BENCH=--short takes two minutes
+# make bench     times each task beside a yardstick in C++, and doubles one dimension after another; BENCH=--short takes five minutes
 # make figures   measures all that docs/SPEED.md shows and writes it there, into README.md and into docs/speed.png (an hour)
 # make pictures  draws the pictures of the documents
 # make exchange  holds the program and the documents against GRASS and GDAL, where they are installed
@@ -80,12 +80,14 @@ fuzz: bin/rcell
 
 bench: bin/rcell
 	python3 bench/run.py $(BENCH)
+	python3 bench/dimensions.py
 
 figures: bin/rcell
 	@sh tools/debian.sh clang grass-core linux-perf valgrind python3-matplotlib
 	python3 bench/run.py --write $(BENCH)
 	python3 bench/shares.py --write
 	python3 bench/instructions.py --write
+	python3 bench/dimensions.py --write
 	$(PICTURES) speed docs/speed.png
 	-python3 tools/documents.py --texts --write
 
