@@ -7,8 +7,8 @@ ghost use Rattle.rcell_areas_law.specs.RunEdges.{RunsHaveEdges};
 use rcell_script::law::one_script;
 
 /// What `run` wrote of a script of `r.clump` and `r.out.ascii` over the grids of each band of a map are the numbers of the
-/// areas of the band; the edges texts that `write_edges` wrote of the bands go together; and what `join_edges_texts` writes of these is
-/// the areas text of the undivided map, also where that is too large for a run.
+/// areas of the band; the edges texts that `write_edges` wrote of the bands go together; and what `join_edges_texts` writes
+/// of these is the areas text of the undivided map, also where that is too large for a run.
 pub fn scripts_of_bands_number()
     ensures { ScriptsOfBandsNumber }
 {
