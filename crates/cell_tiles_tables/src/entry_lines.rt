@@ -3,7 +3,7 @@
 ghost use Rattle.std.specs.Prelude.{decimal, flat_map};
 ghost use Rattle.cell_core_devices.specs.Blocks.{Appends};
 ghost use Rattle.cell_tiles_lines.specs.TableLines.{entry_line};
-ghost use Rattle.cell_tiles_texts.specs.parts.EntryParts.{cell_and_separator};
+ghost use Rattle.cell_tiles_tables.specs.parts.EntryParts.{cell_and_separator};
 
 use cell_core::block::OutputBlock;
 use cell_core::cell::Cell;

@@ -6,7 +6,7 @@ use Rattle.cell_core.specs.Text.{cell_text}
 use Rattle.cell_stats_combinations.specs.Combinations.{Combination}
 use Rattle.cell_stats.specs.TableText.{FormatValue}
 use Rattle.cell_tiles_lines.specs.TableLines.{entry_line}
-use Rattle.cell_tiles_texts.specs.parts.EntryParts.{cell_and_separator}
+use Rattle.cell_tiles_tables.specs.parts.EntryParts.{cell_and_separator}
 
 module _ (format : FormatValue) (last : List ℕ) where
   abbrev fields : Combination → List (List ℕ)

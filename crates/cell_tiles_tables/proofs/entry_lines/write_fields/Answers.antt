@@ -1,8 +1,8 @@
 use Rattle.std.proofs.Common.{take_all, arith}
 use Rattle.cell_core_devices.proofs.PieceLemmas.{flat_map-take}
 use Rattle.cell_core_devices.proofs.BlockLemmas.{appends_then}
-use Rattle.cell_tiles_texts.specs.parts.EntryParts.{cell_and_separator}
-use Rattle.cell_tiles_texts.proofs.entry_lines.write_fields.Goals as goal
+use Rattle.cell_tiles_tables.specs.parts.EntryParts.{cell_and_separator}
+use Rattle.cell_tiles_tables.proofs.entry_lines.write_fields.Goals as goal
 
 pub cells-preserved : goal.cells-preserved
 cells-preserved g c =

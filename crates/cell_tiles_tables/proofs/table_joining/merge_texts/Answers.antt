@@ -3,7 +3,7 @@ use Rattle.cell_tiles_lines.specs.TextReading.{TextValue, reading_from}
 use Rattle.cell_tiles_texts.specs.declared.join_fault.JoinFault.{JoinFault}
 use Rattle.cell_tiles_texts.specs.declared.join_fault.JoinFault.TheVariants.{Write}
 use Rattle.cell_tiles_texts.proofs.MergingLemmas.{merged-all, merged-fault, merged-long, merged-more, merged-none, merged-write}
-use Rattle.cell_tiles_texts.proofs.text_joining.merge_texts.Goals as goal
+use Rattle.cell_tiles_tables.proofs.table_joining.merge_texts.Goals as goal
 
 answer : Bool → Result Bool JoinFault
 answer some = Ok some

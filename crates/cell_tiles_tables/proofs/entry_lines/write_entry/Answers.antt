@@ -1,8 +1,8 @@
 use Rattle.std.proofs.Common.{flat_map, ap}
 use Rattle.cell_core_devices.proofs.BlockLemmas.{appends_then}
-use Rattle.cell_tiles_texts.specs.parts.EntryParts.{cell_and_separator}
-use Rattle.cell_tiles_texts.proofs.EntryLemmas.{entry-parts}
-use Rattle.cell_tiles_texts.proofs.entry_lines.write_entry.Goals as goal
+use Rattle.cell_tiles_tables.specs.parts.EntryParts.{cell_and_separator}
+use Rattle.cell_tiles_tables.proofs.EntryLemmas.{entry-parts}
+use Rattle.cell_tiles_tables.proofs.entry_lines.write_entry.Goals as goal
 
 pub returns : goal.returns
 returns g c =

@@ -9,7 +9,7 @@ use Rattle.cell_tiles_texts.specs.declared.join_fault.JoinFault.TheVariants.{Wri
 use Rattle.cell_tiles_texts.proofs.JoinLemmas.{fault-so, joined-so, no-fault-sound, opening-join, opening-written, wholly, write-failed, written-so}
 use Rattle.cell_tiles_texts.proofs.ReadingLemmas.{readings-listing}
 use Rattle.cell_tiles_texts.proofs.TakingLemmas.{not-at-once}
-use Rattle.cell_tiles_texts.proofs.text_joining.join_texts.Goals as goal
+use Rattle.cell_tiles_tables.proofs.table_joining.join_texts.Goals as goal
 
 pub returns-in-Err-clause-written : goal.returns-in-Err-clause-written
 returns-in-Err-clause-written g c = λ texts give.
@@ -29,7 +29,7 @@ returns-in-Err-clause-headline g c = λ texts merged give whole memory good.
 pub returns-clause-joined : goal.returns-clause-joined
 returns-clause-joined g c = λ texts give none.
     let format = c.args.format.now in
-    let end = c.merge_texts-merged.ensures.end in
+    let end = c.merge_ordered-merged.ensures.end in
     let before = g.W.Sink.taken c.args.out.now in
     let start = g.W.Sink.faults c.args.out.now in
     let now = g.W.Sink.taken c.settle-settled.new.out in
@@ -43,18 +43,18 @@ returns-clause-joined g c = λ texts give none.
     let known = c.in-Ok.ensures.read texts give in
     let ends = end.ends readings (cc) all in
     let so = c.finish-fault.ensures.answered in
-    let write = λ (e : c.merge_texts-merged.result ≡ Err Write). c.settle-settled.ensures.keeps
-    (c.merge_texts-merged.ensures.write e) in
-    let told : c.finish-fault.result ≡ answered (settled block.failed c.merge_texts-merged.result) so.fails = so.told
+    let write = λ (e : c.merge_ordered-merged.result ≡ Err Write). c.settle-settled.ensures.keeps
+    (c.merge_ordered-merged.ensures.write e) in
+    let told : c.finish-fault.result ≡ answered (settled block.failed c.merge_ordered-merged.result) so.fails = so.told
     ∙ ap (λ r. answered r so.fails) c.settle-settled.ensures.answer in
     rw (c.finish-fault.ensures.taken, c.written.ensures)
-    (joined-so format readings all end.done before now start faults block appended c.merge_texts-merged.result
+    (joined-so format readings all end.done before now start faults block appended c.merge_ordered-merged.result
     ends write c.settle-settled.ensures.held so.fails c.finish-fault.result told none)
 
 pub returns-clause-fault : goal.returns-clause-fault
 returns-clause-fault g c = λ texts give.
     let format = c.args.format.now in
-    let end = c.merge_texts-merged.ensures.end in
+    let end = c.merge_ordered-merged.ensures.end in
     let before = g.W.Sink.taken c.args.out.now in
     let start = g.W.Sink.faults c.args.out.now in
     let now = g.W.Sink.taken c.settle-settled.new.out in
@@ -68,17 +68,17 @@ returns-clause-fault g c = λ texts give.
     let known = c.in-Ok.ensures.read texts give in
     let ends = end.ends readings (cc) all in
     let so = c.finish-fault.ensures.answered in
-    let write = λ (e : c.merge_texts-merged.result ≡ Err Write). c.settle-settled.ensures.keeps
-    (c.merge_texts-merged.ensures.write e) in
-    let told : c.finish-fault.result ≡ answered (settled block.failed c.merge_texts-merged.result) so.fails = so.told
+    let write = λ (e : c.merge_ordered-merged.result ≡ Err Write). c.settle-settled.ensures.keeps
+    (c.merge_ordered-merged.ensures.write e) in
+    let told : c.finish-fault.result ≡ answered (settled block.failed c.merge_ordered-merged.result) so.fails = so.told
     ∙ ap (λ r. answered r so.fails) c.settle-settled.ensures.answer in
-    fault-so format readings all end.done before now start faults block appended c.merge_texts-merged.result ends
+    fault-so format readings all end.done before now start faults block appended c.merge_ordered-merged.result ends
     write c.settle-settled.ensures.held so.fails c.finish-fault.result told
 
 pub returns-clause-written : goal.returns-clause-written
 returns-clause-written g c = λ texts give.
     let format = c.args.format.now in
-    let end = c.merge_texts-merged.ensures.end in
+    let end = c.merge_ordered-merged.ensures.end in
     let before = g.W.Sink.taken c.args.out.now in
     let start = g.W.Sink.faults c.args.out.now in
     let now = g.W.Sink.taken c.settle-settled.new.out in
@@ -92,18 +92,18 @@ returns-clause-written g c = λ texts give.
     let known = c.in-Ok.ensures.read texts give in
     let ends = end.ends readings (cc) all in
     let so = c.finish-fault.ensures.answered in
-    let write = λ (e : c.merge_texts-merged.result ≡ Err Write). c.settle-settled.ensures.keeps
-    (c.merge_texts-merged.ensures.write e) in
-    let told : c.finish-fault.result ≡ answered (settled block.failed c.merge_texts-merged.result) so.fails = so.told
+    let write = λ (e : c.merge_ordered-merged.result ≡ Err Write). c.settle-settled.ensures.keeps
+    (c.merge_ordered-merged.ensures.write e) in
+    let told : c.finish-fault.result ≡ answered (settled block.failed c.merge_ordered-merged.result) so.fails = so.told
     ∙ ap (λ r. answered r so.fails) c.settle-settled.ensures.answer in
     rw (c.finish-fault.ensures.taken, c.written.ensures)
-    (written-so format readings all end.done before now start faults block appended c.merge_texts-merged.result
+    (written-so format readings all end.done before now start faults block appended c.merge_ordered-merged.result
     ends write c.settle-settled.ensures.held so.fails c.finish-fault.result told)
 
 pub returns-clause-sound : goal.returns-clause-sound
 returns-clause-sound g c =
     let format = c.args.format.now in
-    let end = c.merge_texts-merged.ensures.end in
+    let end = c.merge_ordered-merged.ensures.end in
     let before = g.W.Sink.taken c.args.out.now in
     let start = g.W.Sink.faults c.args.out.now in
     let now = g.W.Sink.taken c.settle-settled.new.out in
@@ -115,12 +115,12 @@ returns-clause-sound g c =
     let last = g.W.Sink.faults c.finish-fault.new.out in
     let so = subst (λ r. IsAnswered r faults last c.finish-fault.result) c.settle-settled.ensures.answer
     c.finish-fault.ensures.answered in
-    no-fault-sound c.merge_texts-merged.result block.failed start faults last appended.fails c.finish-fault.result so
+    no-fault-sound c.merge_ordered-merged.result block.failed start faults last appended.fails c.finish-fault.result so
 
 pub returns-clause-write : goal.returns-clause-write
 returns-clause-write g c =
     let format = c.args.format.now in
-    let end = c.merge_texts-merged.ensures.end in
+    let end = c.merge_ordered-merged.ensures.end in
     let before = g.W.Sink.taken c.args.out.now in
     let start = g.W.Sink.faults c.args.out.now in
     let now = g.W.Sink.taken c.settle-settled.new.out in
@@ -132,13 +132,13 @@ returns-clause-write g c =
     let last = g.W.Sink.faults c.finish-fault.new.out in
     let so = subst (λ r. IsAnswered r faults last c.finish-fault.result) c.settle-settled.ensures.answer
     c.finish-fault.ensures.answered in
-    write-failed c.merge_texts-merged.result block.failed start faults last appended.fails c.finish-fault.result
-    (λ e. c.settle-settled.ensures.keeps (c.merge_texts-merged.ensures.write e)) so
+    write-failed c.merge_ordered-merged.result block.failed start faults last appended.fails c.finish-fault.result
+    (λ e. c.settle-settled.ensures.keeps (c.merge_ordered-merged.ensures.write e)) so
 
 pub returns-clause-headline : goal.returns-clause-headline
 returns-clause-headline g c = λ texts merged give whole memory good.
     let format = c.args.format.now in
-    let end = c.merge_texts-merged.ensures.end in
+    let end = c.merge_ordered-merged.ensures.end in
     let before = g.W.Sink.taken c.args.out.now in
     let start = g.W.Sink.faults c.args.out.now in
     let now = g.W.Sink.taken c.settle-settled.new.out in
@@ -152,20 +152,20 @@ returns-clause-headline g c = λ texts merged give whole memory good.
     let known = c.in-Ok.ensures.read texts give in
     let ends = end.ends readings (cc) all in
     let so = c.finish-fault.ensures.answered in
-    let write = λ (e : c.merge_texts-merged.result ≡ Err Write). c.settle-settled.ensures.keeps
-    (c.merge_texts-merged.ensures.write e) in
-    let told : c.finish-fault.result ≡ answered (settled block.failed c.merge_texts-merged.result) so.fails = so.told
+    let write = λ (e : c.merge_ordered-merged.result ≡ Err Write). c.settle-settled.ensures.keeps
+    (c.merge_ordered-merged.ensures.write e) in
+    let told : c.finish-fault.result ≡ answered (settled block.failed c.merge_ordered-merged.result) so.fails = so.told
     ∙ ap (λ r. answered r so.fails) c.settle-settled.ensures.answer in
     let last = g.W.Sink.faults c.finish-fault.new.out in
     let given = subst (λ r. IsAnswered r faults last c.finish-fault.result) c.settle-settled.ensures.answer
     c.finish-fault.ensures.answered in
     rw c.finish-fault.ensures.taken
     (wholly readings all merged whole format before now block.written (has_failed last) c.finish-fault.result
-    (fault-so format readings all end.done before now start faults block appended c.merge_texts-merged.result ends
+    (fault-so format readings all end.done before now start faults block appended c.merge_ordered-merged.result ends
     write c.settle-settled.ensures.held so.fails c.finish-fault.result told)
-    (joined-so format readings all end.done before now start faults block appended c.merge_texts-merged.result ends
+    (joined-so format readings all end.done before now start faults block appended c.merge_ordered-merged.result ends
     write c.settle-settled.ensures.held so.fails c.finish-fault.result told)
-    (write-failed c.merge_texts-merged.result block.failed start faults last appended.fails c.finish-fault.result
+    (write-failed c.merge_ordered-merged.result block.failed start faults last appended.fails c.finish-fault.result
     write given)
     memory good)
 
