@@ -1,5 +1,6 @@
 -- A band more, and what is told of all bands.
-use Rattle.std.proofs.Common.{◌≡◌, ℕ, ◌+◌, ◌<◌, List, [], ◌∷◌, ◌++◌, length, IfOk, Result, Ok, Err, ap, sym, ◌∙◌, arith, subst}
+use Rattle.std.proofs.Common.{◌≡◌, ℕ, ◌+◌, ◌<◌, List, [], ◌∷◌, ◌++◌, length, IfOk, Result, Ok, Err, ap, sym, ◌∙◌}
+use Rattle.std.proofs.Common.{arith, subst}
 use Rattle.std.specs.Prelude.{All, sum, sum_by}
 use Rattle.std.specs.List.{AllPairs}
 use Rattle.std.proofs.lemmas.List.{length-append, length-map, map-append}
@@ -14,25 +15,12 @@ use Rattle.cell_tiles_numbering.specs.AreasText.{stretches_of}
 use Rattle.cell_tiles_numbering.specs.declared.stretch.Stretch.{Stretch}
 use Rattle.cell_tiles_cuts.specs.CutBands.{AreCutBands, AreStretchesOf, CutJoinerValue}
 use Rattle.cell_tiles_cuts.specs.parts.EdgeAreas.{IsRankedBand}
-use Rattle.cell_tiles_cuts.specs.parts.ReadyJoiners.{IsCutJoinerReady}
-use Rattle.cell_tiles_cuts.specs.parts.Walks.{AreNumbered, count_before}
+use Rattle.cell_tiles_cuts.specs.parts.ReadyCutJoiners.{IsCutJoinerReady}
+use Rattle.cell_tiles_cuts.specs.parts.Walks.{AreAllNumbered, count_before}
 use Rattle.cell_tiles_cuts.proofs.LabelLemmas.{few-push, labels_from, order-push, ranked-push}
 use Rattle.cell_tiles_cuts.proofs.PairLemmas.{all-in}
 use Rattle.cell_tiles_cuts.proofs.RankLemmas.{all-placed}
 use Rattle.cell_tiles_cuts.proofs.WholeLemmas.{whole-are, whole-join, whole-long, whole_numbers}
-
--- ---- no band
-
-pub ready-none : (v : CutJoinerValue) → v.touching ≡ [] → v.areas ≡ [] → v.labels ≡ 0 → AreJoinedBands [] v.ranked
-    → IsCutJoinerReady v
-ready-none v touching areas labels joined = record {
-  in_order = subst (λ (l : List ℕ). AllPairs ◌<◌ l) (sym touching) (λ i k d less within. absurd (omega (arith, within)));
-  few = subst (λ (l : List ℕ). All (λ label. label < v.labels) l) (sym touching) (λ k d within. absurd (omega (arith, within)));
-  labels = labels ∙ sym (ap sum areas);
-  bands = [];
-  joined = joined;
-  places = sym (ap (length {A = ℕ}) touching);
-}
 
 -- ---- a band more
 
@@ -42,7 +30,8 @@ pub record IsMore (band one : BandEdges) (found : List ℕ) (old new : CutJoiner
   pub touching : new.touching ≡ old.touching ++ labels_from old.labels found
   pub areas : new.areas ≡ old.areas ++ band.areas ∷ []
   pub labels : new.labels ≡ old.labels + band.areas
-  pub joined : (bands : List BandEdges) → AreJoinedBands bands old.ranked → AreJoinedBands (bands ++ one ∷ []) new.ranked
+  pub joined : (bands : List BandEdges) → AreJoinedBands bands old.ranked
+      → AreJoinedBands (bands ++ one ∷ []) new.ranked
 
 module _ (band one : BandEdges) (found : List ℕ) (old new : CutJoinerValue) (ready : IsCutJoinerReady old)
     (is : IsMore band one found old new) where
@@ -53,7 +42,8 @@ module _ (band one : BandEdges) (found : List ℕ) (old new : CutJoinerValue) (r
       ∙ ap (λ (k : ℕ). length old.touching + k) (length-map found (λ area. old.labels + area)) in
       let all : sum new.areas ≡ sum old.areas + band.areas =
       ap sum is.areas ∙ sum_by-append (λ (x : ℕ). x) old.areas (band.areas ∷ [])
-      ∙ ap (λ (k : ℕ). sum old.areas + k) (let e : sum (band.areas ∷ []) ≡ band.areas = omega (arith, sum_by-cons (λ (x : ℕ). x) band.areas []) in e) in
+      ∙ ap (λ (k : ℕ). sum old.areas + k) (let e : sum (band.areas ∷ []) ≡ band.areas =
+      omega (arith, sum_by-cons (λ (x : ℕ). x) band.areas []) in e) in
       let sums = sum_by-append (λ (b : BandEdges). b.areas) ready.bands (one ∷ []) in
       let own = sum_by-cons (λ (b : BandEdges). b.areas) one [] in
       record {
@@ -84,10 +74,12 @@ module _ (band one : BandEdges) (found : List ℕ) (old new : CutJoinerValue) (r
 
 -- what numbers the areas of all bands
 abbrev pub AreTold : (touching table counts : List ℕ) → List Stretch → ℕ → Type 0
-AreTold touching table counts stretches areas = (numbers : List ℕ) → AreNumbered touching table numbers → length numbers ≡ sum counts
+AreTold touching table counts stretches areas = (numbers : List ℕ) → AreAllNumbered touching table numbers
+    → length numbers ≡ sum counts
     → (stretches ≡ stretches_of counts numbers) × (areas ≡ count_before touching table (sum counts))
 
-pub told-same : (ts ts' table table' counts counts' : List ℕ) (stretches : List Stretch) (areas : ℕ) → ts ≡ ts' → table ≡ table'
+pub told-same : (ts ts' table table' counts counts' : List ℕ) (stretches : List Stretch) (areas : ℕ) → ts ≡ ts'
+    → table ≡ table'
     → counts ≡ counts' → AreTold ts table counts stretches areas → AreTold ts' table' counts' stretches areas
 told-same ts ts' table table' counts counts' stretches areas a b c told =
     subst (λ (l : List ℕ). AreTold l table' counts' stretches areas) a
@@ -116,7 +108,8 @@ module _ (v : CutJoinerValue) (bands : List BandEdges) (ready : IsCutJoinerReady
   sparse = record {
     long = ready.joined.size ∙ ready.places;
     leads = subst (λ (ps : List (ℕ × ℕ)). LeadTo v.ranked.table (after_all (λ k. k) ps))
-        (all-placed (labels_before v.touching) v.ranked.joining 0 0 bands h.ranked v.touching h.are (λ l le. omega arith))
+        (all-placed (labels_before v.touching) v.ranked.joining 0 0 bands h.ranked v.touching h.are (λ l le. omega
+        arith))
         h.joined.leads;
   }
 
@@ -129,20 +122,21 @@ module _ (v : CutJoinerValue) (bands : List BandEdges) (ready : IsCutJoinerReady
   told-long : length numbers ≡ sum v.areas
   told-long = whole-long (areas_of_bands bands) pairs v.touching v.ranked.table touched sparse ∙ sym all-of
 
-  module _ (stretches : List Stretch) (areas : ℕ) (told : AreTold v.touching v.ranked.table v.areas stretches areas) where
-    own : (stretches ≡ stretches_of v.areas numbers) × (areas ≡ count_before v.touching v.ranked.table (sum v.areas))
-    own = told numbers (whole-are (areas_of_bands bands) pairs v.touching v.ranked.table touched sparse) told-long
+  module _ (stretches : List Stretch) (areas : ℕ) (told : AreTold v.touching v.ranked.table v.areas stretches areas)
+    where
+      own : (stretches ≡ stretches_of v.areas numbers) × (areas ≡ count_before v.touching v.ranked.table (sum v.areas))
+      own = told numbers (whole-are (areas_of_bands bands) pairs v.touching v.ranked.table touched sparse) told-long
 
-    pub told-stretches : AreStretchesOf v.ranked.joining bands stretches
-    told-stretches = record {
-      numbers = numbers;
-      many = told-long ∙ ap sum h.counts;
-      join = (whole-join v.ranked.joining bands v.touching v.ranked.table touched sparse).0;
-      are = own.0 ∙ ap (λ (l : List ℕ). stretches_of l numbers) h.counts;
-    }
+      pub told-stretches : AreStretchesOf v.ranked.joining bands stretches
+      told-stretches = record {
+        numbers = numbers;
+        many = told-long ∙ ap sum h.counts;
+        join = (whole-join v.ranked.joining bands v.touching v.ranked.table touched sparse).0;
+        are = own.0 ∙ ap (λ (l : List ℕ). stretches_of l numbers) h.counts;
+      }
 
-    pub told-areas : JoinAreas v.ranked.joining bands areas
-    told-areas =
-        subst (λ (n : ℕ). JoinAreas v.ranked.joining bands n)
-        (sym (own.1 ∙ ap (count_before v.touching v.ranked.table) all-of))
-        (whole-join v.ranked.joining bands v.touching v.ranked.table touched sparse).1
+      pub told-areas : JoinAreas v.ranked.joining bands areas
+      told-areas =
+          subst (λ (n : ℕ). JoinAreas v.ranked.joining bands n)
+          (sym (own.1 ∙ ap (count_before v.touching v.ranked.table) all-of))
+          (whole-join v.ranked.joining bands v.touching v.ranked.table touched sparse).1

@@ -5,11 +5,12 @@ use Rattle.std.specs.List.{range_with_len}
 use Rattle.cell_tiles_numbering.specs.declared.stretch.Stretch.{Stretch}
 use Rattle.cell_tiles_numbering.specs.AreasText.{stretches_behind, stretches_in}
 use Rattle.cell_tiles_numbering.proofs.WritingLemmas.{goes-on, begins-anew}
-use Rattle.cell_tiles_cuts.specs.declared.lines.Line.{Line}
-use Rattle.cell_tiles_cuts.specs.parts.Lines.{AreLined, stretches_after}
+use Rattle.cell_tiles_cuts.specs.declared.band_lines.Line.{Line}
+use Rattle.cell_tiles_cuts.specs.parts.BandLines.{AreLined, stretches_after}
 
 -- a line takes a run of the next numbers in
-behind-run : (band first last number previous n : ℕ) (rest : List ℕ) (end most : ℕ) → end ≡ last + n → most ≡ previous + n
+behind-run : (band first last number previous n : ℕ) (rest : List ℕ) (end most : ℕ) → end ≡ last + n
+    → most ≡ previous + n
     → stretches_behind band first last number previous (range_with_len (previous + 1) n ++ rest)
     ≡ stretches_behind band first end number most rest
 behind-run band first last number previous zero rest end most e m =
@@ -114,5 +115,6 @@ lined-none band before numbers old h =
     sym (ap (λ (l : List ℕ). before ++ stretches_in band l) (sym (append-nil numbers)) ∙ h [] ∙ append-nil old)
 
 -- no area yet
-pub lined-start : (band : ℕ) (before : List Stretch) (numbers : List ℕ) → numbers ≡ [] → AreLined band before numbers before None
+pub lined-start : (band : ℕ) (before : List Stretch) (numbers : List ℕ) → numbers ≡ []
+    → AreLined band before numbers before None
 lined-start band before numbers none = λ rest. ap (λ (l : List ℕ). before ++ stretches_in band (l ++ rest)) none

@@ -11,7 +11,7 @@ use Rattle.cell_tiles_joining.specs.declared.edges.EdgeRow.{EdgeRow}
 use Rattle.cell_tiles_joining.specs.parts.TileMeetings.{mark_at, mark_of_number, all_meetings, meetings, next_meetings}
 use Rattle.cell_tiles_joining.specs.parts.TileMeetings.{last_of_meeting, first_of_meeting}
 use Rattle.cell_tiles_joining.proofs.MeetingLemmas.{meetings-only}
-use Rattle.cell_tiles_cuts.specs.parts.EdgeAreas.{AreRanked, HasLabels, IsRankedRow, area_of_number}
+use Rattle.cell_tiles_cuts.specs.parts.EdgeAreas.{AreRanked, HasEdgeLabels, IsRankedRow, area_of_number}
 use Rattle.cell_tiles_cuts.proofs.LabelLemmas.{Mark, label-below, label-found}
 
 -- the area of what stands at a cell
@@ -21,7 +21,11 @@ record HasArea (base areas : ℕ) (number : CellValue) (m : Mark) : Type 0 where
   label : base + area ≡ m.label
 
 area-at : (base areas : ℕ) (v : ℤ) (n : ℕ) (m : Mark) (z d : Bool)
-    → option_map (λ label. record { category = v; label = label }) (cond z None (cond d None (Some (base + (n - 1))))) ≡ Some m
+    → option_map (λ label. record {
+      category = v;
+      label =
+          label;
+    }) (cond z None (cond d None (Some (base + (n - 1))))) ≡ Some m
     → (area : ℕ) × (cond z None (cond d None (Some (n - 1))) ≡ Some area) × (base + area ≡ m.label)
 area-at base areas v n m true d e = cc
 area-at base areas v n m false true e = cc
@@ -39,7 +43,7 @@ mark-area base areas (Some v) (Some (pos n)) m e =
 abbrev AreIn : List ℕ → ℕ × ℕ → Type 0
 AreIn ts pair = Contains ts pair.0 × Contains ts pair.1
 
-module _ (base : ℕ) (band one : BandEdges) (ts rest : List ℕ) (has : HasLabels base band one ts rest) where
+module _ (base : ℕ) (band one : BandEdges) (ts rest : List ℕ) (has : HasEdgeLabels base band one ts rest) where
   row-in : (row ranked : EdgeRow) → IsRankedRow has.found band.areas row ranked → (col : ℕ) (m : Mark)
       → mark_at (record { row = row; base = base; areas = band.areas }) col ≡ Some m → Contains ts m.label
   row-in row ranked is col m e =

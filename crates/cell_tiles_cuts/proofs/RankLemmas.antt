@@ -14,7 +14,8 @@ use Rattle.cell_cats_areas.specs.declared.clump.Joining.{Joining}
 use Rattle.cell_cats_areas.specs.declared.clump.Joining.TheVariants.{Edges, EdgesAndCorners}
 use Rattle.cell_tiles_joining.specs.declared.edges.BandEdges.{BandEdges}
 use Rattle.cell_tiles_joining.specs.declared.edges.EdgeRow.{EdgeRow}
-use Rattle.cell_tiles_joining.specs.parts.TileMeetings.{SideValue, mark_of_number, mark_at, meeting, meetings_at, meetings}
+use Rattle.cell_tiles_joining.specs.parts.TileMeetings.{SideValue, mark_of_number, mark_at, meeting, meetings_at}
+use Rattle.cell_tiles_joining.specs.parts.TileMeetings.{meetings}
 use Rattle.cell_tiles_joining.specs.parts.TileMeetings.{next_meetings, all_meetings, last_of_meeting, first_of_meeting}
 use Rattle.cell_tiles_joining_law.specs.SparseLabels.{labels_before}
 use Rattle.cell_tiles_joining_law.proofs.PlaceLemmas.{contained-place}
@@ -50,8 +51,16 @@ module _ (place : ℕ → ℕ) where
         let not_zero : eqb (r + 1) 0 ≡ false = ne_eqb (r + 1) 0 (λ e. absurd (omega (arith, e))) in
         let inside : ltb (length found) (r + 1) ≡ false = le-ltb (length found) (r + 1) (omega (arith, at.inside)) in
         let label : from + (r + 1 - 1) ≡ place (base + (n - 1)) = omega (arith, own) in
-        ap (λ (b : Bool). option_map (λ l. record { category = v; label = l }) (cond b None (cond (ltb (length found) (r + 1)) None (Some (from + (r + 1 - 1)))))) not_zero
-        ∙ ap (λ (b : Bool). option_map (λ l. record { category = v; label = l }) (cond b None (Some (from + (r + 1 - 1))))) inside
+        ap (λ (b : Bool). option_map (λ l. record {
+          category = v;
+          label =
+              l;
+        }) (cond b None (cond (ltb (length found) (r + 1)) None (Some (from + (r + 1 - 1)))))) not_zero
+        ∙ ap (λ (b : Bool). option_map (λ l. record {
+          category = v;
+          label =
+              l;
+        }) (cond b None (Some (from + (r + 1 - 1))))) inside
         ∙ ap (λ (l : ℕ). Some (record { category = v; label = l })) label
 
     mark-number : (cell number : CellValue) → ((t : ℕ) → area_of_number areas number ≡ Some t → Contains found t)
@@ -68,10 +77,12 @@ module _ (place : ℕ → ℕ) where
     abbrev ranked_side : EdgeRow → ℕ → SideValue
     ranked_side row count = record { row = row; base = from; areas = count }
 
-    pub mark-placed : (row ranked : EdgeRow) → IsRankedRow found areas row ranked → (count : ℕ) → count ≡ length found → (col : ℕ)
+    pub mark-placed : (row ranked : EdgeRow) → IsRankedRow found areas row ranked → (count : ℕ)
+        → count ≡ length found → (col : ℕ)
         → mark_at (ranked_side ranked count) col ≡ option_map placed (mark_at (own_side row) col)
     mark-placed row ranked is count long col =
-        let number : get_or ranked.numbers.items col None ≡ ranked_number found areas (get_or row.numbers.items col None) =
+        let number : get_or ranked.numbers.items col None ≡ ranked_number found areas (get_or row.numbers.items col
+        None) =
         ap (λ (l : List CellValue). get_or l col None) is.numbers
         ∙ plain.get_or-map (ranked_number found areas) row.numbers.items col None in
         (λ i. mark_of_number from (long i) (get_or (is.cells i) col None) (number i))
@@ -85,7 +96,8 @@ module _ (place : ℕ → ℕ) where
   meeting-placed (Some one) None = refl
   meeting-placed (Some one) (Some other) = by (int_eq one.category other.category)
     where
-      by : (b : Bool) → cond b ((place one.label, place other.label) ∷ []) [] ≡ map placed_pair (cond b ((one.label, other.label) ∷ []) [])
+      by : (b : Bool) → cond b ((place one.label, place other.label) ∷ []) []
+          ≡ map placed_pair (cond b ((one.label, other.label) ∷ []) [])
       by true = refl
       by false = refl
 
@@ -105,7 +117,8 @@ module _ (place : ℕ → ℕ) where
         ≡ map placed_pair (meeting (mark_at upper c) (mark_at lower d))
     two-placed c d = (λ i. meeting (one c i) (other d i)) ∙ meeting-placed (mark_at upper c) (mark_at lower d)
 
-    column-placed : (j : Joining) (col : ℕ) → meetings_at j above below col ≡ map placed_pair (meetings_at j upper lower col)
+    column-placed : (j : Joining) (col : ℕ) → meetings_at j above below col
+        ≡ map placed_pair (meetings_at j upper lower col)
     column-placed Edges col = two-placed col col
     column-placed EdgesAndCorners col =
         let here = meeting (mark_at upper col) (mark_at lower col) in
@@ -119,7 +132,8 @@ module _ (place : ℕ → ℕ) where
         → meetings j above below ≡ map placed_pair (meetings j upper lower)
     rows-placed j cells =
         ap (λ (l : List CellValue). flat_map (meetings_at j above below) (range_with_len 0 (length l))) cells
-        ∙ columns-placed (meetings_at j above below) (meetings_at j upper lower) (column-placed j) (range_with_len 0 (length upper.row.cells.items))
+        ∙ columns-placed (meetings_at j above below) (meetings_at j upper lower) (column-placed j) (range_with_len 0
+        (length upper.row.cells.items))
 
   -- ---- all bands
 
@@ -139,13 +153,17 @@ module _ (place : ℕ → ℕ) where
         let there = before-below base band one ts are.0 are.1 (ranked-below base band one bands others ts are) l le in
         omega (arith, there, at l (omega (arith, le)), are.1.is.count)
 
-    last-placed : (col : ℕ) → mark_at (last_of_meeting from one) col ≡ option_map placed (mark_at (last_of_meeting base band) col)
+    last-placed : (col : ℕ) → mark_at (last_of_meeting from one) col
+        ≡ option_map placed (mark_at (last_of_meeting base band) col)
     last-placed col =
-        mark-placed are.1.found are.1.is.in_order band.areas base from own-place band.last one.last are.1.is.last one.areas are.1.is.count col
+        mark-placed are.1.found are.1.is.in_order band.areas base from own-place band.last one.last are.1.is.last
+        one.areas are.1.is.count col
 
-    first-placed : (col : ℕ) → mark_at (first_of_meeting from one) col ≡ option_map placed (mark_at (first_of_meeting base band) col)
+    first-placed : (col : ℕ) → mark_at (first_of_meeting from one) col
+        ≡ option_map placed (mark_at (first_of_meeting base band) col)
     first-placed col =
-        mark-placed are.1.found are.1.is.in_order band.areas base from own-place band.first one.first are.1.is.first one.areas are.1.is.count col
+        mark-placed are.1.found are.1.is.in_order band.areas base from own-place band.first one.first are.1.is.first
+        one.areas are.1.is.count col
 
   next-placed : (j : Joining) (base from : ℕ) (band one : BandEdges) (bands others : List BandEdges) (ts : List ℕ)
       → AreRanked base (band ∷ bands) (one ∷ others) ts → ArePlaced base from ts

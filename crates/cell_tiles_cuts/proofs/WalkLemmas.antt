@@ -14,13 +14,14 @@ use Rattle.cell_tiles_joining.proofs.OpenLemmas.{open-more, open-same}
 use Rattle.cell_tiles_joining_law.specs.SparseLabels.{labels_before, is_touching}
 use Rattle.cell_tiles_joining_law.proofs.PlaceLemmas.{few-before, next-before, place-is, touching-at}
 use Rattle.cell_tiles_cuts.specs.declared.walks.Walk.{Walk}
-use Rattle.cell_tiles_cuts.specs.parts.Walks.{AreNumbered, IsWalked, count_before}
+use Rattle.cell_tiles_cuts.specs.parts.Walks.{AreAllNumbered, IsWalked, count_before}
 
 -- ---- how many labels come before another
 
 module _ (ts : List ℕ) (order : AllPairs ◌<◌ ts) where
   before-up : (l n : ℕ) → labels_before ts l ≤ labels_before ts (l + n)
-  before-up l zero = let same : labels_before ts (l + 0) ≡ labels_before ts l = ap (labels_before ts) (omega arith) in omega (arith, same)
+  before-up l zero = let same : labels_before ts (l + 0) ≡ labels_before ts l =
+      ap (labels_before ts) (omega arith) in omega (arith, same)
   before-up l (suc n) =
       let same : labels_before ts (l + suc n) ≡ labels_before ts (suc (l + n)) = ap (labels_before ts) (add-suc l n) in
       omega (arith, same, next-before ts order (l + n), before-up l n)
@@ -55,7 +56,8 @@ module _ (ts : List ℕ) (order : AllPairs ◌<◌ ts) where
   pub before-next : (place l : ℕ) → place < length ts → get_or ts place 0 ≡ l → labels_before ts (l + 1) ≡ place + 1
   before-next place l within is =
       let own : labels_before ts l ≡ place = ap (labels_before ts) (sym is) ∙ place-is ts order place 0 within in
-      let one : one-if (is_touching ts l) ≡ 1 = ap one-if (ap (is_touching ts) (sym is) ∙ touching-at ts place 0 within) in
+      let one : one-if (is_touching ts l) ≡ 1 = ap one-if (ap (is_touching ts) (sym is)
+      ∙ touching-at ts place 0 within) in
       let same : labels_before ts (l + 1) ≡ labels_before ts (suc l) = ap (labels_before ts) (omega arith) in
       omega (arith, own, one, same, next-before ts order l)
 
@@ -75,11 +77,12 @@ module _ (ts : List ℕ) (order : AllPairs ◌<◌ ts) where
 
 -- ---- labels that touch no cut
 
-module _ (ts joined numbers : List ℕ) (are : AreNumbered ts joined numbers) where
+module _ (ts joined numbers : List ℕ) (are : AreAllNumbered ts joined numbers) where
   next-count : (l at : ℕ) → labels_before ts l ≡ at → labels_before ts (suc l) ≡ at
       → count_before ts joined (suc l) ≡ count_before ts joined l + 1
   next-count l at one other =
-      let same : length (open_below joined (labels_before ts (suc l))) ≡ length (open_below joined (labels_before ts l)) =
+      let same : length (open_below joined (labels_before ts (suc l)))
+      ≡ length (open_below joined (labels_before ts l)) =
       ap (λ (k : ℕ). length (open_below joined k)) (other ∙ sym one) in
       omega (arith, same, one, other, few-before ts are.in_order l)
 
@@ -95,17 +98,20 @@ module _ (ts joined numbers : List ℕ) (are : AreNumbered ts joined numbers) wh
       let within : l < length numbers = omega (arith, few) in
       let none = alone-here ts are.in_order l (next ∙ sym here) in
       let first : get_or numbers l 0 ≡ count + 1 = are.alone l within none ∙ ap (λ (k : ℕ). k + 1) (sym is) in
-      let counted : count + 1 ≡ count_before ts joined (suc l) = ap (λ (k : ℕ). k + 1) is ∙ sym (next-count l at here next) in
+      let counted : count + 1 ≡ count_before ts joined (suc l) = ap (λ (k : ℕ). k + 1) is
+      ∙ sym (next-count l at here next) in
       let rest = alone-run n (suc l) at (count + 1) next shift counted (omega (arith, few)) in
       ap (take (suc n)) (drop-cons numbers l 0 within)
       ∙ (λ i. first i ∷ rest i)
 
   module _ (walk : Walk) (table : List ℕ) (h : IsWalked ts joined numbers walk table) where
     -- the count behind some
-    pub walked-on : (l count : ℕ) → walk.label ≤ l → labels_before ts l ≡ walk.place → count ≡ walk.count + (l - walk.label)
+    pub walked-on : (l count : ℕ) → walk.label ≤ l → labels_before ts l ≡ walk.place
+        → count ≡ walk.count + (l - walk.label)
         → IsWalked ts joined numbers (record { label = l; place = walk.place; count = count }) table
     walked-on l count le there is =
-        let same : length (open_below joined (labels_before ts l)) ≡ length (open_below joined (labels_before ts walk.label)) =
+        let same : length (open_below joined (labels_before ts l))
+        ≡ length (open_below joined (labels_before ts walk.label)) =
         ap (λ (k : ℕ). length (open_below joined k)) (there ∙ sym h.at) in
         record {
           long = h.long;
@@ -116,7 +122,8 @@ module _ (ts joined numbers : List ℕ) (are : AreNumbered ts joined numbers) wh
         }
 
     -- the numbers of a band up to a label
-    pub numbers-on : (start l : ℕ) → start ≤ walk.label → walk.label ≤ l → labels_before ts l ≡ walk.place → l ≤ length numbers
+    pub numbers-on : (start l : ℕ) → start ≤ walk.label → walk.label ≤ l → labels_before ts l ≡ walk.place
+        → l ≤ length numbers
         → take (l - start) (drop start numbers)
         ≡ take (walk.label - start) (drop start numbers) ++ range_with_len (walk.count + 1) (l - walk.label)
     numbers-on start l low le there few =
@@ -124,7 +131,8 @@ module _ (ts joined numbers : List ℕ) (are : AreNumbered ts joined numbers) wh
         let m = l - walk.label in
         let split : l - start ≡ n + m = omega (arith, low, le) in
         let from : drop n (drop start numbers) ≡ drop walk.label numbers =
-        drop-drop n start numbers ∙ ap (λ (k : ℕ). drop k numbers) (let e : start + n ≡ walk.label = omega (arith, low) in e) in
+        drop-drop n start numbers ∙ ap (λ (k : ℕ). drop k numbers) (let e : start + n ≡ walk.label =
+        omega (arith, low) in e) in
         let end : labels_before ts (walk.label + m) ≡ walk.place =
         ap (labels_before ts) (let e : walk.label + m ≡ l = omega (arith, le) in e) ∙ there in
         ap (λ (k : ℕ). take k (drop start numbers)) split
@@ -153,12 +161,18 @@ module _ (ts joined numbers : List ℕ) (are : AreNumbered ts joined numbers) wh
       next_count : (count opened : ℕ) → length (open_below joined (suc walk.place)) ≡ opened
           → count ≡ (walk.label - walk.place) + opened → count ≡ count_before ts joined (walk.label + 1)
       next_count count opened e c =
-          let same : length (open_below joined (labels_before ts (walk.label + 1))) ≡ length (open_below joined (suc walk.place)) =
+          let same : length (open_below joined (labels_before ts (walk.label + 1)))
+          ≡ length (open_below joined (suc walk.place)) =
           ap (λ (k : ℕ). length (open_below joined k)) (next_at ∙ add-one walk.place) in
           omega (arith, e, c, same, next_at, low)
 
       written : (v count : ℕ) → v ≡ get_or numbers walk.label 0 → count ≡ count_before ts joined (walk.label + 1)
-          → IsWalked ts joined numbers (record { label = walk.label + 1; place = walk.place + 1; count = count }) (set table walk.place v)
+          → IsWalked ts joined numbers (record {
+            label = walk.label + 1;
+            place = walk.place + 1;
+            count =
+                count;
+          }) (set table walk.place v)
           × (get_or numbers walk.label 0 ≡ get_or (set table walk.place v) walk.place 0)
       written v count number counted = (
         record {
@@ -180,13 +194,19 @@ module _ (ts joined numbers : List ℕ) (are : AreNumbered ts joined numbers) wh
       )
 
       pub opened-next : get_or table walk.place 0 ≡ walk.place
-          → IsWalked ts joined numbers (record { label = walk.label + 1; place = walk.place + 1; count = walk.count + 1 })
+          → IsWalked ts joined numbers (record {
+            label = walk.label + 1;
+            place = walk.place + 1;
+            count =
+                walk.count + 1;
+          })
           (set table walk.place (walk.count + 1))
           × (get_or numbers walk.label 0 ≡ get_or (set table walk.place (walk.count + 1)) walk.place 0)
       opened-next here =
           let own : get_or joined walk.place 0 ≡ walk.place = sym (h.later walk.place (omega arith)) ∙ here in
           let more : length (open_below joined (suc walk.place)) ≡ length (open_below joined walk.place) + 1 =
-          ap (length {A = ℕ}) (open-more joined walk.place (eq-eqb _ _ own)) ∙ length_push (open_below joined walk.place) walk.place in
+          ap (length {A = ℕ}) (open-more joined walk.place (eq-eqb _ _ own))
+          ∙ length_push (open_below joined walk.place) walk.place in
           let number : get_or numbers walk.label 0 ≡ count_before ts joined walk.label + 1 =
           ap (λ (n : ℕ). get_or numbers n 0) (sym is) ∙ are.opened walk.place within own
           ∙ ap (λ (n : ℕ). count_before ts joined n + 1) is in
@@ -202,7 +222,11 @@ module _ (ts joined numbers : List ℕ) (are : AreNumbered ts joined numbers) wh
           let up = get_or table walk.place 0 in
           let same_up : up ≡ get_or joined walk.place 0 = h.later walk.place (omega arith) in
           let below : get_or joined walk.place 0 < walk.place = omega (arith, less, same_up) in
-          let same = ap (length {A = ℕ}) (open-same joined walk.place (ne_eqb _ _ (λ e. absurd (omega (arith, e, below))))) in
+          let same = ap (length {A = ℕ}) (open-same joined walk.place (ne_eqb _ _ (λ e. absurd (omega (
+            arith,
+            e,
+            below,
+          ))))) in
           let number : get_or table up 0 ≡ get_or numbers walk.label 0 =
           h.done up less
           ∙ ap (λ (n : ℕ). get_or numbers (get_or ts n 0) 0) same_up
@@ -213,7 +237,8 @@ module _ (ts joined numbers : List ℕ) (are : AreNumbered ts joined numbers) wh
 
 -- the numbers of a band up to the label behind another
 pub numbers-next : (numbers : List ℕ) (start l : ℕ) → start ≤ l → l < length numbers
-    → take (l + 1 - start) (drop start numbers) ≡ take (l - start) (drop start numbers) ++ range_with_len (get_or numbers l 0) 1
+    → take (l + 1 - start) (drop start numbers) ≡ take (l - start) (drop start numbers) ++ range_with_len (get_or
+    numbers l 0) 1
 numbers-next numbers start l low within =
     let n = l - start in
     let split : l + 1 - start ≡ n + 1 = omega (arith, low) in
@@ -233,6 +258,7 @@ walked-none ts table numbers none = record {
   done = λ k lt. absurd (omega (arith, lt));
   at = none;
   counted =
-      let same : length (open_below table (labels_before ts 0)) ≡ 0 = ap (λ (k : ℕ). length (open_below table k)) none in
+      let same : length (open_below table (labels_before ts 0)) ≡ 0 =
+      ap (λ (k : ℕ). length (open_below table k)) none in
       omega (arith, same);
 }

@@ -20,9 +20,10 @@ use Rattle.cell_tiles_joining_law.proofs.PlaceLemmas.{before-all, place-is}
 use Rattle.cell_tiles_joining_law.proofs.SparseLemmas.{sparse-bands-number, sparse-places-number}
 use Rattle.cell_tiles_numbering.specs.declared.stretch.Stretch.{Stretch}
 use Rattle.cell_tiles_numbering.specs.AreasText.{stretches_from, stretches_in}
-use Rattle.cell_tiles_cuts.specs.parts.Walks.{AreNumbered, count_before}
+use Rattle.cell_tiles_cuts.specs.parts.Walks.{AreAllNumbered, count_before}
 
-module _ (n : ℕ) (pairs : List (ℕ × ℕ)) (ts table : List ℕ) (touching : AreTouching n pairs ts) (is : IsSparse pairs ts table) where
+module _ (n : ℕ) (pairs : List (ℕ × ℕ)) (ts table : List ℕ) (touching : AreTouching n pairs ts) (is : IsSparse pairs
+    ts table) where
   -- the number of each label
   abbrev pub whole_numbers : List ℕ
   whole_numbers = map (sparse_number pairs ts table) (range_with_len 0 n)
@@ -37,7 +38,8 @@ module _ (n : ℕ) (pairs : List (ℕ × ℕ)) (ts table : List ℕ) (touching :
   touching-at-place r within = touching.few r 0 within
 
   number-at-place : (r : ℕ) → r < length ts → get_or whole_numbers (get_or ts r 0) 0
-      ≡ (get_or ts (joined_places ts pairs r) 0 - joined_places ts pairs r) + label_number table (joined_places ts pairs r)
+      ≡ (get_or ts (joined_places ts pairs r) 0 - joined_places ts pairs r) + label_number table (joined_places ts
+      pairs r)
   number-at-place r within =
       whole-at (get_or ts r 0) (touching-at-place r within)
       ∙ sparse-places-number n pairs ts table touching is r within
@@ -59,19 +61,21 @@ module _ (n : ℕ) (pairs : List (ℕ × ℕ)) (ts table : List ℕ) (touching :
       → get_or whole_numbers (get_or ts r 0) 0 ≡ get_or whole_numbers (get_or ts (get_or table r 0) 0) 0
   closed-at r within less =
       let up = get_or table r 0 in
-      let leads : joined_places ts pairs up ≡ joined_places ts pairs r = is.leads.tells.points r (omega (arith, within, is.long)) in
+      let leads : joined_places ts pairs up ≡ joined_places ts pairs r =
+      is.leads.tells.points r (omega (arith, within, is.long)) in
       number-at-place r within
       ∙ ap (λ (q : ℕ). (get_or ts q 0 - q) + label_number table q) (sym leads)
       ∙ sym (number-at-place up (omega (arith, within, less)))
 
-  pub whole-are : AreNumbered ts table whole_numbers
+  pub whole-are : AreAllNumbered ts table whole_numbers
   whole-are = record {
     in_order = touching.in_order;
     long = is.long;
     alone = λ l within none.
         let low : l < n = omega (arith, within, whole-long) in
         whole-at l low
-        ∙ ap (number_among ts table) (cond-false (is_touching ts l) (get_or ts (joined_places ts pairs (labels_before ts l)) 0) l none);
+        ∙ ap (number_among ts table) (cond-false (is_touching ts l) (get_or ts (joined_places ts pairs (labels_before
+        ts l)) 0) l none);
     opened = opened-at;
     closed = closed-at;
   }
@@ -85,13 +89,15 @@ module _ (n : ℕ) (pairs : List (ℕ × ℕ)) (ts table : List ℕ) (touching :
 
 -- they are those that the areas of bands have in the whole
 pub whole-join : (j : Joining) (edges : List BandEdges) (ts table : List ℕ)
-    (touching : AreTouching (areas_of_bands edges) (all_meetings j 0 edges) ts) (is : IsSparse (all_meetings j 0 edges) ts table)
+    (touching : AreTouching (areas_of_bands edges) (all_meetings j 0 edges) ts) (is : IsSparse (all_meetings j 0
+    edges) ts table)
     → JoinNumbers j edges (whole_numbers (areas_of_bands edges) (all_meetings j 0 edges) ts table touching is)
     × JoinAreas j edges (count_before ts table (areas_of_bands edges))
 whole-join j edges ts table touching is =
     let n = areas_of_bands edges in
     let pairs = all_meetings j 0 edges in
-    let both = sparse-bands-number j edges ts table touching is (whole_numbers n pairs ts table touching is) (whole-at n pairs ts table touching is) in
+    let both = sparse-bands-number j edges ts table touching is (whole_numbers n pairs ts table touching is)
+    (whole-at n pairs ts table touching is) in
     (both.0, subst (JoinAreas j edges) (sym (whole-count n pairs ts table touching is)) both.1)
 
 -- ---- the stretches of a band more

@@ -6,7 +6,7 @@ ghost use Rattle.cell_tiles_joining.specs.Bands.{JoinAreas};
 ghost use Rattle.cell_tiles_joining.specs.declared.edges.BandEdges.{BandEdges};
 ghost use Rattle.cell_tiles_numbering.specs.AreasText.{stretches_of};
 ghost use Rattle.cell_tiles_cuts.specs.CutBands.{AreCutBands, AreStretchesOf};
-ghost use Rattle.cell_tiles_cuts.specs.parts.Walks.{AreNumbered, count_before};
+ghost use Rattle.cell_tiles_cuts.specs.parts.Walks.{AreAllNumbered, count_before};
 
 use crate::edge_areas::{edge_areas, rank_band};
 use crate::walks::{Walk, walk_band};
@@ -51,7 +51,7 @@ fn number_bands(
     requires down { PointDown table.old }
     requires few { sum areas.now < 2 ^ 64 }
     ensures { IfOk result (λ joined. (numbers : List ℕ)
-        → AreNumbered touching.now table.old numbers → length numbers ≡ sum areas.now
+        → AreAllNumbered touching.now table.old numbers → length numbers ≡ sum areas.now
         → (joined.stretches.items ≡ stretches_of areas.now numbers)
         × (joined.areas ≡ count_before touching.now table.old (sum areas.now))) }
 {
@@ -95,7 +95,7 @@ pub struct CutJoiner {
 
 impl Model for CutJoiner {
     ghost use Rattle.cell_tiles_cuts.specs.CutBands.{CutJoinerValue};
-    ghost use Rattle.cell_tiles_cuts.specs.parts.ReadyJoiners.{IsCutJoinerReady};
+    ghost use Rattle.cell_tiles_cuts.specs.parts.ReadyCutJoiners.{IsCutJoinerReady};
 
     ghost Value = { CutJoinerValue };
 

@@ -2,7 +2,7 @@
 //! of their band. The numbers of all others follow.
 #![tactic(auto)]
 
+mod band_lines;
 pub mod cut_joiner;
 mod edge_areas;
-mod lines;
 mod walks;

@@ -5,10 +5,10 @@ ghost use Rattle.cell_tiles_joining.specs.parts.LabelNumbers.{PointDownFrom};
 ghost use Rattle.cell_tiles_joining_law.specs.SparseLabels.{labels_before};
 ghost use Rattle.cell_tiles_numbering.specs.AreasText.{stretches_in};
 ghost use Rattle.cell_tiles_numbering.specs.declared.stretch.Stretch.{Stretch};
-ghost use Rattle.cell_tiles_cuts.specs.parts.Lines.{areas_of_line};
-ghost use Rattle.cell_tiles_cuts.specs.parts.Walks.{AreNumbered, IsBandWalked, IsWalkReady, IsWalked};
+ghost use Rattle.cell_tiles_cuts.specs.parts.BandLines.{areas_of_line};
+ghost use Rattle.cell_tiles_cuts.specs.parts.Walks.{AreAllNumbered, IsBandWalked, IsWalkReady, IsWalked};
 
-use crate::lines::{Line, Run, add_run};
+use crate::band_lines::{Line, Run, add_run};
 use cell_core::memory::Memory;
 use cell_tiles_numbering::stretch::Stretch;
 
@@ -32,7 +32,8 @@ pub(crate) struct BandWalk {
 
 // Whether another label that touches a cut comes before an end.
 fn has_label_before(touching: &[u64], place: usize, end: u64) -> bool
-    ensures { IsTrue result ↔ (place < length touching.now) × (slice_index touching.now place < end) }
+    ensures { IsTrue result
+        ↔ (place < length touching.now) × (slice_index touching.now place < end) }
 {
     match touching.get(place) {
         Some(label) => *label < end,
@@ -57,7 +58,7 @@ fn skip_to(
         (λ after. areas_of_line after.line ≡ areas_of_line from.line + (label - from.walk.label)) }
     ensures walked { IfOk result
         (λ after. (touching joined numbers table : List ℕ) (start : ℕ) (before : List Stretch)
-        → AreNumbered touching joined numbers
+        → AreAllNumbered touching joined numbers
         → labels_before touching label ≡ from.walk.place → start ≤ from.walk.label
         → label ≤ length numbers
         → IsBandWalked touching joined numbers table band start before stretches.old.items from
@@ -92,7 +93,7 @@ fn number_next(table: &mut [u64], walk: Walk) -> Walk
     ensures label { result.label ≡ walk.label + 1 }
     ensures place { result.place ≡ walk.place + 1 }
     ensures few { result.count ≤ walk.label + 1 }
-    ensures walked { (touching joined numbers : List ℕ) → AreNumbered touching joined numbers
+    ensures walked { (touching joined numbers : List ℕ) → AreAllNumbered touching joined numbers
         → slice_index touching walk.place ≡ walk.label
         → IsWalked touching joined numbers walk table.old
         → IsWalked touching joined numbers result table.new
@@ -137,8 +138,9 @@ fn walk_label(
     ensures place { IfOk result (λ after. after.walk.place ≡ from.walk.place + 1) }
     ensures areas { IfOk result (λ after. areas_of_line after.line
         ≡ areas_of_line from.line + (after.walk.label - from.walk.label)) }
-    ensures walked { IfOk result (λ after. (joined numbers : List ℕ) (start : ℕ) (before : List Stretch)
-        → AreNumbered touching.now joined numbers → start ≤ from.walk.label
+    ensures walked { IfOk result
+        (λ after. (joined numbers : List ℕ) (start : ℕ) (before : List Stretch)
+        → AreAllNumbered touching.now joined numbers → start ≤ from.walk.label
         → slice_index touching.now from.walk.place < length numbers
         → IsBandWalked touching.now joined numbers table.old band start before
         stretches.old.items from
@@ -172,7 +174,7 @@ pub(crate) fn walk_band(
     ensures ready { IfOk result (λ after. IsWalkReady touching.now table.new after) }
     ensures label { IfOk result (λ after. after.label ≡ walk.label + areas) }
     ensures walked { IfOk result (λ after. (joined numbers : List ℕ)
-        → AreNumbered touching.now joined numbers → walk.label + areas ≤ length numbers
+        → AreAllNumbered touching.now joined numbers → walk.label + areas ≤ length numbers
         → IsWalked touching.now joined numbers walk table.old
         → IsWalked touching.now joined numbers after table.new
         × (stretches.new.items ≡ stretches.old.items

@@ -36,12 +36,15 @@ module _ {S : Type 0} {taken : S → Option (List ℕ)} {faults : S → Faults} 
 
 -- ---- the lines of stretches
 
-pub stretch-more : {S : Type 0} {taken : S → Option (List ℕ)} {faults : S → Faults} {old mid now : S} {block middle new : BlockValue} (stretches : List Stretch) (i : ℕ) (d : Stretch)
+pub stretch-more : {S : Type 0} {taken : S → Option (List ℕ)} {faults : S → Faults} {old mid now : S}
+    {block middle new : BlockValue} (stretches : List Stretch) (i : ℕ) (d : Stretch)
     → i < length stretches → Appends taken faults old block (areas_text (take i stretches)) mid middle
     → Appends taken faults mid middle (stretch_line (get_or stretches i d)) now new
     → Appends taken faults old block (areas_text (take (i + 1) stretches)) now new
-stretch-more {taken = taken} {faults = faults} {old = old} {now = now} {block = block} {new = new} stretches i d within so adds =
-    let whole : areas_text (take (i + 1) stretches) ≡ areas_text (take i stretches) ++ stretch_line (get_or stretches i d) =
+stretch-more {taken = taken} {faults = faults} {old = old} {now = now} {block = block} {new = new}
+    stretches i d within so adds =
+    let whole : areas_text (take (i + 1) stretches)
+    ≡ areas_text (take i stretches) ++ stretch_line (get_or stretches i d) =
     ap areas_text (take_more stretches i d within)
     ∙ flat_map-append stretch_line (take i stretches) (get_or stretches i d ∷ [])
     ∙ ap (λ (l : List ℕ). areas_text (take i stretches) ++ l)

@@ -36,7 +36,7 @@ pub record IsRankedBand (found : List ℕ) (band ranked : BandEdges) : Type 0 wh
   pub last : IsRankedRow found band.areas band.last ranked.last
 
 -- a band whose labels begin at a base, and the labels of such areas
-pub record HasLabels (base : ℕ) (band ranked : BandEdges) (touching rest : List ℕ) : Type 0 where
+pub record HasEdgeLabels (base : ℕ) (band ranked : BandEdges) (touching rest : List ℕ) : Type 0 where
   pub found : List ℕ
   pub is : IsRankedBand found band ranked
   pub labels : touching ≡ map (λ area. base + area) found ++ rest
@@ -45,5 +45,5 @@ pub record HasLabels (base : ℕ) (band ranked : BandEdges) (touching rest : Lis
 abbrev pub AreRanked : ℕ → (bands ranked : List BandEdges) → List ℕ → Type 0
 AreRanked base [] [] touching = touching ≡ []
 AreRanked base (band ∷ bands) (one ∷ others) touching =
-    (rest : List ℕ) × HasLabels base band one touching rest × AreRanked (base + band.areas) bands others rest
+    (rest : List ℕ) × HasEdgeLabels base band one touching rest × AreRanked (base + band.areas) bands others rest
 AreRanked base bands ranked touching = ⊥

@@ -5,7 +5,7 @@ use Rattle.cell_tiles_joining_law.specs.SparseLabels.{labels_before, is_touching
 use Rattle.cell_tiles_numbering.specs.declared.stretch.Stretch.{Stretch}
 use Rattle.cell_tiles_cuts.specs.declared.walks.Walk.{Walk}
 use Rattle.cell_tiles_cuts.specs.declared.walks.BandWalk.{BandWalk}
-use Rattle.cell_tiles_cuts.specs.parts.Lines.{AreLined}
+use Rattle.cell_tiles_cuts.specs.parts.BandLines.{AreLined}
 
 -- how many labels before one lead to themselves
 abbrev pub count_before : (touching joined : List ℕ) → ℕ → ℕ
@@ -13,7 +13,7 @@ count_before touching joined label = (label - labels_before touching label) + le
 
 -- the numbers of all labels, where the places of those that touch a cut were joined: a label that leads to itself has the next
 -- number, another that of the one that it points to
-pub record AreNumbered (touching joined numbers : List ℕ) : Type 0 where
+pub record AreAllNumbered (touching joined numbers : List ℕ) : Type 0 where
   pub in_order : AllPairs ◌<◌ touching
   pub long : length joined ≡ length touching
   pub alone : (label : ℕ) → label < length numbers → is_touching touching label ≡ false → slice_index numbers label ≡ count_before touching joined label + 1

@@ -40,13 +40,16 @@ bands-preserved c =
     let count = get_or areas band 0 in
     record {
       ready = c.in_ok-walk.ensures.ready;
-      label = c.in_ok-walk.ensures.label ∙ ap (λ (k : ℕ). k + count) was.label ∙ sym (sum-more areas band (omega arith));
+      label = c.in_ok-walk.ensures.label ∙ ap (λ (k : ℕ). k + count) was.label
+          ∙ sym (sum-more areas band (omega arith));
       walked = λ numbers are many.
           let so_far = was.walked numbers are many in
           let few = sum-few areas band (omega arith) in
-          let now = c.in_ok-walk.ensures.walked c.args.table.now numbers are (omega (arith, few, was.label, many)) so_far.0 in (
+          let now = c.in_ok-walk.ensures.walked c.args.table.now numbers are (omega (arith, few, was.label, many))
+          so_far.0 in (
             now.0,
-            bands-more areas numbers band start c.bands.stretches.items c.walk_band.new.stretches.items (stretches_of areas numbers) (omega arith)
+            bands-more areas numbers band start c.bands.stretches.items c.walk_band.new.stretches.items (stretches_of
+                areas numbers) (omega arith)
                 so_far.1 now.1 (drop c.in_ok-walk.walk.label numbers)
                 (ap (λ (k : ℕ). drop k numbers) c.in_ok-walk.ensures.label ∙ sym (drop-drop count start numbers)),
           );
@@ -61,7 +64,8 @@ returns c = λ numbers are many.
     let rest : List ℕ = drop c.bands.walk.label numbers in
     let label : c.bands.walk.label ≡ sum areas = was.label ∙ sum-all areas c.bands.band end in (
       sym (append-nil c.bands.stretches.items)
-          ∙ ap (λ (l : List ℕ). c.bands.stretches.items ++ stretches_from (c.bands.band + 1) l rest) (sym (drop_of_length-le areas (omega (arith, end))))
+          ∙ ap (λ (l : List ℕ). c.bands.stretches.items ++ stretches_from (c.bands.band + 1) l rest) (sym
+          (drop_of_length-le areas (omega (arith, end))))
           ∙ so_far.1,
       so_far.0.counted ∙ ap (count_before c.args.touching.now c.args.table.now) label,
     )

@@ -15,6 +15,8 @@ loop-number-preserved c =
     let is = ap h (sym c.number-item.is) ∙ sym c.area_of.ensures.area in
     elim c.match-area_of.branch [
       | in-Some+in_ok-push w ↦ rw w.found-is (w.in_ok-push.ensures.items
-          ∙ given-some h old now xs i number w.in-Some.area c.loop-number-test.true c.loop-number.invariant (is ∙ w.in-Some.is))
-      | in_default w ↦ rw w.found-is (given-none h old now xs i number c.loop-number-test.true c.loop-number.invariant (is ∙ w.in_default.is))
+          ∙ given-some h old now xs i number w.in-Some.area c.loop-number-test.true c.loop-number.invariant (is
+          ∙ w.in-Some.is))
+      | in_default w ↦ rw w.found-is (given-none h old now xs i number c.loop-number-test.true
+          c.loop-number.invariant (is ∙ w.in_default.is))
     ]

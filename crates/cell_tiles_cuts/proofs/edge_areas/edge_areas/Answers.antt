@@ -11,7 +11,8 @@ use Rattle.cell_tiles_cuts.proofs.edge_areas.edge_areas.Goals as goal
 pub returns-clause-ascending : goal.returns-clause-ascending
 returns-clause-ascending c =
     let sorted : List ℕ = c.sort_unstable.new.self.items in
-    let is : c.dedup.new.self.items ≡ dedup eqb sorted = dedup_is eqb sorted c.dedup.new.self.items c.dedup.ensures.filtered in
+    let is : c.dedup.new.self.items ≡ dedup eqb sorted =
+    dedup_is eqb sorted c.dedup.new.self.items c.dedup.ensures.filtered in
     subst (λ (l : List ℕ). AllPairs ◌<◌ l) (sym is)
     (AllPairs-from_increasing (dedup eqb sorted) (IsStrictlyIncreasing-dedup sorted c.sort_unstable.ensures.sorted))
 
@@ -21,7 +22,8 @@ returns-clause-same c = λ area.
     let h = area_of_number band.areas in
     let sorted : List ℕ = c.sort_unstable.new.self.items in
     let given : List ℕ = c.add_areas-2.new.found.items in
-    let is : c.dedup.new.self.items ≡ dedup eqb sorted = dedup_is eqb sorted c.dedup.new.self.items c.dedup.ensures.filtered in
+    let is : c.dedup.new.self.items ≡ dedup eqb sorted =
+    dedup_is eqb sorted c.dedup.new.self.items c.dedup.ensures.filtered in
     let moved = c.sort_unstable.ensures.permutation in
     let one : c.add_areas.new.found.items ≡ filter_map h band.first.numbers.items =
     c.in_ok-add_areas.ensures ∙ (λ i. c.new-found.ensures.items i ++ filter_map h (c.deref.ensures.value i)) in

@@ -1,5 +1,5 @@
 use Rattle.std.proofs.Common.{◌-◌, ℕ, List, drop, take, refl, sym, subst}
-use Rattle.cell_tiles_cuts.specs.parts.Lines.{AreLined}
+use Rattle.cell_tiles_cuts.specs.parts.BandLines.{AreLined}
 use Rattle.cell_tiles_cuts.proofs.WalkLemmas.{numbers-on, walked-on}
 use Rattle.cell_tiles_cuts.proofs.walks.skip_to.Goals as goal
 

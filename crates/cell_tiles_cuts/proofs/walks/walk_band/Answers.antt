@@ -1,8 +1,8 @@
 use Rattle.std.proofs.Common.{◌≡◌, ◌+◌, ◌-◌, ◌<◌, ℕ, List, drop, take, Option, ap, arith, sym, subst, ◌∙◌}
 use Rattle.cell_tiles_joining.specs.parts.LabelNumbers.{PointDownFrom}
 use Rattle.cell_tiles_joining_law.specs.SparseLabels.{labels_before}
-use Rattle.cell_tiles_cuts.specs.declared.lines.Line.{Line}
-use Rattle.cell_tiles_cuts.specs.parts.Lines.{AreLined}
+use Rattle.cell_tiles_cuts.specs.declared.band_lines.Line.{Line}
+use Rattle.cell_tiles_cuts.specs.parts.BandLines.{AreLined}
 use Rattle.cell_tiles_cuts.proofs.LineLemmas.{lined-none, lined-some, lined-start}
 use Rattle.cell_tiles_cuts.proofs.WalkLemmas.{before-end}
 use Rattle.cell_tiles_cuts.proofs.walks.walk_band.Goals as goal
@@ -43,7 +43,8 @@ returns-clause-ready c =
     let was = c.labels.invariant in
     let ts = c.args.touching.now in
     let walk = c.labels.at.walk in
-    let there = before-end ts was.ready.in_order walk.label walk.place (c.args.walk.label + c.args.areas) was.ready.at was.to
+    let there = before-end ts was.ready.in_order walk.label walk.place (c.args.walk.label + c.args.areas)
+    was.ready.at was.to
     (λ both. absurd (let yes' = c.has_label_before.ensures.1 both in let no' = c.labels-test.false in cc)) in
     record {
       in_order = was.ready.in_order;

@@ -3,7 +3,7 @@ use Rattle.std.specs.List.{range_with_len}
 use Rattle.cell_tiles_joining.specs.parts.LabelNumbers.{PointDownFrom}
 use Rattle.cell_tiles_joining_law.specs.SparseLabels.{labels_before}
 use Rattle.cell_tiles_joining_law.proofs.PlaceLemmas.{place-is}
-use Rattle.cell_tiles_cuts.specs.parts.Lines.{AreLined}
+use Rattle.cell_tiles_cuts.specs.parts.BandLines.{AreLined}
 use Rattle.cell_tiles_cuts.proofs.WalkLemmas.{before-next, label-above, numbers-next}
 use Rattle.cell_tiles_cuts.proofs.walks.walk_label.Goals as goal
 
@@ -69,7 +69,10 @@ returns-clause-walked c = λ joined numbers start before are low few h.
     let on = label-above ts r.in_order c.args.from.walk.label place r.at c.requires.inside in
     let there : labels_before ts label ≡ place = place-is ts r.in_order place 0 c.requires.inside in
     let at = c.in_ok-at.at in
-    let was = c.in_ok-at.ensures.walked ts joined numbers c.args.table.now start before are there low (omega (arith, few)) h in
+    let was = c.in_ok-at.ensures.walked ts joined numbers c.args.table.now start before are there low (omega (
+      arith,
+      few,
+    )) h in
     let is : get_or ts at.walk.place 0 ≡ at.walk.label =
     ap (λ (k : ℕ). get_or ts k 0) c.in_ok-at.ensures.place ∙ sym c.in_ok-at.ensures.label in
     let now = c.number_next-walk.ensures.walked ts joined numbers are is was.walked in

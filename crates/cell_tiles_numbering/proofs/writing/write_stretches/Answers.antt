@@ -7,5 +7,6 @@ loop-stretch-init g c = appends_none
 
 pub loop-stretch-preserved : goal.loop-stretch-preserved
 loop-stretch-preserved g c =
-    stretch-more c.args.stretches.now c.loop-stretch.stretch-index (record { band = 0; first = 0; last = 0; number = 0 })
+    stretch-more c.args.stretches.now c.loop-stretch.stretch-index
+    (record { band = 0; first = 0; last = 0; number = 0 })
     c.loop-stretch-test.true c.loop-stretch.invariant c.write_stretch.ensures

@@ -2,7 +2,7 @@
 use Rattle.std.specs.Prelude.{ℕ, ◌≡◌, List, ◌++◌, Option, Some, None}
 use Rattle.cell_tiles_numbering.specs.AreasText.{stretches_behind, stretches_in}
 use Rattle.cell_tiles_numbering.specs.declared.stretch.Stretch.{Stretch}
-use Rattle.cell_tiles_cuts.specs.declared.lines.Line.{Line}
+use Rattle.cell_tiles_cuts.specs.declared.band_lines.Line.{Line}
 
 -- how many areas of its band come before the end of a line
 abbrev pub areas_of_line : Option Line → ℕ

@@ -3,7 +3,7 @@
 ghost use Rattle.std.specs.Prelude.{◌≡◌, ◌+◌, ◌<◌, ◌^◌, ◌++◌, ℕ, List, IfOk};
 ghost use Rattle.std.specs.List.{range_with_len};
 ghost use Rattle.cell_tiles_numbering.specs.declared.stretch.Stretch.{Stretch};
-ghost use Rattle.cell_tiles_cuts.specs.parts.Lines.{AreLined, areas_of_line};
+ghost use Rattle.cell_tiles_cuts.specs.parts.BandLines.{AreLined, areas_of_line};
 
 use cell_core::memory::Memory;
 use cell_tiles_numbering::stretch::{Stretch, is_next};
