@@ -4,7 +4,7 @@ use Rattle.std.proofs.Common.{◌∙◌}
 use Rattle.std.specs.Prelude.{IfSome}
 use Rattle.cell_core_devices.specs.Blocks.{Appended, BlockValue, IsRest}
 use Rattle.cell_core_devices.specs.Device.{Faults, after_put, has_failed}
-use Rattle.cell_tiles_areas.specs.parts.PutAreas.{HasPut}
+use Rattle.cell_tiles_areas.specs.PutAreas.{HasPut}
 use Rattle.cell_tiles_areas.specs.declared.areas_join_fault.AreasJoinFault.{AreasJoinFault}
 use Rattle.cell_tiles_areas.specs.declared.areas_join_fault.AreasJoinFault.TheVariants.{Write}
 

@@ -5,7 +5,7 @@ ghost use Rattle.cell_core_devices.specs.Device.{Coming, has_failed};
 ghost use Rattle.cell_tiles_texts.specs.JoinedTexts.{Give};
 ghost use Rattle.cell_tiles_numbering.specs.AreasText.{areas_text, stretches_of};
 ghost use Rattle.cell_tiles_areas.specs.AreasOfTexts.{AreNumbersOf, HasAreasPrefix, HasWrittenAreas, IsAreasJoinFault};
-ghost use Rattle.cell_tiles_areas.specs.parts.PutAreas.{HasPut};
+ghost use Rattle.cell_tiles_areas.specs.PutAreas.{HasPut};
 ghost use Rattle.cell_tiles_areas.specs.parts.ReadBands.{HaveBeenRead};
 
 use crate::areas_join_fault::AreasJoinFault;
@@ -101,8 +101,9 @@ fn finish<W: Sink>(failed: bool, out: &mut W) -> Option<AreasJoinFault>
     }
 }
 
-// Writes the areas text, and flushes the sink unless it refused a put.
-fn put_areas<W: Sink>(out: &mut W, areas: &[u64], numbers: &[u64]) -> AreasOutcome
+/// Writes the areas text of parts that have so many areas, with their numbers in the whole part by part, and flushes the sink
+/// unless it refused a put. It takes no memory, and there is no fault but that of a write.
+pub fn put_areas<W: Sink>(out: &mut W, areas: &[u64], numbers: &[u64]) -> AreasOutcome
     ensures { HasPut (areas_text (stretches_of areas.now numbers.now))
         (W.taken out.old) (W.taken out.new) (W.faults out.old) (W.faults out.new)
         result.written result.fault }

@@ -11,7 +11,7 @@ use Rattle.std.proofs.lemmas.List.Elements.{Contains-append_cases}
 use Rattle.cell_tiles_grid.specs.declared.sides.AreaStart.{AreaStart}
 use Rattle.cell_tiles_grid.specs.declared.sides.TileSides.{TileSides}
 use Rattle.cell_tiles_grid.specs.declared.grid_places.Place.{Place}
-use Rattle.cell_tiles_grid.specs.Grids.{areas_in, areas_before_tile}
+use Rattle.cell_tiles_grid.specs.Grids.{TileRows, areas_in, areas_in_rows, areas_before_tile}
 use Rattle.cell_tiles_grid.specs.parts.Places.{start_place, row_places, all_places, IsEarlierPlace, AreInOrder, is_same_place, place_label}
 
 -- ---- places
@@ -192,6 +192,17 @@ row-length : (r c : ℕ) (tiles : List TileSides) → length (row_places r c til
 row-length r c [] = refl
 row-length r c (tile ∷ tiles) =
     omega (arith, length-append (map (start_place r c) tile.starts.items) (row_places r (c + 1) tiles), length-map tile.starts.items (start_place r c), row-length r (c + 1) tiles, sum_by-cons (λ (s : TileSides). length s.starts.items) tile tiles)
+
+pub rows-length : (r : ℕ) (rows : TileRows) → length (all_places r rows) ≡ areas_in_rows rows
+rows-length r [] = refl
+rows-length r (row ∷ rows) =
+    omega (
+      arith,
+      length-append (row_places r 0 row.items) (all_places (r + 1) rows),
+      row-length r 0 row.items,
+      rows-length (r + 1) rows,
+      sum_by-cons (λ (v : Vec TileSides Global). areas_in v.items) row rows,
+    )
 
 pub record Listed (all : List Place) (n : ℕ) (place : Place) : Type 0 where
   pub inside : n < length all

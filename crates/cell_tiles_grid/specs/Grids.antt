@@ -53,9 +53,12 @@ pub record IsGrid (j : Joining) (whole : Grid) (heights widths : List ℕ) (tile
   pub within : (p : Position) → IsSome (cell_at_spot whole p) → (p.row < sum heights) × (p.col < sum widths)
   pub tiles : (r c : ℕ) (row : Vec TileSides Global) (sides : TileSides) → slice_get rows r ≡ Some row → slice_get row.items c ≡ Some sides → IsTileOf j whole (tile_place heights widths r c) (tile r c) sides
 
--- how many areas the tiles have that come before one, row by row
+-- how many areas tiles have, all tiles of a grid, and those that come before one, row by row
 abbrev pub areas_in : List TileSides → ℕ
 areas_in tiles = sum_by (λ sides. length sides.starts.items) tiles
+
+abbrev pub areas_in_rows : TileRows → ℕ
+areas_in_rows rows = sum_by (λ row. areas_in row.items) rows
 
 abbrev pub areas_before_tile : TileRows → (r c : ℕ) → (row : List TileSides) → ℕ
 areas_before_tile rows r c row = sum_by (λ tiles. areas_in tiles.items) (take r rows) + areas_in (take c row)

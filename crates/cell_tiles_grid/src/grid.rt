@@ -1,7 +1,7 @@
 //! The areas of a grid of tiles joined to those of the whole map.
 
-ghost use Rattle.std.specs.Prelude.{◌≡◌, IfOk, map};
-ghost use Rattle.cell_tiles_grid.specs.Grids.{GridAreas, GridNumbers};
+ghost use Rattle.std.specs.Prelude.{◌≡◌, IfOk, length, map};
+ghost use Rattle.cell_tiles_grid.specs.Grids.{GridAreas, GridNumbers, areas_in_rows};
 ghost use Rattle.cell_tiles_grid.specs.parts.Places.{AreInOrder, number_in};
 
 use crate::grid_pairs::pairs_of;
@@ -63,6 +63,7 @@ pub fn join_grid(
     ensures numbers { IfOk result (λ joined.
         GridNumbers joining rows.now joined.numbers.items) }
     ensures areas { IfOk result (λ joined. GridAreas joining rows.now joined.areas) }
+    ensures many { IfOk result (λ joined. length joined.numbers.items ≡ areas_in_rows rows.now) }
 {
     let places = places_of(alloc, rows)?;
     let order = in_order(alloc, &places)?;

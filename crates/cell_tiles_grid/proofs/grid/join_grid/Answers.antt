@@ -2,6 +2,8 @@ use Rattle.std.proofs.Common.{◌≡◌, ℕ, [], List, map, length, ap, sym, �
 use Rattle.cell_tiles_grid.specs.declared.grid_places.Place.{Place}
 use Rattle.cell_tiles_grid.specs.parts.Places.{all_places, number_in}
 use Rattle.cell_tiles_grid.specs.parts.GridMeetings.{linked, row_links}
+use Rattle.std.proofs.lemmas.List.{length-map}
+use Rattle.cell_tiles_grid.proofs.PlaceLemmas.{rows-length}
 use Rattle.cell_tiles_grid.proofs.LineLemmas.{pairs-within}
 use Rattle.cell_tiles_grid.proofs.TellLemmas.{numbers-told, areas-told}
 use Rattle.cell_tiles_grid.proofs.grid.join_grid.Goals as goal
@@ -39,3 +41,12 @@ returns-clause-areas c =
     let many : c.len.result ≡ length order = c.len.ensures ∙ sym c.deref-2.ensures.len ∙ ap (length {A = Place}) c.deref-2.ensures.value in
     let are : c.deref-3.result.now ≡ linked j [] (row_links j order 0 rows) = c.deref-3.ensures.value ∙ c.in_ok-pairs.ensures ∙ ap (λ (l : List Place). linked j [] (row_links j l 0 rows)) c.deref-2.ensures.value in
     areas-told j rows order c.deref.result.now places c.in_ok-order.ensures.ascending c.in_ok-order.ensures.same c.len.result many c.deref-3.result.now are c.in_ok-joined.joined.areas c.in_ok-joined.ensures.areas
+
+pub returns-clause-many : goal.returns-clause-many
+returns-clause-many c =
+    let order : List Place = c.deref-5.result.now in
+    let numbers : List ℕ = c.deref-6.result.now in
+    ap (length {A = ℕ}) c.in_ok-numbers.ensures
+    ∙ length-map c.deref-4.result.now (number_in order numbers)
+    ∙ ap (length {A = Place}) (c.deref-4.ensures.value ∙ c.in_ok-places.ensures)
+    ∙ rows-length 0 c.args.rows.now
