@@ -3,9 +3,9 @@
 
     joining.py [--rounds N] [--short] [--only WORD] [--program PATH] [--write]
 
-Three parts: `tables` of the tables of 64 tiles, beside `sort -m` alone and beside `sort -m` with an awk program behind it that adds up
-equal lines; `areas` of the edges of many bands, beside scipy's connected_components on the pairs of labels that meet over the cuts; and
-`sizes`. All are made here, at random and always the same, and the answers of the contenders are compared before they are timed. They
+Three parts: `tables` of the tables of 2, 64 and 1,000 tiles, each entry in one of them, in some or in all, beside `sort -m` alone and
+beside `sort -m` with an awk program behind it that adds up equal lines; `areas` of the edges of many bands, beside scipy's
+connected_components on the pairs of labels that meet over the cuts; and `sizes`. All are made here, at random and always the same, and the answers of the contenders are compared before they are timed. They
 take turns, and the least processor time (user and system, of all processes of a pipe) of all rounds counts. Memory is the peak of
 the process. Each part is doubled some times, so that the cost of an entry, of a label and of an area can be read down its column.
 
@@ -29,7 +29,6 @@ ROOT = os.path.dirname(HERE)
 DOCUMENT = f"{ROOT}/docs/SPEED.md"
 MARKS = ("<!-- The tables of bench/joining.py -->\n", "<!-- End of them -->\n")
 ENVIRONMENT = {"PATH": "/usr/bin:/bin", "LC_ALL": "C"}
-TILES = 64
 ROW_OF_CATEGORIES = 4  # categories of the cells of an edge: few, so that areas go on in the next band
 LENGTH_OF_A_RUN = 8
 ADDING = "NR == 1 || $1 != before { if (NR > 1) print before, cells; before = $1; cells = 0 } { cells += $2 } END { print before, cells }"
@@ -78,12 +77,15 @@ def megabytes(count: float) -> str:
 # Tables
 
 
-def make_tables(folder: str, entries: int) -> list[str]:
-    """Tables of so many entries together, whose categories are those of a quarter as many combinations."""
+def make_tables(folder: str, tiles: int, entries: int, shared: int) -> list[str]:
+    """Tables of so many entries together, each entry in one of them, in all, or at random in so many on average."""
     random = np.random.default_rng(entries)
+    whole = np.arange(entries // shared)
+    apart = np.array_split(random.permutation(whole), tiles)
     paths = []
-    for tile in range(TILES):
-        categories = np.sort(random.choice(entries // 4, entries // TILES, replace=False))
+    for tile in range(tiles):
+        of_tile = apart[tile] if shared == 1 else random.choice(whole, entries // tiles, replace=False)
+        categories = np.sort(of_tile)
         cells = random.integers(1, 10**6, len(categories))
         paths.append(f"{folder}/{tile}.table")
         with open(paths[-1], "w", encoding="ascii") as file:
@@ -91,21 +93,21 @@ def make_tables(folder: str, entries: int) -> list[str]:
     return paths
 
 
-def time_tables(program: str, folder: str, entries: int, rounds: int) -> Iterator[str]:
-    paths = make_tables(folder, entries)
-    sort = ["sort", "-m", "-n", "-s", "-k1,1", f"--batch-size={TILES}", *paths]
+def time_tables(program: str, folder: str, tiles: int, entries: int, shared: int, rounds: int) -> Iterator[str]:
+    paths = make_tables(folder, tiles, entries, shared)
+    sort = ["sort", "-m", "-n", "-s", "-k1,1", f"--batch-size={tiles}", *paths]
     awk = ["awk", "-v", "OFMT=%.0f", "-v", "CONVFMT=%.0f", ADDING]
     for name, commands in (("joined", [[program, "tables", *paths]]), ("added", [sort, awk])):
         cost_of(commands, f"{folder}/{name}")
     subprocess.run(["cmp", f"{folder}/joined", f"{folder}/added"], check=True)
     found = least({"join": lambda: cost_of([[program, "tables", *paths]]), "sort": lambda: cost_of([sort]), "both": lambda: cost_of([sort, awk])}, rounds)
     join, alone, both = (found[name] for name in ("join", "sort", "both"))
-    yield f"{entries:,} | {join.seconds:.2f} s | {alone.seconds:.2f} s | {join.seconds / alone.seconds:.2f} | {both.seconds:.2f} s | " \
+    yield f"{tiles:,} | {entries:,} | {shared} | {join.seconds:.2f} s | {alone.seconds:.2f} s | {join.seconds / alone.seconds:.2f} | {both.seconds:.2f} s | " \
           f"{join.seconds / both.seconds:.2f} | {1e9 * join.seconds / entries:.0f} ns | {megabytes(join.memory)} | {megabytes(alone.memory)}"
 
 
-TABLES = ("Tables", "`rcell-join tables` of 64 tables, each entry in some four of them.",
-          "Entries of all | rcell-join | `sort -m` | ratio | `sort -m \\| awk` | ratio | an entry | memory: rcell-join | `sort -m`")
+TABLES = ("Tables", "`rcell-join tables`, each entry in one of the tables, in all, or in some four of them.",
+          "Tables | entries of all | each in | rcell-join | `sort -m` | ratio | `sort -m \\| awk` | ratio | an entry | memory: rcell-join | `sort -m`")
 
 # Areas
 
@@ -231,7 +233,8 @@ def table(part: tuple[str, str, str], rows: list[str]) -> str:
 
 def measured(given: argparse.Namespace) -> Iterator[str]:
     part, rounds = (10, 1) if given.short else (1, given.rounds)
-    tables = [(entries // part,) for entries in (1_000_000, 2_000_000, 4_000_000)]
+    kinds = [(64, 1, 4), (64, 2, 4), (64, 1, 1), (64, 2, 1), (64, 1, 64), (2, 1, 1), (2, 1, 2), (1000, 1, 1), (1000, 2, 1), (1000, 1, 4)]
+    tables = [(tiles, millions * 1_000_000 // part, shared) for tiles, millions, shared in kinds]
     bands = [(1000 // part, columns, areas) for columns, areas in ((1000, 10_000), (2000, 10_000), (4000, 10_000), (1000, 20_000), (1000, 40_000), (1000, 100_000))]
     bands[1:1] = [(2000 // part, 1000, 10_000)]
     sizes = [(100, areas // part) for areas in (50_000, 100_000, 200_000)]

@@ -51,8 +51,12 @@ fn edges_region(region: Region) -> Region
     }
 }
 
-// A row of nulls behind a count.
-fn count_row(alloc: Global, cols: u32, areas: u64) -> Result<Vec<Cell>, Memory>
+/// A row of nulls behind a count: what it counts stands in its first cell.
+///
+/// # Errors
+///
+/// [`Memory`] when out of memory.
+pub fn count_row(alloc: Global, cols: u32, areas: u64) -> Result<Vec<Cell>, Memory>
     requires cols { 0 < cols }
     requires areas { areas ≤ most_areas }
     ensures { IfOk result (λ row. row.items ≡ count_row cols areas) }
@@ -109,8 +113,8 @@ fn are_null(cells: &[Cell]) -> bool
     all
 }
 
-// The count in the first cell of a row whose other cells are null.
-fn count_in(row: &[Cell]) -> Option<u64>
+/// The count in the first cell of a row whose other cells are null.
+pub fn count_in(row: &[Cell]) -> Option<u64>
     ensures count { result ≡ count_in_row row.now }
     ensures few { IfSome result (λ areas. areas ≤ most_areas) }
 {
@@ -186,8 +190,8 @@ fn areas_in(alloc: Global, map: &CellMap) -> Result<u64, EdgesFault>
     }
 }
 
-// Says that a map is filled, and has a row and a column. Does nothing.
-pub(crate) fn map_is_filled(map: &CellMap)
+/// Says that a map is filled, and has a row and a column. Does nothing.
+pub fn map_is_filled(map: &CellMap)
     ensures filled { IsFilled map.now.region map.now.rows }
     ensures wide { 0 < map.now.region.cols }
     ensures tall { 0 < map.now.region.rows }

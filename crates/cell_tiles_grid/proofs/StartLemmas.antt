@@ -25,14 +25,14 @@ before-itself : (p : Position) → ¬ IsEarlierCell p p
 before-itself p h = IsBefore-asym p p h h
 
 -- a cell before the one behind another is that one, or before it
-before-next : (row col : ℕ) (q : Position) → IsEarlierCell q (position row (col + 1)) → (q ≡ position row col) ⊎ IsEarlierCell q (position row col)
+pub before-next : (row col : ℕ) (q : Position) → IsEarlierCell q (position row (col + 1)) → (q ≡ position row col) ⊎ IsEarlierCell q (position row col)
 before-next row col q (inl h) = inr (inl h)
 before-next row col q (inr h) =
     ⊎_elim (λ lt. inr (inr (h.0, lt)))
     (λ le. let e : q.col ≡ col = (let lt = h.1 in omega (arith, le, lt)) in inl (λ i. record { row = h.0 i; col = e i }))
     (cases_lt q.col col)
 
-later-next : (row col : ℕ) (q : Position) → IsEarlierCell q (position row col) → IsEarlierCell q (position row (col + 1))
+pub later-next : (row col : ℕ) (q : Position) → IsEarlierCell q (position row col) → IsEarlierCell q (position row (col + 1))
 later-next row col q (inl h) = inl h
 later-next row col q (inr h) = inr (h.0, let lt = h.1 in omega (arith, lt))
 

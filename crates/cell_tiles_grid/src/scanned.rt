@@ -39,8 +39,17 @@ fn column_of(alloc: Global, map: &CellMap, col: u32) -> Result<Vec<Cell>, Memory
     Ok(cells)
 }
 
-// A row as a side.
-fn row_side(alloc: Global, map: &CellMap, numbers: &CellMap, row: u32) -> Result<TileSide, Memory>
+/// A row as a side.
+///
+/// # Errors
+///
+/// [`Memory`] when out of memory.
+pub fn row_side(
+    alloc: Global,
+    map: &CellMap,
+    numbers: &CellMap,
+    row: u32,
+) -> Result<TileSide, Memory>
     requires row { row < map.now.region.rows }
     requires region { numbers.now.region ≡ map.now.region }
     ensures { IfOk result (λ side. IsSide
@@ -52,8 +61,12 @@ fn row_side(alloc: Global, map: &CellMap, numbers: &CellMap, row: u32) -> Result
     })
 }
 
-// A column as a side.
-fn column_side(
+/// A column as a side.
+///
+/// # Errors
+///
+/// [`Memory`] when out of memory.
+pub fn column_side(
     alloc: Global,
     map: &CellMap,
     numbers: &CellMap,

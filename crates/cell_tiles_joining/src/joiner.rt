@@ -1,6 +1,7 @@
 //! Bands joined one after another, so that none has to be kept once the next one was added.
 
 ghost use Rattle.std.specs.Prelude.{◌≡◌, List, [], ◌∷◌, ◌++◌, IfOk, length, sum_by};
+ghost use Rattle.cell_cats_areas.specs.parts.Labels.{PointDown};
 ghost use Rattle.cell_tiles_joining.specs.Bands.{JoinAreas, JoinNumbers};
 ghost use Rattle.cell_tiles_joining.specs.BandsSoFar.{AreJoinedBands};
 ghost use Rattle.cell_tiles_joining.specs.declared.edges.BandEdges.{BandEdges};
@@ -77,6 +78,14 @@ impl BandJoiner {
             base: next,
             last: Some(band),
         })
+    }
+
+    /// The table of the labels of all areas: where each leads, once the labels of cells that meet at a cut were joined.
+    pub fn into_table(self) -> Vec<u64>
+        ensures down { PointDown result.items }
+        ensures table { result.items ≡ self.table }
+    {
+        self.table
     }
 
     /// The number that each area of each band has in the whole map of the bands, as [`crate::joining::join_bands`] tells it.

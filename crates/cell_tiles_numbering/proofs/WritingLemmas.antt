@@ -1,6 +1,6 @@
 -- A text that is written part by part.
 use Rattle.std.proofs.Common.{◌≡◌, ℕ, ◌+◌, ◌<◌, ◌≤◌, List, [], ◌∷◌, ◌++◌, length, get_or, take, drop, min, Bool, true, false, cond, ◌==◌, refl, ap, sym, ◌∙◌, subst, Option, append_assoc, append-nil, arith}
-use Rattle.std.proofs.lemmas.List.{at_drop_more, drop_min, take_min}
+use Rattle.std.proofs.lemmas.List.{at_drop_more, drop_min, take_min, take_more}
 use Rattle.std.proofs.lemmas.List.Concat.{flat_map-append}
 use Rattle.cell_core_devices.specs.Blocks.{BlockValue, Appends}
 use Rattle.cell_core_devices.specs.Device.{Faults}
@@ -33,6 +33,23 @@ module _ {S : Type 0} {taken : S → Option (List ℕ)} {faults : S → Faults} 
   rest-none {now} {new} text rest so e =
       subst (λ (l : List ℕ). Appends taken faults old block l now new)
       (sym (append-nil so.done) ∙ ap (λ (l : List ℕ). so.done ++ l) (sym e) ∙ so.whole) so.appends
+
+-- ---- the lines of stretches
+
+pub stretch-more : {S : Type 0} {taken : S → Option (List ℕ)} {faults : S → Faults} {old mid now : S}
+    {block middle new : BlockValue} (stretches : List Stretch) (i : ℕ) (d : Stretch)
+    → i < length stretches → Appends taken faults old block (areas_text (take i stretches)) mid middle
+    → Appends taken faults mid middle (stretch_line (get_or stretches i d)) now new
+    → Appends taken faults old block (areas_text (take (i + 1) stretches)) now new
+stretch-more {taken = taken} {faults = faults} {old = old} {now = now} {block = block} {new = new}
+    stretches i d within so adds =
+    let whole : areas_text (take (i + 1) stretches)
+    ≡ areas_text (take i stretches) ++ stretch_line (get_or stretches i d) =
+    ap areas_text (take_more stretches i d within)
+    ∙ flat_map-append stretch_line (take i stretches) (get_or stretches i d ∷ [])
+    ∙ ap (λ (l : List ℕ). areas_text (take i stretches) ++ l)
+    (append-nil (stretch_line (get_or stretches i d))) in
+    subst (λ (l : List ℕ). Appends taken faults old block l now new) (sym whole) (appends_then so adds)
 
 -- ---- the lines of a band
 

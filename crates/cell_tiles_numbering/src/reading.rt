@@ -1,6 +1,7 @@
 //! The areas text read.
 
 ghost use Rattle.std.specs.Prelude.{◌≡◌, ◌≢◌, ◌-◌, None, IfErr, IfOk, IfSome, OnOk, Ok, Err, option_map, slice_index_or};
+ghost use Rattle.cell_tiles_lines.specs.LineReading.{line_after};
 ghost use Rattle.cell_tiles_numbering.specs.AreasReading.{areas_fault, areas_format, areas_reading_of, areas_stopped, comes_next, in_sequence, number_in_column, number_of_cell, stretch_of_entry};
 ghost use Rattle.cell_tiles_numbering.specs.TextOfAreas.{areas_behind, areas_from};
 ghost use Rattle.cell_tiles_numbering.specs.parts.HeadStretch.{stretch_of_head};
@@ -153,6 +154,9 @@ impl<R: Source> AreasText<R> {
             ≡ areas_from areas) }
         ensures fault { IfErr result (λ fault. fault.kind ≢ AreasKind.Memory → IfSome (R.coming
             source) (λ coming. areas_reading_of coming ≡ areas_stopped fault.line fault.kind)) }
+        ensures line { IfOk result (λ areas. areas.line ≡ 2) }
+        ensures sequence { IfOk result (λ areas. IfSome areas.head
+            (λ stretch. in_sequence None stretch ≡ Ok stretch)) }
     {
         let text = match TableText::from_source(alloc, &areas_format(), 3, source) {
             Ok(text) => text,
@@ -191,6 +195,9 @@ impl<R: Source> AreasText<R> {
         ensures read { OnOk result (areas_behind self.old ≡ areas_from self.new) }
         ensures fault { IfErr result (λ fault. fault.kind ≢ AreasKind.Memory → IfSome
             (areas_behind self.old) (λ reading. reading ≡ areas_stopped fault.line fault.kind)) }
+        ensures line { OnOk result (self.new.line ≡ line_after self.old.line) }
+        ensures sequence { OnOk result (IfSome self.new.head
+            (λ stretch. in_sequence self.old.head stretch ≡ Ok stretch)) }
     {
         let line = self.line;
         if let Err(fault) = self.text.next(alloc, &areas_format()) {

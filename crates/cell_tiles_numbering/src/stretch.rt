@@ -15,8 +15,8 @@ pub struct Stretch {
     pub number: u64,
 }
 
-// Whether a number is the one after another.
-pub(crate) fn is_next(previous: u64, number: u64) -> bool
+/// Whether a number is the one after another.
+pub fn is_next(previous: u64, number: u64) -> bool
     ensures { result ≡ (number == previous + 1) }
 {
     match previous.checked_add(1) {

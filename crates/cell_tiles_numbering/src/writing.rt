@@ -28,6 +28,16 @@ fn write_stretch<W: Sink>(out: &mut W, block: &mut OutputBlock, stretch: Stretch
     write_number(out, block, stretch.number, b'\n');
 }
 
+/// Writes the lines of stretches. It takes no memory.
+pub fn write_stretches<W: Sink>(out: &mut W, block: &mut OutputBlock, stretches: &[Stretch])
+    ensures { Appends W.taken W.faults out.old block.old (areas_text stretches.now) out.new
+        block.new }
+{
+    for stretch in stretches {
+        write_stretch(out, block, *stretch);
+    }
+}
+
 // Writes the lines of a band whose areas have these numbers.
 fn write_band<W: Sink>(out: &mut W, block: &mut OutputBlock, band: u64, numbers: &[u64])
     ensures { Appends W.taken W.faults out.old block.old

@@ -7,6 +7,7 @@ use Rattle.cell_stats.specs.TableText.{FormatValue}
 use Rattle.cell_tiles_lines.specs.LineReading.{TableReading}
 use Rattle.cell_tiles_lines.specs.TableLines.{entries_text}
 use Rattle.cell_tiles_numbering.specs.AreasReading.{AreasReading}
+use Rattle.cell_tiles_sizes.specs.SizeFaults.{IsSizesFault}
 use Rattle.cell_tiles_sizes.specs.SizeTexts.{HasSizesPrefix, HasStopped, HasWrittenSizes, HaveSizes, number_entries}
 use Rattle.cell_tiles_sizes.specs.parts.Counting.{HasPutSizes}
 use Rattle.cell_tiles_sizes.specs.declared.size_fault.SizesFault.{SizesFault}
@@ -25,7 +26,8 @@ fails : (failed : Bool) (start mid last : Faults) → mid ≡ after_put start fa
 fails false start mid last is same told = told refl
 fails true start mid last is same told = ap has_failed (same refl ∙ is)
 
-both : (fault : Option SizesFault) (P Q : SizesFault → Type 0) → IfSome fault P → IfSome fault Q → IfSome fault (λ f. P f × Q f)
+both : (fault : Option SizesFault) (P Q : SizesFault → Type 0) → IfSome fault P → IfSome fault Q
+    → IfSome fault (λ f. P f × Q f)
 both None P Q p q = tt
 both (Some f) P Q p q = (p, q)
 
@@ -33,7 +35,8 @@ later : (fault : Option SizesFault) (A B : Type 0) → IfSome fault (λ f. A) �
 later None A B is so = tt
 later (Some f) A B is so = so is
 
-pub put : (format : FormatValue) (sizes : List ℕ) (before now : Option (List ℕ)) (start mid last : Faults) (block : BlockValue) (fault : Option SizesFault)
+pub put : (format : FormatValue) (sizes : List ℕ) (before now : Option (List ℕ)) (start mid last : Faults)
+    (block : BlockValue) (fault : Option SizesFault)
     → Appended before start (entries_text format (number_entries 1 sizes)) now mid block
     → (block.failed ≡ false → block.held ≡ [])
     → (fault ≡ None → (block.failed ≡ false) × (last ≡ mid))
@@ -47,14 +50,20 @@ put format sizes before now start mid last block fault added held flushed write 
   whole = added.whole;
   taken = added.taken;
   count = added.count;
-  all = λ none. let so = flushed none in
-      (no-rest block.failed block.held added.rest so.0 added.held (held so.0), so.1 ∙ no-fault block.failed start mid so.0 added.fails);
+  all = λ none. let so = flushed none in (
+    no-rest block.failed block.held added.rest so.0 added.held (held so.0),
+    so.1
+        ∙ no-fault block.failed start mid so.0 added.fails,
+  );
   write = both fault (λ f. f ≡ Write) (λ f. has_failed last ≡ true) write
-      (later fault (block.failed ≡ false → has_failed last ≡ true) (has_failed last ≡ true) told (fails block.failed start mid last added.fails kept));
+      (later fault (block.failed ≡ false → has_failed last ≡ true) (has_failed last ≡ true) told
+      (fails block.failed start mid last added.fails kept));
 }
 
-module _ (format : FormatValue) (areas : AreasReading) (tables : List TableReading) (sizes : List ℕ) (have : HaveSizes areas tables sizes)
-    (before now : Option (List ℕ)) (start last : Faults) (written : ℕ) (fault : Option SizesFault) (is : HasPutSizes format sizes before now start last written fault) where
+module _ (format : FormatValue) (areas : AreasReading) (tables : List TableReading) (sizes : List ℕ)
+    (have : HaveSizes areas tables sizes)
+    (before now : Option (List ℕ)) (start last : Faults) (written : ℕ) (fault : Option SizesFault)
+    (is : HasPutSizes format sizes before now start last written fault) where
   pub put-all : fault ≡ None → HasWrittenSizes format areas tables before now written
   put-all none =
       let whole : is.front ≡ entries_text format (number_entries 1 sizes) =
@@ -70,14 +79,24 @@ module _ (format : FormatValue) (areas : AreasReading) (tables : List TableReadi
   put-some = by fault is.write
     where
       prefix : HasSizesPrefix format areas tables before now written
-      prefix = record { sizes = sizes; have = have; front = is.front; rest = is.rest; whole = is.whole; taken = is.taken; count = is.count }
+      prefix = record {
+        sizes = sizes;
+        have = have;
+        front = is.front;
+        rest = is.rest;
+        whole = is.whole;
+        taken = is.taken;
+        count = is.count;
+      }
 
-      by : (o : Option SizesFault) → IfSome o (λ f. (f ≡ Write) × (has_failed last ≡ true)) → IfSome o (HasStopped format areas tables before now written)
+      by : (o : Option SizesFault) → IfSome o (λ f. (f ≡ Write) × (has_failed last ≡ true))
+          → IfSome o (HasStopped format areas tables before now written)
       by None e = tt
       by (Some f) e = subst (HasStopped format areas tables before now written) (sym e.0) prefix
 
 -- before the first write
-pub put-none : (format : FormatValue) (areas : AreasReading) (tables : List TableReading) (before : Option (List ℕ)) (fault : SizesFault) → fault ≢ Write
+pub put-none : (format : FormatValue) (areas : AreasReading) (tables : List TableReading) (before : Option (List ℕ))
+    (fault : SizesFault) → fault ≢ Write
     → HasStopped format areas tables before before 0 fault
 put-none format areas tables before (Areas fault) not = (refl, refl)
 put-none format areas tables before (NumberLeftOut line) not = (refl, refl)
@@ -88,3 +107,10 @@ put-none format areas tables before (TooGreat number) not = (refl, refl)
 put-none format areas tables before TooLong not = (refl, refl)
 put-none format areas tables before Memory not = (refl, refl)
 put-none format areas tables before Write not = absurd (not refl)
+
+-- a fault of putting says nothing of the texts
+pub put-fault : (areas : AreasReading) (tables : List TableReading) (P : SizesFault → Type 0)
+    (fault : Option SizesFault) → IfSome fault (λ f. (f ≡ Write) × P f)
+    → IfSome fault (IsSizesFault areas tables)
+put-fault areas tables P None is = tt
+put-fault areas tables P (Some f) is = subst (IsSizesFault areas tables) (sym is.0) tt

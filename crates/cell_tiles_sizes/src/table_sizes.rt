@@ -1,6 +1,6 @@
 //! Sizes of the areas of the whole map, of an areas text and the tables of the numbers of bands.
 
-ghost use Rattle.std.specs.Prelude.{◌≡◌, ◌≢◌, ◌+◌, ◌<◌, ◌^◌, ◌∷◌, [], ℕ, List, None, Some, IfErr, IfOk, IfSome, OnOk, map, pos, option_map, false, true};
+ghost use Rattle.std.specs.Prelude.{◌≡◌, ◌≢◌, ◌+◌, ◌-◌, ◌<◌, ◌≤◌, ◌^◌, ◌∷◌, [], ℕ, List, None, Some, IfErr, IfOk, IfSome, MatchOption, OnOk, map, pos, option_map, false, true};
 ghost use Rattle.cell_core_devices.specs.Blocks.{Appends};
 ghost use Rattle.cell_core_devices.specs.Device.{Coming, has_failed};
 ghost use Rattle.cell_tiles_texts.specs.JoinedTexts.{Give};
@@ -9,7 +9,9 @@ ghost use Rattle.cell_tiles_lines.specs.TextReading.{reading_from};
 ghost use Rattle.cell_tiles_numbering.specs.AreasReading.{areas_reading_of};
 ghost use Rattle.cell_tiles_numbering.specs.TextOfAreas.{areas_from};
 ghost use Rattle.cell_tiles_sizes.specs.SizeTexts.{HasStopped, HasWrittenSizes, HaveSizes, stretch_areas};
-ghost use Rattle.cell_tiles_sizes.specs.parts.Counting.{HasCountedAreas, HasCountedBand, HasPutSizes, HasReadBand, IsLeftOver, area_entry};
+ghost use Rattle.cell_tiles_sizes.specs.SizeFaults.{IsSizesFault};
+ghost use Rattle.cell_tiles_sizes.specs.parts.Counting.{HasCountedAreas, HasCountedBand, HasPutSizes, HasReadBand, IsHeadOfNull, IsHeadOfOther, IsLeftOver, area_entry};
+ghost use Rattle.cell_tiles_sizes.specs.parts.Stops.{HasStoppedAtEnd, HasStoppedInBand, HasStoppedInStretch, IsBandStart, TellsAreasFault, TellsTableFault, TellsTallyFault};
 
 use crate::size_fault::SizesFault;
 use crate::size_lines::write_sizes;
@@ -37,7 +39,7 @@ pub struct SizesOutcome {
 
 // The fault of an areas text.
 fn of_areas(fault: AreasFault) -> SizesFault
-    ensures { result ≢ SizesFault.Write }
+    ensures { TellsAreasFault fault result }
 {
     match fault.kind {
         AreasKind::Memory => SizesFault::Memory,
@@ -47,7 +49,7 @@ fn of_areas(fault: AreasFault) -> SizesFault
 
 // The fault of a table.
 fn of_table(table: usize, fault: TableFault) -> SizesFault
-    ensures { result ≢ SizesFault.Write }
+    ensures { TellsTableFault table fault result }
 {
     match fault.kind {
         TableKind::Memory => SizesFault::Memory,
@@ -57,7 +59,7 @@ fn of_table(table: usize, fault: TableFault) -> SizesFault
 
 // The fault of a sum.
 fn of_tally(line: u64, number: u64, fault: TallyFault) -> SizesFault
-    ensures { result ≢ SizesFault.Write }
+    ensures { TellsTallyFault line number fault result }
 {
     match fault {
         TallyFault::LeftOut => SizesFault::NumberLeftOut { line },
@@ -68,7 +70,8 @@ fn of_tally(line: u64, number: u64, fault: TallyFault) -> SizesFault
 
 // The only cell of a combination, if it has one and that is a number.
 fn number_of(combo: &Combo) -> Option<u64>
-    ensures { IfSome result (λ n. combo.now ≡ Some (pos n) ∷ []) }
+    ensures { MatchOption result ((n : ℕ) → combo.now ≢ Some (pos n) ∷ [])
+        (λ n. combo.now ≡ Some (pos n) ∷ []) }
 {
     let [cell] = combo.cells() else {
         return None;
@@ -81,7 +84,8 @@ fn number_of(combo: &Combo) -> Option<u64>
 
 // The size of an area, where the head is its entry.
 fn size_of(head: &Option<(Combo, u64)>, area: u64) -> Option<u64>
-    ensures { IfSome result (λ size. head.now ≡ Some (area_entry area size)) }
+    ensures { MatchOption result (IsHeadOfOther area head.now)
+        (λ size. head.now ≡ Some (area_entry area size)) }
 {
     match head {
         Some((combo, size)) if number_of(combo) == Some(area) => Some(*size),
@@ -91,7 +95,8 @@ fn size_of(head: &Option<(Combo, u64)>, area: u64) -> Option<u64>
 
 // Whether the head is an entry of null.
 fn is_null(head: &Option<(Combo, u64)>) -> bool
-    ensures { result ≡ true → IfSome head.now (λ entry. entry.0 ≡ None ∷ []) }
+    ensures null { result ≡ true → IsHeadOfNull head.now }
+    ensures other { result ≡ false → IfSome head.now (λ entry. entry.0 ≢ None ∷ []) }
 {
     match head {
         Some((combo, _)) => match combo.cells() {
@@ -112,10 +117,15 @@ fn add_stretch<R: Source>(
     table: &mut TableText<R>,
     sizes: &mut Vec<u64>,
 ) -> Result<(), SizesFault>
+    requires own { stretch.band ≡ place + 1 }
+    requires forward { stretch.first ≤ stretch.last }
     ensures counted { OnOk result (HasCountedAreas stretch.first stretch.number
         (stretch_areas stretch)
         (reading_from format.now table.old) (reading_from format.now table.new)
         sizes.old.items sizes.new.items) }
+    ensures short { OnOk result (stretch.last + 1 < 2 ^ 64 - 1) }
+    ensures stopped { IfErr result (λ fault. IfSome (reading_from format.now table.old) (λ reading.
+        HasStoppedInStretch place line stretch reading sizes.old.items fault)) }
     ensures unwritten { IfErr result (λ fault. fault ≢ SizesFault.Write) }
 {
     'areas: for area in stretch.first..u64::MAX {
@@ -151,9 +161,18 @@ fn add_stretches<A: Source, R: Source>(
     table: &mut TableText<R>,
     sizes: &mut Vec<u64>,
 ) -> Result<u64, SizesFault>
-    ensures counted { OnOk result (HasCountedBand band (areas_from areas.old) (areas_from areas.new)
+    requires own { band ≡ place + 1 }
+    requires lines { areas.old.line < 2 ^ 64 }
+    requires start { IfSome areas.old.head (IsBandStart place) }
+    ensures counted { IfOk result (λ line. HasCountedBand band line areas.old.line areas.new.line
+        (areas_from areas.old) (areas_from areas.new)
         (reading_from format.now table.old) (reading_from format.now table.new)
         sizes.old.items sizes.new.items) }
+    ensures over { OnOk result (IfSome areas.new.head (IsBandStart band)) }
+    ensures short { IfOk result (λ line. line + 1 < 2 ^ 64) }
+    ensures stopped { IfErr result (λ fault. IfSome (areas_from areas.old) (λ text. IfSome
+        (reading_from format.now table.old) (λ reading. HasStoppedInBand place areas.old.line
+        text reading sizes.old.items fault))) }
     ensures unwritten { IfErr result (λ fault. fault ≢ SizesFault.Write) }
 {
     let mut line = 1;
@@ -189,7 +208,10 @@ fn end_table<R: Source>(
     line: u64,
     table: &mut TableText<R>,
 ) -> Result<(), SizesFault>
+    requires { line + 1 < 2 ^ 64 }
     ensures left { OnOk result (IfSome (reading_from format.now table.old) IsLeftOver) }
+    ensures stopped { IfErr result (λ fault. IfSome (reading_from format.now table.old)
+        (λ reading. HasStoppedAtEnd place line reading fault)) }
     ensures unwritten { IfErr result (λ fault. fault ≢ SizesFault.Write) }
 {
     let mut last = line;
@@ -217,11 +239,17 @@ fn add_band<A: Source, R: Source + Drop>(
     source: R,
     sizes: &mut Vec<u64>,
 ) -> Result<(), SizesFault>
-    requires { place + 1 < 2 ^ 64 }
-    ensures band { OnOk result (HasReadBand (place + 1)
+    requires places { place + 1 < 2 ^ 64 }
+    requires lines { areas.old.line < 2 ^ 64 }
+    requires start { IfSome areas.old.head (IsBandStart place) }
+    ensures band { OnOk result (HasReadBand (place + 1) areas.old.line areas.new.line
         (areas_from areas.old) (areas_from areas.new)
         (option_map (reading_of format.now 1) (R.coming source))
         sizes.old.items sizes.new.items) }
+    ensures over { OnOk result (IfSome areas.new.head (IsBandStart (place + 1))) }
+    ensures stopped { IfErr result (λ fault. IfSome (areas_from areas.old) (λ text. IfSome
+        (option_map (reading_of format.now 1) (R.coming source)) (λ reading. HasStoppedInBand
+        place areas.old.line text reading sizes.old.items fault))) }
     ensures unwritten { IfErr result (λ fault. fault ≢ SizesFault.Write) }
 {
     let mut table = match TableText::from_source(alloc, format, 1, source) {
@@ -245,6 +273,10 @@ fn add_tables<R: Source + Drop>(
         → R.coming areas ≡ Some text
         → Give R.coming tables.items texts
         → HaveSizes (areas_reading_of text) (map (reading_of format.now 1) texts) sizes.items) }
+    ensures fault { IfErr result (λ fault. (text : Coming) (texts : List Coming)
+        → R.coming areas ≡ Some text
+        → Give R.coming tables.items texts
+        → IsSizesFault (areas_reading_of text) (map (reading_of format.now 1) texts) fault) }
     ensures unwritten { IfErr result (λ fault. fault ≢ SizesFault.Write) }
 {
     let mut text = match AreasText::begin(alloc, areas) {
@@ -321,6 +353,10 @@ pub fn join_table_sizes<R: Source + Drop, W: Sink>(
         → Give R.coming tables.items texts → IfSome result.fault
         (HasStopped format.now (areas_reading_of text) (map (reading_of format.now 1) texts)
         (W.taken out.old) (W.taken out.new) result.written) }
+    // A fault is the first that is met where the areas text and the tables are read side by side.
+    ensures fault { (text : Coming) (texts : List Coming) → R.coming areas ≡ Some text
+        → Give R.coming tables.items texts → IfSome result.fault
+        (IsSizesFault (areas_reading_of text) (map (reading_of format.now 1) texts)) }
     // Of a sink that had not failed before, no fault comes only where it did not fail.
     ensures sound { result.fault ≡ None → W.faults out.new ≡ W.faults out.old }
     // A failed write is told only where the sink failed.

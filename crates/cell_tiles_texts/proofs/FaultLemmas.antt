@@ -43,7 +43,7 @@ abbrev pub StopsSo : Combination → TableFault → TableReading → Type 0
 StopsSo k fault reading = (reading.fault ≡ Some fault) × (last_combination reading.entries ≡ Some k)
 
 module _ {X : Type 0} (read : X → Option TableReading) (k : Combination) where
-  known-at : (xs : List X) (readings : List TableReading) (i : ℕ) (x : X) (fault : TableFault) → i < length xs
+  pub known-at : (xs : List X) (readings : List TableReading) (i : ℕ) (x : X) (fault : TableFault) → i < length xs
       → get_or xs i x ≡ x → map read xs ≡ map Some readings → IfSome (read x) (StopsSo k fault)
       → HasFault readings i fault × (slice_get (map fault_place readings) i ≡ Some (Some (Some k)))
   known-at [] readings i x fault within at known is = absurd (omega (arith, within))

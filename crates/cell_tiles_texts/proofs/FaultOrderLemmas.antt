@@ -28,7 +28,7 @@ GoesOn r = r.entries ≡ [] → r.fault ≡ None
 
 -- ---- a fault stays behind its combination
 
-kept : (k : Combination) (es : Pairs) (f : Option TableFault) → (past_first k es ≡ [] → f ≡ None)
+pub kept : (k : Combination) (es : Pairs) (f : Option TableFault) → (past_first k es ≡ [] → f ≡ None)
     → option_map (λ (x : TableFault). last_combination (past_first k es)) f
     ≡ option_map (λ (x : TableFault). last_combination es) f
 kept k [] f on = refl

@@ -1,4 +1,3 @@
-pub mod EntryLemmas
 pub mod FaultLemmas
 pub mod FaultOrderLemmas
 pub mod HeadLemmas

@@ -29,11 +29,11 @@ use Rattle.cell_tiles_texts.proofs.StepLemmas.{least-first, merges-all}
 
 -- ---- counts that may be, from either end
 
-sum-none : (a : Option ℕ) → sum_if_any a None ≡ a
+pub sum-none : (a : Option ℕ) → sum_if_any a None ≡ a
 sum-none None = refl
 sum-none (Some n) = refl
 
-sum-regrouped : (a b c : Option ℕ) → sum_if_any (sum_if_any a b) c ≡ sum_if_any a (sum_if_any b c)
+pub sum-regrouped : (a b c : Option ℕ) → sum_if_any (sum_if_any a b) c ≡ sum_if_any a (sum_if_any b c)
 sum-regrouped None b c = refl
 sum-regrouped (Some n) None c = refl
 sum-regrouped (Some n) (Some m) None = refl
@@ -50,13 +50,13 @@ module _ (k : Combination) where
   totals (table ∷ tables) a = totals tables (sum_if_any a (first_count k table))
       ∙ sum-regrouped a (first_count k table) (total_in k tables)
 
-  first-counted : (es : Pairs) → head_count k (first_entry es) ≡ first_count k es
+  pub first-counted : (es : Pairs) → head_count k (first_entry es) ≡ first_count k es
   first-counted [] = refl
   first-counted (e ∷ es) = refl
 
   -- ---- what is left
 
-  past-listing : (es : Pairs) → IsListing es → IsListing (past_first k es)
+  pub past-listing : (es : Pairs) → IsListing es → IsListing (past_first k es)
   unfolding IsStrictlySortedBy
   past-listing [] listing = listing
   past-listing (e ∷ es) listing = by (is_of k e)
@@ -76,7 +76,7 @@ module _ (k : Combination) where
   past-listings [] all = tt
   past-listings (r ∷ rs) all = (past-listing r.entries all.0, past-listings rs all.1)
 
-  past-tables : (readings : List TableReading)
+  pub past-tables : (readings : List TableReading)
       → map (past_first k) (tables_of readings) ≡ tables_of (map (past k) readings)
   past-tables [] = refl
   past-tables (r ∷ rs) = ap (λ ts. past_first k r.entries ∷ ts) (past-tables rs)
@@ -86,7 +86,7 @@ module _ (k : Combination) where
   past-faults [] = refl
   past-faults (r ∷ rs) = ap (λ fs. r.fault ∷ fs) (past-faults rs)
 
-  above-next : (e : Combination × ℕ) (es : Pairs) → IsListing (e ∷ es) → BeginsAbove e.0 es
+  pub above-next : (e : Combination × ℕ) (es : Pairs) → IsListing (e ∷ es) → BeginsAbove e.0 es
   unfolding IsStrictlySortedBy
   above-next e [] listing = tt
   above-next e (x ∷ es) listing = listing.ascending.0.0
@@ -225,7 +225,7 @@ module _ (format : FormatValue) (k : Combination) where
   }
 
   -- what is beyond 64 bits at the heads is so in all
-  beyond : (tables : List Pairs) (total : Option ℕ) (rest : Pairs) → AllByRecursion IsListing tables
+  pub beyond : (tables : List Pairs) (total : Option ℕ) (rest : Pairs) → AllByRecursion IsListing tables
       → merge_of tables ≡ put_first k total rest → 2 ^ 64 ≤ unwrap_or total 0 → 2 ^ 64 ≤ sum_by (count_in k) tables
   beyond tables None rest all is high = absurd (omega (arith, high))
   beyond tables (Some n) rest all is high =

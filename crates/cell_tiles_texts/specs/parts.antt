@@ -1,5 +1,4 @@
 -- What a merge takes from each text, and the parts of a line.
-pub mod EntryParts
 pub mod MergeEnds
 pub mod Steps
 pub mod Taking

@@ -1,8 +1,7 @@
-//! Texts of tables that are merged: the least of the entries that they begin with, its counts together, and its line written.
-//! A merge of all texts at once takes one such step after another.
+//! Texts of tables that are merged: how they are opened, the least of the entries that they begin with and its counts together,
+//! and how their merge ends and is answered.
 #![tactic(auto)]
 
-pub mod entry_lines;
 pub mod join_fault;
 pub mod law;
 pub mod text_heads;

@@ -56,8 +56,8 @@ fn take<R: Source>(
     }
 }
 
-// The fault of a text, where it is not of memory.
-pub(crate) fn of_text(text: usize, fault: TableFault) -> JoinFault
+/// The fault of the text at a place, where it is not of memory.
+pub fn of_text(text: usize, fault: TableFault) -> JoinFault
     ensures memory { fault.kind ≡ TableKind.Memory → result ≡ JoinFault.Memory }
     ensures text { fault.kind ≢ TableKind.Memory → result ≡ JoinFault.Text text fault }
     ensures unwritten { result ≢ JoinFault.Write }
@@ -101,8 +101,8 @@ fn add(total: Option<u64>, count: Option<u64>) -> Option<Option<u64>>
     }
 }
 
-// The fault of counts beyond 64 bits, or of memory.
-fn too_many(alloc: Global, combo: &Combo) -> JoinFault
+/// The fault of counts of a combination that are beyond 64 bits, or of memory.
+pub fn too_many(alloc: Global, combo: &Combo) -> JoinFault
     ensures fault { (readings : List TableReading) → IsFaultOfText combo.now readings result }
     ensures many { (k : Combination) → result ≡ JoinFault.TooMany k → k ≡ combo.now }
     ensures unwritten { result ≢ JoinFault.Write }

@@ -21,7 +21,7 @@ use cell_tiles_areas::areas_joining::join_edges_texts;
 use cell_tiles_edges::band_edges::write_edges;
 use cell_tiles_labels::label_joining::join_labelled_texts;
 use cell_tiles_sizes::table_sizes::join_table_sizes;
-use cell_tiles_texts::text_joining::join_texts;
+use cell_tiles_tables::table_joining::join_texts;
 use rcell_join_request::command_words::read_words;
 use rcell_join_request::opening::{open_file, open_files};
 use rcell_join_request::refusal::{Refusal, Usage};

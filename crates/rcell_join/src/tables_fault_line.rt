@@ -7,8 +7,8 @@ use crate::fault_line::{FaultLine, path_at};
 use crate::kind_status::table_kind_status;
 use cell_stats_combinations::combination::Combo;
 use cell_tiles_lines::table_fault::TableKind;
+use cell_tiles_tables::table_joining::JoinOutcome;
 use cell_tiles_texts::join_fault::JoinFault;
-use cell_tiles_texts::text_joining::JoinOutcome;
 use std::fmt;
 use thiserror::Error;
 

@@ -1,5 +1,5 @@
 -- A table read beside the stretches of its band.
-use Rattle.std.specs.Prelude.{ℕ, pos, ◌≡◌, ◌++◌, ◌+◌, ◌-◌, true, List, [], ◌∷◌, length, map, flat_map, All, Option, Some, None, IfSome}
+use Rattle.std.specs.Prelude.{ℕ, pos, ◌≡◌, ◌≢◌, ◌++◌, ◌+◌, ◌-◌, true, List, [], ◌∷◌, length, map, flat_map, All, Option, Some, None, IfSome}
 use Rattle.std.specs.Option.{option_map}
 use Rattle.std.specs.List.{range_with_len}
 use Rattle.cell_stats_combinations.specs.Combinations.{Combination}
@@ -15,6 +15,8 @@ use Rattle.cell_tiles_sizes.specs.declared.size_fault.SizesFault.TheVariants.{Wr
 use Rattle.cell_tiles_numbering.specs.declared.stretch.Stretch.{Stretch}
 use Rattle.cell_tiles_numbering.specs.AreasReading.{AreasReading, areas_reading_of}
 use Rattle.cell_tiles_numbering.specs.AreasText.{numbers_told, stretch_numbers}
+use Rattle.cell_tiles_numbering.specs.TextOfAreas.{AreasTextValue, areas_from}
+use Rattle.cell_tiles_sizes.specs.parts.Stops.{lines_behind}
 use Rattle.cell_tiles_sizes.specs.SizeTexts.{AreTablesOfBands, BandSizes, IsNullEntry, IsTableOfBand, entries_of_areas, number_entries}
 use Rattle.cell_tiles_sizes.specs.parts.Tally.{Tallies}
 
@@ -37,12 +39,24 @@ pub record HasCountedAreas (first number count : ℕ) (table left : Option Table
   pub reads : table ≡ option_map (with_entries (number_entries first sizes)) left
   pub tallies : Tallies old (range_with_len number count) sizes new
 
--- the stretches of a band were read, and its areas from a table
-pub record HasCountedBand (band : ℕ) (areas after : Option AreasReading) (table left : Option TableReading) (old new : List ℕ) : Type 0 where
+-- a head other than the entry of an area, or none
+abbrev pub IsHeadOfOther : ℕ → Option (Combination × ℕ) → Type 0
+IsHeadOfOther area None = Unit {0}
+IsHeadOfOther area (Some entry) = entry.0 ≢ Some (pos area) ∷ []
+
+-- the entry of null
+abbrev pub IsHeadOfNull : Option (Combination × ℕ) → Type 0
+IsHeadOfNull None = ⊥
+IsHeadOfNull (Some entry) = entry.0 ≡ None ∷ []
+
+-- the stretches of a band were read, from a line to another, and its areas from a table up to this line
+pub record HasCountedBand (band line start now : ℕ) (areas after : Option AreasReading) (table left : Option TableReading) (old new : List ℕ) : Type 0 where
   pub part : BandSizes
   pub own : All (λ (s : Stretch). s.band ≡ band) part.stretches
   pub told : areas ≡ option_map (with_stretches part.stretches) after
+  pub areas_line : now ≡ lines_behind start (length part.stretches)
   pub many : length part.sizes ≡ length (numbers_told part.stretches)
+  pub table_line : line ≡ length part.sizes + 1
   pub reads : table ≡ option_map (with_entries (entries_of_areas part.stretches part.sizes)) left
   pub tallies : Tallies old (numbers_told part.stretches) part.sizes new
 
@@ -51,9 +65,10 @@ abbrev pub IsLeftOver : TableReading → Type 0
 IsLeftOver reading = IsNullEntry reading.entries × (reading.fault ≡ None)
 
 -- a table was read to its end, where it is known
-pub record HasReadBand (band : ℕ) (areas after : Option AreasReading) (table : Option TableReading) (old new : List ℕ) : Type 0 where
+pub record HasReadBand (band start now : ℕ) (areas after : Option AreasReading) (table : Option TableReading) (old new : List ℕ) : Type 0 where
   pub part : BandSizes
   pub told : areas ≡ option_map (with_stretches part.stretches) after
+  pub areas_line : now ≡ lines_behind start (length part.stretches)
   pub listed : IfSome table (IsTableOfBand band part)
   pub tallies : Tallies old (numbers_told part.stretches) part.sizes new
 
@@ -68,7 +83,7 @@ pub record HasPutSizes (format : FormatValue) (sizes : List ℕ) (before now : O
   pub write : IfSome fault (λ f. (f ≡ Write) × (has_failed faults ≡ true))
 
 -- the tables before those that are left were read, and all areas of their bands
-pub record HasAddedTables {R : Type 0} (coming : R → Option Coming) (format : FormatValue) (text : Coming) (texts : List Coming) (areas : Option AreasReading) (left : List R) (place : ℕ) (sizes : List ℕ) : Type 0 where
+pub record HasAddedTables {R : Type 0} (coming : R → Option Coming) (format : FormatValue) (text : Coming) (texts : List Coming) (areas : AreasTextValue) (left : List R) (place : ℕ) (sizes : List ℕ) : Type 0 where
   pub others : List Coming
   pub give : Give coming left others
   pub first : List TableReading
@@ -76,5 +91,6 @@ pub record HasAddedTables {R : Type 0} (coming : R → Option Coming) (format : 
   pub parts : List BandSizes
   pub count : length parts ≡ place
   pub listed : AreTablesOfBands 1 parts first
-  pub told : Some (areas_reading_of text) ≡ option_map (with_stretches (flat_map (λ (part : BandSizes). part.stretches) parts)) areas
+  pub told : Some (areas_reading_of text) ≡ option_map (with_stretches (flat_map (λ (part : BandSizes). part.stretches) parts)) (areas_from areas)
+  pub areas_line : areas.line ≡ lines_behind 2 (length (flat_map (λ (part : BandSizes). part.stretches) parts))
   pub tallies : Tallies [] (numbers_told (flat_map (λ (part : BandSizes). part.stretches) parts)) (flat_map (λ (part : BandSizes). part.sizes) parts) sizes

@@ -15,9 +15,11 @@ sizes-preserved g c =
     let format = c.args.format.now in
     let sizes = c.args.sizes.now in
     let place = c.sizes.place in
-    rest-less (entries_text format (number_entries 1 sizes)) (entries_text format (number_entries (place + 1) (drop place sizes)))
+    rest-less (entries_text format (number_entries 1 sizes)) (entries_text format
+    (number_entries (place + 1) (drop place sizes)))
     (entry_line format (Some (pos (place + 1)) ∷ [], get_or sizes place 0))
-    (entries_text format (number_entries (place + 1 + 1) (drop (place + 1) sizes))) c.sizes.invariant c.write_size.ensures
+    (entries_text format (number_entries (place + 1 + 1) (drop (place + 1) sizes))) c.sizes.invariant
+    c.write_size.ensures
     (at_drop_more (λ (l : List ℕ). entries_text format (number_entries (place + 1) l)) sizes place 0 (omega arith))
 
 pub returns : goal.returns
@@ -25,5 +27,6 @@ returns g c =
     let format = c.args.format.now in
     let sizes = c.args.sizes.now in
     let place = c.sizes.place in
-    rest-none (entries_text format (number_entries 1 sizes)) (entries_text format (number_entries (place + 1) (drop place sizes))) c.sizes.invariant
+    rest-none (entries_text format (number_entries 1 sizes)) (entries_text format
+    (number_entries (place + 1) (drop place sizes))) c.sizes.invariant
     (at_drop_all (λ (l : List ℕ). entries_text format (number_entries (place + 1) l)) sizes place (omega arith))

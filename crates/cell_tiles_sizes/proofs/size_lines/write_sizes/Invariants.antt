@@ -6,4 +6,5 @@ use Rattle.cell_tiles_sizes.proofs.size_lines.write_sizes.Given as goal
 
 abbrev pub invariant-sizes : goal.invariant-sizes
 invariant-sizes g l = HasRest g.W.Sink.taken g.W.Sink.faults l.fn.out l.fn.block l.out l.block
-    (entries_text l.format (number_entries 1 l.sizes)) (entries_text l.format (number_entries (l.place + 1) (drop l.place l.sizes)))
+    (entries_text l.format (number_entries 1 l.sizes)) (entries_text l.format
+    (number_entries (l.place + 1) (drop l.place l.sizes)))

@@ -6,7 +6,8 @@ use Rattle.cell_tiles_sizes.proofs.table_sizes.add_stretch.Given as goal
 
 abbrev pub invariant-areas : goal.invariant-areas
 invariant-areas g l = record {
-  counted : HasCountedAreas l.stretch.first l.stretch.number (l.area - l.stretch.first) (reading_from l.format l.fn.table) (reading_from l.format l.table)
+  counted : HasCountedAreas l.stretch.first l.stretch.number (l.area - l.stretch.first)
+      (reading_from l.format l.fn.table) (reading_from l.format l.table)
       l.fn.sizes.items l.sizes.items;
   few : l.area - l.stretch.first ≤ stretch_areas l.stretch;
 }

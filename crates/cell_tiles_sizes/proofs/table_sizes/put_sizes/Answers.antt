@@ -20,10 +20,12 @@ returns g c =
     let block = c.empty.new.self in
     let both = appends_then c.write_sizes.ensures c.empty.ensures.appends in
     let all_added = both.adds before start [] (c.new-block.ensures.nothing before start) in
-    let added : Appended before start (entries_text format (number_entries 1 sizes)) now mid block = rw append-nil at all_added in
+    let added : Appended before start (entries_text format (number_entries 1 sizes)) now mid block = rw append-nil at
+    all_added in
     rw (c.finish-fault.ensures.taken, c.written.ensures)
     (put format sizes before now start mid last block c.finish-fault.result added c.empty.ensures.held
     (λ none. let so = c.finish-fault.ensures.flushed none in (sym c.has_failed.ensures ∙ so.0, so.1))
     c.finish-fault.ensures.write
-    (subst (λ (b : Bool). IfSome c.finish-fault.result (λ fault. b ≡ false → has_failed last ≡ true)) c.has_failed.ensures c.finish-fault.ensures.fails)
+    (subst (λ (b : Bool). IfSome c.finish-fault.result (λ fault. b ≡ false → has_failed last ≡ true))
+    c.has_failed.ensures c.finish-fault.ensures.fails)
     (λ e. ap g.W.Sink.faults (c.finish-fault.ensures.kept (c.has_failed.ensures ∙ e))))

@@ -16,8 +16,10 @@ returns-in-Some-checked_add-clause-ok c =
     let old = c.args.sizes.now.items in
     let place = c.in-Some.place in
     let at : c.args.number - 1 ≡ place = omega (arith, c.in-Some.ensures) in
-    let read = get_or_read old place c.index.result.now (omega (arith, c.in-Some.ensures, c.args.sizes.now.ok.0)) c.index.ensures 0 in
+    let read = get_or_read old place c.index.result.now (omega (arith, c.in-Some.ensures, c.args.sizes.now.ok.0))
+    c.index.ensures 0 in
     let sum : get_or old (c.args.number - 1) 0 + c.args.size ≡ c.in-Some-checked_add.sum =
     omega (arith, ap (λ (k : ℕ). get_or old k 0) at, read, c.in-Some-checked_add.ensures) in
     subst (λ (l : List ℕ). Tallies old (c.args.number ∷ []) (c.args.size ∷ []) l) (λ i. set old (at i) (sum i))
-    (tallies-again old c.args.number c.args.size (omega (arith, c.in-Some.ensures)) (omega (arith, c.in-Some.ensures, c.args.sizes.now.ok.0)))
+    (tallies-again old c.args.number c.args.size (omega (arith, c.in-Some.ensures))
+    (omega (arith, c.in-Some.ensures, c.args.sizes.now.ok.0)))

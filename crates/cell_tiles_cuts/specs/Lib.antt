@@ -1,0 +1,3 @@
+-- Areas of bands joined at the cuts.
+pub mod CutBands
+pub mod parts

@@ -1,0 +1,42 @@
+use Rattle.std.proofs.Common.{◌≤◌, ◌∙◌, length, take_all, ap, sym, arith}
+use Rattle.cell_core_devices.specs.Device.{Coming, append_known}
+use Rattle.cell_ascii_meaning.specs.GridWords.{usual_null}
+use Rattle.cell_ascii_meaning.specs.Writing.{grid_text}
+use Rattle.cell_tiles_sides.specs.WrittenSides.{AreSidesCut, AreSidesWritten}
+use Rattle.cell_tiles_sides.specs.parts.MadeSides.{IsMapOfTexts}
+use Rattle.cell_tiles_edges.proofs.TextLemmas.{if-pair}
+use Rattle.cell_tiles_sides.proofs.WrittenLemmas.{cut-so, written-so}
+use Rattle.cell_tiles_sides.proofs.tile_sides.write_sides.Goals as goal
+
+pub returns-in-Err-write_map-clause-cut : goal.returns-in-Err-write_map-clause-cut
+returns-in-Err-write_map-clause-cut g c = λ is.
+    let before = g.W.Sink.taken c.args.out.now in
+    let now = g.W.Sink.taken c.write_map.new.out in
+    let made = c.in-Ok.made in
+    let n = c.in-Err-write_map.fault.written in
+    if-pair (g.R.Source.coming c.args.map) (g.R.Source.coming c.args.numbers) (λ (t u : Coming). IsMapOfTexts t u made)
+    (λ (t u : Coming). AreSidesCut t u before now n)
+    (λ t u h. cut-so t u made before now n c.in-Err-write_map.ensures.err h) c.in-Ok.ensures.made
+
+pub returns-in-Ok-flush-clause-written : goal.returns-in-Ok-flush-clause-written
+returns-in-Ok-flush-clause-written g c = λ is.
+    let before = g.W.Sink.taken c.args.out.now in
+    let now = g.W.Sink.taken c.flush.new.self in
+    let made = c.in-Ok.made in
+    let n = c.in-Ok-write_map.written in
+    if-pair (g.R.Source.coming c.args.map) (g.R.Source.coming c.args.numbers) (λ (t u : Coming). IsMapOfTexts t u made)
+    (λ (t u : Coming). AreSidesWritten t u before now n)
+    (λ t u h. written-so t u made before now n
+    (c.flush.ensures.taken ∙ c.in-Ok-write_map.ensures.ok) c.in-Ok-write_map.ensures.length h) c.in-Ok.ensures.made
+
+pub returns-clause-cut : goal.returns-clause-cut
+returns-clause-cut g c = λ is.
+    let before = g.W.Sink.taken c.args.out.now in
+    let now = g.W.Sink.taken c.flush.new.self in
+    let made = c.in-Ok.made in
+    let n = c.in-Ok-write_map.written in
+    let all : length (grid_text usual_null made) ≤ n = omega (arith, c.in-Ok-write_map.ensures.length) in
+    if-pair (g.R.Source.coming c.args.map) (g.R.Source.coming c.args.numbers) (λ (t u : Coming). IsMapOfTexts t u made)
+    (λ (t u : Coming). AreSidesCut t u before now n)
+    (λ t u h. cut-so t u made before now n (c.flush.ensures.taken ∙ c.in-Ok-write_map.ensures.ok
+    ∙ ap (append_known before) (sym (take_all n (grid_text usual_null made) all))) h) c.in-Ok.ensures.made

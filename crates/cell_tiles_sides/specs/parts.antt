@@ -1,0 +1,5 @@
+-- What only private functions and proofs cite.
+pub mod Passed
+pub mod MadeSides
+pub mod ToldSides
+pub mod DrawnSides

@@ -1,0 +1,12 @@
+//! The sides of a tile as a text: a grid of eleven rows and more, written of the texts of the tile and its numbers, and read again.
+#![tactic(auto)]
+
+pub mod cell_place;
+mod drawn;
+pub mod sides_fault;
+pub mod sides_text;
+mod starts;
+pub mod tile_fault;
+pub mod tile_sides;
+mod told;
+mod told_starts;

@@ -1,0 +1,2 @@
+-- Texts whose sizes are added up.
+pub mod RightTexts

@@ -1,0 +1,4 @@
+pub mod EntryLemmas
+pub mod GoingLemmas
+pub mod OrderLemmas
+pub mod PlaceLemmas

@@ -1,0 +1,2 @@
+-- Texts of tables joined to one text.
+pub mod parts
