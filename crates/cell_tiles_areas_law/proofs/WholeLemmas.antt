@@ -65,7 +65,7 @@ module _ (j : Joining) where
         };
       }
 
-  have-edges : (bands : List Band) (texts : List Coming) (told : List EdgesText)
+  pub have-edges : (bands : List Band) (texts : List Coming) (told : List EdgesText)
       → AllZip (IsEdgesTextOf j) bands texts
       → AllZip SpellsBand texts told → HaveEdges j bands (edges_of told)
   have-edges [] [] [] are spelled = tt

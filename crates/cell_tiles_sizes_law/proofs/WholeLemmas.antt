@@ -20,7 +20,9 @@ use Rattle.cell_stats.specs.CategoryTables.{Pairs, IsTable}
 use Rattle.cell_cats_law.specs.AreaLaw.{cells_of}
 use Rattle.cell_tiles_lines.specs.LineReading.{TableReading}
 use Rattle.cell_tiles_joining.specs.declared.edges.BandEdges.{BandEdges}
-use Rattle.cell_tiles_joining.specs.Bands.{Band, HasAreas, HaveEdges, IsCutInto, JoinNumbers, JoinAreas}
+use Rattle.cell_tiles_joining.specs.Bands.{Band, HasAreas, HaveEdges, IsCutInto, JoinNumbers}
+use Rattle.cell_tiles_joining.specs.parts.Greatest.{greatest_of}
+use Rattle.cell_tiles_joining.proofs.GreatestLemmas.{has-areas}
 use Rattle.cell_tiles_joining.specs.Sizes.{AddUp, size_for, size_of_area}
 use Rattle.cell_tiles_joining_law.specs.SizeLaw.{size_of_number, sizes_of_areas, sizes_of_bands}
 use Rattle.cell_tiles_joining_law.specs.NumberTables.{IsBandTable, entries_from, entry_of_null, listed_sizes, number_table}
@@ -148,7 +150,8 @@ module _ (j : Joining) (whole numbered : Grid) (is : IsClumping j whole numbered
 -- ---- the law
 
 pub sizes-of-the-whole : SizesOfTheWhole
-sizes-of-the-whole j whole bands edges cut filled skip tables are numbers many join areas count sizes have numbered is =
+sizes-of-the-whole j whole bands edges cut filled skip tables are numbers many join sizes have numbered is =
+    let areas = greatest_of 0 numbered.rows in
     let rows = whole.region.rows in
     let cols = whole.region.cols in
     let told : numbers_told (stretches_of (band_areas edges) numbers) ≡ numbers = numbers-are-told (band_areas edges) numbers many in
@@ -159,7 +162,7 @@ sizes-of-the-whole j whole bands edges cut filled skip tables are numbers many j
     (subst (λ (l : List ℕ). HasTally l (flat_map (λ (part : BandSizes). part.sizes) have.parts) sizes) told have.tally) in
     let of_bands : listed ≡ sizes_of_bands cols bands edges = tables-list j skip cols bands edges tables cut.all are in
     let some : All IsSome listed = some-in skip cols bands tables are in
-    let has : HasAreas j whole areas = count whole bands cut in
+    let has : HasAreas j whole areas = has-areas j whole numbered is in
     let area : (n : ℕ) → 0 < n → size_of_number numbered rows cols n ≡ size_of_area n numbers listed =
     λ n one. ap (λ (k : ℕ). size_of_number numbered k cols n) (sym filled.count)
     ∙ size-of-whole j whole bands edges cut numbers (join whole bands cut) numbered is cols n one

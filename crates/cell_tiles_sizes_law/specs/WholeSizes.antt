@@ -10,7 +10,7 @@ use Rattle.cell_stats.specs.CategoryTables.{Pairs, IsTable}
 use Rattle.cell_cats_law.specs.AreaLaw.{cells_of}
 use Rattle.cell_tiles_lines.specs.LineReading.{TableReading}
 use Rattle.cell_tiles_joining.specs.declared.edges.BandEdges.{BandEdges}
-use Rattle.cell_tiles_joining.specs.Bands.{Band, IsCutInto, JoinNumbers, JoinAreas}
+use Rattle.cell_tiles_joining.specs.Bands.{Band, IsCutInto, JoinNumbers}
 use Rattle.cell_tiles_joining_law.specs.NumberTables.{IsBandTable}
 use Rattle.cell_tiles_numbering.specs.AreasReading.{AreasReading}
 use Rattle.cell_tiles_numbering.specs.AreasText.{stretches_of}
@@ -28,13 +28,13 @@ band_areas edges = map (λ (one : BandEdges). one.areas) edges
 abbrev pub areas_read_of : List BandEdges → List ℕ → AreasReading
 areas_read_of edges numbers = record { stretches = stretches_of (band_areas edges) numbers; fault = None }
 
--- by the numbers and the areas that the joining of bands promises, the sizes that are added up are listed as the table of the clump map of
+-- by the numbers that the joining of bands promises, the sizes that are added up are listed as the table of the clump map of
 -- the undivided map
 abbrev pub SizesOfTheWhole : Type 0
 SizesOfTheWhole = (j : Joining) (whole : Grid) (bands : List Band) (edges : List BandEdges)
     → IsCutInto j whole bands edges → IsFilled whole.region whole.rows → (skip : Skip) (tables : List Pairs)
     → AllZip (IsBandTable skip whole.region.cols) bands tables → (numbers : List ℕ)
-    → length numbers ≡ sum (band_areas edges) → JoinNumbers j edges numbers → (areas : ℕ) → JoinAreas j edges areas
+    → length numbers ≡ sum (band_areas edges) → JoinNumbers j edges numbers
     → (sizes : List ℕ) → HaveSizes (areas_read_of edges numbers) (map table_read tables) sizes
     → (numbered : Grid) → IsClumping j whole numbered
     → IsTable AnyNull (cells_of numbered whole.region.rows whole.region.cols) (number_entries 1 sizes)

@@ -18,7 +18,7 @@ use Rattle.rcell_tiles_law.specs.PartRuns.{RunsOfPartsJoin, part_of, coming_of}
 module _ (statement : Statement) (places : List ℕ) (options : StatsOptions)
     (prints : PrintsTable statement places options) where
   -- a text of maps in a region of so many rows and columns
-  abbrev printed : (rows cols : ℕ) → List Grid → List ℕ
+  abbrev pub printed : (rows cols : ℕ) → List Grid → List ℕ
   printed rows cols maps = text_of_maps (format_of options) options.skip places rows cols maps
 
   stats-printed : (shelf : ShelfValue)
@@ -31,7 +31,7 @@ module _ (statement : Statement) (places : List ℕ) (options : StatsOptions)
       (print (printed_pairs options.after table))) prints.table
       ∙ ap (λ after. print (printed_pairs after table)) prints.all
 
-  output-printed : (shelf : ShelfValue) (text : List ℕ) → IsOutput shelf (statement ∷ []) text
+  pub output-printed : (shelf : ShelfValue) (text : List ℕ) → IsOutput shelf (statement ∷ []) text
       → text ≡ printed shelf.region.rows shelf.region.cols shelf.maps
   output-printed shelf text (after, (next, (rest, (left, ((none, kept), is))))) =
       is ∙ ap (λ r. command_text shelf statement.command ++ r) none

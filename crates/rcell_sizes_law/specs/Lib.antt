@@ -1,0 +1,2 @@
+-- Sizes of areas that runs counted band by band.
+pub mod SizedBands
