@@ -1,9 +1,7 @@
 -- One more band below others.
 use Rattle.std.proofs.Common.{◌≡◌, ℕ, List, [], ◌∷◌, ◌++◌, map, Option, Some, None, refl, ap, sym, ◌∙◌, subst}
-use Rattle.std.specs.Prelude.{sum, sum_by}
 use Rattle.std.specs.List.{AllZip, last_or}
 use Rattle.std.proofs.lemmas.List.{map-append}
-use Rattle.std.proofs.lemmas.List.Sums.{sum-map}
 use Rattle.cell_core_devices.specs.Device.{Coming}
 use Rattle.cell_core_values.specs.Region.{RegionValue}
 use Rattle.cell_tiles_joining.specs.declared.edges.BandEdges.{BandEdges}
@@ -36,10 +34,6 @@ pub edges-push : (bands : List EdgesText) (band : EdgesText)
     → edges_of (bands ++ band ∷ []) ≡ edges_of bands ++ band.edges ∷ []
 edges-push bands band = map-append (λ (b : EdgesText). b.edges) bands (band ∷ [])
 
-pub areas-push : (bands : List EdgesText) (band : EdgesText)
-    → areas_of (bands ++ band ∷ []) ≡ areas_of bands ++ band.edges.areas ∷ []
-areas-push bands band = map-append (λ (b : EdgesText). b.edges.areas) bands (band ∷ [])
-
 pub bands-push : (texts : List Coming) (bands : List EdgesText) (text : Coming) (band : EdgesText)
     → AreBandsOf texts bands
     → SpellsBand text band → FitsBelow (last_or None (regions_of bands)) band.region
@@ -53,8 +47,3 @@ bands-push texts bands text band are spells fits = record {
 pub areas-twice : (bands : List EdgesText) → map (λ (one : BandEdges). one.areas) (edges_of bands) ≡ areas_of bands
 areas-twice [] = refl
 areas-twice (band ∷ bands) = ap (λ (l : List ℕ). band.edges.areas ∷ l) (areas-twice bands)
-
--- the areas of the edges of all bands are those of the bands
-pub sum-areas : (bands : List EdgesText) → sum_by (λ (one : BandEdges). one.areas) (edges_of bands) ≡ sum
-    (areas_of bands)
-sum-areas bands = sym (sum-map (λ (one : BandEdges). one.areas) (edges_of bands)) ∙ ap sum (areas-twice bands)

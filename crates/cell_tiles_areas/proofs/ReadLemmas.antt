@@ -1,27 +1,28 @@
 -- Texts read one after another.
 use Rattle.std.proofs.Common.{◌≡◌, ℕ, ◌+◌, List, [], ◌∷◌, ◌++◌, length, map, Option, Some, None, refl, ap, sym, ◌∙◌}
 use Rattle.std.proofs.Common.{subst, append-nil, append_assoc}
-use Rattle.std.specs.Prelude.{IfSome, sum, sum_by}
+use Rattle.std.specs.Prelude.{IfSome, sum}
 use Rattle.std.specs.List.{last_or}
 use Rattle.std.proofs.lemmas.List.{length_push}
 use Rattle.cell_core_devices.specs.Device.{Coming}
 use Rattle.cell_core_values.specs.Region.{RegionValue}
 use Rattle.cell_cats_areas.specs.declared.clump.Joining.{Joining}
 use Rattle.cell_tiles_joining.specs.Bands.{JoinNumbers}
-use Rattle.cell_tiles_joining.specs.BandsSoFar.{AreJoinedBands}
+use Rattle.cell_tiles_cuts.specs.CutBands.{AreCutBands, AreStretchesOf, areas_of_each}
 use Rattle.cell_tiles_joining.specs.declared.edges.BandEdges.{BandEdges}
+use Rattle.cell_tiles_numbering.specs.AreasText.{areas_text, stretches_of}
+use Rattle.cell_tiles_numbering.specs.declared.stretch.Stretch.{Stretch}
 use Rattle.cell_tiles_texts.specs.JoinedTexts.{Give}
 use Rattle.cell_tiles_edges.specs.declared.edges_text.EdgesText.{EdgesText}
-use Rattle.cell_tiles_areas.specs.BandTexts.{AreBandsOf, FitsBelow, SpellsBand, edges_of, regions_of}
-use Rattle.cell_tiles_areas.specs.AreasOfTexts.{AreNumbersOf, HasOtherColumns, IsAreasJoinFault, IsNotBelow}
+use Rattle.cell_tiles_areas.specs.BandTexts.{AreBandsOf, FitsBelow, SpellsBand, areas_of, edges_of, regions_of}
+use Rattle.cell_tiles_areas.specs.AreasOfTexts.{HasOtherColumns, IsAreasJoinFault, IsAreasTextOf, IsNotBelow}
 use Rattle.cell_tiles_areas.specs.parts.ReadBands.{AreNone, HasAddedText, HasReadBands, HaveBeenRead, IsFaultAtText}
 use Rattle.cell_tiles_areas.specs.parts.ReadBands.{IsMisplaced}
 use Rattle.cell_tiles_areas.specs.declared.areas_join_fault.AreasJoinFault.{AreasJoinFault}
 use Rattle.cell_tiles_areas.specs.declared.areas_join_fault.AreasJoinFault.TheVariants.{Edges, OtherColumns, NotBelow}
 use Rattle.cell_tiles_areas.specs.declared.areas_join_fault.AreasJoinFault.TheVariants.{Memory, Write}
 use Rattle.cell_tiles_areas.specs.declared.bands.Bands.{Bands}
-use Rattle.cell_tiles_areas.proofs.BandLemmas.{areas-push, bands-push, edges-push, last_or-push, regions-push}
-use Rattle.cell_tiles_areas.proofs.BandLemmas.{sum-areas}
+use Rattle.cell_tiles_areas.proofs.BandLemmas.{areas-twice, bands-push, edges-push, last_or-push, regions-push}
 
 if-known : (o : Option Coming) (c : Coming) (P : Coming → Type 0) → o ≡ Some c → IfSome o P → P c
 if-known o c P is so = rw is at so
@@ -53,7 +54,6 @@ module _ {R : Type 0} (coming : R → Option Coming) (texts : List Coming) where
     place_is = refl;
     are = record { spelled = tt; below = tt };
     joined = none.joined;
-    areas = none.areas;
     last = none.last;
   }
 
@@ -82,10 +82,8 @@ module _ {R : Type 0} (coming : R → Option Coming) (texts : List Coming) where
               give = rest;
               place_is = length_push so.before one ∙ ap (λ (k : ℕ). k + 1) so.place_is;
               are = bands-push so.before so.bands one band so.are spells fits;
-              joined = subst (λ (l : List BandEdges). AreJoinedBands l new.joiner) (sym (edges-push so.bands band))
+              joined = subst (λ (l : List BandEdges). AreCutBands l new.joiner) (sym (edges-push so.bands band))
                   (more.added.joined (edges_of so.bands) so.joined);
-              areas = more.added.areas ∙ ap (λ (l : List ℕ). l ++ band.edges.areas ∷ []) so.areas ∙ sym
-                  (areas-push so.bands band);
               last = more.added.last ∙ sym (ap (last_or None) (regions-push so.bands band)
                   ∙ last_or-push None (regions_of so.bands) band.region);
             }
@@ -145,21 +143,27 @@ module _ {R : Type 0} (coming : R → Option Coming) (texts : List Coming) where
         bands = so.bands;
         are = subst (λ (l : List Coming). AreBandsOf l so.bands) (sym (whole ∙ append-nil so.before)) so.are;
         joined = so.joined;
-        areas = so.areas;
       }
       by (one ∷ others) give whole = cc
 
 -- the numbers that a joiner of the bands tells
-pub numbered : (joining : Joining) (texts : List Coming) (read : Bands) (numbers : List ℕ) → HaveBeenRead texts read
-    → read.joiner.joining ≡ joining
-    → ((bands : List BandEdges) → AreJoinedBands bands read.joiner → JoinNumbers read.joiner.joining bands numbers)
-    → ((bands : List BandEdges) → AreJoinedBands bands read.joiner
-    → length numbers ≡ sum_by (λ (one : BandEdges). one.areas) bands)
-    → AreNumbersOf joining texts read.areas.items numbers
-numbered joining texts read numbers so is join count = record {
-  bands = so.bands;
-  are = so.are;
-  counts = so.areas;
-  many = count (edges_of so.bands) so.joined ∙ sum-areas so.bands ∙ ap sum (sym so.areas);
-  join = subst (λ (j : Joining). JoinNumbers j (edges_of so.bands) numbers) is (join (edges_of so.bands) so.joined);
-}
+pub numbered : (joining : Joining) (texts : List Coming) (read : Bands) (stretches : List Stretch)
+    → HaveBeenRead texts read → read.joiner.ranked.joining ≡ joining
+    → ((bands : List BandEdges) → AreCutBands bands read.joiner
+    → AreStretchesOf read.joiner.ranked.joining bands stretches)
+    → IsAreasTextOf joining texts (areas_text stretches)
+numbered joining texts read stretches so is told =
+    let all = told (edges_of so.bands) so.joined in
+    let same : areas_of_each (edges_of so.bands) ≡ areas_of so.bands = areas-twice so.bands in
+    record {
+      areas = areas_of so.bands;
+      numbers = all.numbers;
+      are = record {
+        bands = so.bands;
+        are = so.are;
+        counts = refl;
+        many = all.many ∙ ap sum same;
+        join = subst (λ (j : Joining). JoinNumbers j (edges_of so.bands) all.numbers) is all.join;
+      };
+      is = ap areas_text (all.are ∙ ap (λ (l : List ℕ). stretches_of l all.numbers) same);
+    }

@@ -4,7 +4,7 @@ ghost use Rattle.std.specs.Prelude.{◌≡◌, ◌≢◌, ◌+◌, ◌^◌, ◌<
 ghost use Rattle.cell_core_devices.specs.Device.{Coming, has_failed};
 ghost use Rattle.cell_tiles_texts.specs.JoinedTexts.{Give};
 ghost use Rattle.cell_tiles_numbering.specs.AreasText.{areas_text, stretches_of};
-ghost use Rattle.cell_tiles_areas.specs.AreasOfTexts.{AreNumbersOf, HasAreasPrefix, HasWrittenAreas, IsAreasJoinFault};
+ghost use Rattle.cell_tiles_areas.specs.AreasOfTexts.{HasAreasPrefix, HasWrittenAreas, IsAreasJoinFault, IsAreasTextOf};
 ghost use Rattle.cell_tiles_areas.specs.PutAreas.{HasPut};
 ghost use Rattle.cell_tiles_areas.specs.parts.ReadBands.{HaveBeenRead};
 
@@ -14,7 +14,8 @@ use cell_cats_areas::clump::Joining;
 use cell_core::block::OutputBlock;
 use cell_core::sink::Sink;
 use cell_core::source::Source;
-use cell_tiles_numbering::writing::write_areas;
+use cell_tiles_numbering::stretch::Stretch;
+use cell_tiles_numbering::writing::{write_areas, write_stretches};
 use std::alloc::Global;
 
 /// What the joining did.
@@ -26,22 +27,13 @@ pub struct AreasOutcome {
     pub fault: Option<AreasJoinFault>,
 }
 
-// The areas of bands, and their numbers in the whole.
-#[derive(Drop)]
-struct NumberedAreas {
-    // How many each band has.
-    areas: Vec<u64>,
-    // The number of each, band by band.
-    numbers: Vec<u64>,
-}
-
 // Reads the bands of all texts, one after another.
 fn read_bands<R: Source + Drop>(
     alloc: Global,
     joining: Joining,
     texts: Vec<R>,
 ) -> Result<Bands, AreasJoinFault>
-    ensures joining { IfOk result (λ bands. bands.joiner.joining ≡ joining) }
+    ensures joining { IfOk result (λ bands. bands.joiner.ranked.joining ≡ joining) }
     ensures bands { IfOk result (λ bands. (all : List Coming) → Give R.coming texts.items all
         → HaveBeenRead all bands) }
     ensures fault { IfErr result (λ fault. (all : List Coming) → Give R.coming texts.items all
@@ -60,28 +52,22 @@ fn read_bands<R: Source + Drop>(
     Ok(bands)
 }
 
-// The numbers of the areas of the bands of all texts.
+// The areas of the bands of all texts, and their numbers in the whole.
 fn number_areas<R: Source + Drop>(
     alloc: Global,
     joining: Joining,
     texts: Vec<R>,
-) -> Result<NumberedAreas, AreasJoinFault>
-    ensures numbers { IfOk result (λ whole. (all : List Coming) → Give R.coming texts.items all
-        → AreNumbersOf joining all whole.areas.items whole.numbers.items) }
+) -> Result<Vec<Stretch>, AreasJoinFault>
+    ensures stretches { IfOk result (λ stretches. (all : List Coming)
+        → Give R.coming texts.items all
+        → IsAreasTextOf joining all (areas_text stretches.items)) }
     ensures fault { IfErr result (λ fault. (all : List Coming) → Give R.coming texts.items all
         → IsAreasJoinFault all fault) }
     ensures unwritten { IfErr result (λ fault. fault ≢ AreasJoinFault.Write) }
 {
-    let Bands {
-        joiner,
-        areas,
-        last: _,
-    } = read_bands(alloc, joining, texts)?;
-    let joined = joiner.finish();
-    Ok(NumberedAreas {
-        areas,
-        numbers: joined.numbers,
-    })
+    let bands = read_bands(alloc, joining, texts)?;
+    let joined = bands.joiner.finish(alloc)?;
+    Ok(joined.stretches)
 }
 
 // Flushes the sink unless it refused a put, and answers.
@@ -118,12 +104,28 @@ pub fn put_areas<W: Sink>(out: &mut W, areas: &[u64], numbers: &[u64]) -> AreasO
     }
 }
 
+// Writes the areas text of stretches, and flushes the sink unless it refused a put.
+fn put_stretches<W: Sink>(out: &mut W, stretches: &[Stretch]) -> AreasOutcome
+    ensures { HasPut (areas_text stretches.now)
+        (W.taken out.old) (W.taken out.new) (W.faults out.old) (W.faults out.new)
+        result.written result.fault }
+{
+    let mut block = OutputBlock::new();
+    write_stretches(out, &mut block, stretches);
+    block.empty(out);
+    let fault = finish(block.has_failed(), out);
+    AreasOutcome {
+        written: block.written(),
+        fault,
+    }
+}
+
 /// Joins bands, of the texts of their edges from the top, and writes the areas text: which number each area of each band has
 /// in the undivided map, of whatever size that is.
 ///
-/// The texts are read one after another. Eight bytes of memory are taken for each area of a band and for each band, and
-/// the edges of the last band are kept. Nothing is written before all texts are read. The sink is flushed once at the
-/// end, unless it refused a put.
+/// The texts are read one after another. Memory is taken in proportion to the cells of the bands' first and last rows,
+/// whatever other areas the bands have, and the edges of the last band are kept. Nothing is written before all texts are
+/// read. The sink is flushed once at the end, unless it refused a put.
 pub fn join_edges_texts<R: Source + Drop, W: Sink>(
     alloc: Global,
     joining: Joining,
@@ -150,7 +152,7 @@ pub fn join_edges_texts<R: Source + Drop, W: Sink>(
         → has_failed (W.faults out.new) ≡ true }
 {
     match number_areas(alloc, joining, texts) {
-        Ok(whole) => put_areas(out, whole.areas.as_slice(), whole.numbers.as_slice()),
+        Ok(stretches) => put_stretches(out, stretches.as_slice()),
         Err(fault) => AreasOutcome {
             written: 0,
             fault: Some(fault),

@@ -9,9 +9,9 @@ use cell_cats_areas::clump::Joining;
 use cell_core::memory::Memory;
 use cell_core::region::Region;
 use cell_core::source::Source;
+use cell_tiles_cuts::cut_joiner::CutJoiner;
 use cell_tiles_edges::edges_fault::EdgesFault;
 use cell_tiles_edges::edges_text::{EdgesText, read_edges};
-use cell_tiles_joining::joiner::BandJoiner;
 use std::alloc::Global;
 
 // Why a text spells no edges, or memory.
@@ -74,9 +74,7 @@ fn misplaced(place: usize, above: Option<Region>, below: Region) -> Option<Areas
 // Bands that were read, from the top.
 #[derive(Drop)]
 pub(crate) struct Bands {
-    pub(crate) joiner: BandJoiner,
-    // How many areas each has.
-    pub(crate) areas: Vec<u64>,
+    pub(crate) joiner: CutJoiner,
     // The region of the last one.
     pub(crate) last: Option<Region>,
 }
@@ -87,26 +85,19 @@ impl Bands {
         ensures { AreNone joining result }
     {
         Bands {
-            joiner: BandJoiner::new(alloc, joining),
-            areas: Vec::new(alloc),
+            joiner: CutJoiner::new(alloc, joining),
             last: None,
         }
     }
 
     // These bands and one more below them.
-    fn with_band(self, band: EdgesText) -> Result<Bands, Memory>
+    fn with_band(self, alloc: Global, band: EdgesText) -> Result<Bands, Memory>
         ensures { IfOk result (IsAdded band self) }
     {
         let EdgesText { region, edges } = band;
-        let Bands {
-            joiner,
-            mut areas,
-            last: _,
-        } = self;
-        areas.push(edges.areas)?;
+        let Bands { joiner, last: _ } = self;
         Ok(Bands {
-            joiner: joiner.add(edges)?,
-            areas,
+            joiner: joiner.add(alloc, edges)?,
             last: Some(region),
         })
     }
@@ -127,7 +118,7 @@ impl Bands {
         if let Some(fault) = misplaced(place, self.last, band.region) {
             return Err(fault);
         }
-        let more = self.with_band(band)?;
+        let more = self.with_band(alloc, band)?;
         Ok(more)
     }
 }

@@ -4,14 +4,14 @@ use Rattle.std.specs.List.{last_or}
 use Rattle.cell_core_devices.specs.Device.{Coming}
 use Rattle.cell_core_values.specs.Region.{RegionValue}
 use Rattle.cell_cats_areas.specs.declared.clump.Joining.{Joining}
-use Rattle.cell_tiles_joining.specs.BandsSoFar.{AreJoinedBands}
 use Rattle.cell_tiles_joining.specs.declared.edges.BandEdges.{BandEdges}
 use Rattle.cell_tiles_texts.specs.JoinedTexts.{Give}
+use Rattle.cell_tiles_cuts.specs.CutBands.{AreCutBands}
 use Rattle.cell_tiles_edges.specs.EdgesFaults.{IsEdgesFault}
 use Rattle.cell_tiles_edges.specs.declared.edges_text.EdgesText.{EdgesText}
 use Rattle.cell_tiles_edges.specs.declared.edges_fault.EdgesFault.{EdgesFault}
 use Rattle.cell_tiles_edges.specs.declared.edges_fault.EdgesFault.TheVariants as edges_faults
-use Rattle.cell_tiles_areas.specs.BandTexts.{AreBandsOf, FitsBelow, HaveSameColumns, SpellsBand, areas_of, edges_of, regions_of}
+use Rattle.cell_tiles_areas.specs.BandTexts.{AreBandsOf, FitsBelow, HaveSameColumns, SpellsBand, edges_of, regions_of}
 use Rattle.cell_tiles_areas.specs.AreasOfTexts.{IsFaultBelow}
 use Rattle.cell_tiles_areas.specs.declared.areas_join_fault.AreasJoinFault.{AreasJoinFault}
 use Rattle.cell_tiles_areas.specs.declared.areas_join_fault.AreasJoinFault.TheVariants.{Edges, OtherColumns, NotBelow, Memory, Write}
@@ -49,16 +49,14 @@ IsFaultAtText place above text Write = ⊥
 
 -- no band was read
 pub record AreNone (joining : Joining) (bands : Bands) : Type 0 where
-  pub adjacency : bands.joiner.joining ≡ joining
-  pub joined : AreJoinedBands [] bands.joiner
-  pub areas : bands.areas.items ≡ []
+  pub adjacency : bands.joiner.ranked.joining ≡ joining
+  pub joined : AreCutBands [] bands.joiner
   pub last : bands.last ≡ None
 
 -- a band was added below others
 pub record IsAdded (band : EdgesText) (old new : Bands) : Type 0 where
-  pub joining : new.joiner.joining ≡ old.joiner.joining
-  pub joined : (edges : List BandEdges) → AreJoinedBands edges old.joiner → AreJoinedBands (edges ++ band.edges ∷ []) new.joiner
-  pub areas : new.areas.items ≡ old.areas.items ++ band.edges.areas ∷ []
+  pub joining : new.joiner.ranked.joining ≡ old.joiner.ranked.joining
+  pub joined : (edges : List BandEdges) → AreCutBands edges old.joiner → AreCutBands (edges ++ band.edges ∷ []) new.joiner
   pub last : new.last ≡ Some band.region
 
 -- that which a text spells, where the text is known, and it lies right below them
@@ -77,13 +75,11 @@ pub record HasReadBands {R : Type 0} (coming : R → Option Coming) (texts : Lis
   pub give : Give coming left others
   pub place_is : length before ≡ place
   pub are : AreBandsOf before bands
-  pub joined : AreJoinedBands (edges_of bands) read.joiner
-  pub areas : read.areas.items ≡ areas_of bands
+  pub joined : AreCutBands (edges_of bands) read.joiner
   pub last : read.last ≡ last_or None (regions_of bands)
 
 -- all texts were read
 pub record HaveBeenRead (texts : List Coming) (read : Bands) : Type 0 where
   pub bands : List EdgesText
   pub are : AreBandsOf texts bands
-  pub joined : AreJoinedBands (edges_of bands) read.joiner
-  pub areas : read.areas.items ≡ areas_of bands
+  pub joined : AreCutBands (edges_of bands) read.joiner

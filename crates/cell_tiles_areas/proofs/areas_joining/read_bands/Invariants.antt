@@ -10,7 +10,7 @@ invariant-loop-text g l =
     let coming = g.R.Source.coming in
     let left = into_iter_items l.text-iterator in
     record {
-      joining : l.bands.joiner.joining ≡ l.fn.joining;
+      joining : l.bands.joiner.ranked.joining ≡ l.fn.joining;
       read : (texts : List Coming) → Give coming l.fn.texts.items texts
           → HasReadBands coming texts left l.place l.bands;
       len : into_iter_len l.text-iterator ≡ length left;
