@@ -1,0 +1,18 @@
+use Rattle.std.proofs.Common.{◌≡◌, ◌+◌, List, [], length}
+use Rattle.std.specs.Vec.Iter.{into_iter_items, into_iter_len}
+use Rattle.cell_core_devices.specs.Device.{Coming}
+use Rattle.cell_tiles_texts.specs.JoinedTexts.{Give}
+use Rattle.cell_tiles_grid_areas.specs.parts.ReadTiles.{HasReadTiles}
+use Rattle.cell_tiles_grid_areas.proofs.tiles_joining.read_tiles.Given as goal
+
+abbrev pub invariant-loop-text : goal.invariant-loop-text
+invariant-loop-text g l =
+    let coming = g.R.Source.coming in
+    let left = into_iter_items l.text-iterator in
+    record {
+      read : (texts : List Coming) → Give coming l.fn.texts.items texts
+          → HasReadTiles coming texts left l.place l.tiles;
+      some : l.tiles.row.items ≡ [] → l.tiles.rows.items ≡ [];
+      len : into_iter_len l.text-iterator ≡ length left;
+      places : l.place + length left ≡ length l.fn.texts.items;
+    }
